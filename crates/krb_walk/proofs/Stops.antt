@@ -1,0 +1,156 @@
+-- Where a walk stops: at the first record that is left.
+use Rattle.std.proofs.Common.{◌≡◌, ℕ, ◌+◌, ◌<◌, ◌≤◌, Bool, true, false, List, [], ◌∷◌, Option, Some, None, refl, sym, ap, subst, ◌∙◌, arith}
+use Rattle.std.specs.Prelude.{◌&&◌, ◌||◌, ◌==◌, nat_le, is_some, filter}
+use Rattle.std.specs.List.{find, filter_map, AllByRecursion}
+use Rattle.std.proofs.lemmas.Bool.Decides.{nat_tests}
+use Rattle.std.proofs.lemmas.Bool.{leb-true, leb-false, le-leb, lt-leb}
+use Rattle.krb_walk.specs.Store.{Cell, Store, Record, IsSound, standing, end_from, is_place_from, record_of, record_with, record_of_some, bytes_of_some}
+use Rattle.krb_walk.specs.Laws.{StopsAt, StopsGiveRecords, StopsEnd, BeginsWithAll, WalksBeginWithAll}
+
+-- the first record at or after p, the records, and the cell at p, of cells from a place on
+abbrev pub next_from : ℕ → List Cell → ℕ → Option Record
+next_from at cells p = record_of_some (find (λ x. nat_le p x.place && is_some x.cell.live) (standing at cells))
+
+abbrev pub records_of : ℕ → List Cell → List Record
+records_of at cells = filter_map record_of (standing at cells)
+
+abbrev pub bytes_from : ℕ → List Cell → ℕ → Option (List ℕ)
+bytes_from at cells p = bytes_of_some (record_of_some (find (λ x. x.place == p) (standing at cells)))
+
+-- the records at or after p
+abbrev pub left : ℕ → List Record → List Record
+left p rs = filter (λ r. nat_le p r.place) rs
+
+pub end_from-ge : (at : ℕ) (cells : List Cell) → at ≤ end_from at cells
+end_from-ge at [] = omega arith
+end_from-ge at (c ∷ cells) = omega (arith, end_from-ge (at + c.width) cells)
+
+-- a cell that is passed
+pub next_skips : (at p w : ℕ) (live : Option (List ℕ)) (cells : List Cell) → (nat_le p at && is_some live) ≡ false → next_from at (record { width = w; live = live } ∷ cells) p ≡ next_from (at + w) cells p
+next_skips at p w live cells e = rw e refl
+
+-- a live cell at or after p
+pub next_stops : (at p w : ℕ) (bytes : List ℕ) (cells : List Cell) → p ≤ at → next_from at (record { width = w; live = Some bytes } ∷ cells) p ≡ Some (record { place = at; next = at + w; bytes = bytes })
+next_stops at p w bytes cells le = rw (le-leb p at le) refl
+
+-- a free cell is passed, wherever it stands
+free_is_passed : (at p : ℕ) → (nat_le p at && false) ≡ false
+free_is_passed at p = grind (arith, nat_tests)
+
+-- from no later than their first place on, all records are left
+all_left_cons : (at w p : ℕ) (live : Option (List ℕ)) (cells : List Cell) → p ≤ at → left p (records_of (at + w) cells) ≡ records_of (at + w) cells → left p (records_of at (record { width = w; live = live } ∷ cells)) ≡ records_of at (record { width = w; live = live } ∷ cells)
+all_left_cons at w p None cells le ih = ih
+all_left_cons at w p (Some bytes) cells le ih = rw (le-leb p at le) (ap (λ (rs : List Record). record { place = at; next = at + w; bytes = bytes } ∷ rs) ih)
+
+pub all_left : (at p : ℕ) (cells : List Cell) → p ≤ at → left p (records_of at cells) ≡ records_of at cells
+all_left at p [] le = refl
+all_left at p (c ∷ cells) le = all_left_cons at c.width p c.live cells le (all_left (at + c.width) p cells (omega arith))
+
+-- the cell before a place is none of those left
+left_behind : (at w q : ℕ) (live : Option (List ℕ)) (cells : List Cell) → at < q → left q (records_of at (record { width = w; live = live } ∷ cells)) ≡ left q (records_of (at + w) cells)
+left_behind at w q None cells lt = refl
+left_behind at w q (Some bytes) cells lt = rw (lt-leb q at lt) refl
+
+bytes_behind : (at w q : ℕ) (live : Option (List ℕ)) (cells : List Cell) → at < q → bytes_from at (record { width = w; live = live } ∷ cells) q ≡ bytes_from (at + w) cells q
+bytes_behind at w q live cells lt = let e : (at == q) ≡ false = grind (arith, nat_tests) in rw e refl
+
+bytes_here : (at w : ℕ) (bytes : List ℕ) (cells : List Cell) → bytes_from at (record { width = w; live = Some bytes } ∷ cells) at ≡ Some bytes
+bytes_here at w bytes cells = let e : (at == at) ≡ true = grind (arith, nat_tests) in rw e refl
+
+-- the place after a cell is one
+pub is_place_from-first : (at : ℕ) (cells : List Cell) → is_place_from at cells at ≡ true
+is_place_from-first at [] = let e : (at == at) ≡ true = grind (arith, nat_tests) in e
+is_place_from-first at (c ∷ cells) = let e : (at == at) ≡ true = grind (arith, nat_tests) in rw e refl
+
+or_true : (b : Bool) → (b || true) ≡ true
+or_true true = refl
+or_true false = refl
+
+pub is_place_from-cons : (at w q : ℕ) (live : Option (List ℕ)) (cells : List Cell) → is_place_from (at + w) cells q ≡ true → is_place_from at (record { width = w; live = live } ∷ cells) q ≡ true
+is_place_from-cons at w q live cells e = ap (λ (b : Bool). (at == q) || b) e ∙ or_true (at == q)
+
+-- what a stop at a record tells, of cells from a place on
+pub record Found (at : ℕ) (cells : List Cell) (p : ℕ) (r : Record) : Type 0 where
+  pub first : left p (records_of at cells) ≡ r ∷ left r.next (records_of at cells)
+  pub bytes : bytes_from at cells r.place ≡ Some r.bytes
+  pub place : is_place_from at cells r.next ≡ true
+  pub begins : at ≤ r.place
+  pub at_or_after : p ≤ r.place
+  pub ahead : r.place < r.next
+  pub within : r.next ≤ end_from at cells
+
+-- it is found after a cell that is passed
+found_after : (at w p : ℕ) (live : Option (List ℕ)) (cells : List Cell) (r : Record) → 0 < w → left p (records_of at (record { width = w; live = live } ∷ cells)) ≡ left p (records_of (at + w) cells) → Found (at + w) cells p r → Found at (record { width = w; live = live } ∷ cells) p r
+found_after at w p live cells r some same rest =
+    let begins = rest.begins in
+    let lt : at < r.place = omega (arith, begins) in
+    let ahead = rest.ahead in
+    let next_lt : at < r.next = omega (arith, lt, ahead) in
+    record {
+      first = same ∙ rest.first ∙ ap (λ (rs : List Record). r ∷ rs) (sym (left_behind at w r.next live cells next_lt));
+      bytes = bytes_behind at w r.place live cells lt ∙ rest.bytes;
+      place = is_place_from-cons at w r.next live cells rest.place;
+      begins = omega (arith, lt);
+      at_or_after = rest.at_or_after;
+      ahead = rest.ahead;
+      within = rest.within;
+    }
+
+-- it is the first cell
+found_here : (at w p : ℕ) (bytes : List ℕ) (cells : List Cell) → 0 < w → p ≤ at → Found at (record { width = w; live = Some bytes } ∷ cells) p (record { place = at; next = at + w; bytes = bytes })
+found_here at w p bytes cells some le =
+    let after : left p (records_of (at + w) cells) ≡ left (at + w) (records_of (at + w) cells) = all_left (at + w) p cells (omega arith) ∙ sym (all_left (at + w) (at + w) cells (omega arith)) in
+    let first : Record = record { place = at; next = at + w; bytes = bytes } in
+    record {
+      first = rw (le-leb p at le) (ap (λ (rs : List Record). first ∷ rs) (after ∙ sym (left_behind at w (at + w) (Some bytes) cells (omega arith))));
+      bytes = bytes_here at w bytes cells;
+      place = is_place_from-cons at w (at + w) (Some bytes) cells (is_place_from-first (at + w) cells);
+      begins = omega arith;
+      at_or_after = le;
+      ahead = omega arith;
+      within = end_from-ge (at + w) cells;
+    }
+
+-- a free cell leaves the records as they are
+left_free : (at w p : ℕ) (cells : List Cell) → left p (records_of at (record { width = w; live = None } ∷ cells)) ≡ left p (records_of (at + w) cells)
+left_free at w p cells = refl
+
+found_cons : (at w p : ℕ) (live : Option (List ℕ)) (b : Bool) (cells : List Cell) (r : Record) → nat_le p at ≡ b → 0 < w → (next_from (at + w) cells p ≡ Some r → Found (at + w) cells p r) → next_from at (record { width = w; live = live } ∷ cells) p ≡ Some r → Found at (record { width = w; live = live } ∷ cells) p r
+found_cons at w p (Some bytes) true cells r e some ih is =
+    let le = leb-true p at e in
+    let here : record { place = at; next = at + w; bytes = bytes } ≡ r = cc (next_stops at p w bytes cells le, is) in
+    subst (Found at (record { width = w; live = Some bytes } ∷ cells) p) here (found_here at w p bytes cells some le)
+found_cons at w p None b cells r e some ih is =
+    found_after at w p None cells r some (left_free at w p cells) (ih (sym (next_skips at p w None cells (free_is_passed at p)) ∙ is))
+found_cons at w p (Some bytes) false cells r e some ih is =
+    let skip : (nat_le p at && true) ≡ false = rw e refl in
+    found_after at w p (Some bytes) cells r some (left_behind at w p (Some bytes) cells (leb-false p at e)) (ih (sym (next_skips at p w (Some bytes) cells skip) ∙ is))
+
+pub found : (at p : ℕ) (cells : List Cell) (r : Record) → AllByRecursion (λ c. 0 < c.width) cells → next_from at cells p ≡ Some r → Found at cells p r
+found at p [] r sound is = cc
+found at p (c ∷ cells) r sound is = found_cons at c.width p c.live (nat_le p at) cells r refl sound.0 (λ e. found (at + c.width) p cells r sound.1 e) is
+
+-- where none is found, none is left
+none_cons : (at w p : ℕ) (live : Option (List ℕ)) (b : Bool) (cells : List Cell) → nat_le p at ≡ b → (next_from (at + w) cells p ≡ None → left p (records_of (at + w) cells) ≡ []) → next_from at (record { width = w; live = live } ∷ cells) p ≡ None → left p (records_of at (record { width = w; live = live } ∷ cells)) ≡ []
+none_cons at w p (Some bytes) true cells e ih is = let stops = next_stops at p w bytes cells (leb-true p at e) in cc
+none_cons at w p None b cells e ih is = ih (sym (next_skips at p w None cells (free_is_passed at p)) ∙ is)
+none_cons at w p (Some bytes) false cells e ih is =
+    let skip : (nat_le p at && true) ≡ false = rw e refl in
+    left_behind at w p (Some bytes) cells (leb-false p at e) ∙ ih (sym (next_skips at p w (Some bytes) cells skip) ∙ is)
+
+pub none_left : (at p : ℕ) (cells : List Cell) → next_from at cells p ≡ None → left p (records_of at cells) ≡ []
+none_left at p [] is = refl
+none_left at p (c ∷ cells) is = none_cons at c.width p c.live (nat_le p at) cells refl (λ e. none_left (at + c.width) p cells e) is
+
+-- ---- the laws
+
+pub stops_give_records : StopsGiveRecords
+stops_give_records s p r sound is =
+    let f = found s.first p s.cells r sound is in
+    record { first = f.first; bytes = f.bytes; place = f.place; at_or_after = f.at_or_after; ahead = f.ahead; within = f.within }
+
+pub stops_end : StopsEnd
+stops_end s p is = none_left s.first p s.cells is
+
+pub walks_begin_with_all : WalksBeginWithAll
+walks_begin_with_all s = record { all = all_left s.first s.first s.cells (omega arith); place = is_place_from-first s.first s.cells }

@@ -1,0 +1,48 @@
+//! Why a store or a session refuses.
+
+ghost use Rattle.std.specs.Prelude.{◌≡◌};
+ghost use Rattle.krb_walk.specs.Numbers.{code_number};
+
+/// Why a request is refused.
+#[derive(Clone, Copy, Debug, PartialEq, Eq)]
+pub enum Code {
+    Damaged = 1,
+    TooLong = 2,
+    Full = 3,
+    NotAPlace = 4,
+    NotLive = 5,
+    NoSuchWalk = 6,
+    TooManyWalks = 7,
+    ReadOnly = 8,
+    NotFound = 9,
+    KvnoNotFound = 10,
+    Marked = 11,
+}
+
+impl Code {
+    /// The number that is printed for it.
+    pub fn number(self) -> u32
+        ensures { result ≡ code_number self }
+    {
+        match self {
+            Code::Damaged => 1,
+            Code::TooLong => 2,
+            Code::Full => 3,
+            Code::NotAPlace => 4,
+            Code::NotLive => 5,
+            Code::NoSuchWalk => 6,
+            Code::TooManyWalks => 7,
+            Code::ReadOnly => 8,
+            Code::NotFound => 9,
+            Code::KvnoNotFound => 10,
+            Code::Marked => 11,
+        }
+    }
+}
+
+/// A refusal, or want of memory.
+#[derive(Clone, Copy, Debug, PartialEq, Eq)]
+pub enum Refusal {
+    Code(Code),
+    NoMemory,
+}

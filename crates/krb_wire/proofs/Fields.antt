@@ -1,0 +1,126 @@
+-- A field that is read is the field that was written, and what was written is read again.
+use Rattle.std.proofs.Common.{◌≡◌, ℕ, ◌+◌, ◌^◌, ◌<◌, ◌≤◌, Bool, true, false, cond, ltb, List, ◌++◌, length, get_or, take, drop, Option, Some, None, refl, sym, ap, subst, ◌∙◌, append_assoc, arith, inl, inr}
+use Rattle.std.specs.Prelude.{IsSome}
+use Rattle.std.specs.Int.{Width, w16, w32, byte_len}
+use Rattle.std.proofs.lemmas.Bool.{cases_lt, ltb-false, le-ltb}
+use Rattle.std.proofs.lemmas.List.{take_at, drop_at, take-append-drop, length-append, length-take, get_or-drop, get_or-take, get_or_past}
+use Rattle.std.proofs.lemmas.Nat.{be_bytes_2, be_bytes_4, le_bytes_2, le_bytes_4, from_be_bytes-to_be_bytes_2, from_be_bytes-to_be_bytes_4, from_le_bytes-to_le_bytes_2, from_le_bytes-to_le_bytes_4}
+use Rattle.krb_wire.specs.declared.format.Order.{Order}
+use Rattle.krb_wire.specs.declared.format.Order.TheVariants.{Big, Little}
+use Rattle.krb_wire.specs.Spelling.{digits, number, data16, IsShort}
+use Rattle.krb_wire.specs.Reading.{◌>>=◌, number_at, data16_at}
+
+abbrev pub IsBytes : List ℕ → Type 0
+IsBytes bytes = (i : ℕ) → get_or bytes i 0 < 256
+
+pub IsBytes-drop : (n : ℕ) (bytes : List ℕ) → IsBytes bytes → IsBytes (drop n bytes)
+IsBytes-drop n bytes h i = rw get_or-drop (h (n + i))
+
+pub IsBytes-take : (n : ℕ) (bytes : List ℕ) → IsBytes bytes → IsBytes (take n bytes)
+IsBytes-take n bytes h i =
+    elim (cases_lt i n) [
+      | inl lt ↦ rw (get_or-take n bytes i 0 lt) (h i)
+      | inr le ↦ rw (get_or_past (take n bytes) i 0 (omega (arith, length-take n bytes))) (omega arith)
+    ]
+
+-- the value of a step that did not fail
+pub bind_some : {A B : Type 0} (o : Option A) (f : A → Option B) (y : B) → (o >>= f) ≡ Some y → (x : A) × (o ≡ Some x) × (f x ≡ Some y)
+bind_some (Some x) f y e = (x, refl, e)
+bind_some None f y e = absurd cc
+
+-- a test that did not fail
+pub guard_some : {A : Type 0} (b : Bool) (x y : A) → cond b None (Some x) ≡ Some y → (b ≡ false) × (x ≡ y)
+guard_some true x y e = absurd cc
+guard_some false x y e = (refl, cc)
+
+abbrev done : {A : Type 0} → A → Option A
+done x = Some x
+
+pub some_is : {A : Type 0} (x y : A) → done x ≡ done y → x ≡ y
+some_is x y e = cc
+
+pub is_some_has : {A : Type 0} (o : Option A) → IsSome o → (x : A) × (o ≡ Some x)
+is_some_has (Some x) h = (x, refl)
+is_some_has None h = absurd cc
+
+-- what a reader took from the front
+pub record Takes (bytes text rest : List ℕ) : Type 0 where
+  pub parts : bytes ≡ text ++ rest
+  pub rest_fits : IsBytes rest
+
+pub Takes-then : (a x b y c : List ℕ) → Takes a x b → Takes b y c → Takes a (x ++ y) c
+Takes-then a x b y c p q = record { parts = p.parts ∙ ap (λ (t : List ℕ). x ++ t) q.parts ∙ sym (append_assoc x y c); rest_fits = q.rest_fits }
+
+-- ---- numbers
+
+pub record IsWide (o : Order) (w : Width) (limit : ℕ) : Type 0 where
+  pub len : (n : ℕ) → length (digits o w n) ≡ byte_len w
+  pub back : (bytes : List ℕ) → length bytes ≡ byte_len w → IsBytes bytes → digits o w (number o w bytes) ≡ bytes
+  pub again : (n : ℕ) → n < limit → number o w (digits o w n) ≡ n
+  pub below : (bytes : List ℕ) → IsBytes bytes → number o w bytes < limit
+
+pub wide16 : (o : Order) → IsWide o w16 (2 ^ 16)
+wide16 Big = record {
+  len = λ n. refl;
+  back = λ bytes len fits. be_bytes_2 bytes _ len fits refl;
+  again = λ n lt. from_be_bytes-to_be_bytes_2 n lt;
+  below = λ bytes fits. omega (arith, fits 0, fits 1);
+}
+wide16 Little = record {
+  len = λ n. refl;
+  back = λ bytes len fits. le_bytes_2 bytes _ len fits refl;
+  again = λ n lt. from_le_bytes-to_le_bytes_2 n lt;
+  below = λ bytes fits. omega (arith, fits 0, fits 1);
+}
+
+pub wide32 : (o : Order) → IsWide o w32 (2 ^ 32)
+wide32 Big = record {
+  len = λ n. refl;
+  back = λ bytes len fits. be_bytes_4 bytes _ len fits refl;
+  again = λ n lt. from_be_bytes-to_be_bytes_4 n lt;
+  below = λ bytes fits. omega (arith, fits 0, fits 1, fits 2, fits 3);
+}
+wide32 Little = record {
+  len = λ n. refl;
+  back = λ bytes len fits. le_bytes_4 bytes _ len fits refl;
+  again = λ n lt. from_le_bytes-to_le_bytes_4 n lt;
+  below = λ bytes fits. omega (arith, fits 0, fits 1, fits 2, fits 3);
+}
+
+pub number_takes : (o : Order) (w : Width) (limit : ℕ) (wide : IsWide o w limit) (bytes : List ℕ) (n : ℕ) (rest : List ℕ) → IsBytes bytes → number_at o w bytes ≡ Some (n, rest) → Takes bytes (digits o w n) rest × (n < limit)
+number_takes o w limit wide bytes n rest fits e =
+    let g = guard_some (ltb (length bytes) (byte_len w)) (number o w (take (byte_len w) bytes), drop (byte_len w) bytes) (n, rest) e in
+    let long : byte_len w ≤ length bytes = ltb-false _ _ g.0 in
+    let n-is : number o w (take (byte_len w) bytes) ≡ n = ap (λ (p : ℕ × List ℕ). p.0) g.1 in
+    let rest-is : drop (byte_len w) bytes ≡ rest = ap (λ (p : ℕ × List ℕ). p.1) g.1 in
+    let front : digits o w n ≡ take (byte_len w) bytes = rw (← n-is) (wide.back (take (byte_len w) bytes) (omega (arith, length-take (byte_len w) bytes)) (IsBytes-take (byte_len w) bytes fits)) in
+    (record { parts = rw (front, ← rest-is) (sym (take-append-drop (byte_len w) bytes)); rest_fits = rw (← rest-is) (IsBytes-drop (byte_len w) bytes fits) }, rw (← n-is) (wide.below (take (byte_len w) bytes) (IsBytes-take (byte_len w) bytes fits)))
+
+pub number_again : (o : Order) (w : Width) (limit : ℕ) (wide : IsWide o w limit) (n : ℕ) (rest : List ℕ) → n < limit → number_at o w (digits o w n ++ rest) ≡ Some (n, rest)
+number_again o w limit wide n rest lt =
+    let len = wide.len n in
+    let long : ltb (length (digits o w n ++ rest)) (byte_len w) ≡ false = le-ltb _ _ (omega (arith, length-append (digits o w n) rest)) in
+    rw (long, take_at (digits o w n) rest (byte_len w) len, drop_at (digits o w n) rest (byte_len w) len, wide.again n lt) refl
+
+-- ---- counted data
+
+pub data16_takes : (o : Order) (bytes text rest : List ℕ) → IsBytes bytes → data16_at o bytes ≡ Some (text, rest) → Takes bytes (data16 o text) rest × IsShort text
+unfolding data16_at
+data16_takes o bytes text rest fits e =
+    let b = bind_some (number_at o w16 bytes) (λ n. cond (ltb (length n.1) n.0) None (Some (take n.0 n.1, drop n.0 n.1))) (text, rest) e in
+    let n = b.0 in
+    let t = number_takes o w16 (2 ^ 16) (wide16 o) bytes n.0 n.1 fits b.1 in
+    let g = guard_some (ltb (length n.1) n.0) (take n.0 n.1, drop n.0 n.1) (text, rest) b.2 in
+    let long : n.0 ≤ length n.1 = ltb-false _ _ g.0 in
+    let len : length (take n.0 n.1) ≡ n.0 = omega (arith, length-take n.0 n.1) in
+    let second : Takes n.1 (take n.0 n.1) (drop n.0 n.1) = record { parts = sym (take-append-drop n.0 n.1); rest_fits = IsBytes-drop n.0 n.1 t.0.rest_fits } in
+    let both = Takes-then bytes (digits o w16 n.0) n.1 (take n.0 n.1) (drop n.0 n.1) t.0 second in
+    let whole : Takes bytes (data16 o (take n.0 n.1)) (drop n.0 n.1) = subst (λ (k : ℕ). Takes bytes (digits o w16 k ++ take n.0 n.1) (drop n.0 n.1)) (sym len) both in
+    subst (λ (p : List ℕ × List ℕ). Takes bytes (data16 o p.0) p.1 × (length p.0 < 2 ^ 16)) g.1 (whole, omega (arith, t.1))
+
+pub data16_again : (o : Order) (text rest : List ℕ) → IsShort text → data16_at o (data16 o text ++ rest) ≡ Some (text, rest)
+unfolding data16_at
+data16_again o text rest lt =
+    let long : ltb (length (text ++ rest)) (length text) ≡ false = le-ltb _ _ (omega (arith, length-append text rest)) in
+    let grouped : (digits o w16 (length text) ++ text) ++ rest ≡ digits o w16 (length text) ++ (text ++ rest) = append_assoc (digits o w16 (length text)) text rest in
+    ap (data16_at o) grouped ∙ rw (number_again o w16 (2 ^ 16) (wide16 o) (length text) (text ++ rest) lt, long, take_at text rest (length text) refl, drop_at text rest (length text) refl) refl

@@ -1,0 +1,6 @@
+pub mod Fields
+pub mod ComponentLists
+pub mod Places
+pub mod Principals
+pub mod WidthLemmas
+pub mod TextLemmas

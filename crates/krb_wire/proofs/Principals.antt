@@ -1,0 +1,90 @@
+-- A name that is read is the name that was written, and what was written is read again.
+use Rattle.std.proofs.Common.{◌≡◌, ℕ, zero, suc, ◌+◌, ◌^◌, ◌<◌, List, [], ◌++◌, length, Some, None, refl, sym, ap, subst, ◌∙◌, append_assoc, arith}
+use Rattle.std.specs.List.{flat_map}
+use Rattle.std.specs.Int.{w16, w32}
+use Rattle.std.proofs.lemmas.List.{length-append}
+use Rattle.krb_wire.specs.declared.format.Order.{Order}
+use Rattle.krb_wire.specs.declared.format.Order.TheVariants.{Big}
+use Rattle.krb_wire.specs.declared.format.KtFormat.{KtFormat}
+use Rattle.krb_wire.specs.declared.format.KtFormat.TheVariants.{V1, V2}
+use Rattle.krb_wire.specs.Spelling.{Parts, digits, data16, order_of, count_field, name_type_field, kt_principal, HasNameType, IsShort, FitsKt}
+use Rattle.krb_wire.specs.Reading.{◌>>=◌, number_at, data16_at, components_at, components_of_count, name_type_at, kt_principal_at}
+use Rattle.krb_wire.proofs.Fields.{IsBytes, bind_some, some_is, Takes, Takes-then, wide16, wide32, number_takes, number_again, data16_takes, data16_again}
+use Rattle.krb_wire.proofs.Places.{IsField}
+use Rattle.krb_wire.proofs.ComponentLists.{components_take, components_again, length_components}
+
+count_is : (f : KtFormat) (field n : ℕ) → components_of_count f field ≡ Some n → field ≡ count_field f n
+count_is (V1 o) zero n e = absurd cc
+count_is (V1 o) (suc m) n e = let same : m ≡ n = some_is m n e in omega arith
+count_is V2 field n e = some_is field n e
+
+count_again : (f : KtFormat) (n : ℕ) → components_of_count f (count_field f n) ≡ Some n
+count_again (V1 o) n = let e : n + 1 ≡ suc n = omega arith in ap (components_of_count (V1 o)) e
+count_again V2 n = refl
+
+name_type_takes : (f : KtFormat) (bytes : List ℕ) (x : ℕ × List ℕ) → IsBytes bytes → name_type_at f bytes ≡ Some x → Takes bytes (name_type_field f x.0) x.1 × HasNameType f x.0
+name_type_takes (V1 o) bytes x fits e = subst (λ (y : ℕ × List ℕ). Takes bytes [] y.1 × (y.0 ≡ 0)) (some_is (0, bytes) x e) (record { parts = refl; rest_fits = fits }, refl)
+name_type_takes V2 bytes x fits e = number_takes Big w32 (2 ^ 32) (wide32 Big) bytes x.0 x.1 fits e
+
+name_type_again : (f : KtFormat) (t : ℕ) (rest : List ℕ) → HasNameType f t → name_type_at f (name_type_field f t ++ rest) ≡ Some (t, rest)
+name_type_again (V1 o) t rest h = ap (λ (n : ℕ). Some (n, rest)) (sym h)
+name_type_again V2 t rest h = number_again Big w32 (2 ^ 32) (wide32 Big) t rest h
+
+pub kt_principal_takes : (f : KtFormat) (bytes : List ℕ) (x : Parts × List ℕ) → IsBytes bytes → kt_principal_at f bytes ≡ Some x → Takes bytes (kt_principal f x.0) x.1 × FitsKt f x.0
+unfolding kt_principal_at
+kt_principal_takes f bytes x fits e =
+    let o = order_of f in
+    let a = bind_some (number_at o w16 bytes) (λ count. components_of_count f count.0 >>= λ n. data16_at o count.1 >>= λ realm. components_at o n realm.1 >>= λ components. name_type_at f components.1 >>= λ name_type. Some (record { name_type = name_type.0; realm = realm.0; components = components.0 }, name_type.1)) x e in
+    let b = bind_some (components_of_count f a.0.0) (λ n. data16_at o a.0.1 >>= λ realm. components_at o n realm.1 >>= λ components. name_type_at f components.1 >>= λ name_type. Some (record { name_type = name_type.0; realm = realm.0; components = components.0 }, name_type.1)) x a.2 in
+    let r = bind_some (data16_at o a.0.1) (λ realm. components_at o b.0 realm.1 >>= λ components. name_type_at f components.1 >>= λ name_type. Some (record { name_type = name_type.0; realm = realm.0; components = components.0 }, name_type.1)) x b.2 in
+    let c = bind_some (components_at o b.0 r.0.1) (λ components. name_type_at f components.1 >>= λ name_type. Some (record { name_type = name_type.0; realm = r.0.0; components = components.0 }, name_type.1)) x r.2 in
+    let t = bind_some (name_type_at f c.0.1) (λ name_type. Some (record { name_type = name_type.0; realm = r.0.0; components = c.0.0 }, name_type.1)) x c.2 in
+    let ta = number_takes o w16 (2 ^ 16) (wide16 o) bytes a.0.0 a.0.1 fits a.1 in
+    let tr = data16_takes o a.0.1 r.0.0 r.0.1 ta.0.rest_fits r.1 in
+    let tc = components_take o b.0 r.0.1 c.0 tr.0.rest_fits c.1 in
+    let tt = name_type_takes f c.0.1 t.0 tc.0.rest_fits t.1 in
+    let field : a.0.0 ≡ count_field f (length c.0.0) = count_is f a.0.0 b.0 b.1 ∙ ap (count_field f) (sym (length_components o b.0 r.0.1 c.0 c.1)) in
+    let made : Parts × List ℕ = (record { name_type = t.0.0; realm = r.0.0; components = c.0.0 }, t.0.1) in
+    let e3 = Takes-then r.0.1 (flat_map (data16 o) c.0.0) c.0.1 (name_type_field f t.0.0) t.0.1 tc.0 tt.0 in
+    let e2 = Takes-then a.0.1 (data16 o r.0.0) r.0.1 (flat_map (data16 o) c.0.0 ++ name_type_field f t.0.0) t.0.1 tr.0 e3 in
+    let e1 = Takes-then bytes (digits o w16 a.0.0) a.0.1 (data16 o r.0.0 ++ (flat_map (data16 o) c.0.0 ++ name_type_field f t.0.0)) t.0.1 ta.0 e2 in
+    let whole : Takes bytes (kt_principal f made.0) made.1 = subst (λ (n : ℕ). Takes bytes (digits o w16 n ++ (data16 o r.0.0 ++ (flat_map (data16 o) c.0.0 ++ name_type_field f t.0.0))) t.0.1) field e1 in
+    let short : count_field f (length c.0.0) < 2 ^ 16 = subst (λ (n : ℕ). n < 2 ^ 16) field ta.1 in
+    subst (λ (y : Parts × List ℕ). Takes bytes (kt_principal f y.0) y.1 × FitsKt f y.0) (some_is made x t.2) (whole, record { count = short; realm = tr.1; components = tc.1; name_type = tt.1 })
+
+pub kt_principal_again : (f : KtFormat) (p : Parts) (rest : List ℕ) → FitsKt f p → kt_principal_at f (kt_principal f p ++ rest) ≡ Some (p, rest)
+unfolding kt_principal_at
+kt_principal_again f p rest fits =
+    let o = order_of f in
+    let n = length p.components in
+    let d0 = digits o w16 (count_field f n) in
+    let d1 = data16 o p.realm in
+    let d2 = flat_map (data16 o) p.components in
+    let d3 = name_type_field f p.name_type in
+    let grouped : kt_principal f p ++ rest ≡ d0 ++ (d1 ++ (d2 ++ (d3 ++ rest))) = append_assoc d0 (d1 ++ (d2 ++ d3)) rest ∙ ap (λ (b : List ℕ). d0 ++ b) (append_assoc d1 (d2 ++ d3) rest ∙ ap (λ (b : List ℕ). d1 ++ b) (append_assoc d2 d3 rest)) in
+    ap (kt_principal_at f) grouped ∙ rw (number_again o w16 (2 ^ 16) (wide16 o) (count_field f n) (d1 ++ (d2 ++ (d3 ++ rest))) fits.count, count_again f n, data16_again o p.realm (d2 ++ (d3 ++ rest)) fits.realm, components_again o p.components (d3 ++ rest) fits.components, name_type_again f p.name_type rest fits.name_type) refl
+
+pub no_data16 : (o : Order) → data16_at o [] ≡ None
+unfolding data16_at
+no_data16 o = refl
+
+pub no_principal : (f : KtFormat) → kt_principal_at f [] ≡ None
+unfolding kt_principal_at
+no_principal f = refl
+
+pub data16_field : (o : Order) → IsField (data16_at o) (data16 o) IsShort
+data16_field o = record {
+  takes = λ bytes x fits e. data16_takes o bytes x.0 x.1 fits e;
+  again = λ text rest short. data16_again o text rest short;
+  nonempty = λ text. omega (arith, (wide16 o).len (length text), length-append (digits o w16 (length text)) text);
+}
+
+pub kt_principal_field : (f : KtFormat) → IsField (kt_principal_at f) (kt_principal f) (FitsKt f)
+kt_principal_field f = record {
+  takes = λ bytes x fits e. kt_principal_takes f bytes x fits e;
+  again = λ p rest fits. kt_principal_again f p rest fits;
+  nonempty = λ p.
+      let o = order_of f in
+      let tail = data16 o p.realm ++ (flat_map (data16 o) p.components ++ name_type_field f p.name_type) in
+      omega (arith, (wide16 o).len (count_field f (length p.components)), length-append (digits o w16 (count_field f (length p.components))) tail);
+}

@@ -1,0 +1,79 @@
+-- Reading from left to right: a part and the bytes after it, where the bytes begin with one.
+use Rattle.std.specs.Prelude.{◌≡◌, ℕ, zero, suc, ◌≤◌, List, [], ◌∷◌, length, take, drop, Option, Some, None, nat_lt, if◌then◌else◌, option_map, unwrap_or, map, Vec}
+use Rattle.std.specs.Int.{Width, w16, w32, byte_len}
+use Rattle.std.specs.Vec.{vec_items}
+use Rattle.krb_wire.specs.declared.format.Order.{Order}
+use Rattle.krb_wire.specs.declared.principal.Principal.{Principal}
+use Rattle.krb_wire.specs.declared.format.Order.TheVariants.{Big}
+use Rattle.krb_wire.specs.declared.format.KtFormat.{KtFormat}
+use Rattle.krb_wire.specs.declared.format.KtFormat.TheVariants.{V1, V2}
+use Rattle.krb_wire.specs.Spelling.{Parts, number, order_of}
+
+infixl 10 ◌>>=◌
+abbrev pub ◌>>=◌ : {A B : Type 0} → Option A → (A → Option B) → Option B
+(Some x) >>= f = f x
+None >>= f = None
+
+-- what a read answered, seen by view, is what reading gives
+abbrev pub Gives : {X Y : Type 0} → (X → Y) → Option X → Option Y → Type 0
+Gives view (Some x) read = read ≡ Some (view x)
+Gives view None read = read ≡ None
+
+abbrev pub number_at : Order → Width → List ℕ → Option (ℕ × List ℕ)
+number_at o w bytes = if nat_lt (length bytes) (byte_len w) then None else Some (number o w (take (byte_len w) bytes), drop (byte_len w) bytes)
+
+abbrev pub byte_at : List ℕ → Option (ℕ × List ℕ)
+byte_at [] = None
+byte_at (b ∷ rest) = Some (b, rest)
+
+unfoldable pub data16_at : Order → List ℕ → Option (List ℕ × List ℕ)
+data16_at o bytes = do
+  n ← number_at o w16 bytes
+  if nat_lt (length n.1) n.0 then None else Some (take n.0 n.1, drop n.0 n.1)
+
+unfoldable pub components_at : Order → ℕ → List ℕ → Option (List (List ℕ) × List ℕ)
+components_at o zero bytes = Some ([], bytes)
+components_at o (suc n) bytes = do
+  first ← data16_at o bytes
+  others ← components_at o n first.1
+  Some (first.0 ∷ others.0, others.1)
+
+-- how many components a count stands for
+abbrev pub components_of_count : KtFormat → ℕ → Option ℕ
+components_of_count V2 n = Some n
+components_of_count (V1 o) zero = None
+components_of_count (V1 o) (suc n) = Some n
+
+abbrev pub name_type_at : KtFormat → List ℕ → Option (ℕ × List ℕ)
+name_type_at (V1 o) bytes = Some (0, bytes)
+name_type_at V2 bytes = number_at Big w32 bytes
+
+unfoldable pub kt_principal_at : KtFormat → List ℕ → Option (Parts × List ℕ)
+kt_principal_at f bytes = do
+  count ← number_at (order_of f) w16 bytes
+  n ← components_of_count f count.0
+  realm ← data16_at (order_of f) count.1
+  components ← components_at (order_of f) n realm.1
+  name_type ← name_type_at f components.1
+  Some (record { name_type = name_type.0; realm = realm.0; components = components.0 }, name_type.1)
+
+-- the components that stand in bytes
+abbrev pub components_in : Order → ℕ → List ℕ → List (List ℕ)
+components_in o n bytes = unwrap_or (option_map (λ x. x.0) (components_at o n bytes)) []
+
+-- the bytes after the components
+abbrev pub components_end : Order → ℕ → List ℕ → Option (List ℕ)
+components_end o n bytes = option_map (λ x. x.1) (components_at o n bytes)
+
+-- what a read at a place answered, its part seen by view: that part and the place after it
+abbrev pub ReadsAt : {X Y : Type 0} → (X → Y) → List ℕ → Option (X × ℕ) → Option (Y × List ℕ) → Type 0
+ReadsAt view bytes (Some x) read = (read ≡ Some (view x.0, drop x.1 bytes)) × (x.1 ≤ length bytes)
+ReadsAt view bytes None read = read ≡ None
+
+-- the items of each vector
+abbrev pub items_of : {A Z : Type 0} → List (Vec A Z) → List (List A)
+items_of vs = map vec_items vs
+
+-- what a name with memory of its own is
+abbrev pub principal_parts : {A : Type 0} → Principal A → Parts
+principal_parts p = record { name_type = p.name_type; realm = vec_items p.realm; components = items_of (vec_items p.components) }

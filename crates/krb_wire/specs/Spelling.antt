@@ -1,0 +1,74 @@
+-- What names are, and the one spelling of each.
+use Rattle.std.specs.Prelude.{◌≡◌, ℕ, ◌+◌, ◌<◌, ◌^◌, ◌≤◌, List, [], ◌++◌, length, drop}
+use Rattle.std.specs.List.{flat_map, AllByRecursion}
+use Rattle.std.specs.Int.{Width, w16, w32, to_be_bytes, to_le_bytes, from_be_bytes, from_le_bytes}
+use Rattle.krb_wire.specs.declared.format.Order.{Order}
+use Rattle.krb_wire.specs.declared.format.Order.TheVariants.{Big, Little}
+use Rattle.krb_wire.specs.declared.format.KtFormat.{KtFormat}
+use Rattle.krb_wire.specs.declared.format.KtFormat.TheVariants.{V1, V2}
+
+-- a name without where it lies in memory
+pub record Parts : Type 0 where
+  pub name_type : ℕ
+  pub realm : List ℕ
+  pub components : List (List ℕ)
+
+-- the bytes of a number
+abbrev pub digits : Order → Width → ℕ → List ℕ
+digits Big w n = to_be_bytes w n
+digits Little w n = to_le_bytes w n
+
+-- the number of bytes
+abbrev pub number : Order → Width → List ℕ → ℕ
+number Big w bytes = from_be_bytes w bytes
+number Little w bytes = from_le_bytes w bytes
+
+-- sixteen bits of length, and that many bytes
+abbrev pub data16 : Order → List ℕ → List ℕ
+data16 o bytes = digits o w16 (length bytes) ++ bytes
+
+abbrev pub order_of : KtFormat → Order
+order_of (V1 o) = o
+order_of V2 = Big
+
+-- what stands in the place of the number of components: version 1 counts the realm
+abbrev pub count_field : KtFormat → ℕ → ℕ
+count_field (V1 o) n = n + 1
+count_field V2 n = n
+
+-- version 1 has no name type
+abbrev pub name_type_field : KtFormat → ℕ → List ℕ
+name_type_field (V1 o) t = []
+name_type_field V2 t = digits Big w32 t
+
+abbrev pub kt_principal : KtFormat → Parts → List ℕ
+kt_principal f p =
+    digits (order_of f) w16 (count_field f (length p.components))
+    ++ (data16 (order_of f) p.realm
+    ++ (flat_map (data16 (order_of f)) p.components ++ name_type_field f p.name_type))
+
+abbrev pub HasNameType : KtFormat → ℕ → Type 0
+HasNameType (V1 o) t = t ≡ 0
+HasNameType V2 t = t < 2 ^ 32
+
+abbrev pub IsShort : List ℕ → Type 0
+IsShort bytes = length bytes < 2 ^ 16
+
+-- what has a spelling
+pub record FitsKt (f : KtFormat) (p : Parts) : Type 0 where
+  pub count : count_field f (length p.components) < 2 ^ 16
+  pub realm : IsShort p.realm
+  pub components : AllByRecursion IsShort p.components
+  pub name_type : HasNameType f p.name_type
+
+-- what can be written: all but the name type, which version 1 leaves out
+pub record HasSpelling (f : KtFormat) (p : Parts) : Type 0 where
+  pub count : count_field f (length p.components) < 2 ^ 16
+  pub realm : IsShort p.realm
+  pub components : AllByRecursion IsShort p.components
+
+-- a text stands in bytes, from a place to the next
+pub record Stands (bytes : List ℕ) (at next : ℕ) (text : List ℕ) : Type 0 where
+  pub parts : drop at bytes ≡ text ++ drop next bytes
+  pub end : next ≡ at + length text
+  pub within : next ≤ length bytes

@@ -1,0 +1,50 @@
+//! How long an image may be.
+
+ghost use Rattle.std.specs.Prelude.{◌≡◌, ◌≤◌, ◌↔◌, ℕ, IsSome, IfSome};
+
+use std::marker::Model;
+
+/// The greatest length of an image, in bytes: at least 2 and at most 1,073,741,824.
+#[derive(Clone, Copy, Debug)]
+pub struct Limits {
+    image: u32,
+}
+
+impl Model for Limits {
+    ghost Value = { ℕ };
+
+    ghost view = { λ l. l.image };
+
+    ghost invariant = { λ l. (2 ≤ l.image) × (l.image ≤ 1073741824) };
+
+    ghost inverse = { λ n. record { image = n } };
+}
+
+impl Limits {
+    /// At most that many bytes.
+    pub fn of(image: u32) -> Option<Limits>
+        ensures range { IsSome result ↔ ((2 ≤ image) × (image ≤ 1073741824)) }
+        ensures value { IfSome result (λ l. l ≡ image) }
+    {
+        if image < 2 || image > 1_073_741_824 {
+            return None;
+        }
+        Some(Limits { image })
+    }
+
+    /// At most 16,777,216 bytes.
+    pub fn usual() -> Limits
+        ensures { result ≡ 16777216 }
+    {
+        Limits { image: 16_777_216 }
+    }
+
+    /// The greatest length.
+    pub fn image(&self) -> u32
+        ensures value { result ≡ self.now }
+        ensures least { 2 ≤ result }
+        ensures most { result ≤ 1073741824 }
+    {
+        self.image
+    }
+}

@@ -1,0 +1,61 @@
+//! Numbers of 8, 16 and 32 bits, in either order.
+
+ghost use Rattle.std.specs.Prelude.{◌≡◌, ◌≤◌, length};
+ghost use Rattle.std.specs.Int.{w16, w32};
+ghost use Rattle.krb_wire.specs.Spelling.{number};
+ghost use Rattle.krb_wire.specs.Reading.{Gives, number_at, byte_at};
+
+use crate::format::Order;
+use byteorder::{BigEndian, ByteOrder, LittleEndian};
+
+/// The number in the first two bytes.
+pub fn read_u16(order: Order, bytes: &[u8]) -> u16
+    requires { 2 ≤ length bytes.now }
+    ensures { result ≡ number order w16 bytes.now }
+{
+    match order {
+        Order::Big => BigEndian::read_u16(bytes),
+        Order::Little => LittleEndian::read_u16(bytes),
+    }
+}
+
+/// The number in the first four bytes.
+pub fn read_u32(order: Order, bytes: &[u8]) -> u32
+    requires { 4 ≤ length bytes.now }
+    ensures { result ≡ number order w32 bytes.now }
+{
+    match order {
+        Order::Big => BigEndian::read_u32(bytes),
+        Order::Little => LittleEndian::read_u32(bytes),
+    }
+}
+
+/// The byte at the front, and the bytes after it.
+pub fn split_u8(bytes: &[u8]) -> Option<(u8, &[u8])>
+    ensures { Gives (λ x. (x.0, x.1.now)) result (byte_at bytes.now) }
+{
+    let (first, rest) = bytes.split_first()?;
+    Some((*first, rest))
+}
+
+/// The number at the front, and the bytes after it.
+pub fn split_u16(order: Order, bytes: &[u8]) -> Option<(u16, &[u8])>
+    ensures { Gives (λ x. (x.0, x.1.now)) result (number_at order w16 bytes.now) }
+{
+    if bytes.len() < 2 {
+        return None;
+    }
+    let (front, rest) = bytes.split_at(2);
+    Some((read_u16(order, front), rest))
+}
+
+/// The number at the front, and the bytes after it.
+pub fn split_u32(order: Order, bytes: &[u8]) -> Option<(u32, &[u8])>
+    ensures { Gives (λ x. (x.0, x.1.now)) result (number_at order w32 bytes.now) }
+{
+    if bytes.len() < 4 {
+        return None;
+    }
+    let (front, rest) = bytes.split_at(4);
+    Some((read_u32(order, front), rest))
+}

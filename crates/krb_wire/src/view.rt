@@ -1,0 +1,165 @@
+//! Names that borrow from an image.
+
+ghost use Rattle.std.specs.Prelude.{◌≡◌, ◌≤◌, ◌+◌, ◌++◌, ℕ, List, length, drop, IsSome, IfSome, Some, slice_get, option_copied};
+ghost use Rattle.std.specs.Int.{w16, w32};
+ghost use Rattle.krb_wire.specs.Spelling.{Parts, order_of, FitsKt, Stands, kt_principal};
+ghost use Rattle.krb_wire.specs.Reading.{Gives, ReadsAt, number_at, data16_at, components_at, components_in, components_end, components_of_count, name_type_at, kt_principal_at};
+
+use crate::components::Components;
+use crate::counted::{split_data16, tail};
+use crate::format::{KtFormat, Order};
+use crate::name::Name;
+use crate::numbers::{split_u16, split_u32};
+use std::alloc::Global;
+use std::marker::Model;
+
+/// A name that borrows from an image.
+#[derive(Drop)]
+pub struct PrincipalView<'a> {
+    order: Order,
+    name_type: u32,
+    realm: &'a [u8],
+    count: usize,
+    components: &'a [u8],
+}
+
+impl<'a> Model for PrincipalView<'a> {
+    ghost Value = { Parts };
+
+    ghost view = { λ v. record { name_type = v.name_type; realm = v.realm.now; components = components_in v.order v.count v.components.now } };
+
+    ghost invariant = { λ v. IsSome (components_at v.order v.count v.components.now) };
+}
+
+// How many components a count stands for: version 1 counts the realm too.
+fn component_count(format: KtFormat, field: u16) -> Option<usize>
+    ensures { result ≡ components_of_count format field }
+{
+    match format {
+        KtFormat::V1(_) => {
+            if field == 0 {
+                None
+            } else {
+                Some(field as usize - 1)
+            }
+        }
+        KtFormat::V2 => Some(field as usize),
+    }
+}
+
+// The name type at the front: version 1 has none, which reads as 0.
+fn name_type_of(format: KtFormat, bytes: &[u8]) -> Option<(u32, &[u8])>
+    ensures { Gives (λ x. (x.0, x.1.now)) result (name_type_at format bytes.now) }
+{
+    match format {
+        KtFormat::V1(_) => Some((0, bytes)),
+        KtFormat::V2 => split_u32(Order::Big, bytes),
+    }
+}
+
+// The bytes after so many components.
+fn skip_components(order: Order, count: usize, bytes: &[u8]) -> Option<&[u8]>
+    ensures { Gives (λ x. x.now) result (components_end order count bytes.now) }
+{
+    let mut rest = bytes;
+    for _ in 0..count {
+        let (_, after) = split_data16(order, rest)?;
+        rest = after;
+    }
+    Some(rest)
+}
+
+fn component_at(order: Order, count: usize, bytes: &[u8], i: usize) -> Option<&[u8]>
+    requires { IsSome (components_at order count bytes.now) }
+    ensures { option_copied result ≡ slice_get (components_in order count bytes.now) i }
+{
+    if i >= count {
+        return None;
+    }
+    let rest = skip_components(order, i, bytes)?;
+    let (component, _) = split_data16(order, rest)?;
+    Some(component)
+}
+
+/// The name that a keytab has at the front of the bytes, and the bytes after it.
+#[tactic(auto, unfolding(crate::specs::Reading::kt_principal_at))]
+pub fn split_kt_principal(format: KtFormat, bytes: &[u8]) -> Option<(PrincipalView<'_>, &[u8])>
+    ensures { Gives (λ x. (x.0, x.1.now)) result (kt_principal_at format bytes.now) }
+{
+    let order = format.order();
+    let (field, rest) = split_u16(order, bytes)?;
+    let count = component_count(format, field)?;
+    let (realm, components) = split_data16(order, rest)?;
+    let after = skip_components(order, count, components)?;
+    let (name_type, after) = name_type_of(format, after)?;
+    Some((
+        PrincipalView {
+            order,
+            name_type,
+            realm,
+            count,
+            components,
+        },
+        after,
+    ))
+}
+
+impl<'a> Name for PrincipalView<'a> {
+    type Heap = Global;
+
+    ghost parts = { λ v. v };
+
+    fn name_type(&self) -> u32 {
+        self.name_type
+    }
+
+    fn realm(&self) -> &[u8] {
+        self.realm
+    }
+
+    fn count(&self) -> usize {
+        self.count
+    }
+
+    fn component(&self, i: usize) -> Option<&[u8]> {
+        component_at(self.order, self.count, self.components, i)
+    }
+
+    fn components(&self) -> Components<'_, Global> {
+        Components::spelled(self.order, self.count, self.components)
+    }
+}
+
+fn kt_principal_from(
+    format: KtFormat,
+    bytes: &[u8],
+    at: usize,
+) -> Option<(PrincipalView<'_>, usize)>
+    ensures { ReadsAt (λ v. v) bytes.now result (kt_principal_at format (drop at bytes.now)) }
+{
+    if at > bytes.len() {
+        return None;
+    }
+    let rest = tail(bytes, at);
+    let (name, after) = split_kt_principal(format, rest)?;
+    Some((name, bytes.len() - after.len()))
+}
+
+/// The name that a keytab has at a place, and the place after it.
+pub fn read_kt_principal(
+    format: KtFormat,
+    bytes: &[u8],
+    at: usize,
+) -> Option<(PrincipalView<'_>, usize)>
+    // What is found is spelled so.
+    ensures found { IfSome result (λ x. FitsKt format x.0
+        × Stands bytes.now at x.1 (kt_principal format x.0)) }
+    // What is spelled so is found, and nothing else.
+    ensures only { (p : Parts) (rest : List ℕ) → FitsKt format p
+        → drop at bytes.now ≡ kt_principal format p ++ rest
+        → ReadsAt (λ v. v) bytes.now result (Some (p, rest)) }
+    ensures exact { ReadsAt (λ v. v) bytes.now result
+        (kt_principal_at format (drop at bytes.now)) }
+{
+    kt_principal_from(format, bytes, at)
+}
