@@ -1,0 +1,98 @@
+"""Makes the keytabs of the benchmark. All are version 2 and hold at most LIMIT bytes."""
+
+import struct
+from typing import NamedTuple
+
+LIMIT = 16_777_216  # what krbfile reads at most
+HEAD = b"\x05\x02"
+QUOTED = b"/@\\\n\t\b\0"  # the bytes that a printed name quotes
+
+
+class Case(NamedTuple):
+    """A keytab file to make: its group, its size in the group's own unit, and its bytes."""
+
+    group: str
+    size: int
+    image: bytes
+
+
+def data(value):
+    return struct.pack(">H", len(value)) + value
+
+
+def record(realm, components, version, enctype, key):
+    """A record with its length: the entry and its 32-bit version, nothing behind it."""
+    name = struct.pack(">H", len(components)) + data(realm)
+    name += b"".join(map(data, components)) + struct.pack(">I", 1)
+    rest = struct.pack(">IBH", 1_700_000_000, version % 256, enctype)
+    entry = name + rest + data(key) + struct.pack(">I", version)
+    return struct.pack(">i", len(entry)) + entry
+
+
+def key_of(number, length):
+    """Key bytes that differ from entry to entry."""
+    return (number * 0x9E3779B97F4A7C15 % 2**64).to_bytes(8, "big") * (length // 8)
+
+
+def services(entries):
+    """Two entries for each server: enctype 17 with 16 key bytes and 18 with 32."""
+    made = [HEAD]
+    for number in range(entries):
+        server = number // 2
+        host = b"server%05d.ad.test" % server
+        enctype, length = ((17, 16), (18, 32))[number % 2]
+        key = key_of(number, length)
+        made.append(record(b"AD.TEST", [b"host", host], server % 300 + 1, enctype, key))
+    return b"".join(made)
+
+
+def components(count):
+    """Names of COUNT components of 3 bytes in all, 65,535 at most in each name."""
+    made = [HEAD]
+    while count > 0:
+        here = min(count, 65_535)
+        made.append(record(b"R", [b"abc"] * here, 1, 17, bytes(16)))
+        count -= here
+    return b"".join(made)
+
+
+def holes(count):
+    """COUNT holes of one byte, with an entry before each tenth of them and one at the end."""
+    hole = struct.pack(">i", -1) + b"\0"
+    entry = record(b"R", [b"host", b"a"], 1, 17, bytes(16))
+    return HEAD + (entry + hole * (count // 10)) * 10 + entry
+
+
+def quoted(entries):
+    """Entries whose name has 30,000 bytes, each of which is printed as two."""
+    name = (QUOTED * (30_000 // len(QUOTED) + 1))[:30_000]
+    return HEAD + record(b"R", [name], 1, 17, bytes(16)) * entries
+
+
+def empty(entries):
+    """Entries of 17 zero bytes: no components, no realm, no key."""
+    return HEAD + (struct.pack(">i", 17) + bytes(17)) * entries
+
+
+GROUPS = [
+    # name, unit, maker, sizes, sizes of a quick run
+    ("services", "entries", services, (1_000, 10_000, 100_000, 200_000), (1_000, 10_000)),
+    ("many components", "components", components,
+     (16_383, 32_767, 65_535, 655_350, 3_276_750), (4_095, 65_535)),
+    ("one-byte holes", "holes", holes, (250_000, 500_000, 1_000_000, 3_000_000), (10_000, 100_000)),
+    ("quoted names", "entries", quoted, (33, 133, 550), (5, 33)),
+    ("empty entries", "entries", empty, (50_000, 200_000, 798_000), (1_000, 10_000)),
+]
+
+
+def unit(group):
+    return next(row[1] for row in GROUPS if row[0] == group)
+
+
+def cases(quick):
+    """The cases one by one, so that one image at a time is in memory."""
+    for group, _, make, sizes, quick_sizes in GROUPS:
+        for size in quick_sizes if quick else sizes:
+            image = make(size)
+            assert len(image) <= LIMIT, (group, size, len(image))
+            yield Case(group, size, image)
