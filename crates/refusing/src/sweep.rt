@@ -1,0 +1,30 @@
+ghost use Rattle.std.specs.Prelude.{◌≤◌, IfOk};
+
+use crate::allocator::Refusing;
+use std::alloc::Global;
+use std::test::Fail;
+
+/// Runs a call with each of its requests refused in turn, until none was refused, and answers how many it makes.
+///
+/// The call is given n, from 1. It makes what it needs, lets the n-th request from there be refused by `refuse(n)`
+/// or `refuse_from(n)`, and looks at what came of it. It has to give all its blocks back.
+pub fn refuse_each<F: FnMut(&Refusing<Global>, u64) -> Result<(), Fail>>(
+    heap: Global,
+    most: u64,
+    mut call: F,
+) -> Result<u64, Fail>
+    requires { F.IsAlwaysCallable call }
+    ensures { IfOk result (λ requests. requests ≤ most) }
+{
+    for granted in 0..=most {
+        let refusing = Refusing::new(heap);
+        call(&refusing, granted.saturating_add(1))?;
+        if refusing.live_blocks() != 0 {
+            return Err(Fail::from("a block was not given back"));
+        }
+        if !refusing.refused() {
+            return Ok(granted);
+        }
+    }
+    Err(Fail::from("more requests than there may be"))
+}

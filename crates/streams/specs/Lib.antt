@@ -1,0 +1,3 @@
+pub mod Failure
+pub mod Reader
+pub mod Writer

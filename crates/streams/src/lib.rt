@@ -1,0 +1,11 @@
+//! A reader and a writer over bytes in memory, which fail when they are told to.
+#![tactic(auto)]
+
+mod failure;
+mod reader;
+#[cfg(test)]
+mod tests;
+mod writer;
+
+pub use reader::FailingReader;
+pub use writer::{FailingWriter, WhenFull};
