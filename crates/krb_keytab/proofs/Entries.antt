@@ -1,0 +1,77 @@
+-- An entry that is read is one that the bytes spell, and the only one.
+use Rattle.std.proofs.Common.{◌≡◌, ℕ, zero, suc, ◌+◌, ◌^◌, ◌<◌, ◌≤◌, List, [], ◌∷◌, ◌++◌, length, get_or, Option, Some, None, refl, sym, ap, subst, ◌∙◌, append_assoc, arith}
+use Rattle.std.specs.Prelude.{IfSome, IsSome, is_some}
+use Rattle.std.specs.Int.{w16, w32}
+use Rattle.krb_wire.specs.declared.format.KtFormat.{KtFormat}
+use Rattle.krb_wire.specs.Spelling.{order_of, digits, data16, kt_principal}
+use Rattle.krb_wire.specs.Reading.{byte_at, ◌>>=◌, Gives, number_at, data16_at, kt_principal_at}
+use Rattle.krb_wire.proofs.Fields.{IsBytes, bind_some, some_is, is_some_has, Takes, Takes-then, wide16, wide32, number_takes, number_again, data16_takes, data16_again}
+use Rattle.krb_wire.proofs.Principals.{kt_principal_takes, kt_principal_again}
+use Rattle.krb_keytab.specs.Entry.{EntryParts, Front, front, FitsFront, entry_of, Spells, front_at, entry_at}
+
+byte_takes : (bytes : List ℕ) (x : ℕ × List ℕ) → IsBytes bytes → byte_at bytes ≡ Some x → Takes bytes (x.0 ∷ []) x.1 × (x.0 < 256)
+byte_takes [] x fits e = absurd cc
+byte_takes (b ∷ bs) x fits e = subst (λ (y : ℕ × List ℕ). Takes (b ∷ bs) (y.0 ∷ []) y.1 × (y.0 < 256)) (some_is (b, bs) x e) (record { parts = refl; rest_fits = λ i. fits (suc i) }, fits 0)
+
+pub front_takes : (f : KtFormat) (bytes : List ℕ) (x : Front × List ℕ) → IsBytes bytes → front_at f bytes ≡ Some x → Takes bytes (front f x.0) x.1 × FitsFront f x.0
+unfolding front_at
+front_takes f bytes x fits e =
+    let o = order_of f in
+    let a = bind_some (kt_principal_at f bytes) (λ principal. number_at o w32 principal.1 >>= λ timestamp. byte_at timestamp.1 >>= λ version. number_at o w16 version.1 >>= λ enctype. data16_at o enctype.1 >>= λ key. Some (record { principal = principal.0; timestamp = timestamp.0; low_version = version.0; enctype = enctype.0; key = key.0 }, key.1)) x e in
+    let b = bind_some (number_at o w32 a.0.1) (λ timestamp. byte_at timestamp.1 >>= λ version. number_at o w16 version.1 >>= λ enctype. data16_at o enctype.1 >>= λ key. Some (record { principal = a.0.0; timestamp = timestamp.0; low_version = version.0; enctype = enctype.0; key = key.0 }, key.1)) x a.2 in
+    let c = bind_some (byte_at b.0.1) (λ version. number_at o w16 version.1 >>= λ enctype. data16_at o enctype.1 >>= λ key. Some (record { principal = a.0.0; timestamp = b.0.0; low_version = version.0; enctype = enctype.0; key = key.0 }, key.1)) x b.2 in
+    let d = bind_some (number_at o w16 c.0.1) (λ enctype. data16_at o enctype.1 >>= λ key. Some (record { principal = a.0.0; timestamp = b.0.0; low_version = c.0.0; enctype = enctype.0; key = key.0 }, key.1)) x c.2 in
+    let k = bind_some (data16_at o d.0.1) (λ key. Some (record { principal = a.0.0; timestamp = b.0.0; low_version = c.0.0; enctype = d.0.0; key = key.0 }, key.1)) x d.2 in
+    let ta = kt_principal_takes f bytes a.0 fits a.1 in
+    let tb = number_takes o w32 (2 ^ 32) (wide32 o) a.0.1 b.0.0 b.0.1 ta.0.rest_fits b.1 in
+    let tc = byte_takes b.0.1 c.0 tb.0.rest_fits c.1 in
+    let td = number_takes o w16 (2 ^ 16) (wide16 o) c.0.1 d.0.0 d.0.1 tc.0.rest_fits d.1 in
+    let tk = data16_takes o d.0.1 k.0.0 k.0.1 td.0.rest_fits k.1 in
+    let e4 = Takes-then c.0.1 (digits o w16 d.0.0) d.0.1 (data16 o k.0.0) k.0.1 td.0 tk.0 in
+    let e3 = Takes-then b.0.1 (c.0.0 ∷ []) c.0.1 (digits o w16 d.0.0 ++ data16 o k.0.0) k.0.1 tc.0 e4 in
+    let e2 = Takes-then a.0.1 (digits o w32 b.0.0) b.0.1 ((c.0.0 ∷ []) ++ (digits o w16 d.0.0 ++ data16 o k.0.0)) k.0.1 tb.0 e3 in
+    let e1 = Takes-then bytes (kt_principal f a.0.0) a.0.1 (digits o w32 b.0.0 ++ ((c.0.0 ∷ []) ++ (digits o w16 d.0.0 ++ data16 o k.0.0))) k.0.1 ta.0 e2 in
+    let made : Front × List ℕ = (record { principal = a.0.0; timestamp = b.0.0; low_version = c.0.0; enctype = d.0.0; key = k.0.0 }, k.0.1) in
+    subst (λ (y : Front × List ℕ). Takes bytes (front f y.0) y.1 × FitsFront f y.0) {x = made} (some_is made x k.2)
+    (e1, record { principal = ta.1; timestamp = tb.1; low_version = tc.1; enctype = td.1; key = tk.1 })
+
+pub front_again : (f : KtFormat) (x : Front) (rest : List ℕ) → FitsFront f x → front_at f (front f x ++ rest) ≡ Some (x, rest)
+unfolding front_at
+front_again f x rest fits =
+    let o = order_of f in
+    let d0 = kt_principal f x.principal in
+    let d1 = digits o w32 x.timestamp in
+    let d2 = digits o w16 x.enctype in
+    let d3 = data16 o x.key in
+    let grouped : front f x ++ rest ≡ d0 ++ (d1 ++ ((x.low_version ∷ []) ++ (d2 ++ (d3 ++ rest)))) =
+    append_assoc d0 (d1 ++ ((x.low_version ∷ []) ++ (d2 ++ d3))) rest
+    ∙ ap (λ (b : List ℕ). d0 ++ b) (append_assoc d1 ((x.low_version ∷ []) ++ (d2 ++ d3)) rest ∙ ap (λ (b : List ℕ). d1 ++ (x.low_version ∷ b)) (append_assoc d2 d3 rest)) in
+    ap (front_at f) grouped
+    ∙ rw (kt_principal_again f x.principal (d1 ++ ((x.low_version ∷ []) ++ (d2 ++ (d3 ++ rest)))) fits.principal, number_again o w32 (2 ^ 32) (wide32 o) x.timestamp ((x.low_version ∷ []) ++ (d2 ++ (d3 ++ rest))) fits.timestamp, number_again o w16 (2 ^ 16) (wide16 o) x.enctype (d3 ++ rest) fits.enctype, data16_again o x.key rest fits.key) refl
+
+pub entry_spelled : (f : KtFormat) (bytes : List ℕ) (e : EntryParts) → IsBytes bytes → entry_at f bytes ≡ Some e → Spells f e bytes
+unfolding entry_at
+entry_spelled f bytes e fits h =
+    let a = bind_some (front_at f bytes) (λ x. Some (entry_of f x.0 x.1)) e h in
+    let t = front_takes f bytes a.0 fits a.1 in
+    record { fields = a.0.0; tail = a.0.1; fit = t.1; parts = t.0.parts; entry = sym (some_is (entry_of f a.0.0 a.0.1) e a.2) }
+
+pub entry_again : (f : KtFormat) (e : EntryParts) (bytes : List ℕ) → Spells f e bytes → entry_at f bytes ≡ Some e
+unfolding entry_at
+entry_again f e bytes s =
+    ap (entry_at f) s.parts ∙ rw (front_again f s.fields s.tail s.fit) (ap (λ (x : EntryParts). Some x) (sym s.entry))
+
+pub found_entry : {X : Type 0} (view : X → EntryParts) (f : KtFormat) (bytes : List ℕ) (result : Option X) → IsBytes bytes → Gives view result (entry_at f bytes) → IfSome result (λ x. Spells f (view x) bytes)
+found_entry view f bytes (Some x) fits h = entry_spelled f bytes (view x) fits h
+found_entry view f bytes None fits h = tt
+
+pub only_entry : {X : Type 0} (view : X → EntryParts) (f : KtFormat) (bytes : List ℕ) (result : Option X) → Gives view result (entry_at f bytes) → (e : EntryParts) → Spells f e bytes → Gives view result (Some e)
+only_entry view f bytes result h e s = subst (Gives view result) (entry_again f e bytes s) h
+
+-- bytes behind an entry leave an entry
+pub entry_more : (f : KtFormat) (bytes more : List ℕ) → IsBytes bytes → IsSome (entry_at f bytes) → IsSome (entry_at f (bytes ++ more))
+entry_more f bytes more fits some =
+    let e = is_some_has (entry_at f bytes) some in
+    let s = entry_spelled f bytes e.0 fits e.1 in
+    let t : Spells f (entry_of f s.fields (s.tail ++ more)) (bytes ++ more) = record { fields = s.fields; tail = s.tail ++ more; fit = s.fit; parts = ap (λ (b : List ℕ). b ++ more) s.parts ∙ append_assoc (front f s.fields) s.tail more; entry = refl } in
+    ap is_some (entry_again f (entry_of f s.fields (s.tail ++ more)) (bytes ++ more) t)

@@ -1,0 +1,154 @@
+-- The questions asked cell by cell are those that are asked of the store.
+use Rattle.std.proofs.Common.{◌≡◌, ◌≢◌, ℕ, ◌+◌, ◌<◌, ◌≤◌, Bool, true, false, eqb, leb, ltb, List, [], ◌∷◌, length, map, drop, Option, Some, None, refl, sym, ap, subst, ◌∙◌, arith, inl, inr}
+use Rattle.std.specs.Prelude.{◌==◌, ◌&&◌, ◌||◌, nat_le, nat_lt, is_some, IsSome, IfNone}
+use Rattle.std.specs.List.{find, AllByRecursion}
+use Rattle.std.proofs.lemmas.Bool.{lt-ltb, le-ltb, le-leb, lt-leb, eq-eqb, ne_eqb}
+use Rattle.std.proofs.lemmas.Bool.Decides.{eqb_tells, leb_tells, nat_tests}
+use Rattle.krb_wire.specs.declared.format.KtFormat.{KtFormat}
+use Rattle.krb_wire.specs.Reading.{Gives}
+use Rattle.krb_walk.specs.declared.fault.FaultKind.{FaultKind}
+use Rattle.krb_walk.specs.declared.stop.Stop.{Stop}
+use Rattle.krb_walk.specs.declared.stop.Stop.TheVariants as stop
+use Rattle.krb_walk.specs.declared.fault.Fault.{Fault}
+use Rattle.krb_walk.specs.Store.{Cell as StoreCell, Record, standing, end_from, is_place_from, record_of_some, bytes_of_some, end_stop, end_of, fault_of, fault_from, is_place as is_store_place, stop_at, live_bytes as store_bytes, IsSound as IsSoundStore}
+use Rattle.krb_walk.proofs.Stops.{next_from, bytes_from, next_skips, next_stops}
+use Rattle.krb_keytab.specs.declared.image.CellsEnd.{CellsEnd}
+use Rattle.krb_keytab.specs.declared.step.Ending.{Ending}
+use Rattle.krb_keytab.specs.declared.step.Ending.TheVariants as ending
+use Rattle.krb_keytab.specs.Entry.{entry_at}
+use Rattle.krb_keytab.specs.Cells.{Cell, Live, Free, End, Contents, contents, bytes_of, IsCell, IsSound}
+use Rattle.krb_keytab.specs.Seen.{ends, ending_kind, ending_fault}
+use Rattle.krb_keytab.specs.Known.{IsKnownEnd}
+use Rattle.krb_keytab.specs.Questions.{size, end_place, is_place, kind_of, stop_from, live_bytes, live_at}
+use Rattle.krb_keytab.specs.Store.{State, placed, store_of}
+use Rattle.krb_keytab.proofs.Cuts.{live_entry}
+
+-- four bytes of length and the bytes after it
+past : (at n : ℕ) → at + 4 + n ≡ at + (4 + n)
+past at n = omega arith
+
+pub end_place-store : (at : ℕ) (cs : List Cell) → end_place at cs ≡ end_from at (map placed cs)
+end_place-store at [] = refl
+end_place-store at (Live b ∷ cs) = end_place-store (at + 4 + length b) cs ∙ ap (λ (n : ℕ). end_from n (map placed cs)) (past at (length b))
+end_place-store at (Free b ∷ cs) = end_place-store (at + 4 + length b) cs ∙ ap (λ (n : ℕ). end_from n (map placed cs)) (past at (length b))
+
+eqb-sym : (a b : ℕ) → eqb a b ≡ eqb b a
+eqb-sym a b = elim (eqb_tells a b) [
+  | inl y ↦ rw (y.0) (sym (eq-eqb b a (sym y.1)))
+  | inr n ↦ rw (n.0) (sym (ne_eqb b a (λ e. n.1 (sym e))))
+]
+
+place_cons : (at p : ℕ) (c : Cell) (cs : List Cell) → is_place (at + 4 + size c) cs p ≡ is_place_from (at + (4 + size c)) (map placed cs) p → is_place at (c ∷ cs) p ≡ ((at == p) || is_place_from (at + (4 + size c)) (map placed cs) p)
+place_cons at p c cs ih = elim (eqb_tells p at) [
+  | inl y ↦ let yes = y.0 in let back : (at == p) ≡ true = eq-eqb at p (sym y.1) in rw (yes, back) refl
+  | inr n ↦ let no = n.0 in let back : (at == p) ≡ false = ne_eqb at p (λ e. n.1 (sym e)) in rw (no, back) ih
+]
+
+pub is_place-store : (at p : ℕ) (cs : List Cell) → is_place at cs p ≡ is_place_from at (map placed cs) p
+is_place-store at p [] = eqb-sym p at
+is_place-store at p (Live b ∷ cs) = place_cons at p (Live b) cs (is_place-store (at + 4 + length b) p cs ∙ ap (λ (n : ℕ). is_place_from n (map placed cs) p) (past at (length b)))
+is_place-store at p (Free b ∷ cs) = place_cons at p (Free b) cs (is_place-store (at + 4 + length b) p cs ∙ ap (λ (n : ℕ). is_place_from n (map placed cs) p) (past at (length b)))
+
+live_cons : (at p : ℕ) (c : Cell) (cs : List Cell) → live_at (at + 4 + size c) cs p ≡ bytes_from (at + (placed c).width) (map placed cs) p → live_bytes c ≡ (placed c).live → live_at at (c ∷ cs) p ≡ bytes_from at (placed c ∷ map placed cs) p
+live_cons at p (Live b) cs ih same = elim (eqb_tells p at) [
+  | inl y ↦ let yes = y.0 in let back : (at == p) ≡ true = eq-eqb at p (sym y.1) in rw (yes, back) refl
+  | inr n ↦ let no = n.0 in let back : (at == p) ≡ false = ne_eqb at p (λ e. n.1 (sym e)) in rw (no, back) ih
+]
+live_cons at p (Free b) cs ih same = elim (eqb_tells p at) [
+  | inl y ↦ let yes = y.0 in let back : (at == p) ≡ true = eq-eqb at p (sym y.1) in rw (yes, back) refl
+  | inr n ↦ let no = n.0 in let back : (at == p) ≡ false = ne_eqb at p (λ e. n.1 (sym e)) in rw (no, back) ih
+]
+
+pub live_at-store : (at p : ℕ) (cs : List Cell) → live_at at cs p ≡ bytes_from at (map placed cs) p
+live_at-store at p [] = refl
+live_at-store at p (Live b ∷ cs) = live_cons at p (Live b) cs (live_at-store (at + 4 + length b) p cs ∙ ap (λ (n : ℕ). bytes_from n (map placed cs) p) (past at (length b))) refl
+live_at-store at p (Free b ∷ cs) = live_cons at p (Free b) cs (live_at-store (at + 4 + length b) p cs ∙ ap (λ (n : ℕ). bytes_from n (map placed cs) p) (past at (length b))) refl
+
+-- where a walk stops that finds a record, or none, before an end
+abbrev pub stop_by : ℕ → Option FaultKind → Option Record → Stop
+stop_by end kind (Some r) = stop.Live r.place r.next
+stop_by end kind None = end_stop end kind
+
+-- the same question of the store's cells
+abbrev pub store_stop : ℕ → List StoreCell → Option FaultKind → ℕ → Stop
+store_stop at cs kind p = stop_by (end_from at cs) kind (next_from at cs p)
+
+stop_free : (at p w : ℕ) (cs : List StoreCell) (kind : Option FaultKind) → store_stop (at + w) cs kind p ≡ store_stop at (record { width = w; live = None } ∷ cs) kind p
+stop_free at p w cs kind =
+    let skip : (nat_le p at && false) ≡ false = grind (arith, nat_tests) in
+    sym (ap (stop_by (end_from (at + w) cs) kind) (next_skips at p w None cs skip))
+
+stop_past : (at p w : ℕ) (b : List ℕ) (cs : List StoreCell) (kind : Option FaultKind) → at < p → store_stop (at + w) cs kind p ≡ store_stop at (record { width = w; live = Some b } ∷ cs) kind p
+stop_past at p w b cs kind lt =
+    let behind : (nat_le p at && true) ≡ false = rw (lt-leb p at lt) refl in
+    sym (ap (stop_by (end_from (at + w) cs) kind) (next_skips at p w (Some b) cs behind))
+
+stop_here : (at p w : ℕ) (b : List ℕ) (cs : List StoreCell) (kind : Option FaultKind) → p ≤ at → stop.Live at (at + w) ≡ store_stop at (record { width = w; live = Some b } ∷ cs) kind p
+stop_here at p w b cs kind le = sym (ap (stop_by (end_from (at + w) cs) kind) (next_stops at p w b cs le))
+
+stop_cons : (at p : ℕ) (b : List ℕ) (cs : List Cell) (e : End) → stop_from (at + 4 + length b) cs e p ≡ store_stop (at + (4 + length b)) (map placed cs) (kind_of e) p → stop_from at (Live b ∷ cs) e p ≡ store_stop at (map placed (Live b ∷ cs)) (kind_of e) p
+stop_cons at p b cs e ih = elim (leb_tells p at) [
+  | inl y ↦
+      let here : ltb at p ≡ false = le-ltb at p y.1 in
+      rw here (ap (λ (n : ℕ). stop.Live at n) (past at (length b)) ∙ stop_here at p (4 + length b) b (map placed cs) (kind_of e) y.1)
+  | inr n ↦
+      let before : ltb at p ≡ true = lt-ltb at p n.1 in
+      rw before (ih ∙ stop_past at p (4 + length b) b (map placed cs) (kind_of e) n.1)
+]
+
+pub stop_from-store : (at p : ℕ) (cs : List Cell) (e : End) → stop_from at cs e p ≡ store_stop at (map placed cs) (kind_of e) p
+stop_from-store at p [] e = refl
+stop_from-store at p (Live b ∷ cs) e = stop_cons at p b cs e (stop_from-store (at + 4 + length b) p cs e ∙ ap (λ (n : ℕ). store_stop n (map placed cs) (kind_of e) p) (past at (length b)))
+stop_from-store at p (Free b ∷ cs) e = stop_from-store (at + 4 + length b) p cs e ∙ ap (λ (n : ℕ). store_stop n (map placed cs) (kind_of e) p) (past at (length b)) ∙ stop_free at p (4 + length b) (map placed cs) (kind_of e)
+
+-- each cell takes up places
+pub store_sound : (f : KtFormat) (cs : List Cell) → AllByRecursion (IsCell f) cs → AllByRecursion (λ (c : StoreCell). 0 < c.width) (map placed cs)
+store_sound f [] sound = tt
+store_sound f (Live b ∷ cs) sound = (omega arith, store_sound f cs sound.1)
+store_sound f (Free b ∷ cs) sound = (omega arith, store_sound f cs sound.1)
+
+-- ---- a keytab that is kept as an image
+
+-- the keytab of an image
+abbrev pub held : KtFormat → ℕ → List ℕ → State
+held f limit image = record { format = f; limit = limit; contents = contents f (drop 2 image) }
+
+pub end_held : (f : KtFormat) (limit : ℕ) (image : List ℕ) (k : State) (e : CellsEnd) → IsKnownEnd f image e → held f limit image ≡ k → e.place ≡ end_of (store_of k)
+end_held f limit image k e known is = sym known.place ∙ end_place-store 2 (contents f (drop 2 image)).cells ∙ ap (λ (x : State). end_of (store_of x)) is
+
+kind_ends : (bytes : List ℕ) (e : Ending) → kind_of (ends bytes e) ≡ ending_kind e
+kind_ends bytes ending.Bare = refl
+kind_ends bytes ending.Mark = refl
+kind_ends bytes (ending.Damaged kind) = refl
+
+pub fault_held : (f : KtFormat) (limit : ℕ) (image : List ℕ) (k : State) (e : CellsEnd) (answer : Option Fault) → IsKnownEnd f image e → held f limit image ≡ k → answer ≡ ending_fault e.place e.ending → answer ≡ fault_of (store_of k)
+fault_held f limit image k e answer known is said =
+    let kind : ending_kind e.ending ≡ kind_of (contents f (drop 2 image)).end =
+    sym (ap kind_of known.same ∙ ap (λ (x : Contents). kind_of x.end) known.ending ∙ kind_ends (drop e.place image) e.ending) in
+    let place : e.place ≡ end_of (store_of (held f limit image)) = sym known.place ∙ end_place-store 2 (contents f (drop 2 image)).cells in
+    said ∙ ap (λ (x : Option FaultKind). fault_from e.place x) kind ∙ ap (λ (n : ℕ). fault_from n (kind_of (contents f (drop 2 image)).end)) place ∙ ap (λ (x : State). fault_of (store_of x)) is
+
+pub is_place_held : (f : KtFormat) (limit : ℕ) (image bytes : List ℕ) (k : State) (p : ℕ) (answer : Bool) → bytes ≡ image → held f limit image ≡ k → answer ≡ is_place 2 (contents f (drop 2 bytes)).cells p → answer ≡ is_store_place (store_of k) p
+is_place_held f limit image bytes k p answer same is said =
+    said ∙ ap (λ (b : List ℕ). is_place 2 (contents f (drop 2 b)).cells p) same ∙ is_place-store 2 p (contents f (drop 2 image)).cells ∙ ap (λ (x : State). is_store_place (store_of x) p) is
+
+pub place_held : (f : KtFormat) (limit : ℕ) (image bytes : List ℕ) (k : State) (p : ℕ) → bytes ≡ image → held f limit image ≡ k → is_store_place (store_of k) p ≡ true → is_place 2 (contents f (drop 2 bytes)).cells p ≡ true
+place_held f limit image bytes k p same is h =
+    is_place_held f limit image bytes k p (is_place 2 (contents f (drop 2 bytes)).cells p) same is refl ∙ h
+
+pub stop_held : (f : KtFormat) (limit : ℕ) (image bytes : List ℕ) (k : State) (p : ℕ) (answer : Stop) → bytes ≡ image → held f limit image ≡ k → answer ≡ stop_from 2 (contents f (drop 2 bytes)).cells (contents f (drop 2 bytes)).end p → answer ≡ stop_at (store_of k) p
+stop_held f limit image bytes k p answer same is said =
+    said ∙ ap (λ (b : List ℕ). stop_from 2 (contents f (drop 2 b)).cells (contents f (drop 2 b)).end p) same ∙ stop_from-store 2 p (contents f (drop 2 image)).cells (contents f (drop 2 image)).end ∙ ap (λ (x : State). stop_at (store_of x) p) is
+
+pub live_held : (f : KtFormat) (limit : ℕ) (image bytes : List ℕ) (k : State) (p : ℕ) → bytes ≡ image → held f limit image ≡ k → live_at 2 (contents f (drop 2 bytes)).cells p ≡ store_bytes (store_of k) p
+live_held f limit image bytes k p same is =
+    ap (λ (b : List ℕ). live_at 2 (contents f (drop 2 b)).cells p) same ∙ live_at-store 2 p (contents f (drop 2 image)).cells ∙ ap (λ (x : State). store_bytes (store_of x) p) is
+
+-- the bytes of a record begin with an entry
+pub entry_held : (k : State) (p : ℕ) (b : List ℕ) → IsSound k.format k.contents → store_bytes (store_of k) p ≡ Some b → IsSome (entry_at k.format b)
+entry_held k p b sound e = live_entry k.format k.contents.cells 2 p b sound.cells (live_at-store 2 p k.contents.cells ∙ e)
+
+-- a read that is sure to give an entry gives one
+pub none_there : {X Y : Type 0} (view : X → Y) (result : Option X) (read : Option Y) (o : Option (List ℕ)) → Gives view result read → IsSome read → IfNone result (o ≡ None)
+none_there view (Some x) read o h some = tt
+none_there view None read o h some = absurd (cc (h, some))

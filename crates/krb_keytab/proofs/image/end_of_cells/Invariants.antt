@@ -1,0 +1,14 @@
+use Rattle.std.proofs.Common.{◌≡◌, ◌≤◌, ◌-◌, length, drop}
+use Rattle.krb_keytab.specs.Cells.{contents}
+use Rattle.krb_keytab.specs.Questions.{end_place}
+use Rattle.krb_keytab.proofs.image.end_of_cells.Given as goal
+
+abbrev pub invariant-cells : goal.invariant-cells
+invariant-cells l = record {
+  within : l.at ≤ length l.image;
+  place : end_place l.at (contents l.format (drop l.at l.image)).cells ≡ end_place 2 (contents l.format (drop 2 l.image)).cells;
+  end : (contents l.format (drop l.at l.image)).end ≡ (contents l.format (drop 2 l.image)).end;
+}
+
+abbrev pub decreases-cells : goal.decreases-cells
+decreases-cells l = length l.image - l.at

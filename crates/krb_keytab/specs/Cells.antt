@@ -1,0 +1,131 @@
+-- A keytab as a list of cells and an end, and the bytes that spell it.
+use Rattle.std.specs.Prelude.{◌≡◌, ℕ, zero, suc, ◌+◌, ◌-◌, ◌<◌, ◌≤◌, ◌^◌, List, [], ◌∷◌, ◌++◌, length, take, drop, replicate, Option, Some, None, IsSome, is_some, Bool, true, nat_lt, ◌==◌, if◌then◌else◌}
+use Rattle.std.specs.List.{flat_map, AllByRecursion}
+use Rattle.std.specs.Int.{w32}
+use Rattle.krb_wire.specs.declared.format.Order.{Order}
+use Rattle.krb_wire.specs.declared.format.KtFormat.{KtFormat}
+use Rattle.krb_wire.specs.declared.format.KtFormat.TheVariants.{V1, V2}
+use Rattle.krb_wire.specs.Spelling.{order_of, digits}
+use Rattle.krb_wire.specs.Reading.{number_at}
+use Rattle.krb_walk.specs.declared.fault.FaultKind.{FaultKind}
+use Rattle.krb_walk.specs.declared.fault.FaultKind.TheVariants.{CutLength, Overrun, BadEntry}
+use Rattle.krb_keytab.specs.Entry.{entry_at}
+
+-- a cell: a record, whose bytes begin with an entry, or a hole
+pub data Cell : Type 0 where
+  Live : List ℕ → Cell
+  Free : List ℕ → Cell
+
+-- what stands behind the cells: nothing, a length 0 and more bytes, or bytes that are none of these
+pub data End : Type 0 where
+  Bare : End
+  Mark : List ℕ → End
+  Damaged : FaultKind → List ℕ → End
+
+-- what an image holds after its two version bytes
+pub record Contents : Type 0 where
+  pub cells : List Cell
+  pub end : End
+
+-- ---- spelling
+
+-- the bytes after the length
+abbrev pub bytes_of : Cell → List ℕ
+bytes_of (Live b) = b
+bytes_of (Free b) = b
+
+-- the length, in two's complement, negated where the cell is free
+abbrev pub length_field : Cell → ℕ
+length_field (Live b) = length b
+length_field (Free b) = 2 ^ 32 - length b
+
+-- the spelling of a cell
+abbrev pub cell : Order → Cell → List ℕ
+cell o c = digits o w32 (length_field c) ++ bytes_of c
+
+-- the spelling of an end
+abbrev pub end_bytes : Order → End → List ℕ
+end_bytes o Bare = []
+end_bytes o (Mark rest) = digits o w32 0 ++ rest
+end_bytes o (Damaged kind rest) = rest
+
+-- the bytes behind the two version bytes
+abbrev pub spelling : Order → Contents → List ℕ
+spelling o k = flat_map (cell o) k.cells ++ end_bytes o k.end
+
+-- the second byte of an image
+abbrev pub version_byte : KtFormat → ℕ
+version_byte (V1 o) = 1
+version_byte V2 = 2
+
+-- the spelling of a keytab
+abbrev pub image : KtFormat → Contents → List ℕ
+image f k = 5 ∷ version_byte f ∷ spelling (order_of f) k
+
+-- ---- reading
+
+-- one cell more and the bytes after it, or an end
+pub data Next : Type 0 where
+  More : Cell → List ℕ → Next
+  Stop : End → Next
+
+-- what ends the cells where no length stands
+abbrev pub short_end : List ℕ → End
+short_end [] = Bare
+short_end (b ∷ bs) = Damaged CutLength (b ∷ bs)
+
+-- what stands there by its length: 0 is the end mark, below 2 ^ 31 a record of that many bytes, above a hole
+abbrev pub sized : KtFormat → List ℕ → ℕ → List ℕ → Next
+sized f bytes n rest =
+    if n == 0 then Stop (Mark rest)
+    else (if nat_lt n (2 ^ 31)
+    then (if nat_lt (length rest) n then Stop (Damaged Overrun bytes)
+    else (if is_some (entry_at f (take n rest)) then More (Live (take n rest)) (drop n rest) else Stop (Damaged BadEntry bytes)))
+    else (if nat_lt (length rest) (2 ^ 32 - n) then Stop (Damaged Overrun bytes)
+    else More (Free (take (2 ^ 32 - n) rest)) (drop (2 ^ 32 - n) rest)))
+
+-- what stands there by the number read, if one was
+abbrev pub next_by : KtFormat → List ℕ → Option (ℕ × List ℕ) → Next
+next_by f bytes None = Stop (short_end bytes)
+next_by f bytes (Some n) = sized f bytes n.0 n.1
+
+-- the cell at the front, and the bytes after it
+unfoldable pub next : KtFormat → List ℕ → Next
+next f bytes = next_by f bytes (number_at (order_of f) w32 bytes)
+
+-- the contents, from the first cell and what the others are
+abbrev pub on_next : (List ℕ → Contents) → Next → Contents
+on_next others (More c rest) = record { cells = c ∷ (others rest).cells; end = (others rest).end }
+on_next others (Stop e) = record { cells = []; end = e }
+
+-- at most so many cells
+unfoldable pub walk : KtFormat → ℕ → List ℕ → Contents
+walk f zero bytes = record { cells = []; end = Bare }
+walk f (suc n) bytes = on_next (walk f n) (next f bytes)
+
+-- each cell takes more than one byte, so there are no more cells than bytes
+unfoldable pub contents : KtFormat → List ℕ → Contents
+contents f bytes = walk f (suc (length bytes)) bytes
+
+-- ---- what is a keytab
+
+-- a record's bytes begin with an entry; no cell is empty, and each size fits its field
+abbrev pub IsCell : KtFormat → Cell → Type 0
+IsCell f (Live b) = (0 < length b) × (length b < 2 ^ 31) × IsSome (entry_at f b)
+IsCell f (Free b) = (0 < length b) × (length b ≤ 2 ^ 31)
+
+-- what ends the cells is no further cell
+abbrev pub IsEnd : KtFormat → End → Type 0
+IsEnd f Bare = Unit {0}
+IsEnd f (Mark rest) = Unit {0}
+IsEnd f (Damaged kind rest) = next f rest ≡ Stop (Damaged kind rest)
+
+-- the cells and the end are sound
+pub record IsSound (f : KtFormat) (k : Contents) : Type 0 where
+  pub cells : AllByRecursion (IsCell f) k.cells
+  pub end : IsEnd f k.end
+
+-- sound contents, and the bytes that spell them
+pub record IsSpelled (f : KtFormat) (bytes : List ℕ) (k : Contents) : Type 0 where
+  pub parts : bytes ≡ spelling (order_of f) k
+  pub sound : IsSound f k

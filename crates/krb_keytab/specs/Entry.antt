@@ -1,0 +1,79 @@
+-- Entries of a keytab: what they are, how they are spelled, how they are read.
+use Rattle.std.specs.Prelude.{◌≡◌, ℕ, ◌<◌, ◌^◌, List, [], ◌∷◌, ◌++◌, length, Option, Some, None, ◌==◌, if◌then◌else◌}
+use Rattle.std.specs.Int.{w16, w32}
+use Rattle.krb_wire.specs.declared.format.Order.{Order}
+use Rattle.krb_wire.specs.declared.format.KtFormat.{KtFormat}
+use Rattle.krb_wire.specs.Spelling.{Parts, order_of, digits, data16, kt_principal, IsShort, FitsKt}
+use Rattle.krb_wire.specs.Reading.{◌>>=◌, byte_at, number_at, data16_at, kt_principal_at}
+
+-- an entry without where it lies in memory
+pub record EntryParts : Type 0 where
+  pub principal : Parts
+  pub timestamp : ℕ
+  pub version : ℕ
+  pub enctype : ℕ
+  pub key : List ℕ
+
+-- the fields up to the key, with the version in eight bits
+pub record Front : Type 0 where
+  pub principal : Parts
+  pub timestamp : ℕ
+  pub low_version : ℕ
+  pub enctype : ℕ
+  pub key : List ℕ
+
+-- the spelling of a front
+abbrev pub front : KtFormat → Front → List ℕ
+front f x =
+    kt_principal f x.principal
+    ++ (digits (order_of f) w32 x.timestamp
+    ++ ((x.low_version ∷ []) ++ (digits (order_of f) w16 x.enctype ++ data16 (order_of f) x.key)))
+
+-- what has a spelling
+pub record FitsFront (f : KtFormat) (x : Front) : Type 0 where
+  pub principal : FitsKt f x.principal
+  pub timestamp : x.timestamp < 2 ^ 32
+  pub low_version : x.low_version < 256
+  pub enctype : x.enctype < 2 ^ 16
+  pub key : IsShort x.key
+
+-- the version, by what follows the key: the number there, where there are four bytes and it is not 0
+abbrev pub version_by : ℕ → Option (ℕ × List ℕ) → ℕ
+version_by low None = low
+version_by low (Some n) = if n.0 == 0 then low else n.0
+
+-- the entry of a front and the bytes after it
+abbrev pub entry_of : KtFormat → Front → List ℕ → EntryParts
+entry_of f x tail = record {
+  principal = x.principal;
+  timestamp = x.timestamp;
+  version = version_by x.low_version (number_at (order_of f) w32 tail);
+  enctype = x.enctype;
+  key = x.key;
+}
+
+-- the bytes spell the entry: its front, and then any tail
+pub record Spells (f : KtFormat) (e : EntryParts) (bytes : List ℕ) : Type 0 where
+  pub fields : Front
+  pub tail : List ℕ
+  pub fit : FitsFront f fields
+  pub parts : bytes ≡ front f fields ++ tail
+  pub entry : e ≡ entry_of f fields tail
+
+-- ---- reading
+
+-- the front that the bytes begin with, and the bytes after it
+unfoldable pub front_at : KtFormat → List ℕ → Option (Front × List ℕ)
+front_at f bytes = do
+  principal ← kt_principal_at f bytes
+  timestamp ← number_at (order_of f) w32 principal.1
+  version ← byte_at timestamp.1
+  enctype ← number_at (order_of f) w16 version.1
+  key ← data16_at (order_of f) enctype.1
+  Some (record { principal = principal.0; timestamp = timestamp.0; low_version = version.0; enctype = enctype.0; key = key.0 }, key.1)
+
+-- the entry that the bytes spell
+unfoldable pub entry_at : KtFormat → List ℕ → Option EntryParts
+entry_at f bytes = do
+  x ← front_at f bytes
+  Some (entry_of f x.0 x.1)

@@ -1,0 +1,22 @@
+-- Laws of the definitions.
+use Rattle.std.specs.Prelude.{◌≡◌, ℕ, ◌<◌, List, ◌++◌, get_or}
+use Rattle.std.specs.List.{flat_map, AllByRecursion}
+use Rattle.krb_wire.specs.declared.format.KtFormat.{KtFormat}
+use Rattle.krb_wire.specs.Spelling.{order_of}
+use Rattle.krb_keytab.specs.Cells.{Cell, Contents, cell, spelling, contents, IsCell, IsSound, IsSpelled}
+
+abbrev pub AreBytes : List ℕ → Type 0
+AreBytes bytes = (i : ℕ) → get_or bytes i 0 < 256
+
+-- any bytes are what their contents spell
+abbrev pub IsAlwaysSpelled : Type 0
+IsAlwaysSpelled = (f : KtFormat) (bytes : List ℕ) → AreBytes bytes → IsSpelled f bytes (contents f bytes)
+
+-- sound cells whose spelling is a prefix of the bytes are the first cells: no list of cells is longer
+abbrev pub IsLongest : Type 0
+IsLongest = (f : KtFormat) (cells : List Cell) (rest : List ℕ) → AllByRecursion (IsCell f) cells → AreBytes (flat_map (cell (order_of f)) cells ++ rest)
+    → contents f (flat_map (cell (order_of f)) cells ++ rest) ≡ record { cells = cells ++ (contents f rest).cells; end = (contents f rest).end }
+
+-- sound contents are the only ones with their spelling
+abbrev pub IsOnlyOne : Type 0
+IsOnlyOne = (f : KtFormat) (k : Contents) → IsSound f k → AreBytes (spelling (order_of f) k) → contents f (spelling (order_of f) k) ≡ k

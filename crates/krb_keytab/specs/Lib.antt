@@ -1,0 +1,7 @@
+pub mod Entry
+pub mod Cells
+pub mod Seen
+pub mod Questions
+pub mod Known
+pub mod Store
+pub mod Laws

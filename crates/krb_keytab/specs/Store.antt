@@ -1,0 +1,64 @@
+-- What a keytab holds, and the store that it is.
+use Rattle.std.specs.Prelude.{◌≡◌, ℕ, ◌+◌, ◌≤◌, List, length, drop, map, slice_index, Option, Some, None, Result, Ok, Err, nat_lt, ◌==◌, if◌then◌else◌}
+use Rattle.std.specs.List.{filter_map}
+use Rattle.krb_wire.specs.declared.format.Order.{Order}
+use Rattle.krb_wire.specs.declared.format.KtFormat.{KtFormat}
+use Rattle.krb_wire.specs.declared.format.KtFormat.TheVariants.{V1, V2}
+use Rattle.krb_wire.specs.Reading.{◌>>=◌}
+use Rattle.krb_walk.specs.Store.{Cell as StoreCell, Store, records, live_bytes}
+use Rattle.krb_keytab.specs.declared.open.KtOpenFault.{KtOpenFault}
+use Rattle.krb_keytab.specs.declared.open.KtOpenFault.TheVariants.{TooShort, BadVersion, TooLarge}
+use Rattle.krb_keytab.specs.Entry.{EntryParts, entry_at}
+use Rattle.krb_keytab.specs.Cells.{Cell, Live, Free, Contents, contents, image, version_byte}
+use Rattle.krb_keytab.specs.Questions.{kind_of}
+
+-- a keytab: its format, the greatest length of its image, and its cells with what ends them
+pub record State : Type 0 where
+  pub format : KtFormat
+  pub limit : ℕ
+  pub contents : Contents
+
+-- the bytes that spell it
+abbrev pub image_of : State → List ℕ
+image_of k = image k.format k.contents
+
+-- the format that the two first bytes tell, where version 1 has an order
+abbrev pub format_of : Order → List ℕ → Option KtFormat
+format_of o bytes =
+    if slice_index bytes 0 == 5
+    then (if slice_index bytes 1 == 1 then Some (V1 o) else (if slice_index bytes 1 == 2 then Some V2 else None))
+    else None
+
+-- the keytab of a format, if its image is not too long
+abbrev pub opening_in : ℕ → List ℕ → Option KtFormat → Result State KtOpenFault
+opening_in limit bytes None = Err BadVersion
+opening_in limit bytes (Some f) = if nat_lt limit (length bytes) then Err TooLarge else Ok (record { format = f; limit = limit; contents = contents f (drop 2 bytes) })
+
+-- what opening an image gives: fewer than two bytes are too short, then the version counts, then the length
+abbrev pub opening : Order → ℕ → List ℕ → Result State KtOpenFault
+opening o limit bytes = if nat_lt (length bytes) 2 then Err TooShort else opening_in limit bytes (format_of o bytes)
+
+-- a cell as a store has it: its length takes four places
+abbrev pub placed : Cell → StoreCell
+placed (Live b) = record { width = 4 + length b; live = Some b }
+placed (Free b) = record { width = 4 + length b; live = None }
+
+-- the store that a keytab is: its cells stand behind the two version bytes
+abbrev pub store_of : State → Store
+store_of k = record { first = 2; cells = map placed k.contents.cells; fault = kind_of k.contents.end }
+
+-- the entries, in order
+abbrev pub entries : State → List EntryParts
+entries k = filter_map (λ r. entry_at k.format r.bytes) (records (store_of k))
+
+-- the entry at a place, if a record stands there
+abbrev pub entry_at_place : State → ℕ → Option EntryParts
+entry_at_place k p = live_bytes (store_of k) p >>= entry_at k.format
+
+-- bytes that are kept as an image
+pub record IsImage (f : KtFormat) (limit : ℕ) (bytes : List ℕ) : Type 0 where
+  pub long : 2 ≤ length bytes
+  pub first : slice_index bytes 0 ≡ 5
+  pub second : slice_index bytes 1 ≡ version_byte f
+  pub within : length bytes ≤ limit
+  pub limit_fits : limit ≤ 1073741824

@@ -1,0 +1,114 @@
+//! Entries of a keytab, read in place.
+
+ghost use Rattle.std.specs.Prelude.{◌≡◌, IfSome, Some};
+ghost use Rattle.std.specs.Int.{w32};
+ghost use Rattle.krb_wire.specs.Reading.{Gives, number_at};
+ghost use Rattle.krb_keytab.specs.Entry.{EntryParts, entry_at, Spells, version_by};
+
+use krb_wire::{
+    KtFormat, Order, PrincipalView, split_data16, split_kt_principal, split_u8, split_u16,
+    split_u32,
+};
+use std::marker::Model;
+
+/// An entry that borrows from an image.
+#[derive(Drop)]
+pub struct EntryView<'a> {
+    principal: PrincipalView<'a>,
+    timestamp: u32,
+    version: u32,
+    enctype: u16,
+    key: &'a [u8],
+}
+
+impl<'a> Model for EntryView<'a> {
+    ghost Value = { EntryParts };
+
+    ghost view = { λ v. record {
+      principal = v.principal;
+      timestamp = v.timestamp;
+      version = v.version;
+      enctype = v.enctype;
+      key = v.key.now;
+    } };
+}
+
+impl<'a> EntryView<'a> {
+    /// Whose key it is.
+    pub fn principal(&self) -> &PrincipalView<'a>
+        ensures { result.now ≡ self.now.principal }
+    {
+        &self.principal
+    }
+
+    /// When it was written, in seconds since 1970-01-01T00:00:00Z.
+    pub fn timestamp(&self) -> u32
+        ensures { result ≡ self.now.timestamp }
+    {
+        self.timestamp
+    }
+
+    /// The key version: the 32-bit one where there is one that is not 0, and else the 8-bit one.
+    pub fn kvno(&self) -> u32
+        ensures { result ≡ self.now.version }
+    {
+        self.version
+    }
+
+    /// The number of the key's enctype.
+    pub fn enctype(&self) -> u16
+        ensures { result ≡ self.now.enctype }
+    {
+        self.enctype
+    }
+
+    /// The key itself.
+    pub fn key(&self) -> &'a [u8]
+        ensures { result.now ≡ self.now.key }
+    {
+        self.key
+    }
+}
+
+// The version, from the 8-bit one and what follows the key.
+fn version_of(order: Order, low: u8, tail: &[u8]) -> u32
+    ensures { result ≡ version_by low (number_at order w32 tail.now) }
+{
+    match split_u32(order, tail) {
+        Some((version, _)) => { if version == 0 { low as u32 } else { version } }
+        None => low as u32,
+    }
+}
+
+/// The entry that the bytes begin with.
+#[tactic(auto, unfolding(crate::specs::Entry::front_at, crate::specs::Entry::entry_at))]
+pub fn entry_from(format: KtFormat, bytes: &[u8]) -> Option<EntryView<'_>>
+    ensures { Gives (λ v. v) result (entry_at format bytes.now) }
+{
+    let order = format.order();
+    let (principal, rest) = split_kt_principal(format, bytes)?;
+    let (timestamp, rest) = split_u32(order, rest)?;
+    let (low, rest) = split_u8(rest)?;
+    let (enctype, rest) = split_u16(order, rest)?;
+    let (key, rest) = split_data16(order, rest)?;
+    let version = version_of(order, low, rest);
+    Some(EntryView {
+        principal,
+        timestamp,
+        version,
+        enctype,
+        key,
+    })
+}
+
+/// The entry that a record's bytes spell: its fields up to the key, perhaps a 32-bit version, and then
+/// any bytes.
+pub fn read_entry(format: KtFormat, bytes: &[u8]) -> Option<EntryView<'_>>
+    // What is found is spelled so.
+    ensures found { IfSome result (λ v. Spells format v bytes.now) }
+    // What is spelled so is found, and nothing else.
+    ensures only { (e : EntryParts) → Spells format e bytes.now → Gives (λ v. v) result (Some e) }
+    ensures exact { Gives (λ v. v) result (entry_at format bytes.now) }
+{
+    entry_from(format, bytes)
+}

@@ -1,0 +1,178 @@
+//! Keytabs, kept as their images.
+
+ghost use Rattle.std.specs.Prelude.{◌≡◌, IsSome, IfOk, IfErr, IfSome, IfNone, Ok, Err, Some, None, drop, option_copied};
+ghost use Rattle.krb_wire.specs.Reading.{Gives};
+ghost use Rattle.krb_walk.specs.Store.{end_of, fault_of, is_place, stop_at, live_bytes, IsPlace, IsSound as IsSoundStore};
+ghost use Rattle.krb_keytab.specs.Entry.{entry_at, Spells};
+ghost use Rattle.krb_keytab.specs.Cells.{contents, IsSound};
+ghost use Rattle.krb_keytab.specs.Known.{IsKnownEnd};
+ghost use Rattle.krb_keytab.specs.Store.{State, opening, image_of, store_of, entry_at_place, IsImage};
+
+use crate::entry::{EntryView, read_entry};
+use crate::image::{
+    CellsEnd, end_of_cells, is_place_of, live_bytes_of, live_of, spelled_of, stop_of,
+};
+use crate::open::{KtOpenFault, KtOpenRefused, format_in};
+use krb_walk::{Fault, Stop};
+use krb_wire::{KtFormat, Limits, Order};
+use std::alloc::Allocator;
+use std::marker::Model;
+
+/// A keytab: the bytes of its image, and where its cells end. Contracts see its format, its limit, and
+/// the one list of cells with what ends them that the image spells.
+#[derive(Drop)]
+pub struct Keytab<A: Allocator> {
+    image: Vec<u8, A>,
+    format: KtFormat,
+    limit: u32,
+    end: CellsEnd,
+}
+
+impl<A: Allocator> Model for Keytab<A> {
+    ghost Value = { State };
+
+    ghost view = { λ k. record { format = k.format; limit = k.limit; contents = contents k.format (drop 2 k.image.items) } };
+
+    ghost invariant = { λ k. IsImage k.format k.limit k.image.items × IsKnownEnd k.format k.image.items k.end };
+}
+
+impl<A: Allocator> Keytab<A> {
+    /// The keytab that an image is; version 1 has that order. A damaged image opens too, with the cells
+    /// before its fault. Each entry is read once, and no memory is taken.
+    pub fn open(
+        image: Vec<u8, A>,
+        v1_order: Order,
+        limits: Limits,
+    ) -> Result<Keytab<A>, KtOpenRefused<A>>
+        ensures ok { IfOk result (λ k. opening v1_order limits image.items ≡ Ok k) }
+        // The bytes are kept as they are.
+        ensures kept { IfOk result (λ k. image_of k ≡ image.items) }
+        ensures err { IfErr result (λ e. (opening v1_order limits image.items ≡ Err e.why)
+            × (e.image ≡ image)) }
+    {
+        if image.len() < 2 {
+            return Err(KtOpenRefused {
+                why: KtOpenFault::TooShort,
+                image,
+            });
+        }
+        let Some(format) = format_in(v1_order, &image) else {
+            return Err(KtOpenRefused {
+                why: KtOpenFault::BadVersion,
+                image,
+            });
+        };
+        let limit = limits.image();
+        if image.len() > limit as usize {
+            return Err(KtOpenRefused {
+                why: KtOpenFault::TooLarge,
+                image,
+            });
+        }
+        let _ = spelled_of(format, &image);
+        let end = end_of_cells(format, &image);
+        Ok(Keytab {
+            image,
+            format,
+            limit,
+            end,
+        })
+    }
+
+    /// Its version, and of version 1 the order.
+    pub fn format(&self) -> KtFormat
+        ensures { result ≡ self.now.format }
+    {
+        self.format
+    }
+
+    /// The bytes that spell it.
+    pub fn image(&self) -> &[u8]
+        ensures spelled { result.now ≡ image_of self.now }
+        ensures sound { IsSound self.now.format self.now.contents }
+    {
+        spelled_of(self.format, &self.image)
+    }
+
+    /// The bytes that spell it, in the memory that they were opened in.
+    pub fn into_image(self) -> Vec<u8, A>
+        ensures { result.items ≡ image_of self }
+    {
+        let _ = spelled_of(self.format, &self.image);
+        let Keytab {
+            image,
+            format: _,
+            limit: _,
+            end: _,
+        } = self;
+        image
+    }
+
+    /// The place of the first cell: 2, behind the version bytes.
+    pub fn first(&self) -> u32
+        ensures first { result ≡ (store_of self.now).first }
+        ensures sound { IsSoundStore (store_of self.now) }
+    {
+        let _ = self.image();
+        2
+    }
+
+    /// The place after the last sound cell.
+    pub fn end(&self) -> u32
+        ensures { result ≡ end_of (store_of self.now) }
+    {
+        self.end.place as u32
+    }
+
+    /// What is wrong after the last sound cell, if something is.
+    pub fn fault(&self) -> Option<Fault>
+        ensures { result ≡ fault_of (store_of self.now) }
+    {
+        self.end.ending.fault(self.end.place as u32)
+    }
+
+    /// Is true of the place of each cell, live or free, and of `end()`. It looks from the front.
+    pub fn is_place(&self, place: u32) -> bool
+        ensures { result ≡ is_place (store_of self.now) place }
+    {
+        is_place_of(self.format, &self.image, self.end, place as usize)
+    }
+
+    /// The first live cell at or after a place, or what ends the cells. It looks from that place on.
+    pub fn stop_at(&self, place: u32) -> Stop
+        requires { IsPlace (store_of self.now) place }
+        ensures { result ≡ stop_at (store_of self.now) place }
+    {
+        stop_of(self.format, &self.image, self.end, place as usize)
+    }
+
+    /// The bytes of the record at a place, after its length: an entry, and what is behind it.
+    pub fn bytes_at(&self, place: u32) -> &[u8]
+        requires { IsSome (live_bytes (store_of self.now) place) }
+        ensures bytes { live_bytes (store_of self.now) place ≡ Some result.now }
+        ensures entry { IsSome (entry_at self.now.format result.now) }
+    {
+        let _ = self.image();
+        live_bytes_of(self.format, &self.image, self.end, place as usize)
+    }
+
+    // The bytes of the record at a place, if one stands there.
+    fn record(&self, place: u32) -> Option<&[u8]>
+        ensures { option_copied result ≡ live_bytes (store_of self.now) place }
+    {
+        live_of(self.format, &self.image, self.end, place as usize)
+    }
+
+    /// The entry of the record at a place: none exactly where no live cell stands. It looks from the
+    /// front; to go through all records, take `stop_at` and `bytes_at`.
+    pub fn entry_at(&self, place: u32) -> Option<EntryView<'_>>
+        ensures none { IfNone result (live_bytes (store_of self.now) place ≡ None) }
+        ensures found { IfSome result (λ e. IfSome (live_bytes (store_of self.now) place)
+            (λ b. Spells self.now.format e b)) }
+        ensures exact { Gives (λ e. e) result (entry_at_place self.now place) }
+    {
+        let _ = self.image();
+        let bytes = self.record(place)?;
+        read_entry(self.format(), bytes)
+    }
+}

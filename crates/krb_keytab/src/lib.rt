@@ -1,0 +1,14 @@
+//! Keytab images: a keytab is a list of cells, and each live cell begins with an entry.
+#![tactic(auto)]
+
+mod entry;
+mod image;
+mod keytab;
+mod laws;
+mod open;
+mod step;
+
+pub use entry::{EntryView, read_entry};
+pub use keytab::Keytab;
+pub use laws::one_reading;
+pub use open::{KtOpenFault, KtOpenRefused};

@@ -1,0 +1,87 @@
+//! What stands at a place of an image: a cell, or what ends the cells.
+
+ghost use Rattle.std.specs.Prelude.{◌≡◌, ◌<◌, ◌^◌, length, is_some};
+ghost use Rattle.krb_keytab.specs.Entry.{entry_at};
+ghost use Rattle.krb_keytab.specs.Cells.{next};
+ghost use Rattle.krb_keytab.specs.Seen.{seen, EndsWithin, ending_fault, ending_stop};
+
+use crate::entry::entry_from;
+use krb_walk::{Fault, FaultKind, Stop};
+use krb_wire::{KtFormat, split_u32};
+
+/// What ends the cells of an image: nothing, a length 0, or a fault.
+#[derive(Clone, Copy, Debug, PartialEq, Eq)]
+pub enum Ending {
+    Bare,
+    Mark,
+    Damaged(FaultKind),
+}
+
+impl Ending {
+    /// The fault at a place, if that is what ends the cells there.
+    pub fn fault(self, place: u32) -> Option<Fault>
+        ensures { result ≡ ending_fault place self }
+    {
+        match self {
+            Ending::Damaged(kind) => Some(Fault { place, kind }),
+            _ => None,
+        }
+    }
+
+    /// Where a walk stops that finds no live cell before that place.
+    pub fn stop(self, place: u32) -> Stop
+        ensures { result ≡ ending_stop place self }
+    {
+        match self {
+            Ending::Damaged(kind) => Stop::Fault(Fault { place, kind }),
+            _ => Stop::End { next: place },
+        }
+    }
+}
+
+/// A live or a free cell of so many bytes after its length, or what ends the cells.
+#[derive(Clone, Copy, Debug, PartialEq, Eq)]
+pub enum Step {
+    Live(usize),
+    Free(usize),
+    End(Ending),
+}
+
+fn is_entry(format: KtFormat, bytes: &[u8]) -> bool
+    ensures { result ≡ is_some (entry_at format bytes.now) }
+{
+    entry_from(format, bytes).is_some()
+}
+
+/// What stands at the front of the bytes, found by reading it whole.
+#[tactic(auto, unfolding(crate::specs::Cells::next))]
+pub fn next_of(format: KtFormat, bytes: &[u8]) -> Step
+    requires { length bytes.now < 2 ^ 32 }
+    ensures value { next format bytes.now ≡ seen bytes.now result }
+    ensures within { EndsWithin bytes.now result }
+{
+    let Some((field, rest)) = split_u32(format.order(), bytes) else {
+        if bytes.is_empty() {
+            return Step::End(Ending::Bare);
+        }
+        return Step::End(Ending::Damaged(FaultKind::CutLength));
+    };
+    if field == 0 {
+        return Step::End(Ending::Mark);
+    }
+    if field < 0x8000_0000 {
+        let size = field as usize;
+        if rest.len() < size {
+            return Step::End(Ending::Damaged(FaultKind::Overrun));
+        }
+        if is_entry(format, rest.split_at(size).0) {
+            return Step::Live(size);
+        }
+        return Step::End(Ending::Damaged(FaultKind::BadEntry));
+    }
+    let size = 0x1_0000_0000 - field as usize;
+    if rest.len() < size {
+        return Step::End(Ending::Damaged(FaultKind::Overrun));
+    }
+    Step::Free(size)
+}
