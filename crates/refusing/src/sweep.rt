@@ -1,4 +1,4 @@
-ghost use Rattle.std.specs.Prelude.{◌≤◌, IfOk};
+ghost use Rattle.std.specs.Prelude.{◌≤◌, ◌+◌, IfOk, Ok};
 
 use crate::allocator::Refusing;
 use std::alloc::Global;
@@ -14,16 +14,20 @@ pub fn refuse_each<F: FnMut(&Refusing<Global>, u64) -> Result<(), Fail>>(
     mut call: F,
 ) -> Result<u64, Fail>
     requires { F.IsAlwaysCallable call }
-    ensures { IfOk result (λ requests. requests ≤ most) }
+    ensures most { IfOk result (λ requests. requests ≤ most) }
+
+    // The call that was granted all its requests is one that was made, and it found nothing wrong.
+    ensures last { IfOk result (λ requests. (before after : F) × (heap : _)
+        × F.step before heap (requests + 1) (Ok tt) after) }
 {
-    for granted in 0..=most {
+    for nth in 1..=most.saturating_add(1) {
         let refusing = Refusing::new(heap);
-        call(&refusing, granted.saturating_add(1))?;
+        call(&refusing, nth)?;
         if refusing.live_blocks() != 0 {
             return Err(Fail::from("a block was not given back"));
         }
         if !refusing.refused() {
-            return Ok(granted);
+            return Ok(nth - 1);
         }
     }
     Err(Fail::from("more requests than there may be"))
