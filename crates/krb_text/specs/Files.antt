@@ -1,0 +1,21 @@
+-- Files as a map from names to bytes.
+use Rattle.std.specs.Prelude.{◌≡◌, ◌⊎◌, ℕ, ◌-◌, ◌^◌, ◌<◌, List, length, if◌then◌else◌, nat_lt, Option, None, Some, Result, Ok, Err}
+use Rattle.krb_text.specs.declared.files.LoadFault.{LoadFault}
+use Rattle.krb_text.specs.declared.files.LoadFault.TheVariants.{Missing, TooLarge}
+
+-- what stands under each name
+abbrev pub FileMap : Type 0
+FileMap = List ℕ → Option (List ℕ)
+
+-- the same files
+abbrev pub SameFiles : FileMap → FileMap → Type 0
+SameFiles old new = (name : List ℕ) → new name ≡ old name
+
+-- the count of failures rose, or it can rise no further
+abbrev pub CountsFailure : ℕ → ℕ → Type 0
+CountsFailure old new = (old < new) ⊎ (old ≡ 2 ^ 64 - 1)
+
+-- what a load of at most `limit` bytes gives of what stands under the name
+abbrev pub loaded : Option (List ℕ) → ℕ → Result (List ℕ) LoadFault
+loaded None limit = Err Missing
+loaded (Some bytes) limit = if nat_lt limit (length bytes) then Err TooLarge else Ok bytes

@@ -1,0 +1,31 @@
+-- Files in memory.
+use Rattle.std.specs.Prelude.{◌≡◌, ◌⊎◌, ◌==◌, ◌||◌, ℕ, ◌+◌, ◌-◌, ◌^◌, List, Bool, if◌then◌else◌, find, option_map, Result, Err, IsOk}
+use Rattle.std.specs.Str.{bytes_eq}
+use Rattle.krb_text.specs.declared.files.LoadFault.{LoadFault}
+use Rattle.krb_text.specs.declared.files.LoadFault.TheVariants.{NoMemory}
+use Rattle.krb_text.specs.Files.{FileMap}
+
+-- the bytes of the first pair of that name
+abbrev pub file_in : List (List ℕ × List ℕ) → FileMap
+file_in files name = option_map (λ file. file.1) (find (λ file. bytes_eq file.0 name) files)
+
+-- files in memory, which call to come fails, counted from 1 with 0 for none, and how many failed
+pub record Memory : Type 0 where
+  pub files : List (List ℕ × List ℕ)
+  pub failing : ℕ
+  pub failures : ℕ
+
+-- the next call fails
+abbrev pub failing_next : Memory → Bool
+failing_next m = (m.failures == 2 ^ 64 - 1) || (m.failing == 1)
+
+-- after a call, which is counted where it failed; at the greatest count nothing changes any more
+abbrev pub after_call : Memory → Memory
+after_call m =
+    if m.failures == 2 ^ 64 - 1 then m
+    else (if m.failing == 1 then record m { failing = 0; failures = m.failures + 1 }
+    else record m { failing = m.failing - 1 })
+
+-- a copy of what was loaded was refused memory, or nothing was loaded
+abbrev pub FaultOf : Result (List ℕ) LoadFault → LoadFault → Type 0
+FaultOf load fault = ((fault ≡ NoMemory) × IsOk load) ⊎ (load ≡ Err fault)

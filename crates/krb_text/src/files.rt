@@ -1,0 +1,57 @@
+//! Files by name.
+
+ghost use Rattle.std.specs.Prelude.{◌≡◌, ◌≤◌, ◌⊎◌, ℕ, Ok, Err, IfOk, IfErr, IsErrOf};
+ghost use Rattle.krb_text.specs.Files.{FileMap, SameFiles, CountsFailure, loaded};
+
+use std::alloc::Allocator;
+use thiserror::Error;
+
+/// Why a file was not loaded.
+#[derive(Clone, Copy, Debug, PartialEq, Eq, Error)]
+pub enum LoadFault {
+    #[error("no such file")]
+    Missing = 1,
+    #[error("file too large")]
+    TooLarge = 2,
+    #[error("cannot read")]
+    Failed = 3,
+    #[error("out of memory")]
+    NoMemory = 4,
+}
+
+/// Files by name. What is said of their bytes holds while the files are honest.
+pub trait Files {
+    /// What stands under each name.
+    ghost file: { Self → FileMap };
+
+    /// Whether the calls read what stands there.
+    ghost is_honest: { Self → Type 0 };
+
+    /// How many calls failed, as far as a u64 counts.
+    ghost failure_count: { Self → ℕ };
+
+    /// The bytes of a file, if they are at most `limit`.
+    fn load<A: Allocator>(
+        &mut self,
+        alloc: A,
+        name: &str,
+        limit: u32,
+    ) -> Result<Vec<u8, A>, LoadFault>
+        ensures honest { is_honest self.old → is_honest self.new }
+        ensures same { is_honest self.old → SameFiles (file self.old) (file self.new) }
+
+        // Where neither a call nor memory failed, the answer is what stands there.
+        ensures ok { is_honest self.old
+            → IfOk result (λ bytes. loaded (file self.old name.now) limit ≡ Ok bytes.items) }
+        ensures err { is_honest self.old → IfErr result (λ fault. (fault ≡ LoadFault.Failed)
+            ⊎ (fault ≡ LoadFault.NoMemory) ⊎ (loaded (file self.old name.now) limit ≡ Err fault)) }
+
+        // `Failed` comes only with a failure that is counted.
+        ensures failed { IsErrOf result LoadFault.Failed
+            → CountsFailure (failure_count self.old) (failure_count self.new) }
+        ensures count { failure_count self.old ≤ failure_count self.new };
+
+    /// How many calls failed, as far as a u64 counts.
+    fn failures(&self) -> u64
+        ensures { result ≡ failure_count self.now };
+}
