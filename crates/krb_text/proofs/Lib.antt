@@ -1,2 +1,4 @@
 pub mod Fronts
 pub mod FileLists
+pub mod Passing
+pub mod Lines

@@ -1,3 +1,5 @@
 pub mod Bytes
 pub mod Files
 pub mod MemFiles
+pub mod Gathered
+pub mod Listing

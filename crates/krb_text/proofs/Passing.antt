@@ -1,0 +1,70 @@
+-- How a text passes to a writer: what was gathered, what was sent, and what a failure leaves.
+use Rattle.std.proofs.Common.{◌≡◌, ℕ, List, [], ◌++◌, Option, refl, sym, ap, ◌∙◌, append_assoc, append-nil}
+use Rattle.std.specs.Io.KnownBytes.{Appends}
+use Rattle.krb_text.specs.Bytes.{AppendsFront}
+use Rattle.krb_text.specs.Gathered.{Sent, Passed}
+use Rattle.krb_text.proofs.Fronts.{Appends-nil, Appends-trans, AppendsFront-longer}
+
+-- three pieces are gathered
+pub gathered_three : (a b c d x y z : List ℕ) → b ≡ a ++ x → c ≡ b ++ y → d ≡ c ++ z → d ≡ a ++ (x ++ (y ++ z))
+gathered_three a b c d x y z is_b is_c is_d =
+    is_d ∙ ap (λ (t : List ℕ). t ++ z) (is_c ∙ ap (λ (t : List ℕ). t ++ y) is_b) ∙ append_assoc (a ++ x) y z ∙ append_assoc a x (y ++ z)
+
+-- nothing was sent yet
+pub passed_none : (o : Option (List ℕ)) (whole rest b : List ℕ) → whole ≡ b ++ rest → Passed o o whole rest b
+passed_none o whole rest b e = record { sent = []; appends = Appends-nil o; parts = e }
+
+-- the next piece is gathered
+pub passed_gather : (o p : Option (List ℕ)) (whole x rest b more : List ℕ) → Passed o p whole (x ++ rest) b → more ≡ b ++ x → Passed o p whole rest more
+passed_gather o p whole x rest b more h e = record {
+  sent = h.sent;
+  appends = h.appends;
+  parts = h.parts ∙ ap (λ (t : List ℕ). h.sent ++ t) (sym (append_assoc b x rest) ∙ ap (λ (t : List ℕ). t ++ rest) (sym e));
+}
+
+-- what is gathered is sent, or some of it
+pub passed_send : (o p q : Option (List ℕ)) (whole rest b after : List ℕ) → Passed o p whole rest b → Sent p q b after → Passed o q whole rest after
+passed_send o p q whole rest b after h s = record {
+  sent = h.sent ++ s.sent;
+  appends = Appends-trans o p q h.sent s.sent h.appends s.appends;
+  parts = h.parts ∙ ap (λ (t : List ℕ). h.sent ++ (t ++ rest)) s.parts ∙ ap (λ (t : List ℕ). h.sent ++ t) (append_assoc s.sent after rest) ∙ sym (append_assoc h.sent s.sent (after ++ rest));
+}
+
+-- a last piece is gathered behind a whole text
+pub passed_last : (o p : Option (List ℕ)) (whole x b more : List ℕ) → Passed o p whole [] b → more ≡ b ++ x → Passed o p (whole ++ x) [] more
+passed_last o p whole x b more h e = record {
+  sent = h.sent;
+  appends = h.appends;
+  parts = ap (λ (t : List ℕ). t ++ x) (h.parts ∙ ap (λ (t : List ℕ). h.sent ++ t) (append-nil b)) ∙ append_assoc h.sent b x ∙ ap (λ (t : List ℕ). h.sent ++ t) (sym e ∙ sym (append-nil more));
+}
+
+-- what was sent is a front of the whole
+pub passed_front : (o p : Option (List ℕ)) (whole rest b : List ℕ) → Passed o p whole rest b → AppendsFront o p whole
+passed_front o p whole rest b h = record { front = h.sent; rest = b ++ rest; appends = h.appends; splits = h.parts }
+
+-- and still is where a front of what is gathered is sent
+pub passed_fail : (o p q : Option (List ℕ)) (whole rest b : List ℕ) → Passed o p whole rest b → AppendsFront p q b → AppendsFront o q whole
+passed_fail o p q whole rest b h f = record {
+  front = h.sent ++ f.front;
+  rest = f.rest ++ rest;
+  appends = Appends-trans o p q h.sent f.front h.appends f.appends;
+  splits = h.parts ∙ ap (λ (t : List ℕ). h.sent ++ (t ++ rest)) f.splits ∙ ap (λ (t : List ℕ). h.sent ++ t) (append_assoc f.front f.rest rest) ∙ sym (append_assoc h.sent f.front (f.rest ++ rest));
+}
+
+-- all that is gathered is sent at last
+pub passed_all : (o p q : Option (List ℕ)) (whole b : List ℕ) → Passed o p whole [] b → Appends p q b → Appends o q whole
+passed_all o p q whole b h s =
+    let is : whole ≡ h.sent ++ b = h.parts ∙ ap (λ (t : List ℕ). h.sent ++ t) (append-nil b) in
+    rw is (Appends-trans o p q h.sent b h.appends s)
+
+-- a front of the first two of three pieces is one of all
+pub front_of_three : (o p : Option (List ℕ)) (b first second third : List ℕ) → b ≡ first → AppendsFront o p (b ++ second) → AppendsFront o p (first ++ (second ++ third))
+front_of_three o p b first second third is f =
+    let same : AppendsFront o p (first ++ second) = rw (sym is) f in
+    rw (sym (append_assoc first second third)) (AppendsFront-longer o p (first ++ second) third same)
+
+-- the first two of three pieces passed, and the third is gathered
+pub passed_three : (o p : Option (List ℕ)) (b first second third more last : List ℕ) → b ≡ first → Passed o p (b ++ second) [] more → last ≡ more ++ third → Passed o p (first ++ (second ++ third)) [] last
+passed_three o p b first second third more last is h e =
+    let same : Passed o p (first ++ second) [] more = rw (sym is) h in
+    rw (sym (append_assoc first second third)) (passed_last o p (first ++ second) third more last same e)

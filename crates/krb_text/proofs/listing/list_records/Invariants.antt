@@ -1,0 +1,17 @@
+use Rattle.std.proofs.Common.{◌++◌, ◌-◌}
+use Rattle.krb_walk.specs.Store.{IsPlace, IsSound, end_of}
+use Rattle.krb_keytab.specs.Store.{store_of}
+use Rattle.krb_text.specs.Gathered.{Passed}
+use Rattle.krb_text.specs.Listing.{entry_lines}
+use Rattle.krb_text.proofs.Lines.{lines_from}
+use Rattle.krb_text.proofs.listing.list_records.Given as goal
+
+abbrev pub invariant-records : goal.invariant-records
+invariant-records g l = record {
+  place : IsPlace (store_of l.keytab) l.place;
+  sound : IsSound (store_of l.keytab);
+  passed : Passed (g.W.Write.contents l.fn.out) (g.W.Write.contents l.out) (l.fn.gathered.items ++ entry_lines l.keytab) (lines_from l.keytab l.place) l.gathered.items;
+}
+
+abbrev pub decreases-records : goal.decreases-records
+decreases-records g l = end_of (store_of l.keytab) - l.place

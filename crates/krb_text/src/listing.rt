@@ -1,0 +1,131 @@
+//! The listing of a keytab.
+
+ghost use Rattle.std.specs.Prelude.{◌≡◌, ◌++◌, ◌∷◌, [], OnOk, OnErr, IfErr, IsSome, codes};
+ghost use Rattle.std.specs.Io.KnownBytes.{Appends};
+ghost use Rattle.krb_wire.specs.Names.{name_text};
+ghost use Rattle.krb_walk.specs.Store.{live_bytes, fault_of};
+ghost use Rattle.krb_keytab.specs.Store.{store_of};
+ghost use Rattle.krb_text.specs.Bytes.{AppendsFront};
+ghost use Rattle.krb_text.specs.Gathered.{Passed};
+ghost use Rattle.krb_text.specs.Listing.{heading, entry_line, line_at, entry_lines, fault_line, list_text};
+
+use crate::columns::KtColumns;
+use crate::gather::{FULL, gather, gather_number, gather_right_in_4, send_if_full};
+use crate::output::{OutFault, put};
+use krb_keytab::{EntryView, Keytab, read_entry};
+use krb_walk::{Fault, Stop};
+use krb_wire::{Name, write_name};
+use std::alloc::Allocator;
+use std::io::Write;
+
+fn gather_heading<A: Allocator>(name: &str, gathered: &mut Vec<u8, A>) -> Result<(), OutFault>
+    ensures ok { OnOk result (gathered.new.items ≡ gathered.old.items ++ heading name.now) }
+    ensures why { IfErr result (λ fault. fault ≡ OutFault.NoMemory) }
+{
+    gather(b"Keytab name: FILE:", gathered)?;
+    gather(name.as_bytes(), gathered)?;
+    gather(b"\nKVNO Principal\n---- ---------\n", gathered)
+}
+
+fn gather_name<N: Name, A: Allocator>(name: &N, gathered: &mut Vec<u8, A>) -> Result<(), OutFault>
+    ensures ok { OnOk result
+        (gathered.new.items ≡ gathered.old.items ++ name_text (N.parts name.now)) }
+    ensures why { IfErr result (λ fault. fault ≡ OutFault.NoMemory) }
+{
+    match write_name(name, gathered) {
+        Ok(()) => Ok(()),
+        Err(_) => Err(OutFault::NoMemory),
+    }
+}
+
+fn gather_entry<A: Allocator>(
+    entry: &EntryView<'_>,
+    gathered: &mut Vec<u8, A>,
+) -> Result<(), OutFault>
+    ensures ok { OnOk result (gathered.new.items ≡ gathered.old.items ++ entry_line entry.now) }
+    ensures why { IfErr result (λ fault. fault ≡ OutFault.NoMemory) }
+{
+    gather_right_in_4(entry.kvno(), gathered)?;
+    gather(b" ", gathered)?;
+    gather_name(entry.principal(), gathered)?;
+    gather(b"\n", gathered)
+}
+
+// The line of the record at a place.
+fn gather_record<A: Allocator, B: Allocator>(
+    keytab: &Keytab<B>,
+    place: u32,
+    gathered: &mut Vec<u8, A>,
+) -> Result<(), OutFault>
+    requires { IsSome (live_bytes (store_of keytab.now) place) }
+    ensures ok { OnOk result (gathered.new.items ≡ gathered.old.items ++ line_at keytab.now place) }
+    ensures why { IfErr result (λ fault. fault ≡ OutFault.NoMemory) }
+{
+    let bytes = keytab.bytes_at(place);
+    let Some(entry) = read_entry(keytab.format(), bytes) else {
+        unreachable!()
+    };
+    gather_entry(&entry, gathered)
+}
+
+// The lines of all records, from stop to stop.
+fn list_records<A: Allocator, B: Allocator, W: Write>(
+    keytab: &Keytab<B>,
+    gathered: &mut Vec<u8, A>,
+    out: &mut W,
+) -> Result<(), OutFault>
+    ensures ok { OnOk result (Passed (W.contents out.old) (W.contents out.new)
+        (gathered.old.items ++ entry_lines keytab.now) [] gathered.new.items) }
+    ensures front { OnErr result (AppendsFront (W.contents out.old) (W.contents out.new)
+        (gathered.old.items ++ entry_lines keytab.now)) }
+{
+    let mut place = keytab.first();
+    'records: while let Stop::Live { place: at, next } = keytab.stop_at(place) {
+        gather_record(keytab, at, gathered)?;
+        send_if_full(gathered, out)?;
+        place = next;
+    }
+    Ok(())
+}
+
+fn gather_fault<A: Allocator>(
+    fault: Option<Fault>,
+    gathered: &mut Vec<u8, A>,
+) -> Result<(), OutFault>
+    ensures ok { OnOk result (gathered.new.items ≡ gathered.old.items ++ fault_line fault) }
+    ensures why { IfErr result (λ fault. fault ≡ OutFault.NoMemory) }
+{
+    let Some(fault) = fault else {
+        return Ok(());
+    };
+    gather(b"fault ", gathered)?;
+    gather_number(fault.kind.number(), gathered)?;
+    gather(b" at ", gathered)?;
+    gather_number(fault.place, gathered)?;
+    gather(b"\n", gathered)
+}
+
+/// Writes the listing of a keytab under that name: a heading, a line for each record in file order, and
+/// where the image is damaged its fault. It is gathered into large writes; where one fails, what went
+/// out is a front of the text.
+pub fn list_keytab<A: Allocator, B: Allocator, W: Write>(
+    alloc: A,
+    name: &str,
+    keytab: &Keytab<B>,
+    columns: KtColumns,
+    out: &mut W,
+) -> Result<(), OutFault>
+    ensures ok { OnOk result (Appends (W.contents out.old) (W.contents out.new)
+        (list_text name.now keytab.now)) }
+    ensures front { OnErr result (AppendsFront (W.contents out.old) (W.contents out.new)
+        (list_text name.now keytab.now)) }
+{
+    let KtColumns {} = columns;
+    let Ok(mut gathered) = Vec::with_capacity(alloc, 2 * FULL) else {
+        return Err(OutFault::NoMemory);
+    };
+    gather_heading(name, &mut gathered)?;
+    list_records(keytab, &mut gathered, out)?;
+    gather_fault(keytab.fault(), &mut gathered)?;
+    put(out, &gathered)
+}
