@@ -1,0 +1,124 @@
+"""Runs the program on a case in a folder of its own, and says what differs from what is wanted."""
+from __future__ import annotations
+
+import os
+import subprocess
+import tempfile
+from contextlib import contextmanager
+from dataclasses import dataclass, field
+
+# Longer than any run takes.
+SECONDS = 60
+
+
+@dataclass(frozen=True)
+class Outcome:
+    """What a run leaves: its status (negative: the signal that ended it), and what it wrote."""
+
+    status: int
+    out: bytes = b""
+    err: bytes = b""
+
+
+def message(status: int, text: str) -> Outcome:
+    """A run that only says what is wrong."""
+    return Outcome(status, err=f"krbfile: {text}\n".encode())
+
+
+@dataclass(frozen=True)
+class Case:
+    """The program's words, what is wanted, and the files that lie where it runs."""
+
+    name: str
+    words: tuple[str | bytes, ...]
+    wanted: Outcome
+    files: dict[str, bytes] = field(default_factory=dict)
+    # The files after the run, where they are not those before it.
+    files_after: dict[str, bytes] | None = None
+    stdin: bytes = b""
+
+
+class Report:
+    """Counts what passed and failed, and prints a line for each failure."""
+
+    def __init__(self) -> None:
+        self.passed = 0
+        self.failed = 0
+
+    def check(self, name: str, faults: list[str]) -> None:
+        """Counts one case, which failed where there are faults."""
+        if faults:
+            self.failed += 1
+            print(f"{name}: {'; '.join(faults)}")
+        else:
+            self.passed += 1
+
+    def compare(self, name: str, wanted: Outcome, got: Outcome) -> None:
+        """Counts one case, which failed where the outcomes differ."""
+        self.check(name, differences(wanted, got))
+
+    def skip(self, what: str, why: str) -> None:
+        """Says that a part is left out."""
+        print(f"{what}: left out, since {why}")
+
+
+def short(data: bytes) -> str:
+    """Bytes as a message shows them."""
+    if len(data) <= 300:
+        return repr(data)
+    return f"{data[:140]!r} ... {data[-140:]!r} ({len(data)} bytes)"
+
+
+def differences(wanted: Outcome, got: Outcome) -> list[str]:
+    """What two outcomes differ in, one text each."""
+    found = []
+    if got.status != wanted.status:
+        found.append(f"status {got.status}, not {wanted.status}")
+    if got.out != wanted.out:
+        found.append(f"output {short(got.out)}, not {short(wanted.out)}")
+    if got.err != wanted.err:
+        found.append(f"error output {short(got.err)}, not {short(wanted.err)}")
+    return found
+
+
+def files_in(folder: str) -> dict[str, bytes]:
+    """The files below a folder, by their paths from it."""
+    found = {}
+    for at, _, names in os.walk(folder):
+        for name in names:
+            path = os.path.join(at, name)
+            with open(path, "rb") as file:
+                found[os.path.relpath(path, folder)] = file.read()
+    return found
+
+
+@contextmanager
+def folder_of(files: dict[str, bytes]):
+    """A folder that has those files, for as long as it is used."""
+    with tempfile.TemporaryDirectory(prefix="krbfile-") as folder:
+        for name, data in files.items():
+            with open(os.path.join(folder, name), "wb") as file:
+                file.write(data)
+        yield folder
+
+
+def run(program: str, words, folder: str, stdin: bytes = b"", **options) -> Outcome:
+    """One run in that folder. Both outputs are taken, but for one that `options` send elsewhere."""
+    options = {"stdout": subprocess.PIPE, "stderr": subprocess.PIPE, **options}
+    done = subprocess.run([program, *words], cwd=folder, input=stdin, timeout=SECONDS, **options)
+    return Outcome(done.returncode, done.stdout or b"", done.stderr or b"")
+
+
+def check_case(report: Report, program: str, case: Case) -> None:
+    """Runs a case and reports it, with each file that lies there afterwards."""
+    try:
+        with folder_of(case.files) as folder:
+            found = differences(case.wanted, run(program, case.words, folder, case.stdin))
+            after = files_in(folder)
+            wanted = case.files if case.files_after is None else case.files_after
+            for name in sorted(set(after) | set(wanted)):
+                if after.get(name) != wanted.get(name):
+                    found.append(f"file {name} is not as it should be")
+    except subprocess.TimeoutExpired:
+        found = [f"no end in {SECONDS} seconds"]
+    report.check(case.name, found)

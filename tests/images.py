@@ -1,0 +1,109 @@
+"""Keytab images, made from the fields of the format.
+
+A keytab is the byte 5, a version (1 or 2), and then records, each a signed 32-bit length and so
+many bytes. A negative length is a hole, and the length 0 ends the file. A record begins with an
+entry. Numbers are big-endian in version 2, and in the order of whoever wrote the file in version 1.
+"""
+from __future__ import annotations
+
+from dataclasses import dataclass
+
+BIG = "big"
+LITTLE = "little"
+
+# The file ends where this length stands.
+END = bytes(4)
+
+
+@dataclass(frozen=True)
+class Entry:
+    """The fields of an entry. It has no 32-bit version where that is None."""
+
+    components: tuple[bytes, ...] = (b"host", b"a")
+    realm: bytes = b"R"
+    name_type: int = 1
+    timestamp: int = 1_700_000_000
+    version8: int = 3
+    enctype: int = 17
+    key: bytes = bytes(range(16))
+    version32: int | None = 3
+    # The count of components that is written, where it is not the true one.
+    count: int | None = None
+
+    def spelled(self, version: int = 2, order: str = BIG) -> bytes:
+        """The entry's bytes. Version 1 counts the realm as a component, and has no name type."""
+        count = self.count
+        if count is None:
+            count = len(self.components) + (1 if version == 1 else 0)
+        parts = [number(count, 2, order), counted(self.realm, order)]
+        parts += [counted(component, order) for component in self.components]
+        if version == 2:
+            parts.append(number(self.name_type, 4, order))
+        parts += [number(self.timestamp, 4, order), number(self.version8, 1, order)]
+        parts += [number(self.enctype, 2, order), counted(self.key, order)]
+        if self.version32 is not None:
+            parts.append(number(self.version32, 4, order))
+        return b"".join(parts)
+
+
+# host/a@R, 47 bytes in version 2, and b@R, 41 bytes. Their keys are 00 to 0f and 10 to 1f.
+HOST = Entry()
+B = Entry(components=(b"b",), key=bytes(range(16, 32)))
+
+
+def number(value: int, width: int, order: str = BIG) -> bytes:
+    """An unsigned number in so many bytes."""
+    return value.to_bytes(width, order)
+
+
+def counted(data: bytes, order: str = BIG) -> bytes:
+    """A 16-bit length and so many bytes."""
+    return number(len(data), 2, order) + data
+
+
+def record(data: bytes, order: str = BIG) -> bytes:
+    """A record of those bytes behind its length."""
+    return len(data).to_bytes(4, order, signed=True) + data
+
+
+def hole(data: bytes, order: str = BIG) -> bytes:
+    """A hole of those bytes behind its length, which is negative."""
+    return (-len(data)).to_bytes(4, order, signed=True) + data
+
+
+def keytab(*parts: bytes, version: int = 2) -> bytes:
+    """A keytab of those records, holes and other bytes."""
+    return bytes([5, version]) + b"".join(parts)
+
+
+def entries(*those: Entry, version: int = 2, order: str = BIG) -> bytes:
+    """A keytab with a record for each of those entries."""
+    records = (record(entry.spelled(version, order), order) for entry in those)
+    return keytab(*records, version=version)
+
+
+# The keytab of most cases: 98 bytes, with an entry at 2 and one at 53.
+TWO = entries(HOST, B)
+
+
+def misspelled() -> list[str]:
+    """What is spelled here otherwise than by hand."""
+    two = bytes.fromhex(
+        "0502"
+        "0000002f 0002 000152 0004686f7374 000161 00000001 6553f100 03"
+        "0011 0010 000102030405060708090a0b0c0d0e0f 00000003"
+        "00000029 0001 000152 000162 00000001 6553f100 03"
+        "0011 0010 101112131415161718191a1b1c1d1e1f 00000003"
+    )
+    version_one = bytes.fromhex(
+        "0501"
+        "2b000000 0300 010052 0400686f7374 010061 00f15365 03"
+        "1100 1000 000102030405060708090a0b0c0d0e0f 03000000"
+    )
+    pairs = [
+        ("two entries", TWO, two),
+        ("version 1", entries(HOST, version=1, order=LITTLE), version_one),
+        ("a hole", hole(b"abc"), bytes.fromhex("fffffffd 616263")),
+        ("a hole in version 1", hole(b"abc", LITTLE), bytes.fromhex("fdffffff 616263")),
+    ]
+    return [f"{name} is {got.hex()}" for name, got, wanted in pairs if got != wanted]

@@ -1,0 +1,128 @@
+"""Writes that fail: what was written until then is a front of the text, and the status says so."""
+from __future__ import annotations
+
+import os
+import resource
+import signal
+import subprocess
+
+from harness import SECONDS, Outcome, Report, folder_of, message, run
+from images import TWO, Entry, entries
+from listings import B_LINE, HOST_LINE, listed
+
+KLIST = ("klist", "-k", "k")
+TEXT = listed(HOST_LINE, B_LINE)
+FAILED = message(3, "cannot write output")
+
+# More than a pipe holds: 300 lines of 1000 bytes.
+LONG_NAME = b"x" * 992
+LONG_IMAGE = entries(*[Entry((LONG_NAME,))] * 300)
+LONG_TEXT = listed(*[b"   3 " + LONG_NAME + b"@R"] * 300)
+
+
+def check_no_output(report: Report, program: str) -> None:
+    """A full device and a closed output, for listings, for help, and where nothing is printed."""
+    lines = [KLIST, ("klist", "-k", "damaged"), ("--help",), ("klist", "--help")]
+    printing_nothing = (("klist", "-k", "no"), message(1, "no: no such file"))
+    wanted = [*((words, FAILED) for words in lines), printing_nothing]
+    with folder_of({"k": TWO, "damaged": TWO[:-1]}) as folder, open("/dev/full", "wb") as full:
+        for words, outcome in wanted:
+            line = " ".join(words)
+            got = run(program, words, folder, stdout=full)
+            report.compare(f"full device: {line}", outcome, got)
+            got = run(program, words, folder, stdout=None, preexec_fn=lambda: os.close(1))
+            report.compare(f"closed output: {line}", outcome, got)
+
+
+def check_no_error_output(report: Report, program: str) -> None:
+    """A failure of the error output changes neither the status nor what is printed."""
+    wanted = [
+        (KLIST, Outcome(0, TEXT)),
+        (("klist", "-k", "no"), Outcome(1)),
+        (("frob",), Outcome(2)),
+    ]
+    with folder_of({"k": TWO}) as folder, open("/dev/full", "wb") as full:
+        for words, outcome in wanted:
+            line = " ".join(words)
+            got = run(program, words, folder, stderr=full)
+            report.compare(f"full error output: {line}", outcome, got)
+            got = run(program, words, folder, stderr=None, preexec_fn=lambda: os.close(2))
+            report.compare(f"closed error output: {line}", outcome, got)
+
+
+def limited(program: str, folder: str, most: int) -> Outcome:
+    """A run whose output is a file of at most so many bytes: the write that passes them is cut."""
+
+    def limit() -> None:
+        signal.signal(signal.SIGXFSZ, signal.SIG_IGN)
+        resource.setrlimit(resource.RLIMIT_FSIZE, (most, most))
+
+    path = os.path.join(folder, "out")
+    with open(path, "wb") as out:
+        got = run(program, KLIST, folder, stdout=out, preexec_fn=limit)
+    with open(path, "rb") as out:
+        return Outcome(got.status, out.read(), got.err)
+
+
+def check_each_byte(report: Report, program: str) -> None:
+    """The output takes each number of bytes that is less than the text has, and then all."""
+    with folder_of({"k": TWO}) as folder:
+        for most in range(len(TEXT)):
+            wanted = Outcome(FAILED.status, TEXT[:most], FAILED.err)
+            got = limited(program, folder, most)
+            report.compare(f"room for {most} of {len(TEXT)} bytes", wanted, got)
+        report.compare("room for each byte", Outcome(0, TEXT), limited(program, folder, len(TEXT)))
+
+
+def closed_pipe(program: str, folder: str, taken: int, action: signal.Handlers) -> Outcome:
+    """A run into a pipe whose reader closes it after so many bytes, and what SIGPIPE then does."""
+    with subprocess.Popen(
+        [program, *KLIST],
+        cwd=folder,
+        stdin=subprocess.DEVNULL,
+        stdout=subprocess.PIPE,
+        stderr=subprocess.PIPE,
+        preexec_fn=lambda: signal.signal(signal.SIGPIPE, action),
+    ) as started:
+        out = started.stdout.read(taken)
+        started.stdout.close()
+        err = started.stderr.read()
+        return Outcome(started.wait(SECONDS), out, err)
+
+
+def check_closed_pipe(report: Report, program: str) -> None:
+    """A reader that goes away: SIGPIPE ends the program, or the write fails where it is ignored."""
+    with folder_of({"k": LONG_IMAGE}) as folder:
+        for taken in (0, 1, 20, 1000, 70_000):
+            front = LONG_TEXT[:taken]
+            got = closed_pipe(program, folder, taken, signal.SIG_DFL)
+            report.compare(f"pipe closed after {taken} bytes", Outcome(-signal.SIGPIPE, front), got)
+            wanted = Outcome(FAILED.status, front, FAILED.err)
+            got = closed_pipe(program, folder, taken, signal.SIG_IGN)
+            report.compare(f"pipe closed after {taken} bytes, SIGPIPE ignored", wanted, got)
+
+
+def check_slow_pipe(report: Report, program: str) -> None:
+    """A reader that takes one byte at a time gets the whole text."""
+    with folder_of({"k": TWO}) as folder:
+        with subprocess.Popen(
+            [program, *KLIST],
+            cwd=folder,
+            stdin=subprocess.DEVNULL,
+            stdout=subprocess.PIPE,
+            stderr=subprocess.PIPE,
+            bufsize=0,
+        ) as started:
+            out = b"".join(iter(lambda: started.stdout.read(1), b""))
+            err = started.stderr.read()
+            got = Outcome(started.wait(SECONDS), out, err)
+    report.compare("a byte at a time", Outcome(0, TEXT), got)
+
+
+def check(report: Report, program: str) -> None:
+    """Runs all of this topic."""
+    check_no_output(report, program)
+    check_no_error_output(report, program)
+    check_each_byte(report, program)
+    check_closed_pipe(report, program)
+    check_slow_pipe(report, program)
