@@ -44,7 +44,7 @@ impl<B: Allocator> Refusing<B> {
         self.meter.tally().requests
     }
 
-    /// The blocks that were granted and not given back.
+    /// The blocks that were granted and not given back. One that the allocator below refused counts as granted.
     pub fn live_blocks(&self) -> u64 {
         self.meter.tally().live_blocks
     }

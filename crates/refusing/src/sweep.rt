@@ -6,8 +6,10 @@ use std::test::Fail;
 
 /// Runs a call with each of its requests refused in turn, until none was refused, and answers how many it makes.
 ///
-/// The call is given n, from 1. It makes what it needs, lets the n-th request from there be refused by `refuse(n)`
-/// or `refuse_from(n)`, and looks at what came of it. It has to give all its blocks back.
+/// The call is given n, from 1. It makes what it needs, has the n-th request from there refused by `refuse(n)` or
+/// `refuse_from(n)`, and looks at what came of it. Whether a request was refused, `refused` tells, and not whether
+/// the call failed: a refusal that the code swallows is what a sweep is to find. All blocks have to be given back.
+/// A call that has nothing refused is made once, and the answer is 0.
 pub fn refuse_each<F: FnMut(&Refusing<Global>, u64) -> Result<(), Fail>>(
     heap: Global,
     most: u64,

@@ -1,4 +1,4 @@
--- It counts the block, and gives the block back to the inner allocator. Assumes `Logic`.
+-- `deallocate` counts the block, and gives it back to the inner allocator. Assumes `Logic`.
 use Rattle.std.proofs.Common.{◌≡◌, ℕ, ◌+◌, ◌^◌, ◌<◌, List, [], ◌∷◌, refl, w64, Bor}
 use seplogic.Ra.Ura.{Ura}
 use mir.Syntax.{Ty, Args, Fn, a_type, dnil, dcons}
@@ -48,43 +48,55 @@ use Rattle.refusing.proofs.allocator.RefusingAllocator.deallocate.Statement as s
 use Rattle.refusing.proofs.allocator.RefusingAllocator.deallocate.Code as code
 
 module _ (Z : Al) where
+  -- the inner allocator, as the argument of the type
   abbrev args : Args
   args = bounded (a_type ∷ []) (Z.row, tt) (dcons Z.d (dcons Z.drops dnil))
 
+  -- the function at that allocator
   abbrev here : Fn
   here = inst_fn args code.function
 
+  -- the first parameter, a reference to a `Refusing`
   abbrev self : Slot 2
   self = RefOf (0 ∷ []) tt (plain (λ _. wrapper.the_row (param 0 Z.row))) (λ _. tt)
 
+  -- the contract's signature
   abbrev ended : Ended
   ended = F.ended Z.row Z.g Z.d Z.drops
 
+  -- no parameter is kept at the end
   abbrev stayed : Stays ended.signature.params ended.kept
   stayed = (stay_dropped self yes, (stay_dropped (plain (λ _. RawPtr)) yes, (stay_dropped (plain (λ _. usize)) yes, (stay_dropped (plain (λ _. usize)) yes, tt))))
 
 module _ (Z : Al) {M : Type 1} {𝓤 : Ura M} (𝓛 : Logic 𝓤) (at_mem : Memory → SProp 𝓤) (run : Routine → Fun 𝓤) (𝓣 : Tables 𝓤 𝓛.H) (de : Triple 𝓤 (𝓣.C (gives_key Z)) (Gives Z 𝓛 at_mem run)) (kn : Triple 𝓤 (𝓣.C c_sym.name) (Counts 𝓛 at_mem run)) where
   open 𝓛 use {H}
 
+  -- the contract's clauses
   abbrev held : Clauses 𝓤 (ended Z)
   held = F.clauses Z.row Z.g Z.d Z.drops 𝓛 at_mem run
 
   module _ (κ₁ κ₂ : Lft) (q₁ q₂ : Share) (inn : κ₁ ⊑ κ₂) (r : Bor (wrapper.the_row Z.row).Denot) (n a : ℕ) (τ : Ty) where
+    -- what a call binds: the lifetimes and their shares, the arguments and their values, and the type of the block
     abbrev bound : Ptr → (walk_of 𝓛 (ended Z) (stayed Z) held).Ghost
     bound x = (((κ₁, (κ₂, tt)), (q₁, (q₂, tt)), (inn, tt), (r, (x, (n, (a, tt)))), (shr_vals r, (rawptr_vals x, (vint w64 n ∷ [], (vint w64 a ∷ [], tt))))), τ)
 
+    -- the values of the arguments
     abbrev vs : Ptr → List Val
     vs x = vptr r.ref_ptr.0 r.ref_ptr.1 ∷ ptr_val x ∷ vint w64 n ∷ vint w64 a ∷ []
 
+    -- what is owed for the answer
     abbrev Post : Ptr → Val → SProp 𝓤
     Post x = (walk_of 𝓛 (ended Z) (stayed Z) held).post (bound x)
 
+    -- the tokens of the lifetimes, and the arguments
     abbrev entry : Ptr → Item 𝓤
     entry x = (‵ (flft κ₁ q₁) ⊛ ‵ (flft κ₂ q₂) ⊛ ‵ ftrue) ⊛ ‵ (owns (types_at (ended Z).signature.params (bound x).0.0) (bound x).0.3 (bound x).0.4)
 
+    -- the block has the size and the alignment that the call names
     abbrev Said : Type 0
     Said = (capped (size τ) ≡ n) × (capped (align τ) ≡ a)
 
+    -- the body, from what a call is handed to what it answers
     walk : n < 2 ^ 64 → a < 2 ^ 64 → (x : Ptr) → ent 𝓤 ((walk_of 𝓛 (ended Z) (stayed Z) held).pre (bound x)) (WpFn 𝓤 H 𝓣.C 𝓣.Λ (here Z) (vs x) (Post x))
     walk fn fa null_ptr =
         qed 𝓛 (entry null_ptr ∷ (raw (fact 𝓤 (κ₂ ⊑ Z.row.lives)) ⊛ raw (fact 𝓤 Said) ⊛ ‵ (fsep ffalse (token Z r.now.inner τ null_ptr))) ∷ []) ∵
@@ -114,6 +126,7 @@ module _ (Z : Al) {M : Type 1} {𝓤 : Ura M} (𝓛 : Logic 𝓤) (at_mem : Memo
         nothing ! $ feq_i ! (List Val) (vunit ∷ []) (vunit ∷ []) refl $ nothing ! $ nothing ! $ fjoin ! $ nothing ! $ fjoin ! $ nothing ! $ fjoin ! $ nothing ! $ fjoin ! $ join ! $
         move ! (2 ∷ 3 ∷ []) $ join ! $ join ! $ done !)))))))
 
+-- the body meets the contract at each allocator
 pub deallocate_spec : {M : Type 1} → stated.statement M
 unfolding tables_of
 deallocate_spec 𝓤 𝓛 𝓜 𝓡 wired Y L g d d' met _ =
