@@ -1,13 +1,16 @@
-/* A preloaded library that answers NULL to one request for memory, or to all from one on.
+/* A preloaded library that lets chosen calls of a program fail.
  *
- *   REFUSE=N         the request that is refused, from 1; 0 or unset: none
- *   REFUSE_LASTS=1   each request after it is refused too
- *   REFUSE_FILE=F    a file that gets three 64-bit numbers: the requests so far, those refused,
- *                    and those of the C library itself, which are never refused
+ *   PRELOAD_COUNTS=F   a file that gets the counts below, each a 64-bit number
+ *   REFUSE=N           the Nth request for memory is refused
+ *   REFUSE_LASTS=1     each request after it is refused too
+ *   FAIL_READ=N        the Nth read fails
+ *   FAIL_WRITE=N       the Nth write to the output fails
+ *   ZERO_WRITE=N       the Nth write to the output takes no byte
+ *   MOST=N             each read and each write moves at most N bytes
  *
- * A request is a call of malloc, calloc or realloc by the program's own code, from the start of
- * main on. The counts stand in a shared mapping, so they outlive the program however it ends. The
- * program sees none of these variables.
+ * Only calls from the start of main on count, and of malloc, calloc and realloc only those by the
+ * program's own code. The counts stand in a shared mapping, so they outlive the program however it
+ * ends. The program sees none of these variables.
  */
 #define _GNU_SOURCE
 #include <dlfcn.h>
@@ -17,6 +20,7 @@
 #include <stdint.h>
 #include <stdlib.h>
 #include <sys/mman.h>
+#include <sys/syscall.h>
 #include <unistd.h>
 
 extern void *__libc_malloc(size_t);
@@ -25,14 +29,15 @@ extern void *__libc_realloc(void *, size_t);
 
 struct counts {
     uint64_t requests;
-    uint64_t refusals;
-    uint64_t of_the_library;
+    uint64_t reads;
+    uint64_t writes;
+    /* The calls of the three kinds that were not granted. */
+    uint64_t failures;
 };
 
 static struct counts unshared;
 static struct counts *counts = &unshared;
-static uint64_t refused;
-static int lasts;
+static uint64_t refuse, refuse_lasts, fail_read, fail_write, zero_write, most;
 static int in_main;
 static uintptr_t program_start, program_end;
 
@@ -55,20 +60,16 @@ static int find_program(struct dl_phdr_info *info, size_t size, void *data)
     return 1;
 }
 
-/* Counts a request, and says whether it is refused. */
+/* Counts a request for memory, and says whether it is refused. */
 static int refuses(void *caller)
 {
-    if (!in_main)
+    uintptr_t at = (uintptr_t)caller;
+    if (!in_main || at < program_start || at >= program_end)
         return 0;
-    if ((uintptr_t)caller < program_start || (uintptr_t)caller >= program_end) {
-        counts->of_the_library++;
-        return 0;
-    }
     counts->requests++;
-    int is_refused = lasts ? counts->requests >= refused : counts->requests == refused;
-    if (refused == 0 || !is_refused)
+    if (refuse == 0 || counts->requests < refuse || (counts->requests > refuse && !refuse_lasts))
         return 0;
-    counts->refusals++;
+    counts->failures++;
     errno = ENOMEM;
     return 1;
 }
@@ -86,6 +87,49 @@ void *calloc(size_t count, size_t size)
 void *realloc(void *old, size_t size)
 {
     return refuses(__builtin_return_address(0)) ? NULL : __libc_realloc(old, size);
+}
+
+/* A call that fails as on a broken device. */
+static ssize_t fails(void)
+{
+    counts->failures++;
+    errno = EIO;
+    return -1;
+}
+
+static size_t at_most(size_t size)
+{
+    return in_main && most != 0 && size > most ? most : size;
+}
+
+ssize_t read(int fd, void *bytes, size_t size)
+{
+    if (in_main && ++counts->reads == fail_read)
+        return fails();
+    return syscall(SYS_read, fd, bytes, at_most(size));
+}
+
+ssize_t write(int fd, const void *bytes, size_t size)
+{
+    if (in_main && fd == STDOUT_FILENO) {
+        counts->writes++;
+        if (counts->writes == fail_write)
+            return fails();
+        if (counts->writes == zero_write) {
+            counts->failures++;
+            return 0;
+        }
+    }
+    return syscall(SYS_write, fd, bytes, at_most(size));
+}
+
+/* Takes a number out of the environment; 0 where it is not there. */
+static uint64_t taken(const char *name)
+{
+    const char *text = getenv(name);
+    uint64_t value = text ? strtoull(text, NULL, 10) : 0;
+    unsetenv(name);
+    return value;
 }
 
 /* Lets the counts stand in that file. */
@@ -108,20 +152,21 @@ typedef int start_function(main_function *, int, char **, plain_function *, plai
 
 static main_function *program_main;
 
-/* The program's main, with its requests counted. */
+/* The program's main, with its calls counted. */
 static int counted_main(int argc, char **argv, char **envp)
 {
-    const char *nth = getenv("REFUSE");
-    const char *file = getenv("REFUSE_FILE");
+    const char *file = getenv("PRELOAD_COUNTS");
     dl_iterate_phdr(find_program, NULL);
-    refused = nth ? strtoull(nth, NULL, 10) : 0;
-    lasts = getenv("REFUSE_LASTS") != NULL;
     if (file)
         share_counts(file);
-    unsetenv("REFUSE");
-    unsetenv("REFUSE_LASTS");
-    unsetenv("REFUSE_FILE");
+    unsetenv("PRELOAD_COUNTS");
     unsetenv("LD_PRELOAD");
+    refuse = taken("REFUSE");
+    refuse_lasts = taken("REFUSE_LASTS");
+    fail_read = taken("FAIL_READ");
+    fail_write = taken("FAIL_WRITE");
+    zero_write = taken("ZERO_WRITE");
+    most = taken("MOST");
     in_main = 1;
     int status = program_main(argc, argv, envp);
     in_main = 0;
