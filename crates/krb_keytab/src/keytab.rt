@@ -128,7 +128,7 @@ impl<A: Allocator> Keytab<A> {
     pub fn fault(&self) -> Option<Fault>
         ensures { result ≡ fault_of (store_of self.now) }
     {
-        self.end.ending.fault(self.end.place as u32)
+        self.end.ending.fault(self.end())
     }
 
     /// Is true of the place of each cell, live or free, and of `end()`. It looks from the front.
