@@ -1,0 +1,55 @@
+-- What klist prints.
+use Rattle.std.specs.Prelude.{ℕ, List, [], ◌++◌, Bool, if◌then◌else◌, is_some, Option, Result, Ok, Err, codes}
+use Rattle.krb_walk.specs.Store.{fault_of}
+use Rattle.krb_keytab.specs.declared.open.KtOpenFault.{KtOpenFault}
+use Rattle.krb_keytab.specs.declared.open.KtOpenFault.TheVariants as refusal
+use Rattle.krb_keytab.specs.Store.{State, opening, store_of}
+use Rattle.krb_text.specs.declared.files.LoadFault.{LoadFault}
+use Rattle.krb_text.specs.declared.files.LoadFault.TheVariants as load
+use Rattle.krb_text.specs.Files.{loaded}
+use Rattle.krb_text.specs.Listing.{list_text}
+use Rattle.krbfile.specs.declared.action.KlistOptions.{KlistOptions}
+use Rattle.krbfile.specs.Messages.{message, file_message}
+use Rattle.krbfile.specs.Runs.{Run}
+
+-- what is said of a file that was not loaded
+abbrev pub load_message : List ℕ → LoadFault → List ℕ
+load_message file load.Missing = file_message file (codes "no such file")
+load_message file load.TooLarge = file_message file (codes "file too large")
+load_message file load.Failed = file_message file (codes "cannot read")
+load_message file load.NoMemory = message (codes "out of memory")
+
+-- the status then
+abbrev pub load_status : LoadFault → ℕ
+load_status load.Missing = 1
+load_status load.TooLarge = 1
+load_status load.Failed = 3
+load_status load.NoMemory = 4
+
+-- what is said of a file that is no keytab
+abbrev pub open_message : List ℕ → KtOpenFault → List ℕ
+open_message file refusal.TooShort = file_message file (codes "not a keytab (1)")
+open_message file refusal.BadVersion = file_message file (codes "not a keytab (2)")
+open_message file refusal.TooLarge = file_message file (codes "not a keytab (3)")
+
+-- a keytab is listed; the listing tells its fault, if there is one
+abbrev pub listing_run : List ℕ → State → Run
+listing_run file keytab = record {
+  out = list_text file keytab;
+  err = [];
+  status = if is_some (fault_of (store_of keytab)) then 1 else 0;
+}
+
+-- an image was opened, or not
+abbrev pub opening_run : List ℕ → Result State KtOpenFault → Run
+opening_run file (Ok keytab) = listing_run file keytab
+opening_run file (Err fault) = record { out = []; err = open_message file fault; status = 1 }
+
+-- a file was loaded, or not
+abbrev pub load_run : KlistOptions → List ℕ → Result (List ℕ) LoadFault → Run
+load_run options file (Ok image) = opening_run file (opening options.v1_order 16777216 image)
+load_run options file (Err fault) = record { out = []; err = load_message file fault; status = load_status fault }
+
+-- the listing of a file, where the bytes are those that stand under its name
+abbrev pub klist_run : KlistOptions → List ℕ → Option (List ℕ) → Run
+klist_run options file content = load_run options file (loaded content 16777216)

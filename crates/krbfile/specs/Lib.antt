@@ -1,0 +1,5 @@
+pub mod Load
+pub mod Messages
+pub mod Runs
+pub mod Klist
+pub mod Actions

@@ -1,0 +1,49 @@
+//! What a command line asks for.
+
+ghost use Rattle.std.specs.Prelude.{◌≡◌};
+ghost use Rattle.krbfile.specs.declared.action.WordFault.TheVariants.{NoMemory};
+
+use krb_text::KtColumns;
+use krb_wire::Order;
+use std::alloc::AllocError;
+use thiserror::Error;
+
+/// The kind of file that klist lists, and what it shows of it.
+#[derive(Clone, Copy, Debug, PartialEq, Eq)]
+pub enum ListKind {
+    Keytab(KtColumns),
+}
+
+/// The options of klist.
+#[derive(Clone, Copy, Debug, PartialEq, Eq)]
+pub struct KlistOptions {
+    pub kind: ListKind,
+    /// The order of a keytab of version 1.
+    pub v1_order: Order,
+}
+
+/// What a command line asks for.
+#[derive(Debug, PartialEq, Drop)]
+pub enum Action {
+    /// To list the file of that name.
+    Klist(KlistOptions, String),
+    /// To show that help.
+    Help(String),
+}
+
+/// Why a command line was not read.
+#[derive(Clone, Copy, Debug, PartialEq, Eq, Error)]
+pub enum WordFault {
+    #[error("bad command line")]
+    BadLine = 1,
+    #[error("out of memory")]
+    NoMemory = 2,
+}
+
+impl From<AllocError> for WordFault {
+    ghost from_gives = { λ _ fault. fault ≡ NoMemory };
+
+    fn from(_error: AllocError) -> WordFault {
+        WordFault::NoMemory
+    }
+}

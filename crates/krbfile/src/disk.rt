@@ -1,0 +1,64 @@
+//! The files of a disk.
+
+ghost use Rattle.std.specs.Prelude.{◌≡◌, ◌≤◌, None};
+ghost use Rattle.krb_text.specs.Files.{CountsFailure};
+
+use crate::load::load;
+use krb_text::{Files, LoadFault};
+use std::alloc::Allocator;
+use std::{fs, io, rt};
+
+/// The files of a disk. Nothing is known of what they hold.
+#[derive(Drop)]
+pub struct DiskFiles<'a, R> {
+    rt: &'a R,
+    failures: u64,
+}
+
+impl<'a, R: rt::Files> DiskFiles<'a, R> {
+    pub fn new(rt: &'a R) -> DiskFiles<'a, R>
+        ensures { result.failures ≡ 0 }
+    {
+        DiskFiles { rt, failures: 0 }
+    }
+
+    // Counts a failure, as far as a u64 counts.
+    fn count_failure(&mut self)
+        ensures counted { CountsFailure self.old.failures self.new.failures }
+        ensures count { self.old.failures ≤ self.new.failures }
+    {
+        self.failures = self.failures.saturating_add(1);
+    }
+}
+
+impl<R: rt::Files> Files for DiskFiles<'_, R> {
+    ghost file = { λ _ _. None };
+
+    ghost is_honest = { λ _. ⊥ };
+
+    ghost failure_count = { λ files. files.failures };
+
+    fn load<A: Allocator>(
+        &mut self,
+        alloc: A,
+        name: &str,
+        limit: u32,
+    ) -> Result<Vec<u8, A>, LoadFault> {
+        if self.failures == u64::MAX {
+            return Err(LoadFault::Failed);
+        }
+        let loaded = match fs::open(self.rt, name) {
+            Ok(mut file) => load(alloc, &mut file, limit),
+            Err(error) if error.kind() == io::ErrorKind::NotFound => Err(LoadFault::Missing),
+            Err(_) => Err(LoadFault::Failed),
+        };
+        if let Err(LoadFault::Failed) = loaded {
+            self.count_failure();
+        }
+        loaded
+    }
+
+    fn failures(&self) -> u64 {
+        self.failures
+    }
+}
