@@ -1,3 +1,5 @@
+ghost use Rattle.std.specs.Prelude.{◌≡◌};
+
 use crate::meter::Meter;
 use crate::plan::Plan;
 use std::alloc::{AllocError, Allocator};
@@ -11,8 +13,12 @@ pub struct Refusing<B: Allocator> {
 }
 
 impl<B: Allocator> Refusing<B> {
+    ghost use Rattle.refusing.specs.Refusing.{inner_of};
+
     /// An allocator that refuses nothing yet.
-    pub fn new(inner: B) -> Refusing<B> {
+    pub fn new(inner: B) -> Refusing<B>
+        ensures { inner_of result ≡ inner }
+    {
         Refusing {
             inner,
             meter: Meter::new(),
