@@ -124,7 +124,7 @@ kind_ends bytes (ending.Damaged kind) = refl
 pub fault_held : (f : KtFormat) (limit : ℕ) (image : List ℕ) (k : State) (e : CellsEnd) (place : ℕ) (answer : Option Fault) → IsKnownEnd f image e → held f limit image ≡ k → place ≡ end_of (store_of k) → answer ≡ ending_fault place e.ending → answer ≡ fault_of (store_of k)
 fault_held f limit image k e place answer known is at said =
     let kind : ending_kind e.ending ≡ kind_of (contents f (drop 2 image)).end =
-        sym (ap kind_of known.same ∙ ap (λ (x : Contents). kind_of x.end) known.ending ∙ kind_ends (drop e.place image) e.ending) in
+    sym (ap kind_of known.same ∙ ap (λ (x : Contents). kind_of x.end) known.ending ∙ kind_ends (drop e.place image) e.ending) in
     said ∙ ap (λ (x : Option FaultKind). fault_from place x) (kind ∙ ap (λ (x : State). kind_of x.contents.end) is) ∙ ap (λ (n : ℕ). fault_from n (kind_of k.contents.end)) at
 
 pub is_place_held : (f : KtFormat) (limit : ℕ) (image bytes : List ℕ) (k : State) (p : ℕ) (answer : Bool) → bytes ≡ image → held f limit image ≡ k → answer ≡ is_place 2 (contents f (drop 2 bytes)).cells p → answer ≡ is_store_place (store_of k) p

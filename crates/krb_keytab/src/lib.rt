@@ -7,6 +7,8 @@ mod keytab;
 mod laws;
 mod open;
 mod step;
+#[cfg(test)]
+mod tests;
 
 pub use entry::{EntryView, read_entry};
 pub use keytab::Keytab;
