@@ -33,7 +33,6 @@ REFUSED: list[Line] = [
     ("frob",),
     ("klis", "-k", "k"),
     ("KLIST", "-k", "k"),
-    ("help",),
     ("--version",),
     ("-V",),
     ("klist", "-k", b"\xff"),
@@ -74,10 +73,15 @@ TAKEN: list[Line] = [
 ]
 
 # Lines that print help, and words that it has.
+OF_ALL = (b"krbfile", b"klist", b"--help")
 OF_KLIST = (b"krbfile klist", b"-k", b"--v1-big", b"FILE", b"--help")
 HELP: list[tuple[Line, tuple[bytes, ...]]] = [
-    (("--help",), (b"krbfile", b"klist", b"--help")),
+    (("--help",), OF_ALL),
+    (("-h",), OF_ALL),
+    (("help",), OF_ALL),
+    (("help", "klist"), OF_KLIST),
     (("klist", "--help"), OF_KLIST),
+    (("klist", "-h"), OF_KLIST),
     (("klist", "-k", "--help"), OF_KLIST),
     (("klist", "-k", "k", "--help"), OF_KLIST),
 ]

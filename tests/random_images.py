@@ -1,0 +1,107 @@
+"""Listings of random images, sound and damaged, beside what the format's rules say of them.
+
+The images are the same in each run.
+"""
+from __future__ import annotations
+
+import os
+from random import Random
+
+from harness import Outcome, Report, differences, folder_of, run
+from images import BIG, END, LITTLE, Entry, hole, keytab, record
+from reading import answer
+
+IMAGES = 600
+
+# The kinds of answers, each of which some image has.
+KINDS = [
+    "whole",
+    "fault 1",
+    "fault 2",
+    "fault 3",
+    "krbfile: k: not a keytab (1)",
+    "krbfile: k: not a keytab (2)",
+]
+
+# Lengths that run past the end, end the file, or are cut.
+LENGTHS = [END, b"\0", b"\0\0\0\1", b"\x7f\xff\xff\xff", b"\x80\0\0\0", b"\xff\xff\xff\xff"]
+
+
+def random_bytes(random: Random, most: int) -> bytes:
+    """Bytes of which many are quoted in names."""
+    alphabet = b"/@\\\n\t\b\0abcxyz\xff\xc3\xa9 "
+    return bytes(random.choices(alphabet, k=random.randrange(most + 1)))
+
+
+def random_entry(random: Random) -> Entry:
+    """An entry with any fields. Its count of components is mostly the true one."""
+    return Entry(
+        components=tuple(random_bytes(random, 5) for _ in range(random.choice([0, 1, 2, 2, 3]))),
+        realm=random_bytes(random, 4),
+        name_type=random.randrange(2**32),
+        timestamp=random.randrange(2**32),
+        version8=random.randrange(2**8),
+        enctype=random.randrange(2**16),
+        key=random_bytes(random, 20),
+        version32=random.choice([None, 0, random.randrange(300), random.randrange(2**32)]),
+        count=random.randrange(5) if random.random() < 0.1 else None,
+    )
+
+
+def random_part(random: Random, version: int, order: str) -> bytes:
+    """A record, a hole or an odd length."""
+    kind = random.random()
+    if kind < 0.7:
+        entry = random_entry(random).spelled(version, order)
+        if random.random() < 0.3:
+            entry += random_bytes(random, 12)
+        if random.random() < 0.05:
+            entry = entry[: random.randrange(1, len(entry))]
+        return record(entry, order)
+    if kind < 0.9:
+        return hole(b"x" + random_bytes(random, 12), order)
+    return random.choice(LENGTHS)
+
+
+def random_image(random: Random) -> bytes:
+    """A keytab of up to five parts, of which a third is damaged in one byte or cut."""
+    version = random.choice([1, 2, 2])
+    order = random.choice([BIG, LITTLE]) if version == 1 else BIG
+    parts = (random_part(random, version, order) for _ in range(random.randrange(6)))
+    image = bytearray(keytab(*parts, version=version))
+    damage = random.random()
+    at = random.randrange(len(image))
+    if damage < 0.2:
+        image[at] = random.choice([0, 1, 2, 5, 0xFF])
+    elif damage < 0.35:
+        del image[at:]
+    return bytes(image)
+
+
+def kind_of(wanted: Outcome) -> str:
+    """What kind of answer it is."""
+    last = (wanted.out or wanted.err).decode("latin-1").splitlines()[-1]
+    if last.startswith("fault"):
+        return last.split(" at ")[0]
+    return "whole" if wanted.out else last
+
+
+def check(report: Report, program: str) -> None:
+    """Lists each image. Those with answers of one kind count as one case."""
+    random = Random(5)
+    wrong: dict[str, list[str]] = {kind: [] for kind in KINDS}
+    unseen = set(KINDS)
+    with folder_of({}) as folder:
+        for _ in range(IMAGES):
+            image, options = random_image(random), random.choice([[], ["--v1-big"]])
+            with open(os.path.join(folder, "k"), "wb") as file:
+                file.write(image)
+            wanted = answer(image, v1_big=options != [])
+            found = differences(wanted, run(program, ["klist", "-k", *options, "k"], folder))
+            kind = kind_of(wanted)
+            unseen.discard(kind)
+            if found:
+                wrong[kind].append(f"{image.hex()} {' '.join(options)} {', '.join(found)}")
+    for kind, told in wrong.items():
+        missing = ["there is no such image"] if kind in unseen else []
+        report.check(f"random images, {kind}", missing + told[:3])
