@@ -7,8 +7,8 @@ from harness import Outcome, Report, differences, folder_of, message
 from images import TWO, Entry, entries
 from preload import Preloaded, built_library
 
-# A keytab whose text is much longer than that of two entries, with a fault at its end.
-ODD = entries(*[Entry((b"/@\\\n\t\b\0" * 9, b"x" * 99))] * 30) + b"\0"
+# A keytab of some 400 kB, of which no buffer takes the whole text, with a fault at its end.
+ODD = entries(*[Entry((b"/@\\\n\t\b\0" * 9, b"x" * 99))] * 2000) + b"\0"
 FILES = {"k": TWO, "odd": ODD}
 
 KLIST = ("klist", "-k", "k")
@@ -86,7 +86,7 @@ def check_reads(report: Report, program: Preloaded) -> None:
 
 def check_writes(report: Report, program: Preloaded) -> None:
     """Each write fails or takes nothing, where one takes all the bytes and where it takes fewer."""
-    for words, fewer in ((KLIST, 10), (KLIST_ODD, 500), (HELP, 100)):
+    for words, fewer in ((KLIST, 10), (KLIST_ODD, 20_000), (HELP, 100)):
         for most in (WHOLE, fewer):
             for failure, what in (("FAIL_WRITE", "fails"), ("ZERO_WRITE", "takes nothing")):
                 program.sweep(
