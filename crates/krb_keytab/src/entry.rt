@@ -81,6 +81,7 @@ fn version_of(order: Order, low: u8, tail: &[u8]) -> u32
 }
 
 /// The entry that the bytes begin with.
+#[inline(always)]
 #[tactic(auto, unfolding(crate::specs::Entry::front_at, crate::specs::Entry::entry_at))]
 pub fn entry_from(format: KtFormat, bytes: &[u8]) -> Option<EntryView<'_>>
     ensures { Gives (λ v. v) result (entry_at format bytes.now) }

@@ -2,3 +2,4 @@ pub mod Fronts
 pub mod FileLists
 pub mod Passing
 pub mod Lines
+pub mod Aligned

@@ -1,12 +1,12 @@
 //! Text on its way to a writer, gathered into large writes.
 
-ghost use Rattle.std.specs.Prelude.{◌≡◌, ◌++◌, replicate, decimal, ◌-◌, ◌<◌, ◌^◌, length, OnOk, OnErr, IfErr};
+ghost use Rattle.std.specs.Prelude.{◌≡◌, ◌++◌, ◌∷◌, [], decimal, OnOk, OnErr, IfErr};
 ghost use Rattle.krb_text.specs.Bytes.{AppendsFront};
 ghost use Rattle.krb_text.specs.Gathered.{Sent};
 ghost use Rattle.krb_text.specs.Listing.{right_in_4};
 
 use crate::output::{OutFault, put};
-use itoa::Buffer;
+use itoa::{Buffer, write_digits};
 use std::alloc::Allocator;
 use std::io::Write;
 
@@ -33,31 +33,29 @@ pub fn gather_number<A: Allocator>(number: u32, gathered: &mut Vec<u8, A>) -> Re
     gather(buffer.format(number).as_bytes(), gathered)
 }
 
-// The spaces before a number of so many digits in four places.
-fn spaces(digits: usize) -> &'static [u8]
-    ensures { result.now ≡ replicate (4 - digits) 32 }
-{
-    match digits {
-        0 => b"    ",
-        1 => b"   ",
-        2 => b"  ",
-        3 => b" ",
-        _ => b"",
-    }
-}
-
-/// Gathers a number in decimal, right in four places.
+/// Gathers a number in decimal, right in four places, and a space.
 pub fn gather_right_in_4<A: Allocator>(
     number: u32,
     gathered: &mut Vec<u8, A>,
 ) -> Result<(), OutFault>
-    ensures ok { OnOk result (gathered.new.items ≡ gathered.old.items ++ right_in_4 number) }
+    ensures ok { OnOk result
+        (gathered.new.items ≡ gathered.old.items ++ (right_in_4 number ++ 32 ∷ [])) }
     ensures why { IfErr result (λ fault. fault ≡ OutFault.NoMemory) }
 {
-    let mut buffer = Buffer::new();
-    let digits = buffer.format(number).as_bytes();
-    gather(spaces(digits.len()), gathered)?;
-    gather(digits, gathered)
+    let mut text = [b' '; 11];
+    let start = write_digits(number as u64, &mut text, 10);
+    gather(&text[start.min(6)..], gathered)
+}
+
+/// Gathers a byte more.
+pub fn gather_byte<A: Allocator>(byte: u8, gathered: &mut Vec<u8, A>) -> Result<(), OutFault>
+    ensures ok { OnOk result (gathered.new.items ≡ gathered.old.items ++ byte ∷ []) }
+    ensures why { IfErr result (λ fault. fault ≡ OutFault.NoMemory) }
+{
+    match gathered.push(byte) {
+        Ok(()) => Ok(()),
+        Err(_) => Err(OutFault::NoMemory),
+    }
 }
 
 /// Writes what is gathered where it is much.

@@ -10,7 +10,7 @@ ghost use Rattle.krb_text.specs.Gathered.{Passed};
 ghost use Rattle.krb_text.specs.Listing.{heading, entry_line, line_at, entry_lines, fault_line, list_text};
 
 use crate::columns::KtColumns;
-use crate::gather::{FULL, gather, gather_number, gather_right_in_4, send_if_full};
+use crate::gather::{FULL, gather, gather_byte, gather_number, gather_right_in_4, send_if_full};
 use crate::output::{OutFault, put};
 use krb_keytab::{EntryView, Keytab, read_entry};
 use krb_walk::{Fault, Stop};
@@ -46,9 +46,8 @@ fn gather_entry<A: Allocator>(
     ensures why { IfErr result (λ fault. fault ≡ OutFault.NoMemory) }
 {
     gather_right_in_4(entry.kvno(), gathered)?;
-    gather(b" ", gathered)?;
     gather_name(entry.principal(), gathered)?;
-    gather(b"\n", gathered)
+    gather_byte(b'\n', gathered)
 }
 
 // The line of the record at a place.

@@ -7,23 +7,23 @@ use crate::memory::NoMemory;
 use crate::name::Name;
 use std::alloc::{AllocError, Allocator};
 
+// Is true of no byte that is quoted.
 fn is_plain(byte: u8) -> bool
     ensures { IsTrue result → quoted byte ≡ byte ∷ [] }
 {
-    !matches!(byte, b'/' | b'@' | b'\\' | b'\n' | b'\t' | 8 | 0)
+    (byte > b'\n') & (byte != b'/') & (byte != b'@') & (byte != b'\\')
 }
 
-// Whether the bytes stand for themselves, as those of most names do.
+// Whether the bytes stand for themselves, as those of most names do. All are looked at, many at once.
 #[tactic(auto, unfolding(crate::specs::Names::quote))]
 fn is_plain_text(bytes: &[u8]) -> bool
     ensures { IsTrue result → quote bytes.now ≡ bytes.now }
 {
+    let mut plain = true;
     for byte in bytes {
-        if !is_plain(*byte) {
-            return false;
-        }
+        plain &= is_plain(*byte);
     }
-    true
+    plain
 }
 
 fn push_quoted<A: Allocator>(out: &mut Vec<u8, A>, byte: u8) -> Result<(), AllocError>
@@ -43,6 +43,8 @@ fn push_quoted<A: Allocator>(out: &mut Vec<u8, A>, byte: u8) -> Result<(), Alloc
 }
 
 // Each byte quoted, one by one.
+#[cold]
+#[inline(never)]
 #[tactic(auto, unfolding(crate::specs::Names::quote))]
 fn push_each_quoted<A: Allocator>(out: &mut Vec<u8, A>, bytes: &[u8]) -> Result<(), AllocError>
     ensures ok { OnOk result (out.new.items ≡ out.old.items ++ quote bytes.now) }
@@ -56,6 +58,7 @@ fn push_each_quoted<A: Allocator>(out: &mut Vec<u8, A>, bytes: &[u8]) -> Result<
     Ok(())
 }
 
+#[inline]
 fn push_quote<A: Allocator>(out: &mut Vec<u8, A>, bytes: &[u8]) -> Result<(), AllocError>
     ensures ok { OnOk result (out.new.items ≡ out.old.items ++ quote bytes.now) }
     ensures err { OnErr result (Grew out.old.items out.new.items) }
@@ -81,7 +84,7 @@ fn push_component<A: Allocator>(
     ensures full { OnErr result (HadNoRoom out.old (separator first ++ quote component.now)) }
 {
     if !first {
-        out.extend_from_slice(b"/")?;
+        out.push(b'/')?;
         return push_quote(out, component);
     }
     push_quote(out, component)
@@ -109,7 +112,7 @@ fn push_name<N: Name, A: Allocator>(name: &N, out: &mut Vec<u8, A>) -> Result<()
     ensures full { OnErr result (HadNoRoom out.old (name_text (N.parts name.now))) }
 {
     push_components(name, out)?;
-    out.extend_from_slice(b"@")?;
+    out.push(b'@')?;
     push_quote(out, name.realm())
 }
 

@@ -82,6 +82,7 @@ fn component_at(order: Order, count: usize, bytes: &[u8], i: usize) -> Option<&[
 }
 
 /// The name that a keytab has at the front of the bytes, and the bytes after it.
+#[inline(always)]
 #[tactic(auto, unfolding(crate::specs::Reading::kt_principal_at))]
 pub fn split_kt_principal(format: KtFormat, bytes: &[u8]) -> Option<(PrincipalView<'_>, &[u8])>
     ensures { Gives (λ x. (x.0, x.1.now)) result (kt_principal_at format bytes.now) }

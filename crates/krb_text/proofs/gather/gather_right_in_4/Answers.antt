@@ -1,0 +1,17 @@
+use Rattle.std.proofs.Common.{◌≤◌, ◌++◌, List, ℕ, ap, ◌∙◌, length, arith}
+use Rattle.std.specs.Prelude.{decimal}
+use Rattle.std.proofs.lemmas.Fmt.{length-decimal-le}
+use Rattle.std.proofs.lemmas.Result.{on_ok_weaker}
+use Rattle.krb_text.proofs.Aligned.{right_aligned}
+use Rattle.krb_text.proofs.gather.gather_right_in_4.Goals as goal
+
+pub write_digits-start-requires : goal.write_digits-start-requires
+write_digits-start-requires g c =
+    let fits = c.ranges.number in
+    (length-decimal-le 10 c.args.number (omega arith) (omega (arith, fits)) (omega (arith, fits)), omega arith)
+
+pub returns-clause-ok : goal.returns-clause-ok
+returns-clause-ok g c =
+    let said = c.write_digits-start.ensures in
+    let text = right_aligned _ (decimal c.args.number) c.write_digits-start.result c.min.result said.start said.written said.before c.min.ensures in
+    on_ok_weaker c.gather.result (λ e. e ∙ ap (λ (t : List ℕ). c.args.gathered.now.items ++ t) text) c.gather.ensures.ok
