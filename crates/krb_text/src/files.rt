@@ -1,6 +1,6 @@
 //! Files by name.
 
-ghost use Rattle.std.specs.Prelude.{◌≡◌, ◌≤◌, ◌⊎◌, ℕ, Ok, Err, IfOk, IfErr, IsErrOf};
+ghost use Rattle.std.specs.Prelude.{◌≡◌, ◌≤◌, ◌⊎◌, ℕ, ◌-◌, ◌^◌, Ok, Err, IfOk, IfErr, IsErrOf};
 ghost use Rattle.krb_text.specs.Files.{FileMap, SameFiles, CountsFailure, loaded};
 
 use std::alloc::Allocator;
@@ -46,10 +46,11 @@ pub trait Files {
         ensures err { is_honest self.old → IfErr result (λ fault. (fault ≡ LoadFault.Failed)
             ⊎ (fault ≡ LoadFault.NoMemory) ⊎ (loaded (file self.old name.now) limit ≡ Err fault)) }
 
-        // `Failed` comes only with a failure that is counted.
+        // `Failed` comes only with a failure that is counted; at the greatest count each call fails.
         ensures failed { IsErrOf result LoadFault.Failed
             → CountsFailure (failure_count self.old) (failure_count self.new) }
-        ensures count { failure_count self.old ≤ failure_count self.new };
+        ensures count { failure_count self.old ≤ failure_count self.new }
+        ensures spent { failure_count self.old ≡ 2 ^ 64 - 1 → IsErrOf result LoadFault.Failed };
 
     /// How many calls failed, as far as a u64 counts.
     fn failures(&self) -> u64

@@ -1,5 +1,5 @@
 -- How what a reader gave at one call joins with what it gave at the next.
-use Rattle.std.proofs.Common.{◌≡◌, ℕ, ◌≤◌, ◌+◌, arith, length-append, List, ◌++◌, Option, None, Some, sym, ap, ◌∙◌, append_assoc, length}
+use Rattle.std.proofs.Common.{ℕ, ◌≤◌, ◌+◌, arith, length-append, List, ◌++◌, Option, None, Some, sym, ap, ◌∙◌, append_assoc, length}
 use Rattle.std.specs.Io.KnownBytes.{Consumes}
 use Rattle.krbfile.specs.Load.{ConsumesAtMost}
 

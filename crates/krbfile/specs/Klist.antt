@@ -1,5 +1,5 @@
 -- What klist prints.
-use Rattle.std.specs.Prelude.{ℕ, List, [], ◌++◌, Bool, if◌then◌else◌, is_some, Option, Result, Ok, Err, codes}
+use Rattle.std.specs.Prelude.{ℕ, List, [], if◌then◌else◌, is_some, Option, Result, Ok, Err, codes}
 use Rattle.krb_walk.specs.Store.{fault_of}
 use Rattle.krb_keytab.specs.declared.open.KtOpenFault.{KtOpenFault}
 use Rattle.krb_keytab.specs.declared.open.KtOpenFault.TheVariants as refusal

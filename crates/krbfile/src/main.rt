@@ -7,6 +7,8 @@ mod klist;
 mod load;
 mod messages;
 mod run;
+#[cfg(test)]
+mod tests;
 mod words;
 
 use disk::DiskFiles;
