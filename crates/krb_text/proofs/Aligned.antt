@@ -12,9 +12,9 @@ right_aligned text digits start m len written before is_m =
     let places : m + more ≡ start = omega (arith, is_m) in
     let four : more ≡ 4 - length digits = omega (arith, is_m, len) in
     let spaces : take start text ≡ replicate m 32 ++ replicate more 32 =
-        before ∙ take-replicate start 11 32 (omega (arith, len)) ∙ ap (λ (n : ℕ). replicate {A = ℕ} n 32) (sym places) ∙ sym (replicate-append-replicate m more 32) in
+    before ∙ take-replicate start 11 32 (omega (arith, len)) ∙ ap (λ (n : ℕ). replicate {A = ℕ} n 32) (sym places) ∙ sym (replicate-append-replicate m more 32) in
     let whole : text ≡ replicate m 32 ++ (replicate more 32 ++ rest) =
-        sym (take-append-drop start text) ∙ ap (λ (t : List ℕ). t ++ drop start text) spaces ∙ ap (λ (t : List ℕ). (replicate m 32 ++ replicate more 32) ++ t) written ∙ append_assoc (replicate m 32) (replicate more 32) rest in
+    sym (take-append-drop start text) ∙ ap (λ (t : List ℕ). t ++ drop start text) spaces ∙ ap (λ (t : List ℕ). (replicate m 32 ++ replicate more 32) ++ t) written ∙ append_assoc (replicate m 32) (replicate more 32) rest in
     let behind : drop m text ≡ replicate more 32 ++ rest = ap (drop m) whole ∙ drop_at (replicate {A = ℕ} m 32) (replicate more 32 ++ rest) m (length-replicate m 32) in
     let fits : length (replicate more 32 ++ rest) ≤ 11 - m = omega (arith, is_m, len, length-append (replicate more 32) rest, length-replicate {A = ℕ} more 32, length-append digits (32 ∷ [])) in
     ap (take (11 - m)) behind ∙ take_all (11 - m) (replicate more 32 ++ rest) fits ∙ sym (append_assoc (replicate more 32) digits (32 ∷ [])) ∙ ap (λ (n : ℕ). (replicate n 32 ++ digits) ++ (32 ∷ [])) four

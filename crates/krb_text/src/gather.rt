@@ -1,6 +1,7 @@
 //! Text on its way to a writer, gathered into large writes.
 
-ghost use Rattle.std.specs.Prelude.{◌≡◌, ◌++◌, ◌∷◌, [], decimal, OnOk, OnErr, IfErr};
+ghost use Rattle.std.specs.Prelude.{◌≡◌, ◌++◌, ◌∷◌, [], decimal, ◌<◌, vec_len, OnOk, OnErr, IfErr};
+ghost use Rattle.krb_wire.specs.Names.{HadNoRoom};
 ghost use Rattle.krb_text.specs.Bytes.{AppendsFront};
 ghost use Rattle.krb_text.specs.Gathered.{Sent};
 ghost use Rattle.krb_text.specs.Listing.{right_in_4};
@@ -17,6 +18,7 @@ pub const FULL: usize = 32_768;
 pub fn gather<A: Allocator>(bytes: &[u8], gathered: &mut Vec<u8, A>) -> Result<(), OutFault>
     ensures ok { OnOk result (gathered.new.items ≡ gathered.old.items ++ bytes.now) }
     ensures why { IfErr result (λ fault. fault ≡ OutFault.NoMemory) }
+    ensures full { OnErr result (HadNoRoom gathered.old bytes.now) }
 {
     match gathered.extend_from_slice(bytes) {
         Ok(()) => Ok(()),
@@ -51,6 +53,7 @@ pub fn gather_right_in_4<A: Allocator>(
 pub fn gather_byte<A: Allocator>(byte: u8, gathered: &mut Vec<u8, A>) -> Result<(), OutFault>
     ensures ok { OnOk result (gathered.new.items ≡ gathered.old.items ++ byte ∷ []) }
     ensures why { IfErr result (λ fault. fault ≡ OutFault.NoMemory) }
+    ensures full { OnErr result (HadNoRoom gathered.old (byte ∷ [])) }
 {
     match gathered.push(byte) {
         Ok(()) => Ok(()),
@@ -65,6 +68,7 @@ pub fn send_if_full<A: Allocator, W: Write>(
 ) -> Result<(), OutFault>
     ensures ok { OnOk result (Sent (W.contents out.old) (W.contents out.new)
         gathered.old.items gathered.new.items) }
+    ensures little { OnOk result (vec_len gathered.new < FULL) }
     ensures front { OnErr result
         (AppendsFront (W.contents out.old) (W.contents out.new) gathered.old.items) }
     ensures why { IfErr result (λ fault. fault ≡ OutFault.Write) }
