@@ -1,5 +1,5 @@
 -- A place cuts the cells in two, and the image too.
-use Rattle.std.proofs.Common.{◌≡◌, ℕ, zero, suc, ◌+◌, ◌-◌, ◌<◌, ◌≤◌, Bool, true, false, cond, eqb, ltb, List, [], ◌∷◌, ◌++◌, length, take, drop, Option, Some, None, refl, sym, ap, subst, ◌∙◌, append_assoc, length-append, arith, inl, inr}
+use Rattle.std.proofs.Common.{◌≡◌, ℕ, ◌+◌, ◌≤◌, true, false, eqb, ltb, List, [], ◌∷◌, ◌++◌, length, take, drop, Some, refl, sym, ap, subst, ◌∙◌, append_assoc, length-append, arith, inl, inr}
 use Rattle.std.specs.Prelude.{IsSome}
 use Rattle.std.specs.Int.{w32}
 use Rattle.std.specs.List.{flat_map, AllByRecursion}
@@ -11,12 +11,12 @@ use Rattle.std.proofs.lemmas.List.Concat.{flat_map-cons}
 use Rattle.krb_wire.specs.declared.format.Order.{Order}
 use Rattle.krb_wire.specs.declared.format.KtFormat.{KtFormat}
 use Rattle.krb_wire.specs.Spelling.{order_of, digits}
-use Rattle.krb_wire.proofs.Fields.{IsBytes, IsBytes-drop, is_some_has, some_is, wide32}
+use Rattle.krb_wire.proofs.Fields.{IsBytes, IsBytes-drop, some_is, wide32}
 use Rattle.krb_keytab.specs.declared.step.Step.{Step}
 use Rattle.krb_keytab.specs.declared.step.Step.TheVariants as step
 use Rattle.krb_keytab.specs.declared.image.CellsEnd.{CellsEnd}
 use Rattle.krb_keytab.specs.Entry.{entry_at}
-use Rattle.krb_keytab.specs.Cells.{Cell, Live, Free, End, Contents, bytes_of, length_field, cell, end_bytes, spelling, contents, IsCell, IsSpelled}
+use Rattle.krb_keytab.specs.Cells.{Cell, Live, Free, End, Contents, bytes_of, length_field, cell, end_bytes, spelling, contents, IsCell}
 use Rattle.krb_keytab.specs.Seen.{from_step}
 use Rattle.krb_keytab.specs.Questions.{size, end_place, is_place, stop_from, live_bytes, live_at}
 use Rattle.krb_keytab.specs.Known.{EndsKnown}

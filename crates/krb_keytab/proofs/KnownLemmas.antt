@@ -12,7 +12,7 @@ use Rattle.krb_wire.proofs.Fields.{IsBytes, IsBytes-drop, some_is, wide32, numbe
 use Rattle.krb_keytab.specs.declared.image.CellsEnd.{CellsEnd}
 use Rattle.krb_keytab.specs.declared.step.Step.{Step}
 use Rattle.krb_keytab.specs.declared.step.Step.TheVariants as step
-use Rattle.krb_keytab.specs.Cells.{Cell, Live, Free, End, Contents, bytes_of, length_field, cell, end_bytes, spelling, Next, More, next, contents, IsCell, IsSpelled}
+use Rattle.krb_keytab.specs.Cells.{Cell, Live, Free, Contents, bytes_of, length_field, cell, end_bytes, More, next, contents, IsCell, IsSpelled}
 use Rattle.krb_keytab.specs.Seen.{seen, EndsWithin, from_step, CellWithin}
 use Rattle.krb_keytab.specs.Questions.{size, end_place}
 use Rattle.krb_keytab.specs.Known.{EndsKnown}

@@ -1,5 +1,5 @@
 -- What stands at a place, and what the questions make of it.
-use Rattle.std.proofs.Common.{◌≡◌, ℕ, ◌+◌, ◌<◌, ◌≤◌, Bool, true, List, [], ◌∷◌, length, take, drop, refl, sym, ap, ◌∙◌, arith}
+use Rattle.std.proofs.Common.{◌≡◌, ℕ, ◌+◌, ◌≤◌, true, List, [], ◌∷◌, length, drop, refl, ap, ◌∙◌, arith}
 use Rattle.std.proofs.lemmas.Bool.{eq-eqb}
 use Rattle.std.proofs.lemmas.List.{length-take, length-drop, drop-drop}
 use Rattle.krb_wire.specs.declared.format.KtFormat.{KtFormat}
@@ -7,9 +7,8 @@ use Rattle.krb_wire.proofs.Fields.{IsBytes, IsBytes-drop}
 use Rattle.krb_keytab.specs.declared.step.Step.{Step}
 use Rattle.krb_keytab.specs.declared.step.Step.TheVariants as step
 use Rattle.krb_keytab.specs.Cells.{Cell, next, contents, on_next}
-use Rattle.krb_keytab.specs.Seen.{ends, seen, EndsWithin, from_step, CellWithin}
+use Rattle.krb_keytab.specs.Seen.{seen, EndsWithin, from_step, CellWithin}
 use Rattle.krb_keytab.specs.Questions.{is_place}
-use Rattle.krb_keytab.specs.declared.step.Ending.TheVariants as ending
 use Rattle.krb_keytab.proofs.CellLemmas.{contents_next}
 
 past4 : (image : List ℕ) (at : ℕ) → drop 4 (drop at image) ≡ drop (at + 4) image

@@ -1,8 +1,8 @@
 -- The questions asked cell by cell are those that are asked of the store.
-use Rattle.std.proofs.Common.{◌≡◌, ◌≢◌, ℕ, ◌+◌, ◌<◌, ◌≤◌, Bool, true, false, eqb, leb, ltb, List, [], ◌∷◌, length, map, drop, Option, Some, None, refl, sym, ap, subst, ◌∙◌, arith, inl, inr}
-use Rattle.std.specs.Prelude.{◌==◌, ◌&&◌, ◌||◌, nat_le, nat_lt, is_some, IsSome, IfNone}
-use Rattle.std.specs.List.{find, AllByRecursion}
-use Rattle.std.proofs.lemmas.Bool.{lt-ltb, le-ltb, le-leb, lt-leb, eq-eqb, ne_eqb}
+use Rattle.std.proofs.Common.{◌≡◌, ℕ, ◌+◌, ◌<◌, ◌≤◌, Bool, true, false, eqb, ltb, List, [], ◌∷◌, length, map, drop, Option, Some, None, refl, sym, ap, ◌∙◌, arith, inl, inr}
+use Rattle.std.specs.Prelude.{◌==◌, ◌&&◌, ◌||◌, nat_le, IsSome, IfNone}
+use Rattle.std.specs.List.{AllByRecursion}
+use Rattle.std.proofs.lemmas.Bool.{lt-ltb, le-ltb, lt-leb, eq-eqb, ne_eqb}
 use Rattle.std.proofs.lemmas.Bool.Decides.{eqb_tells, leb_tells, nat_tests}
 use Rattle.krb_wire.specs.declared.format.KtFormat.{KtFormat}
 use Rattle.krb_wire.specs.Reading.{Gives}
@@ -10,13 +10,13 @@ use Rattle.krb_walk.specs.declared.fault.FaultKind.{FaultKind}
 use Rattle.krb_walk.specs.declared.stop.Stop.{Stop}
 use Rattle.krb_walk.specs.declared.stop.Stop.TheVariants as stop
 use Rattle.krb_walk.specs.declared.fault.Fault.{Fault}
-use Rattle.krb_walk.specs.Store.{Cell as StoreCell, Record, standing, end_from, is_place_from, record_of_some, bytes_of_some, end_stop, end_of, fault_of, fault_from, is_place as is_store_place, stop_at, live_bytes as store_bytes, IsSound as IsSoundStore}
+use Rattle.krb_walk.specs.Store.{Cell as StoreCell, Record, end_from, is_place_from, end_stop, end_of, fault_of, fault_from, is_place as is_store_place, stop_at, live_bytes as store_bytes}
 use Rattle.krb_walk.proofs.Stops.{next_from, bytes_from, next_skips, next_stops}
 use Rattle.krb_keytab.specs.declared.image.CellsEnd.{CellsEnd}
 use Rattle.krb_keytab.specs.declared.step.Ending.{Ending}
 use Rattle.krb_keytab.specs.declared.step.Ending.TheVariants as ending
 use Rattle.krb_keytab.specs.Entry.{entry_at}
-use Rattle.krb_keytab.specs.Cells.{Cell, Live, Free, End, Contents, contents, bytes_of, IsCell, IsSound}
+use Rattle.krb_keytab.specs.Cells.{Cell, Live, Free, End, Contents, contents, IsCell, IsSound}
 use Rattle.krb_keytab.specs.Seen.{ends, ending_kind, ending_fault}
 use Rattle.krb_keytab.specs.Known.{IsKnownEnd}
 use Rattle.krb_keytab.specs.Questions.{size, end_place, is_place, kind_of, stop_from, live_bytes, live_at}

@@ -1,7 +1,6 @@
 -- Entries of a keytab: what they are, how they are spelled, how they are read.
-use Rattle.std.specs.Prelude.{◌≡◌, ℕ, ◌<◌, ◌^◌, List, [], ◌∷◌, ◌++◌, length, Option, Some, None, ◌==◌, if◌then◌else◌}
+use Rattle.std.specs.Prelude.{◌≡◌, ℕ, ◌<◌, ◌^◌, List, [], ◌∷◌, ◌++◌, Option, Some, None, ◌==◌, if◌then◌else◌}
 use Rattle.std.specs.Int.{w16, w32}
-use Rattle.krb_wire.specs.declared.format.Order.{Order}
 use Rattle.krb_wire.specs.declared.format.KtFormat.{KtFormat}
 use Rattle.krb_wire.specs.Spelling.{Parts, order_of, digits, data16, kt_principal, IsShort, FitsKt}
 use Rattle.krb_wire.specs.Reading.{◌>>=◌, byte_at, number_at, data16_at, kt_principal_at}

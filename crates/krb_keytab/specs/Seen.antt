@@ -4,13 +4,12 @@ use Rattle.krb_wire.specs.declared.format.KtFormat.{KtFormat}
 use Rattle.krb_walk.specs.declared.fault.FaultKind.{FaultKind}
 use Rattle.krb_walk.specs.declared.fault.Fault.{Fault}
 use Rattle.krb_walk.specs.declared.stop.Stop.{Stop}
-use Rattle.krb_walk.specs.declared.stop.Stop.TheVariants as stop
 use Rattle.krb_walk.specs.Store.{fault_from, end_stop}
 use Rattle.krb_keytab.specs.declared.step.Ending.{Ending}
 use Rattle.krb_keytab.specs.declared.step.Ending.TheVariants as ending
 use Rattle.krb_keytab.specs.declared.step.Step.{Step}
 use Rattle.krb_keytab.specs.declared.step.Step.TheVariants as step
-use Rattle.krb_keytab.specs.Cells.{Cell, Live, Free, End, Bare, Mark, Damaged, Next, More, Stop as Ends, Contents, contents}
+use Rattle.krb_keytab.specs.Cells.{Live, Free, End, Bare, Mark, Damaged, Next, More, Stop as Ends, Contents, contents}
 
 -- what is wrong, if something is
 abbrev pub ending_kind : Ending → Option FaultKind

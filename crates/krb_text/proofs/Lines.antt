@@ -1,12 +1,12 @@
 -- The lines of the records from a place on.
-use Rattle.std.proofs.Common.{◌≡◌, ℕ, ◌<◌, ◌≤◌, List, [], ◌∷◌, ◌++◌, Option, Some, None, refl, sym, ap, subst, ◌∙◌, arith}
+use Rattle.std.proofs.Common.{◌≡◌, ℕ, ◌<◌, ◌≤◌, List, [], ◌++◌, Option, Some, None, refl, sym, ap, subst, ◌∙◌, arith}
 use Rattle.std.specs.Prelude.{IsSome}
 use Rattle.std.specs.List.{flat_map, filter_map, cons_option}
 use Rattle.std.proofs.lemmas.List.Concat.{flat_map-cons}
 use Rattle.krb_wire.specs.Reading.{◌>>=◌}
 use Rattle.krb_walk.specs.declared.fault.FaultKind.{FaultKind}
 use Rattle.krb_walk.specs.declared.stop.Stop.TheVariants.{Live}
-use Rattle.krb_walk.specs.Store.{Store, Record, IsSound, IsPlace, records, next_live, stop_of, stop_at, end_stop, end_of, live_bytes}
+use Rattle.krb_walk.specs.Store.{Record, IsSound, IsPlace, next_live, stop_of, stop_at, end_stop, end_of, live_bytes}
 use Rattle.krb_walk.specs.Laws.{records_from}
 use Rattle.krb_walk.proofs.Stops.{walks_begin_with_all, stops_give_records, stops_end}
 use Rattle.krb_keytab.specs.Entry.{EntryParts, entry_at}

@@ -1,5 +1,5 @@
 -- How a text passes to a writer: what was gathered, what was sent, and what a failure leaves.
-use Rattle.std.proofs.Common.{◌≡◌, ℕ, List, [], ◌++◌, Option, refl, sym, ap, ◌∙◌, append_assoc, append-nil}
+use Rattle.std.proofs.Common.{◌≡◌, ℕ, List, [], ◌++◌, Option, sym, ap, ◌∙◌, append_assoc, append-nil}
 use Rattle.std.specs.Io.KnownBytes.{Appends}
 use Rattle.krb_text.specs.Bytes.{AppendsFront}
 use Rattle.krb_text.specs.Gathered.{Sent, Passed}

@@ -4,8 +4,8 @@ use Rattle.std.specs.Prelude.{◌&&◌, ◌||◌, ◌==◌, nat_le, is_some, fil
 use Rattle.std.specs.List.{find, filter_map, AllByRecursion}
 use Rattle.std.proofs.lemmas.Bool.Decides.{nat_tests}
 use Rattle.std.proofs.lemmas.Bool.{leb-true, leb-false, le-leb, lt-leb}
-use Rattle.krb_walk.specs.Store.{Cell, Store, Record, IsSound, standing, end_from, is_place_from, record_of, record_with, record_of_some, bytes_of_some}
-use Rattle.krb_walk.specs.Laws.{StopsAt, StopsGiveRecords, StopsEnd, BeginsWithAll, WalksBeginWithAll}
+use Rattle.krb_walk.specs.Store.{Cell, Record, standing, end_from, is_place_from, record_of, record_of_some, bytes_of_some}
+use Rattle.krb_walk.specs.Laws.{StopsGiveRecords, StopsEnd, WalksBeginWithAll}
 
 -- the first record at or after p, the records, and the cell at p, of cells from a place on
 abbrev pub next_from : ℕ → List Cell → ℕ → Option Record

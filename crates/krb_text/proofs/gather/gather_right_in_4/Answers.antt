@@ -1,4 +1,4 @@
-use Rattle.std.proofs.Common.{◌≤◌, ◌++◌, List, ℕ, ap, ◌∙◌, length, arith}
+use Rattle.std.proofs.Common.{◌++◌, List, ℕ, ap, ◌∙◌, arith}
 use Rattle.std.specs.Prelude.{decimal}
 use Rattle.std.proofs.lemmas.Fmt.{length-decimal-le}
 use Rattle.std.proofs.lemmas.Result.{on_ok_weaker}

@@ -1,4 +1,4 @@
-use Rattle.std.proofs.Common.{◌≤◌, ◌<◌, length, length-append, take, ap, arith}
+use Rattle.std.proofs.Common.{◌<◌, length, length-append, take, ap, arith}
 use Rattle.std.proofs.lemmas.Result.{err_from_is_err_and}
 use Rattle.krb_wire.specs.Names.{quote}
 use Rattle.krb_wire.proofs.TextLemmas.{quote_room}
