@@ -1,31 +1,38 @@
 //! The files of a disk.
 
-ghost use Rattle.std.specs.Prelude.{◌≡◌, ◌≤◌, None};
+ghost use Rattle.std.specs.Prelude.{◌≡◌, ◌≤◌, ℕ, None};
 ghost use Rattle.krb_text.specs.Files.{CountsFailure};
 
 use crate::load::load;
 use krb_text::{Files, LoadFault};
 use std::alloc::Allocator;
+use std::marker::Model;
 use std::{fs, io, rt};
 
-/// The files of a disk. Nothing is known of what they hold.
+/// The files of a disk. Nothing is known of what they hold; contracts see how many calls failed.
 #[derive(Drop)]
 pub struct DiskFiles<'a, R> {
     rt: &'a R,
     failures: u64,
 }
 
+impl<'a, R> Model for DiskFiles<'a, R> {
+    ghost Value = { ℕ };
+
+    ghost view = { λ files. files.failures };
+}
+
 impl<'a, R: rt::Files> DiskFiles<'a, R> {
     pub fn new(rt: &'a R) -> DiskFiles<'a, R>
-        ensures { result.failures ≡ 0 }
+        ensures { result ≡ 0 }
     {
         DiskFiles { rt, failures: 0 }
     }
 
     // Counts a failure, as far as a u64 counts.
     fn count_failure(&mut self)
-        ensures counted { CountsFailure self.old.failures self.new.failures }
-        ensures count { self.old.failures ≤ self.new.failures }
+        ensures counted { CountsFailure self.old self.new }
+        ensures count { self.old ≤ self.new }
     {
         self.failures = self.failures.saturating_add(1);
     }
@@ -36,7 +43,7 @@ impl<R: rt::Files> Files for DiskFiles<'_, R> {
 
     ghost is_honest = { λ _. ⊥ };
 
-    ghost failure_count = { λ files. files.failures };
+    ghost failure_count = { λ failures. failures };
 
     fn load<A: Allocator>(
         &mut self,

@@ -1,11 +1,11 @@
 //! Lists a file.
 
 ghost use Rattle.std.specs.Prelude.{◌≡◌, ◌≢◌, ◌⊎◌, Ok, codes};
-ghost use Rattle.std.specs.Io.KnownBytes.{Appends, Keeps};
+ghost use Rattle.std.specs.Io.KnownBytes.{Appends};
 ghost use Rattle.krb_text.specs.Bytes.{AppendsFront};
-ghost use Rattle.krb_text.specs.Files.{SameFiles, CountsFailure};
-ghost use Rattle.krbfile.specs.Messages.{message, file_message};
-ghost use Rattle.krbfile.specs.Runs.{EndsRun};
+ghost use Rattle.krb_text.specs.Files.{SameFiles};
+ghost use Rattle.krbfile.specs.Messages.{message};
+ghost use Rattle.krbfile.specs.Runs.{EndsRun, FailsToRead};
 ghost use Rattle.krbfile.specs.Klist.{klist_run, load_run, listing_run, load_message, load_status, open_message};
 
 use crate::action::{KlistOptions, ListKind};
@@ -16,6 +16,7 @@ use krb_wire::Limits;
 use std::alloc::Allocator;
 use std::io::Write;
 
+// The greatest length of a file.
 const LIMIT: u32 = 16_777_216;
 
 // Says why a file was not loaded, and answers the status for it.
@@ -124,14 +125,11 @@ pub fn run_klist<A: Allocator + Copy, F: Files, W: Write, E: Write>(
     ensures front { F.is_honest files.old → AppendsFront (W.contents out.old) (W.contents out.new)
         (klist_run options.now file.now (F.file files.old file.now)).out }
 
-    // A read or a write failed.
-    ensures failed { result ≡ 3 →
-        (CountsFailure (F.failure_count files.old) (F.failure_count files.new)
-        × Keeps (W.contents out.old) (W.contents out.new)
-        × AppendsFront (E.contents err.old) (E.contents err.new)
-        (file_message file.now (codes "cannot read")))
-        ⊎ AppendsFront (E.contents err.old) (E.contents err.new)
-        (message (codes "cannot write output")) }
+    // The file could not be read, or the output not be written.
+    ensures failed { result ≡ 3 → FailsToRead file.now
+        (F.failure_count files.old) (F.failure_count files.new)
+        (W.contents out.old) (W.contents out.new) (E.contents err.old) (E.contents err.new)
+        ⊎ AppendsFront (E.contents err.old) (E.contents err.new) (message (codes "cannot write output")) }
     ensures no_memory { result ≡ 4 → AppendsFront (E.contents err.old) (E.contents err.new)
         (message (codes "out of memory")) }
 

@@ -11,7 +11,7 @@ use crate::klist::run_klist;
 use crate::messages::complain;
 use crate::words::parse_words;
 use krb_text::{Files, put};
-use std::alloc::Global;
+use std::alloc::Allocator;
 use std::io::Write;
 use std::{env, io, rt};
 
@@ -54,8 +54,8 @@ fn show_help<W: Write, E: Write>(text: &str, out: &mut W, err: &mut E) -> u8
 }
 
 // Does what a command line asks for, and answers the status.
-fn act<F: Files, W: Write, E: Write>(
-    alloc: Global,
+fn act<A: Allocator + Copy, F: Files, W: Write, E: Write>(
+    alloc: A,
     action: &Action,
     files: &mut F,
     out: &mut W,
