@@ -5,6 +5,7 @@ use Rattle.krb_wire.specs.declared.format.KtFormat.{KtFormat}
 use Rattle.krb_wire.specs.Spelling.{order_of}
 use Rattle.krb_keytab.specs.Cells.{Cell, Contents, cell, spelling, contents, IsCell, IsSound, IsSpelled}
 
+-- numbers below 256
 abbrev pub AreBytes : List ℕ → Type 0
 AreBytes bytes = (i : ℕ) → get_or bytes i 0 < 256
 

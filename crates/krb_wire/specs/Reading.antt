@@ -9,6 +9,7 @@ use Rattle.krb_wire.specs.declared.format.KtFormat.{KtFormat}
 use Rattle.krb_wire.specs.declared.format.KtFormat.TheVariants.{V1, V2}
 use Rattle.krb_wire.specs.Spelling.{Parts, number, order_of}
 
+-- the next step of a reading, where the step before it found something
 infixl 10 ◌>>=◌
 abbrev pub ◌>>=◌ : {A B : Type 0} → Option A → (A → Option B) → Option B
 (Some x) >>= f = f x
@@ -19,18 +20,22 @@ abbrev pub Gives : {X Y : Type 0} → (X → Y) → Option X → Option Y → Ty
 Gives view (Some x) read = read ≡ Some (view x)
 Gives view None read = read ≡ None
 
+-- the number that the bytes begin with
 abbrev pub number_at : Order → Width → List ℕ → Option (ℕ × List ℕ)
 number_at o w bytes = if nat_lt (length bytes) (byte_len w) then None else Some (number o w (take (byte_len w) bytes), drop (byte_len w) bytes)
 
+-- the byte that the bytes begin with
 abbrev pub byte_at : List ℕ → Option (ℕ × List ℕ)
 byte_at [] = None
 byte_at (b ∷ rest) = Some (b, rest)
 
+-- the counted data that the bytes begin with
 unfoldable pub data16_at : Order → List ℕ → Option (List ℕ × List ℕ)
 data16_at o bytes = do
   n ← number_at o w16 bytes
   if nat_lt (length n.1) n.0 then None else Some (take n.0 n.1, drop n.0 n.1)
 
+-- that many components that the bytes begin with
 unfoldable pub components_at : Order → ℕ → List ℕ → Option (List (List ℕ) × List ℕ)
 components_at o zero bytes = Some ([], bytes)
 components_at o (suc n) bytes = do
@@ -44,10 +49,12 @@ components_of_count V2 n = Some n
 components_of_count (V1 o) zero = None
 components_of_count (V1 o) (suc n) = Some n
 
+-- the name type that the bytes begin with; in version 1 it is not written, and 0
 abbrev pub name_type_at : KtFormat → List ℕ → Option (ℕ × List ℕ)
 name_type_at (V1 o) bytes = Some (0, bytes)
 name_type_at V2 bytes = number_at Big w32 bytes
 
+-- the name that the bytes begin with
 unfoldable pub kt_principal_at : KtFormat → List ℕ → Option (Parts × List ℕ)
 kt_principal_at f bytes = do
   count ← number_at (order_of f) w16 bytes

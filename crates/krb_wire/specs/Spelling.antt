@@ -27,6 +27,7 @@ number Little w bytes = from_le_bytes w bytes
 abbrev pub data16 : Order → List ℕ → List ℕ
 data16 o bytes = digits o w16 (length bytes) ++ bytes
 
+-- the byte order of a format
 abbrev pub order_of : KtFormat → Order
 order_of (V1 o) = o
 order_of V2 = Big
@@ -41,16 +42,19 @@ abbrev pub name_type_field : KtFormat → ℕ → List ℕ
 name_type_field (V1 o) t = []
 name_type_field V2 t = digits Big w32 t
 
+-- the spelling of a name in a keytab
 abbrev pub kt_principal : KtFormat → Parts → List ℕ
 kt_principal f p =
     digits (order_of f) w16 (count_field f (length p.components))
     ++ (data16 (order_of f) p.realm
     ++ (flat_map (data16 (order_of f)) p.components ++ name_type_field f p.name_type))
 
+-- a name type that the format can write: in version 1 it is 0
 abbrev pub HasNameType : KtFormat → ℕ → Type 0
 HasNameType (V1 o) t = t ≡ 0
 HasNameType V2 t = t < 2 ^ 32
 
+-- short enough for a length of sixteen bits
 abbrev pub IsShort : List ℕ → Type 0
 IsShort bytes = length bytes < 2 ^ 16
 
