@@ -4,3 +4,5 @@ pub mod Places
 pub mod Principals
 pub mod WidthLemmas
 pub mod TextLemmas
+pub mod AtomLemmas
+pub mod RoundTrip

@@ -1,24 +1,39 @@
-//! Names, counted data and numbers of Kerberos files, read from bytes without taking memory.
+//! Names, counted data and numbers of Kerberos files, read from bytes without taking memory, and
+//! names as text.
 #![tactic(auto)]
 
+mod atom;
 mod components;
+mod copy;
 mod counted;
 mod format;
+mod laws;
 mod limits;
 mod memory;
 mod name;
+mod name_fault;
 mod numbers;
+mod parse;
 mod principal;
+mod same;
 mod text;
 mod view;
 
 pub use components::Components;
+pub use copy::copy_name;
 pub use counted::{read_data16, split_data16, tail};
 pub use format::{KtFormat, Order};
+pub use laws::texts_name_their_names;
 pub use limits::Limits;
 pub use memory::NoMemory;
 pub use name::Name;
+pub use name_fault::NameFault;
 pub use numbers::{read_u16, read_u32, split_u8, split_u16, split_u32};
+pub use parse::parse_name;
 pub use principal::Principal;
+pub use same::same_name;
 pub use text::write_name;
 pub use view::{PrincipalView, read_kt_principal, split_kt_principal};
+
+#[cfg(test)]
+mod tests;

@@ -1,0 +1,13 @@
+use Rattle.std.proofs.Common.{◌≡◌, ◌+◌, ◌≤◌, length}
+use Rattle.krb_wire.specs.Atoms.{atoms}
+use Rattle.krb_wire.specs.Fronts.{front}
+use Rattle.krb_wire.proofs.parse.front_len.Given as goal
+
+abbrev pub invariant-loop-atom : goal.invariant-loop-atom
+invariant-loop-atom l = record {
+  counted : l.len + length (front (atoms l.rest)) ≡ length (front (atoms l.fn.text));
+  fits : l.len + length l.rest ≤ length l.fn.text;
+}
+
+abbrev pub decreases-loop-atom : goal.decreases-loop-atom
+decreases-loop-atom l = length l.rest

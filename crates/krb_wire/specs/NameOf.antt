@@ -1,0 +1,59 @@
+-- The name that a text has, or what is wrong with the text.
+use Rattle.std.specs.Prelude.{ℕ, List, [], ◌∷◌, ◌++◌, map, Option, Some, None, option_map, unwrap_or, Result, Ok, Err}
+use Rattle.std.specs.List.{filter_map, slice_split}
+use Rattle.std.specs.Option.{option_or}
+use Rattle.krb_wire.specs.declared.name_fault.NameFault.{NameFault}
+use Rattle.krb_wire.specs.declared.name_fault.NameFault.TheVariants.{NoRealm, LoneBackslash, SecondAt, SlashInRealm, NoMemory}
+use Rattle.krb_wire.specs.declared.atom.Atom.{Atom}
+use Rattle.krb_wire.specs.declared.atom.Atom.TheVariants.{Byte, Slash, At, Lone}
+use Rattle.krb_wire.specs.Spelling.{Parts}
+use Rattle.krb_wire.specs.Atoms.{atoms, byte_of, is_slash, before_at, behind_at}
+
+-- the number of a fault
+abbrev pub name_fault_number : NameFault → ℕ
+name_fault_number NoRealm = 1
+name_fault_number LoneBackslash = 2
+name_fault_number SecondAt = 3
+name_fault_number SlashInRealm = 4
+name_fault_number NoMemory = 5
+
+-- what is wrong with an atom before any `@`
+abbrev pub component_fault : Atom → Option NameFault
+component_fault (Byte b) = None
+component_fault Slash = None
+component_fault At = None
+component_fault Lone = Some LoneBackslash
+
+-- what is wrong with an atom of the realm
+abbrev pub realm_fault : Atom → Option NameFault
+realm_fault (Byte b) = None
+realm_fault Slash = Some SlashInRealm
+realm_fault At = Some SecondAt
+realm_fault Lone = Some LoneBackslash
+
+-- all that is wrong, from left to right: before the first `@`, then behind it
+abbrev pub faults_of : List Atom → List NameFault
+faults_of text = filter_map component_fault (before_at text) ++ filter_map realm_fault (unwrap_or (behind_at text) [])
+
+-- the first of the faults
+abbrev pub leftmost : List NameFault → Option NameFault
+leftmost [] = None
+leftmost (fault ∷ others) = Some fault
+
+-- the components: what stands before any `@`, split at each `/`
+abbrev pub components_of : List Atom → List (List ℕ)
+components_of text = map (map byte_of) (slice_split is_slash (before_at text))
+
+-- the realm: what stands behind the `@`, or else the default realm
+abbrev pub realm_of : List Atom → Option (List ℕ) → Option (List ℕ)
+realm_of text default_realm = option_or (option_map (map byte_of) (behind_at text)) default_realm
+
+-- the leftmost fault, or want of a realm, or the name, of type 1: a principal
+abbrev pub name_or_fault : Option NameFault → Option (List ℕ) → List (List ℕ) → Result Parts NameFault
+name_or_fault (Some fault) realm components = Err fault
+name_or_fault None None components = Err NoRealm
+name_or_fault None (Some realm) components = Ok (record { name_type = 1; realm = realm; components = components })
+
+-- the name of a text, or its fault
+abbrev pub name_of : List ℕ → Option (List ℕ) → Result Parts NameFault
+name_of text default_realm = name_or_fault (leftmost (faults_of (atoms text))) (realm_of (atoms text) default_realm) (components_of (atoms text))

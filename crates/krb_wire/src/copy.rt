@@ -1,0 +1,44 @@
+//! Copies of names.
+
+ghost use Rattle.std.specs.Prelude.{◌≡◌, IfOk};
+ghost use Rattle.krb_wire.specs.Reading.{items_of, principal_parts};
+
+use crate::memory::NoMemory;
+use crate::name::Name;
+use crate::principal::Principal;
+use std::alloc::{AllocError, Allocator};
+
+fn copy_components<N: Name, A: Allocator + Copy>(
+    alloc: A,
+    name: &N,
+) -> Result<Vec<Vec<u8, A>, A>, AllocError>
+    ensures { IfOk result (λ v. items_of v.items ≡ (N.parts name.now).components) }
+{
+    let mut all = Vec::with_capacity(alloc, name.count())?;
+    for component in name.components() {
+        all.push(Vec::from_slice(alloc, component)?)?;
+    }
+    Ok(all)
+}
+
+fn copy_parts<N: Name, A: Allocator + Copy>(alloc: A, name: &N) -> Result<Principal<A>, AllocError>
+    ensures { IfOk result (λ p. principal_parts p ≡ N.parts name.now) }
+{
+    let realm = Vec::from_slice(alloc, name.realm())?;
+    let components = copy_components(alloc, name)?;
+    Ok(Principal {
+        name_type: name.name_type(),
+        realm,
+        components,
+    })
+}
+
+/// The same name type, realm and components, with memory of their own.
+pub fn copy_name<N: Name, A: Allocator + Copy>(alloc: A, name: &N) -> Result<Principal<A>, NoMemory>
+    ensures { IfOk result (λ p. principal_parts p ≡ N.parts name.now) }
+{
+    match copy_parts(alloc, name) {
+        Ok(copy) => Ok(copy),
+        Err(_) => Err(NoMemory),
+    }
+}

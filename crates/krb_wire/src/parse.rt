@@ -1,0 +1,184 @@
+//! Names from text, after krb5_parse_name.
+
+ghost use Rattle.std.specs.Prelude.{◌≡◌, ◌<◌, ◌⊎◌, length, Ok, Err, Some, None, IsOk, IfOk, IfErr, IfSome, MatchOption, option_map, option_copied};
+ghost use Rattle.krb_wire.specs.Reading.{items_of, principal_parts};
+ghost use Rattle.krb_wire.specs.Atoms.{atoms, behind_at};
+ghost use Rattle.krb_wire.specs.Fronts.{front, behind_front};
+ghost use Rattle.krb_wire.specs.NameOf.{faults_of, leftmost, components_of, realm_of, name_of};
+
+use crate::atom::{Atom, next_atom};
+use crate::name_fault::NameFault;
+use crate::principal::Principal;
+use std::alloc::{AllocError, Allocator};
+
+// The fault furthest left. Where one is found, what follows it is not looked at.
+fn leftmost_fault(text: &[u8]) -> Option<NameFault>
+    ensures { result ≡ leftmost (faults_of (atoms text.now)) }
+{
+    let mut rest = text;
+    let mut in_realm = false;
+    while let Some((atom, more)) = next_atom(rest) {
+        match (atom, in_realm) {
+            (Atom::Lone, _) => return Some(NameFault::LoneBackslash),
+            (Atom::At, true) => return Some(NameFault::SecondAt),
+            (Atom::Slash, true) => return Some(NameFault::SlashInRealm),
+            (Atom::At, false) => in_realm = true,
+            _ => {}
+        }
+        rest = more;
+    }
+    None
+}
+
+// The text behind the first unquoted `@`.
+fn realm_text(text: &[u8]) -> Option<&[u8]>
+    ensures { option_map (λ realm. atoms realm.now) result ≡ behind_at (atoms text.now) }
+{
+    let mut rest = text;
+    while let Some((atom, more)) = next_atom(rest) {
+        if atom == Atom::At {
+            return Some(more);
+        }
+        rest = more;
+    }
+    None
+}
+
+// What is wrong with a text, but for want of memory.
+fn fault_of(text: &[u8], default_realm: Option<&[u8]>) -> Option<NameFault>
+    ensures { MatchOption result (IsOk (name_of text.now (option_copied default_realm.entry)))
+        (λ fault. name_of text.now (option_copied default_realm.entry) ≡ Err fault) }
+{
+    if let Some(fault) = leftmost_fault(text) {
+        return Some(fault);
+    }
+    if realm_text(text).is_none() && default_realm.is_none() {
+        return Some(NameFault::NoRealm);
+    }
+    None
+}
+
+// How many bytes the first component has.
+fn front_len(text: &[u8]) -> usize
+    ensures { result ≡ length (front (atoms text.now)) }
+{
+    let mut rest = text;
+    let mut len = 0;
+    while let Some((atom, more)) = next_atom(rest) {
+        match atom {
+            Atom::Byte(_) | Atom::Lone => len += 1,
+            Atom::Slash | Atom::At => return len,
+        }
+        rest = more;
+    }
+    len
+}
+
+// The first component, and the text behind the `/` that ends it, if one does.
+fn read_front<A: Allocator>(
+    alloc: A,
+    text: &[u8],
+) -> Result<(Vec<u8, A>, Option<&[u8]>), AllocError>
+    ensures bytes { IfOk result (λ x. x.0.items ≡ front (atoms text.now)) }
+    ensures rest { IfOk result (λ x. option_map (λ rest. atoms rest.now) x.1
+        ≡ behind_front (atoms text.now)) }
+    ensures shorter { IfOk result (λ x. IfSome x.1 (λ rest. length rest.now < length text.now)) }
+{
+    let mut bytes = Vec::with_capacity(alloc, front_len(text))?;
+    let mut rest = text;
+    while let Some((atom, more)) = next_atom(rest) {
+        let byte = match atom {
+            Atom::Byte(byte) => byte,
+            Atom::Lone => b'\\',
+            Atom::Slash => return Ok((bytes, Some(more))),
+            Atom::At => return Ok((bytes, None)),
+        };
+        bytes.push(byte)?;
+        rest = more;
+    }
+    Ok((bytes, None))
+}
+
+// The components one by one: each is counted once, and read into room for just that many bytes.
+fn read_components<A: Allocator + Copy>(
+    alloc: A,
+    text: &[u8],
+) -> Result<Vec<Vec<u8, A>, A>, AllocError>
+    ensures { IfOk result (λ v. items_of v.items ≡ components_of (atoms text.now)) }
+{
+    let mut all = Vec::new(alloc);
+    let mut rest = text;
+    loop {
+        let (component, more) = read_front(alloc, rest)?;
+        all.push(component)?;
+        let Some(next) = more else {
+            return Ok(all);
+        };
+        rest = next;
+    }
+}
+
+// What stands behind the `@`, or else a copy of the default realm.
+fn read_realm<A: Allocator>(
+    alloc: A,
+    text: &[u8],
+    default_realm: Option<&[u8]>,
+) -> Result<Vec<u8, A>, AllocError>
+    requires { IsOk (name_of text.now (option_copied default_realm)) }
+    ensures { IfOk result (λ v. realm_of (atoms text.now) (option_copied default_realm.entry)
+        ≡ Some v.items) }
+{
+    // A realm with nothing wrong has neither `/` nor `@`: it reads as a component does.
+    if let Some(realm) = realm_text(text) {
+        let (bytes, _) = read_front(alloc, realm)?;
+        return Ok(bytes);
+    }
+    let Some(realm) = default_realm else {
+        unreachable!()
+    };
+    Vec::from_slice(alloc, realm)
+}
+
+fn read_name<A: Allocator + Copy>(
+    alloc: A,
+    text: &[u8],
+    default_realm: Option<&[u8]>,
+) -> Result<Principal<A>, AllocError>
+    requires { IsOk (name_of text.now (option_copied default_realm)) }
+    ensures { IfOk result (λ p. name_of text.now (option_copied default_realm.entry)
+        ≡ Ok (principal_parts p)) }
+{
+    let realm = read_realm(alloc, text, default_realm)?;
+    let components = read_components(alloc, text)?;
+    Ok(Principal {
+        name_type: 1,
+        realm,
+        components,
+    })
+}
+
+/// The name that a text has, of type 1. Components are separated by `/`, and the realm stands behind
+/// an `@` or is the default realm. A backslash quotes the next byte: `\n`, `\t`, `\b` and `\0` are
+/// newline, tab, backspace and NUL, and any other byte is itself. Of a backslash at the end, a second
+/// `@` and a `/` in the realm the one furthest left is answered, and before want of a realm.
+pub fn parse_name<A: Allocator + Copy>(
+    alloc: A,
+    text: &[u8],
+    default_realm: Option<&[u8]>,
+) -> Result<Principal<A>, NameFault>
+    ensures ok { IfOk result (λ p. name_of text.now (option_copied default_realm.entry)
+        ≡ Ok (principal_parts p)) }
+    // Memory is wanting only where the text has a name.
+    ensures err { IfErr result (λ fault.
+        (name_of text.now (option_copied default_realm.entry) ≡ Err fault)
+        ⊎ ((fault ≡ NameFault.NoMemory)
+        × IsOk (name_of text.now (option_copied default_realm.entry)))) }
+{
+    if let Some(fault) = fault_of(text, default_realm) {
+        return Err(fault);
+    }
+    match read_name(alloc, text, default_realm) {
+        Ok(name) => Ok(name),
+        Err(_) => Err(NameFault::NoMemory),
+    }
+}
