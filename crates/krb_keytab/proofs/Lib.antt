@@ -4,3 +4,4 @@ pub mod Steps
 pub mod Cuts
 pub mod KnownLemmas
 pub mod Stores
+pub mod LookUpLemmas

@@ -5,3 +5,4 @@ pub mod Questions
 pub mod Known
 pub mod Store
 pub mod Laws
+pub mod LookUp

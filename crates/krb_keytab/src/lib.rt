@@ -2,6 +2,7 @@
 #![tactic(auto)]
 
 mod entry;
+mod find;
 mod image;
 mod keytab;
 mod laws;

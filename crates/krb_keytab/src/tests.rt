@@ -1,3 +1,6 @@
+mod look_up;
+mod records;
+
 use crate::{Keytab, KtOpenFault, KtOpenRefused};
 use krb_walk::{FaultKind, Stop};
 use krb_wire::{KtFormat, Limits, Name, Order};

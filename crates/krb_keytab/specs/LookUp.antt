@@ -1,0 +1,92 @@
+-- Looking up an entry by name, version and enctype.
+use Rattle.std.specs.Prelude.{ℕ, List, [], ◌∷◌, Bool, true, false, ◌&&◌, ◌||◌, ◌==◌, nat_lt, max, filter, find, is_some, Option, None, Some, option_map, Result, Ok, Err, if◌then◌else◌}
+use Rattle.std.specs.List.{filter_map}
+use Rattle.std.specs.Cmp.Lexicographic.{pointwise}
+use Rattle.std.specs.Str.{bytes_eq}
+use Rattle.krb_wire.specs.Spelling.{Parts}
+use Rattle.krb_walk.specs.declared.refusal.Code.{Code}
+use Rattle.krb_walk.specs.declared.refusal.Code.TheVariants.{Damaged, NotFound, KvnoNotFound}
+use Rattle.krb_walk.specs.Store.{Record, records, fault_of}
+use Rattle.krb_walk.specs.Laws.{records_from}
+use Rattle.krb_keytab.specs.Entry.{EntryParts, entry_at}
+use Rattle.krb_keytab.specs.Store.{State, store_of}
+
+-- an entry, behind the place of its record
+abbrev pub Placed : Type 0
+Placed = ℕ × EntryParts
+
+-- the entry of a record
+abbrev pub placed_entry : State → Record → Option Placed
+placed_entry k r = option_map (λ e. (r.place, e)) (entry_at k.format r.bytes)
+
+-- the entries with their places, in file order
+abbrev pub placed_entries : State → List Placed
+placed_entries k = filter_map (placed_entry k) (records (store_of k))
+
+-- the realms and the components are equal
+abbrev pub have_same_name : Parts → Parts → Bool
+have_same_name p q = bytes_eq p.realm q.realm && pointwise bytes_eq p.components q.components
+
+-- the entry has the name, and the enctype unless that is 0
+abbrev pub is_asked : Parts → ℕ → Placed → Bool
+is_asked name enctype x = (enctype == 0 || x.1.enctype == enctype) && have_same_name name x.1.principal
+
+-- the greatest version
+abbrev pub greatest : List Placed → ℕ
+greatest [] = 0
+greatest (x ∷ xs) = max x.1.version (greatest xs)
+
+-- the version that is looked for among the entries: 0 asks for their greatest
+abbrev pub version_asked : ℕ → List Placed → ℕ
+version_asked kvno xs = if kvno == 0 then greatest xs else kvno
+
+-- the first of the entries, if there is one
+abbrev pub found : Option Placed → Result Placed Code
+found None = Err KvnoNotFound
+found (Some x) = Ok x
+
+-- look-up among the entries that are asked for: the first with the version
+abbrev pub look_up_in : ℕ → List Placed → Result Placed Code
+look_up_in kvno [] = Err NotFound
+look_up_in kvno (x ∷ xs) = found (find (λ y. y.1.version == version_asked kvno (x ∷ xs)) (x ∷ xs))
+
+-- look-up: of the entries with the name and the enctype, the first in file order with the version
+abbrev pub look_up : State → Parts → ℕ → ℕ → Result Placed Code
+look_up k name kvno enctype = look_up_in kvno (filter (is_asked name enctype) (placed_entries k))
+
+-- what a look-up answers: a damaged keytab refuses it
+abbrev pub finding : State → Parts → ℕ → ℕ → Result Placed Code
+finding k name kvno enctype = if is_some (fault_of (store_of k)) then Err Damaged else look_up k name kvno enctype
+
+-- ---- the same, one entry after the other
+
+-- an entry of that version is looked for more than the one that was found so far
+abbrev pub is_better : ℕ → Option Placed → ℕ → Bool
+is_better kvno None version = kvno == 0 || version == kvno
+is_better kvno (Some x) version = kvno == 0 && nat_lt x.1.version version
+
+-- why nothing was found, where some entry was asked for or none was
+abbrev pub missing : Bool → Code
+missing true = KvnoNotFound
+missing false = NotFound
+
+-- what was found so far: whether some entry was asked for, and which is looked for
+pub record SoFar : Type 0 where
+  pub named : Bool
+  pub best : Option Placed
+
+-- after one entry more
+abbrev pub with_entry : Parts → ℕ → ℕ → SoFar → Placed → SoFar
+with_entry name kvno enctype s x =
+    if is_asked name enctype x
+    then record { named = true; best = (if is_better kvno s.best x.1.version then Some x else s.best) }
+    else s
+
+-- after some entries more
+abbrev pub with_entries : Parts → ℕ → ℕ → SoFar → List Placed → SoFar
+with_entries name kvno enctype s [] = s
+with_entries name kvno enctype s (x ∷ xs) = with_entries name kvno enctype (with_entry name kvno enctype s x) xs
+
+-- the entries with their places, from a place on
+abbrev pub placed_from : State → ℕ → List Placed
+placed_from k p = filter_map (placed_entry k) (records_from (store_of k) p)
