@@ -3,3 +3,8 @@ pub mod FileLists
 pub mod Passing
 pub mod Lines
 pub mod Aligned
+pub mod Found
+pub mod Etypes
+pub mod Numerals
+pub mod Days
+pub mod Numbering

@@ -2,4 +2,10 @@ pub mod Bytes
 pub mod Files
 pub mod MemFiles
 pub mod Gathered
+pub mod Numbers
+pub mod Etype
+pub mod Key
+pub mod Time
+pub mod Calendar
 pub mod Listing
+pub mod Found

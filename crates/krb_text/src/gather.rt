@@ -1,13 +1,14 @@
 //! Text on its way to a writer, gathered into large writes.
 
 ghost use Rattle.std.specs.Prelude.{◌≡◌, ◌++◌, ◌∷◌, [], decimal, ◌<◌, vec_len, OnOk, OnErr, IfErr};
-ghost use Rattle.krb_wire.specs.Names.{HadNoRoom};
+ghost use Rattle.krb_wire.specs.Names.{HadNoRoom, name_text};
 ghost use Rattle.krb_text.specs.Bytes.{AppendsFront};
 ghost use Rattle.krb_text.specs.Gathered.{Sent};
 ghost use Rattle.krb_text.specs.Listing.{right_in_4};
 
 use crate::output::{OutFault, put};
 use itoa::{Buffer, write_digits};
+use krb_wire::{Name, write_name};
 use std::alloc::Allocator;
 use std::io::Write;
 
@@ -59,6 +60,19 @@ pub fn gather_byte<A: Allocator>(byte: u8, gathered: &mut Vec<u8, A>) -> Result<
         Ok(()) => Ok(()),
         Err(_) => Err(OutFault::NoMemory),
     }
+}
+
+/// Gathers a name.
+pub fn gather_name<N: Name, A: Allocator>(
+    name: &N,
+    gathered: &mut Vec<u8, A>,
+) -> Result<(), OutFault>
+    ensures ok { OnOk result
+        (gathered.new.items ≡ gathered.old.items ++ name_text (N.parts name.now)) }
+    ensures why { IfErr result (λ fault. fault ≡ OutFault.NoMemory) }
+{
+    write_name(name, gathered)?;
+    Ok(())
 }
 
 /// Writes what is gathered where it is much.

@@ -2,85 +2,79 @@
 
 ghost use Rattle.std.specs.Prelude.{◌≡◌, ◌++◌, ◌∷◌, [], OnOk, OnErr, IfErr, IsSome, codes};
 ghost use Rattle.std.specs.Io.KnownBytes.{Appends};
-ghost use Rattle.krb_wire.specs.Names.{name_text};
 ghost use Rattle.krb_walk.specs.Store.{live_bytes, fault_of};
 ghost use Rattle.krb_keytab.specs.Store.{store_of};
 ghost use Rattle.krb_text.specs.Bytes.{AppendsFront};
 ghost use Rattle.krb_text.specs.Gathered.{Passed};
-ghost use Rattle.krb_text.specs.Listing.{heading, entry_line, line_at, entry_lines, fault_line, list_text};
+ghost use Rattle.krb_text.specs.Listing.{titles, heading, line_at, entry_lines, fault_line, list_text};
 
 use crate::columns::KtColumns;
-use crate::gather::{FULL, gather, gather_byte, gather_number, gather_right_in_4, send_if_full};
+use crate::gather::{FULL, gather, gather_number, send_if_full};
+use crate::line::gather_entry;
 use crate::output::{OutFault, put};
-use krb_keytab::{EntryView, Keytab, read_entry};
+use krb_keytab::{Keytab, read_entry};
 use krb_walk::{Fault, Stop};
-use krb_wire::{Name, write_name};
 use std::alloc::Allocator;
 use std::io::Write;
 
-fn gather_heading<A: Allocator>(name: &str, gathered: &mut Vec<u8, A>) -> Result<(), OutFault>
-    ensures ok { OnOk result (gathered.new.items ≡ gathered.old.items ++ heading name.now) }
+// The titles of the columns, and the lines under them.
+fn titles(times: bool) -> &'static [u8]
+    ensures { result.now ≡ titles times }
+{
+    if times {
+        b"\nKVNO Timestamp            Principal\n---- -------------------- ---------\n"
+    } else {
+        b"\nKVNO Principal\n---- ---------\n"
+    }
+}
+
+fn gather_heading<A: Allocator>(
+    name: &str,
+    times: bool,
+    gathered: &mut Vec<u8, A>,
+) -> Result<(), OutFault>
+    ensures ok { OnOk result (gathered.new.items ≡ gathered.old.items ++ heading name.now times) }
     ensures why { IfErr result (λ fault. fault ≡ OutFault.NoMemory) }
 {
     gather(b"Keytab name: FILE:", gathered)?;
     gather(name.as_bytes(), gathered)?;
-    gather(b"\nKVNO Principal\n---- ---------\n", gathered)
-}
-
-fn gather_name<N: Name, A: Allocator>(name: &N, gathered: &mut Vec<u8, A>) -> Result<(), OutFault>
-    ensures ok { OnOk result
-        (gathered.new.items ≡ gathered.old.items ++ name_text (N.parts name.now)) }
-    ensures why { IfErr result (λ fault. fault ≡ OutFault.NoMemory) }
-{
-    match write_name(name, gathered) {
-        Ok(()) => Ok(()),
-        Err(_) => Err(OutFault::NoMemory),
-    }
-}
-
-fn gather_entry<A: Allocator>(
-    entry: &EntryView<'_>,
-    gathered: &mut Vec<u8, A>,
-) -> Result<(), OutFault>
-    ensures ok { OnOk result (gathered.new.items ≡ gathered.old.items ++ entry_line entry.now) }
-    ensures why { IfErr result (λ fault. fault ≡ OutFault.NoMemory) }
-{
-    gather_right_in_4(entry.kvno(), gathered)?;
-    gather_name(entry.principal(), gathered)?;
-    gather_byte(b'\n', gathered)
+    gather(titles(times), gathered)
 }
 
 // The line of the record at a place.
 fn gather_record<A: Allocator, B: Allocator>(
     keytab: &Keytab<B>,
+    columns: KtColumns,
     place: u32,
     gathered: &mut Vec<u8, A>,
 ) -> Result<(), OutFault>
     requires { IsSome (live_bytes (store_of keytab.now) place) }
-    ensures ok { OnOk result (gathered.new.items ≡ gathered.old.items ++ line_at keytab.now place) }
+    ensures ok { OnOk result
+        (gathered.new.items ≡ gathered.old.items ++ line_at columns keytab.now place) }
     ensures why { IfErr result (λ fault. fault ≡ OutFault.NoMemory) }
 {
     let bytes = keytab.bytes_at(place);
     let Some(entry) = read_entry(keytab.format(), bytes) else {
         unreachable!()
     };
-    gather_entry(&entry, gathered)
+    gather_entry(columns, &entry, gathered)
 }
 
 // The lines of all records, from stop to stop.
 fn list_records<A: Allocator, B: Allocator, W: Write>(
     keytab: &Keytab<B>,
+    columns: KtColumns,
     gathered: &mut Vec<u8, A>,
     out: &mut W,
 ) -> Result<(), OutFault>
     ensures ok { OnOk result (Passed (W.contents out.old) (W.contents out.new)
-        (gathered.old.items ++ entry_lines keytab.now) [] gathered.new.items) }
+        (gathered.old.items ++ entry_lines columns keytab.now) [] gathered.new.items) }
     ensures front { OnErr result (AppendsFront (W.contents out.old) (W.contents out.new)
-        (gathered.old.items ++ entry_lines keytab.now)) }
+        (gathered.old.items ++ entry_lines columns keytab.now)) }
 {
     let mut place = keytab.first();
     'records: while let Stop::Live { place: at, next } = keytab.stop_at(place) {
-        gather_record(keytab, at, gathered)?;
+        gather_record(keytab, columns, at, gathered)?;
         send_if_full(gathered, out)?;
         place = next;
     }
@@ -115,16 +109,15 @@ pub fn list_keytab<A: Allocator, B: Allocator, W: Write>(
     out: &mut W,
 ) -> Result<(), OutFault>
     ensures ok { OnOk result (Appends (W.contents out.old) (W.contents out.new)
-        (list_text name.now keytab.now)) }
+        (list_text columns name.now keytab.now)) }
     ensures front { OnErr result (AppendsFront (W.contents out.old) (W.contents out.new)
-        (list_text name.now keytab.now)) }
+        (list_text columns name.now keytab.now)) }
 {
-    let KtColumns {} = columns;
     let Ok(mut gathered) = Vec::with_capacity(alloc, 2 * FULL) else {
         return Err(OutFault::NoMemory);
     };
-    gather_heading(name, &mut gathered)?;
-    list_records(keytab, &mut gathered, out)?;
+    gather_heading(name, columns.times, &mut gathered)?;
+    list_records(keytab, columns, &mut gathered, out)?;
     gather_fault(keytab.fault(), &mut gathered)?;
     put(out, &gathered)
 }

@@ -2,8 +2,10 @@
 
 ghost use Rattle.std.specs.Prelude.{◌≡◌, [], IsOk, OnOk, OnErr, IfErr};
 ghost use Rattle.std.specs.Io.KnownBytes.{Appends};
+ghost use Rattle.krb_text.specs.declared.output.OutFault.TheVariants.{NoMemory as OutOfMemory};
 ghost use Rattle.krb_text.specs.Bytes.{AppendsFront};
 
+use krb_wire::NoMemory;
 use std::io::Write;
 use thiserror::Error;
 
@@ -15,6 +17,14 @@ pub enum OutFault {
     Write,
     #[error("out of memory")]
     NoMemory,
+}
+
+impl From<NoMemory> for OutFault {
+    ghost from_gives = { λ _ fault. fault ≡ OutOfMemory };
+
+    fn from(_refused: NoMemory) -> OutFault {
+        OutFault::NoMemory
+    }
 }
 
 /// Writes all the bytes. After a failure the writer has taken a front of them.

@@ -10,7 +10,7 @@ abbrev pub invariant-records : goal.invariant-records
 invariant-records g l = record {
   place : IsPlace (store_of l.keytab) l.place;
   sound : IsSound (store_of l.keytab);
-  passed : Passed (g.W.Write.contents l.fn.out) (g.W.Write.contents l.out) (l.fn.gathered.items ++ entry_lines l.keytab) (lines_from l.keytab l.place) l.gathered.items;
+  passed : Passed (g.W.Write.contents l.fn.out) (g.W.Write.contents l.out) (l.fn.gathered.items ++ entry_lines l.columns l.keytab) (lines_from l.columns l.keytab l.place) l.gathered.items;
 }
 
 abbrev pub decreases-records : goal.decreases-records

@@ -1,0 +1,30 @@
+-- The days from 1970-01-01 on, counted one by one.
+use Rattle.std.specs.Prelude.{ℕ, zero, suc, ◌+◌, ◌/◌, ◌%◌, List, pos, nat_lt, if◌then◌else◌}
+use Rattle.jiff_core.specs.Calendar.{days_in_month}
+use Rattle.krb_text.specs.Time.{moment_text}
+
+-- a day of the calendar
+pub record Day : Type 0 where
+  pub year : ℕ
+  pub month : ℕ
+  pub day : ℕ
+
+-- the day after
+abbrev pub next_day : Day → Day
+next_day d =
+    if nat_lt d.day (days_in_month (pos d.year) d.month) then record { year = d.year; month = d.month; day = d.day + 1 }
+    else (if nat_lt d.month 12 then record { year = d.year; month = d.month + 1; day = 1 }
+    else record { year = d.year + 1; month = 1; day = 1 })
+
+-- the day that many days after 1970-01-01
+unfoldable pub day_number : ℕ → Day
+day_number zero = record { year = 1970; month = 1; day = 1 }
+day_number (suc n) = next_day (day_number n)
+
+-- the text of a second of a day
+abbrev pub day_text : Day → ℕ → List ℕ
+day_text d second = moment_text d.year d.month d.day second
+
+-- the text of the instant that many seconds after 1970-01-01T00:00:00Z
+abbrev pub time_text_of : ℕ → List ℕ
+time_text_of seconds = day_text (day_number (seconds / 86400)) (seconds % 86400)

@@ -1,0 +1,169 @@
+//! Encryption types by number and by name.
+
+ghost use Rattle.std.specs.Prelude.{◌≡◌, ◌++◌, ◌≤◌, OnOk, OnErr, IsSome, MatchOption, vec_capacity};
+ghost use Rattle.std.specs.List.{find};
+ghost use Rattle.krb_wire.specs.Names.{HadNoRoom};
+ghost use Rattle.krb_text.specs.Etype.{etype_numbered, etype_text_of, etype_in, key_size_of, is_named, number_named, unnamed};
+
+use crate::append::append;
+use crate::numbers::parse_u16;
+use itoa::Buffer;
+use krb_wire::NoMemory;
+use std::alloc::Allocator;
+
+// The numbers of the table.
+const NUMBERS: [u16; 8] = [16, 17, 18, 19, 20, 23, 25, 26];
+
+// The name of an encryption type and the size of its keys, if it stands in the table.
+fn row_of(etype: u16) -> Option<(&'static str, usize)>
+    ensures { MatchOption result (etype_numbered etype ≡ None)
+        (λ row. etype_numbered etype
+        ≡ Some (record { number = etype; name = row.0.now; key_size = row.1 })) }
+{
+    let row = match etype {
+        16 => ("des3-cbc-sha1", 24),
+        17 => ("aes128-cts-hmac-sha1-96", 16),
+        18 => ("aes256-cts-hmac-sha1-96", 32),
+        19 => ("aes128-cts-hmac-sha256-128", 16),
+        20 => ("aes256-cts-hmac-sha384-192", 32),
+        23 => ("arcfour-hmac", 16),
+        25 => ("camellia128-cts-cmac", 16),
+        26 => ("camellia256-cts-cmac", 32),
+        _ => return None,
+    };
+    Some(row)
+}
+
+// Appends `etype ` and the number.
+fn unnamed_text<A: Allocator>(etype: u16, out: &mut Vec<u8, A>) -> Result<(), NoMemory>
+    ensures ok { OnOk result (out.new.items ≡ out.old.items ++ unnamed etype) }
+    ensures err { OnErr result (out.new.items ≡ out.old.items) }
+    ensures capacity { vec_capacity out.old ≤ vec_capacity out.new }
+    ensures full { OnErr result (HadNoRoom out.old (unnamed etype)) }
+{
+    let mut buffer = Buffer::new();
+    let digits = buffer.format(etype).as_bytes();
+    let mut text = *b"etype .....";
+    let end = 6 + digits.len();
+    text[6..end].copy_from_slice(digits);
+    append(&text[..end], out)
+}
+
+/// Appends the name of an encryption type, or `etype ` and its number where it is not in the table.
+#[tactic(auto, using(crate::proofs::Etypes::read_text))]
+pub fn etype_text<A: Allocator>(etype: u16, out: &mut Vec<u8, A>) -> Result<(), NoMemory>
+    ensures ok { OnOk result (out.new.items ≡ out.old.items ++ etype_text_of etype) }
+    ensures err { OnErr result (out.new.items ≡ out.old.items) }
+    ensures capacity { vec_capacity out.old ≤ vec_capacity out.new }
+
+    // Memory is wanting only where the text does not fit the room that there is.
+    ensures full { OnErr result (HadNoRoom out.old (etype_text_of etype)) }
+
+    // The text of a number of the table is read as that number.
+    ensures read { IsSome (etype_numbered etype) → etype_in (etype_text_of etype) ≡ Some etype }
+{
+    match row_of(etype) {
+        Some((name, _)) => append(name.as_bytes(), out),
+        None => unnamed_text(etype, out),
+    }
+}
+
+/// The number of bytes of a key, where the encryption type stands in the table.
+pub fn key_size(etype: u16) -> Option<usize>
+    ensures { result ≡ key_size_of etype }
+{
+    row_of(etype).map(|row| row.1)
+}
+
+fn is_name_of(etype: u16, text: &[u8]) -> bool
+    ensures { result ≡ is_named text.now etype }
+{
+    row_of(etype).is_some_and(|row| row.0.as_bytes() == text)
+}
+
+// The first of the numbers that has the name.
+fn named_among(numbers: &[u16], text: &[u8]) -> Option<u16>
+    ensures { result ≡ find (is_named text.now) numbers.now }
+{
+    numbers
+        .iter()
+        .copied()
+        .find(|etype| is_name_of(*etype, text))
+}
+
+fn named(text: &[u8]) -> Option<u16>
+    ensures { result ≡ number_named text.now }
+{
+    named_among(&NUMBERS, text)
+}
+
+/// The number of an encryption type from its name in the table, in just these letters, or from one
+/// to ten decimal digits with a value up to 65,535.
+pub fn etype_of(text: &[u8]) -> Option<u16>
+    ensures { result ≡ etype_in text.now }
+{
+    match named(text) {
+        Some(etype) => Some(etype),
+        None => parse_u16(text),
+    }
+}
+
+#[cfg(test)]
+mod tests {
+    use super::*;
+    use std::test::Fail;
+
+    // The numbers are IANA's, the names those of MIT Kerberos, and the sizes those of RFC 3961,
+    // 3962, 4757, 6803 and 8009.
+    #[test]
+    fn the_table_is_that_of_the_standards(rt: HostRuntime) -> Result<(), Fail> {
+        for (number, name, size) in [
+            (16, "des3-cbc-sha1", 24),
+            (17, "aes128-cts-hmac-sha1-96", 16),
+            (18, "aes256-cts-hmac-sha1-96", 32),
+            (19, "aes128-cts-hmac-sha256-128", 16),
+            (20, "aes256-cts-hmac-sha384-192", 32),
+            (23, "arcfour-hmac", 16),
+            (25, "camellia128-cts-cmac", 16),
+            (26, "camellia256-cts-cmac", 32),
+        ] {
+            let mut out = Vec::new(rt.alloc());
+            assert!(rt; etype_text(number, &mut out).is_ok());
+            assert!(rt; out.as_slice() == name.as_bytes(), "{name}");
+            assert_eq!(rt; etype_of(name.as_bytes()), Some(number), "{name}");
+            assert_eq!(rt; key_size(number), Some(size), "{name}");
+        }
+        assert_eq!(rt; key_size(24), None);
+        Ok(())
+    }
+
+    #[test]
+    fn each_number_is_read_from_its_text(rt: HostRuntime) -> Result<(), Fail> {
+        let mut out = Vec::new(rt.alloc());
+        for number in 0..=u16::MAX {
+            out.clear();
+            assert!(rt; etype_text(number, &mut out).is_ok());
+            let text = out.as_slice();
+            let digits = text.strip_prefix(b"etype ").unwrap_or(text);
+            assert_eq!(rt; etype_of(digits), Some(number));
+        }
+        Ok(())
+    }
+
+    #[test]
+    fn other_texts_are_no_numbers(rt: HostRuntime) {
+        assert_eq!(rt; etype_of(b"0000000017"), Some(17));
+        for text in [
+            "",
+            "00000000017",
+            "65536",
+            "+17",
+            "17 ",
+            "etype 17",
+            "Arcfour-hmac",
+            "arcfour",
+        ] {
+            assert_eq!(rt; etype_of(text.as_bytes()), None, "{text}");
+        }
+    }
+}

@@ -1,0 +1,65 @@
+//! Numbers read from decimal digits.
+
+ghost use Rattle.std.specs.Prelude.{◌≡◌, MatchOption, false, true};
+ghost use Rattle.std.specs.Char.{is_ascii_digit};
+ghost use Rattle.std.specs.List.{list_all};
+ghost use Rattle.krb_text.specs.Numbers.{is_numeral, number_in};
+
+fn are_digits(text: &[u8]) -> bool
+    ensures { result ≡ list_all is_ascii_digit text.now }
+{
+    text.iter().all(u8::is_ascii_digit)
+}
+
+fn is_numeral(text: &[u8]) -> bool
+    ensures { result ≡ is_numeral text.now }
+{
+    !text.is_empty() && text.len() <= 10 && are_digits(text)
+}
+
+fn numeral(text: &[u8]) -> Option<&str>
+    ensures { MatchOption result (is_numeral text.entry.now ≡ false)
+        (λ digits. (is_numeral text.entry.now ≡ true) × (digits.now ≡ text.entry.now)) }
+{
+    if !is_numeral(text) {
+        return None;
+    }
+    str::from_utf8(text).ok()
+}
+
+/// The value of one to ten decimal digits, where it fits 16 bits.
+pub fn parse_u16(text: &[u8]) -> Option<u16>
+    ensures { result ≡ number_in 16 text.now }
+{
+    numeral(text)?.parse().ok()
+}
+
+/// The value of one to ten decimal digits, where it fits 32 bits.
+pub fn parse_u32(text: &[u8]) -> Option<u32>
+    ensures { result ≡ number_in 32 text.now }
+{
+    numeral(text)?.parse().ok()
+}
+
+#[cfg(test)]
+mod tests {
+    use super::*;
+
+    #[test]
+    fn ten_digits_at_most_and_32_bits(rt: HostRuntime) {
+        for (text, want) in [
+            ("0", Some(0)),
+            ("0000000089", Some(89)),
+            ("4294967295", Some(u32::MAX)),
+            ("4294967296", None),
+            ("9999999999", None),
+            ("00000000000", None),
+            ("", None),
+            ("-1", None),
+            ("1/", None),
+            ("1:", None),
+        ] {
+            assert_eq!(rt; parse_u32(text.as_bytes()), want, "{text}");
+        }
+    }
+}
