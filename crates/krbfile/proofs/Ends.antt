@@ -20,10 +20,10 @@ EndsRun-done due out out' err err' status not3 not4 same appends says = record {
 }
 
 -- with an image that is no keytab
-pub EndsRun-refused : (file : List ℕ) (opened : Result State KtOpenFault) (fault : KtOpenFault) (out err err' : Option (List ℕ)) → opened ≡ Err fault
-    → AppendsFront err err' (open_message file fault) → EndsRun (opening_run file opened) out out err err' 1
-EndsRun-refused file opened fault out err err' refused says =
+pub EndsRun-refused : (then_ : State → Run) (file : List ℕ) (opened : Result State KtOpenFault) (fault : KtOpenFault) (out err err' : Option (List ℕ)) → opened ≡ Err fault
+    → AppendsFront err err' (open_message file fault) → EndsRun (opening_run then_ file opened) out out err err' 1
+EndsRun-refused then_ file opened fault out err err' refused says =
     let not3 : 1 ≢ 3 = search rules in
     let not4 : 1 ≢ 4 = search rules in
-    let due = EndsRun-done (opening_run file (Err fault)) out out err err' 1 not3 not4 refl (Appends-nil out) says in
-    subst (λ o. EndsRun (opening_run file o) out out err err' 1) (sym refused) due
+    let due = EndsRun-done (opening_run then_ file (Err fault)) out out err err' 1 not3 not4 refl (Appends-nil out) says in
+    subst (λ o. EndsRun (opening_run then_ file o) out out err err' 1) (sym refused) due

@@ -1,14 +1,18 @@
--- What klist prints.
+-- What becomes of a file, and what klist prints.
 use Rattle.std.specs.Prelude.{ℕ, List, [], if◌then◌else◌, is_some, Option, Result, Ok, Err, codes}
+use Rattle.krb_wire.specs.declared.format.Order.{Order}
 use Rattle.krb_walk.specs.Store.{fault_of}
 use Rattle.krb_keytab.specs.declared.open.KtOpenFault.{KtOpenFault}
 use Rattle.krb_keytab.specs.declared.open.KtOpenFault.TheVariants as refusal
 use Rattle.krb_keytab.specs.Store.{State, opening, store_of}
+use Rattle.krb_text.specs.declared.columns.KtColumns.{KtColumns}
 use Rattle.krb_text.specs.declared.files.LoadFault.{LoadFault}
 use Rattle.krb_text.specs.declared.files.LoadFault.TheVariants as load
 use Rattle.krb_text.specs.Files.{loaded}
 use Rattle.krb_text.specs.Listing.{list_text}
 use Rattle.krbfile.specs.declared.action.KlistOptions.{KlistOptions}
+use Rattle.krbfile.specs.declared.action.ListKind.{ListKind}
+use Rattle.krbfile.specs.declared.action.ListKind.TheVariants.{Keytab}
 use Rattle.krbfile.specs.Messages.{message, file_message}
 use Rattle.krbfile.specs.Runs.{Run}
 
@@ -32,24 +36,32 @@ open_message file refusal.TooShort = file_message file (codes "not a keytab (1)"
 open_message file refusal.BadVersion = file_message file (codes "not a keytab (2)")
 open_message file refusal.TooLarge = file_message file (codes "not a keytab (3)")
 
+-- an image was opened, and something is done with the keytab, or it was not
+abbrev pub opening_run : (State → Run) → List ℕ → Result State KtOpenFault → Run
+opening_run then_ file (Ok keytab) = then_ keytab
+opening_run then_ file (Err fault) = record { out = []; err = open_message file fault; status = 1 }
+
+-- a file was loaded, or not
+abbrev pub load_run : (State → Run) → Order → List ℕ → Result (List ℕ) LoadFault → Run
+load_run then_ order file (Ok image) = opening_run then_ file (opening order 16777216 image)
+load_run then_ order file (Err fault) = record { out = []; err = load_message file fault; status = load_status fault }
+
+-- something is done with the keytab of a file, where the bytes are those that stand under its name
+abbrev pub file_run : (State → Run) → Order → List ℕ → Option (List ℕ) → Run
+file_run then_ order file content = load_run then_ order file (loaded content 16777216)
+
 -- a keytab is listed; the listing tells its fault, if there is one
-abbrev pub listing_run : List ℕ → State → Run
-listing_run file keytab = record {
-  out = list_text file keytab;
+abbrev pub listing_run : KtColumns → List ℕ → State → Run
+listing_run columns file keytab = record {
+  out = list_text columns file keytab;
   err = [];
   status = if is_some (fault_of (store_of keytab)) then 1 else 0;
 }
 
--- an image was opened, or not
-abbrev pub opening_run : List ℕ → Result State KtOpenFault → Run
-opening_run file (Ok keytab) = listing_run file keytab
-opening_run file (Err fault) = record { out = []; err = open_message file fault; status = 1 }
+-- what is shown of a keytab
+abbrev pub columns_of : ListKind → KtColumns
+columns_of (Keytab columns) = columns
 
--- a file was loaded, or not
-abbrev pub load_run : KlistOptions → List ℕ → Result (List ℕ) LoadFault → Run
-load_run options file (Ok image) = opening_run file (opening options.v1_order 16777216 image)
-load_run options file (Err fault) = record { out = []; err = load_message file fault; status = load_status fault }
-
--- the listing of a file, where the bytes are those that stand under its name
+-- the listing of a file
 abbrev pub klist_run : KlistOptions → List ℕ → Option (List ℕ) → Run
-klist_run options file content = load_run options file (loaded content 16777216)
+klist_run options file content = file_run (listing_run (columns_of options.kind) file) options.v1_order file content

@@ -2,4 +2,5 @@ pub mod Load
 pub mod Messages
 pub mod Runs
 pub mod Klist
+pub mod Ktfind
 pub mod Actions

@@ -4,8 +4,8 @@ ghost use Rattle.std.specs.Prelude.{◌≡◌};
 ghost use Rattle.krbfile.specs.declared.action.WordFault.TheVariants.{NoMemory};
 
 use krb_text::KtColumns;
-use krb_wire::Order;
-use std::alloc::AllocError;
+use krb_wire::{Order, Principal};
+use std::alloc::{AllocError, Allocator, Global};
 use thiserror::Error;
 
 /// The kind of file that klist lists, and what it shows of it.
@@ -22,11 +22,25 @@ pub struct KlistOptions {
     pub v1_order: Order,
 }
 
+/// What ktfind looks for.
+#[derive(Drop)]
+pub struct FindOptions<A: Allocator> {
+    pub name: Principal<A>,
+    /// 0 asks for the highest.
+    pub kvno: u32,
+    /// 0 asks for any.
+    pub enctype: u16,
+    /// The order of a keytab of version 1.
+    pub v1_order: Order,
+}
+
 /// What a command line asks for.
-#[derive(Debug, PartialEq, Drop)]
+#[derive(Drop)]
 pub enum Action {
     /// To list the file of that name.
     Klist(KlistOptions, String),
+    /// To look up an entry in the file of that name.
+    Ktfind(FindOptions<Global>, String),
     /// To show that help.
     Help(String),
 }

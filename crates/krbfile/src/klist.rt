@@ -6,55 +6,16 @@ ghost use Rattle.krb_text.specs.Bytes.{AppendsFront};
 ghost use Rattle.krb_text.specs.Files.{SameFiles};
 ghost use Rattle.krbfile.specs.Messages.{message};
 ghost use Rattle.krbfile.specs.Runs.{EndsRun, FailsToRead};
-ghost use Rattle.krbfile.specs.Klist.{klist_run, load_run, listing_run, load_message, load_status, open_message};
+ghost use Rattle.krbfile.specs.Klist.{columns_of, klist_run, load_run, listing_run};
 
 use crate::action::{KlistOptions, ListKind};
-use crate::messages::{complain, complain_of};
-use krb_keytab::{Keytab, KtOpenFault};
-use krb_text::{Files, KtColumns, LoadFault, OutFault, list_keytab};
+use crate::messages::complain;
+use crate::refuse::{LIMIT, refuse_image, refuse_load};
+use krb_keytab::Keytab;
+use krb_text::{Files, KtColumns, OutFault, list_keytab};
 use krb_wire::Limits;
 use std::alloc::Allocator;
 use std::io::Write;
-
-// The greatest length of a file.
-const LIMIT: u32 = 16_777_216;
-
-// Says why a file was not loaded, and answers the status for it.
-fn refuse_load<E: Write>(file: &str, fault: LoadFault, err: &mut E) -> u8
-    ensures status { result ≡ load_status fault }
-    ensures err { AppendsFront (E.contents err.old) (E.contents err.new)
-        (load_message file.now fault) }
-{
-    match fault {
-        LoadFault::Missing => {
-            complain_of(err, file, "no such file");
-            1
-        }
-        LoadFault::TooLarge => {
-            complain_of(err, file, "file too large");
-            1
-        }
-        LoadFault::Failed => {
-            complain_of(err, file, "cannot read");
-            3
-        }
-        LoadFault::NoMemory => {
-            complain(err, "out of memory");
-            4
-        }
-    }
-}
-
-// Says why an image was not opened.
-fn refuse_image<E: Write>(file: &str, fault: KtOpenFault, err: &mut E)
-    ensures { AppendsFront (E.contents err.old) (E.contents err.new) (open_message file.now fault) }
-{
-    match fault {
-        KtOpenFault::TooShort => complain_of(err, file, "not a keytab (1)"),
-        KtOpenFault::BadVersion => complain_of(err, file, "not a keytab (2)"),
-        KtOpenFault::TooLarge => complain_of(err, file, "not a keytab (3)"),
-    }
-}
 
 // Lists a keytab, or says why that ended before its end.
 fn list_opened<A: Allocator, B: Allocator, W: Write, E: Write>(
@@ -65,7 +26,7 @@ fn list_opened<A: Allocator, B: Allocator, W: Write, E: Write>(
     out: &mut W,
     err: &mut E,
 ) -> u8
-    ensures { EndsRun (listing_run file.now keytab.now)
+    ensures { EndsRun (listing_run columns file.now keytab.now)
         (W.contents out.old) (W.contents out.new) (E.contents err.old) (E.contents err.new) result }
 {
     match list_keytab(alloc, file, keytab, columns, out) {
@@ -91,7 +52,8 @@ fn list_image<A: Allocator + Copy, W: Write, E: Write>(
     out: &mut W,
     err: &mut E,
 ) -> u8
-    ensures { EndsRun (load_run options.now file.now (Ok image.items))
+    ensures { EndsRun (load_run (listing_run (columns_of options.now.kind) file.now)
+        options.now.v1_order file.now (Ok image.items))
         (W.contents out.old) (W.contents out.new) (E.contents err.old) (E.contents err.new) result }
 {
     let ListKind::Keytab(columns) = options.kind;

@@ -4,8 +4,10 @@
 mod action;
 mod disk;
 mod klist;
+mod ktfind;
 mod load;
 mod messages;
+mod refuse;
 mod run;
 #[cfg(test)]
 mod tests;

@@ -1,11 +1,12 @@
 //! Lines for the error output.
 
-ghost use Rattle.std.specs.Prelude.{OnOk, OnErr};
+ghost use Rattle.std.specs.Prelude.{◌++◌, decimal, OnOk, OnErr};
 ghost use Rattle.std.specs.Io.KnownBytes.{Appends};
 ghost use Rattle.std.specs.List.{flat_map};
 ghost use Rattle.krb_text.specs.Bytes.{AppendsFront};
 ghost use Rattle.krbfile.specs.Messages.{message, file_message};
 
+use itoa::Buffer;
 use krb_text::{OutFault, put};
 use std::io::Write;
 
@@ -35,4 +36,14 @@ pub fn complain_of<E: Write>(err: &mut E, file: &str, what: &str)
         (file_message file.now what.now) }
 {
     let _ = put_all(err, &["krbfile: ", file, ": ", what, "\n"]);
+}
+
+/// Says something of a file that ends in a number. A failure there is passed over.
+pub fn complain_number_of<E: Write>(err: &mut E, file: &str, what: &str, number: u32)
+    ensures { AppendsFront (E.contents err.old) (E.contents err.new)
+        (file_message file.now (what.now ++ decimal number)) }
+{
+    let mut buffer = Buffer::new();
+    let digits = buffer.format(number);
+    let _ = put_all(err, &["krbfile: ", file, ": ", what, digits, "\n"]);
 }

@@ -8,6 +8,7 @@ ghost use Rattle.krbfile.specs.Actions.{action_run, word_message, word_status};
 
 use crate::action::{Action, WordFault};
 use crate::klist::run_klist;
+use crate::ktfind::run_ktfind;
 use crate::messages::complain;
 use crate::words::parse_words;
 use krb_text::{Files, put};
@@ -71,6 +72,7 @@ fn act<A: Allocator + Copy, F: Files, W: Write, E: Write>(
 {
     match action {
         Action::Klist(options, file) => run_klist(alloc, options, file.as_str(), files, out, err),
+        Action::Ktfind(options, file) => run_ktfind(alloc, options, file.as_str(), files, out, err),
         Action::Help(text) => show_help(text.as_str(), out, err),
     }
 }

@@ -1,8 +1,11 @@
 //! Runs over files in memory. Images and texts are spelled out by hand.
 
+mod columns;
+mod finds;
 mod lines;
 mod listings;
 mod loads;
+mod lookups;
 mod messages;
 mod outputs;
 mod samples;

@@ -1,4 +1,4 @@
-use super::samples::{B, HEAD, HOST, KEY, files_of, list};
+use super::samples::{B, HEAD, HOST, KEY, LITTLE, files_of, list, options};
 use krb_wire::Order;
 use std::process::Abort;
 use std::test::Fail;
@@ -15,7 +15,7 @@ struct Case<'a> {
 fn check<R: Abort + AllocGlobal>(rt: &R, v1_order: Order, cases: &[Case<'_>]) -> Result<(), Fail> {
     for (i, case) in cases.iter().enumerate() {
         let mut files = files_of(rt.alloc(), case.image)?;
-        let got = list(rt.alloc(), v1_order, "k", &mut files);
+        let got = list(rt.alloc(), &options(v1_order), "k", &mut files);
         let heading = "Keytab name: FILE:k\nKVNO Principal\n---- ---------\n";
         let want = format!(in rt.alloc(); "{heading}{}", case.lines)?;
         assert!(rt; got.out.as_slice() == want.as_bytes(), "case {i}");
@@ -133,15 +133,13 @@ fn versions(rt: HostRuntime) -> Result<(), Fail> {
 
 #[test]
 fn version_1_in_both_orders(rt: HostRuntime) -> Result<(), Fail> {
-    let little = b"\x05\x01\x2b\0\0\0\x03\0\x01\0R\x04\0host\x01\0a\0\xf1\x53\x65\x03\x11\0\x10\0\
-\0\x01\x02\x03\x04\x05\x06\x07\x08\x09\x0a\x0b\x0c\x0d\x0e\x0f\x03\0\0\0";
     let big = b"\x05\x01\0\0\0\x2b\0\x03\0\x01R\0\x04host\0\x01a\x65\x53\xf1\0\x03";
     check(
         &rt,
         Order::Little,
         &[
             Case {
-                image: &[little],
+                image: &[LITTLE],
                 lines: "   3 host/a@R\n",
                 status: 0,
             },
@@ -163,7 +161,7 @@ fn version_1_in_both_orders(rt: HostRuntime) -> Result<(), Fail> {
                 status: 0,
             },
             Case {
-                image: &[little],
+                image: &[LITTLE],
                 lines: "fault 2 at 2\n",
                 status: 1,
             },

@@ -1,4 +1,4 @@
-use super::samples::{HEAD, files_of, list};
+use super::samples::{HEAD, files_of, list, options};
 use krb_wire::Order;
 use std::test::Fail;
 
@@ -13,7 +13,7 @@ fn files_that_are_no_keytabs(rt: HostRuntime) -> Result<(), Fail> {
     ];
     for (image, file, message) in cases {
         let mut files = files_of(rt.alloc(), &[image])?;
-        let got = list(rt.alloc(), Order::Little, file, &mut files);
+        let got = list(rt.alloc(), &options(Order::Little), file, &mut files);
         assert!(rt; got.out.is_empty(), "at {message}");
         assert!(rt; got.err.as_slice() == message.as_bytes(), "not {message}");
         assert_eq!(rt; got.status, 1);
@@ -25,11 +25,11 @@ fn files_that_are_no_keytabs(rt: HostRuntime) -> Result<(), Fail> {
 fn a_file_that_cannot_be_read(rt: HostRuntime) -> Result<(), Fail> {
     let mut files = files_of(rt.alloc(), &[HEAD])?;
     files.fail_at(1);
-    let got = list(rt.alloc(), Order::Little, "k", &mut files);
+    let got = list(rt.alloc(), &options(Order::Little), "k", &mut files);
     assert!(rt; got.out.is_empty());
     assert!(rt; got.err.as_slice() == b"krbfile: k: cannot read\n".as_slice());
     assert_eq!(rt; got.status, 3);
-    let again = list(rt.alloc(), Order::Little, "k", &mut files);
+    let again = list(rt.alloc(), &options(Order::Little), "k", &mut files);
     assert_eq!(rt; again.status, 0);
     Ok(())
 }
@@ -38,10 +38,10 @@ fn a_file_that_cannot_be_read(rt: HostRuntime) -> Result<(), Fail> {
 fn a_file_of_a_byte_too_many(rt: HostRuntime) -> Result<(), Fail> {
     let zeros = vec![in rt.alloc(); 0u8; 16_777_214]?;
     let mut files = files_of(rt.alloc(), &[HEAD, &zeros])?;
-    let got = list(rt.alloc(), Order::Little, "k", &mut files);
+    let got = list(rt.alloc(), &options(Order::Little), "k", &mut files);
     assert_eq!(rt; got.status, 0);
     let mut files = files_of(rt.alloc(), &[HEAD, &zeros, b"\0"])?;
-    let got = list(rt.alloc(), Order::Little, "k", &mut files);
+    let got = list(rt.alloc(), &options(Order::Little), "k", &mut files);
     assert!(rt; got.err.as_slice() == b"krbfile: k: file too large\n".as_slice());
     assert_eq!(rt; got.status, 1);
     Ok(())

@@ -1,0 +1,8 @@
+use Rattle.krbfile.proofs.Ends.{EndsRun-refused}
+use Rattle.krbfile.proofs.ktfind.find_image.Goals as goal
+
+-- an image that is no keytab
+pub returns-in-Err : goal.returns-in-Err
+returns-in-Err g c =
+    let refused = rw c.usual.ensures at c.in-Err.ensures.err.0 in
+    EndsRun-refused _ c.args.file.now _ _ _ _ _ refused c.refuse_image.ensures
