@@ -1,9 +1,11 @@
 """Command lines: bundled, repeated and late options, help, and lines that are refused."""
 from __future__ import annotations
 
+from itertools import permutations
+
+from columns import sample
 from harness import Case, Outcome, Report, check_case, differences, folder_of, message, run
 from images import TWO
-from listings import B_LINE, HOST_LINE, listed
 
 # A line is its words, behind the program's name.
 Line = tuple[str | bytes, ...]
@@ -13,19 +15,32 @@ REFUSED: list[Line] = [
     (),
     ("",),
     ("klist",),
-    ("klist", "k"),
     ("klist", "-k"),
+    ("klist", "-ktKe"),
     ("klist", "-k", "--"),
     ("klist", "-k", "k", "k"),
+    ("klist", "-k", "t", "k"),
     ("klist", "-k", "k", ""),
     ("klist", "--", "-k", "k"),
     ("klist", "--v1-big", "k"),
+    ("klist", "-t", "k"),
+    ("klist", "-K", "k"),
+    ("klist", "-tKe", "k"),
+    ("klist", "-c", "-k", "k"),
+    ("klist", "-k", "-f", "k"),
+    ("klist", "-k", "-C", "k"),
+    ("klist", "-ktf", "k"),
     ("klist", "-k", "--v1-big=yes", "k"),
     ("klist", "-k=yes", "k"),
+    ("klist", "-k", "-t=yes", "k"),
     ("klist", "-kx", "k"),
     ("klist", "-xk", "k"),
+    ("klist", "-ktx", "k"),
+    ("klist", "-k", "-T", "k"),
+    ("klist", "-k", "-E", "k"),
     ("klist", "-x", "-k", "k"),
     ("klist", "-k", "--nosuch", "k"),
+    ("klist", "-k", "--keys", "k"),
     ("klist", "-k", "-v1-big", "k"),
     ("-k", "k"),
     ("-k", "klist", "k"),
@@ -33,48 +48,107 @@ REFUSED: list[Line] = [
     ("frob",),
     ("klis", "-k", "k"),
     ("KLIST", "-k", "k"),
+    ("ktfin", "k", "0", "0", "b@R"),
     ("--version",),
     ("-V",),
     ("klist", "-k", b"\xff"),
     ("klist", "-k", "k", b"\xff"),
     (b"\xff", "-k", "k"),
     ("klist", b"-k\xff", "k"),
+    ("ktfind",),
+    ("ktfind", "k"),
+    ("ktfind", "k", "0"),
+    ("ktfind", "k", "0", "0"),
+    ("ktfind", "0", "0", "b@R"),
+    ("ktfind", "--v1-big", "k", "0", "0"),
+    ("ktfind", "k", "0", "0", "b@R", "b@R"),
+    ("ktfind", "k", "0", "0", "b@R", ""),
+    ("ktfind", "-k", "k", "0", "0", "b@R"),
+    ("ktfind", "-x", "k", "0", "0", "b@R"),
+    ("ktfind", "--v1-big=yes", "k", "0", "0", "b@R"),
+    ("ktfind", "k", "0", "0", "-b@R"),
+    ("ktfind", b"\xff", "0", "0", "b@R"),
+    ("ktfind", "k", "0", "0", b"b\xff@R"),
 ]
+
+# Words that are no version: not one to ten digits, or over 32 bits.
+NO_KVNO = "", "x", "-1", "+1", " 1", "1 ", "3.0", "0x3", "1e3", "1_0", "\u0663", "00000000003"
+NO_KVNO += "4294967296", "9999999999", "99999999999"
+
+# Words that are no enctype: no name of the table, in its letters, nor one to ten digits that
+# fit 16 bits.
+NO_ETYPE = "", "x", "any", "-1", "+17", " 17", "0x11", "65536", "4294967313", "00000000017"
+NO_ETYPE += "AES128-CTS-HMAC-SHA1-96", "aes128-cts-hmac-sha1-9", "aes128-cts-hmac-sha1-96 "
+NO_ETYPE += "aes128-cts", "rc4-hmac", "etype 17", "etype 1", "17,18"
+
+# Texts that are no name with a realm.
+NO_NAME = "", "b", "host/a", "b\\@R", "\\", "b@R\\", "b\\", "b@R@S", "b@R@", "@@", "b@R/x", "b@/"
 
 # Lines that are refused as long as these options and commands are not there. Whoever adds one of
 # them takes its lines out.
 NOT_THERE_YET: list[Line] = [
-    ("klist", "-k", "-t", "k"),
-    ("klist", "-kt", "k"),
-    ("klist", "-k", "-K", "k"),
-    ("klist", "-k", "-e", "k"),
-    ("klist", "-ekt", "k"),
+    ("klist", "k"),
     ("klist", "-c", "k"),
-    ("klist", "-c", "-k", "k"),
     ("klist", "-f", "k"),
     ("klist", "-C", "k"),
+    ("klist", "-e", "k"),
+    ("klist", "-efC", "k"),
     ("ktutil",),
+    ("ktutil", "--v1-big"),
     ("ktedit", "k"),
-    ("ktfind", "k", "0", "0", "b@R"),
+    ("ktedit", "--v1-big", "k"),
 ]
 
-# Lines that list `k`.
-TAKEN: list[Line] = [
-    ("klist", "-k", "k"),
-    ("klist", "k", "-k"),
-    ("klist", "-k", "--", "k"),
-    ("klist", "-k", "k", "--"),
-    ("klist", "-kk", "k"),
-    ("klist", "-k", "-k", "k"),
-    ("klist", "-k", "--v1-big", "k"),
-    ("klist", "--v1-big", "-k", "k"),
-    ("klist", "-k", "k", "--v1-big"),
-    ("klist", "--v1-big", "k", "-kk", "--v1-big"),
+# Lines that list `k`, each with the letters of its columns.
+TAKEN: list[tuple[Line, str]] = [
+    (("klist", "-k", "k"), ""),
+    (("klist", "k", "-k"), ""),
+    (("klist", "-k", "--", "k"), ""),
+    (("klist", "-k", "k", "--"), ""),
+    (("klist", "-kk", "k"), ""),
+    (("klist", "-k", "-k", "k"), ""),
+    (("klist", "-k", "--v1-big", "k"), ""),
+    (("klist", "--v1-big", "-k", "k"), ""),
+    (("klist", "-k", "k", "--v1-big"), ""),
+    (("klist", "--v1-big", "k", "-kk", "--v1-big"), ""),
+    (("klist", "-k", "-t", "k"), "t"),
+    (("klist", "-k", "-K", "k"), "K"),
+    (("klist", "-k", "-e", "k"), "e"),
+    (("klist", "-kt", "k"), "t"),
+    (("klist", "-Kk", "k"), "K"),
+    (("klist", "-ke", "k"), "e"),
+    (("klist", "-ekt", "k"), "et"),
+    (("klist", "-e", "-t", "-K", "-k", "k"), "etK"),
+    (("klist", "-t", "k", "-kK"), "tK"),
+    (("klist", "k", "-k", "-e", "-K"), "eK"),
+    (("klist", "-te", "-kK", "k"), "teK"),
+    (("klist", "-t", "-kt", "-t", "k"), "t"),
+    (("klist", "-keee", "-e", "k"), "e"),
+    (("klist", "-kt", "--", "k"), "t"),
+    (("klist", "-kK", "--v1-big", "k"), "K"),
+    (("klist", "--v1-big", "-tek", "k"), "te"),
+    *((("klist", "-" + "".join(letters), "k"), "tKe") for letters in permutations("ktKe")),
+]
+
+# Lines that find the second entry of `k`.
+FINDING: list[Line] = [
+    ("ktfind", "k", "0", "0", "b@R"),
+    ("ktfind", "k", "3", "17", "b@R"),
+    ("ktfind", "k", "0000000003", "0000000017", "b@R"),
+    ("ktfind", "k", "0000000000", "0000000000", "b@R"),
+    ("ktfind", "k", "0", "aes128-cts-hmac-sha1-96", "b@R"),
+    ("ktfind", "--v1-big", "k", "0", "0", "b@R"),
+    ("ktfind", "k", "--v1-big", "0", "0", "b@R"),
+    ("ktfind", "k", "0", "0", "b@R", "--v1-big"),
+    ("ktfind", "--v1-big", "k", "0", "0", "b@R", "--v1-big"),
+    ("ktfind", "--", "k", "0", "0", "b@R"),
+    ("ktfind", "k", "0", "0", "--", "b@R"),
 ]
 
 # Lines that print help, and words that it has.
-OF_ALL = (b"krbfile", b"klist", b"--help")
-OF_KLIST = (b"krbfile klist", b"-k", b"--v1-big", b"FILE", b"--help")
+OF_ALL = (b"krbfile", b"klist", b"ktfind", b"--help")
+OF_KLIST = (b"krbfile klist", b"-k", b"-t", b"-K", b"-e", b"--v1-big", b"FILE", b"--help")
+OF_KTFIND = (b"krbfile ktfind", b"--v1-big", b"FILE", b"KVNO", b"ETYPE", b"NAME", b"--help")
 HELP: list[tuple[Line, tuple[bytes, ...]]] = [
     (("--help",), OF_ALL),
     (("-h",), OF_ALL),
@@ -84,6 +158,12 @@ HELP: list[tuple[Line, tuple[bytes, ...]]] = [
     (("klist", "-h"), OF_KLIST),
     (("klist", "-k", "--help"), OF_KLIST),
     (("klist", "-k", "k", "--help"), OF_KLIST),
+    (("klist", "-ktKe", "--help"), OF_KLIST),
+    (("help", "ktfind"), OF_KTFIND),
+    (("ktfind", "--help"), OF_KTFIND),
+    (("ktfind", "-h"), OF_KTFIND),
+    (("ktfind", "k", "--help"), OF_KTFIND),
+    (("ktfind", "k", "0", "0", "b@R", "--help"), OF_KTFIND),
 ]
 
 
@@ -93,15 +173,28 @@ def shown(words: Line) -> str:
     return " ".join(["krbfile", *(word if p else repr(word) for word, p in zip(words, plain))])
 
 
+def unreadable() -> list[Line]:
+    """Lines of ktfind with one word that cannot be read."""
+    kvno = [("ktfind", "k", word, "0", "b@R") for word in NO_KVNO]
+    etype = [("ktfind", "k", "0", word, "b@R") for word in NO_ETYPE]
+    name = [("ktfind", "k", "0", "0", word) for word in NO_NAME]
+    return [*kvno, *etype, *name]
+
+
 def cases() -> list[Case]:
     """All cases of this topic but those of help."""
     files = {"k": TWO}
     bad = message(2, "bad command line")
-    listing = Outcome(0, listed(HOST_LINE, B_LINE))
-    refused = [Case(f"refused: {shown(words)}", words, bad, files) for words in REFUSED]
-    later = [Case(f"not there yet: {shown(words)}", words, bad, files) for words in NOT_THERE_YET]
-    taken = [Case(f"taken: {shown(words)}", words, listing, files) for words in TAKEN]
-    return [*refused, *later, *taken]
+    found = Outcome(0, b"found 53 kvno 3 etype 17 b@R\n")
+    wanted = [
+        *(("refused", words, bad) for words in [*REFUSED, *unreadable()]),
+        *(("not there yet", words, bad) for words in NOT_THERE_YET),
+        *(("taken", words, Outcome(0, sample(letters))) for words, letters in TAKEN),
+        *(("finding", words, found) for words in FINDING),
+    ]
+    return [
+        Case(f"{kind}: {shown(words)}", words, outcome, files) for kind, words, outcome in wanted
+    ]
 
 
 def check_help(report: Report, program: str, words: Line, told: tuple[bytes, ...]) -> None:

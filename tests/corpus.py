@@ -17,7 +17,10 @@ from harness import Case, Outcome, Report, check_case
 
 # The lines that the program knows, as words with a space between. The program's growth is followed
 # here alone: a pattern that says more takes in more of the cases.
-KNOWN = re.compile(r"klist -k( --v1-big)? [^ -][^ ]*")
+KNOWN = re.compile(
+    r"klist(?=.* -[tKe]*k)( (-[ktKe]+|--v1-big|[^ -][^ ]*))+"  # options before and behind the file
+    r"|ktfind .*"
+)
 
 
 def given(value: dict) -> bytes:

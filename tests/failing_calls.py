@@ -13,6 +13,8 @@ FILES = {"k": TWO, "odd": ODD}
 
 KLIST = ("klist", "-k", "k")
 KLIST_ODD = ("klist", "-k", "odd")
+KLIST_COLUMNS = ("klist", "-ktKe", "odd")
+KTFIND = ("ktfind", "k", "0", "0", "b@R")
 HELP = ("klist", "--help")
 
 # More bytes than any read or write here moves.
@@ -23,6 +25,11 @@ LINES = [
     KLIST,
     KLIST_ODD,
     ("klist", "-k", "no"),
+    KLIST_COLUMNS,
+    KTFIND,
+    ("ktfind", "k", "0", "aes256-cts-hmac-sha1-96", "host/a@R"),
+    ("ktfind", "odd", "0", "0", "b@R"),
+    ("ktfind", "no", "0", "0", "b@R"),
     HELP,
     ("--help",),
     ("frob",),
@@ -74,11 +81,11 @@ def check_memory(report: Report, program: Preloaded) -> None:
 def check_reads(report: Report, program: Preloaded) -> None:
     """Each read fails, where one gives all the bytes and where it gives ten: nothing is printed."""
     wanted = message(3, "k: cannot read")
-    for most in (WHOLE, 10):
+    for words, most in ((KLIST, WHOLE), (KLIST, 10), (KTFIND, WHOLE), (KTFIND, 10)):
         program.sweep(
             report,
-            f"a read of at most {most} bytes fails",
-            KLIST,
+            f"a read of at most {most} bytes fails: {' '.join(words)}",
+            words,
             lambda nth, most=most: {"FAIL_READ": nth, "MOST": most},
             lambda _, got: differences(wanted, got),
         )
@@ -86,7 +93,8 @@ def check_reads(report: Report, program: Preloaded) -> None:
 
 def check_writes(report: Report, program: Preloaded) -> None:
     """Each write fails or takes nothing, where one takes all the bytes and where it takes fewer."""
-    for words, fewer in ((KLIST, 10), (KLIST_ODD, 20_000), (HELP, 100)):
+    odd = ((KLIST_ODD, 20_000), (KLIST_COLUMNS, 20_000))
+    for words, fewer in ((KLIST, 10), *odd, (KTFIND, 5), (HELP, 100)):
         for most in (WHOLE, fewer):
             for failure, what in (("FAIL_WRITE", "fails"), ("ZERO_WRITE", "takes nothing")):
                 program.sweep(
@@ -100,7 +108,7 @@ def check_writes(report: Report, program: Preloaded) -> None:
 
 def check_single_bytes(report: Report, program: Preloaded) -> None:
     """Reads and writes of one byte change nothing."""
-    for words in (KLIST, KLIST_ODD, HELP):
+    for words in (KLIST, KLIST_ODD, KLIST_COLUMNS, KTFIND, HELP):
         whole, got = program.run(words).outcome, program.run(words, MOST=1).outcome
         report.compare(f"one byte at a time: {' '.join(words)}", whole, got)
 

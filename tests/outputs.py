@@ -11,6 +11,7 @@ from images import TWO, Entry, entries
 from listings import B_LINE, HOST_LINE, listed
 
 KLIST = ("klist", "-k", "k")
+KTFIND = ("ktfind", "k", "0", "0", "b@R")
 TEXT = listed(HOST_LINE, B_LINE)
 FAILED = message(3, "cannot write output")
 
@@ -22,7 +23,7 @@ LONG_TEXT = listed(*[b"   3 " + LONG_NAME + b"@R"] * 300)
 
 def check_no_output(report: Report, program: str) -> None:
     """A full device and a closed output, for listings, for help, and where nothing is printed."""
-    lines = [KLIST, ("klist", "-k", "damaged"), ("--help",), ("klist", "--help")]
+    lines = [KLIST, ("klist", "-k", "damaged"), KTFIND, ("--help",), ("klist", "--help")]
     printing_nothing = (("klist", "-k", "no"), message(1, "no: no such file"))
     wanted = [*((words, FAILED) for words in lines), printing_nothing]
     with folder_of({"k": TWO, "damaged": TWO[:-1]}) as folder, open("/dev/full", "wb") as full:
@@ -38,6 +39,7 @@ def check_no_error_output(report: Report, program: str) -> None:
     """A failure of the error output changes neither the status nor what is printed."""
     wanted = [
         (KLIST, Outcome(0, TEXT)),
+        (KTFIND, Outcome(0, b"found 53 kvno 3 etype 17 b@R\n")),
         (("klist", "-k", "no"), Outcome(1)),
         (("frob",), Outcome(2)),
     ]

@@ -1,6 +1,6 @@
-"""Listings of random images, sound and damaged, beside what the format's rules say of them.
+"""Listings of random images with random columns, beside what the format's rules say of them.
 
-The images are the same in each run.
+Some images are damaged. They are the same in each run.
 """
 from __future__ import annotations
 
@@ -87,21 +87,23 @@ def kind_of(wanted: Outcome) -> str:
 
 
 def check(report: Report, program: str) -> None:
-    """Lists each image. Those with answers of one kind count as one case."""
+    """Lists each image with some columns. Those with answers of one kind count as one case."""
     random = Random(5)
     wrong: dict[str, list[str]] = {kind: [] for kind in KINDS}
     unseen = set(KINDS)
     with folder_of({}) as folder:
         for _ in range(IMAGES):
             image, options = random_image(random), random.choice([[], ["--v1-big"]])
+            columns = "".join(letter for letter in "teK" if random.random() < 0.4)
             with open(os.path.join(folder, "k"), "wb") as file:
                 file.write(image)
-            wanted = answer(image, v1_big=options != [])
-            found = differences(wanted, run(program, ["klist", "-k", *options, "k"], folder))
+            wanted = answer(image, options != [], columns)
+            words = ["klist", "-k" + columns, *options, "k"]
+            found = differences(wanted, run(program, words, folder))
             kind = kind_of(wanted)
             unseen.discard(kind)
             if found:
-                wrong[kind].append(f"{image.hex()} {' '.join(options)} {', '.join(found)}")
+                wrong[kind].append(f"{image.hex()} {' '.join(words)}: {', '.join(found)}")
     for kind, told in wrong.items():
         missing = ["there is no such image"] if kind in unseen else []
         report.check(f"random images, {kind}", missing + told[:3])
