@@ -5,6 +5,8 @@ from typing import NamedTuple
 
 LIMIT = 16_777_216  # what krbfile reads at most
 HEAD = b"\x05\x02"
+COLUMNS = "services, all columns"  # the group that is listed with times, keys and enctypes
+FINDS = "services, the last one"  # the group in which an entry is looked up
 QUOTED = b"/@\\\n\t\b\0"  # the bytes that a printed name quotes
 
 
@@ -46,6 +48,11 @@ def services(entries):
     return b"".join(made)
 
 
+def last_service(entries):
+    """The enctype and the name of the last entry of so many services, an even number."""
+    return ["18", f"host/server{entries // 2 - 1:05d}.ad.test@AD.TEST"]
+
+
 def components(count):
     """Names of COUNT components of 3 bytes in all, 65,535 at most in each name."""
     made = [HEAD]
@@ -77,11 +84,13 @@ def empty(entries):
 GROUPS = [
     # name, unit, maker, sizes, sizes of a quick run
     ("services", "entries", services, (1_000, 10_000, 100_000, 200_000), (1_000, 10_000)),
+    (COLUMNS, "entries", services, (1_000, 10_000, 100_000, 200_000), (1_000, 10_000)),
     ("many components", "components", components,
      (16_383, 32_767, 65_535, 655_350, 3_276_750), (4_095, 65_535)),
     ("one-byte holes", "holes", holes, (250_000, 500_000, 1_000_000, 3_000_000), (10_000, 100_000)),
     ("quoted names", "entries", quoted, (33, 133, 550), (5, 33)),
     ("empty entries", "entries", empty, (50_000, 200_000, 798_000), (1_000, 10_000)),
+    (FINDS, "entries", services, (1_000, 10_000, 100_000, 200_000), (1_000, 10_000)),
 ]
 
 

@@ -1,0 +1,95 @@
+"""The Markdown tables of the benchmark, and what its last lines say of the machine."""
+
+import os
+import platform
+import statistics
+import time
+from pathlib import Path
+
+import keytabs
+
+MEGA = 1_000_000
+
+
+def ratio(part, whole, form="{:.3f}"):
+    return "-" if part is None or not whole else form.format(part / whole)
+
+
+def name_of(row):
+    return f"{row.size:,} {keytabs.unit(row.group)}"
+
+
+def beside(row, ours, theirs):
+    """A row of a table of times and instructions: one side beside the other."""
+    return [
+        name_of(row), f"{row.bytes:,}",
+        f"{ours.wall_ms():.1f}", f"{theirs.wall_ms():.1f}",
+        ratio(ours.wall_ms(), theirs.wall_ms()),
+        f"{ours.cpu_ms():.1f}", f"{theirs.cpu_ms():.1f}", ratio(ours.cpu_ms(), theirs.cpu_ms()),
+        ratio(ours.instructions, MEGA, "{:,.1f}"), ratio(theirs.instructions, MEGA, "{:,.1f}"),
+        ratio(ours.instructions, theirs.instructions),
+    ]
+
+
+def growth(row, ours, theirs):
+    """A row of a table of growth: how the first side grows with the file."""
+    return [
+        name_of(row), f"{row.bytes:,}", ratio(ours.instructions, row.bytes, "{:.1f}"),
+        ratio(ours.memory, row.bytes, "{:.2f}"),
+        ratio(ours.memory, MEGA, "{:.1f}"), ratio(theirs.memory, MEGA, "{:.1f}"),
+        f"{ours.lines:,}", f"{theirs.lines:,}",
+    ]
+
+
+def beside_heading(other):
+    return ["file", "bytes", "ms", f"{other} ms", f"ms / {other}'s", "cpu ms", f"{other} cpu ms",
+            f"cpu / {other}'s", "instr M", f"{other} instr M", f"instr / {other}'s"]
+
+
+def growth_heading(other):
+    return ["file", "bytes", "instr / byte", "peak / bytes", "peak MB", f"{other} peak MB", "lines",
+            f"{other} lines"]
+
+
+def table(heading, cells, rows):
+    """Markdown, with a line of its own for each group."""
+    lines = ["| " + " | ".join(heading) + " |", "|---" + "|---:" * (len(heading) - 1) + "|"]
+    group = None
+    for row in rows:
+        if row.group != group:
+            group = row.group
+            lines.append(f"| **{group}** |" + " |" * (len(heading) - 1))
+        lines.append("| " + " | ".join(cells(row, *row.costs.values())) + " |")
+    return "\n".join(lines)
+
+
+def both_tables(other, rows):
+    """The table of times and instructions beside that other side, and the table of growth."""
+    return "\n\n".join([table(beside_heading(other), beside, rows),
+                        table(growth_heading(other), growth, rows)])
+
+
+def processor():
+    for line in Path("/proc/cpuinfo").read_text().splitlines():
+        if line.startswith("model name"):
+            return line.split(":", 1)[1].strip()
+    return platform.machine()
+
+
+def machine(rows, runs, version, before):
+    """The machine, its load and the spread of the runs."""
+    costs = [cost for row in rows for cost in row.costs.values()]
+    spreads = sorted(cost.spread() for cost in costs)
+    longer = max((cost.spread() for cost in costs if cost.wall_ms() >= 10), default=0)
+    load = " ".join(f"{value:.1f}" for value in os.getloadavg())
+    middle, worst = statistics.median(spreads), spreads[-1]
+    return "\n".join([
+        f"- {time.strftime('%Y-%m-%d')}, {processor()}, {os.cpu_count()} processors, "
+        f"Linux {platform.release()}",
+        f"- load before {' '.join(f'{value:.1f}' for value in before)}, after {load} "
+        "(over 1, 5 and 15 minutes)",
+        f"- medians of {runs} runs of each side; (longest - shortest) / median: "
+        f"{middle:.0%} in the middle case, {worst:.0%} in the worst, "
+        f"{longer:.0%} in the worst of those from 10 ms",
+        f"- beside {version}",
+    ])
