@@ -1,3 +1,4 @@
+-- What the contracts of this crate say.
 pub mod Entry
 pub mod Cells
 pub mod Seen

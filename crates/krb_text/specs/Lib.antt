@@ -1,3 +1,4 @@
+-- What the contracts of this crate say.
 pub mod Bytes
 pub mod Files
 pub mod MemFiles

@@ -1,3 +1,4 @@
+-- What the contracts of this crate say.
 pub mod Load
 pub mod Messages
 pub mod Runs

@@ -1,3 +1,4 @@
+-- What the contracts of this crate say.
 pub mod Failure
 pub mod Reader
 pub mod Writer
