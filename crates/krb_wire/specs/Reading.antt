@@ -10,7 +10,6 @@ use Rattle.krb_wire.specs.declared.format.KtFormat.TheVariants.{V1, V2}
 use Rattle.krb_wire.specs.Spelling.{Parts, number, order_of}
 
 infixl 10 ◌>>=◌
-
 -- the next step of a reading, where the step before it found something
 abbrev pub ◌>>=◌ : {A B : Type 0} → Option A → (A → Option B) → Option B
 (Some x) >>= f = f x
