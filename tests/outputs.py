@@ -10,6 +10,9 @@ from harness import SECONDS, Outcome, Report, folder_of, message, run
 from images import TWO, Entry, entries
 from listings import B_LINE, HOST_LINE, listed
 
+# A line is its words, behind the program's name.
+Line = tuple[str, ...]
+
 KLIST = ("klist", "-k", "k")
 KTFIND = ("ktfind", "k", "0", "0", "b@R")
 TEXT = listed(HOST_LINE, B_LINE)
@@ -21,18 +24,28 @@ LONG_IMAGE = entries(*[Entry((LONG_NAME,))] * 300)
 LONG_TEXT = listed(*[b"   3 " + LONG_NAME + b"@R"] * 300)
 
 
+def check_lost(
+    report: Report, program: str, folder: str, stream: str, wanted: list[tuple[Line, Outcome]]
+) -> None:
+    """Runs each line with that output on a full device, and then with it closed."""
+    number = {"stdout": 1, "stderr": 2}[stream]
+    with open("/dev/full", "wb") as full:
+        for words, outcome in wanted:
+            line = " ".join(words)
+            got = run(program, words, folder, **{stream: full})
+            report.compare(f"full {stream}: {line}", outcome, got)
+            closed = {stream: None, "preexec_fn": lambda: os.close(number)}
+            got = run(program, words, folder, **closed)
+            report.compare(f"closed {stream}: {line}", outcome, got)
+
+
 def check_no_output(report: Report, program: str) -> None:
-    """A full device and a closed output, for listings, for help, and where nothing is printed."""
+    """The output fails: for listings, for help, and where nothing is printed."""
     lines = [KLIST, ("klist", "-k", "damaged"), KTFIND, ("--help",), ("klist", "--help")]
     printing_nothing = (("klist", "-k", "no"), message(1, "no: no such file"))
     wanted = [*((words, FAILED) for words in lines), printing_nothing]
-    with folder_of({"k": TWO, "damaged": TWO[:-1]}) as folder, open("/dev/full", "wb") as full:
-        for words, outcome in wanted:
-            line = " ".join(words)
-            got = run(program, words, folder, stdout=full)
-            report.compare(f"full device: {line}", outcome, got)
-            got = run(program, words, folder, stdout=None, preexec_fn=lambda: os.close(1))
-            report.compare(f"closed output: {line}", outcome, got)
+    with folder_of({"k": TWO, "damaged": TWO[:-1]}) as folder:
+        check_lost(report, program, folder, "stdout", wanted)
 
 
 def check_no_error_output(report: Report, program: str) -> None:
@@ -43,13 +56,8 @@ def check_no_error_output(report: Report, program: str) -> None:
         (("klist", "-k", "no"), Outcome(1)),
         (("frob",), Outcome(2)),
     ]
-    with folder_of({"k": TWO}) as folder, open("/dev/full", "wb") as full:
-        for words, outcome in wanted:
-            line = " ".join(words)
-            got = run(program, words, folder, stderr=full)
-            report.compare(f"full error output: {line}", outcome, got)
-            got = run(program, words, folder, stderr=None, preexec_fn=lambda: os.close(2))
-            report.compare(f"closed error output: {line}", outcome, got)
+    with folder_of({"k": TWO}) as folder:
+        check_lost(report, program, folder, "stderr", wanted)
 
 
 def limited(program: str, folder: str, most: int) -> Outcome:
