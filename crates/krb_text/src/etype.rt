@@ -1,4 +1,5 @@
-//! Encryption types by number and by name.
+//! Encryption types by number and by name: those of RFC 3961, 3962, 4757, 6803 and 8009, under the
+//! names that MIT prints.
 
 ghost use Rattle.std.specs.Prelude.{◌≡◌, ◌++◌, ◌≤◌, OnOk, OnErr, IsSome, MatchOption, vec_capacity};
 ghost use Rattle.std.specs.List.{find};

@@ -6,6 +6,7 @@ ghost use Rattle.krb_text.specs.Bytes.{AppendsFront};
 ghost use Rattle.krb_text.specs.Gathered.{Sent};
 ghost use Rattle.krb_text.specs.Listing.{right_in_4};
 
+use crate::append::append;
 use crate::output::{OutFault, put};
 use itoa::{Buffer, write_digits};
 use krb_wire::{Name, write_name};
@@ -21,10 +22,8 @@ pub fn gather<A: Allocator>(bytes: &[u8], gathered: &mut Vec<u8, A>) -> Result<(
     ensures why { IfErr result (λ fault. fault ≡ OutFault.NoMemory) }
     ensures full { OnErr result (HadNoRoom gathered.old bytes.now) }
 {
-    match gathered.extend_from_slice(bytes) {
-        Ok(()) => Ok(()),
-        Err(_) => Err(OutFault::NoMemory),
-    }
+    append(bytes, gathered)?;
+    Ok(())
 }
 
 /// Gathers a number in decimal.
