@@ -1,5 +1,5 @@
 -- A store: cells that touch one another, and perhaps a fault after the last of them.
-use Rattle.std.specs.Prelude.{◌≡◌, ℕ, ◌+◌, ◌<◌, Bool, true, ◌&&◌, ◌||◌, ◌==◌, nat_le, List, [], ◌∷◌, find, Option, Some, None, is_some}
+use Rattle.std.specs.Prelude.{◌≡◌, ℕ, ◌+◌, ◌<◌, Bool, true, ◌&&◌, ◌||◌, ◌==◌, nat_le, List, [], ◌∷◌, map, find, Option, Some, None, is_some}
 use Rattle.std.specs.List.{AllByRecursion, filter_map}
 use Rattle.krb_walk.specs.declared.fault.FaultKind.{FaultKind}
 use Rattle.krb_walk.specs.declared.fault.Fault.{Fault}
@@ -26,6 +26,10 @@ pub record Standing : Type 0 where
 abbrev pub standing : ℕ → List Cell → List Standing
 standing at [] = []
 standing at (c ∷ cs) = record { place = at; cell = c } ∷ standing (at + c.width) cs
+
+-- the places of the cells, live or free, in order
+abbrev pub places : Store → List ℕ
+places s = map (λ x. x.place) (standing s.first s.cells)
 
 -- the place after cells that begin at a place
 abbrev pub end_from : ℕ → List Cell → ℕ

@@ -1,12 +1,9 @@
-//! Laws of the definitions that the contracts of stores cite.
+//! Laws: what holds of all stores, of all histories and of all walks. Each is a function with an empty
+//! body, whose contract says it.
 
-ghost use Rattle.krb_walk.specs.Laws.{WalksBeginWithAll, StopsGiveRecords, StopsEnd};
-
-/// To go from stop to stop, from the first place on, is to go through all records in order: a stop is
-/// the first record at or after its place, its next place lies ahead of it and is one, and where there
-/// is no stop at a record there is none left.
-pub fn stops_go_through_all_records()
-    ensures begins { WalksBeginWithAll }
-    ensures stops { StopsGiveRecords }
-    ensures ends { StopsEnd }
-{}
+pub mod cursors;
+pub mod damaged;
+pub mod due;
+pub mod joins;
+pub mod records;
+pub mod stops;

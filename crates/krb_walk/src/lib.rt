@@ -1,12 +1,17 @@
-//! Stores of cells: what they answer, and where a walk stops in them.
+//! Stores of cells, and sessions in which a store is walked while it is changed.
 #![tactic(auto)]
 
+mod event;
 mod fault;
-mod laws;
+pub mod laws;
+mod placed;
 mod refusal;
+mod session;
 mod stop;
 
+pub use event::{Event, Reply};
 pub use fault::{Fault, FaultKind};
-pub use laws::stops_go_through_all_records;
+pub use placed::Placed;
 pub use refusal::{Code, Refusal};
+pub use session::Session;
 pub use stop::Stop;

@@ -1,5 +1,5 @@
 use Rattle.krb_walk.proofs.Stops.{walks_begin_with_all, stops_give_records, stops_end}
-use Rattle.krb_walk.proofs.laws.stops_go_through_all_records.Goals as goal
+use Rattle.krb_walk.proofs.laws.stops.stops_go_through_all_records.Goals as goal
 
 pub returns-clause-begins : goal.returns-clause-begins
 returns-clause-begins c = walks_begin_with_all

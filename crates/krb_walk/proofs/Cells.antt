@@ -1,0 +1,137 @@
+-- The cells of a store: what a cursor passes.
+use Rattle.std.proofs.Common.{◌≡◌, ℕ, ◌+◌, ◌<◌, ◌≤◌, Bool, true, false, List, [], ◌∷◌, ◌++◌, map, Option, Some, None, refl, sym, ap, ◌∙◌, arith}
+use Rattle.std.specs.Prelude.{◌&&◌, ◌==◌, nat_le, is_some}
+use Rattle.std.specs.List.{find, filter_map, AllByRecursion}
+use Rattle.std.proofs.lemmas.Bool.Decides.{nat_tests}
+use Rattle.std.proofs.lemmas.Bool.{leb-true, leb-false}
+use Rattle.krb_walk.proofs.Stops.{next_from, next_skips, next_stops, stops_give_records}
+use Rattle.krb_walk.specs.Store.{Cell, Store, Record, standing, end_from, end_of, record_with, record_of_some, next_live, live_bytes, stop_of, stop_at, end_stop, IsSound}
+use Rattle.krb_walk.specs.declared.fault.FaultKind.{FaultKind}
+use Rattle.krb_walk.specs.declared.stop.Stop.TheVariants.{Live}
+use Rattle.krb_walk.specs.History.{Row}
+use Rattle.krb_walk.specs.Due.{row_of}
+use Rattle.krb_walk.specs.Events.{stop_cursor, stop_said}
+use Rattle.krb_walk.specs.Said.{Gave}
+
+-- the places of cells of these widths, the first at a place
+abbrev pub spots : ℕ → List ℕ → List ℕ
+spots at [] = []
+spots at (w ∷ ws) = at ∷ spots (at + w) ws
+
+pub places_spots : (at : ℕ) (cells : List Cell) → map (λ x. x.place) (standing at cells) ≡ spots at (map (λ c. c.width) cells)
+places_spots at [] = refl
+places_spots at (c ∷ cells) = ap (λ ps. at ∷ ps) (places_spots (at + c.width) cells)
+
+-- the cell at p, of cells from a place on
+abbrev pub live_from : ℕ → List Cell → ℕ → Option Record
+live_from at cells p = record_of_some (find (λ x. x.place == p) (standing at cells))
+
+abbrev pub stop_from : ℕ → List Cell → ℕ → ℕ
+stop_from at cells c = stop_cursor (end_from at cells) (next_from at cells c)
+
+abbrev pub rows_of_next : ℕ → Option Record → List Row
+rows_of_next n None = []
+rows_of_next n (Some r) = record { event = n; stood = r } ∷ []
+
+-- a cell before the cursor, or free
+pub stop_skips : (at c w : ℕ) (live : Option (List ℕ)) (cells : List Cell) → (nat_le c at && is_some live) ≡ false → stop_from at (record { width = w; live = live } ∷ cells) c ≡ stop_from (at + w) cells c
+stop_skips at c w live cells e = ap (stop_cursor (end_from (at + w) cells)) (next_skips at c w live cells e)
+
+stop_from-ge_cons : (at c w : ℕ) (live : Option (List ℕ)) (b : Bool) (cells : List Cell) → (nat_le c at) ≡ b → at + w ≤ stop_from (at + w) cells c → at ≤ stop_from at (record { width = w; live = live } ∷ cells) c
+stop_from-ge_cons at c w None b cells e ih =
+    let skip : (nat_le c at && false) ≡ false = grind (arith, nat_tests) in
+    omega (arith, stop_skips at c w None cells skip)
+stop_from-ge_cons at c w (Some bytes) true cells e ih = omega (arith, ap (stop_cursor (end_from (at + w) cells)) (next_stops at c w bytes cells (leb-true c at e)))
+stop_from-ge_cons at c w (Some bytes) false cells e ih =
+    let skip : (nat_le c at && true) ≡ false = grind (arith, nat_tests) in
+    omega (arith, stop_skips at c w (Some bytes) cells skip)
+
+pub stop_from-ge : (at c : ℕ) (cells : List Cell) → at ≤ stop_from at cells c
+stop_from-ge at c [] = omega arith
+stop_from-ge at c (x ∷ cells) = stop_from-ge_cons at c x.width x.live (nat_le c at) cells refl (stop_from-ge (at + x.width) c cells)
+
+-- functions that agree from a place on
+pub same_from : (f g : ℕ → Option Row) (at : ℕ) (ws : List ℕ) → ((p : ℕ) → at ≤ p → f p ≡ g p) → filter_map f (spots at ws) ≡ filter_map g (spots at ws)
+same_from f g at [] same = refl
+same_from f g at (w ∷ ws) same = rw (same at (omega arith), same_from f g (at + w) ws (λ p h. same p (omega arith))) refl
+
+-- what a step does to the rows that are due: f is before it, g after it
+pub record StepsRows (f g : ℕ → Option Row) (n c end : ℕ) (found : ℕ → Option Record) : Type 0 where
+  pub forward : c ≤ end
+  pub passed : (p : ℕ) → c ≤ p → p < end → f p ≡ row_of n (found p)
+  pub behind : (p : ℕ) → p < c → f p ≡ None
+  pub ahead : (p : ℕ) → end ≤ p → f p ≡ g p
+  pub none : (p : ℕ) → p < end → g p ≡ None
+
+pub find_head : (at w : ℕ) (live : Option (List ℕ)) (cells : List Cell) → live_from at (record { width = w; live = live } ∷ cells) at ≡ record_with (record { place = at; cell = record { width = w; live = live } }) live
+find_head at w live cells = let e : (at == at) ≡ true = grind (arith, nat_tests) in rw e refl
+
+pub find_tail : (at w p : ℕ) (live : Option (List ℕ)) (cells : List Cell) → at < p → live_from at (record { width = w; live = live } ∷ cells) p ≡ live_from (at + w) cells p
+find_tail at w p live cells lt = let e : (at == p) ≡ false = grind (arith, nat_tests) in rw e refl
+
+abbrev StepGives : (f g : ℕ → Option Row) (n c end at : ℕ) (cells : List Cell) (more : List ℕ) → Type 0
+StepGives f g n c end at cells more = filter_map f (spots at (map (λ x. x.width) cells ++ more)) ≡ rows_of_next n (next_from at cells c) ++ filter_map g (spots at (map (λ x. x.width) cells ++ more))
+
+step_skips : (f g : ℕ → Option Row) (n c end at w : ℕ) (live : Option (List ℕ)) (cells : List Cell) (more : List ℕ) → (nat_le c at && is_some live) ≡ false → f at ≡ None → g at ≡ None → StepGives f g n c end (at + w) cells more → StepGives f g n c end at (record { width = w; live = live } ∷ cells) more
+step_skips f g n c end at w live cells more skip no_f no_g ih = rw (no_f, no_g, next_skips at c w live cells skip) ih
+
+step_cons : (f g : ℕ → Option Row) (n c end at w : ℕ) (live : Option (List ℕ)) (b : Bool) (cells : List Cell) (more : List ℕ) (found : ℕ → Option Record) → (nat_le c at ≡ b) → StepsRows f g n c end found
+    → 0 < w → ((p : ℕ) → at ≤ p → found p ≡ live_from at (record { width = w; live = live } ∷ cells) p) → end ≡ stop_from at (record { width = w; live = live } ∷ cells) c
+    → (end ≡ stop_from (at + w) cells c → StepGives f g n c end (at + w) cells more) → StepGives f g n c end at (record { width = w; live = live } ∷ cells) more
+step_cons f g n c end at w None true cells more found e steps some look is_end ih =
+    let skip : (nat_le c at && false) ≡ false = grind (arith, nat_tests) in
+    let ends : end ≡ stop_from (at + w) cells c = is_end ∙ stop_skips at c w None cells skip in
+    let lt : at < end = omega (arith, stop_from-ge (at + w) c cells) in
+    let no_f : f at ≡ None = steps.passed at (leb-true c at e) lt ∙ ap (row_of n) (look at (omega arith) ∙ find_head at w None cells) in
+    step_skips f g n c end at w None cells more skip no_f (steps.none at lt) (ih ends)
+step_cons f g n c end at w (Some bytes) true cells more found e steps some look is_end ih =
+    let le : c ≤ at = leb-true c at e in
+    let ends : end ≡ at + w = is_end ∙ ap (stop_cursor (end_from (at + w) cells)) (next_stops at c w bytes cells le) in
+    let lt : at < end = omega arith in
+    let some_f : f at ≡ Some (record { event = n; stood = record { place = at; next = at + w; bytes = bytes } }) = steps.passed at le lt ∙ ap (row_of n) (look at (omega arith) ∙ find_head at w (Some bytes) cells) in
+    let rest = same_from f g (at + w) (map (λ x. x.width) cells ++ more) (λ p h. steps.ahead p (omega arith)) in
+    rw (some_f, steps.none at lt, next_stops at c w bytes cells le, rest) refl
+step_cons f g n c end at w live false cells more found e steps some look is_end ih =
+    let skip : (nat_le c at && is_some live) ≡ false = rw e refl in
+    let lt : at < c = leb-false c at e in
+    let lt_end : at < end = omega (arith, steps.forward) in
+    step_skips f g n c end at w live cells more skip (steps.behind at lt) (steps.none at lt_end) (ih (is_end ∙ stop_skips at c w live cells skip))
+
+-- a step's row stands before the rows of the rest
+pub step_gives : (f g : ℕ → Option Row) (n c end at : ℕ) (cells : List Cell) (more : List ℕ) (found : ℕ → Option Record) → StepsRows f g n c end found → AllByRecursion (λ x. 0 < x.width) cells
+    → ((p : ℕ) → at ≤ p → found p ≡ live_from at cells p) → end ≡ stop_from at cells c → StepGives f g n c end at cells more
+step_gives f g n c end at [] more found steps sound look is_end = same_from f g at more (λ p h. steps.ahead p (omega arith))
+step_gives f g n c end at (x ∷ cells) more found steps sound look is_end =
+    step_cons f g n c end at x.width x.live (nat_le c at) cells more found refl steps sound.0 look is_end
+    (λ ends. step_gives f g n c end (at + x.width) cells more found steps sound.1 (λ p h. look p (omega arith) ∙ find_tail at x.width p x.live cells (omega (arith, sound.0))) ends)
+
+-- what a stop at a live cell tells
+pub record StopsLive (s : Store) (c p n : ℕ) : Type 0 where
+  pub bytes : List ℕ
+  pub next : next_live s c ≡ Some (record { place = p; next = n; bytes = bytes })
+  pub stands : live_bytes s p ≡ Some bytes
+
+live_no_end : (p n end : ℕ) (fault : Option FaultKind) → Live p n ≡ end_stop end fault → ⊥
+live_no_end p n end None e = cc
+live_no_end p n end (Some kind) e = cc
+
+stops_live_of : (s : Store) (c p n : ℕ) (found : Option Record) → IsSound s → next_live s c ≡ found → Live p n ≡ stop_of s found → StopsLive s c p n
+stops_live_of s c p n None sound is e = absurd (live_no_end p n (end_of s) s.fault e)
+stops_live_of s c p n (Some r) sound is e =
+    let place : r.place ≡ p = cc in
+    let after : r.next ≡ n = cc in
+    let h = stops_give_records s c r sound is in
+    record {
+      bytes = r.bytes;
+      next = is ∙ ap Some (ap (λ (q : ℕ). record { place = q; next = r.next; bytes = r.bytes }) place ∙ ap (λ (m : ℕ). record { place = p; next = m; bytes = r.bytes }) after);
+      stands = ap (live_bytes s) (sym place) ∙ h.bytes;
+    }
+
+pub stops_live : (s : Store) (c p n : ℕ) → IsSound s → Live p n ≡ stop_at s c → StopsLive s c p n
+stops_live s c p n sound e = stops_live_of s c p n (next_live s c) sound refl e
+
+-- the reply that tells it
+pub gave_told : (s : Store) (w c p n : ℕ) (items : List ℕ) → StopsLive s c p n → live_bytes s p ≡ Some items → Gave w p n items ≡ stop_said s w (next_live s c)
+gave_told s w c p n items live here =
+    let same : items ≡ live.bytes = cc (here, live.stands) in
+    ap (Gave w p n) same ∙ sym (ap (stop_said s w) live.next)

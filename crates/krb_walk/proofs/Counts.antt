@@ -1,0 +1,146 @@
+-- How many steps give a record, and that each row is of a record that is alive.
+use Rattle.std.proofs.Common.{◌≡◌, ℕ, suc, ◌+◌, ◌<◌, ◌≤◌, Bool, true, false, cond, List, [], ◌∷◌, ◌++◌, length, map, Option, Some, None, inl, inr, refl, sym, ap, ◌∙◌, subst, arith}
+use Rattle.std.specs.Prelude.{◌&&◌, ◌==◌, nat_le, filter}
+use Rattle.std.specs.List.{AllByRecursion, list_any}
+use Rattle.std.proofs.lemmas.List.{length-append}
+use Rattle.std.proofs.lemmas.Bool.Decides.{nat_tests}
+use Rattle.krb_walk.specs.Store.{Store, Record, end_of, IsSound, records, next_live}
+use Rattle.krb_walk.specs.Laws.{records_from}
+use Rattle.krb_walk.specs.Said.{Said, Placed, Gone, is_placed}
+use Rattle.krb_walk.specs.Events.{stop_cursor}
+use Rattle.krb_walk.specs.History.{Row}
+use Rattle.krb_walk.specs.Track.{Name, Pass, Track, live_places, Shifts, IsTrack}
+use Rattle.krb_walk.specs.Due.{rows_at_pass, given_over}
+use Rattle.krb_walk.specs.Records.{IsNamed, is_alive, additions}
+use Rattle.krb_walk.proofs.Stops.{stops_give_records}
+use Rattle.krb_walk.proofs.Cells.{rows_of_next}
+use Rattle.krb_walk.proofs.Places.{or_cases, or_true}
+use Rattle.krb_walk.proofs.Passes.{end_of_step, effect_of}
+use Rattle.krb_walk.proofs.Lives.{lives_lt, puts_insert, cuts_insert}
+use Rattle.krb_walk.proofs.Names.{or_left}
+use Rattle.krb_walk.proofs.Records.{AreKept, kept_here, kept_next}
+
+-- counts of places at or after a cursor
+less_more : (b : Bool) (k x : ℕ) (xs ys : List ℕ) → length xs ≤ length ys + k → length (cond b (x ∷ xs) xs) ≤ length (cond b (x ∷ ys) ys) + k
+less_more true k x xs ys h = omega arith
+less_more false k x xs ys h = h
+
+one_more : (b : Bool) (x : ℕ) (xs : List ℕ) → length (cond b (x ∷ xs) xs) ≤ length xs + 1
+one_more true x xs = omega arith
+one_more false x xs = omega arith
+
+no_less : (b : Bool) (x : ℕ) (xs : List ℕ) → length xs ≤ length (cond b (x ∷ xs) xs) + 0
+no_less true x xs = omega arith
+no_less false x xs = omega arith
+
+count_in : (f : ℕ → Bool) (front back : List ℕ) (p : ℕ) → length (filter f (front ++ p ∷ back)) ≤ length (filter f (front ++ back)) + 1
+count_in f [] back p = one_more (f p) p (filter f back)
+count_in f (x ∷ front) back p = less_more (f x) 1 x (filter f (front ++ p ∷ back)) (filter f (front ++ back)) (count_in f front back p)
+
+count_out : (f : ℕ → Bool) (front back : List ℕ) (p : ℕ) → length (filter f (front ++ back)) ≤ length (filter f (front ++ p ∷ back)) + 0
+count_out f [] back p = no_less (f p) p (filter f back)
+count_out f (x ∷ front) back p = less_more (f x) 0 x (filter f (front ++ back)) (filter f (front ++ p ∷ back)) (count_out f front back p)
+
+-- how many places are at or after c
+abbrev ahead_of : ℕ → List ℕ → ℕ
+ahead_of c ps = length (filter (λ p. nat_le c p) ps)
+
+ahead_cons : (b : Bool) (r : Record) (rs : List Record) (p : ℕ) (ps : List ℕ) → length rs ≡ length ps → length (cond b (r ∷ rs) rs) ≡ length (cond b (p ∷ ps) ps)
+ahead_cons true r rs p ps e = ap suc e
+ahead_cons false r rs p ps e = e
+
+ahead_places : (c : ℕ) (rs : List Record) → length (filter (λ r. nat_le c r.place) rs) ≡ ahead_of c (map (λ r. r.place) rs)
+ahead_places c [] = refl
+ahead_places c (r ∷ rs) = ahead_cons (nat_le c r.place) r (filter (λ x. nat_le c x.place) rs) r.place (filter (λ p. nat_le c p) (map (λ x. x.place) rs)) (ahead_places c rs)
+
+-- no record is left at the end
+left_none : (e : ℕ) (rs : List Record) → AllByRecursion (λ q. q < e) (map (λ r. r.place) rs) → filter (λ r. nat_le e r.place) rs ≡ []
+left_none e [] all = refl
+left_none e (r ∷ rs) all = let misses : nat_le e r.place ≡ false = grind (arith, nat_tests, all.0) in rw misses (left_none e rs all.1)
+
+pub none_at_end : (s : Store) → IsSound s → records_from s (end_of s) ≡ []
+none_at_end s sound = left_none (end_of s) (records s) (lives_lt s.first s.cells sound)
+
+-- a step gives the first record that is left
+go_count : (n : ℕ) (s : Store) (c : ℕ) (found : Option Record) → IsSound s → next_live s c ≡ found → length (rows_of_next n found) + length (records_from s (stop_cursor (end_of s) found)) ≤ length (records_from s c)
+go_count n s c None sound is = omega (arith, ap length (none_at_end s sound))
+go_count n s c (Some r) sound is = omega (arith, ap length (stops_give_records s c r sound is).first)
+
+-- an addition is one more at most
+abbrev added : Said → ℕ
+added told = cond (is_placed told) 1 0
+
+shift_count : (told : Said) (old new : Store) (c : ℕ) → IsSound old → Shifts told old new → length (records_from new c) ≤ length (records_from old c) + added told
+shift_count (Placed p) old new c sound h = let i = puts_insert old new p sound h in omega (arith, count_in (λ q. nat_le c q) i.front i.back p, ap (ahead_of c) i.lo_is, ap (ahead_of c) i.hi_is, ahead_places c (records old), ahead_places c (records new))
+shift_count (Gone p) old new c sound h = let i = cuts_insert old new p sound h in omega (arith, count_out (λ q. nat_le c q) i.front i.back p, ap (ahead_of c) i.lo_is, ap (ahead_of c) i.hi_is, ahead_places c (records old), ahead_places c (records new))
+shift_count told old new c sound h = omega (arith, ap (λ (s : Store). length (records_from s c)) h)
+
+additions_cons : (x : Pass) (xs : Track) (b : Bool) → is_placed x.reply ≡ b → additions (x ∷ xs) ≡ added x.reply + additions xs
+additions_cons x xs true e = rw e (omega arith)
+additions_cons x xs false e = rw e (omega arith)
+
+-- the rows that a walk is given are at most the live cells ahead and the additions since
+pub few_steps : (n : ℕ) (s : Store) (names : List Name) (c : Option ℕ) (t u : Track) (last : Store) (d : ℕ) → IsTrack n s names c (t ++ u) last → c ≡ Some d → length (given_over t) ≤ length (records_from s d) + additions t
+few_steps n s names c [] u last d h at = omega arith
+few_steps n s names c (x ∷ t) u last d h at =
+    let adds = additions_cons x t (is_placed x.reply) refl in
+    let rows = length-append (rows_at_pass x) (given_over t) in
+    let same = ap (λ (z : Store). length (records_from z d)) h.0.before in
+    elim (effect_of x h.0.effect) [
+      | inl holds ↦ (
+          let ih = few_steps (suc n) x.after _ x.to t u last d h.1 (holds.stays d (h.0.from ∙ at)) in
+          omega (arith, ih, adds, rows, same, ap length holds.silent, shift_count x.reply x.before x.after d h.0.sound h.0.shifts))
+      | inr goes ↦ (
+          let stop = end_of_step x goes.at in
+          let is : d ≡ goes.at = cc (at, goes.stood, h.0.from) in
+          let from = ap (λ (m : ℕ). length (records_from x.before m)) is in
+          let ih = few_steps (suc n) x.after _ x.to t u last stop h.1 goes.stands in
+          let go = go_count x.number x.before goes.at (next_live x.before goes.at) h.0.sound refl in
+          omega (arith, ih, adds, rows, same, from, go, ap length goes.tells, shift_count x.reply x.before x.after stop h.0.sound h.0.shifts))
+    ]
+
+-- each row is of a record that is alive
+named_head : (p : ℕ) (x : Name) (names : List Name) → (x.place == p) ≡ true → IsNamed (x ∷ names) p
+named_head p x names e =
+    let place : x.place ≡ p = grind (arith, nat_tests) in
+    let one : (x.place == x.place) ≡ true = grind (arith, nat_tests) in
+    let two : (x.birth == x.birth) ≡ true = grind (arith, nat_tests) in
+    let both : ((x.place == x.place) && (x.birth == x.birth)) ≡ true = rw (one, two) refl in
+    record { name = x; place = place; alive = or_left ((x.place == x.place) && (x.birth == x.birth)) (is_alive names x) both }
+
+named_tail : (p : ℕ) (x : Name) (names : List Name) → IsNamed names p → IsNamed (x ∷ names) p
+named_tail p x names more = record { name = more.name; place = more.place; alive = or_true ((x.place == more.name.place) && (x.birth == more.name.birth)) (is_alive names more.name) more.alive }
+
+named_of : (p : ℕ) (names : List Name) → list_any (λ q. q == p) (map (λ x. x.place) names) ≡ true → IsNamed names p
+named_of p [] h = cc
+named_of p (x ∷ names) h = elim (or_cases (x.place == p) (list_any (λ q. q == p) (map (λ y. y.place) names)) h) [
+  | inl e ↦ named_head p x names e
+  | inr e ↦ named_tail p x names (named_of p names e)
+]
+
+in_filtered_by : (b : Bool) (x r : Record) (rs kept rest : List Record) → cond b (x ∷ kept) kept ≡ r ∷ rest → (kept ≡ r ∷ rest → list_any (λ q. q == r.place) (map (λ y. y.place) rs) ≡ true) → list_any (λ q. q == r.place) (map (λ y. y.place) (x ∷ rs)) ≡ true
+in_filtered_by true x r rs kept rest is ih =
+    let same : x ≡ r = cc in
+    let place : x.place ≡ r.place = ap (λ (y : Record). y.place) same in
+    let here : (x.place == r.place) ≡ true = grind (arith, nat_tests) in
+    or_left (x.place == r.place) _ here
+in_filtered_by false x r rs kept rest is ih = or_true (x.place == r.place) _ (ih is)
+
+in_filtered : (f : Record → Bool) (rs : List Record) (r : Record) (rest : List Record) → filter f rs ≡ r ∷ rest → list_any (λ q. q == r.place) (map (λ y. y.place) rs) ≡ true
+in_filtered f [] r rest is = cc
+in_filtered f (x ∷ rs) r rest is = in_filtered_by (f x) x r rs (filter f rs) rest is (in_filtered f rs r rest)
+
+named_next : (n : ℕ) (s : Store) (names : List Name) (c : ℕ) (found : Option Record) → IsSound s → map (λ x. x.place) names ≡ live_places s → next_live s c ≡ found → AllByRecursion (λ row. IsNamed names row.stood.place) (rows_of_next n found)
+named_next n s names c None sound are is = tt
+named_next n s names c (Some r) sound are is = (named_of r.place names (subst (λ (ps : List ℕ). list_any (λ q. q == r.place) ps ≡ true) (sym are) (in_filtered (λ x. nat_le c x.place) (records s) r _ (stops_give_records s c r sound is).first)), tt)
+
+pub rows_named : (n : ℕ) (s : Store) (names : List Name) (c : Option ℕ) (t : Track) (last : Store) → IsTrack n s names c t last → AreKept n s names → AllByRecursion (λ x. AllByRecursion (λ row. IsNamed x.names row.stood.place) (rows_at_pass x)) t
+rows_named n s names c [] last h k = tt
+rows_named n s names c (x ∷ t) last h k =
+    let now = kept_here n s names c x h.0 k in
+    let rest = rows_named (suc n) x.after _ x.to t last h.1 (kept_next n s names c x h.0 k) in
+    let here : (rows : List Row) → rows_at_pass x ≡ rows → AllByRecursion (λ row. IsNamed x.names row.stood.place) rows → AllByRecursion (λ row. IsNamed x.names row.stood.place) (rows_at_pass x) = λ rows e all. subst (AllByRecursion (λ row. IsNamed x.names row.stood.place)) (sym e) all in
+    elim (effect_of x h.0.effect) [
+      | inl holds ↦ (here [] holds.silent tt, rest)
+      | inr goes ↦ (here (rows_of_next x.number (next_live x.before goes.at)) goes.tells (named_next x.number x.before x.names goes.at (next_live x.before goes.at) h.0.sound now.named refl), rest)
+    ]

@@ -1,0 +1,9 @@
+use Rattle.std.proofs.Common.{ap, ◌∙◌}
+use Rattle.krb_walk.specs.Store.{is_place}
+use Rattle.krb_walk.proofs.Places.{place_first}
+use Rattle.krb_walk.proofs.session.Session.start.Goals as goal
+
+pub begin-requires-clause-at_place : goal.begin-requires-clause-at_place
+begin-requires-clause-at_place g c =
+    let seen = g.P.Placed.rules.seen in
+    ap (is_place (seen c.args.self.now.store)) (c.first-first.ensures.first ∙ ap (λ (s : g.row.P.Denot). (seen s).first) c.store.ensures) ∙ place_first (seen c.args.self.now.store)

@@ -1,0 +1,45 @@
+-- How a store changes: one cell becomes another of its size, or one is put at the end.
+use Rattle.std.specs.Prelude.{◌≡◌, ℕ, ◌<◌, ◌⊎◌, List, [], ◌∷◌, ◌++◌, Some, None}
+use Rattle.krb_walk.specs.Store.{Cell, Store, end_from, end_of}
+
+-- one cell, at a place, becomes another; all else stays
+pub record OneCell (old new : Store) (p : ℕ) (was is : Cell) : Type 0 where
+  pub before : List Cell
+  pub after : List Cell
+  pub place : p ≡ end_from old.first before
+  pub old_cells : old.cells ≡ before ++ was ∷ after
+  pub new_cells : new.cells ≡ before ++ is ∷ after
+  pub first : new.first ≡ old.first
+  pub fault : new.fault ≡ old.fault
+
+-- a free cell becomes a live one of its width
+pub record Fills (old new : Store) (p : ℕ) : Type 0 where
+  pub width : ℕ
+  pub bytes : List ℕ
+  pub cell : OneCell old new p (record { width = width; live = None }) (record { width = width; live = Some bytes })
+
+-- a live cell becomes a free one of its width
+pub record Frees (old new : Store) (p : ℕ) : Type 0 where
+  pub width : ℕ
+  pub bytes : List ℕ
+  pub cell : OneCell old new p (record { width = width; live = Some bytes }) (record { width = width; live = None })
+
+-- a live cell is put at the end place
+pub record Appends (old new : Store) (p : ℕ) : Type 0 where
+  pub width : ℕ
+  pub bytes : List ℕ
+  pub some_width : 0 < width
+  pub place : p ≡ end_of old
+  pub cells : new.cells ≡ old.cells ++ record { width = width; live = Some bytes } ∷ []
+  pub first : new.first ≡ old.first
+  pub fault : new.fault ≡ old.fault
+
+-- an accepted addition: the store has no fault, and a free cell takes the record, or it is appended
+pub record Puts (old new : Store) (p : ℕ) : Type 0 where
+  pub whole : old.fault ≡ None
+  pub how : Fills old new p ⊎ Appends old new p
+
+-- an accepted removal: the store has no fault, and the live cell at the place is freed
+pub record Cuts (old new : Store) (p : ℕ) : Type 0 where
+  pub whole : old.fault ≡ None
+  pub how : Frees old new p

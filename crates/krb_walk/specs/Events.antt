@@ -1,0 +1,112 @@
+-- What each event is answered, and what it leaves.
+use Rattle.std.specs.Prelude.{ℕ, cond, ◌&&◌, nat_lt, List, [], ◌∷◌, ◌++◌, length, Option, Some, None, Result, Ok, Err, slice_get, slice_set}
+use Rattle.krb_walk.specs.declared.event.Event.{Event}
+use Rattle.krb_walk.specs.declared.event.Event.TheVariants.{Start, Resume, Step, Put, Cut}
+use Rattle.krb_walk.specs.declared.fault.FaultKind.{FaultKind}
+use Rattle.krb_walk.specs.declared.refusal.Code.{Code}
+use Rattle.krb_walk.specs.declared.refusal.Code.TheVariants.{NotAPlace, NoSuchWalk, TooManyWalks}
+use Rattle.krb_walk.specs.Store.{Store, Record, end_of, is_place, next_live}
+use Rattle.krb_walk.specs.Said.{Said, Started, Gave, Ended, Faulted, Placed, Gone, Refused}
+use Rattle.krb_walk.specs.Rules.{Rules}
+
+-- a store, and the cursor of each walk
+pub record State (S : Type 0) : Type 0 where
+  pub store : S
+  pub cursors : List ℕ
+
+-- ---- Start and Resume: a new walk stands at a place; up to 1,024 walks stand
+
+-- the reply to Start, where p is the first place
+abbrev pub start_said : List ℕ → ℕ → Said
+start_said cursors p = cond (nat_lt (length cursors) 1024) (Started (length cursors) p) (Refused TooManyWalks)
+
+-- the cursors after Start
+abbrev pub start_cursors : List ℕ → ℕ → List ℕ
+start_cursors cursors p = cond (nat_lt (length cursors) 1024) (cursors ++ p ∷ []) cursors
+
+-- the reply to Resume at p
+abbrev pub resume_said : Store → List ℕ → ℕ → Said
+resume_said s cursors p = cond (nat_lt (length cursors) 1024) (cond (is_place s p) (Started (length cursors) p) (Refused NotAPlace)) (Refused TooManyWalks)
+
+-- the cursors after Resume at p
+abbrev pub resume_cursors : Store → List ℕ → ℕ → List ℕ
+resume_cursors s cursors p = cond (nat_lt (length cursors) 1024 && is_place s p) (cursors ++ p ∷ []) cursors
+
+-- ---- Step: the cursor goes past the next live cell; where there is none, to the end place
+
+-- the reply where no live cell is left
+abbrev pub end_said : ℕ → ℕ → Option FaultKind → Said
+end_said w end None = Ended w end
+end_said w end (Some kind) = Faulted w (record { place = end; kind = kind })
+
+-- the reply to a step that finds a live cell, or none
+abbrev pub stop_said : Store → ℕ → Option Record → Said
+stop_said s w (Some r) = Gave w r.place r.next r.bytes
+stop_said s w None = end_said w (end_of s) s.fault
+
+-- where the cursor then stands
+abbrev pub stop_cursor : ℕ → Option Record → ℕ
+stop_cursor end (Some r) = r.next
+stop_cursor end None = end
+
+-- the reply to a step of walk w, which stands at a place, or is no walk
+abbrev pub step_said : Store → ℕ → Option ℕ → Said
+step_said s w None = Refused NoSuchWalk
+step_said s w (Some c) = stop_said s w (next_live s c)
+
+-- the cursors after it
+abbrev pub step_cursors : Store → List ℕ → ℕ → Option ℕ → List ℕ
+step_cursors s cursors w None = cursors
+step_cursors s cursors w (Some c) = slice_set cursors w (stop_cursor (end_of s) (next_live s c))
+
+-- ---- Put and Cut: what the store's rules give
+
+-- the reply to Put
+abbrev pub put_said : {S : Type 0} → Result (ℕ × S) Code → Said
+put_said (Ok given) = Placed given.0
+put_said (Err code) = Refused code
+
+-- the store after Put
+abbrev pub put_store : {S : Type 0} → S → Result (ℕ × S) Code → S
+put_store old (Ok given) = given.1
+put_store old (Err code) = old
+
+-- the reply to Cut at p
+abbrev pub cut_said : {S : Type 0} → ℕ → Result S Code → Said
+cut_said p (Ok new) = Gone p
+cut_said p (Err code) = Refused code
+
+-- the store after Cut
+abbrev pub cut_store : {S : Type 0} → S → Result S Code → S
+cut_store old (Ok new) = new
+cut_store old (Err code) = old
+
+-- ---- the whole table
+
+-- the reply to an event
+abbrev pub reply_to : {S I : Type 0} → Rules S I → State S → Event I → Said
+reply_to r s Start = start_said s.cursors (r.seen s.store).first
+reply_to r s (Resume p) = resume_said (r.seen s.store) s.cursors p
+reply_to r s (Step w) = step_said (r.seen s.store) w (slice_get s.cursors w)
+reply_to r s (Put item) = put_said (r.put s.store item)
+reply_to r s (Cut p) = cut_said p (r.cut s.store p)
+
+-- the store after an event
+abbrev pub store_after : {S I : Type 0} → Rules S I → State S → Event I → S
+store_after r s Start = s.store
+store_after r s (Resume p) = s.store
+store_after r s (Step w) = s.store
+store_after r s (Put item) = put_store s.store (r.put s.store item)
+store_after r s (Cut p) = cut_store s.store (r.cut s.store p)
+
+-- the cursors after an event
+abbrev pub cursors_after : {S I : Type 0} → Rules S I → State S → Event I → List ℕ
+cursors_after r s Start = start_cursors s.cursors (r.seen s.store).first
+cursors_after r s (Resume p) = resume_cursors (r.seen s.store) s.cursors p
+cursors_after r s (Step w) = step_cursors (r.seen s.store) s.cursors w (slice_get s.cursors w)
+cursors_after r s (Put item) = s.cursors
+cursors_after r s (Cut p) = s.cursors
+
+-- the state after an event
+abbrev pub after : {S I : Type 0} → Rules S I → State S → Event I → State S
+after r s e = record { store = store_after r s e; cursors = cursors_after r s e }

@@ -1,0 +1,92 @@
+-- Histories: events one after the other, each with its reply.
+use Rattle.std.specs.Prelude.{◌≡◌, ℕ, suc, cond, ◌==◌, List, [], ◌∷◌, ◌++◌, map, Some, slice_get}
+use Rattle.krb_walk.specs.declared.event.Event.{Event}
+use Rattle.krb_walk.specs.declared.event.Event.TheVariants.{Step, Put, Cut}
+use Rattle.krb_walk.specs.Store.{Store, Record, IsPlace, IsSound}
+use Rattle.krb_walk.specs.Changes.{Puts, Cuts}
+use Rattle.krb_walk.specs.Said.{Said, Gave, Placed, Gone}
+use Rattle.krb_walk.specs.Rules.{Rules}
+use Rattle.krb_walk.specs.Events.{State, reply_to, after}
+
+-- an event with its reply, between two states
+pub record Moment (S I : Type 0) : Type 0 where
+  pub before : State S
+  pub event : Event I
+  pub reply : Said
+  pub after : State S
+
+-- the moment of an event in a state
+abbrev pub moment : {S I : Type 0} → Rules S I → State S → Event I → Moment S I
+moment r s e = record { before = s; event = e; reply = reply_to r s e; after = after r s e }
+
+-- the history of events from a state
+abbrev pub history : {S I : Type 0} → Rules S I → State S → List (Event I) → List (Moment S I)
+history r s [] = []
+history r s (e ∷ es) = moment r s e ∷ history r (after r s e) es
+
+-- the replies of a history
+abbrev pub replies : {S I : Type 0} → List (Moment S I) → List Said
+replies h = map (λ m. m.reply) h
+
+-- the state after events
+abbrev pub state_after : {S I : Type 0} → Rules S I → State S → List (Event I) → State S
+state_after r s [] = s
+state_after r s (e ∷ es) = state_after r (after r s e) es
+
+-- an event with this reply changes the store by one cell, or leaves it
+abbrev pub Changes : {I : Type 0} → Event I → Said → Store → Store → Type 0
+Changes (Put item) (Placed p) old new = Puts old new p
+Changes (Cut q) (Gone p) old new = Cuts old new q
+Changes e said old new = new ≡ old
+
+-- a moment at which the store changes as it may
+abbrev pub IsLawful : {S I : Type 0} → Rules S I → Moment S I → Type 0
+IsLawful r m = Changes m.event m.reply (r.seen m.before.store) (r.seen m.after.store)
+
+-- a history in which it does so at each moment
+abbrev pub AllLawful : {S I : Type 0} → Rules S I → List (Moment S I) → Type 0
+AllLawful r [] = Unit {0}
+AllLawful r (m ∷ ms) = IsLawful r m × AllLawful r ms
+
+-- the cells take up places, and each cursor is a place of the store
+pub record IsReady {S I : Type 0} (r : Rules S I) (s : State S) : Type 0 where
+  pub sound : IsSound (r.seen s.store)
+  pub cursors : (w c : ℕ) → slice_get s.cursors w ≡ Some c → IsPlace (r.seen s.store) c
+
+-- a history that begins ready, and changes the store as it may
+pub record IsRun {S I : Type 0} (r : Rules S I) (s : State S) (events : List (Event I)) : Type 0 where
+  pub ready : IsReady r s
+  pub lawful : AllLawful r (history r s events)
+
+-- the store after events, as a store
+abbrev pub last_store : {S I : Type 0} → Rules S I → State S → List (Event I) → Store
+last_store r s events = r.seen (state_after r s events).store
+
+-- a row: the number of an event, and the record that stood there just before it
+pub record Row : Type 0 where
+  pub event : ℕ
+  pub stood : Record
+
+-- what the reply to event n gives to walk w
+abbrev pub rows_of_reply : ℕ → ℕ → Said → List Row
+rows_of_reply w n (Gave v p next bytes) = cond (v == w) (record { event = n; stood = record { place = p; next = next; bytes = bytes } } ∷ []) []
+rows_of_reply w n said = []
+
+-- what walk w is given by replies to events that are numbered from n
+abbrev pub given_from : {S I : Type 0} → ℕ → ℕ → List (Moment S I) → List Row
+given_from n w [] = []
+given_from n w (m ∷ ms) = rows_of_reply w n m.reply ++ given_from (suc n) w ms
+
+-- what a walk is given: a row for each reply Gave to it, the events numbered from 1
+abbrev pub given : {S I : Type 0} → ℕ → List (Moment S I) → List Row
+given w h = given_from 1 w h
+
+-- the reply to an event, if it is a step of walk w
+abbrev pub told_if_step : {I : Type 0} → ℕ → Event I → Said → List Said
+told_if_step w (Step v) said = cond (v == w) (said ∷ []) []
+told_if_step w e said = []
+
+-- the replies to the steps of walk w
+abbrev pub told_to_steps : {S I : Type 0} → ℕ → List (Moment S I) → List Said
+told_to_steps w [] = []
+told_to_steps w (m ∷ ms) = told_if_step w m.event m.reply ++ told_to_steps w ms

@@ -1,0 +1,30 @@
+-- What a store gives for an addition and a removal, where no memory is wanting.
+use Rattle.std.specs.Prelude.{◌≡◌, ℕ, Bool, Result, Ok, Err}
+use Rattle.krb_walk.specs.declared.refusal.Code.{Code}
+use Rattle.krb_walk.specs.declared.refusal.Refusal.{Refusal}
+use Rattle.krb_walk.specs.declared.refusal.Refusal.TheVariants.{Code as ByCode, NoMemory}
+use Rattle.krb_walk.specs.Store.{Store}
+
+-- how stores of type S, which take items of type I, are seen, and what a change gives: the place and the new store, or the code of a refusal
+pub record Rules (S I : Type 0) : Type 0 where
+  pub seen : S → Store
+  pub put : S → I → Result (ℕ × S) Code
+  pub cut : S → ℕ → Result S Code
+  -- whether an addition takes no memory
+  pub takes_none : S → I → Bool
+
+-- an addition answered as the rules have it; want of memory leaves the store
+abbrev pub PutGives : {S : Type 0} → Result (ℕ × S) Code → S → Result ℕ Refusal → S → Type 0
+PutGives given old (Ok place) new = given ≡ Ok (place, new)
+PutGives given old (Err (ByCode code)) new = (given ≡ Err code) × (new ≡ old)
+PutGives given old (Err NoMemory) new = new ≡ old
+
+-- a removal answered as the rules have it
+abbrev pub CutGives : {S : Type 0} → Result S Code → S → Result (Unit {0}) Code → S → Type 0
+CutGives given old (Ok done) new = given ≡ Ok new
+CutGives given old (Err code) new = (given ≡ Err code) × (new ≡ old)
+
+-- an addition that is not answered want of memory
+abbrev pub IsNotWanting : Result ℕ Refusal → Type 0
+IsNotWanting (Err NoMemory) = ⊥
+IsNotWanting result = Unit {0}

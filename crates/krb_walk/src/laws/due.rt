@@ -1,0 +1,49 @@
+//! What a walk is given is what is due to it.
+
+ghost use Rattle.std.specs.Prelude.{◌≡◌, ℕ, ◌≤◌, List, filter, length, slice_get, Option};
+ghost use Rattle.krb_walk.specs.declared.event.Event.{Event};
+ghost use Rattle.krb_walk.specs.Store.{Store};
+ghost use Rattle.krb_walk.specs.Events.{State};
+ghost use Rattle.krb_walk.specs.History.{IsRun, history, last_store, given};
+ghost use Rattle.krb_walk.specs.Track.{Track, track_of, passes, IsWalk};
+ghost use Rattle.krb_walk.specs.Due.{given_over, due_over, due_by_steps};
+ghost use Rattle.krb_walk.specs.Fair.{IsFair};
+
+use crate::placed::Placed;
+
+/// What a walk is given is due to it: for each place of the last store, in order, the record that stood
+/// there just before the event at which the walk passed it.
+pub fn given_is_due<P: Placed>()
+    ensures { (s : State P) (events : List (Event P.Item)) (w : ℕ) → IsRun P.rules s events
+        → given w (history P.rules s events) ≡ due_over (track_of P.rules s events w) (last_store P.rules s events) }
+{}
+
+/// The same, step by step: each step gives the live cells that its cursor goes past. This speaks of no
+/// last store, so it is the form that holds where places change between steps.
+pub fn given_is_due_by_steps<P: Placed>()
+    ensures { (s : State P) (events : List (Event P.Item)) (w : ℕ) → IsRun P.rules s events
+        → given w (history P.rules s events) ≡ due_by_steps (track_of P.rules s events w) }
+{}
+
+/// A walk passes a place at most once.
+pub fn a_turn_is_unique<P: Placed>()
+    ensures { (s : State P) (events : List (Event P.Item)) (w p : ℕ) → IsRun P.rules s events
+        → length (filter (passes p) (track_of P.rules s events w)) ≤ 1 }
+{}
+
+/// The rows along a walk's track are those that the replies give.
+pub fn tracks_tell_the_replies<P: Placed>()
+    ensures { (s : State P) (events : List (Event P.Item)) (w : ℕ)
+        → given_over (track_of P.rules s events w) ≡ given w (history P.rules s events) }
+{}
+
+/// The track of a walk over a run is that of one walk.
+pub fn runs_are_walks<P: Placed>()
+    ensures { (s : State P) (events : List (Event P.Item)) (w : ℕ) → IsRun P.rules s events
+        → IsWalk (P.rules.seen s.store) (slice_get s.cursors w) (track_of P.rules s events w) (last_store P.rules s events) }
+{}
+
+/// All that holds of a walk, over one run or over any number of runs that join.
+pub fn walks_are_fair()
+    ensures { (first : Store) (start : Option ℕ) (t : Track) (last : Store) → IsWalk first start t last → IsFair t last }
+{}

@@ -1,0 +1,57 @@
+//! What a session asks of a store.
+
+ghost use Rattle.std.specs.Prelude.{◌≡◌, true, IsSome, IfOk, OnOk, Some};
+ghost use Rattle.krb_walk.specs.Store.{IsPlace, IsSound, end_of, fault_of, is_place, live_bytes, stop_at};
+ghost use Rattle.krb_walk.specs.Changes.{Cuts, Puts};
+ghost use Rattle.krb_walk.specs.Rules.{Rules, PutGives, CutGives, IsNotWanting};
+
+use crate::fault::Fault;
+use crate::refusal::{Code, Refusal};
+use crate::stop::Stop;
+
+/// A list of cells, each live or free, that touch one another from `first()` to `end()`. A place is
+/// the number of bytes, or of whatever the store counts, before a cell.
+pub trait Placed {
+    /// What is added to it.
+    type Item;
+
+    /// What it is as a store, and what its additions and removals give.
+    ghost rules: { Rules Self Self.Item };
+
+    fn first(&self) -> u32
+        ensures first { result ≡ (rules.seen self.now).first }
+        ensures sound { IsSound (rules.seen self.now) };
+
+    /// The end place of the cells before the fault, if there is one.
+    fn end(&self) -> u32
+        ensures { result ≡ end_of (rules.seen self.now) };
+
+    /// Stands at `end()`.
+    fn fault(&self) -> Option<Fault>
+        ensures { result ≡ fault_of (rules.seen self.now) };
+
+    /// Whether a number is the place of a cell, live or free, or `end()`.
+    fn is_place(&self, place: u32) -> bool
+        ensures { result ≡ is_place (rules.seen self.now) place };
+
+    /// The first live cell at or after a place; where there is none, the fault, or else the end.
+    fn stop_at(&self, place: u32) -> Stop
+        requires { IsPlace (rules.seen self.now) place }
+        ensures { result ≡ stop_at (rules.seen self.now) place };
+
+    /// The bytes of the live cell at a place.
+    fn bytes_at(&self, place: u32) -> &[u8]
+        requires { IsSome (live_bytes (rules.seen self.now) place) }
+        ensures { live_bytes (rules.seen self.now) place ≡ Some result.now };
+
+    /// Adds a record, and answers its place. One cell changes: a free one takes it, or it is appended.
+    fn put(&mut self, item: &Self::Item) -> Result<u32, Refusal>
+        ensures gives { PutGives (rules.put self.old item.now) self.old result self.new }
+        ensures puts { IfOk result (Puts (rules.seen self.old) (rules.seen self.new)) }
+        ensures memory { rules.takes_none self.old item.now ≡ true → IsNotWanting result };
+
+    /// Frees the live cell at a place. Takes no memory.
+    fn cut(&mut self, place: u32) -> Result<(), Code>
+        ensures gives { CutGives (rules.cut self.old place) self.old result self.new }
+        ensures cuts { OnOk result (Cuts (rules.seen self.old) (rules.seen self.new) place) };
+}

@@ -1,0 +1,190 @@
+//! The events of a session, one at a time and in a run.
+
+ghost use Rattle.std.specs.Prelude.{◌≡◌, ◌<◌, ◌++◌, ◌∷◌, [], false, length, map, IfOk, OnOk, OnErr, IsOk};
+ghost use Rattle.krb_walk.specs.declared.event.Event.TheVariants.{Start, Resume, Step, Put, Cut};
+ghost use Rattle.krb_walk.specs.Store.{IsPlace, next_live, stop_at};
+ghost use Rattle.krb_walk.specs.Said.{said, Started, is_gave};
+ghost use Rattle.krb_walk.specs.Events.{reply_to, after, stop_said};
+ghost use Rattle.krb_walk.specs.History.{IsLawful, IsReady, moment};
+ghost use Rattle.krb_walk.specs.Kept.{TakesNone};
+ghost use Rattle.krb_walk.specs.Ran.{Ran, RanSome};
+
+use super::{Session, stop_from};
+use crate::event::{Event, Reply};
+use crate::placed::Placed;
+use crate::refusal::{Code, Refusal};
+use crate::stop::Stop;
+use krb_wire::NoMemory;
+use std::alloc::Allocator;
+
+/// How many walks a session holds at most.
+const MOST_WALKS: u32 = 1024;
+
+impl<P: Placed, A: Allocator + Copy> Session<P, A> {
+    /// Applies an event. Memory is taken only for the bytes of `Gave`, and by an addition whose store
+    /// grows.
+    pub fn apply(&mut self, event: &Event<P::Item>) -> Result<Reply<A>, NoMemory>
+        ensures ran { IfOk result (λ r. Ran P.rules self.old self.new (event.now ∷ []) [] (said r ∷ [])) }
+        ensures memory { TakesNone P.rules self.old event.now → IsOk result }
+        ensures err { OnErr result (self.new ≡ self.old) }
+    {
+        self.answer(event)
+    }
+
+    /// Applies events in order, and appends the reply to each. The room for a reply is taken before its
+    /// event is applied: after `NoMemory` the replies to the events before it are kept, and the state is
+    /// the one after them.
+    pub fn run(
+        &mut self,
+        events: &[Event<P::Item>],
+        replies: &mut Vec<Reply<A>, A>,
+    ) -> Result<(), NoMemory>
+        ensures ok { OnOk result (Ran P.rules self.old self.new events.now (map said replies.old.items) (map said replies.new.items)) }
+        ensures err { OnErr result (RanSome P.rules self.old self.new events.now (map said replies.old.items) (map said replies.new.items)) }
+    {
+        let _ = &self.count;
+        for event in events {
+            let Ok(()) = replies.reserve(1) else {
+                return Err(NoMemory);
+            };
+            let Ok(reply) = self.answer(event) else {
+                return Err(NoMemory);
+            };
+            replies.push_reserved(reply);
+        }
+        Ok(())
+    }
+
+    fn answer(&mut self, event: &Event<P::Item>) -> Result<Reply<A>, NoMemory>
+        ensures reply { IfOk result (λ r. said r ≡ reply_to P.rules self.old event.now) }
+        ensures state { OnOk result (self.new ≡ after P.rules self.old event.now) }
+        ensures lawful { OnOk result (IsLawful P.rules (moment P.rules self.old event.now)) }
+        ensures ready { IsReady P.rules self.old }
+        ensures memory { TakesNone P.rules self.old event.now → IsOk result }
+        ensures err { OnErr result (self.new ≡ self.old) }
+    {
+        let _ = &self.count;
+        match event {
+            Event::Start => Ok(self.start()),
+            Event::Resume(place) => Ok(self.resume(*place)),
+            Event::Step(walk) => self.give(*walk),
+            Event::Put(item) => self.put(item),
+            Event::Cut(place) => Ok(self.cut(*place)),
+        }
+    }
+
+    /// A new walk from a place.
+    fn begin(&mut self, place: u32) -> Reply<A>
+        requires few { length self.old.cursors < 1024 }
+        requires at_place { IsPlace (P.rules.seen self.old.store) place }
+        ensures reply { said result ≡ Started (length self.old.cursors) place }
+        ensures state { self.new ≡ record { store = self.old.store; cursors = self.old.cursors ++ place ∷ [] } }
+    {
+        let walk = self.count;
+        self.cursors[walk as usize] = place;
+        self.count += 1;
+        Reply::Started { walk, next: place }
+    }
+
+    fn start(&mut self) -> Reply<A>
+        ensures reply { said result ≡ reply_to P.rules self.old Start }
+        ensures state { self.new ≡ after P.rules self.old Start }
+    {
+        if self.walks() >= MOST_WALKS {
+            return Reply::Refused(Code::TooManyWalks);
+        }
+        let first = self.store().first();
+        self.begin(first)
+    }
+
+    fn resume(&mut self, place: u32) -> Reply<A>
+        ensures reply { said result ≡ reply_to P.rules self.old (Resume place) }
+        ensures state { self.new ≡ after P.rules self.old (Resume place) }
+    {
+        if self.walks() >= MOST_WALKS {
+            return Reply::Refused(Code::TooManyWalks);
+        }
+        if !self.store().is_place(place) {
+            return Reply::Refused(Code::NotAPlace);
+        }
+        self.begin(place)
+    }
+
+    /// A step with the bytes of the record. They are copied before the cursor moves.
+    fn give(&mut self, walk: u32) -> Result<Reply<A>, NoMemory>
+        ensures reply { IfOk result (λ r. said r ≡ reply_to P.rules self.old (Step walk)) }
+        ensures state { OnOk result (self.new ≡ after P.rules self.old (Step walk)) }
+        ensures memory { TakesNone P.rules self.old (Step walk) → IsOk result }
+        ensures err { OnErr result (self.new ≡ self.old) }
+    {
+        let Some(cursor) = self.cursor(walk) else {
+            return Ok(Reply::Refused(Code::NoSuchWalk));
+        };
+        let (stop, next) = stop_from(&self.store, cursor);
+        let reply = tell(self.alloc, &self.store, walk, cursor, stop)?;
+        self.go_to(walk, next);
+        Ok(reply)
+    }
+
+    fn put(&mut self, item: &P::Item) -> Result<Reply<A>, NoMemory>
+        ensures reply { IfOk result (λ r. said r ≡ reply_to P.rules self.old (Put item.now)) }
+        ensures state { OnOk result (self.new ≡ after P.rules self.old (Put item.now)) }
+        ensures lawful { OnOk result (IsLawful P.rules (moment P.rules self.old (Put item.now))) }
+        ensures memory { TakesNone P.rules self.old (Put item.now) → IsOk result }
+        ensures err { OnErr result (self.new ≡ self.old) }
+    {
+        match self.store.put(item) {
+            Ok(place) => Ok(Reply::Placed(place)),
+            Err(Refusal::Code(code)) => Ok(Reply::Refused(code)),
+            Err(Refusal::NoMemory) => Err(NoMemory),
+        }
+    }
+
+    fn cut(&mut self, place: u32) -> Reply<A>
+        ensures reply { said result ≡ reply_to P.rules self.old (Cut place) }
+        ensures state { self.new ≡ after P.rules self.old (Cut place) }
+        ensures lawful { IsLawful P.rules (moment P.rules self.old (Cut place)) }
+    {
+        match self.store.cut(place) {
+            Ok(()) => Reply::Gone(place),
+            Err(code) => Reply::Refused(code),
+        }
+    }
+}
+
+fn copy_bytes<A: Allocator>(alloc: A, bytes: &[u8]) -> Result<Vec<u8, A>, NoMemory>
+    ensures { IfOk result (λ v. v.items ≡ bytes.now) }
+{
+    match bytes.to_vec(alloc) {
+        Ok(copy) => Ok(copy),
+        Err(_) => Err(NoMemory),
+    }
+}
+
+/// The reply of a walk that stands at a cursor and stops there.
+fn tell<P: Placed, A: Allocator>(
+    alloc: A,
+    store: &P,
+    walk: u32,
+    cursor: u32,
+    stop: Stop,
+) -> Result<Reply<A>, NoMemory>
+    requires { stop ≡ stop_at (P.rules.seen store.now) cursor }
+    ensures reply { IfOk result (λ r. said r ≡ stop_said (P.rules.seen store.now) walk (next_live (P.rules.seen store.now) cursor)) }
+    ensures memory { is_gave (stop_said (P.rules.seen store.now) walk (next_live (P.rules.seen store.now) cursor)) ≡ false → IsOk result }
+{
+    let _ = store.first();
+    match stop {
+        Stop::Live { place, next } => {
+            let bytes = copy_bytes(alloc, store.bytes_at(place))?;
+            Ok(Reply::Gave {
+                walk,
+                place,
+                next,
+                bytes,
+            })
+        }
+        Stop::End { next } => Ok(Reply::Ended { walk, next }),
+        Stop::Fault(fault) => Ok(Reply::Faulted { walk, fault }),
+    }
+}
