@@ -1,6 +1,7 @@
 pub mod Fields
 pub mod ComponentLists
 pub mod Places
+pub mod SpliceLemmas
 pub mod Principals
 pub mod WidthLemmas
 pub mod TextLemmas

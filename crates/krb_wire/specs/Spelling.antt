@@ -65,7 +65,7 @@ pub record FitsKt (f : KtFormat) (p : Parts) : Type 0 where
   pub components : AllByRecursion IsShort p.components
   pub name_type : HasNameType f p.name_type
 
--- what can be written: all but the name type, which version 1 leaves out
+-- what can be written: the lengths and the count fit their fields of sixteen bits; version 1 leaves the name type out
 pub record HasSpelling (f : KtFormat) (p : Parts) : Type 0 where
   pub count : count_field f (length p.components) < 2 ^ 16
   pub realm : IsShort p.realm

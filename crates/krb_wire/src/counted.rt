@@ -1,11 +1,12 @@
 //! Counted data: a 16-bit length, and that many bytes.
 
 ghost use Rattle.std.specs.Prelude.{◌≡◌, ◌≤◌, ◌+◌, ◌++◌, ℕ, List, length, drop, IfSome, Some};
+ghost use Rattle.std.specs.List.{splice};
 ghost use Rattle.krb_wire.specs.Spelling.{data16, IsShort, Stands};
 ghost use Rattle.krb_wire.specs.Reading.{Gives, ReadsAt, data16_at};
 
 use crate::format::Order;
-use crate::numbers::split_u16;
+use crate::numbers::{put_u16, split_u16};
 
 /// The counted data at the front, without its length, and the bytes after it.
 #[tactic(auto, unfolding(crate::specs::Reading::data16_at))]
@@ -51,4 +52,26 @@ pub fn read_data16(order: Order, bytes: &[u8], at: usize) -> Option<(&[u8], usiz
     ensures exact { ReadsAt (λ v. v.now) bytes.now result (data16_at order (drop at bytes.now)) }
 {
     data16_from(order, bytes, at)
+}
+
+// Writes bytes at a place; the answer is the place after them.
+fn put_bytes(bytes: &[u8], out: &mut [u8], at: usize) -> usize
+    requires { at + length bytes.now ≤ length out.old }
+    ensures next { result ≡ at + length bytes.now }
+    ensures written { out.new ≡ splice out.old at result bytes.now }
+{
+    let next = at + bytes.len();
+    out[at..next].copy_from_slice(bytes);
+    next
+}
+
+/// Writes counted data at a place, its length first; the answer is the place after it.
+pub fn put_data16(order: Order, text: &[u8], out: &mut [u8], at: usize) -> usize
+    requires short { IsShort text.now }
+    requires room { at + length (data16 order text.now) ≤ length out.old }
+    ensures next { result ≡ at + length (data16 order text.now) }
+    ensures written { out.new ≡ splice out.old at result (data16 order text.now) }
+{
+    let next = put_u16(order, text.len() as u16, out, at);
+    put_bytes(text, out, next)
 }

@@ -1,5 +1,5 @@
-//! Names, counted data and numbers of Kerberos files, read from bytes without taking memory, and
-//! names as text.
+//! Names, counted data and numbers of Kerberos files, read from bytes and written over them without
+//! taking memory, and names as text.
 #![tactic(auto)]
 
 mod atom;
@@ -16,22 +16,24 @@ mod numbers;
 mod parse;
 mod principal;
 mod same;
+mod spelling;
 mod text;
 mod view;
 
 pub use components::Components;
 pub use copy::copy_name;
-pub use counted::{read_data16, split_data16, tail};
+pub use counted::{put_data16, read_data16, split_data16, tail};
 pub use format::{KtFormat, Order};
 pub use laws::texts_name_their_names;
 pub use limits::Limits;
 pub use memory::NoMemory;
 pub use name::Name;
 pub use name_fault::NameFault;
-pub use numbers::{read_u16, read_u32, split_u8, split_u16, split_u32};
+pub use numbers::{put_u8, put_u16, put_u32, read_u16, read_u32, split_u8, split_u16, split_u32};
 pub use parse::parse_name;
 pub use principal::Principal;
 pub use same::same_name;
+pub use spelling::{kt_principal_len, put_kt_principal};
 pub use text::write_name;
 pub use view::{PrincipalView, read_kt_principal, split_kt_principal};
 

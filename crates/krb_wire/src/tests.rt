@@ -1,4 +1,5 @@
 mod growths;
+mod spelled;
 
 use crate::{
     KtFormat, Name, Principal, copy_name, parse_name, read_kt_principal, same_name, write_name,
