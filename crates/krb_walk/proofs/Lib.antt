@@ -1,6 +1,7 @@
 pub mod Stops
 pub mod Lists
 pub mod Cells
+pub mod Splits
 pub mod Places
 pub mod Effects
 pub mod Table

@@ -14,6 +14,7 @@ use Rattle.krb_walk.specs.History.{IsReady, IsLawful, AllLawful, Changes, moment
 use Rattle.krb_walk.specs.Track.{AnswersStep}
 use Rattle.krb_walk.specs.Cursors.{size_at}
 use Rattle.krb_walk.proofs.Lists.{get-set_other}
+use Rattle.krb_walk.proofs.Splits.{end_from-append}
 use Rattle.krb_walk.proofs.Places.{Extends, place_kept, stop_forward, widths}
 use Rattle.krb_walk.proofs.Effects.{effect, own_step, ready_after, history_extends, get_push_cond}
 
@@ -84,19 +85,15 @@ pub sizes_kept : {S I : Type 0} (r : Rules S I) (s : State S) (es : List (Event 
 sizes_kept r s es p n h is = size_kept _ _ p n (history_extends r s es h) is
 
 -- what is appended stands at the old end
-end_append : (at : ℕ) (xs ys : List Cell) → end_from at (xs ++ ys) ≡ end_from (end_from at xs) ys
-end_append at [] ys = refl
-end_append at (x ∷ xs) ys = end_append (at + x.width) xs ys
-
 fills_end : (old new : Store) (p : ℕ) → Fills old new p → end_of new ≡ end_of old
 fills_end old new p f =
     let one = f.cell in
-    ap (λ (at : ℕ). end_from at new.cells) one.first ∙ ap (end_from old.first) one.new_cells ∙ end_append old.first one.before (record { width = f.width; live = Some f.bytes } ∷ one.after)
-    ∙ sym (ap (end_from old.first) one.old_cells ∙ end_append old.first one.before (record { width = f.width; live = None } ∷ one.after))
+    ap (λ (at : ℕ). end_from at new.cells) one.first ∙ ap (end_from old.first) one.new_cells ∙ end_from-append old.first one.before (record { width = f.width; live = Some f.bytes } ∷ one.after)
+    ∙ sym (ap (end_from old.first) one.old_cells ∙ end_from-append old.first one.before (record { width = f.width; live = None } ∷ one.after))
 
 appends_end : (old new : Store) (p : ℕ) → Appends old new p → end_of old < end_of new
 appends_end old new p a =
-    let e = ap (λ (at : ℕ). end_from at new.cells) a.first ∙ ap (end_from old.first) a.cells ∙ end_append old.first old.cells (record { width = a.width; live = Some a.bytes } ∷ []) in
+    let e = ap (λ (at : ℕ). end_from at new.cells) a.first ∙ ap (end_from old.first) a.cells ∙ end_from-append old.first old.cells (record { width = a.width; live = Some a.bytes } ∷ []) in
     omega (arith, e, a.some_width)
 
 pub put_place : {S I : Type 0} (r : Rules S I) (s : State S) (item : I) (p : ℕ) → IsLawful r (moment r s (Put item)) → reply_to r s (Put item) ≡ Placed p

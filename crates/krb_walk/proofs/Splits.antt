@@ -1,0 +1,112 @@
+-- Cells that are split at a place, and where a walk stops: what whoever implements Placed wants to prove.
+use Rattle.std.proofs.Common.{◌≡◌, ℕ, ◌+◌, ◌<◌, ◌≤◌, Bool, true, false, List, [], ◌∷◌, ◌++◌, Option, Some, None, refl, sym, ap, ◌∙◌, arith}
+use Rattle.std.specs.Prelude.{◌&&◌, ◌==◌, nat_le, is_some}
+use Rattle.std.specs.List.{AllByRecursion}
+use Rattle.std.proofs.lemmas.Bool.Decides.{nat_tests}
+use Rattle.krb_walk.specs.declared.fault.FaultKind.{FaultKind}
+use Rattle.krb_walk.specs.declared.fault.Fault.{Fault}
+use Rattle.krb_walk.specs.declared.stop.Stop.TheVariants.{End, Fault as AtFault}
+use Rattle.krb_walk.specs.Store.{Cell, Store, end_from, end_of, is_place_from, bytes_of_some, next_live, fault_from, fault_of, end_stop, stop_of, stop_at}
+use Rattle.krb_walk.proofs.Stops.{next_from, bytes_from, next_skips, end_from-ge, is_place_from-first, is_place_from-cons}
+use Rattle.krb_walk.proofs.Cells.{find_head, find_tail}
+
+-- ---- from a split
+
+-- the place after cells and more cells
+pub end_from-append : (at : ℕ) (before after : List Cell) → end_from at (before ++ after) ≡ end_from (end_from at before) after
+end_from-append at [] after = refl
+end_from-append at (c ∷ before) after = end_from-append (at + c.width) before after
+
+-- the place where cells are split is one
+pub split_is_place : (at : ℕ) (before after : List Cell) → is_place_from at (before ++ after) (end_from at before) ≡ true
+split_is_place at [] after = is_place_from-first at after
+split_is_place at (c ∷ before) after = is_place_from-cons at c.width (end_from (at + c.width) before) c.live (before ++ after) (split_is_place (at + c.width) before after)
+
+-- a stop at or after that place passes the cells before it
+pub next_ahead : (at p : ℕ) (before after : List Cell) → AllByRecursion (λ c. 0 < c.width) before → end_from at before ≤ p → next_from at (before ++ after) p ≡ next_from (end_from at before) after p
+next_ahead at p [] after sound le = refl
+next_ahead at p (c ∷ before) after sound le =
+    let ge = end_from-ge (at + c.width) before in
+    let some = sound.0 in
+    let behind : at < p = omega (arith, ge, some, le) in
+    let skip : (nat_le p at && is_some c.live) ≡ false = grind (arith, nat_tests) in
+    next_skips at p c.width c.live (before ++ after) skip ∙ next_ahead (at + c.width) p before after sound.1 le
+
+-- so does what looks for bytes
+pub bytes_ahead : (at p : ℕ) (before after : List Cell) → AllByRecursion (λ c. 0 < c.width) before → end_from at before ≤ p → bytes_from at (before ++ after) p ≡ bytes_from (end_from at before) after p
+bytes_ahead at p [] after sound le = refl
+bytes_ahead at p (c ∷ before) after sound le =
+    let ge = end_from-ge (at + c.width) before in
+    let some = sound.0 in
+    ap bytes_of_some (find_tail at c.width p c.live (before ++ after) (omega (arith, ge, some, le))) ∙ bytes_ahead (at + c.width) p before after sound.1 le
+
+bytes_of_cell : (at w : ℕ) (live : Option (List ℕ)) (cells : List Cell) → bytes_from at (record { width = w; live = live } ∷ cells) at ≡ live
+bytes_of_cell at w None cells = ap bytes_of_some (find_head at w None cells)
+bytes_of_cell at w (Some bytes) cells = ap bytes_of_some (find_head at w (Some bytes) cells)
+
+-- the bytes at that place are those of the cell there
+pub bytes_here : (at w : ℕ) (live : Option (List ℕ)) (before after : List Cell) → AllByRecursion (λ c. 0 < c.width) before → bytes_from at (before ++ record { width = w; live = live } ∷ after) (end_from at before) ≡ live
+bytes_here at w live before after sound =
+    bytes_ahead at (end_from at before) before (record { width = w; live = live } ∷ after) sound (omega arith) ∙ bytes_of_cell (end_from at before) w live after
+
+-- ---- to a split
+
+-- cells that are split at p
+pub record Splits (at : ℕ) (cells : List Cell) (p : ℕ) : Type 0 where
+  pub before : List Cell
+  pub after : List Cell
+  pub place : p ≡ end_from at before
+  pub is : cells ≡ before ++ after
+
+splits_cons : (at w p : ℕ) (live : Option (List ℕ)) (cells : List Cell) (b : Bool) → (at == p) ≡ b → (is_place_from (at + w) cells p ≡ true → Splits (at + w) cells p) → is_place_from at (record { width = w; live = live } ∷ cells) p ≡ true → Splits at (record { width = w; live = live } ∷ cells) p
+splits_cons at w p live cells true e ih is = record { before = []; after = record { width = w; live = live } ∷ cells; place = grind (arith, nat_tests); is = refl }
+splits_cons at w p live cells false e ih is =
+    let rest = ih (rw e at is) in
+    record { before = record { width = w; live = live } ∷ rest.before; after = rest.after; place = rest.place; is = ap (λ (cs : List Cell). record { width = w; live = live } ∷ cs) rest.is }
+
+-- at each place they are
+pub place_splits : (at p : ℕ) (cells : List Cell) → is_place_from at cells p ≡ true → Splits at cells p
+place_splits at p [] is = record { before = []; after = []; place = grind (arith, nat_tests); is = refl }
+place_splits at p (c ∷ cells) is = splits_cons at c.width p c.live cells (at == p) refl (place_splits (at + c.width) p cells) is
+
+-- cells that are split before a live one at p
+pub record SplitsLive (at : ℕ) (cells : List Cell) (p : ℕ) (bytes : List ℕ) : Type 0 where
+  pub before : List Cell
+  pub width : ℕ
+  pub after : List Cell
+  pub place : p ≡ end_from at before
+  pub is : cells ≡ before ++ record { width = width; live = Some bytes } ∷ after
+
+live_splits_here : (at w p : ℕ) (live : Option (List ℕ)) (cells : List Cell) (bytes : List ℕ) → p ≡ at → live ≡ Some bytes → SplitsLive at (record { width = w; live = live } ∷ cells) p bytes
+live_splits_here at w p live cells bytes same is = record { before = []; width = w; after = cells; place = same; is = ap (λ (l : Option (List ℕ)). record { width = w; live = l } ∷ cells) is }
+
+live_splits_cons : (at w p : ℕ) (live : Option (List ℕ)) (cells : List Cell) (bytes : List ℕ) (b : Bool) → (at == p) ≡ b → (bytes_from (at + w) cells p ≡ Some bytes → SplitsLive (at + w) cells p bytes) → bytes_from at (record { width = w; live = live } ∷ cells) p ≡ Some bytes → SplitsLive at (record { width = w; live = live } ∷ cells) p bytes
+live_splits_cons at w p live cells bytes true e ih is =
+    let same : p ≡ at = grind (arith, nat_tests) in
+    live_splits_here at w p live cells bytes same (sym (bytes_of_cell at w live cells) ∙ sym (ap (bytes_from at (record { width = w; live = live } ∷ cells)) same) ∙ is)
+live_splits_cons at w p live cells bytes false e ih is =
+    let rest = ih (rw e at is) in
+    record { before = record { width = w; live = live } ∷ rest.before; width = rest.width; after = rest.after; place = rest.place; is = ap (λ (cs : List Cell). record { width = w; live = live } ∷ cs) rest.is }
+
+-- where bytes stand they are
+pub live_splits : (at p : ℕ) (cells : List Cell) (bytes : List ℕ) → bytes_from at cells p ≡ Some bytes → SplitsLive at cells p bytes
+live_splits at p [] bytes is = cc
+live_splits at p (c ∷ cells) bytes is = live_splits_cons at c.width p c.live cells bytes (at == p) refl (live_splits (at + c.width) p cells bytes) is
+
+-- ---- where a walk stops that finds no record
+
+no_fault : (end : ℕ) (kind : Option FaultKind) → fault_from end kind ≡ None → End end ≡ end_stop end kind
+no_fault end None e = refl
+no_fault end (Some kind) e = cc
+
+some_fault : (end : ℕ) (kind : Option FaultKind) (fault : Fault) → fault_from end kind ≡ Some fault → AtFault fault ≡ end_stop end kind
+some_fault end None fault e = cc
+some_fault end (Some kind) fault e = ap AtFault cc
+
+-- at the end place of a store without a fault
+pub stops_at_end : (s : Store) (p : ℕ) → next_live s p ≡ None → fault_of s ≡ None → End (end_of s) ≡ stop_at s p
+stops_at_end s p none whole = no_fault (end_of s) s.fault whole ∙ sym (ap (stop_of s) none)
+
+-- or at its fault
+pub stops_at_fault : (s : Store) (p : ℕ) (fault : Fault) → next_live s p ≡ None → fault_of s ≡ Some fault → AtFault fault ≡ stop_at s p
+stops_at_fault s p fault none damaged = some_fault (end_of s) s.fault fault damaged ∙ sym (ap (stop_of s) none)

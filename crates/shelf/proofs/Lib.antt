@@ -1,0 +1,4 @@
+pub mod Places
+pub mod Stops
+pub mod Changes
+pub mod Runs
