@@ -70,7 +70,7 @@ live_is_place (c ∷ cs) at p h = elim (eqb_tells p at) [
   | inr n ↦ let no = n.0 in rw no (live_is_place cs (at + 4 + size c) p (rw no at h))
 ]
 
-far : (cs : List Cell) (at : ℕ) → at ≤ end_place at cs
+pub far : (cs : List Cell) (at : ℕ) → at ≤ end_place at cs
 far [] at = omega arith
 far (c ∷ cs) at = let h = far cs (at + 4 + size c) in omega (arith, h)
 
@@ -82,7 +82,7 @@ stop_behind (Live b ∷ front) back at p e is =
     let before : ltb at p ≡ true = lt-ltb at p (omega (arith, far front (at + 4 + length b))) in
     rw before (stop_behind front back (at + 4 + length b) p e is)
 
-live_behind : (front back : List Cell) (at p : ℕ) → p ≡ end_place at front → live_at at (front ++ back) p ≡ live_at p back p
+pub live_behind : (front back : List Cell) (at p : ℕ) → p ≡ end_place at front → live_at at (front ++ back) p ≡ live_at p back p
 live_behind [] back at p is = ap (λ (n : ℕ). live_at n back p) (sym is)
 live_behind (c ∷ front) back at p is =
     let not_here : eqb p at ≡ false = ne_eqb p at (λ e. omega (arith, far front (at + 4 + size c))) in

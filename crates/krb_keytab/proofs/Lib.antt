@@ -1,7 +1,15 @@
+pub mod Splices
 pub mod Entries
 pub mod CellLemmas
 pub mod Steps
 pub mod Cuts
 pub mod KnownLemmas
 pub mod Stores
+pub mod Replaced
+pub mod Turned
+pub mod Appended
+pub mod Additions
+pub mod Removals
+pub mod StoreChanges
 pub mod LookUpLemmas
+pub mod WrittenLemmas

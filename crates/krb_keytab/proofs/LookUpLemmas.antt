@@ -20,12 +20,12 @@ use Rattle.krb_keytab.specs.LookUp.{Placed, have_same_name, is_asked, greatest, 
 
 -- ---- names
 
-same_bool : (a b : Bool) → (a ≡ true → b ≡ true) → (b ≡ true → a ≡ true) → a ≡ b
+pub same_bool : (a b : Bool) → (a ≡ true → b ≡ true) → (b ≡ true → a ≡ true) → a ≡ b
 same_bool true b to from = sym (to refl)
 same_bool false true to from = from refl
 same_bool false false to from = refl
 
-and_both : (a b : Bool) → (a && b) ≡ true → (a ≡ true) × (b ≡ true)
+pub and_both : (a b : Bool) → (a && b) ≡ true → (a ≡ true) × (b ≡ true)
 and_both true b e = (refl, e)
 and_both false b e = absurd cc
 

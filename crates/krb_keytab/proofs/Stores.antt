@@ -24,7 +24,7 @@ use Rattle.krb_keytab.specs.Store.{State, placed, store_of}
 use Rattle.krb_keytab.proofs.Cuts.{live_entry}
 
 -- four bytes of length and the bytes after it
-past : (at n : ℕ) → at + 4 + n ≡ at + (4 + n)
+pub past : (at n : ℕ) → at + 4 + n ≡ at + (4 + n)
 past at n = omega arith
 
 pub end_place-store : (at : ℕ) (cs : List Cell) → end_place at cs ≡ end_from at (map placed cs)

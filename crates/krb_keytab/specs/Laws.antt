@@ -1,8 +1,10 @@
 -- Laws of the definitions.
-use Rattle.std.specs.Prelude.{◌≡◌, ℕ, ◌<◌, List, ◌++◌, get_or}
+use Rattle.std.specs.Prelude.{◌≡◌, ℕ, ◌<◌, List, ◌++◌, replicate, get_or, IsTrue}
 use Rattle.std.specs.List.{flat_map, AllByRecursion}
 use Rattle.krb_wire.specs.declared.format.KtFormat.{KtFormat}
 use Rattle.krb_wire.specs.Spelling.{order_of}
+use Rattle.krb_keytab.specs.Entry.{EntryParts, Spells}
+use Rattle.krb_keytab.specs.Written.{fits, written, read_back, IsEntry}
 use Rattle.krb_keytab.specs.Cells.{Cell, Contents, cell, spelling, contents, IsCell, IsSound, IsSpelled}
 
 -- numbers below 256
@@ -21,3 +23,12 @@ IsLongest = (f : KtFormat) (cells : List Cell) (rest : List ℕ) → AllByRecurs
 -- sound contents are the only ones with their spelling
 abbrev pub IsOnlyOne : Type 0
 IsOnlyOne = (f : KtFormat) (k : Contents) → IsSound f k → AreBytes (spelling (order_of f) k) → contents f (spelling (order_of f) k) ≡ k
+
+-- the written form of an entry, also with zeros behind it, spells that entry and no other; in version 1 its name type is 0
+pub record IsReadBack (f : KtFormat) (e : EntryParts) (bytes : List ℕ) : Type 0 where
+  pub spelled : Spells f (read_back f e) bytes
+  pub only : (x : EntryParts) → Spells f x bytes → x ≡ read_back f e
+
+-- that is so of each entry whose numbers fit their types and whose lengths and counts fit their fields
+abbrev pub IsAlwaysReadBack : Type 0
+IsAlwaysReadBack = (f : KtFormat) (e : EntryParts) (zeros : ℕ) → IsEntry e → IsTrue (fits f e) → IsReadBack f e (written f e ++ replicate zeros 0)

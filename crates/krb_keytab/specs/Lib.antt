@@ -5,5 +5,11 @@ pub mod Seen
 pub mod Questions
 pub mod Known
 pub mod Store
-pub mod Laws
 pub mod LookUp
+pub mod Written
+pub mod Changes
+pub mod Holes
+pub mod Answers
+pub mod Walked
+pub mod Edited
+pub mod Laws

@@ -1,5 +1,5 @@
 -- What a keytab holds, and the store that it is.
-use Rattle.std.specs.Prelude.{◌≡◌, ℕ, ◌+◌, ◌≤◌, List, length, drop, map, slice_index, Option, Some, None, Result, Ok, Err, nat_lt, ◌==◌, if◌then◌else◌}
+use Rattle.std.specs.Prelude.{◌≡◌, ℕ, ◌+◌, ◌≤◌, List, [], length, drop, map, slice_index, Option, Some, None, Result, Ok, Err, nat_lt, ◌==◌, if◌then◌else◌}
 use Rattle.std.specs.List.{filter_map}
 use Rattle.krb_wire.specs.declared.format.Order.{Order}
 use Rattle.krb_wire.specs.declared.format.KtFormat.{KtFormat}
@@ -9,7 +9,7 @@ use Rattle.krb_walk.specs.Store.{Cell as StoreCell, Store, records, live_bytes}
 use Rattle.krb_keytab.specs.declared.open.KtOpenFault.{KtOpenFault}
 use Rattle.krb_keytab.specs.declared.open.KtOpenFault.TheVariants.{TooShort, BadVersion, TooLarge}
 use Rattle.krb_keytab.specs.Entry.{EntryParts, entry_at}
-use Rattle.krb_keytab.specs.Cells.{Cell, Live, Free, Contents, contents, image, version_byte}
+use Rattle.krb_keytab.specs.Cells.{Cell, Live, Free, Bare, Contents, contents, image, version_byte}
 use Rattle.krb_keytab.specs.Questions.{kind_of}
 
 -- a keytab: its format, the greatest length of its image, and its cells with what ends them
@@ -62,3 +62,16 @@ pub record IsImage (f : KtFormat) (limit : ℕ) (bytes : List ℕ) : Type 0 wher
   pub second : slice_index bytes 1 ≡ version_byte f
   pub within : length bytes ≤ limit
   pub limit_fits : limit ≤ 1073741824
+
+-- the format is one that version 1 has in this order
+abbrev pub IsInOrder : Order → KtFormat → Type 0
+IsInOrder o (V1 p) = p ≡ o
+IsInOrder o V2 = Unit {0}
+
+-- the image is opened as the keytab that it is, in its order and with any limit that is no smaller
+abbrev pub Reopens : State → List ℕ → Type 0
+Reopens k bytes = (o : Order) (limit : ℕ) → IsInOrder o k.format → k.limit ≤ limit → opening o limit bytes ≡ Ok (record k { limit = limit })
+
+-- a keytab without cells, and with nothing behind them
+abbrev pub empty : KtFormat → ℕ → State
+empty f limit = record { format = f; limit = limit; contents = record { cells = []; end = Bare } }

@@ -43,8 +43,8 @@ pub fn end_of_cells(format: KtFormat, image: &[u8]) -> CellsEnd
     }
 }
 
-// What stands at a place before a known end: there a length tells, and no entry is read again.
-fn known_step(format: KtFormat, image: &[u8], end: CellsEnd, at: usize) -> Step
+/// What stands at a place before a known end: there a length tells, and no entry is read again.
+pub fn known_step(format: KtFormat, image: &[u8], end: CellsEnd, at: usize) -> Step
     requires within { at ≤ length image.now }
     requires small { length image.now ≤ 2 ^ 30 }
     requires known { EndsKnown format image.now at end }

@@ -1,20 +1,22 @@
 //! Keytabs, kept as their images.
 
+mod changes;
+
 ghost use Rattle.std.specs.Prelude.{◌≡◌, IsSome, IfOk, IfErr, IfSome, IfNone, Ok, Err, Some, None, drop, option_copied};
 ghost use Rattle.krb_wire.specs.Reading.{Gives};
 ghost use Rattle.krb_walk.specs.Store.{end_of, fault_of, is_place, stop_at, live_bytes, IsPlace, IsSound as IsSoundStore};
 ghost use Rattle.krb_keytab.specs.Entry.{entry_at, Spells};
 ghost use Rattle.krb_keytab.specs.Cells.{contents, IsSound};
 ghost use Rattle.krb_keytab.specs.Known.{IsKnownEnd};
-ghost use Rattle.krb_keytab.specs.Store.{State, opening, image_of, store_of, entry_at_place, IsImage};
+ghost use Rattle.krb_keytab.specs.Store.{State, opening, image_of, store_of, entry_at_place, IsImage, Reopens, empty};
 
 use crate::entry::{EntryView, read_entry};
 use crate::image::{
     CellsEnd, end_of_cells, is_place_of, live_bytes_of, live_of, spelled_of, stop_of,
 };
-use crate::open::{KtOpenFault, KtOpenRefused, format_in};
+use crate::open::{KtOpenFault, KtOpenRefused, format_in, version_of};
 use krb_walk::{Fault, Stop};
-use krb_wire::{KtFormat, Limits, Order};
+use krb_wire::{KtFormat, Limits, NoMemory, Order};
 use std::alloc::Allocator;
 use std::marker::Model;
 
@@ -37,6 +39,23 @@ impl<A: Allocator> Model for Keytab<A> {
 }
 
 impl<A: Allocator> Keytab<A> {
+    /// A keytab without entries.
+    pub fn create(alloc: A, format: KtFormat, limits: Limits) -> Result<Keytab<A>, NoMemory>
+        ensures { IfOk result (λ k. k ≡ empty format limits) }
+    {
+        let limit = limits.image();
+        let Ok(image) = Vec::from_slice(alloc, &[5, version_of(format)]) else {
+            return Err(NoMemory);
+        };
+        let end = end_of_cells(format, &image);
+        Ok(Keytab {
+            image,
+            format,
+            limit,
+            end,
+        })
+    }
+
     /// The keytab that an image is; version 1 has that order. A damaged image opens too, with the cells
     /// before its fault. Each entry is read once, and no memory is taken.
     pub fn open(
@@ -90,13 +109,16 @@ impl<A: Allocator> Keytab<A> {
     pub fn image(&self) -> &[u8]
         ensures spelled { result.now ≡ image_of self.now }
         ensures sound { IsSound self.now.format self.now.contents }
+        // It is opened as this keytab again.
+        ensures reopens { Reopens self.now result.now }
     {
         spelled_of(self.format, &self.image)
     }
 
     /// The bytes that spell it, in the memory that they were opened in.
     pub fn into_image(self) -> Vec<u8, A>
-        ensures { result.items ≡ image_of self }
+        ensures spelled { result.items ≡ image_of self }
+        ensures reopens { Reopens self result.items }
     {
         let _ = spelled_of(self.format, &self.image);
         let Keytab {

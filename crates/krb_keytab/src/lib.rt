@@ -1,17 +1,28 @@
 //! Keytab images: a keytab is a list of cells, and each live cell begins with an entry.
 #![tactic(auto)]
 
+mod append;
+mod cells;
+mod edit;
 mod entry;
 mod find;
+mod form;
+mod hole;
 mod image;
 mod keytab;
 mod laws;
+mod new_entry;
 mod open;
+mod placed;
+mod remove;
 mod step;
 #[cfg(test)]
 mod tests;
+mod turn;
 
+pub use edit::{EditRefused, edit_image};
 pub use entry::{EntryView, read_entry};
 pub use keytab::Keytab;
-pub use laws::one_reading;
+pub use laws::{one_reading, written_is_read_back};
+pub use new_entry::NewEntry;
 pub use open::{KtOpenFault, KtOpenRefused};

@@ -1,5 +1,14 @@
+mod additions;
+mod edits;
+mod growths;
 mod look_up;
+mod made;
+mod peer_records;
+mod peers;
 mod records;
+mod removals;
+mod sessions;
+mod walks;
 
 use crate::{Keytab, KtOpenFault, KtOpenRefused};
 use krb_walk::{FaultKind, Stop};

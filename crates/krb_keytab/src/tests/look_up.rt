@@ -1,4 +1,4 @@
-use super::records::{HEAD, HOST, HOST_17, HOST_18, LONG, SHORT};
+use super::records::{HEAD, HOST, HOST_17, HOST_18, LONG, SHORT, VERSION_1};
 use crate::Keytab;
 use krb_walk::Code;
 use krb_wire::{Limits, Name, Order, parse_name};
@@ -272,9 +272,7 @@ fn damaged_keytabs(rt: HostRuntime) -> Result<(), Fail> {
 /// Names of version 1 have no type, and are found all the same. In the other order it is damaged.
 #[test]
 fn version_1(rt: HostRuntime) -> Result<(), Fail> {
-    let little = b"\x05\x01\x2b\0\0\0\x03\0\x01\0R\x04\0host\x01\0a\0\xf1\x53\x65\x03\x11\0\x10\0\
-\0\x01\x02\x03\x04\x05\x06\x07\x08\x09\x0a\x0b\x0c\x0d\x0e\x0f\x03\0\0\0";
-    let keytab = opened(rt.alloc(), &[little], Order::Little)?;
+    let keytab = opened(rt.alloc(), &[VERSION_1], Order::Little)?;
     check(
         &rt,
         &keytab,
@@ -285,7 +283,7 @@ fn version_1(rt: HostRuntime) -> Result<(), Fail> {
             asking("host/a@R", 3, 4352, Err(Code::NotFound)),
         ],
     )?;
-    let keytab = opened(rt.alloc(), &[little], Order::Big)?;
+    let keytab = opened(rt.alloc(), &[VERSION_1], Order::Big)?;
     check(
         &rt,
         &keytab,

@@ -1,0 +1,132 @@
+-- What an addition gives, told by the image that is kept.
+use Rattle.std.proofs.Common.{◌≡◌, ℕ, ◌+◌, ◌<◌, ◌≤◌, Bool, true, false, cond, ltb, List, [], ◌∷◌, ◌++◌, length, drop, replicate, Option, Some, None, Result, Ok, Err, refl, sym, ap, subst, ◌∙◌, length-append, arith}
+use Rattle.std.specs.Prelude.{is_some, option_map}
+use Rattle.std.specs.List.{flat_map}
+use Rattle.std.proofs.lemmas.Bool.{lt-ltb, le-ltb}
+use Rattle.std.proofs.lemmas.List.{length-replicate}
+use Rattle.krb_wire.specs.declared.format.KtFormat.{KtFormat}
+use Rattle.krb_wire.specs.Spelling.{order_of}
+use Rattle.krb_wire.proofs.Fields.{some_is}
+use Rattle.krb_walk.specs.declared.fault.FaultKind.{FaultKind}
+use Rattle.krb_walk.specs.declared.refusal.Code.{Code}
+use Rattle.krb_walk.specs.declared.refusal.Code.TheVariants as code
+use Rattle.krb_walk.specs.declared.refusal.Refusal.{Refusal}
+use Rattle.krb_walk.specs.declared.refusal.Refusal.TheVariants.{Code as ByCode, NoMemory}
+use Rattle.krb_walk.specs.Store.{end_of, fault_from, fault_of}
+use Rattle.krb_keytab.specs.declared.image.CellsEnd.{CellsEnd}
+use Rattle.krb_keytab.specs.declared.hole.Hole.{Hole}
+use Rattle.krb_keytab.specs.Entry.{EntryParts}
+use Rattle.krb_keytab.specs.Cells.{Cell, Live, End, Contents, cell, end_bytes, contents, image}
+use Rattle.krb_keytab.specs.Seen.{ends}
+use Rattle.krb_keytab.specs.Questions.{end_place, kind_of}
+use Rattle.krb_keytab.specs.Known.{IsKnownEnd, mark_len, len_with}
+use Rattle.krb_keytab.specs.Store.{State, image_of, store_of}
+use Rattle.krb_keytab.specs.Written.{fits, written}
+use Rattle.krb_keytab.specs.Changes.{PlacedCell, turned_at, filled, first_hole, with_filled, with_last, end_after, appending, putting_into, putting_bytes, putting}
+use Rattle.krb_keytab.specs.Holes.{hole_of, hole_from}
+use Rattle.krb_keytab.specs.Answers.{AnswersAppend, AnswersPut}
+use Rattle.krb_keytab.proofs.Cuts.{end_place_is, end_place-append}
+use Rattle.krb_keytab.proofs.Stores.{held, end_held}
+use Rattle.krb_keytab.proofs.Appended.{zeros_after}
+
+-- ---- behind the cells
+
+none_from : (place : ℕ) (kind : Option FaultKind) → fault_from place kind ≡ None → kind ≡ None
+none_from place None h = refl
+none_from place (Some kind) h = absurd cc
+
+-- how long the image is with one record more
+last_len : (f : KtFormat) (limit : ℕ) (bytes x : List ℕ) (e : CellsEnd) → IsKnownEnd f bytes e → kind_of (contents f (drop 2 bytes)).end ≡ None → length (image_of (with_last (held f limit bytes) x)) ≡ len_with e (length x)
+last_len f limit bytes x e known whole =
+    let o = order_of f in
+    let k = contents f (drop 2 bytes) in
+    let cells = k.cells ++ Live x ∷ [] in
+    let t = end_bytes o (end_after k.end) in
+    let was : k.end ≡ ends (drop e.place bytes) e.ending = known.same ∙ ap (λ (y : Contents). y.end) known.ending in
+    let mark : length t ≡ mark_len e.ending = ap length (sym (zeros_after o e.ending k.end (drop e.place bytes) was whole)) ∙ length-replicate {A = ℕ} (mark_len e.ending) 0 in
+    let place : end_place 2 cells ≡ e.place + 4 + length x = end_place-append 2 k.cells (Live x ∷ []) ∙ ap (λ (n : ℕ). n + 4 + length x) known.place in
+    omega (arith, mark, place, end_place_is o 2 cells, length-append (flat_map (cell o) cells) t)
+
+-- a keytab that is kept, and the record that is put behind its cells
+pub record Appends (f : KtFormat) (limit : ℕ) (bytes x : List ℕ) (k : State) (e : CellsEnd) (n : ℕ) : Type 0 where
+  pub known : IsKnownEnd f bytes e
+  pub is : held f limit bytes ≡ k
+  pub whole : kind_of (contents f (drop 2 bytes)).end ≡ None
+  pub len : n ≡ len_with e (length x)
+
+pub appends : (f : KtFormat) (limit : ℕ) (bytes x : List ℕ) (k : State) (e : CellsEnd) (n need : ℕ) → IsKnownEnd f bytes e → held f limit bytes ≡ k → fault_of (store_of k) ≡ None → n ≡ len_with e need → need ≡ length x → Appends f limit bytes x k e n
+appends f limit bytes x k e n need known is whole len is_need = record {
+  known = known;
+  is = is;
+  whole = none_from (end_of (store_of (held f limit bytes))) (kind_of (contents f (drop 2 bytes)).end) (ap (λ (y : State). fault_of (store_of y)) is ∙ whole);
+  len = len ∙ ap (len_with e) is_need;
+}
+
+same_len : (f : KtFormat) (limit : ℕ) (bytes x : List ℕ) (k : State) (e : CellsEnd) (n : ℕ) → Appends f limit bytes x k e n → length (image_of (with_last k x)) ≡ n
+same_len f limit bytes x k e n a = ap (λ (y : State). length (image_of (with_last y x))) (sym a.is) ∙ last_len f limit bytes x e a.known a.whole ∙ sym a.len
+
+same_limit : (f : KtFormat) (limit : ℕ) (bytes x : List ℕ) (k : State) (e : CellsEnd) (n : ℕ) → Appends f limit bytes x k e n → k.limit ≡ limit
+same_limit f limit bytes x k e n a = ap (λ (y : State). y.limit) (sym a.is)
+
+pub append_full : (f : KtFormat) (limit : ℕ) (bytes x : List ℕ) (k : State) (e : CellsEnd) (n : ℕ) → Appends f limit bytes x k e n → limit < n → appending k x ≡ Err code.Full
+append_full f limit bytes x k e n a lt =
+    let long : ltb k.limit (length (image_of (with_last k x))) ≡ true = lt-ltb _ _ (omega (arith, same_len f limit bytes x k e n a, same_limit f limit bytes x k e n a)) in
+    ap (λ (b : Bool). cond b (Err code.Full) (Ok (end_of (store_of k), with_last k x))) long
+
+pub append_fits : (f : KtFormat) (limit : ℕ) (bytes x : List ℕ) (k : State) (e : CellsEnd) (n : ℕ) → Appends f limit bytes x k e n → n ≤ limit → appending k x ≡ Ok (end_of (store_of k), with_last k x)
+append_fits f limit bytes x k e n a le =
+    let short : ltb k.limit (length (image_of (with_last k x))) ≡ false = le-ltb _ _ (omega (arith, same_len f limit bytes x k e n a, same_limit f limit bytes x k e n a)) in
+    ap (λ (b : Bool). cond b (Err code.Full) (Ok (end_of (store_of k), with_last k x))) short
+
+-- the image that was written, as a keytab
+appended_state : (f : KtFormat) (limit : ℕ) (bytes bytes' x : List ℕ) (k : State) → held f limit bytes ≡ k
+    → contents f (drop 2 bytes') ≡ record { cells = (contents f (drop 2 bytes)).cells ++ Live x ∷ []; end = end_after (contents f (drop 2 bytes)).end } → held f limit bytes' ≡ with_last k x
+appended_state f limit bytes bytes' x k is written =
+    ap (λ (y : Contents). record { format = f; limit = limit; contents = y }) written ∙ ap (λ (y : State). with_last y x) is
+
+pub append_ok : (f : KtFormat) (limit : ℕ) (bytes bytes' x : List ℕ) (k : State) (e : CellsEnd) (n : ℕ) → Appends f limit bytes x k e n → n ≤ limit
+    → contents f (drop 2 bytes') ≡ record { cells = (contents f (drop 2 bytes)).cells ++ Live x ∷ []; end = end_after (contents f (drop 2 bytes)).end }
+    → appending k x ≡ Ok (e.place, held f limit bytes')
+append_ok f limit bytes bytes' x k e n a le written =
+    append_fits f limit bytes x k e n a le
+    ∙ sym (ap (λ (p : ℕ). Ok (p, held f limit bytes')) (end_held f limit bytes k e a.known a.is) ∙ ap (λ (y : State). Ok (end_of (store_of k), y)) (appended_state f limit bytes bytes' x k a.is written))
+
+-- how long the image is before and after
+pub append_longer : (f : KtFormat) (limit : ℕ) (bytes x : List ℕ) (k : State) (e : CellsEnd) (n : ℕ) → Appends f limit bytes x k e n → bytes ≡ image f (contents f (drop 2 bytes)) → length bytes < n → length (image_of k) < length (image_of (with_last k x))
+append_longer f limit bytes x k e n a spelled lt =
+    let was : length (image_of k) ≡ length bytes = ap (λ (y : State). length (image_of y)) (sym a.is) ∙ ap length (sym spelled) in
+    omega (arith, was, same_len f limit bytes x k e n a)
+
+-- ---- anywhere
+
+-- what is put where nothing is wrong and the entry fits
+put_is : (k : State) (e : EntryParts) → is_some (fault_of (store_of k)) ≡ false → fits k.format e ≡ true → putting k e ≡ putting_bytes k (written k.format e)
+put_is k e whole fit =
+    ap (λ (b : Bool). cond b (Err code.Damaged) (cond (fits k.format e) (putting_bytes k (written k.format e)) (Err code.TooLong))) whole
+    ∙ ap (λ (b : Bool). cond b (putting_bytes k (written k.format e)) (Err code.TooLong)) fit
+
+-- where no hole is large enough, it is put behind the cells
+pub answers_put : (k : State) (e : EntryParts) (result : Result ℕ Refusal) (new : State) → is_some (fault_of (store_of k)) ≡ false → fits k.format e ≡ true → first_hole 2 (length (written k.format e)) k.contents.cells ≡ None
+    → AnswersAppend k (written k.format e) result new → AnswersPut k e result new
+answers_put k e (Ok place) new whole fit none h = put_is k e whole fit ∙ ap (putting_into k (written k.format e)) none ∙ h
+answers_put k e (Err (ByCode refused)) new whole fit none h = (put_is k e whole fit ∙ ap (putting_into k (written k.format e)) none ∙ h.0, h.1)
+answers_put k e (Err NoMemory) new whole fit none h =
+    (record { given = put_is k e whole fit ∙ ap (putting_into k (written k.format e)) none ∙ h.0; no_hole = none; longer = h.1 }, h.2)
+
+-- a hole, by its place
+into_hole : (k : State) (x : List ℕ) (h : Hole) (o : Option PlacedCell) → option_map hole_of o ≡ Some h → putting_into k x o ≡ Ok (h.place, with_filled k x h.place)
+into_hole k x h None e = absurd cc
+into_hole k x h (Some c) e = ap (λ (p : ℕ). Ok (p, with_filled k x p)) (ap (λ (y : Hole). y.place) (some_is (hole_of c) h e))
+
+no_hole : (o : Option PlacedCell) → option_map hole_of o ≡ None → o ≡ None
+no_hole None e = refl
+no_hole (Some c) e = absurd cc
+
+pub none_large : (k : State) (n : ℕ) → hole_from 2 n k.contents.cells ≡ None → first_hole 2 n k.contents.cells ≡ None
+none_large k n e = no_hole (first_hole 2 n k.contents.cells) e
+
+-- the first hole that is large enough takes it
+pub put_in_hole : (k : State) (e : EntryParts) (h : Hole) → is_some (fault_of (store_of k)) ≡ false → fits k.format e ≡ true → hole_from 2 (length (written k.format e)) k.contents.cells ≡ Some h
+    → putting k e ≡ Ok (h.place, with_filled k (written k.format e) h.place)
+put_in_hole k e h whole fit hole =
+    put_is k e whole fit ∙ into_hole k (written k.format e) h (first_hole 2 (length (written k.format e)) k.contents.cells) hole

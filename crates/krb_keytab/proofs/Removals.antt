@@ -1,0 +1,92 @@
+-- What a look-up finds is a record that can be removed.
+use Rattle.std.proofs.Common.{◌≡◌, ℕ, ◌+◌, Bool, true, false, cond, List, [], ◌∷◌, ◌++◌, map, Option, Some, None, Result, Ok, Err, length, refl, sym, ap, subst, ◌∙◌, append_assoc, inl, inr}
+use Rattle.std.specs.Prelude.{◌==◌, is_some, option_map, filter, find, IfSome}
+use Rattle.std.specs.List.{filter_map, cons_option, AllByRecursion}
+use Rattle.std.proofs.lemmas.Bool.{eq-eqb}
+use Rattle.krb_wire.specs.Spelling.{Parts}
+use Rattle.krb_wire.proofs.Fields.{some_is}
+use Rattle.krb_walk.specs.declared.refusal.Code.{Code}
+use Rattle.krb_walk.specs.declared.refusal.Code.TheVariants.{Damaged, NotLive}
+use Rattle.krb_walk.specs.Store.{Record, fault_of, live_bytes as store_bytes, standing, record_of}
+use Rattle.krb_keytab.specs.Entry.{EntryParts, entry_at}
+use Rattle.krb_keytab.specs.Cells.{Cell, Live, Free}
+use Rattle.krb_keytab.specs.Questions.{size, end_place, live_at}
+use Rattle.krb_keytab.specs.Store.{State, placed, store_of}
+use Rattle.krb_keytab.specs.LookUp.{Placed, is_asked, version_asked, found, look_up_in, look_up, finding, placed_entry, placed_entries}
+use Rattle.krb_keytab.specs.Changes.{without, cutting}
+use Rattle.krb_keytab.proofs.CellLemmas.{chosen}
+use Rattle.krb_keytab.proofs.Cuts.{end_place-append, live_behind}
+use Rattle.krb_keytab.proofs.Stores.{past, live_at-store}
+
+-- a record stands at the place
+abbrev IsLiveAt : State → Placed → Type 0
+IsLiveAt k x = is_some (store_bytes (store_of k) x.0) ≡ true
+
+-- ---- lists
+
+all_cons : {X : Type 0} (P : X → Type 0) (o : Option X) (xs : List X) → IfSome o P → AllByRecursion P xs → AllByRecursion P (cons_option o xs)
+all_cons P (Some x) xs h all = (h, all)
+all_cons P None xs h all = all
+
+all_kept : {X : Type 0} (P : X → Type 0) (test : X → Bool) (x : X) (xs : List X) (b : Bool) → P x → AllByRecursion P xs → AllByRecursion P (cond b (x ∷ xs) xs)
+all_kept P test x xs true h all = (h, all)
+all_kept P test x xs false h all = all
+
+all_filter : {X : Type 0} (P : X → Type 0) (test : X → Bool) (xs : List X) → AllByRecursion P xs → AllByRecursion P (filter test xs)
+all_filter P test [] all = tt
+all_filter P test (x ∷ xs) all = all_kept P test x (filter test xs) (test x) all.0 (all_filter P test xs all.1)
+
+all_find : {X : Type 0} (P : X → Type 0) (test : X → Bool) (xs : List X) (y : X) → AllByRecursion P xs → find test xs ≡ Some y → P y
+all_find P test [] y all e = absurd cc
+all_find P test (x ∷ xs) y all e = elim (chosen (test x) (Some x) (find test xs) (Some y) e) [
+  | inl h ↦ subst P (some_is x y h.1) all.0
+  | inr h ↦ all_find P test xs y all.1 h.1
+]
+
+-- ---- entries
+
+if_placed : (k : State) (p : ℕ) (o : Option EntryParts) → is_some (store_bytes (store_of k) p) ≡ true → IfSome (option_map (λ (e : EntryParts). (p, e)) o) (IsLiveAt k)
+if_placed k p (Some e) h = h
+if_placed k p None h = tt
+
+-- a live cell behind others is one of the store's
+stands : (k : State) (front back : List Cell) (b : List ℕ) (p : ℕ) → k.contents.cells ≡ front ++ (Live b ∷ back) → p ≡ end_place 2 front → is_some (store_bytes (store_of k) p) ≡ true
+stands k front back b p parts place =
+    let here : live_at p (Live b ∷ back) p ≡ Some b = rw (eq-eqb p p refl) refl in
+    let held : store_bytes (store_of k) p ≡ Some b =
+    sym (live_at-store 2 p k.contents.cells) ∙ ap (λ (cs : List Cell). live_at 2 cs p) parts ∙ live_behind front (Live b ∷ back) 2 p place ∙ here in
+    ap is_some held
+
+-- the place behind one cell more
+next_place : (front : List Cell) (c : Cell) (p : ℕ) → p ≡ end_place 2 front → p + (4 + size c) ≡ end_place 2 (front ++ c ∷ [])
+next_place front c p place = sym (past p (size c)) ∙ ap (λ (n : ℕ). n + 4 + size c) place ∙ sym (end_place-append 2 front (c ∷ []))
+
+-- the entries of the cells from one on
+all_live : (k : State) (front cs : List Cell) (p : ℕ) → k.contents.cells ≡ front ++ cs → p ≡ end_place 2 front → AllByRecursion (IsLiveAt k) (filter_map (placed_entry k) (filter_map record_of (standing p (map placed cs))))
+all_live k front [] p parts place = tt
+all_live k front (Live b ∷ cs) p parts place =
+    let others = all_live k (front ++ Live b ∷ []) cs (p + (4 + length b)) (parts ∙ sym (append_assoc front (Live b ∷ []) cs)) (next_place front (Live b) p place) in
+    all_cons (IsLiveAt k) _ _ (if_placed k p (entry_at k.format b) (stands k front cs b p parts place)) others
+all_live k front (Free b ∷ cs) p parts place =
+    all_live k (front ++ Free b ∷ []) cs (p + (4 + length b)) (parts ∙ sym (append_assoc front (Free b ∷ []) cs)) (next_place front (Free b) p place)
+
+some_found : (o : Option Placed) (x : Placed) → found o ≡ Ok x → o ≡ Some x
+some_found (Some y) x e = cc
+some_found None x e = absurd cc
+
+found_live : (k : State) (v : ℕ) (xs : List Placed) (x : Placed) → AllByRecursion (IsLiveAt k) xs → look_up_in v xs ≡ Ok x → IsLiveAt k x
+found_live k v [] x all e = absurd cc
+found_live k v (y ∷ ys) x all e =
+    all_find (IsLiveAt k) (λ z. z.1.version == version_asked v (y ∷ ys)) (y ∷ ys) x all (some_found (find (λ z. z.1.version == version_asked v (y ∷ ys)) (y ∷ ys)) x e)
+
+-- what was found is removed
+pub found_is_cut : (k : State) (n : Parts) (v t : ℕ) (x : Placed) → finding k n v t ≡ Ok x → cutting k x.0 ≡ Ok (without k x.0)
+found_is_cut k n v t x e =
+    elim (chosen (is_some (fault_of (store_of k))) (Err Damaged) (look_up k n v t) (Ok x) e) [
+      | inl h ↦ absurd (let no = h.1 in cc)
+      | inr h ↦
+          let all = all_filter (IsLiveAt k) (is_asked n t) (placed_entries k) (all_live k [] k.contents.cells 2 refl refl) in
+          let live : is_some (store_bytes (store_of k) x.0) ≡ true = found_live k v (filter (is_asked n t) (placed_entries k)) x all h.1 in
+          ap (λ (b : Bool). cond b (Err Damaged) (cond (is_some (store_bytes (store_of k) x.0)) (Ok (without k x.0)) (Err NotLive))) h.0
+          ∙ ap (λ (b : Bool). cond b (Ok (without k x.0)) (Err NotLive)) live
+    ]

@@ -1,0 +1,155 @@
+-- An addition to a keytab, and a removal from it, change one cell of the store that it is.
+use Rattle.std.proofs.Common.{◌≡◌, ℕ, ◌+◌, ◌-◌, ◌<◌, ◌≤◌, Bool, true, false, List, [], ◌∷◌, ◌++◌, map, length, replicate, Option, Some, None, Result, Ok, Err, inl, inr, refl, sym, ap, subst, ◌∙◌, arith, length-append}
+use Rattle.std.specs.Prelude.{◌||◌, nat_le, nat_lt, is_some, IfOk, OnOk}
+use Rattle.std.proofs.lemmas.List.{map-append, length-replicate}
+use Rattle.std.proofs.lemmas.Bool.{leb-true, lt-leb}
+use Rattle.krb_wire.proofs.Fields.{some_is}
+use Rattle.krb_walk.specs.declared.fault.FaultKind.{FaultKind}
+use Rattle.krb_walk.specs.declared.refusal.Code.{Code}
+use Rattle.krb_walk.specs.declared.refusal.Code.TheVariants.{NotLive, TooLong, Full}
+use Rattle.krb_walk.specs.declared.refusal.Code.TheVariants as code
+use Rattle.krb_walk.specs.declared.refusal.Refusal.{Refusal}
+use Rattle.krb_walk.specs.declared.refusal.Refusal.TheVariants.{Code as ByCode, NoMemory}
+use Rattle.krb_walk.specs.Store.{Cell as StoreCell, end_of, fault_from, fault_of, live_bytes as store_bytes}
+use Rattle.krb_walk.specs.Changes.{OneCell, Puts, Cuts}
+use Rattle.krb_walk.specs.Rules.{PutGives, IsNotWanting}
+use Rattle.krb_keytab.specs.Entry.{EntryParts}
+use Rattle.krb_keytab.specs.Cells.{Cell, Live, Free, End, Bare, Mark, Damaged}
+use Rattle.krb_keytab.specs.Questions.{size, live_at, kind_of}
+use Rattle.krb_keytab.specs.Store.{State, placed, store_of, image_of}
+use Rattle.krb_keytab.specs.Written.{fits, written}
+use Rattle.krb_keytab.specs.Changes.{PlacedCell, turned_at, freed, is_hole, padded, filled, first_hole, with_filled, with_last, end_after, without, appending, putting_into, putting_bytes, putting, cutting}
+use Rattle.krb_keytab.specs.Answers.{Grows, AnswersPut, AnswersCut}
+use Rattle.krb_keytab.specs.Walked.{is_refused, takes_none}
+use Rattle.krb_keytab.proofs.CellLemmas.{chosen}
+use Rattle.krb_keytab.proofs.Stores.{end_place-store, live_at-store}
+use Rattle.krb_keytab.proofs.Replaced.{StandsAt, live_stands, hole_stands, turned}
+
+-- one cell turned into another is one cell of the store
+turned_cell : (k : State) (turn : Cell → Cell) (p : ℕ) (c : Cell) → StandsAt k.contents.cells 2 p c
+    → OneCell (store_of k) (store_of (record k { contents = record { cells = turned_at 2 turn p k.contents.cells; end = k.contents.end } })) p (placed c) (placed (turn c))
+turned_cell k turn p c s = record {
+  before = map placed s.front;
+  after = map placed s.back;
+  place = s.place ∙ end_place-store 2 s.front;
+  old_cells = ap (map placed) s.parts ∙ map-append placed s.front (c ∷ s.back);
+  new_cells = ap (map placed) (turned turn k.contents.cells p c s) ∙ map-append placed s.front (turn c ∷ s.back);
+  first = refl;
+  fault = refl;
+}
+
+whole_of : (place : ℕ) (kind : Option FaultKind) → is_some (fault_from place kind) ≡ false → kind ≡ None
+whole_of place None h = refl
+whole_of place (Some kind) h = absurd cc
+
+-- ---- removals
+
+freed_len : (n : ℕ) → length (replicate {A = ℕ} n 0) ≡ n
+freed_len n = length-replicate n 0
+
+cuts_at : (k : State) (p : ℕ) (b : List ℕ) → (store_of k).fault ≡ None → store_bytes (store_of k) p ≡ Some b → Cuts (store_of k) (store_of (without k p)) p
+cuts_at k p b whole held =
+    let s = live_stands k.contents.cells 2 p b (live_at-store 2 p k.contents.cells ∙ held) in
+    let one = turned_cell k freed p (Live b) s in
+    record {
+      whole = whole;
+      how = record {
+        width = 4 + length b;
+        bytes = b;
+        cell = subst (λ (n : ℕ). OneCell (store_of k) (store_of (without k p)) p (placed (Live b)) (record { width = 4 + n; live = None })) (freed_len (length b)) one;
+      };
+    }
+
+cuts_by : (k : State) (p : ℕ) (new : State) (o : Option (List ℕ)) → (store_of k).fault ≡ None → store_bytes (store_of k) p ≡ o → is_some o ≡ true → without k p ≡ new → Cuts (store_of k) (store_of new) p
+cuts_by k p new None whole held live is = absurd cc
+cuts_by k p new (Some b) whole held live is = subst (λ (x : State). Cuts (store_of k) (store_of x) p) is (cuts_at k p b whole held)
+
+cuts_of : (k : State) (p : ℕ) (new : State) → cutting k p ≡ Ok new → Cuts (store_of k) (store_of new) p
+cuts_of k p new e =
+    elim (chosen (is_some (fault_of (store_of k))) (Err code.Damaged) _ (Ok new) e) [
+      | inl h ↦ absurd (let no = h.1 in cc)
+      | inr h ↦ elim (chosen (is_some (store_bytes (store_of k) p)) (Ok (without k p)) (Err NotLive) (Ok new) h.1) [
+        | inl g ↦ cuts_by k p new (store_bytes (store_of k) p) (whole_of _ _ h.0) refl g.0 (let same = g.1 in cc)
+        | inr g ↦ absurd (let no = g.1 in cc)
+      ]
+    ]
+
+pub removal_cuts : (k new : State) (p : ℕ) (result : Result (Unit {0}) Code) → AnswersCut k (cutting k p) result new → OnOk result (Cuts (store_of k) (store_of new) p)
+removal_cuts k new p (Ok done) a = cuts_of k p new a
+removal_cuts k new p (Err refused) a = tt
+
+-- ---- additions
+
+padded_len : (x : List ℕ) (n : ℕ) → length x ≤ n → length (padded x n) ≡ n
+padded_len x n le = omega (arith, length-append x (replicate {A = ℕ} (n - length x) 0), length-replicate {A = ℕ} (n - length x) 0)
+
+fills_at : (k : State) (x : List ℕ) (p : ℕ) (c : Cell) → (store_of k).fault ≡ None → StandsAt k.contents.cells 2 p c → is_hole (length x) c ≡ true → Puts (store_of k) (store_of (with_filled k x p)) p
+fills_at k x p (Live b) whole s large = absurd cc
+fills_at k x p (Free b) whole s large =
+    let len = padded_len x (length b) (leb-true (length x) (length b) large) in
+    let one = turned_cell k (filled x) p (Free b) s in
+    record {
+      whole = whole;
+      how = inl (record {
+        width = 4 + length b;
+        bytes = padded x (length b);
+        cell = subst (λ (n : ℕ). OneCell (store_of k) (store_of (with_filled k x p)) p (placed (Free b)) (record { width = 4 + n; live = Some (padded x (length b)) })) len one;
+      });
+    }
+
+appends_at : (k : State) (x : List ℕ) → (store_of k).fault ≡ None → (store_of (with_last k x)).fault ≡ None → Puts (store_of k) (store_of (with_last k x)) (end_of (store_of k))
+appends_at k x whole still = record {
+  whole = whole;
+  how = inr (record {
+    width = 4 + length x;
+    bytes = x;
+    some_width = omega arith;
+    place = refl;
+    cells = map-append placed k.contents.cells (Live x ∷ []);
+    first = refl;
+    fault = still ∙ sym whole;
+  });
+}
+
+-- an end that is no fault is none behind a record more
+still_whole : (e : End) → kind_of e ≡ None → kind_of (end_after e) ≡ None
+still_whole Bare h = refl
+still_whole (Mark rest) h = refl
+still_whole (Damaged kind rest) h = h
+
+ok_pair : (a b : ℕ × State) → ◌≡◌ {A = Result (ℕ × State) Code} (Ok a) (Ok b) → a ≡ b
+ok_pair a b e = cc
+
+appended : (k : State) (x : List ℕ) (p : ℕ) (new : State) → (store_of k).fault ≡ None → appending k x ≡ Ok (p, new) → Puts (store_of k) (store_of new) p
+appended k x p new whole e =
+    elim (chosen (nat_lt k.limit (length (image_of (with_last k x)))) (Err Full) (Ok (end_of (store_of k), with_last k x)) (Ok (p, new)) e) [
+      | inl h ↦ absurd (let no = h.1 in cc)
+      | inr h ↦
+          let same = ok_pair (end_of (store_of k), with_last k x) (p, new) h.1 in
+          let place : end_of (store_of k) ≡ p = ap (λ (y : ℕ × State). y.0) same in
+          let is : with_last k x ≡ new = ap (λ (y : ℕ × State). y.1) same in
+          subst (λ (z : State). Puts (store_of k) (store_of z) p) is (subst (Puts (store_of k) (store_of (with_last k x))) place (appends_at k x whole (still_whole k.contents.end whole)))
+    ]
+
+filled_hole : (k : State) (x : List ℕ) (p : ℕ) (new : State) (o : Option PlacedCell) → (store_of k).fault ≡ None → first_hole 2 (length x) k.contents.cells ≡ o → putting_into k x o ≡ Ok (p, new) → Puts (store_of k) (store_of new) p
+filled_hole k x p new None whole hole e = appended k x p new whole e
+filled_hole k x p new (Some h) whole hole e =
+    let at = hole_stands k.contents.cells 2 (length x) h.0 h.1 hole in
+    let same = ok_pair (h.0, with_filled k x h.0) (p, new) e in
+    let place : h.0 ≡ p = ap (λ (y : ℕ × State). y.0) same in
+    let is : with_filled k x h.0 ≡ new = ap (λ (y : ℕ × State). y.1) same in
+    subst (λ (z : State). Puts (store_of k) (store_of z) p) is (subst (Puts (store_of k) (store_of (with_filled k x h.0))) place (fills_at k x h.0 h.1 whole at.stands at.large))
+
+puts_of : (k : State) (e : EntryParts) (p : ℕ) (new : State) → putting k e ≡ Ok (p, new) → Puts (store_of k) (store_of new) p
+puts_of k e p new is =
+    elim (chosen (is_some (fault_of (store_of k))) (Err code.Damaged) _ (Ok (p, new)) is) [
+      | inl h ↦ absurd (let no = h.1 in cc)
+      | inr h ↦ elim (chosen (fits k.format e) (putting_bytes k (written k.format e)) (Err TooLong) (Ok (p, new)) h.1) [
+        | inl g ↦ filled_hole k (written k.format e) p new (first_hole 2 (length (written k.format e)) k.contents.cells) (whole_of _ _ h.0) refl g.1
+        | inr g ↦ absurd (let no = g.1 in cc)
+      ]
+    ]
+
+pub addition_puts : (k new : State) (e : EntryParts) (result : Result ℕ Refusal) → AnswersPut k e result new → IfOk result (Puts (store_of k) (store_of new))
+addition_puts k new e (Ok p) a = puts_of k e p new a
+addition_puts k new e (Err refusal) a = tt

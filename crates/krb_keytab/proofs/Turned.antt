@@ -1,0 +1,137 @@
+-- What the changes of cells make of an image.
+use Rattle.std.proofs.Common.{◌≡◌, ℕ, ◌+◌, ◌-◌, ◌^◌, ◌<◌, ◌≤◌, true, List, [], ◌∷◌, ◌++◌, length, drop, replicate, Option, Some, None, refl, sym, ap, subst, ◌∙◌, arith}
+use Rattle.std.specs.Prelude.{option_map}
+use Rattle.std.specs.List.{splice, AllByRecursion}
+use Rattle.std.proofs.lemmas.Bool.{leb-true}
+use Rattle.std.proofs.lemmas.List.{length-append, length-replicate}
+use Rattle.krb_wire.specs.declared.format.KtFormat.{KtFormat}
+use Rattle.krb_wire.specs.Spelling.{order_of}
+use Rattle.krb_wire.proofs.Fields.{IsBytes, IsBytes-drop, some_is}
+use Rattle.krb_keytab.specs.declared.image.CellsEnd.{CellsEnd}
+use Rattle.krb_keytab.specs.declared.hole.Hole.{Hole}
+use Rattle.krb_keytab.specs.Cells.{Cell, Live, Free, Bare, Contents, cell, next, walk, contents, IsCell}
+use Rattle.krb_keytab.specs.Questions.{size, end_place, live_at}
+use Rattle.krb_keytab.specs.Known.{IsKnownEnd, IsChanged}
+use Rattle.krb_keytab.specs.Changes.{PlacedCell, turned_at, freed, is_hole, first_hole, padded, filled}
+use Rattle.krb_keytab.specs.Holes.{hole_of, hole_from}
+use Rattle.krb_keytab.specs.Written.{IsRecord}
+use Rattle.krb_keytab.proofs.CellLemmas.{contents_spelled, sound_size}
+use Rattle.krb_keytab.proofs.Cuts.{end_place-append, all_back, far}
+use Rattle.krb_keytab.proofs.Replaced.{StandsAt, live_stands, hole_stands, turned, IsReplaced, replaced}
+
+-- no bytes hold no cells
+pub contents_none : (f : KtFormat) → contents f [] ≡ record { cells = []; end = Bare }
+unfolding contents walk next
+contents_none f = refl
+
+-- a cell ends where the cells do, or before
+pub ends_within : (cs : List Cell) (p : ℕ) (c : Cell) → StandsAt cs 2 p c → p + 4 + size c ≤ end_place 2 cs
+ends_within cs p c s =
+    let at : p ≡ end_place 2 s.front = s.place in
+    let whole : end_place 2 cs ≡ end_place (p + 4 + size c) s.back =
+    ap (end_place 2) s.parts ∙ end_place-append 2 s.front (c ∷ s.back) ∙ ap (λ (n : ℕ). end_place (n + 4 + size c) s.back) (sym at) in
+    omega (arith, whole, far s.back (p + 4 + size c))
+
+-- what is known of a cell of an image
+pub record StandsIn (f : KtFormat) (image : List ℕ) (p : ℕ) (c : Cell) : Type 0 where
+  pub room : p + 4 + size c ≤ length image
+  pub sound : IsCell f c
+
+pub stands_in : (f : KtFormat) (image : List ℕ) (p : ℕ) (c : Cell) (end : CellsEnd) → IsBytes image → IsKnownEnd f image end → StandsAt (contents f (drop 2 image)).cells 2 p c → StandsIn f image p c
+stands_in f image p c end fits known s =
+    let cs = (contents f (drop 2 image)).cells in
+    let stops = known.place in
+    let within = known.within in
+    let sound = (contents_spelled f (drop 2 image) (IsBytes-drop 2 image fits)).sound in
+    record {
+      room = omega (arith, ends_within cs p c s, stops, within);
+      sound = (all_back (IsCell f) s.front (c ∷ s.back) (subst (AllByRecursion (IsCell f)) s.parts sound.cells)).0;
+    }
+
+pub live_in : (f : KtFormat) (image : List ℕ) (p : ℕ) (b : List ℕ) (end : CellsEnd) → IsBytes image → IsKnownEnd f image end → Some b ≡ live_at 2 (contents f (drop 2 image)).cells p → StandsIn f image p (Live b)
+live_in f image p b end fits known live = stands_in f image p (Live b) end fits known (live_stands (contents f (drop 2 image)).cells 2 p b (sym live))
+
+-- a live cell is made a hole of zeros
+pub freed_is : (f : KtFormat) (image image' b : List ℕ) (p n : ℕ) (end : CellsEnd) → 2 ≤ length image → 0 < n → n ≤ 2 ^ 31 → IsBytes image → IsBytes image' → IsKnownEnd f image end
+    → Some b ≡ live_at 2 (contents f (drop 2 image)).cells p → n ≡ length b
+    → image' ≡ splice image p (p + 4 + n) (cell (order_of f) (Free (replicate {A = ℕ} n 0)))
+    → IsChanged f image image' (record { cells = turned_at 2 freed p (contents f (drop 2 image)).cells; end = (contents f (drop 2 image)).end }) end
+freed_is f image image' b p n end long some small fits fits' known live len written =
+    let k = contents f (drop 2 image) in
+    let s = live_stands k.cells 2 p b (sym live) in
+    let new = freed (Live b) in
+    let zeros : length (replicate {A = ℕ} (length b) 0) ≡ length b = length-replicate (length b) 0 in
+    let before : k ≡ record { cells = s.front ++ (Live b ∷ s.back); end = k.end } = ap (λ (cs : List Cell). record { cells = cs; end = k.end }) s.parts in
+    let r : IsReplaced f image s.front s.back (Live b) new k.end p = record { long = long; before = before; place = s.place; same_size = zeros; sound = (omega arith, omega arith) } in
+    let same : image' ≡ splice image p (p + 4 + length b) (cell (order_of f) new) = written ∙ ap (λ (m : ℕ). splice image p (p + 4 + m) (cell (order_of f) (Free (replicate {A = ℕ} m 0)))) len in
+    let done = replaced f image image' s.front s.back (Live b) new k.end p end r fits fits' known same in
+    record {
+      head = done.head;
+      contents = done.contents ∙ ap (λ (cs : List Cell). record { cells = cs; end = k.end }) (sym (turned freed k.cells p (Live b) s));
+      known = done.known;
+    }
+
+-- ---- the first hole that is large enough
+
+-- what is known of it
+pub record HoleIn (f : KtFormat) (image : List ℕ) (n : ℕ) (h : Hole) : Type 0 where
+  pub cell : Cell
+  pub stands : StandsAt (contents f (drop 2 image)).cells 2 h.place cell
+  pub size_is : size cell ≡ h.size
+  pub large : n ≤ h.size
+  pub some : 0 < h.size
+  pub room : h.place + 4 + h.size ≤ length image
+
+hole_large : (n : ℕ) (c : Cell) → is_hole n c ≡ true → n ≤ size c
+hole_large n (Live b) e = absurd cc
+hole_large n (Free b) e = leb-true n (length b) e
+
+hole_by : (f : KtFormat) (image : List ℕ) (n : ℕ) (h : Hole) (end : CellsEnd) (o : Option PlacedCell) → IsBytes image → IsKnownEnd f image end → first_hole 2 n (contents f (drop 2 image)).cells ≡ o → option_map hole_of o ≡ Some h → HoleIn f image n h
+hole_by f image n h end None fits known is e = absurd cc
+hole_by f image n h end (Some x) fits known is e =
+    let same : hole_of x ≡ h = some_is (hole_of x) h e in
+    let place : x.0 ≡ h.place = ap (λ (y : Hole). y.place) same in
+    let is_size : size x.1 ≡ h.size = ap (λ (y : Hole). y.size) same in
+    let at = hole_stands (contents f (drop 2 image)).cells 2 n x.0 x.1 is in
+    let inside = stands_in f image x.0 x.1 end fits known at.stands in
+    let room = inside.room in
+    record {
+      cell = x.1;
+      stands = subst (λ (p : ℕ). StandsAt (contents f (drop 2 image)).cells 2 p x.1) place at.stands;
+      size_is = is_size;
+      large = omega (arith, hole_large n x.1 at.large);
+      some = omega (arith, sound_size f x.1 inside.sound);
+      room = omega (arith, room);
+    }
+
+pub hole_in : (f : KtFormat) (image : List ℕ) (n : ℕ) (h : Hole) (end : CellsEnd) → IsBytes image → IsKnownEnd f image end → hole_from 2 n (contents f (drop 2 image)).cells ≡ Some h → HoleIn f image n h
+hole_in f image n h end fits known e = hole_by f image n h end (first_hole 2 n (contents f (drop 2 image)).cells) fits known refl e
+
+padded_len : (x : List ℕ) (n : ℕ) → length x ≤ n → length (padded x n) ≡ n
+padded_len x n le = omega (arith, length-append x (replicate {A = ℕ} (n - length x) 0), length-replicate {A = ℕ} (n - length x) 0)
+
+-- a record takes the hole
+pub filled_is : (f : KtFormat) (image image' x : List ℕ) (h : Hole) (end : CellsEnd) → 2 ≤ length image → length image ≤ 2 ^ 30 → IsBytes image → IsBytes image' → IsKnownEnd f image end → IsRecord f x
+    → hole_from 2 (length x) (contents f (drop 2 image)).cells ≡ Some h
+    → image' ≡ splice image h.place (h.place + 4 + h.size) (cell (order_of f) (Live (padded x h.size)))
+    → IsChanged f image image' (record { cells = turned_at 2 (filled x) h.place (contents f (drop 2 image)).cells; end = (contents f (drop 2 image)).end }) end
+filled_is f image image' x h end long small fits fits' known entry hole written =
+    let k = contents f (drop 2 image) in
+    let i = hole_in f image (length x) h end fits known hole in
+    let s = i.stands in
+    let old = i.cell in
+    let new = filled x old in
+    let is_size = i.size_is in
+    let large = i.large in
+    let some = i.some in
+    let room = i.room in
+    let len : length (padded x (size old)) ≡ size old = padded_len x (size old) (omega arith) in
+    let before : k ≡ record { cells = s.front ++ (old ∷ s.back); end = k.end } = ap (λ (cs : List Cell). record { cells = cs; end = k.end }) s.parts in
+    let r : IsReplaced f image s.front s.back old new k.end h.place = record { long = long; before = before; place = s.place; same_size = len; sound = (omega arith, omega arith, entry (size old - length x)) } in
+    let same : image' ≡ splice image h.place (h.place + 4 + size old) (cell (order_of f) new) = written ∙ ap (λ (m : ℕ). splice image h.place (h.place + 4 + m) (cell (order_of f) (Live (padded x m)))) (sym is_size) in
+    let done = replaced f image image' s.front s.back old new k.end h.place end r fits fits' known same in
+    record {
+      head = done.head;
+      contents = done.contents ∙ ap (λ (cs : List Cell). record { cells = cs; end = k.end }) (sym (turned (filled x) k.cells h.place old s));
+      known = done.known;
+    }

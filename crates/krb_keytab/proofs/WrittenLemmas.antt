@@ -1,0 +1,148 @@
+-- What is written for an entry: whether it fits, how long it is, its parts, and that it is read again.
+use Rattle.std.proofs.Common.{◌≡◌, ℕ, ◌+◌, ◌%◌, ◌^◌, ◌<◌, ◌≤◌, Bool, true, false, eqb, ltb, List, [], ◌∷◌, ◌++◌, length, replicate, Some, refl, sym, ap, subst, ◌∙◌, append_assoc, length-append, arith, inl, inr}
+use Rattle.std.specs.Prelude.{◌&&◌, is_some}
+use Rattle.std.specs.List.{splice, list_all, AllByRecursion}
+use Rattle.std.specs.Int.{w16, w32}
+use Rattle.std.proofs.lemmas.Bool.{ltb-true, lt-ltb}
+use Rattle.std.proofs.lemmas.Bool.Decides.{eqb_tells}
+use Rattle.krb_wire.specs.declared.format.Order.{Order}
+use Rattle.krb_wire.specs.declared.format.KtFormat.{KtFormat}
+use Rattle.krb_wire.specs.declared.format.KtFormat.TheVariants.{V1, V2}
+use Rattle.krb_wire.specs.Spelling.{Parts, digits, data16, order_of, count_field, kt_principal, IsShort, HasNameType, HasSpelling}
+use Rattle.krb_wire.proofs.Fields.{some_is, wide16, wide32, number_again}
+use Rattle.krb_keytab.specs.Entry.{EntryParts, front, version_by, Spells, entry_at}
+use Rattle.krb_keytab.specs.Written.{is_short, name_fits, fits, front_of, written, kept_type, read_back, IsEntry, IsRecord}
+use Rattle.krb_keytab.proofs.Entries.{entry_again}
+use Rattle.krb_keytab.proofs.LookUpLemmas.{same_bool, and_both}
+use Rattle.krb_keytab.proofs.Splices.{Wrote, wrote-then}
+
+-- ---- what fits
+
+both_and : (a b : Bool) → a ≡ true → b ≡ true → (a && b) ≡ true
+both_and a b x y = rw (x, y) refl
+
+all_short : (cs : List (List ℕ)) → list_all is_short cs ≡ true → AllByRecursion IsShort cs
+all_short [] e = tt
+all_short (c ∷ cs) e =
+    let both = and_both (is_short c) (list_all is_short cs) e in
+    (ltb-true (length c) (2 ^ 16) both.0, all_short cs both.1)
+
+short_all : (cs : List (List ℕ)) → AllByRecursion IsShort cs → list_all is_short cs ≡ true
+short_all [] h = refl
+short_all (c ∷ cs) h = both_and (is_short c) (list_all is_short cs) (lt-ltb (length c) (2 ^ 16) h.0) (short_all cs h.1)
+
+pub name_has_spelling : (f : KtFormat) (p : Parts) → name_fits f p ≡ true → HasSpelling f p
+name_has_spelling f p e =
+    let count = and_both (ltb (count_field f (length p.components)) (2 ^ 16)) (is_short p.realm && list_all is_short p.components) e in
+    let realm = and_both (is_short p.realm) (list_all is_short p.components) count.1 in
+    record {
+      count = ltb-true (count_field f (length p.components)) (2 ^ 16) count.0;
+      realm = ltb-true (length p.realm) (2 ^ 16) realm.0;
+      components = all_short p.components realm.1;
+    }
+
+spelling_fits : (f : KtFormat) (p : Parts) → HasSpelling f p → name_fits f p ≡ true
+spelling_fits f p h =
+    both_and (ltb (count_field f (length p.components)) (2 ^ 16)) (is_short p.realm && list_all is_short p.components) (lt-ltb (count_field f (length p.components)) (2 ^ 16) h.count)
+    (both_and (is_short p.realm) (list_all is_short p.components) (lt-ltb (length p.realm) (2 ^ 16) h.realm) (short_all p.components h.components))
+
+-- a test whether a name has a spelling is the definition's
+pub name_fits_is : (f : KtFormat) (p : Parts) (answer : Bool) → (answer ≡ true → HasSpelling f p) → (HasSpelling f p → answer ≡ true) → answer ≡ name_fits f p
+name_fits_is f p answer to from = same_bool answer (name_fits f p) (λ e. spelling_fits f p (to e)) (λ e. from (name_has_spelling f p e))
+
+pub name_of_entry_fits : (f : KtFormat) (e : EntryParts) → fits f e ≡ true → HasSpelling f e.principal
+name_of_entry_fits f e h = name_has_spelling f e.principal (and_both (name_fits f e.principal) (is_short e.key) h).0
+
+pub key_of_entry_fits : (f : KtFormat) (e : EntryParts) → fits f e ≡ true → IsShort e.key
+key_of_entry_fits f e h = ltb-true (length e.key) (2 ^ 16) (and_both (name_fits f e.principal) (is_short e.key) h).1
+
+pub fits_no : (f : KtFormat) (e : EntryParts) → (HasSpelling f e.principal → false ≡ true) → false ≡ fits f e
+fits_no f e from =
+    let no : false ≡ name_fits f e.principal = name_fits_is f e.principal false (λ h. absurd cc) from in
+    ap (λ (b : Bool). b && is_short e.key) no
+
+pub fits_yes : (f : KtFormat) (e : EntryParts) → HasSpelling f e.principal → length e.key ≤ 65535 → true ≡ fits f e
+fits_yes f e h le = sym (both_and (name_fits f e.principal) (is_short e.key) (spelling_fits f e.principal h) (lt-ltb (length e.key) (2 ^ 16) (omega arith)))
+
+-- ---- how long it is
+
+data16_len : (o : Order) (c : List ℕ) → length (data16 o c) ≡ 2 + length c
+data16_len o c = omega (arith, length-append (digits o w16 (length c)) c, (wide16 o).len (length c))
+
+pub written_len : (f : KtFormat) (e : EntryParts) → length (written f e) ≡ length (kt_principal f e.principal) + 13 + length e.key
+written_len f e =
+    let o = order_of f in
+    let d0 = kt_principal f e.principal in
+    let d1 = digits o w32 e.timestamp in
+    let d3 = digits o w16 e.enctype in
+    let d4 = data16 o e.key in
+    let d5 = digits o w32 e.version in
+    omega (arith, length-append (front f (front_of e)) d5, length-append d0 (d1 ++ ((e.version % 256) ∷ (d3 ++ d4))), length-append d1 ((e.version % 256) ∷ (d3 ++ d4)), length-append d3 d4, data16_len o e.key, (wide32 o).len e.timestamp, (wide16 o).len e.enctype, (wide32 o).len e.version)
+
+-- ---- that it is read again
+
+same_front : (f : KtFormat) (e : EntryParts) → front f (front_of e) ≡ front f (front_of (read_back f e))
+same_front (V1 o) e = refl
+same_front V2 e = refl
+
+kept_fits : (f : KtFormat) (t : ℕ) → t < 2 ^ 32 → HasNameType f (kept_type f t)
+kept_fits (V1 o) t lt = refl
+kept_fits V2 t lt = lt
+
+version_back : (v : ℕ) (rest : List ℕ) → version_by (v % 256) (Some (v, rest)) ≡ v
+version_back v rest = elim (eqb_tells v 0) [
+  | inl y ↦ let yes = y.0 in rw yes (let zero_is : v ≡ 0 = y.1 in rw zero_is refl)
+  | inr n ↦ let no = n.0 in rw no refl
+]
+
+pub written_spells : (f : KtFormat) (e : EntryParts) (n : ℕ) → fits f e ≡ true → IsEntry e → Spells f (read_back f e) (written f e ++ replicate n 0)
+written_spells f e n fit is =
+    let o = order_of f in
+    let d5 = digits o w32 e.version in
+    let z = replicate {A = ℕ} n 0 in
+    let p = name_of_entry_fits f e fit in
+    record {
+      fields = front_of (read_back f e);
+      tail = d5 ++ z;
+      fit = record {
+        principal = record { count = p.count; realm = p.realm; components = p.components; name_type = kept_fits f e.principal.name_type is.name_type };
+        timestamp = is.timestamp;
+        low_version = omega arith;
+        enctype = is.enctype;
+        key = key_of_entry_fits f e fit;
+      };
+      parts = append_assoc (front f (front_of e)) d5 z ∙ ap (λ (b : List ℕ). b ++ (d5 ++ z)) (same_front f e);
+      entry = ap (λ (v : ℕ). record { principal = (read_back f e).principal; timestamp = e.timestamp; version = v; enctype = e.enctype; key = e.key })
+          (sym (ap (version_by (e.version % 256)) (number_again o w32 (2 ^ 32) (wide32 o) e.version z is.version) ∙ version_back e.version z));
+    }
+
+pub only_written : (f : KtFormat) (e x : EntryParts) (n : ℕ) → fits f e ≡ true → IsEntry e → Spells f x (written f e ++ replicate n 0) → x ≡ read_back f e
+only_written f e x n fit is s =
+    some_is x (read_back f e) (sym (entry_again f x (written f e ++ replicate n 0) s) ∙ entry_again f (read_back f e) (written f e ++ replicate n 0) (written_spells f e n fit is))
+
+pub written_is_record : (f : KtFormat) (e : EntryParts) → fits f e ≡ true → IsEntry e → IsRecord f (written f e)
+written_is_record f e fit is = λ n. ap is_some (entry_again f (read_back f e) (written f e ++ replicate {A = ℕ} n 0) (written_spells f e n fit is))
+
+-- ---- written part by part
+
+regroup : (a b c d e f : List ℕ) → ((((a ++ b) ++ c) ++ d) ++ e) ++ f ≡ (a ++ (b ++ (c ++ (d ++ e)))) ++ f
+regroup a b c d e f = simp append_assoc
+
+pub entry_put : (f : KtFormat) (e : EntryParts) (o : Order) (bytes old a b c d x new : List ℕ) (at i j k l m n : ℕ) → o ≡ order_of f → bytes ≡ e.key → at ≤ length old
+    → Wrote old a at i (kt_principal f e.principal) → Wrote a b i j (digits o w32 e.timestamp) → Wrote b c j k ((e.version % 256) ∷ []) → Wrote c d k l (digits o w16 e.enctype) → Wrote d x l m (data16 o bytes) → Wrote x new m n (digits o w32 e.version)
+    → Wrote old new at n (written f e)
+entry_put f e o bytes old a b c d x new at i j k l m n is_o is_key le w0 w1 w2 w3 w4 w5 =
+    let d0 = kt_principal f e.principal in
+    let d1 = digits o w32 e.timestamp in
+    let d2 : List ℕ = (e.version % 256) ∷ [] in
+    let d3 = digits o w16 e.enctype in
+    let d4 = data16 o bytes in
+    let d5 = digits o w32 e.version in
+    let two = wrote-then old a b at i j d0 d1 le w0 w1 in
+    let three = wrote-then old b c at j k (d0 ++ d1) d2 le two w2 in
+    let four = wrote-then old c d at k l ((d0 ++ d1) ++ d2) d3 le three w3 in
+    let five = wrote-then old d x at l m (((d0 ++ d1) ++ d2) ++ d3) d4 le four w4 in
+    let six = wrote-then old x new at m n ((((d0 ++ d1) ++ d2) ++ d3) ++ d4) d5 le five w5 in
+    let whole = subst (Wrote old new at n) (regroup d0 d1 d2 d3 d4 d5) six in
+    subst (λ (q : Order). Wrote old new at n ((d0 ++ (digits q w32 e.timestamp ++ (d2 ++ (digits q w16 e.enctype ++ data16 q e.key)))) ++ digits q w32 e.version)) is_o
+    (subst (λ (y : List ℕ). Wrote old new at n ((d0 ++ (d1 ++ (d2 ++ (d3 ++ data16 o y)))) ++ d5)) is_key whole)

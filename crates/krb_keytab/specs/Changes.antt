@@ -1,0 +1,104 @@
+-- Adding an entry to a keytab, and removing one.
+use Rattle.std.specs.Prelude.{ℕ, ◌+◌, ◌-◌, List, [], ◌∷◌, ◌++◌, length, map, find, replicate, Option, Some, None, is_some, option_map, Result, Ok, Err, Bool, false, nat_lt, nat_le, ◌==◌, if◌then◌else◌}
+use Rattle.krb_wire.specs.Spelling.{Parts}
+use Rattle.krb_walk.specs.declared.refusal.Code.{Code}
+use Rattle.krb_walk.specs.declared.refusal.Code.TheVariants as code
+use Rattle.krb_walk.specs.Store.{end_of, fault_of, live_bytes}
+use Rattle.krb_keytab.specs.Entry.{EntryParts}
+use Rattle.krb_keytab.specs.Cells.{Cell, Live, Free, End, Bare, Mark, Damaged}
+use Rattle.krb_keytab.specs.Questions.{size}
+use Rattle.krb_keytab.specs.Store.{State, image_of, store_of}
+use Rattle.krb_keytab.specs.LookUp.{Placed, finding}
+use Rattle.krb_keytab.specs.Written.{fits, written}
+
+-- a cell, behind its place
+abbrev pub PlacedCell : Type 0
+PlacedCell = ℕ × Cell
+
+-- the cells with their places, where the first has that one
+abbrev pub placed_cells : ℕ → List Cell → List PlacedCell
+placed_cells at [] = []
+placed_cells at (c ∷ cs) = (at, c) ∷ placed_cells (at + 4 + size c) cs
+
+-- the cells, with the one at a place turned into another
+abbrev pub turned_at : ℕ → (Cell → Cell) → ℕ → List Cell → List Cell
+turned_at at turn p cells = map (λ x. if x.0 == p then turn x.1 else x.1) (placed_cells at cells)
+
+-- ---- removing
+
+-- a hole of the cell's size, all zeros
+abbrev pub freed : Cell → Cell
+freed c = Free (replicate (size c) 0)
+
+-- the keytab, where the cell at a place is such a hole and all else is as it was
+abbrev pub without : State → ℕ → State
+without k p = record k { contents = record { cells = turned_at 2 freed p k.contents.cells; end = k.contents.end } }
+
+-- what a removal gives: a damaged keytab refuses it, and so does each number where no record stands
+abbrev pub cutting : State → ℕ → Result State Code
+cutting k p =
+    if is_some (fault_of (store_of k)) then Err code.Damaged
+    else (if is_some (live_bytes (store_of k) p) then Ok (without k p) else Err code.NotLive)
+
+-- the removal of the record that was found: its place, and the keytab without it
+abbrev pub cutting_found : State → Result Placed Code → Result (ℕ × State) Code
+cutting_found k (Ok x) = Ok (x.0, without k x.0)
+cutting_found k (Err refused) = Err refused
+
+-- the removal of the record that a look-up finds
+abbrev pub removing : State → Parts → ℕ → ℕ → Result (ℕ × State) Code
+removing k name kvno enctype = cutting_found k (finding k name kvno enctype)
+
+-- ---- adding
+
+-- a hole of at least so many bytes
+abbrev pub is_hole : ℕ → Cell → Bool
+is_hole n (Live b) = false
+is_hole n (Free b) = nat_le n (length b)
+
+-- the first such hole, with its place
+abbrev pub first_hole : ℕ → ℕ → List Cell → Option PlacedCell
+first_hole at n cells = find (λ x. is_hole n x.1) (placed_cells at cells)
+
+-- bytes, and zeros behind them up to a size
+abbrev pub padded : List ℕ → ℕ → List ℕ
+padded bytes n = bytes ++ replicate (n - length bytes) 0
+
+-- a record of the cell's size that begins with these bytes, and is zeros behind them
+abbrev pub filled : List ℕ → Cell → Cell
+filled bytes c = Live (padded bytes (size c))
+
+-- the keytab, where the cell at a place is such a record and all else is as it was
+abbrev pub with_filled : State → List ℕ → ℕ → State
+with_filled k bytes p = record k { contents = record { cells = turned_at 2 (filled bytes) p k.contents.cells; end = k.contents.end } }
+
+-- what ends the cells after one more: behind an end mark nothing is left
+abbrev pub end_after : End → End
+end_after Bare = Bare
+end_after (Mark rest) = Mark []
+end_after (Damaged kind rest) = Damaged kind rest
+
+-- the keytab with a record of these bytes behind its cells
+abbrev pub with_last : State → List ℕ → State
+with_last k bytes = record k { contents = record { cells = k.contents.cells ++ Live bytes ∷ []; end = end_after k.contents.end } }
+
+-- the addition of bytes behind the cells: refused where the image would be longer than the limit
+abbrev pub appending : State → List ℕ → Result (ℕ × State) Code
+appending k bytes =
+    if nat_lt k.limit (length (image_of (with_last k bytes))) then Err code.Full
+    else Ok (end_of (store_of k), with_last k bytes)
+
+-- the addition of bytes, into a hole where there is one, and else behind the cells
+abbrev pub putting_into : State → List ℕ → Option PlacedCell → Result (ℕ × State) Code
+putting_into k bytes (Some hole) = Ok (hole.0, with_filled k bytes hole.0)
+putting_into k bytes None = appending k bytes
+
+-- the addition of bytes: the first hole that is large enough takes them
+abbrev pub putting_bytes : State → List ℕ → Result (ℕ × State) Code
+putting_bytes k bytes = putting_into k bytes (first_hole 2 (length bytes) k.contents.cells)
+
+-- what an addition gives, the place of the record and the keytab with it: a damaged keytab refuses it, and then so does an entry with a part that is too long
+abbrev pub putting : State → EntryParts → Result (ℕ × State) Code
+putting k e =
+    if is_some (fault_of (store_of k)) then Err code.Damaged
+    else (if fits k.format e then putting_bytes k (written k.format e) else Err code.TooLong)

@@ -1,0 +1,53 @@
+-- The one spelling that is written for an entry.
+use Rattle.std.specs.Prelude.{◌≡◌, ℕ, ◌<◌, ◌^◌, ◌%◌, List, ◌++◌, length, replicate, Bool, ◌&&◌, nat_lt, IsSome}
+use Rattle.std.specs.List.{list_all}
+use Rattle.std.specs.Int.{w32}
+use Rattle.krb_wire.specs.declared.format.KtFormat.{KtFormat}
+use Rattle.krb_wire.specs.declared.format.KtFormat.TheVariants.{V1, V2}
+use Rattle.krb_wire.specs.Spelling.{Parts, digits, order_of, count_field}
+use Rattle.krb_keytab.specs.Entry.{EntryParts, Front, front, entry_at, Spells}
+
+-- the length of the bytes fits sixteen bits
+abbrev pub is_short : List ℕ → Bool
+is_short bytes = nat_lt (length bytes) (2 ^ 16)
+
+-- so does each length and count of a name
+abbrev pub name_fits : KtFormat → Parts → Bool
+name_fits f p = nat_lt (count_field f (length p.components)) (2 ^ 16) && (is_short p.realm && list_all is_short p.components)
+
+-- so does each length and count of an entry
+abbrev pub fits : KtFormat → EntryParts → Bool
+fits f e = name_fits f e.principal && is_short e.key
+
+-- the fields up to the key, with the version modulo 256
+abbrev pub front_of : EntryParts → Front
+front_of e = record { principal = e.principal; timestamp = e.timestamp; low_version = e.version % 256; enctype = e.enctype; key = e.key }
+
+-- the written form: these fields, and the whole version in 32 bits
+abbrev pub written : KtFormat → EntryParts → List ℕ
+written f e = front f (front_of e) ++ digits (order_of f) w32 e.version
+
+-- an entry's written form, without where the entry lies in memory
+pub record FormParts : Type 0 where
+  pub format : KtFormat
+  pub bytes : List ℕ
+
+-- the bytes begin with an entry, whatever zeros stand behind them
+abbrev pub IsRecord : KtFormat → List ℕ → Type 0
+IsRecord f bytes = (n : ℕ) → IsSome (entry_at f (bytes ++ replicate n 0))
+
+-- the name type that is written: version 1 leaves it out, and 0 is read there
+abbrev pub kept_type : KtFormat → ℕ → ℕ
+kept_type (V1 o) t = 0
+kept_type V2 t = t
+
+-- the entry that is read where an entry was written
+abbrev pub read_back : KtFormat → EntryParts → EntryParts
+read_back f e = record e { principal = record { name_type = kept_type f e.principal.name_type; realm = e.principal.realm; components = e.principal.components } }
+
+-- each number fits its type
+pub record IsEntry (e : EntryParts) : Type 0 where
+  pub name_type : e.principal.name_type < 2 ^ 32
+  pub timestamp : e.timestamp < 2 ^ 32
+  pub version : e.version < 2 ^ 32
+  pub enctype : e.enctype < 2 ^ 16

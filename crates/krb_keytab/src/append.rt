@@ -1,0 +1,110 @@
+//! Records put behind the cells of an image.
+
+ghost use Rattle.std.specs.Prelude.{◌≡◌, ◌≤◌, ◌<◌, ◌^◌, ◌+◌, ◌-◌, ◌++◌, ◌∷◌, [], None, length, drop, take, replicate, IfOk, OnOk, OnErr, vec_len};
+ghost use Rattle.std.specs.List.{splice};
+ghost use Rattle.krb_wire.specs.Spelling.{order_of};
+ghost use Rattle.krb_keytab.specs.Cells.{cell, contents, Live};
+ghost use Rattle.krb_keytab.specs.Questions.{kind_of};
+ghost use Rattle.krb_keytab.specs.Known.{IsKnownEnd, IsChanged, mark_len, len_with};
+ghost use Rattle.krb_keytab.specs.Changes.{end_after};
+
+use crate::cells::{put_record, put_zeros};
+use crate::form::Form;
+use crate::image::CellsEnd;
+use crate::step::Ending;
+use crate::turn::bytes_fit;
+use std::alloc::{AllocError, Allocator};
+
+// An end mark is kept behind an appended record.
+fn mark_len(ending: Ending) -> usize
+    ensures { result ≡ mark_len ending }
+{
+    match ending {
+        Ending::Mark => 4,
+        _ => 0,
+    }
+}
+
+/// How long an image is with a record of so many bytes behind its cells.
+pub fn len_with(end: CellsEnd, need: usize) -> usize
+    requires place { end.place ≤ 2 ^ 30 }
+    requires need { need < 2 ^ 34 }
+    ensures { result ≡ len_with end need }
+{
+    end.place + 4 + need + mark_len(end.ending)
+}
+
+// Gives the bytes a length, and keeps those before a place. No memory is taken where there are as many.
+fn set_len<A: Allocator>(image: &mut Vec<u8, A>, at: usize, len: usize) -> Result<(), AllocError>
+    requires kept { at ≤ vec_len image.old }
+    requires beyond { at ≤ len }
+    ensures ok { OnOk result (take at image.new.items ≡ take at image.old.items) }
+    ensures len { OnOk result (vec_len image.new ≡ len) }
+    ensures err { OnErr result (image.new.items ≡ image.old.items) }
+    ensures full { OnErr result (vec_len image.old < len) }
+{
+    if len <= image.len() {
+        image.truncate(len);
+        return Ok(());
+    }
+    image.resize(len, 0)
+}
+
+// Makes all bytes from a place on a record, and zeros behind it.
+fn put_last<A: Allocator>(image: &mut [u8], at: usize, form: &Form<'_, A>)
+    requires room { at + 4 + length form.now.bytes ≤ length image.old }
+    requires small { length form.now.bytes < 2 ^ 31 }
+    ensures { image.new ≡ splice image.old at (length image.old)
+        (cell (order_of form.now.format) (Live form.now.bytes)
+        ++ replicate (length image.old - (at + 4 + length form.now.bytes)) 0) }
+{
+    let need = form.len();
+    let len = image.len();
+    put_record(image, at, need, form);
+    put_zeros(image, at + 4 + need, len);
+}
+
+// The same in a vector, whose length stays.
+fn put_behind<A: Allocator, B: Allocator>(image: &mut Vec<u8, A>, at: usize, form: &Form<'_, B>)
+    requires room { at + 4 + length form.now.bytes ≤ vec_len image.old }
+    requires small { length form.now.bytes < 2 ^ 31 }
+    ensures len { vec_len image.new ≡ vec_len image.old }
+    ensures written { image.new.items ≡ splice image.old.items at (length image.old.items)
+        (cell (order_of form.now.format) (Live form.now.bytes)
+        ++ replicate (length image.old.items - (at + 4 + length form.now.bytes)) 0) }
+{
+    put_last(image, at, form);
+}
+
+/// Puts a record behind the cells, and an end mark behind it where one stood. The answer is where the
+/// cells end then.
+pub fn append_record<A: Allocator, B: Allocator>(
+    image: &mut Vec<u8, A>,
+    end: CellsEnd,
+    form: &Form<'_, B>,
+) -> Result<CellsEnd, AllocError>
+    requires long { 2 ≤ vec_len image.old }
+    requires small { vec_len image.old ≤ 2 ^ 30 }
+    requires room { len_with end (length form.now.bytes) ≤ 2 ^ 30 }
+    requires known { IsKnownEnd form.now.format image.old.items end }
+    requires whole { kind_of (contents form.now.format (drop 2 image.old.items)).end ≡ None }
+    ensures changed { IfOk result (λ e. IsChanged form.now.format image.old.items image.new.items
+        (record {
+          cells = (contents form.now.format (drop 2 image.old.items)).cells
+              ++ Live form.now.bytes ∷ [];
+          end = end_after (contents form.now.format (drop 2 image.old.items)).end;
+        }) e) }
+    ensures len { OnOk result (vec_len image.new ≡ len_with end (length form.now.bytes)) }
+    ensures err { OnErr result (image.new.items ≡ image.old.items) }
+    ensures full { OnErr result (vec_len image.old < len_with end (length form.now.bytes)) }
+{
+    bytes_fit(image);
+    let need = form.len();
+    set_len(image, end.place, len_with(end, need))?;
+    let after = CellsEnd {
+        place: end.place + 4 + need,
+        ending: end.ending,
+    };
+    put_behind(image, end.place, form);
+    Ok(after)
+}

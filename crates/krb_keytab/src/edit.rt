@@ -1,0 +1,49 @@
+//! Events over an image.
+
+ghost use Rattle.std.specs.Prelude.{◌≡◌, map, IfOk, IfErr};
+ghost use Rattle.krb_walk.specs.Said.{said};
+ghost use Rattle.krb_keytab.specs.Edited.{Edited, EditRefuses};
+
+use crate::keytab::Keytab;
+use crate::new_entry::NewEntry;
+use crate::open::KtOpenRefused;
+use krb_walk::{Event, Reply, Session};
+use krb_wire::{Limits, Order};
+use std::alloc::Allocator;
+
+/// Why an image was not edited to the end.
+#[derive(Drop)]
+pub enum EditRefused<A: Allocator> {
+    /// It is no keytab.
+    NotAKeytab(KtOpenRefused<A>),
+    /// Memory was wanting; the image is the one after the events that have a reply.
+    NoMemory(Vec<u8, A>),
+}
+
+/// Opens an image, applies events to it in a new session, and gives the image afterwards. A reply to
+/// each event is appended. Every walk is given what is due to it: that is in `Edited`.
+pub fn edit_image<A: Allocator + Copy>(
+    alloc: A,
+    image: Vec<u8, A>,
+    v1_order: Order,
+    limits: Limits,
+    events: &[Event<NewEntry<A>>],
+    replies: &mut Vec<Reply<A>, A>,
+) -> Result<Vec<u8, A>, EditRefused<A>>
+    ensures ok { IfOk result (λ bytes. Edited v1_order limits image.items bytes.items events.now
+        (map said replies.old.items) (map said replies.new.items)) }
+    ensures err { IfErr result (λ e. EditRefuses e v1_order limits image events.now
+        (map said replies.old.items) (map said replies.new.items)) }
+{
+    let keytab = match Keytab::open(image, v1_order, limits) {
+        Ok(keytab) => keytab,
+        Err(refused) => return Err(EditRefused::NotAKeytab(refused)),
+    };
+    let mut session = Session::new(alloc, keytab);
+    let ran = session.run(events, replies);
+    let image = session.into_store().into_image();
+    match ran {
+        Ok(()) => Ok(image),
+        Err(_) => Err(EditRefused::NoMemory(image)),
+    }
+}

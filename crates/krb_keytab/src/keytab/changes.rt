@@ -1,0 +1,91 @@
+//! Changes of a keytab: each is one of its image, in place.
+
+ghost use Rattle.std.specs.Prelude.{◌≡◌, ◌<◌, ◌^◌, length, Some, None, IfSome};
+ghost use Rattle.krb_walk.specs.Store.{fault_of};
+ghost use Rattle.krb_keytab.specs.Store.{store_of};
+ghost use Rattle.krb_keytab.specs.Changes.{cutting, with_filled};
+ghost use Rattle.krb_keytab.specs.Holes.{hole_from};
+ghost use Rattle.krb_keytab.specs.Answers.{AnswersCut, AnswersAppend, AnswersPut};
+
+use super::Keytab;
+use crate::append::{append_record, len_with};
+use crate::form::Form;
+use crate::hole::{Hole, first_hole};
+use crate::image::spelled_of;
+use crate::new_entry::NewEntry;
+use crate::turn::{fill_hole, free_cell};
+use krb_walk::{Code, Refusal};
+use std::alloc::Allocator;
+
+impl<A: Allocator> Keytab<A> {
+    /// Makes the record at a place a hole of its size, all zeros. A damaged keytab refuses.
+    pub fn remove_at(&mut self, place: u32) -> Result<(), Code>
+        ensures { AnswersCut self.old (cutting self.old place) result self.new }
+    {
+        if self.fault().is_some() {
+            return Err(Code::Damaged);
+        }
+        if self.record(place).is_none() {
+            return Err(Code::NotLive);
+        }
+        free_cell(self.format, &mut self.image, self.end, place as usize);
+        Ok(())
+    }
+
+    // The first hole of at least so many bytes.
+    fn hole(&self, need: usize) -> Option<Hole>
+        ensures first { result ≡ hole_from 2 need self.now.contents.cells }
+        ensures within { IfSome result (λ h. h.place < 2 ^ 32) }
+    {
+        first_hole(self.format, &self.image, self.end, need)
+    }
+
+    // Puts a record into that hole.
+    fn fill<B: Allocator>(&mut self, hole: Hole, form: &Form<'_, B>)
+        requires hole { hole_from 2 (length form.now.bytes) self.old.contents.cells ≡ Some hole }
+        requires format { form.now.format ≡ self.old.format }
+        ensures { self.new ≡ with_filled self.old form.now.bytes hole.place }
+    {
+        fill_hole(&mut self.image, self.end, hole, form);
+    }
+
+    // Puts a record behind the cells of a keytab that is whole.
+    fn append<B: Allocator>(&mut self, form: &Form<'_, B>) -> Result<u32, Refusal>
+        requires whole { fault_of (store_of self.old) ≡ None }
+        requires format { form.now.format ≡ self.old.format }
+        ensures { AnswersAppend self.old form.now.bytes result self.new }
+    {
+        let _ = spelled_of(self.format, &self.image);
+        if len_with(self.end, form.len()) > self.limit as usize {
+            return Err(Refusal::Code(Code::Full));
+        }
+        let place = self.end.place as u32;
+        match append_record(&mut self.image, self.end, form) {
+            Ok(end) => {
+                self.end = end;
+                Ok(place)
+            }
+            Err(_) => Err(Refusal::NoMemory),
+        }
+    }
+
+    /// Puts an entry into the first hole that is large enough, or else behind the cells, and answers
+    /// its place. A damaged keytab refuses it, and then so does an entry with a part too long for its
+    /// length, and then a limit that the image would pass. Memory is taken only where the image
+    /// becomes longer than it was.
+    pub fn add<B: Allocator>(&mut self, entry: &NewEntry<B>) -> Result<u32, Refusal>
+        ensures { AnswersPut self.old entry.now result self.new }
+    {
+        if self.fault().is_some() {
+            return Err(Refusal::Code(Code::Damaged));
+        }
+        let Some(form) = Form::of(self.format(), entry) else {
+            return Err(Refusal::Code(Code::TooLong));
+        };
+        let Some(hole) = self.hole(form.len()) else {
+            return self.append(&form);
+        };
+        self.fill(hole, &form);
+        Ok(hole.place as u32)
+    }
+}

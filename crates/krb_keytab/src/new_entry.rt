@@ -1,0 +1,54 @@
+//! Entries with memory of their own.
+
+ghost use Rattle.std.specs.Prelude.{◌≡◌, IfOk};
+
+use crate::entry::EntryView;
+use krb_wire::{NoMemory, Principal, copy_name};
+use std::alloc::Allocator;
+use std::marker::Model;
+
+/// An entry with memory of its own. Contracts see the entry, and not where it lies.
+#[derive(Drop)]
+pub struct NewEntry<A: Allocator> {
+    pub principal: Principal<A>,
+    /// Seconds since 1970-01-01T00:00:00Z.
+    pub timestamp: u32,
+    /// The key version.
+    pub kvno: u32,
+    pub enctype: u16,
+    pub key: Vec<u8, A>,
+}
+
+impl<A: Allocator> Model for NewEntry<A> {
+    ghost use Rattle.krb_keytab.specs.Entry.{EntryParts};
+    ghost use Rattle.krb_wire.specs.Reading.{principal_parts};
+
+    ghost Value = { EntryParts };
+
+    ghost view = { λ e. record {
+      principal = principal_parts e.principal;
+      timestamp = e.timestamp;
+      version = e.kvno;
+      enctype = e.enctype;
+      key = e.key.items;
+    } };
+}
+
+impl<'a> EntryView<'a> {
+    /// The same entry with memory of its own.
+    pub fn copy<A: Allocator + Copy>(&self, alloc: A) -> Result<NewEntry<A>, NoMemory>
+        ensures { IfOk result (λ e. e ≡ self.now) }
+    {
+        let principal = copy_name(alloc, self.principal())?;
+        let Ok(key) = Vec::from_slice(alloc, self.key()) else {
+            return Err(NoMemory);
+        };
+        Ok(NewEntry {
+            principal,
+            timestamp: self.timestamp(),
+            kvno: self.kvno(),
+            enctype: self.enctype(),
+            key,
+        })
+    }
+}

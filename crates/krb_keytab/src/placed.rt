@@ -1,0 +1,46 @@
+//! A keytab as a store that is walked while it is changed.
+
+use crate::keytab::Keytab;
+use crate::new_entry::NewEntry;
+use krb_walk::{Code, Fault, Placed, Refusal, Stop};
+use std::alloc::Allocator;
+
+impl<A: Allocator> Placed for Keytab<A> {
+    ghost use Rattle.krb_keytab.specs.Walked.{keytab_rules};
+
+    type Item = NewEntry<A>;
+
+    ghost rules = { keytab_rules };
+
+    fn first(&self) -> u32 {
+        self.first()
+    }
+
+    fn end(&self) -> u32 {
+        self.end()
+    }
+
+    fn fault(&self) -> Option<Fault> {
+        self.fault()
+    }
+
+    fn is_place(&self, place: u32) -> bool {
+        self.is_place(place)
+    }
+
+    fn stop_at(&self, place: u32) -> Stop {
+        self.stop_at(place)
+    }
+
+    fn bytes_at(&self, place: u32) -> &[u8] {
+        self.bytes_at(place)
+    }
+
+    fn put(&mut self, item: &NewEntry<A>) -> Result<u32, Refusal> {
+        self.add(item)
+    }
+
+    fn cut(&mut self, place: u32) -> Result<(), Code> {
+        self.remove_at(place)
+    }
+}

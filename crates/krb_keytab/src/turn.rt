@@ -1,0 +1,57 @@
+//! One cell of an image turned into another of its size.
+
+ghost use Rattle.std.specs.Prelude.{◌≡◌, ◌≤◌, ◌^◌, length, drop, IsSome, Some};
+ghost use Rattle.krb_keytab.specs.Cells.{contents};
+ghost use Rattle.krb_keytab.specs.Questions.{live_at};
+ghost use Rattle.krb_keytab.specs.Known.{IsKnownEnd, IsChanged};
+ghost use Rattle.krb_keytab.specs.Laws.{AreBytes};
+ghost use Rattle.krb_keytab.specs.Changes.{turned_at, freed, filled};
+ghost use Rattle.krb_keytab.specs.Holes.{hole_from};
+
+use crate::cells::{put_hole, put_record};
+use crate::form::Form;
+use crate::hole::Hole;
+use crate::image::{CellsEnd, live_bytes_of};
+use krb_wire::KtFormat;
+use std::alloc::Allocator;
+
+/// What a slice of bytes holds is below 256.
+pub fn bytes_fit(bytes: &[u8])
+    ensures { AreBytes bytes.now }
+{}
+
+/// Makes the live cell at a place a hole of zeros.
+pub fn free_cell(format: KtFormat, image: &mut [u8], end: CellsEnd, place: usize)
+    requires long { 2 ≤ length image.old }
+    requires small { length image.old ≤ 2 ^ 30 }
+    requires known { IsKnownEnd format image.old end }
+    requires live { IsSome (live_at 2 (contents format (drop 2 image.old)).cells place) }
+    ensures len { length image.new ≡ length image.old }
+    ensures changed { IsChanged format image.old image.new (record {
+      cells = turned_at 2 freed place (contents format (drop 2 image.old)).cells;
+      end = (contents format (drop 2 image.old)).end;
+    }) end }
+{
+    bytes_fit(image);
+    let size = live_bytes_of(format, image, end, place).len();
+    put_hole(format, image, place, size);
+}
+
+/// Makes the first hole that is large enough a record of its size.
+pub fn fill_hole<A: Allocator>(image: &mut [u8], end: CellsEnd, hole: Hole, form: &Form<'_, A>)
+    requires long { 2 ≤ length image.old }
+    requires small { length image.old ≤ 2 ^ 30 }
+    requires known { IsKnownEnd form.now.format image.old end }
+    requires hole { hole_from 2 (length form.now.bytes)
+        (contents form.now.format (drop 2 image.old)).cells ≡ Some hole }
+    ensures len { length image.new ≡ length image.old }
+    ensures changed { IsChanged form.now.format image.old image.new (record {
+      cells = turned_at 2 (filled form.now.bytes) hole.place
+          (contents form.now.format (drop 2 image.old)).cells;
+      end = (contents form.now.format (drop 2 image.old)).end;
+    }) end }
+{
+    bytes_fit(image);
+    let _ = form.len();
+    put_record(image, hole.place, hole.size, form);
+}
