@@ -1,5 +1,5 @@
 -- What an addition gives, told by the image that is kept.
-use Rattle.std.proofs.Common.{◌≡◌, ℕ, ◌+◌, ◌<◌, ◌≤◌, Bool, true, false, cond, ltb, List, [], ◌∷◌, ◌++◌, length, drop, replicate, Option, Some, None, Result, Ok, Err, refl, sym, ap, subst, ◌∙◌, length-append, arith}
+use Rattle.std.proofs.Common.{◌≡◌, ℕ, ◌+◌, ◌<◌, ◌≤◌, Bool, true, false, cond, ltb, List, [], ◌∷◌, ◌++◌, length, drop, Option, Some, None, Result, Ok, Err, refl, sym, ap, ◌∙◌, length-append, arith}
 use Rattle.std.specs.Prelude.{is_some, option_map}
 use Rattle.std.specs.List.{flat_map}
 use Rattle.std.proofs.lemmas.Bool.{lt-ltb, le-ltb}
@@ -8,7 +8,6 @@ use Rattle.krb_wire.specs.declared.format.KtFormat.{KtFormat}
 use Rattle.krb_wire.specs.Spelling.{order_of}
 use Rattle.krb_wire.proofs.Fields.{some_is}
 use Rattle.krb_walk.specs.declared.fault.FaultKind.{FaultKind}
-use Rattle.krb_walk.specs.declared.refusal.Code.{Code}
 use Rattle.krb_walk.specs.declared.refusal.Code.TheVariants as code
 use Rattle.krb_walk.specs.declared.refusal.Refusal.{Refusal}
 use Rattle.krb_walk.specs.declared.refusal.Refusal.TheVariants.{Code as ByCode, NoMemory}
@@ -16,13 +15,13 @@ use Rattle.krb_walk.specs.Store.{end_of, fault_from, fault_of}
 use Rattle.krb_keytab.specs.declared.image.CellsEnd.{CellsEnd}
 use Rattle.krb_keytab.specs.declared.hole.Hole.{Hole}
 use Rattle.krb_keytab.specs.Entry.{EntryParts}
-use Rattle.krb_keytab.specs.Cells.{Cell, Live, End, Contents, cell, end_bytes, contents, image}
+use Rattle.krb_keytab.specs.Cells.{Live, Contents, cell, end_bytes, contents, image}
 use Rattle.krb_keytab.specs.Seen.{ends}
 use Rattle.krb_keytab.specs.Questions.{end_place, kind_of}
 use Rattle.krb_keytab.specs.Known.{IsKnownEnd, mark_len, len_with}
 use Rattle.krb_keytab.specs.Store.{State, image_of, store_of}
 use Rattle.krb_keytab.specs.Written.{fits, written}
-use Rattle.krb_keytab.specs.Changes.{PlacedCell, turned_at, filled, first_hole, with_filled, with_last, end_after, appending, putting_into, putting_bytes, putting}
+use Rattle.krb_keytab.specs.Changes.{PlacedCell, first_hole, with_filled, with_last, end_after, appending, putting_into, putting_bytes, putting}
 use Rattle.krb_keytab.specs.Holes.{hole_of, hole_from}
 use Rattle.krb_keytab.specs.Answers.{AnswersAppend, AnswersPut}
 use Rattle.krb_keytab.proofs.Cuts.{end_place_is, end_place-append}

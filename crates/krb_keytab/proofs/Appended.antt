@@ -1,9 +1,9 @@
 -- What a record behind the cells makes of an image.
 use Rattle.std.proofs.Common.{◌≡◌, ℕ, ◌+◌, ◌-◌, ◌^◌, ◌<◌, ◌≤◌, List, [], ◌∷◌, ◌++◌, length, take, drop, replicate, None, refl, sym, ap, subst, ◌∙◌, append_assoc, length-append, arith}
 use Rattle.std.specs.Prelude.{IsSome}
-use Rattle.std.specs.List.{flat_map, splice, AllByRecursion}
+use Rattle.std.specs.List.{flat_map, splice}
 use Rattle.std.proofs.lemmas.Grind.{flat_map-append}
-use Rattle.std.proofs.lemmas.List.{append-nil, take_at, drop_at, take-append-drop, length-take, length-drop, drop-drop}
+use Rattle.std.proofs.lemmas.List.{append-nil, take_at, drop_at, take-append-drop, length-take}
 use Rattle.std.proofs.lemmas.List.Concat.{flat_map-cons}
 use Rattle.krb_wire.specs.declared.format.Order.{Order}
 use Rattle.krb_wire.specs.declared.format.Order.TheVariants.{Big, Little}
@@ -14,9 +14,9 @@ use Rattle.krb_keytab.specs.declared.image.CellsEnd.{CellsEnd}
 use Rattle.krb_keytab.specs.declared.step.Ending.{Ending}
 use Rattle.krb_keytab.specs.declared.step.Ending.TheVariants as ending
 use Rattle.krb_keytab.specs.Entry.{entry_at}
-use Rattle.krb_keytab.specs.Cells.{Cell, Live, End, Bare, Mark, Damaged, Contents, cell, end_bytes, spelling, contents, IsCell, IsEnd, IsSound}
+use Rattle.krb_keytab.specs.Cells.{Live, End, Bare, Mark, Damaged, Contents, cell, end_bytes, spelling, contents, IsCell, IsEnd, IsSound}
 use Rattle.krb_keytab.specs.Seen.{ends}
-use Rattle.krb_keytab.specs.Questions.{size, end_place, kind_of}
+use Rattle.krb_keytab.specs.Questions.{end_place, kind_of}
 use Rattle.krb_keytab.specs.Known.{IsKnownEnd, IsChanged, mark_len, len_with}
 use Rattle.krb_keytab.specs.Written.{IsRecord}
 use Rattle.krb_keytab.specs.Changes.{end_after}

@@ -70,10 +70,6 @@ told_by f bytes k c cs is spelled =
     ∙ ap (λ (b : List ℕ). b ++ end_bytes o k.end) (flat_map-cons (cell o) c cs) ∙ append_assoc (cell o c) (flat_map (cell o) cs) (end_bytes o k.end) in
     told_of f c (flat_map (cell o) cs ++ end_bytes o k.end) bytes parts (subst (AllByRecursion (IsCell f)) is spelled.sound.cells).0
 
-far : (at : ℕ) (cs : List Cell) → at ≤ end_place at cs
-far at [] = omega arith
-far at (c ∷ cs) = let h = far (at + 4 + size c) cs in omega (arith, h)
-
 -- there is a cell before the end, and it is told by its length
 pub record Stands (f : KtFormat) (bytes : List ℕ) : Type 0 where
   pub cell : Cell

@@ -13,3 +13,4 @@ pub mod Removals
 pub mod StoreChanges
 pub mod LookUpLemmas
 pub mod WrittenLemmas
+pub mod FoundAgain

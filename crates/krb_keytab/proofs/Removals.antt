@@ -1,13 +1,12 @@
 -- What a look-up finds is a record that can be removed.
-use Rattle.std.proofs.Common.{◌≡◌, ℕ, ◌+◌, Bool, true, false, cond, List, [], ◌∷◌, ◌++◌, map, Option, Some, None, Result, Ok, Err, length, refl, sym, ap, subst, ◌∙◌, append_assoc, inl, inr}
+use Rattle.std.proofs.Common.{◌≡◌, ℕ, ◌+◌, Bool, true, false, cond, List, [], ◌∷◌, ◌++◌, map, Option, Some, None, Ok, Err, length, refl, sym, ap, subst, ◌∙◌, append_assoc, inl, inr}
 use Rattle.std.specs.Prelude.{◌==◌, is_some, option_map, filter, find, IfSome}
 use Rattle.std.specs.List.{filter_map, cons_option, AllByRecursion}
 use Rattle.std.proofs.lemmas.Bool.{eq-eqb}
 use Rattle.krb_wire.specs.Spelling.{Parts}
 use Rattle.krb_wire.proofs.Fields.{some_is}
-use Rattle.krb_walk.specs.declared.refusal.Code.{Code}
 use Rattle.krb_walk.specs.declared.refusal.Code.TheVariants.{Damaged, NotLive}
-use Rattle.krb_walk.specs.Store.{Record, fault_of, live_bytes as store_bytes, standing, record_of}
+use Rattle.krb_walk.specs.Store.{fault_of, live_bytes as store_bytes, standing, record_of}
 use Rattle.krb_keytab.specs.Entry.{EntryParts, entry_at}
 use Rattle.krb_keytab.specs.Cells.{Cell, Live, Free}
 use Rattle.krb_keytab.specs.Questions.{size, end_place, live_at}
@@ -49,13 +48,14 @@ if_placed : (k : State) (p : ℕ) (o : Option EntryParts) → is_some (store_byt
 if_placed k p (Some e) h = h
 if_placed k p None h = tt
 
--- a live cell behind others is one of the store's
-stands : (k : State) (front back : List Cell) (b : List ℕ) (p : ℕ) → k.contents.cells ≡ front ++ (Live b ∷ back) → p ≡ end_place 2 front → is_some (store_bytes (store_of k) p) ≡ true
-stands k front back b p parts place =
+-- a live cell behind others holds its bytes in the store
+pub holds : (k : State) (front back : List Cell) (b : List ℕ) (p : ℕ) → k.contents.cells ≡ front ++ (Live b ∷ back) → p ≡ end_place 2 front → store_bytes (store_of k) p ≡ Some b
+holds k front back b p parts place =
     let here : live_at p (Live b ∷ back) p ≡ Some b = rw (eq-eqb p p refl) refl in
-    let held : store_bytes (store_of k) p ≡ Some b =
-    sym (live_at-store 2 p k.contents.cells) ∙ ap (λ (cs : List Cell). live_at 2 cs p) parts ∙ live_behind front (Live b ∷ back) 2 p place ∙ here in
-    ap is_some held
+    sym (live_at-store 2 p k.contents.cells) ∙ ap (λ (cs : List Cell). live_at 2 cs p) parts ∙ live_behind front (Live b ∷ back) 2 p place ∙ here
+
+stands : (k : State) (front back : List Cell) (b : List ℕ) (p : ℕ) → k.contents.cells ≡ front ++ (Live b ∷ back) → p ≡ end_place 2 front → is_some (store_bytes (store_of k) p) ≡ true
+stands k front back b p parts place = ap is_some (holds k front back b p parts place)
 
 -- the place behind one cell more
 next_place : (front : List Cell) (c : Cell) (p : ℕ) → p ≡ end_place 2 front → p + (4 + size c) ≡ end_place 2 (front ++ c ∷ [])

@@ -9,7 +9,7 @@ use Rattle.krb_wire.specs.Spelling.{order_of}
 use Rattle.krb_wire.proofs.Fields.{IsBytes, IsBytes-drop, some_is}
 use Rattle.krb_keytab.specs.declared.image.CellsEnd.{CellsEnd}
 use Rattle.krb_keytab.specs.declared.hole.Hole.{Hole}
-use Rattle.krb_keytab.specs.Cells.{Cell, Live, Free, Bare, Contents, cell, next, walk, contents, IsCell}
+use Rattle.krb_keytab.specs.Cells.{Cell, Live, Free, Bare, cell, next, walk, contents, IsCell}
 use Rattle.krb_keytab.specs.Questions.{size, end_place, live_at}
 use Rattle.krb_keytab.specs.Known.{IsKnownEnd, IsChanged}
 use Rattle.krb_keytab.specs.Changes.{PlacedCell, turned_at, freed, is_hole, first_hole, padded, filled}

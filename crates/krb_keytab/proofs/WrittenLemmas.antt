@@ -1,7 +1,7 @@
 -- What is written for an entry: whether it fits, how long it is, its parts, and that it is read again.
-use Rattle.std.proofs.Common.{◌≡◌, ℕ, ◌+◌, ◌%◌, ◌^◌, ◌<◌, ◌≤◌, Bool, true, false, eqb, ltb, List, [], ◌∷◌, ◌++◌, length, replicate, Some, refl, sym, ap, subst, ◌∙◌, append_assoc, length-append, arith, inl, inr}
+use Rattle.std.proofs.Common.{◌≡◌, ℕ, ◌+◌, ◌%◌, ◌^◌, ◌<◌, ◌≤◌, Bool, true, false, ltb, List, [], ◌∷◌, ◌++◌, length, replicate, Some, refl, sym, ap, subst, ◌∙◌, append_assoc, length-append, arith, inl, inr}
 use Rattle.std.specs.Prelude.{◌&&◌, is_some}
-use Rattle.std.specs.List.{splice, list_all, AllByRecursion}
+use Rattle.std.specs.List.{list_all, AllByRecursion}
 use Rattle.std.specs.Int.{w16, w32}
 use Rattle.std.proofs.lemmas.Bool.{ltb-true, lt-ltb}
 use Rattle.std.proofs.lemmas.Bool.Decides.{eqb_tells}
@@ -10,7 +10,7 @@ use Rattle.krb_wire.specs.declared.format.KtFormat.{KtFormat}
 use Rattle.krb_wire.specs.declared.format.KtFormat.TheVariants.{V1, V2}
 use Rattle.krb_wire.specs.Spelling.{Parts, digits, data16, order_of, count_field, kt_principal, IsShort, HasNameType, HasSpelling}
 use Rattle.krb_wire.proofs.Fields.{some_is, wide16, wide32, number_again}
-use Rattle.krb_keytab.specs.Entry.{EntryParts, front, version_by, Spells, entry_at}
+use Rattle.krb_keytab.specs.Entry.{EntryParts, front, version_by, Spells}
 use Rattle.krb_keytab.specs.Written.{is_short, name_fits, fits, front_of, written, kept_type, read_back, IsEntry, IsRecord}
 use Rattle.krb_keytab.proofs.Entries.{entry_again}
 use Rattle.krb_keytab.proofs.LookUpLemmas.{same_bool, and_both}

@@ -1,5 +1,5 @@
--- Adding an entry to a keytab, and removing one.
-use Rattle.std.specs.Prelude.{ℕ, ◌+◌, ◌-◌, List, [], ◌∷◌, ◌++◌, length, map, find, replicate, Option, Some, None, is_some, option_map, Result, Ok, Err, Bool, false, nat_lt, nat_le, ◌==◌, if◌then◌else◌}
+-- Adding an entry to a keytab, and removing one. A keytab is a store for walks: `store_of` is how it is seen, `putting` what an addition gives, and `cutting` what a removal gives.
+use Rattle.std.specs.Prelude.{ℕ, ◌+◌, ◌-◌, List, [], ◌∷◌, ◌++◌, length, map, find, replicate, Option, Some, None, is_some, Result, Ok, Err, Bool, false, nat_lt, nat_le, ◌==◌, if◌then◌else◌}
 use Rattle.krb_wire.specs.Spelling.{Parts}
 use Rattle.krb_walk.specs.declared.refusal.Code.{Code}
 use Rattle.krb_walk.specs.declared.refusal.Code.TheVariants as code

@@ -1,10 +1,13 @@
 -- Laws of the definitions.
-use Rattle.std.specs.Prelude.{◌≡◌, ℕ, ◌<◌, List, ◌++◌, replicate, get_or, IsTrue}
+use Rattle.std.specs.Prelude.{◌≡◌, ℕ, ◌<◌, List, ◌++◌, replicate, get_or, IsTrue, Some, None, Ok}
 use Rattle.std.specs.List.{flat_map, AllByRecursion}
 use Rattle.krb_wire.specs.declared.format.KtFormat.{KtFormat}
 use Rattle.krb_wire.specs.Spelling.{order_of}
 use Rattle.krb_keytab.specs.Entry.{EntryParts, Spells}
 use Rattle.krb_keytab.specs.Written.{fits, written, read_back, IsEntry}
+use Rattle.krb_walk.specs.Store.{live_bytes}
+use Rattle.krb_keytab.specs.Store.{State, store_of, entry_at_place}
+use Rattle.krb_keytab.specs.Changes.{putting, cutting}
 use Rattle.krb_keytab.specs.Cells.{Cell, Contents, cell, spelling, contents, IsCell, IsSound, IsSpelled}
 
 -- numbers below 256
@@ -32,3 +35,11 @@ pub record IsReadBack (f : KtFormat) (e : EntryParts) (bytes : List ℕ) : Type 
 -- that is so of each entry whose numbers fit their types and whose lengths and counts fit their fields
 abbrev pub IsAlwaysReadBack : Type 0
 IsAlwaysReadBack = (f : KtFormat) (e : EntryParts) (zeros : ℕ) → IsEntry e → IsTrue (fits f e) → IsReadBack f e (written f e ++ replicate zeros 0)
+
+-- the entry that was added is read at the place that the addition gives
+abbrev pub IsReadWhereAdded : Type 0
+IsReadWhereAdded = (k : State) (e : EntryParts) (given : ℕ × State) → IsEntry e → putting k e ≡ Ok given → entry_at_place given.1 given.0 ≡ Some (read_back k.format e)
+
+-- where a record was removed, none stands
+abbrev pub IsGoneWhereRemoved : Type 0
+IsGoneWhereRemoved = (k : State) (place : ℕ) (new : State) → cutting k place ≡ Ok new → live_bytes (store_of new) place ≡ None

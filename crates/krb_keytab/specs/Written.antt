@@ -1,11 +1,11 @@
 -- The one spelling that is written for an entry.
-use Rattle.std.specs.Prelude.{◌≡◌, ℕ, ◌<◌, ◌^◌, ◌%◌, List, ◌++◌, length, replicate, Bool, ◌&&◌, nat_lt, IsSome}
+use Rattle.std.specs.Prelude.{ℕ, ◌<◌, ◌^◌, ◌%◌, List, ◌++◌, length, replicate, Bool, ◌&&◌, nat_lt, IsSome}
 use Rattle.std.specs.List.{list_all}
 use Rattle.std.specs.Int.{w32}
 use Rattle.krb_wire.specs.declared.format.KtFormat.{KtFormat}
 use Rattle.krb_wire.specs.declared.format.KtFormat.TheVariants.{V1, V2}
 use Rattle.krb_wire.specs.Spelling.{Parts, digits, order_of, count_field}
-use Rattle.krb_keytab.specs.Entry.{EntryParts, Front, front, entry_at, Spells}
+use Rattle.krb_keytab.specs.Entry.{EntryParts, Front, front, entry_at}
 
 -- the length of the bytes fits sixteen bits
 abbrev pub is_short : List ℕ → Bool

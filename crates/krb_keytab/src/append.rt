@@ -8,11 +8,10 @@ ghost use Rattle.krb_keytab.specs.Questions.{kind_of};
 ghost use Rattle.krb_keytab.specs.Known.{IsKnownEnd, IsChanged, mark_len, len_with};
 ghost use Rattle.krb_keytab.specs.Changes.{end_after};
 
-use crate::cells::{put_record, put_zeros};
+use crate::cells::{bytes_fit, put_record, put_zeros};
 use crate::form::Form;
 use crate::image::CellsEnd;
 use crate::step::Ending;
-use crate::turn::bytes_fit;
 use std::alloc::{AllocError, Allocator};
 
 // An end mark is kept behind an appended record.

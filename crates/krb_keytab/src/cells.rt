@@ -5,10 +5,16 @@ ghost use Rattle.std.specs.List.{splice};
 ghost use Rattle.krb_wire.specs.Spelling.{order_of};
 ghost use Rattle.krb_keytab.specs.Cells.{cell, Live, Free};
 ghost use Rattle.krb_keytab.specs.Changes.{padded};
+ghost use Rattle.krb_keytab.specs.Laws.{AreBytes};
 
 use crate::form::Form;
 use krb_wire::{KtFormat, put_u32};
 use std::alloc::Allocator;
+
+/// What a slice of bytes holds is below 256.
+pub fn bytes_fit(bytes: &[u8])
+    ensures { AreBytes bytes.now }
+{}
 
 /// Writes zeros from a place to another.
 pub fn put_zeros(out: &mut [u8], at: usize, to: usize)

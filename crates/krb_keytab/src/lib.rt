@@ -23,6 +23,6 @@ mod turn;
 pub use edit::{EditRefused, edit_image};
 pub use entry::{EntryView, read_entry};
 pub use keytab::Keytab;
-pub use laws::{one_reading, written_is_read_back};
+pub use laws::{changes_are_seen, one_reading, written_is_read_back};
 pub use new_entry::NewEntry;
 pub use open::{KtOpenFault, KtOpenRefused};

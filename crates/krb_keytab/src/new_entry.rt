@@ -7,7 +7,8 @@ use krb_wire::{NoMemory, Principal, copy_name};
 use std::alloc::Allocator;
 use std::marker::Model;
 
-/// An entry with memory of its own. Contracts see the entry, and not where it lies.
+/// An entry with memory of its own (MIT krb5, "Keytab file format"). Contracts see the entry, and not
+/// where it lies.
 #[derive(Drop)]
 pub struct NewEntry<A: Allocator> {
     pub principal: Principal<A>,

@@ -4,21 +4,15 @@ ghost use Rattle.std.specs.Prelude.{◌≡◌, ◌≤◌, ◌^◌, length, drop,
 ghost use Rattle.krb_keytab.specs.Cells.{contents};
 ghost use Rattle.krb_keytab.specs.Questions.{live_at};
 ghost use Rattle.krb_keytab.specs.Known.{IsKnownEnd, IsChanged};
-ghost use Rattle.krb_keytab.specs.Laws.{AreBytes};
 ghost use Rattle.krb_keytab.specs.Changes.{turned_at, freed, filled};
 ghost use Rattle.krb_keytab.specs.Holes.{hole_from};
 
-use crate::cells::{put_hole, put_record};
+use crate::cells::{bytes_fit, put_hole, put_record};
 use crate::form::Form;
 use crate::hole::Hole;
 use crate::image::{CellsEnd, live_bytes_of};
 use krb_wire::KtFormat;
 use std::alloc::Allocator;
-
-/// What a slice of bytes holds is below 256.
-pub fn bytes_fit(bytes: &[u8])
-    ensures { AreBytes bytes.now }
-{}
 
 /// Makes the live cell at a place a hole of zeros.
 pub fn free_cell(format: KtFormat, image: &mut [u8], end: CellsEnd, place: usize)

@@ -1,12 +1,10 @@
-use Rattle.std.proofs.Common.{◌≡◌, ◌≤◌, ◌%◌, List, ℕ, [], ◌∷◌, length, ap, sym, ◌∙◌, subst, arith}
-use Rattle.std.specs.Int.{w16, w32}
+use Rattle.std.proofs.Common.{◌≡◌, sym, subst, arith}
 use Rattle.std.specs.List.{splice}
-use Rattle.krb_wire.specs.Spelling.{digits, data16, kt_principal, HasSpelling}
+use Rattle.krb_wire.specs.Spelling.{HasSpelling}
 use Rattle.krb_wire.proofs.Fields.{wide16, wide32}
 use Rattle.krb_wire.specs.Reading.{principal_parts}
 use Rattle.krb_keytab.specs.Entry.{EntryParts}
 use Rattle.krb_keytab.specs.Written.{written}
-use Rattle.krb_keytab.proofs.Splices.{Wrote}
 use Rattle.krb_keytab.proofs.WrittenLemmas.{name_of_entry_fits, entry_put}
 use Rattle.krb_keytab.proofs.form.put_entry.Goals as goal
 

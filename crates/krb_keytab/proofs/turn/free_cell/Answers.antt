@@ -1,4 +1,4 @@
-use Rattle.std.proofs.Common.{◌∙◌, sym, ap, refl, List, ℕ, arith}
+use Rattle.std.proofs.Common.{refl, arith}
 use Rattle.krb_keytab.proofs.Turned.{live_in, freed_is}
 use Rattle.krb_keytab.proofs.turn.free_cell.Goals as goal
 

@@ -1,6 +1,6 @@
 use Rattle.std.proofs.Common.{◌≡◌, ℕ, List, [], ◌∷◌, ◌++◌, length, drop, refl, ap, sym, subst, ◌∙◌, arith}
 use Rattle.krb_wire.specs.declared.format.KtFormat.{KtFormat}
-use Rattle.krb_keytab.specs.Cells.{Live, contents, image}
+use Rattle.krb_keytab.specs.Cells.{Live, contents}
 use Rattle.krb_keytab.specs.Changes.{end_after}
 use Rattle.krb_keytab.specs.Store.{State}
 use Rattle.krb_keytab.proofs.Stores.{held}
