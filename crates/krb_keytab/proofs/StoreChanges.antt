@@ -1,26 +1,22 @@
 -- An addition to a keytab, and a removal from it, change one cell of the store that it is.
-use Rattle.std.proofs.Common.{◌≡◌, ℕ, ◌+◌, ◌-◌, ◌<◌, ◌≤◌, Bool, true, false, List, [], ◌∷◌, ◌++◌, map, length, replicate, Option, Some, None, Result, Ok, Err, inl, inr, refl, sym, ap, subst, ◌∙◌, arith, length-append}
-use Rattle.std.specs.Prelude.{◌||◌, nat_le, nat_lt, is_some, IfOk, OnOk}
+use Rattle.std.proofs.Common.{◌≡◌, ℕ, ◌+◌, ◌-◌, ◌≤◌, true, false, List, [], ◌∷◌, map, length, replicate, Option, Some, None, Result, Ok, Err, inl, inr, refl, sym, ap, subst, ◌∙◌, arith, length-append}
+use Rattle.std.specs.Prelude.{nat_lt, is_some, IfOk, OnOk}
 use Rattle.std.proofs.lemmas.List.{map-append, length-replicate}
-use Rattle.std.proofs.lemmas.Bool.{leb-true, lt-leb}
-use Rattle.krb_wire.proofs.Fields.{some_is}
+use Rattle.std.proofs.lemmas.Bool.{leb-true}
 use Rattle.krb_walk.specs.declared.fault.FaultKind.{FaultKind}
 use Rattle.krb_walk.specs.declared.refusal.Code.{Code}
 use Rattle.krb_walk.specs.declared.refusal.Code.TheVariants.{NotLive, TooLong, Full}
 use Rattle.krb_walk.specs.declared.refusal.Code.TheVariants as code
 use Rattle.krb_walk.specs.declared.refusal.Refusal.{Refusal}
-use Rattle.krb_walk.specs.declared.refusal.Refusal.TheVariants.{Code as ByCode, NoMemory}
-use Rattle.krb_walk.specs.Store.{Cell as StoreCell, end_of, fault_from, fault_of, live_bytes as store_bytes}
+use Rattle.krb_walk.specs.Store.{end_of, fault_from, fault_of, live_bytes as store_bytes}
 use Rattle.krb_walk.specs.Changes.{OneCell, Puts, Cuts}
-use Rattle.krb_walk.specs.Rules.{PutGives, IsNotWanting}
 use Rattle.krb_keytab.specs.Entry.{EntryParts}
 use Rattle.krb_keytab.specs.Cells.{Cell, Live, Free, End, Bare, Mark, Damaged}
-use Rattle.krb_keytab.specs.Questions.{size, live_at, kind_of}
+use Rattle.krb_keytab.specs.Questions.{kind_of}
 use Rattle.krb_keytab.specs.Store.{State, placed, store_of, image_of}
 use Rattle.krb_keytab.specs.Written.{fits, written}
 use Rattle.krb_keytab.specs.Changes.{PlacedCell, turned_at, freed, is_hole, padded, filled, first_hole, with_filled, with_last, end_after, without, appending, putting_into, putting_bytes, putting, cutting}
-use Rattle.krb_keytab.specs.Answers.{Grows, AnswersPut, AnswersCut}
-use Rattle.krb_keytab.specs.Walked.{is_refused, takes_none}
+use Rattle.krb_keytab.specs.Answers.{AnswersPut, AnswersCut}
 use Rattle.krb_keytab.proofs.CellLemmas.{chosen}
 use Rattle.krb_keytab.proofs.Stores.{end_place-store, live_at-store}
 use Rattle.krb_keytab.proofs.Replaced.{StandsAt, live_stands, hole_stands, turned}

@@ -1,0 +1,30 @@
+//! Why a run ends early.
+
+use std::alloc::{AllocError, AllocFailed};
+
+/// Why a run ends early.
+#[derive(Clone, Copy, Debug, PartialEq, Eq)]
+pub enum Fault {
+    /// The words are not a file and two numbers.
+    BadLine,
+    Read,
+    NotAKeytab,
+    /// The file has fewer records than are to be removed.
+    TooFew,
+    /// The keytab refused a change, or its growth was refused.
+    Refused,
+    Write,
+    NoMemory,
+}
+
+impl From<AllocError> for Fault {
+    fn from(_error: AllocError) -> Fault {
+        Fault::NoMemory
+    }
+}
+
+impl<T: Drop> From<AllocFailed<T>> for Fault {
+    fn from(_error: AllocFailed<T>) -> Fault {
+        Fault::NoMemory
+    }
+}
