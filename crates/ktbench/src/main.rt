@@ -1,5 +1,4 @@
-//! Adds entries to a keytab file and removes its last records, as `ktbench FILE ADDITIONS REMOVALS`. It
-//! serves the benchmark alone.
+//! Changes a keytab file for the benchmark alone: `ktbench FILE ADDITIONS REMOVALS`.
 #![tactic(auto)]
 
 mod edits;
