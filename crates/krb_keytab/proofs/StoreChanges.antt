@@ -1,5 +1,5 @@
 -- An addition to a keytab, and a removal from it, change one cell of the store that it is.
-use Rattle.std.proofs.Common.{◌≡◌, ℕ, ◌+◌, ◌-◌, ◌≤◌, true, false, List, [], ◌∷◌, map, length, replicate, Option, Some, None, Result, Ok, Err, inl, inr, refl, sym, ap, subst, ◌∙◌, arith, length-append}
+use Rattle.std.proofs.Common.{◌≡◌, ℕ, ◌+◌, true, false, List, [], ◌∷◌, map, length, replicate, Option, Some, None, Result, Ok, Err, inl, inr, refl, sym, ap, subst, ◌∙◌, arith}
 use Rattle.std.specs.Prelude.{nat_lt, is_some, IfOk, OnOk}
 use Rattle.std.proofs.lemmas.List.{map-append, length-replicate}
 use Rattle.std.proofs.lemmas.Bool.{leb-true}
@@ -19,6 +19,7 @@ use Rattle.krb_keytab.specs.Changes.{PlacedCell, turned_at, freed, is_hole, padd
 use Rattle.krb_keytab.specs.Answers.{AnswersPut, AnswersCut}
 use Rattle.krb_keytab.proofs.CellLemmas.{chosen}
 use Rattle.krb_keytab.proofs.Stores.{end_place-store, live_at-store}
+use Rattle.krb_keytab.proofs.Turned.{padded_len}
 use Rattle.krb_keytab.proofs.Replaced.{StandsAt, live_stands, hole_stands, turned}
 
 -- one cell turned into another is one cell of the store
@@ -75,9 +76,6 @@ removal_cuts k new p (Ok done) a = cuts_of k p new a
 removal_cuts k new p (Err refused) a = tt
 
 -- ---- additions
-
-padded_len : (x : List ℕ) (n : ℕ) → length x ≤ n → length (padded x n) ≡ n
-padded_len x n le = omega (arith, length-append x (replicate {A = ℕ} (n - length x) 0), length-replicate {A = ℕ} (n - length x) 0)
 
 fills_at : (k : State) (x : List ℕ) (p : ℕ) (c : Cell) → (store_of k).fault ≡ None → StandsAt k.contents.cells 2 p c → is_hole (length x) c ≡ true → Puts (store_of k) (store_of (with_filled k x p)) p
 fills_at k x p (Live b) whole s large = absurd cc

@@ -107,7 +107,7 @@ hole_by f image n h end (Some x) fits known is e =
 pub hole_in : (f : KtFormat) (image : List ℕ) (n : ℕ) (h : Hole) (end : CellsEnd) → IsBytes image → IsKnownEnd f image end → hole_from 2 n (contents f (drop 2 image)).cells ≡ Some h → HoleIn f image n h
 hole_in f image n h end fits known e = hole_by f image n h end (first_hole 2 n (contents f (drop 2 image)).cells) fits known refl e
 
-padded_len : (x : List ℕ) (n : ℕ) → length x ≤ n → length (padded x n) ≡ n
+pub padded_len : (x : List ℕ) (n : ℕ) → length x ≤ n → length (padded x n) ≡ n
 padded_len x n le = omega (arith, length-append x (replicate {A = ℕ} (n - length x) 0), length-replicate {A = ℕ} (n - length x) 0)
 
 -- a record takes the hole
