@@ -1,4 +1,4 @@
--- The one spelling that is written for an entry.
+-- The one spelling that is written for an entry: fields as in MIT's "Keytab file format", section "Key entry format"; that the 32-bit version always stands is our choice.
 use Rattle.std.specs.Prelude.{ℕ, ◌<◌, ◌^◌, ◌%◌, List, ◌++◌, length, replicate, Bool, ◌&&◌, nat_lt, IsSome}
 use Rattle.std.specs.List.{list_all}
 use Rattle.std.specs.Int.{w32}

@@ -41,9 +41,10 @@ fn name_type_len(format: KtFormat) -> u64
     }
 }
 
-/// How many bytes the name takes in a keytab; in version 1 its name type is left out. `None` where a
-/// count or a length does not fit its 16 bits: more than 65,535 components (65,534 in version 1), or
-/// a realm or a component of more than 65,535 bytes.
+/// How many bytes the name takes in a keytab (MIT krb5, "Keytab file format", section "Key entry
+/// format"); in version 1 its name type is left out. `None` where a count or a length does not fit its
+/// 16 bits: more than 65,535 components (65,534 in version 1), or a realm or a component of more than
+/// 65,535 bytes.
 pub fn kt_principal_len<N: Name>(format: KtFormat, name: &N) -> Option<u64>
     ensures some { IsSome result ↔ HasSpelling format (N.parts name.now) }
     ensures len { IfSome result (λ n. n ≡ length (kt_principal format (N.parts name.now))) }

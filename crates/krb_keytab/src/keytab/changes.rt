@@ -18,7 +18,8 @@ use krb_walk::{Code, Refusal};
 use std::alloc::Allocator;
 
 impl<A: Allocator> Keytab<A> {
-    /// Makes the record at a place a hole of its size, all zeros. A damaged keytab refuses.
+    /// Makes the record at a place a hole of its size, all zeros (MIT krb5, "Keytab file format"). A
+    /// damaged keytab refuses.
     pub fn remove_at(&mut self, place: u32) -> Result<(), Code>
         ensures { AnswersCut self.old (cutting self.old place) result self.new }
     {
@@ -72,7 +73,7 @@ impl<A: Allocator> Keytab<A> {
     /// Puts an entry into the first hole that is large enough, or else behind the cells, and answers
     /// its place. A damaged keytab refuses it, and then so does an entry with a part too long for its
     /// length, and then a limit that the image would pass. Memory is taken only where the image
-    /// becomes longer than it was.
+    /// becomes longer than it was. What is our choice here and what is MIT's is in docs/FORMATS.md.
     pub fn add<B: Allocator>(&mut self, entry: &NewEntry<B>) -> Result<u32, Refusal>
         ensures { AnswersPut self.old entry.now result self.new }
     {
