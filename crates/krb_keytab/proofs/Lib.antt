@@ -14,3 +14,7 @@ pub mod StoreChanges
 pub mod LookUpLemmas
 pub mod WrittenLemmas
 pub mod FoundAgain
+pub mod AnewLemmas
+pub mod Given
+pub mod CursorLemmas
+pub mod Rewrites

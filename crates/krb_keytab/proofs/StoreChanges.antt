@@ -35,7 +35,7 @@ turned_cell k turn p c s = record {
   fault = refl;
 }
 
-whole_of : (place : ℕ) (kind : Option FaultKind) → is_some (fault_from place kind) ≡ false → kind ≡ None
+pub whole_of : (place : ℕ) (kind : Option FaultKind) → is_some (fault_from place kind) ≡ false → kind ≡ None
 whole_of place None h = refl
 whole_of place (Some kind) h = absurd cc
 

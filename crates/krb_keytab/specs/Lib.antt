@@ -10,6 +10,7 @@ pub mod Written
 pub mod Changes
 pub mod Holes
 pub mod Answers
+pub mod Rewritten
 pub mod Walked
 pub mod Edited
 pub mod Laws

@@ -6,6 +6,7 @@ use Rattle.krb_keytab.specs.Entry.{EntryParts}
 use Rattle.krb_keytab.specs.Store.{State, image_of, store_of}
 use Rattle.krb_keytab.specs.Written.{written}
 use Rattle.krb_keytab.specs.Changes.{first_hole, with_last, cutting, putting}
+use Rattle.krb_keytab.specs.Rewritten.{rewriting}
 
 -- a change is refused
 abbrev pub is_refused : Result (ℕ × State) Code → Bool
@@ -19,6 +20,6 @@ takes_none k e =
     || is_some (first_hole 2 (length (written k.format e)) k.contents.cells)
     || nat_le (length (image_of (with_last k (written k.format e)))) (length (image_of k))
 
--- how a keytab is seen, and what an addition and a removal give
+-- how a keytab is seen, and what an addition, a removal and a rewrite give
 abbrev pub keytab_rules : Rules State EntryParts
-keytab_rules = record { seen = store_of; put = putting; cut = cutting; takes_none = takes_none }
+keytab_rules = record { seen = store_of; put = putting; cut = cutting; rewrite = rewriting; takes_none = takes_none }

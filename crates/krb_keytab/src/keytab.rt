@@ -1,6 +1,7 @@
 //! Keytabs, kept as their images.
 
 mod changes;
+mod rewriting;
 
 ghost use Rattle.std.specs.Prelude.{◌≡◌, IsSome, IfOk, IfErr, IfSome, IfNone, Ok, Err, Some, None, drop, option_copied};
 ghost use Rattle.krb_wire.specs.Reading.{Gives};

@@ -1,7 +1,9 @@
 //! Keytab images: a keytab is a list of cells, and each live cell begins with an entry.
 #![tactic(auto)]
 
+mod anew;
 mod append;
+mod carry;
 mod cells;
 mod edit;
 mod entry;

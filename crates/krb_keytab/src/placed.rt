@@ -5,7 +5,7 @@ use crate::new_entry::NewEntry;
 use krb_walk::{Code, Fault, Placed, Refusal, Stop};
 use std::alloc::Allocator;
 
-impl<A: Allocator> Placed for Keytab<A> {
+impl<A: Allocator + Copy> Placed for Keytab<A> {
     ghost use Rattle.krb_keytab.specs.Walked.{keytab_rules};
 
     type Item = NewEntry<A>;
@@ -42,5 +42,9 @@ impl<A: Allocator> Placed for Keytab<A> {
 
     fn cut(&mut self, place: u32) -> Result<(), Code> {
         self.remove_at(place)
+    }
+
+    fn rewrite(&mut self, cursors: &mut [u32]) -> Result<(), Refusal> {
+        self.rewrite(cursors)
     }
 }

@@ -7,6 +7,7 @@ mod peer_records;
 mod peers;
 mod records;
 mod removals;
+mod rewrites;
 mod sessions;
 mod walks;
 

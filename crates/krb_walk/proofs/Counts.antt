@@ -1,24 +1,28 @@
 -- How many steps give a record, and that each row is of a record that is alive.
 use Rattle.std.proofs.Common.{◌≡◌, ℕ, suc, ◌+◌, ◌<◌, ◌≤◌, Bool, true, false, cond, List, [], ◌∷◌, ◌++◌, length, map, Option, Some, None, inl, inr, refl, sym, ap, ◌∙◌, subst, arith}
-use Rattle.std.specs.Prelude.{◌&&◌, ◌==◌, nat_le, filter}
+use Rattle.std.specs.Prelude.{◌==◌, nat_le, nat_lt, filter}
 use Rattle.std.specs.List.{AllByRecursion, list_any}
 use Rattle.std.proofs.lemmas.List.{length-append}
 use Rattle.std.proofs.lemmas.Bool.Decides.{nat_tests}
 use Rattle.krb_walk.specs.Store.{Store, Record, end_of, IsSound, records, next_live}
 use Rattle.krb_walk.specs.Laws.{records_from}
-use Rattle.krb_walk.specs.Said.{Said, Placed, Gone, is_placed}
+use Rattle.krb_walk.specs.Changes.{Changes}
+use Rattle.krb_walk.specs.Said.{Said, Placed, Gone, Rewritten, is_placed}
 use Rattle.krb_walk.specs.Events.{stop_cursor}
 use Rattle.krb_walk.specs.History.{Row}
-use Rattle.krb_walk.specs.Track.{Name, Pass, Track, live_places, Shifts, IsTrack}
-use Rattle.krb_walk.specs.Due.{rows_at_pass, given_over}
-use Rattle.krb_walk.specs.Records.{IsNamed, is_alive, additions}
+use Rattle.krb_walk.specs.Ranks.{live_places, carry}
+use Rattle.krb_walk.specs.Track.{RecordName, WalkEvent, Track, carried, IsTrack}
+use Rattle.krb_walk.specs.Due.{rows_at_event, given_over}
+use Rattle.krb_walk.specs.Records.{additions, is_name, place_among, IsNamed}
 use Rattle.krb_walk.proofs.Stops.{stops_give_records}
 use Rattle.krb_walk.proofs.Cells.{rows_of_next}
 use Rattle.krb_walk.proofs.Places.{or_cases, or_true}
-use Rattle.krb_walk.proofs.Passes.{end_of_step, effect_of}
+use Rattle.krb_walk.proofs.WalkEvents.{end_of_step, effect_of, carried_own}
 use Rattle.krb_walk.proofs.Lives.{lives_lt, puts_insert, cuts_insert}
 use Rattle.krb_walk.proofs.Names.{or_left}
-use Rattle.krb_walk.proofs.Records.{AreKept, kept_here, kept_next}
+use Rattle.krb_walk.proofs.Carries.{below, carry_keeps_rank}
+use Rattle.krb_walk.proofs.Ranked.{AreDistinct, Keeps, among_none, same_name_is}
+use Rattle.krb_walk.proofs.Comes.{keeps_here, keeps_next}
 
 -- counts of places at or after a cursor
 less_more : (b : Bool) (k x : ℕ) (xs ys : List ℕ) → length xs ≤ length ys + k → length (cond b (x ∷ xs) xs) ≤ length (cond b (x ∷ ys) ys) + k
@@ -70,52 +74,71 @@ go_count n s c (Some r) sound is = omega (arith, ap length (stops_give_records s
 abbrev added : Said → ℕ
 added told = cond (is_placed told) 1 0
 
-shift_count : (told : Said) (old new : Store) (c : ℕ) → IsSound old → Shifts told old new → length (records_from new c) ≤ length (records_from old c) + added told
+ahead_below_by : (a b : Bool) (p : ℕ) (xs ys : List ℕ) (n : ℕ) → (a ≡ true → b ≡ false) → (a ≡ false → b ≡ true) → length xs + length ys ≡ n → length (cond a (p ∷ xs) xs) + length (cond b (p ∷ ys) ys) ≡ suc n
+ahead_below_by true true p xs ys n h k e = cc (h refl)
+ahead_below_by true false p xs ys n h k e = omega (arith, e)
+ahead_below_by false true p xs ys n h k e = omega (arith, e)
+ahead_below_by false false p xs ys n h k e = cc (k refl)
+
+ahead_below : (c : ℕ) (ps : List ℕ) → ahead_of c ps + below c ps ≡ length ps
+ahead_below c [] = refl
+ahead_below c (p ∷ ps) = ahead_below_by (nat_le c p) (nat_lt p c) p (filter (λ q. nat_le c q) ps) (filter (λ q. nat_lt q c) ps) (length ps) (λ e. grind (arith, nat_tests)) (λ e. grind (arith, nat_tests)) (ahead_below c ps)
+
+shift_count : (told : Said) (old new : Store) (c : ℕ) → IsSound old → Changes told old new → length (records_from new (carried told old new c)) ≤ length (records_from old c) + added told
 shift_count (Placed p) old new c sound h = let i = puts_insert old new p sound h in omega (arith, count_in (λ q. nat_le c q) i.front i.back p, ap (ahead_of c) i.lo_is, ap (ahead_of c) i.hi_is, ahead_places c (records old), ahead_places c (records new))
 shift_count (Gone p) old new c sound h = let i = cuts_insert old new p sound h in omega (arith, count_out (λ q. nat_le c q) i.front i.back p, ap (ahead_of c) i.lo_is, ap (ahead_of c) i.hi_is, ahead_places c (records old), ahead_places c (records new))
+shift_count (Rewritten p) old new c sound h =
+    let kept = carry_keeps_rank old new c h in
+    omega (arith, kept, h.as_many, ahead_below c (live_places old), ahead_below (carry old new c) (live_places new), ahead_places c (records old), ahead_places (carry old new c) (records new))
 shift_count told old new c sound h = omega (arith, ap (λ (s : Store). length (records_from s c)) h)
 
-additions_cons : (x : Pass) (xs : Track) (b : Bool) → is_placed x.reply ≡ b → additions (x ∷ xs) ≡ added x.reply + additions xs
+additions_cons : (x : WalkEvent) (xs : Track) (b : Bool) → is_placed x.reply ≡ b → additions (x ∷ xs) ≡ added x.reply + additions xs
 additions_cons x xs true e = rw e (omega arith)
 additions_cons x xs false e = rw e (omega arith)
 
 -- the rows that a walk is given are at most the live cells ahead and the additions since
-pub few_steps : (n : ℕ) (s : Store) (names : List Name) (c : Option ℕ) (t u : Track) (last : Store) (d : ℕ) → IsTrack n s names c (t ++ u) last → c ≡ Some d → length (given_over t) ≤ length (records_from s d) + additions t
+pub few_steps : (n : ℕ) (s : Store) (names : List RecordName) (c : Option ℕ) (t u : Track) (last : Store) (d : ℕ) → IsTrack n s names c (t ++ u) last → c ≡ Some d → length (given_over t) ≤ length (records_from s d) + additions t
 few_steps n s names c [] u last d h at = omega arith
 few_steps n s names c (x ∷ t) u last d h at =
     let adds = additions_cons x t (is_placed x.reply) refl in
-    let rows = length-append (rows_at_pass x) (given_over t) in
+    let rows = length-append (rows_at_event x) (given_over t) in
     let same = ap (λ (z : Store). length (records_from z d)) h.0.before in
     elim (effect_of x h.0.effect) [
       | inl holds ↦ (
-          let ih = few_steps (suc n) x.after _ x.to t u last d h.1 (holds.stays d (h.0.from ∙ at)) in
-          omega (arith, ih, adds, rows, same, ap length holds.silent, shift_count x.reply x.before x.after d h.0.sound h.0.shifts))
+          let ih = few_steps (suc n) x.after _ x.to t u last _ h.1 (holds.stays d (h.0.from ∙ at)) in
+          omega (arith, ih, adds, rows, same, ap length holds.silent, shift_count x.reply x.before x.after d h.0.sound h.0.changes))
       | inr goes ↦ (
           let stop = end_of_step x goes.at in
           let is : d ≡ goes.at = cc (at, goes.stood, h.0.from) in
           let from = ap (λ (m : ℕ). length (records_from x.before m)) is in
           let ih = few_steps (suc n) x.after _ x.to t u last stop h.1 goes.stands in
           let go = go_count x.number x.before goes.at (next_live x.before goes.at) h.0.sound refl in
-          omega (arith, ih, adds, rows, same, from, go, ap length goes.tells, shift_count x.reply x.before x.after stop h.0.sound h.0.shifts))
+          let put = ap (λ (m : ℕ). length (records_from x.after m)) (carried_own x.walk x.reply x.before x.after stop goes.own) in
+          omega (arith, ih, adds, rows, same, from, go, put, ap length goes.tells, shift_count x.reply x.before x.after stop h.0.sound h.0.changes))
     ]
 
 -- each row is of a record that is alive
-named_head : (p : ℕ) (x : Name) (names : List Name) → (x.place == p) ≡ true → IsNamed (x ∷ names) p
-named_head p x names e =
-    let place : x.place ≡ p = grind (arith, nat_tests) in
-    let one : (x.place == x.place) ≡ true = grind (arith, nat_tests) in
-    let two : (x.birth == x.birth) ≡ true = grind (arith, nat_tests) in
-    let both : ((x.place == x.place) && (x.birth == x.birth)) ≡ true = rw (one, two) refl in
-    record { name = x; place = place; alive = or_left ((x.place == x.place) && (x.birth == x.birth)) (is_alive names x) both }
+record Named (names : List RecordName) (ps : List ℕ) (p : ℕ) : Type 0 where
+  name : RecordName
+  stands : place_among name names ps ≡ Some p
 
-named_tail : (p : ℕ) (x : Name) (names : List Name) → IsNamed names p → IsNamed (x ∷ names) p
-named_tail p x names more = record { name = more.name; place = more.place; alive = or_true ((x.place == more.name.place) && (x.birth == more.name.birth)) (is_alive names more.name) more.alive }
+itself : (x : RecordName) → is_name x x ≡ true
+itself x = let one : (x.place == x.place) ≡ true = grind (arith, nat_tests) in let two : (x.birth == x.birth) ≡ true = grind (arith, nat_tests) in rw (one, two) refl
 
-named_of : (p : ℕ) (names : List Name) → list_any (λ q. q == p) (map (λ x. x.place) names) ≡ true → IsNamed names p
-named_of p [] h = cc
-named_of p (x ∷ names) h = elim (or_cases (x.place == p) (list_any (λ q. q == p) (map (λ y. y.place) names)) h) [
-  | inl e ↦ named_head p x names e
-  | inr e ↦ named_tail p x names (named_of p names e)
+named_head : (x : RecordName) (q p : ℕ) (names : List RecordName) (ps : List ℕ) → (q == p) ≡ true → Named (x ∷ names) (q ∷ ps) p
+named_head x q p names ps e = let same : q ≡ p = grind (arith, nat_tests) in record { name = x; stands = ap (λ (b : Bool). cond b (Some q) (place_among x names ps)) (itself x) ∙ ap Some same }
+
+named_tail : (x : RecordName) (q p : ℕ) (b : Bool) (names : List RecordName) (ps : List ℕ) → (n : Named names ps p) → is_name n.name x ≡ b → list_any (is_name x) names ≡ false → Named (x ∷ names) (q ∷ ps) p
+named_tail x q p true names ps n e apart = let same : n.name ≡ x = same_name_is n.name x e in cc (n.stands, among_none n.name names ps (subst (λ (y : RecordName). list_any (is_name y) names ≡ false) (sym same) apart))
+named_tail x q p false names ps n e apart = record { name = n.name; stands = ap (λ (b : Bool). cond b (Some q) (place_among n.name names ps)) e ∙ n.stands }
+
+named_of : (p : ℕ) (names : List RecordName) (ps : List ℕ) → AreDistinct names → length names ≡ length ps → list_any (λ q. q == p) ps ≡ true → Named names ps p
+named_of p [] [] d e h = cc
+named_of p [] (q ∷ ps) d e h = absurd (omega (arith, e))
+named_of p (x ∷ names) [] d e h = cc
+named_of p (x ∷ names) (q ∷ ps) d e h = elim (or_cases (q == p) (list_any (λ q. q == p) ps) h) [
+  | inl a ↦ named_head x q p names ps a
+  | inr b ↦ (let rest = named_of p names ps d.1 (let s : length names ≡ length ps = omega (arith, e) in s) b in named_tail x q p (is_name rest.name x) names ps rest refl d.0)
 ]
 
 in_filtered_by : (b : Bool) (x r : Record) (rs kept rest : List Record) → cond b (x ∷ kept) kept ≡ r ∷ rest → (kept ≡ r ∷ rest → list_any (λ q. q == r.place) (map (λ y. y.place) rs) ≡ true) → list_any (λ q. q == r.place) (map (λ y. y.place) (x ∷ rs)) ≡ true
@@ -130,17 +153,19 @@ in_filtered : (f : Record → Bool) (rs : List Record) (r : Record) (rest : List
 in_filtered f [] r rest is = cc
 in_filtered f (x ∷ rs) r rest is = in_filtered_by (f x) x r rs (filter f rs) rest is (in_filtered f rs r rest)
 
-named_next : (n : ℕ) (s : Store) (names : List Name) (c : ℕ) (found : Option Record) → IsSound s → map (λ x. x.place) names ≡ live_places s → next_live s c ≡ found → AllByRecursion (λ row. IsNamed names row.stood.place) (rows_of_next n found)
-named_next n s names c None sound are is = tt
-named_next n s names c (Some r) sound are is = (named_of r.place names (subst (λ (ps : List ℕ). list_any (λ q. q == r.place) ps ≡ true) (sym are) (in_filtered (λ x. nat_le c x.place) (records s) r _ (stops_give_records s c r sound is).first)), tt)
+named_next : (x : WalkEvent) (c : ℕ) (found : Option Record) → IsSound x.before → Keeps x.number x.before x.names → next_live x.before c ≡ found → AllByRecursion (λ row. IsNamed x row.stood.place) (rows_of_next x.number found)
+named_next x c None sound k is = tt
+named_next x c (Some r) sound k is =
+    let named = named_of r.place x.names (live_places x.before) k.distinct k.as_many (in_filtered (λ y. nat_le c y.place) (records x.before) r _ (stops_give_records x.before c r sound is).first) in
+    (record { name = named.name; stands = named.stands }, tt)
 
-pub rows_named : (n : ℕ) (s : Store) (names : List Name) (c : Option ℕ) (t : Track) (last : Store) → IsTrack n s names c t last → AreKept n s names → AllByRecursion (λ x. AllByRecursion (λ row. IsNamed x.names row.stood.place) (rows_at_pass x)) t
+pub rows_named : (n : ℕ) (s : Store) (names : List RecordName) (c : Option ℕ) (t : Track) (last : Store) → IsTrack n s names c t last → Keeps n s names → AllByRecursion (λ x. AllByRecursion (λ row. IsNamed x row.stood.place) (rows_at_event x)) t
 rows_named n s names c [] last h k = tt
 rows_named n s names c (x ∷ t) last h k =
-    let now = kept_here n s names c x h.0 k in
-    let rest = rows_named (suc n) x.after _ x.to t last h.1 (kept_next n s names c x h.0 k) in
-    let here : (rows : List Row) → rows_at_pass x ≡ rows → AllByRecursion (λ row. IsNamed x.names row.stood.place) rows → AllByRecursion (λ row. IsNamed x.names row.stood.place) (rows_at_pass x) = λ rows e all. subst (AllByRecursion (λ row. IsNamed x.names row.stood.place)) (sym e) all in
+    let now = keeps_here n s names c x h.0 k in
+    let rest = rows_named (suc n) x.after _ x.to t last h.1 (keeps_next n s names c x h.0 k) in
+    let here : (rows : List Row) → rows_at_event x ≡ rows → AllByRecursion (λ row. IsNamed x row.stood.place) rows → AllByRecursion (λ row. IsNamed x row.stood.place) (rows_at_event x) = λ rows e all. subst (AllByRecursion (λ row. IsNamed x row.stood.place)) (sym e) all in
     elim (effect_of x h.0.effect) [
       | inl holds ↦ (here [] holds.silent tt, rest)
-      | inr goes ↦ (here (rows_of_next x.number (next_live x.before goes.at)) goes.tells (named_next x.number x.before x.names goes.at (next_live x.before goes.at) h.0.sound now.named refl), rest)
+      | inr goes ↦ (here (rows_of_next x.number (next_live x.before goes.at)) goes.tells (named_next x goes.at (next_live x.before goes.at) h.0.sound now refl), rest)
     ]

@@ -1,29 +1,28 @@
 -- Stores with a fault, and the replies to the steps of a walk.
-use Rattle.std.proofs.Common.{◌≡◌, ◌≢◌, ℕ, zero, suc, ◌≤◌, Bool, true, false, cond, List, [], ◌∷◌, ◌++◌, length, map, take, replicate, Option, Some, None, Result, Ok, Err, inl, inr, refl, sym, ap, ◌∙◌, subst, arith}
+use Rattle.std.proofs.Common.{◌≡◌, ◌≢◌, ℕ, suc, Bool, true, false, cond, List, [], ◌∷◌, ◌++◌, length, Option, Some, None, Result, Ok, Err, inl, inr, refl, sym, ap, ◌∙◌, subst, arith}
 use Rattle.std.specs.Prelude.{◌==◌, ◌⊎◌, slice_get}
 use Rattle.std.specs.List.{AllByRecursion}
-use Rattle.std.specs.Option.{option_to_list}
 use Rattle.std.proofs.lemmas.List.{append-nil}
 use Rattle.std.proofs.lemmas.Bool.Decides.{nat_tests}
 use Rattle.krb_walk.specs.declared.event.Event.{Event}
-use Rattle.krb_walk.specs.declared.event.Event.TheVariants.{Start, Resume, Step, Put, Cut}
+use Rattle.krb_walk.specs.declared.event.Event.TheVariants.{Start, Resume, Step, Put, Cut, Rewrite}
 use Rattle.krb_walk.specs.declared.refusal.Code.{Code}
 use Rattle.krb_walk.specs.declared.fault.FaultKind.{FaultKind}
-use Rattle.krb_walk.specs.Store.{Store, Record, end_of, IsSound, next_live}
-use Rattle.krb_walk.specs.Laws.{records_from}
-use Rattle.krb_walk.specs.Said.{Said, Faulted, tells_step, is_placed}
+use Rattle.krb_walk.specs.Store.{Store, end_of, next_live}
+use Rattle.krb_walk.specs.Changes.{Changes}
+use Rattle.krb_walk.specs.Said.{Said, Rewritten, tells_step, is_placed, is_rewritten}
 use Rattle.krb_walk.specs.Rules.{Rules}
-use Rattle.krb_walk.specs.Events.{State, after, reply_to, store_after, stop_cursor, stop_said, end_said, put_said, put_store, cut_said, cut_store, step_said, step_cursors}
-use Rattle.krb_walk.specs.History.{Moment, IsReady, IsLawful, AllLawful, Changes, moment, history, state_after, told_if_step, told_to_steps}
-use Rattle.krb_walk.specs.Track.{Name, Track, track_on, track, first_names, IsTrack}
+use Rattle.krb_walk.specs.Events.{State, after, reply_to, store_after, stop_cursor, stop_said, put_said, put_store, cut_said, cut_store, rewrite_said, step_said, step_cursors}
+use Rattle.krb_walk.specs.History.{Moment, IsReady, IsLawful, AllLawful, moment, history, state_after, told_if_step, told_to_steps}
+use Rattle.krb_walk.specs.Track.{RecordName, Track, track_on, track, first_names, IsTrack}
 use Rattle.krb_walk.specs.Records.{additions}
-use Rattle.krb_walk.specs.Cursors.{accepted, FewGive, RefusesChange, RefusesChanges, gave, GivesThenFaults}
+use Rattle.krb_walk.specs.Cursors.{accepted, FewGive, RefusesChange, RefusesChanges, GivesThenFaults}
 use Rattle.krb_walk.proofs.Lists.{get-set_same}
-use Rattle.krb_walk.proofs.Stops.{stops_give_records, stops_end}
-use Rattle.krb_walk.proofs.Effects.{ready_after, own_step}
-use Rattle.krb_walk.proofs.Passes.{answered_own}
+use Rattle.krb_walk.proofs.Effects.{ready_after, own_step, effect, plain_reply}
+use Rattle.krb_walk.proofs.WalkEvents.{answered_own}
 use Rattle.krb_walk.proofs.Counts.{none_at_end, few_steps}
 use Rattle.krb_walk.proofs.Joins.{history_walks}
+use Rattle.krb_walk.proofs.Faults.{records_next, damaged_step, ToldBy}
 use Rattle.krb_walk.proofs.Fair.{track_told}
 use Rattle.krb_walk.proofs.Steps.{only_steps}
 
@@ -32,13 +31,22 @@ pub record Refuses {S I : Type 0} (r : Rules S I) (s : State S) (e : Event I) : 
   pub told : RefusesChange e (reply_to r s e)
   pub store : store_after r s e ≡ s.store
 
-refuses_put : {S I : Type 0} (seen : S → Store) (old : S) (item : I) (kind : FaultKind) (given : Result (ℕ × S) Code) → (seen old).fault ≡ Some kind → Changes (Put item) (put_said given) (seen old) (seen (put_store old given)) → RefusesChange (Put item) (put_said given) × (put_store old given ≡ old)
+refuses_put : {S I : Type 0} (seen : S → Store) (old : S) (item : I) (kind : FaultKind) (given : Result (ℕ × S) Code) → (seen old).fault ≡ Some kind → Changes (put_said given) (seen old) (seen (put_store old given)) → RefusesChange (Put item) (put_said given) × (put_store old given ≡ old)
 refuses_put seen old item kind (Ok given) fault h = cc (fault, h.whole)
 refuses_put seen old item kind (Err code) fault h = (tt, refl)
 
-refuses_cut : {S : Type 0} (I : Type 0) (seen : S → Store) (old : S) (p : ℕ) (kind : FaultKind) (given : Result S Code) → (seen old).fault ≡ Some kind → Changes {I = I} (Cut p) (cut_said p given) (seen old) (seen (cut_store old given)) → RefusesChange {I = I} (Cut p) (cut_said p given) × (cut_store old given ≡ old)
+refuses_cut : {S : Type 0} (I : Type 0) (seen : S → Store) (old : S) (p : ℕ) (kind : FaultKind) (given : Result S Code) → (seen old).fault ≡ Some kind → Changes (cut_said p given) (seen old) (seen (cut_store old given)) → RefusesChange {I = I} (Cut p) (cut_said p given) × (cut_store old given ≡ old)
 refuses_cut I seen old p kind (Ok given) fault h = cc (fault, h.whole)
 refuses_cut I seen old p kind (Err code) fault h = (tt, refl)
+
+refuses_rewrite : {S : Type 0} (I : Type 0) (seen : S → Store) (old : S) (kind : FaultKind) (given : Result S Code) → (seen old).fault ≡ Some kind → Changes (rewrite_said seen given) (seen old) (seen (cut_store old given)) → RefusesChange {I = I} Rewrite (rewrite_said seen given) × (cut_store old given ≡ old)
+refuses_rewrite I seen old kind (Ok given) fault h = cc (fault, h.whole)
+refuses_rewrite I seen old kind (Err code) fault h = (tt, refl)
+
+refused_plain : {I : Type 0} (e : Event I) (told : Said) → e ≡ Rewrite → RefusesChange e told → is_rewritten told ≡ false
+refused_plain Rewrite (Rewritten p) is h = absurd h
+refused_plain Rewrite told is h = refl
+refused_plain e told is h = cc
 
 refuses : {S I : Type 0} (r : Rules S I) (s : State S) (e : Event I) (kind : FaultKind) → (r.seen s.store).fault ≡ Some kind → IsLawful r (moment r s e) → Refuses r s e
 refuses r s Start kind fault h = record { told = tt; store = refl }
@@ -46,6 +54,7 @@ refuses r s (Resume p) kind fault h = record { told = tt; store = refl }
 refuses r s (Step v) kind fault h = record { told = tt; store = refl }
 refuses r s (Put item) kind fault h = let both = refuses_put r.seen s.store item kind (r.put s.store item) fault h in record { told = both.0; store = both.1 }
 refuses {I = I} r s (Cut p) kind fault h = let both = refuses_cut I r.seen s.store p kind (r.cut s.store p) fault h in record { told = both.0; store = both.1 }
+refuses {I = I} r s Rewrite kind fault h = let both = refuses_rewrite I r.seen s.store kind (r.rewrite s.store) fault h in record { told = both.0; store = both.1 }
 
 damaged_by : {S I : Type 0} (r : Rules S I) (s : State S) (es : List (Event I)) (kind : FaultKind) → (r.seen s.store).fault ≡ Some kind → AllLawful r (history r s es) → AllByRecursion (λ m. RefusesChange m.event m.reply) (history r s es) × ((state_after r s es).store ≡ s.store)
 damaged_by r s [] kind fault h = (tt, refl)
@@ -57,47 +66,25 @@ damaged_by {S} r s (e ∷ es) kind fault h =
 pub damaged_refuses : {S I : Type 0} (r : Rules S I) (s : State S) (es : List (Event I)) (kind : FaultKind) → (r.seen s.store).fault ≡ Some kind → AllLawful r (history r s es) → RefusesChanges r s es
 damaged_refuses r s es kind fault h = let both = damaged_by r s es kind fault h in record { refused = both.0; stays = both.1 }
 
--- the records from a place on are the next one, and those from where a step from there leads
-records_next : (s : Store) (c : ℕ) (found : Option Record) → IsSound s → next_live s c ≡ found → records_from s c ≡ option_to_list found ++ records_from s (stop_cursor (end_of s) found)
-records_next s c None sound is = stops_end s c is ∙ sym (none_at_end s sound)
-records_next s c (Some r) sound is = (stops_give_records s c r sound is).first
-
--- the replies to the steps of a walk over a store with a fault
-abbrev Damaged : Store → ℕ → ℕ → ℕ → FaultKind → List Said
-Damaged s w c m kind = map (gave w) (records_from s c) ++ replicate m (Faulted w (record { place = end_of s; kind = kind }))
-
-damaged_step : (s : Store) (w c m k : ℕ) (kind : FaultKind) (found : Option Record) (rest : List Said) → s.fault ≡ Some kind → next_live s c ≡ found → records_from s c ≡ option_to_list found ++ records_from s (stop_cursor (end_of s) found)
-    → (found ≡ None → records_from s (end_of s) ≡ []) → suc k ≤ m → ((j : ℕ) → k ≤ j → rest ≡ take k (Damaged s w (stop_cursor (end_of s) found) j kind)) → stop_said s w found ∷ rest ≡ take (suc k) (Damaged s w c m kind)
-damaged_step s w c zero k kind found rest fault is from empty le ih = absurd (omega arith)
-damaged_step s w c (suc m) k kind None rest fault is from empty le ih =
-    let f : Said = Faulted w (record { place = end_of s; kind = kind }) in
-    let none : records_from s c ≡ [] = from ∙ empty refl in
-    let tail : rest ≡ take k (replicate m f) = ih m (omega arith) ∙ ap (λ (rs : List Record). take k (map (gave w) rs ++ replicate m f)) (empty refl) in
-    ap (λ (x : Option FaultKind). end_said w (end_of s) x ∷ rest) fault ∙ ap (λ (l : List Said). f ∷ l) tail ∙ sym (ap (λ (rs : List Record). take (suc k) (map (gave w) rs ++ f ∷ replicate m f)) none)
-damaged_step s w c (suc m) k kind (Some r) rest fault is from empty le ih =
-    ap (λ (l : List Said). gave w r ∷ l) (ih (suc m) (omega arith)) ∙ sym (ap (λ (rs : List Record). take (suc k) (map (gave w) rs ++ replicate (suc m) (Faulted w (record { place = end_of s; kind = kind })))) from)
-
 -- an event is a step of the walk, or tells it nothing
 record NotOwn {I : Type 0} (e : Event I) (w : ℕ) : Type 0 where
   silent : (x : Said) → told_if_step w e x ≡ []
   other : e ≢ Step w
 
-abbrev IsStep : {I : Type 0} → Event I → ℕ → Type 0
-IsStep e w = e ≡ Step w
+abbrev IsOwn : {I : Type 0} → Event I → ℕ → Type 0
+IsOwn e w = e ≡ Step w
 
-own_walk : {I : Type 0} (v w : ℕ) (b : Bool) → (v == w) ≡ b → NotOwn {I = I} (Step v) w ⊎ IsStep {I = I} (Step v) w
+own_walk : {I : Type 0} (v w : ℕ) (b : Bool) → (v == w) ≡ b → NotOwn {I = I} (Step v) w ⊎ IsOwn {I = I} (Step v) w
 own_walk {I} v w true e = let same : v ≡ w = grind (arith, nat_tests) in let step : ℕ → Event I = λ x. Step x in inr (ap step same)
 own_walk {I} v w false e = inl (record { silent = λ x. rw e refl; other = λ is. (let same : v ≡ w = cc in let ne : v ≢ w = grind (arith, nat_tests) in ne same) })
 
-own : {I : Type 0} (e : Event I) (w : ℕ) → NotOwn e w ⊎ IsStep e w
+own : {I : Type 0} (e : Event I) (w : ℕ) → NotOwn e w ⊎ IsOwn e w
 own Start w = inl (record { silent = λ x. refl; other = λ is. cc })
 own (Resume p) w = inl (record { silent = λ x. refl; other = λ is. cc })
 own (Step v) w = own_walk v w (v == w) refl
 own (Put item) w = inl (record { silent = λ x. refl; other = λ is. cc })
 own (Cut p) w = inl (record { silent = λ x. refl; other = λ is. cc })
-
-abbrev ToldBy : List Said → Store → ℕ → ℕ → ℕ → FaultKind → Type 0
-ToldBy told s w c m kind = length told ≤ m → told ≡ take (length told) (Damaged s w c m kind)
+own Rewrite w = inl (record { silent = λ x. refl; other = λ is. cc })
 
 damaged_own : {S I : Type 0} (r : Rules S I) (s : State S) (es : List (Event I)) (w c m : ℕ) (kind : FaultKind) → (r.seen s.store).fault ≡ Some kind → IsReady r s → slice_get s.cursors w ≡ Some c
     → ((j : ℕ) → ToldBy (told_to_steps w (history r (after r s (Step w)) es)) (r.seen s.store) w (stop_cursor (end_of (r.seen s.store)) (next_live (r.seen s.store) c)) j kind)
@@ -120,7 +107,7 @@ damaged_told {S} {I} r s (e ∷ es) w c m kind fault ready h at =
       | inl other ↦ (
           let told : told_to_steps w (history r s (e ∷ es)) ≡ told_to_steps w (history r (after r s e) es) = ap (λ (l : List Said). l ++ told_to_steps w (history r (after r s e) es)) (other.silent (reply_to r s e)) in
           subst (λ (l : List Said). ToldBy l (r.seen s.store) w c m kind) (sym told)
-          (subst (λ (x : S). ToldBy (told_to_steps w (history r (after r s e) es)) (r.seen x) w c m kind) now.store (damaged_told r (after r s e) es w c m kind fault_on next h.1 (only_steps r s e w c at other.other))))
+          (subst (λ (x : S). ToldBy (told_to_steps w (history r (after r s e) es)) (r.seen x) w c m kind) now.store (damaged_told r (after r s e) es w c m kind fault_on next h.1 (only_steps r s e w c at other.other (plain_reply r s e (λ is. refused_plain e _ is now.told))))))
       | inr is ↦ (
           let store = r.seen s.store in
           let to = stop_cursor (end_of store) (next_live store c) in
@@ -148,7 +135,7 @@ others_tell r s [] w c at = tt
 others_tell {S} {I} r s (e ∷ es) w c at = elim (own e w) [
   | inl other ↦ (
       let told : told_to_steps w (history r s (e ∷ es)) ≡ told_to_steps w (history r (after r s e) es) = ap (λ (l : List Said). l ++ told_to_steps w (history r (after r s e) es)) (other.silent (reply_to r s e)) in
-      subst (AllByRecursion (λ x. tells_step w x ≡ true)) (sym told) (others_tell r (after r s e) es w c (only_steps r s e w c at other.other)))
+      subst (AllByRecursion (λ x. tells_step w x ≡ true)) (sym told) (elim (effect r s e w) [ inl still ↦ others_tell r (after r s e) es w _ (still.stays c at) | inr moves ↦ others_tell r (after r s e) es w _ moves.stands ]))
   | inr is ↦ (
       let rest = others_tell r (after r s (Step w)) es w _ (own_step r s w c at).stands in
       subst (λ (x : Event I). AllByRecursion (λ y. tells_step w y ≡ true) (told_to_steps w (history r s (x ∷ es)))) (sym is) (others_by r s es w c at rest))
@@ -159,7 +146,7 @@ added_cons : {X Y : Type 0} (b : Bool) (x : X) (xs : List X) (y : Y) (ys : List 
 added_cons true x xs y ys e = ap suc e
 added_cons false x xs y ys e = e
 
-additions_told : {S I : Type 0} (r : Rules S I) (n w : ℕ) (names : List Name) (c : Option ℕ) (h : List (Moment S I)) → additions (track_on n names c r w h) ≡ accepted h
+additions_told : {S I : Type 0} (r : Rules S I) (n w : ℕ) (names : List RecordName) (c : Option ℕ) (h : List (Moment S I)) → additions (track_on n names c r w h) ≡ accepted h
 additions_told r n w names c [] = refl
 additions_told r n w names c (m ∷ ms) = added_cons (is_placed m.reply) _ _ m _ (additions_told r (suc n) w _ c ms)
 

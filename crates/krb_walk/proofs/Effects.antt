@@ -1,27 +1,96 @@
 -- What each event does to a walk, and the law of whole histories.
-use Rattle.std.proofs.Common.{◌≡◌, ◌≢◌, ℕ, Bool, true, false, cond, List, [], ◌∷◌, ◌++◌, length, Option, Some, None, Result, Ok, Err, inl, inr, refl, sym, ap, ◌∙◌, subst, arith}
-use Rattle.std.specs.Prelude.{◌&&◌, ◌==◌, ◌⊎◌, nat_lt, slice_get, slice_set}
+use Rattle.std.proofs.Common.{◌≡◌, ◌≢◌, ℕ, zero, suc, ◌+◌, Bool, true, false, cond, List, [], ◌∷◌, ◌++◌, length, map, Option, Some, None, Result, Ok, Err, inl, inr, refl, sym, ap, ◌∙◌, subst, arith}
+use Rattle.std.specs.Prelude.{◌&&◌, ◌==◌, ◌⊎◌, nat_lt, is_some, slice_get, slice_set}
 use Rattle.std.proofs.lemmas.Bool.Decides.{nat_tests}
 use Rattle.krb_walk.specs.declared.event.Event.{Event}
-use Rattle.krb_walk.specs.declared.event.Event.TheVariants.{Start, Resume, Step, Put, Cut}
+use Rattle.krb_walk.specs.declared.event.Event.TheVariants.{Start, Resume, Step, Put, Cut, Rewrite}
 use Rattle.krb_walk.specs.declared.fault.FaultKind.{FaultKind}
 use Rattle.krb_walk.specs.declared.refusal.Code.{Code}
-use Rattle.krb_walk.specs.Store.{Store, Record, end_of, fault_from, is_place, next_live}
-use Rattle.krb_walk.specs.Said.{Said, Placed, Gone, tells_step}
+use Rattle.krb_walk.specs.Store.{Cell, Store, Record, end_from, end_of, is_place_from, IsSound, fault_from, is_place, next_live}
+use Rattle.krb_walk.specs.Changes.{Changes}
+use Rattle.krb_walk.specs.Said.{Said, Placed, Gone, Rewritten, tells_step, is_rewritten}
 use Rattle.krb_walk.specs.Rules.{Rules}
-use Rattle.krb_walk.specs.Events.{State, after, reply_to, store_after, cursors_after, stop_cursor, stop_said, end_said, put_said, cut_said, step_said, step_cursors}
-use Rattle.krb_walk.specs.History.{IsReady, IsLawful, AllLawful, Changes, moment, history, state_after}
-use Rattle.krb_walk.specs.Track.{AnswersStep}
+use Rattle.krb_walk.specs.Events.{State, after, reply_to, store_after, cursors_after, stop_cursor, stop_said, end_said, put_said, cut_said, cut_store, rewrite_said, rewrite_cursors, step_said, step_cursors}
+use Rattle.krb_walk.specs.History.{IsReady, IsLawful, AllLawful, AllPlain, moment, history, state_after, steps_walk}
+use Rattle.krb_walk.specs.Ranks.{rank, nth_or, carry}
+use Rattle.krb_walk.specs.Track.{carried, AnswersStep}
 use Rattle.krb_walk.proofs.Lists.{get-push, get-append, get-set, get-set_other, get-set_same}
-use Rattle.krb_walk.proofs.Places.{Extends, extends_self, extends_on, puts-extends, cuts-extends, sound_kept, place_kept, place_first, stop_place}
+use Rattle.krb_walk.proofs.Places.{Extends, extends_self, extends_on, puts-extends, cuts-extends, sound_kept, place_kept, place_first, stop_place, or_true}
+use Rattle.krb_walk.proofs.Stops.{is_place_from-first}
+use Rattle.krb_walk.proofs.Lives.{lives}
+use Rattle.krb_walk.proofs.WalkEvents.{carried_same}
 
 pub same_extends : (old new : Store) → new ≡ old → Extends old new
 same_extends old new e = subst (λ (s : Store). Extends old s) (sym e) (extends_self old)
 
-pub changes-extends : {I : Type 0} (e : Event I) (told : Said) (old new : Store) → Changes e told old new → Extends old new
-changes-extends (Put item) (Placed p) old new h = puts-extends old new p h
-changes-extends (Cut q) (Gone p) old new h = cuts-extends old new q h
-changes-extends e told old new h = same_extends old new h
+pub changes-extends : (told : Said) (old new : Store) → is_rewritten told ≡ false → Changes told old new → Extends old new
+changes-extends (Placed p) old new plain h = puts-extends old new p h
+changes-extends (Gone p) old new plain h = cuts-extends old new p h
+changes-extends (Rewritten p) old new plain h = cc
+changes-extends told old new plain h = same_extends old new h
+
+put_extends : {S : Type 0} (given : Result (ℕ × S) Code) (old new : Store) → Changes (put_said given) old new → Extends old new
+put_extends (Ok given) old new h = puts-extends old new given.0 h
+put_extends (Err code) old new h = same_extends old new h
+
+cut_extends : {S : Type 0} (p : ℕ) (given : Result S Code) (old new : Store) → Changes (cut_said p given) old new → Extends old new
+cut_extends p (Ok given) old new h = cuts-extends old new p h
+cut_extends p (Err code) old new h = same_extends old new h
+
+-- what changes no store is lawful
+changes_cond : (b : Bool) (x y : Said) (s : Store) → Changes x s s → Changes y s s → Changes (cond b x y) s s
+changes_cond true x y s h k = h
+changes_cond false x y s h k = k
+
+changes_end : (w end : ℕ) (fault : Option FaultKind) (s : Store) → Changes (end_said w end fault) s s
+changes_end w end None s = refl
+changes_end w end (Some kind) s = refl
+
+changes_stop : (s : Store) (w : ℕ) (found : Option Record) → Changes (stop_said s w found) s s
+changes_stop s w None = changes_end w (end_of s) s.fault s
+changes_stop s w (Some r) = refl
+
+changes_step : (s : Store) (w : ℕ) (o : Option ℕ) → Changes (step_said s w o) s s
+changes_step s w None = refl
+changes_step s w (Some c) = changes_stop s w (next_live s c)
+
+pub lawful_start : {S I : Type 0} (r : Rules S I) (s : State S) → IsLawful {I = I} r (moment r s Start)
+lawful_start r s = changes_cond (nat_lt (length s.cursors) 1024) _ _ (r.seen s.store) refl refl
+
+pub lawful_resume : {S I : Type 0} (r : Rules S I) (s : State S) (p : ℕ) → IsLawful {I = I} r (moment r s (Resume p))
+lawful_resume r s p = changes_cond (nat_lt (length s.cursors) 1024) _ _ (r.seen s.store) (changes_cond (is_place (r.seen s.store) p) _ _ (r.seen s.store) refl refl) refl
+
+pub lawful_step : {S I : Type 0} (r : Rules S I) (s : State S) (w : ℕ) → IsLawful {I = I} r (moment r s (Step w))
+lawful_step r s w = changes_step (r.seen s.store) w (slice_get s.cursors w)
+
+-- where a cursor is carried, there is a place
+place_at_nth_cons : (at w : ℕ) (live : Option (List ℕ)) (cells : List Cell) (k : ℕ) → ((j : ℕ) → is_place_from (at + w) cells (nth_or (end_from (at + w) cells) (lives (at + w) cells) j) ≡ true)
+    → is_place_from at (record { width = w; live = live } ∷ cells) (nth_or (end_from (at + w) cells) (lives at (record { width = w; live = live } ∷ cells)) k) ≡ true
+place_at_nth_cons at w None cells k ih = or_true (at == nth_or (end_from (at + w) cells) (lives (at + w) cells) k) _ (ih k)
+place_at_nth_cons at w (Some bytes) cells zero ih = is_place_from-first at (record { width = w; live = Some bytes } ∷ cells)
+place_at_nth_cons at w (Some bytes) cells (suc k) ih = or_true (at == nth_or (end_from (at + w) cells) (lives (at + w) cells) k) _ (ih k)
+
+place_at_nth : (at : ℕ) (cells : List Cell) (k : ℕ) → is_place_from at cells (nth_or (end_from at cells) (lives at cells) k) ≡ true
+place_at_nth at [] k = is_place_from-first at []
+place_at_nth at (x ∷ cells) k = place_at_nth_cons at x.width x.live cells k (λ j. place_at_nth (at + x.width) cells j)
+
+pub place_carried : (old new : Store) (c : ℕ) → is_place new (carry old new c) ≡ true
+place_carried old new c = place_at_nth new.first new.cells (rank old c)
+
+-- a table that is mapped
+pub get_map : (f : ℕ → ℕ) (xs : List ℕ) (w d : ℕ) → slice_get xs w ≡ Some d → slice_get (map f xs) w ≡ Some (f d)
+get_map f [] w d h = cc
+get_map f (x ∷ xs) zero d h = let same : x ≡ d = cc in ap (λ (y : ℕ). Some (f y)) same
+get_map f (x ∷ xs) (suc w) d h = get_map f xs w d h
+
+pub record Was (f : ℕ → ℕ) (c : ℕ) : Type 0 where
+  pub at : ℕ
+  pub is : f at ≡ c
+
+pub was_map : (f : ℕ → ℕ) (xs : List ℕ) (w c : ℕ) → slice_get (map f xs) w ≡ Some c → Was f c
+was_map f [] w c h = cc
+was_map f (x ∷ xs) zero c h = record { at = x; is = cc }
+was_map f (x ∷ xs) (suc w) c h = was_map f xs w c h
 
 -- cursors that stand at places
 abbrev pub AtPlaces : Store → List ℕ → Type 0
@@ -45,25 +114,44 @@ at_step : (s : Store) (cursors : List ℕ) (v : ℕ) (o : Option ℕ) → AtPlac
 at_step s cursors v None all = all
 at_step s cursors v (Some c) all = at_set s cursors v _ all (stop_place s c)
 
+at_rewrite : {S : Type 0} (seen : S → Store) (old : S) (cursors : List ℕ) (given : Result S Code) → AtPlaces (seen old) cursors → AtPlaces (seen (cut_store old given)) (rewrite_cursors seen old cursors given)
+at_rewrite seen old cursors (Ok new) all w c e = let was = was_map (carry (seen old) (seen new)) cursors w c e in subst (λ (p : ℕ). is_place (seen new) p ≡ true) was.is (place_carried (seen old) (seen new) was.at)
+at_rewrite seen old cursors (Err code) all w c e = all w c e
+
+rewrite_sound : {S : Type 0} (seen : S → Store) (old : S) (given : Result S Code) → Changes (rewrite_said seen given) (seen old) (seen (cut_store old given)) → IsSound (seen old) → IsSound (seen (cut_store old given))
+rewrite_sound seen old (Ok new) h sound = h.sound
+rewrite_sound seen old (Err code) h sound = sound
+
+sound_after : {S I : Type 0} (r : Rules S I) (s : State S) (e : Event I) → IsSound (r.seen s.store) → IsLawful r (moment r s e) → IsSound (r.seen (store_after r s e))
+sound_after r s Start sound h = sound
+sound_after r s (Resume p) sound h = sound
+sound_after r s (Step v) sound h = sound
+sound_after r s (Put item) sound h = sound_kept _ _ (put_extends (r.put s.store item) _ _ h) sound
+sound_after r s (Cut p) sound h = sound_kept _ _ (cut_extends p (r.cut s.store p) _ _ h) sound
+sound_after r s Rewrite sound h = rewrite_sound r.seen s.store (r.rewrite s.store) h sound
+
 at_after : {S I : Type 0} (r : Rules S I) (s : State S) (e : Event I) → AtPlaces (r.seen s.store) s.cursors → IsLawful r (moment r s e) → AtPlaces (r.seen (store_after r s e)) (cursors_after r s e)
 at_after r s Start all h = at_start (r.seen s.store) s.cursors _ (nat_lt (length s.cursors) 1024) all (λ _. place_first (r.seen s.store))
 at_after r s (Resume p) all h = at_start (r.seen s.store) s.cursors p (nat_lt (length s.cursors) 1024 && is_place (r.seen s.store) p) all (λ e. and_right _ _ e)
 at_after r s (Step v) all h = at_step (r.seen s.store) s.cursors v (slice_get s.cursors v) all
-at_after {I = I} r s (Put item) all h = λ w c e. place_kept _ _ c (changes-extends {I = I} (Put item) _ _ _ h) (all w c e)
-at_after {I = I} r s (Cut p) all h = λ w c e. place_kept _ _ c (changes-extends {I = I} (Cut p) _ _ _ h) (all w c e)
+at_after r s (Put item) all h = λ w c e. place_kept _ _ c (put_extends (r.put s.store item) _ _ h) (all w c e)
+at_after r s (Cut p) all h = λ w c e. place_kept _ _ c (cut_extends p (r.cut s.store p) _ _ h) (all w c e)
+at_after r s Rewrite all h = at_rewrite r.seen s.store s.cursors (r.rewrite s.store) all
 
 pub ready_after : {S I : Type 0} (r : Rules S I) (s : State S) (e : Event I) → IsReady r s → IsLawful r (moment r s e) → IsReady r (after r s e)
 ready_after r s e ready h = record {
-  sound = sound_kept _ _ (changes-extends e _ _ _ h) ready.sound;
+  sound = sound_after r s e ready.sound h;
   cursors = at_after r s e ready.cursors h;
 }
 
 -- an event that is no step of a walk, and one that is
-pub record Still {S I : Type 0} (r : Rules S I) (s : State S) (e : Event I) (w : ℕ) : Type 0 where
-  pub stays : (d : ℕ) → slice_get s.cursors w ≡ Some d → slice_get (cursors_after r s e) w ≡ Some d
+pub record Unmoved {S I : Type 0} (r : Rules S I) (s : State S) (e : Event I) (w : ℕ) : Type 0 where
+  pub idle : steps_walk s e w ≡ false
+  pub stays : (d : ℕ) → slice_get s.cursors w ≡ Some d → slice_get (cursors_after r s e) w ≡ Some (carried (reply_to r s e) (r.seen s.store) (r.seen (store_after r s e)) d)
   pub other : tells_step w (reply_to r s e) ≡ false
 
 pub record Moves {S I : Type 0} (r : Rules S I) (s : State S) (e : Event I) (w : ℕ) : Type 0 where
+  pub stepped : steps_walk s e w ≡ true
   pub at : ℕ
   pub stood : slice_get s.cursors w ≡ Some at
   pub stands : slice_get (cursors_after r s e) w ≡ Some (stop_cursor (end_of (r.seen s.store)) (next_live (r.seen s.store) at))
@@ -82,6 +170,42 @@ other_cut : {S : Type 0} (w p : ℕ) (given : Result S Code) → tells_step w (c
 other_cut w p (Ok given) = refl
 other_cut w p (Err code) = refl
 
+other_rewrite : {S : Type 0} (w : ℕ) (seen : S → Store) (given : Result S Code) → tells_step w (rewrite_said seen given) ≡ false
+other_rewrite w seen (Ok new) = refl
+other_rewrite w seen (Err code) = refl
+
+-- replies that tell no rewrite
+plain_cond : (b : Bool) (x y : Said) → is_rewritten x ≡ false → is_rewritten y ≡ false → is_rewritten (cond b x y) ≡ false
+plain_cond true x y h k = h
+plain_cond false x y h k = k
+
+plain_end : (w end : ℕ) (fault : Option FaultKind) → is_rewritten (end_said w end fault) ≡ false
+plain_end w end None = refl
+plain_end w end (Some kind) = refl
+
+plain_stop : (s : Store) (w : ℕ) (found : Option Record) → is_rewritten (stop_said s w found) ≡ false
+plain_stop s w None = plain_end w (end_of s) s.fault
+plain_stop s w (Some r) = refl
+
+plain_step : (s : Store) (w : ℕ) (o : Option ℕ) → is_rewritten (step_said s w o) ≡ false
+plain_step s w None = refl
+plain_step s w (Some c) = plain_stop s w (next_live s c)
+
+plain_put : {S : Type 0} (given : Result (ℕ × S) Code) → is_rewritten (put_said given) ≡ false
+plain_put (Ok given) = refl
+plain_put (Err code) = refl
+
+plain_cut : {S : Type 0} (p : ℕ) (given : Result S Code) → is_rewritten (cut_said p given) ≡ false
+plain_cut p (Ok given) = refl
+plain_cut p (Err code) = refl
+
+stays_plain : (told : Said) (old new : Store) (q : Option ℕ) (d : ℕ) → is_rewritten told ≡ false → q ≡ Some d → q ≡ Some (carried told old new d)
+stays_plain told old new q d plain h = h ∙ sym (ap Some (carried_same told old new d plain))
+
+rewrite_stays : {S : Type 0} (seen : S → Store) (old : S) (cursors : List ℕ) (given : Result S Code) (w d : ℕ) → slice_get cursors w ≡ Some d → slice_get (rewrite_cursors seen old cursors given) w ≡ Some (carried (rewrite_said seen given) (seen old) (seen (cut_store old given)) d)
+rewrite_stays seen old cursors (Ok new) w d h = get_map (carry (seen old) (seen new)) cursors w d h
+rewrite_stays seen old cursors (Err code) w d h = h
+
 other_end : (w v end : ℕ) (fault : Option FaultKind) → (v == w) ≡ false → tells_step w (end_said v end fault) ≡ false
 other_end w v end None e = e
 other_end w v end (Some kind) e = e
@@ -93,6 +217,14 @@ other_walk s w v (Some found) e = e
 pub get_push_cond : (b : Bool) (cursors : List ℕ) (p w d : ℕ) → slice_get cursors w ≡ Some d → slice_get (cond b (cursors ++ p ∷ []) cursors) w ≡ Some d
 get_push_cond true cursors p w d h = get-append cursors (p ∷ []) w d h
 get_push_cond false cursors p w d h = h
+
+pub plain_reply : {S I : Type 0} (r : Rules S I) (s : State S) (e : Event I) → (e ≡ Rewrite → is_rewritten (reply_to r s e) ≡ false) → is_rewritten (reply_to r s e) ≡ false
+plain_reply r s Start h = plain_cond (nat_lt (length s.cursors) 1024) _ _ refl refl
+plain_reply r s (Resume p) h = plain_cond (nat_lt (length s.cursors) 1024) _ _ (plain_cond (is_place (r.seen s.store) p) _ _ refl refl) refl
+plain_reply r s (Step v) h = plain_step (r.seen s.store) v (slice_get s.cursors v)
+plain_reply r s (Put item) h = plain_put (r.put s.store item)
+plain_reply r s (Cut p) h = plain_cut p (r.cut s.store p)
+plain_reply r s Rewrite h = h refl
 
 -- what a step of the walk is answered
 answered_none : (s : Store) (w c : ℕ) (fault : Option FaultKind) → next_live s c ≡ None → s.fault ≡ fault → AnswersStep s w c (end_said w (end_of s) fault) (end_of s)
@@ -117,37 +249,50 @@ own_step r s w c is =
     }
 
 moves_own : {S I : Type 0} (r : Rules S I) (s : State S) (w c : ℕ) → slice_get s.cursors w ≡ Some c → Moves r s (Step w) w
-moves_own r s w c is = let step = own_step r s w c is in record { at = c; stood = is; stands = step.stands; answered = step.answered }
+moves_own r s w c is =
+    let step = own_step r s w c is in
+    let itself : (w == w) ≡ true = grind (arith, nat_tests) in
+    record { stepped = ap (λ (b : Bool). b && is_some (slice_get s.cursors w)) itself ∙ ap (λ (o : Option ℕ). is_some o) is; at = c; stood = is; stands = step.stands; answered = step.answered }
 
-effect_step : {S I : Type 0} (r : Rules S I) (s : State S) (v w : ℕ) (o : Option ℕ) (b : Bool) → slice_get s.cursors v ≡ o → (v == w) ≡ b → Still r s (Step v) w ⊎ Moves r s (Step v) w
+-- a step of another walk, or of none
+idle_none : (cursors : List ℕ) (v w : ℕ) (b : Bool) → slice_get cursors v ≡ None → (v == w) ≡ b → ((v == w) && is_some (slice_get cursors w)) ≡ false
+idle_none cursors v w true is e =
+    let same : v ≡ w = grind (arith, nat_tests) in
+    ap (λ (b : Bool). b && is_some (slice_get cursors w)) e ∙ ap (λ (o : Option ℕ). is_some o) (ap (slice_get cursors) (sym same) ∙ is)
+idle_none cursors v w false is e = ap (λ (b : Bool). b && is_some (slice_get cursors w)) e
+
+effect_step : {S I : Type 0} (r : Rules S I) (s : State S) (v w : ℕ) (o : Option ℕ) (b : Bool) → slice_get s.cursors v ≡ o → (v == w) ≡ b → Unmoved r s (Step v) w ⊎ Moves r s (Step v) w
 effect_step r s v w None b is e =
     let store = r.seen s.store in
     inl (record {
-      stays = λ d h. ap (λ o. slice_get (step_cursors store s.cursors v o) w) is ∙ h;
+      idle = idle_none s.cursors v w b is e;
+      stays = λ d h. stays_plain _ store store _ d (plain_step store v (slice_get s.cursors v)) (ap (λ o. slice_get (step_cursors store s.cursors v o) w) is ∙ h);
       other = ap (λ o. tells_step w (step_said store v o)) is;
     })
 effect_step r s v w (Some c) false is e =
     let store = r.seen s.store in
     let differ : v ≢ w = grind (arith, nat_tests) in
     inl (record {
-      stays = λ d h. ap (λ o. slice_get (step_cursors store s.cursors v o) w) is ∙ get-set_other s.cursors v _ w differ ∙ h;
+      idle = ap (λ (b : Bool). b && is_some (slice_get s.cursors w)) e;
+      stays = λ d h. stays_plain _ store store _ d (plain_step store v (slice_get s.cursors v)) (ap (λ o. slice_get (step_cursors store s.cursors v o) w) is ∙ get-set_other s.cursors v _ w differ ∙ h);
       other = ap (λ o. tells_step w (step_said store v o)) is ∙ other_walk store w v (next_live store c) e;
     })
 effect_step r s v w (Some c) true is e =
     let same : v ≡ w = grind (arith, nat_tests) in
     inr (subst (Moves r s (Step v)) same (moves_own r s v c is))
 
-pub effect : {S I : Type 0} (r : Rules S I) (s : State S) (e : Event I) (w : ℕ) → Still r s e w ⊎ Moves r s e w
-effect r s Start w = inl (record { stays = λ d h. get_push_cond (nat_lt (length s.cursors) 1024) s.cursors _ w d h; other = other_cond w (nat_lt (length s.cursors) 1024) _ _ refl refl })
-effect r s (Resume p) w = inl (record { stays = λ d h. get_push_cond (nat_lt (length s.cursors) 1024 && is_place (r.seen s.store) p) s.cursors p w d h; other = other_cond w (nat_lt (length s.cursors) 1024) _ _ (other_cond w (is_place (r.seen s.store) p) _ _ refl refl) refl })
+pub effect : {S I : Type 0} (r : Rules S I) (s : State S) (e : Event I) (w : ℕ) → Unmoved r s e w ⊎ Moves r s e w
+effect r s Start w = inl (record { idle = refl; stays = λ d h. stays_plain _ _ _ _ d (plain_cond (nat_lt (length s.cursors) 1024) _ _ refl refl) (get_push_cond (nat_lt (length s.cursors) 1024) s.cursors _ w d h); other = other_cond w (nat_lt (length s.cursors) 1024) _ _ refl refl })
+effect r s (Resume p) w = inl (record { idle = refl; stays = λ d h. stays_plain _ _ _ _ d (plain_cond (nat_lt (length s.cursors) 1024) _ _ (plain_cond (is_place (r.seen s.store) p) _ _ refl refl) refl) (get_push_cond (nat_lt (length s.cursors) 1024 && is_place (r.seen s.store) p) s.cursors p w d h); other = other_cond w (nat_lt (length s.cursors) 1024) _ _ (other_cond w (is_place (r.seen s.store) p) _ _ refl refl) refl })
 effect r s (Step v) w = effect_step r s v w (slice_get s.cursors v) (v == w) refl refl
-effect r s (Put item) w = inl (record { stays = λ d h. h; other = other_put w (r.put s.store item) })
-effect r s (Cut p) w = inl (record { stays = λ d h. h; other = other_cut w p (r.cut s.store p) })
+effect r s (Put item) w = inl (record { idle = refl; stays = λ d h. stays_plain _ _ _ _ d (plain_put (r.put s.store item)) h; other = other_put w (r.put s.store item) })
+effect r s (Cut p) w = inl (record { idle = refl; stays = λ d h. stays_plain _ _ _ _ d (plain_cut p (r.cut s.store p)) h; other = other_cut w p (r.cut s.store p) })
+effect r s Rewrite w = inl (record { idle = refl; stays = λ d h. rewrite_stays r.seen s.store s.cursors (r.rewrite s.store) w d h; other = other_rewrite w r.seen (r.rewrite s.store) })
 
 -- a whole history: its last store has the first one's cells where they were
-pub history_extends : {S I : Type 0} (r : Rules S I) (s : State S) (es : List (Event I)) → AllLawful r (history r s es) → Extends (r.seen s.store) (r.seen (state_after r s es).store)
-history_extends r s [] h = extends_self (r.seen s.store)
-history_extends r s (e ∷ es) h = extends_on _ _ _ (changes-extends e _ _ _ h.0) (history_extends r (after r s e) es h.1)
+pub history_extends : {S I : Type 0} (r : Rules S I) (s : State S) (es : List (Event I)) → AllPlain (history r s es) → AllLawful r (history r s es) → Extends (r.seen s.store) (r.seen (state_after r s es).store)
+history_extends r s [] plain h = extends_self (r.seen s.store)
+history_extends r s (e ∷ es) plain h = extends_on _ _ _ (changes-extends _ _ _ plain.0 h.0) (history_extends r (after r s e) es plain.1 h.1)
 
 pub ready_to_last : {S I : Type 0} (r : Rules S I) (s : State S) (es : List (Event I)) → IsReady r s → AllLawful r (history r s es) → IsReady r (state_after r s es)
 ready_to_last r s [] ready h = ready

@@ -1,18 +1,19 @@
 -- Runs that join.
 use Rattle.std.proofs.Common.{◌≡◌, ℕ, suc, ◌+◌, Bool, true, false, cond, List, [], ◌∷◌, ◌++◌, length, Option, Some, None, inl, inr, refl, sym, ap, ◌∙◌, subst, arith}
 use Rattle.std.specs.Prelude.{◌&&◌, nat_lt, slice_get}
+use Rattle.std.specs.List.{AllByRecursion}
 use Rattle.std.specs.Option.{option_or}
 use Rattle.std.proofs.lemmas.Option.{slice_get_within}
 use Rattle.krb_walk.specs.declared.event.Event.{Event}
 use Rattle.krb_walk.specs.declared.event.Event.TheVariants.{Resume}
 use Rattle.krb_walk.specs.declared.refusal.Code.TheVariants.{NotAPlace, TooManyWalks}
 use Rattle.krb_walk.specs.Store.{Store, is_place}
-use Rattle.krb_walk.specs.Said.{Started, Refused}
+use Rattle.krb_walk.specs.Said.{Started, Refused, is_rewritten}
 use Rattle.krb_walk.specs.Rules.{Rules}
 use Rattle.krb_walk.specs.Events.{State, after, reply_to, cursors_after}
 use Rattle.krb_walk.specs.History.{Moment, IsReady, AllLawful, history, state_after}
-use Rattle.krb_walk.specs.Track.{Name, Track, first_names, track_on, track, last_names, last_cursor, IsTrack, IsWalk}
-use Rattle.krb_walk.specs.Joins.{GoesOnAt, Next, track_then, Join}
+use Rattle.krb_walk.specs.Track.{RecordName, Track, first_names, track_on, track, last_names, last_cursor, IsTrack, IsWalk}
+use Rattle.krb_walk.specs.Joins.{StandsOrResumes, Next, track_then, Join}
 use Rattle.krb_walk.proofs.Effects.{effect}
 use Rattle.krb_walk.proofs.Tracks.{tracks_join}
 use Rattle.krb_walk.proofs.Histories.{MadeAt, made_none, track_is}
@@ -24,7 +25,7 @@ pub record Stands (cursors : List ℕ) (w : ℕ) : Type 0 where
 
 pub stands_after : {S I : Type 0} (r : Rules S I) (s : State S) (e : Event I) (w : ℕ) → Stands s.cursors w → Stands (cursors_after r s e) w
 stands_after r s e w stands = elim (effect r s e w) [
-  | inl still ↦ record { at = stands.at; is = still.stays stands.at stands.is }
+  | inl still ↦ record { at = _; is = still.stays stands.at stands.is }
   | inr moves ↦ record { at = _; is = moves.stands }
 ]
 
@@ -34,7 +35,7 @@ stands_to r s (e ∷ es) w stands = stands_to r (after r s e) es w (stands_after
 
 stands_fits : {S I : Type 0} (r : Rules S I) (s : State S) (es : List (Event I)) (w : ℕ) (c : Option ℕ) → Stands s.cursors w → MadeAt c r w s es
 stands_fits r s [] w c stands = tt
-stands_fits r s (e ∷ es) w c stands = (λ d a is none now. cc (stands.is, none), stands_fits r (after r s e) es w c (stands_after r s e w stands))
+stands_fits r s (e ∷ es) w c stands = (record { made = λ d a is none now. cc (stands.is, none); plain = λ d is none. cc (stands.is, none) }, stands_fits r (after r s e) es w c (stands_after r s e w stands))
 
 record Resumed (cursors after : List ℕ) (p w c : ℕ) : Type 0 where
   number : length cursors ≡ w
@@ -56,38 +57,46 @@ get_last (x ∷ xs) p = get_last xs p
 not_yet : (cursors : List ℕ) (w : ℕ) → length cursors ≡ w → Stands cursors w → ⊥
 not_yet cursors w e stands = omega (arith, e, slice_get_within cursors w stands.at stands.is)
 
-resumes_fits : {S I : Type 0} (r : Rules S I) (s : State S) (w c : ℕ) (earlier later : List (Event I)) → reply_to r (state_after r s earlier) (Resume c) ≡ Started w c → MadeAt (Some c) r w s (earlier ++ Resume c ∷ later)
-resumes_fits r s w c [] later told =
+plain_resume : (b d : Bool) (k p : ℕ) → is_rewritten (cond b (cond d (Started k p) (Refused NotAPlace)) (Refused TooManyWalks)) ≡ false
+plain_resume true true k p = refl
+plain_resume true false k p = refl
+plain_resume false d k p = refl
+
+resumes_fits : {S I : Type 0} (r : Rules S I) (s : State S) (w c : ℕ) (earlier later : List (Event I)) → reply_to r (state_after r s earlier) (Resume c) ≡ Started w c → AllByRecursion (λ m. is_rewritten m.reply ≡ false) (history r s earlier) → MadeAt (Some c) r w s (earlier ++ Resume c ∷ later)
+resumes_fits r s w c [] later told plain =
     let now = resumed r s c w c told in
     let stands : slice_get (cursors_after r s (Resume c)) w ≡ Some c = ap (λ (xs : List ℕ). slice_get xs w) now.made ∙ ap (slice_get (s.cursors ++ c ∷ [])) (sym now.number) ∙ get_last s.cursors c in
-    (λ d a is none there. cc (stands, there, is), stands_fits r (after r s (Resume c)) later w (Some c) (record { at = c; is = stands }))
-resumes_fits r s w c (e ∷ earlier) later told = (
-  λ d a is none there. absurd (not_yet (state_after r (after r s e) earlier).cursors w (resumed r (state_after r (after r s e) earlier) c w c told).number (stands_to r (after r s e) earlier w (record { at = a; is = there }))),
-  resumes_fits r (after r s e) w c earlier later told,
+    (record { made = λ d a is none there. cc (stands, there, is); plain = λ d is none. plain_resume (nat_lt (length s.cursors) 1024) (is_place (r.seen s.store) c) (length s.cursors) c }, stands_fits r (after r s (Resume c)) later w (Some c) (record { at = c; is = stands }))
+resumes_fits r s w c (e ∷ earlier) later told plain = (
+  record {
+    made = λ d a is none there. absurd (not_yet (state_after r (after r s e) earlier).cursors w (resumed r (state_after r (after r s e) earlier) c w c told).number (stands_to r (after r s e) earlier w (record { at = a; is = there })));
+    plain = λ d is none. plain.0;
+  },
+  resumes_fits r (after r s e) w c earlier later told plain.1,
 )
 
-made_at : {S I : Type 0} (r : Rules S I) (s : State S) (es : List (Event I)) (w c : ℕ) → GoesOnAt r s es w c → MadeAt (Some c) r w s es
+made_at : {S I : Type 0} (r : Rules S I) (s : State S) (es : List (Event I)) (w c : ℕ) → StandsOrResumes r s es w c → MadeAt (Some c) r w s es
 made_at r s es w c on = elim on [
   | inl at ↦ stands_fits r s es w (Some c) (record { at = c; is = at })
-  | inr res ↦ subst (MadeAt (Some c) r w s) (sym res.events_are) (resumes_fits r s w c res.earlier res.later res.told)
+  | inr res ↦ subst (MadeAt (Some c) r w s) (sym res.events_are) (resumes_fits r s w c res.earlier res.later res.told res.plain)
 ]
 
 begins_none : (cursors : List ℕ) (w c : ℕ) (o : Option ℕ) → slice_get cursors w ≡ o → (Stands cursors w → ⊥) → option_or o (Some c) ≡ Some c
 begins_none cursors w c None is no_walk = refl
 begins_none cursors w c (Some d) is no_walk = absurd (no_walk (record { at = d; is = is }))
 
-begins_at : {S I : Type 0} (r : Rules S I) (s : State S) (es : List (Event I)) (w c : ℕ) → GoesOnAt r s es w c → option_or (slice_get s.cursors w) (Some c) ≡ Some c
+begins_at : {S I : Type 0} (r : Rules S I) (s : State S) (es : List (Event I)) (w c : ℕ) → StandsOrResumes r s es w c → option_or (slice_get s.cursors w) (Some c) ≡ Some c
 begins_at r s es w c on = elim on [
   | inl at ↦ ap (λ (o : Option ℕ). option_or o (Some c)) at
   | inr res ↦ begins_none s.cursors w c (slice_get s.cursors w) refl (λ stands. not_yet _ w (resumed r (state_after r s res.earlier) c w c res.told).number (stands_to r s res.earlier w stands))
 ]
 
 -- where the track of a history ends
-cursor_last : {S I : Type 0} (r : Rules S I) (s : State S) (es : List (Event I)) (n w : ℕ) (names : List Name) (c : Option ℕ) → last_cursor (option_or (slice_get s.cursors w) c) (track_on n names c r w (history r s es)) ≡ option_or (slice_get (state_after r s es).cursors w) c
+cursor_last : {S I : Type 0} (r : Rules S I) (s : State S) (es : List (Event I)) (n w : ℕ) (names : List RecordName) (c : Option ℕ) → last_cursor (option_or (slice_get s.cursors w) c) (track_on n names c r w (history r s es)) ≡ option_or (slice_get (state_after r s es).cursors w) c
 cursor_last r s [] n w names c = refl
 cursor_last r s (e ∷ es) n w names c = cursor_last r (after r s e) es (suc n) w _ c
 
-pub length_track : {S I : Type 0} (r : Rules S I) (n w : ℕ) (names : List Name) (c : Option ℕ) (h : List (Moment S I)) → length (track_on n names c r w h) ≡ length h
+pub length_track : {S I : Type 0} (r : Rules S I) (n w : ℕ) (names : List RecordName) (c : Option ℕ) (h : List (Moment S I)) → length (track_on n names c r w h) ≡ length h
 length_track r n w names c [] = refl
 length_track r n w names c (m ∷ ms) = ap suc (length_track r (suc n) w _ c ms)
 
@@ -101,12 +110,13 @@ history_walks r s es w ready h =
     let first = r.seen s.store in
     let last = r.seen (state_after r s es).store in
     record {
+      sound = ready.sound;
       here = λ d is. ready.cursors w d is;
-      is = subst (λ (o : Option ℕ). IsTrack 1 first (first_names first) o (track r s w (history r s es)) last) (or_none (slice_get s.cursors w)) (track_is r s es 1 w (first_names first) None ready h (made_none r w s es) (λ d is. cc));
+      is = subst (λ (o : Option ℕ). IsTrack 1 first (first_names first) o (track r s w (history r s es)) last) (or_none (slice_get s.cursors w)) (track_is r s es 1 w (first_names first) None ready h (made_none r w s es) (λ d is none. cc));
     }
 
 -- the last cursor of a track is a place of its last store
-last_place : (n : ℕ) (s : Store) (names : List Name) (c : Option ℕ) (t : Track) (last : Store) (d : ℕ) → IsTrack n s names c t last → ((e : ℕ) → c ≡ Some e → is_place s e ≡ true) → last_cursor c t ≡ Some d → is_place last d ≡ true
+last_place : (n : ℕ) (s : Store) (names : List RecordName) (c : Option ℕ) (t : Track) (last : Store) (d : ℕ) → IsTrack n s names c t last → ((e : ℕ) → c ≡ Some e → is_place s e ≡ true) → last_cursor c t ≡ Some d → is_place last d ≡ true
 last_place n s names c [] last d h here is = subst (λ (x : Store). is_place x d ≡ true) (sym h) (here d is)
 last_place n s names c (x ∷ xs) last d h here is = last_place (suc n) x.after _ x.to xs last d h.1 h.0.there is
 
@@ -118,11 +128,12 @@ walk_goes_on first start t last q z gs v c walk next =
     let u = track_on (suc (length t)) names (Some c) q v (history q z gs) in
     let end = q.seen (state_after q z gs).store in
     let place : is_place last c ≡ true = last_place 1 first (first_names first) start t last c walk.is walk.here next.cursor in
-    let here : (d : ℕ) → Some c ≡ Some d → is_place (q.seen z.store) d ≡ true = λ d e. (let same : c ≡ d = cc in subst (λ (m : ℕ). is_place (q.seen z.store) m ≡ true) same (subst (λ (x : Store). is_place x c ≡ true) (sym next.store) place)) in
+    let here : (d : ℕ) → Some c ≡ Some d → slice_get z.cursors v ≡ None → is_place (q.seen z.store) d ≡ true = λ d e _. (let same : c ≡ d = cc in subst (λ (m : ℕ). is_place (q.seen z.store) m ≡ true) same (subst (λ (x : Store). is_place x c ≡ true) (sym next.store) place)) in
     let is = track_is q z gs (suc (length t)) v names (Some c) next.run.ready next.run.lawful (made_at q z gs v c next.goes_on) here in
     let cursor : option_or (slice_get z.cursors v) (Some c) ≡ last_cursor start t = begins_at q z gs v c next.goes_on ∙ sym next.cursor in
     let number : suc (length t) ≡ 1 + length t = omega arith in
     record {
+      sound = walk.sound;
       here = walk.here;
       is = tracks_join 1 first (first_names first) start t u last end walk.is
           (subst (λ (n : ℕ). IsTrack n last names (last_cursor start t) u end) number

@@ -6,7 +6,7 @@ use Rattle.std.proofs.lemmas.List.{append-nil}
 use Rattle.std.proofs.lemmas.Bool.Decides.{nat_tests}
 use Rattle.krb_walk.specs.Store.{Cell, Store, end_from, IsSound}
 use Rattle.krb_walk.specs.Changes.{Puts, Cuts}
-use Rattle.krb_walk.specs.Track.{live_places, rank}
+use Rattle.krb_walk.specs.Ranks.{live_places, rank}
 use Rattle.krb_walk.proofs.Stops.{records_of, end_from-ge}
 use Rattle.krb_walk.proofs.Places.{sound_kept, puts-extends}
 

@@ -1,8 +1,9 @@
 -- A run goes on by one event.
 use Rattle.std.specs.Prelude.{IfOk, OnOk}
-use Rattle.std.proofs.Common.{◌≡◌, Result, Ok, Err, List, [], ◌∷◌, ◌++◌, refl, sym, ap, ◌∙◌, subst, append_assoc}
+use Rattle.std.proofs.Common.{◌≡◌, ℕ, Result, Ok, Err, List, [], ◌∷◌, ◌++◌, refl, sym, ap, ◌∙◌, subst, append_assoc}
 use Rattle.std.proofs.lemmas.List.{append-nil}
 use Rattle.krb_walk.specs.declared.event.Event.{Event}
+use Rattle.krb_walk.specs.declared.event.Event.TheVariants.{Step}
 use Rattle.krb_walk.specs.declared.event.Reply.{Reply}
 use Rattle.krb_walk.specs.Said.{Said, said}
 use Rattle.krb_walk.specs.Rules.{Rules}
@@ -12,9 +13,9 @@ use Rattle.krb_walk.specs.Track.{track_of}
 use Rattle.krb_walk.specs.Due.{due_over}
 use Rattle.krb_walk.specs.Fair.{IsFair}
 use Rattle.krb_walk.specs.Ran.{Ran}
-use Rattle.krb_walk.proofs.Effects.{ready_to_last}
-use Rattle.krb_walk.proofs.Fair.{history_fair, gives_due}
-use Rattle.krb_walk.proofs.Damaged.{few_give, damaged_refuses, damaged_walk}
+use Rattle.krb_walk.proofs.Effects.{ready_to_last, lawful_step}
+use Rattle.krb_walk.proofs.Fair.{history_fair, gives_due, gives_due_at_places}
+use Rattle.krb_walk.proofs.Damaged.{damaged_refuses}
 
 pub replies_more : {S I : Type 0} (r : Rules S I) (s : State S) (es : List (Event I)) (e : Event I) → replies (history r s (es ++ e ∷ [])) ≡ replies (history r s es) ++ reply_to r (state_after r s es) e ∷ []
 replies_more r s [] e = refl
@@ -35,11 +36,10 @@ ran_of {S} r old new es told_old told_new ready told is lawful = record {
   state = is;
   run = record { ready = ready; lawful = lawful };
   is_ready = subst (IsReady r) (sym is) (ready_to_last r old es ready lawful);
-  given_is_due = λ w. gives_due r old es w ready lawful ∙ sym (ap (λ (s : State S). due_over (track_of r old es w) (r.seen s.store)) is);
+  given_is_due = λ w. gives_due r old es w ready lawful;
+  given_is_due_at_places = λ w keeps. gives_due_at_places r old es w ready lawful keeps ∙ sym (ap (λ (s : State S). due_over (track_of r old es w) (r.seen s.store)) is);
   fair = λ w. subst (λ (s : State S). IsFair (track_of r old es w) (r.seen s.store)) (sym is) (history_fair r old es w ready lawful);
-  few = λ w c at. few_give r old es w c ready lawful at;
   damaged_refuses = λ kind fault. damaged_refuses r old es kind fault lawful;
-  damaged_gives = λ kind w c fault at. damaged_walk r old es w c kind fault ready lawful at;
 }
 
 pub ran_none : {S I : Type 0} (r : Rules S I) (s : State S) (told : List Said) → IsReady r s → Ran r s s [] told told
@@ -56,6 +56,10 @@ ran_more {S} r old mid new es e t u v ready ran is lawful told =
 -- a run of one event
 pub ran_one : {S I : Type 0} (r : Rules S I) (old new : State S) (e : Event I) (told : Said) → IsReady r old → told ≡ reply_to r old e → new ≡ after r old e → IsLawful r (moment r old e) → Ran r old new (e ∷ []) [] (told ∷ [])
 ran_one r old new e told ready says is lawful = ran_of r old new (e ∷ []) [] (told ∷ []) ready (ap (λ (x : Said). x ∷ []) says) is (lawful, tt)
+
+-- a step, of which the reply is not told
+pub ran_step : {S I : Type 0} (r : Rules S I) (old new : State S) (w : ℕ) → IsReady r old → new ≡ after {I = I} r old (Step w) → Ran {I = I} r old new (Step w ∷ []) [] (reply_to {I = I} r old (Step w) ∷ [])
+ran_step r old new w ready is = ran_one r old new (Step w) _ ready refl is (lawful_step r old w)
 
 -- an event that is applied, or wants memory
 pub ran_applied : {S I A E : Type 0} (r : Rules S I) (old new : State S) (e : Event I) (result : Result (Reply A) E) → IsReady r old → IfOk result (λ x. said x ≡ reply_to r old e) → OnOk result (new ≡ after r old e) → OnOk result (IsLawful r (moment r old e)) → IfOk result (λ x. Ran r old new (e ∷ []) [] (said x ∷ []))

@@ -1,22 +1,24 @@
 -- What steps are answered, how cursors move, and that places stay.
-use Rattle.std.proofs.Common.{◌≡◌, ◌≢◌, ℕ, ◌+◌, ◌<◌, ◌≤◌, Bool, true, false, cond, List, [], ◌∷◌, ◌++◌, length, Option, Some, None, inl, inr, refl, sym, ap, ◌∙◌, subst, arith}
+use Rattle.std.proofs.Common.{◌≡◌, ◌≢◌, ℕ, ◌+◌, ◌<◌, ◌≤◌, Bool, true, false, cond, List, [], ◌∷◌, ◌++◌, length, Option, Some, None, Result, Ok, Err, inl, inr, refl, sym, ap, ◌∙◌, subst, arith}
 use Rattle.std.specs.Prelude.{◌&&◌, ◌==◌, ◌⊎◌, nat_lt, slice_get, IsSomeAnd}
 use Rattle.std.specs.List.{find}
 use Rattle.std.specs.Option.{option_map}
 use Rattle.krb_walk.specs.declared.event.Event.{Event}
-use Rattle.krb_walk.specs.declared.event.Event.TheVariants.{Start, Resume, Step, Put, Cut}
+use Rattle.krb_walk.specs.declared.event.Event.TheVariants.{Start, Resume, Step, Put, Cut, Rewrite}
+use Rattle.krb_walk.specs.declared.refusal.Code.{Code}
 use Rattle.krb_walk.specs.Store.{Cell, Store, standing, end_from, end_of, is_place, next_live}
-use Rattle.krb_walk.specs.Changes.{Fills, Appends, Puts}
-use Rattle.krb_walk.specs.Said.{Said, Placed}
+use Rattle.krb_walk.specs.Changes.{Fills, Appends, Puts, Changes}
+use Rattle.krb_walk.specs.Said.{Said, Placed, is_rewritten}
 use Rattle.krb_walk.specs.Rules.{Rules}
-use Rattle.krb_walk.specs.Events.{State, after, reply_to, stop_cursor, step_cursors}
-use Rattle.krb_walk.specs.History.{IsReady, IsLawful, AllLawful, Changes, moment, history, state_after}
+use Rattle.krb_walk.specs.Events.{State, after, reply_to, stop_cursor, step_cursors, rewrite_said, rewrite_cursors}
+use Rattle.krb_walk.specs.History.{IsReady, IsLawful, AllLawful, AllPlain, moment, history, state_after}
 use Rattle.krb_walk.specs.Track.{AnswersStep}
 use Rattle.krb_walk.specs.Cursors.{size_at}
 use Rattle.krb_walk.proofs.Lists.{get-set_other}
 use Rattle.krb_walk.proofs.Splits.{end_from-append}
 use Rattle.krb_walk.proofs.Places.{Extends, place_kept, stop_forward, widths}
 use Rattle.krb_walk.proofs.Effects.{effect, own_step, ready_after, history_extends, get_push_cond}
+use Rattle.krb_walk.proofs.WalkEvents.{carried_same}
 
 -- what a step is answered
 pub step_answered : {S I : Type 0} (r : Rules S I) (s : State S) (w c : ℕ) → slice_get s.cursors w ≡ Some c → IsSomeAnd (slice_get (after {I = I} r s (Step w)).cursors w) (AnswersStep (r.seen s.store) w c (reply_to {I = I} r s (Step w)))
@@ -29,24 +31,29 @@ step_other : (s : Store) (cursors : List ℕ) (v w c : ℕ) (o : Option ℕ) →
 step_other s cursors v w c None ne at = at
 step_other s cursors v w c (Some d) ne at = get-set_other cursors v (stop_cursor (end_of s) (next_live s d)) w ne ∙ at
 
-pub only_steps : {S I : Type 0} (r : Rules S I) (s : State S) (e : Event I) (w c : ℕ) → slice_get s.cursors w ≡ Some c → e ≢ Step w → slice_get (after r s e).cursors w ≡ Some c
-only_steps r s Start w c at ne = get_push_cond (nat_lt (length s.cursors) 1024) s.cursors (r.seen s.store).first w c at
-only_steps r s (Resume p) w c at ne = get_push_cond (nat_lt (length s.cursors) 1024 && is_place (r.seen s.store) p) s.cursors p w c at
-only_steps {I = I} r s (Step v) w c at ne = step_other (r.seen s.store) s.cursors v w c (slice_get s.cursors v) (λ e. let step : ℕ → Event I = λ x. Step x in ne (ap step e)) at
-only_steps r s (Put item) w c at ne = at
-only_steps r s (Cut p) w c at ne = at
+only_rewrite : {S : Type 0} (seen : S → Store) (old : S) (cursors : List ℕ) (given : Result S Code) (w c : ℕ) → slice_get cursors w ≡ Some c → is_rewritten (rewrite_said seen given) ≡ false → slice_get (rewrite_cursors seen old cursors given) w ≡ Some c
+only_rewrite seen old cursors (Ok new) w c at kept = cc
+only_rewrite seen old cursors (Err code) w c at kept = at
+
+pub only_steps : {S I : Type 0} (r : Rules S I) (s : State S) (e : Event I) (w c : ℕ) → slice_get s.cursors w ≡ Some c → e ≢ Step w → is_rewritten (reply_to r s e) ≡ false → slice_get (after r s e).cursors w ≡ Some c
+only_steps r s Start w c at ne kept = get_push_cond (nat_lt (length s.cursors) 1024) s.cursors (r.seen s.store).first w c at
+only_steps r s (Resume p) w c at ne kept = get_push_cond (nat_lt (length s.cursors) 1024 && is_place (r.seen s.store) p) s.cursors p w c at
+only_steps {I = I} r s (Step v) w c at ne kept = step_other (r.seen s.store) s.cursors v w c (slice_get s.cursors v) (λ e. let step : ℕ → Event I = λ x. Step x in ne (ap step e)) at
+only_steps r s (Put item) w c at ne kept = at
+only_steps r s (Cut p) w c at ne kept = at
+only_steps r s Rewrite w c at ne kept = only_rewrite r.seen s.store s.cursors (r.rewrite s.store) w c at kept
 
 -- a cursor never goes back
-pub never_back : {S I : Type 0} (r : Rules S I) (s : State S) (es : List (Event I)) (w b c : ℕ) → IsReady r s → AllLawful r (history r s es) → slice_get s.cursors w ≡ Some c → b ≤ c → IsSomeAnd (slice_get (state_after r s es).cursors w) (λ d. b ≤ d)
-never_back r s [] w b c ready h at le = subst (λ (o : Option ℕ). IsSomeAnd o (λ d. b ≤ d)) (sym at) le
-never_back r s (e ∷ es) w b c ready h at le =
+pub never_back : {S I : Type 0} (r : Rules S I) (s : State S) (es : List (Event I)) (w b c : ℕ) → IsReady r s → AllPlain (history r s es) → AllLawful r (history r s es) → slice_get s.cursors w ≡ Some c → b ≤ c → IsSomeAnd (slice_get (state_after r s es).cursors w) (λ d. b ≤ d)
+never_back r s [] w b c ready plain h at le = subst (λ (o : Option ℕ). IsSomeAnd o (λ d. b ≤ d)) (sym at) le
+never_back r s (e ∷ es) w b c ready plain h at le =
     let next = ready_after r s e ready h.0 in
     elim (effect r s e w) [
-      | inl still ↦ never_back r (after r s e) es w b c next h.1 (still.stays c at) le
+      | inl still ↦ never_back r (after r s e) es w b c next plain.1 h.1 (still.stays c at ∙ ap Some (carried_same (reply_to r s e) _ _ c plain.0)) le
       | inr moves ↦ (
           let same : c ≡ moves.at = cc (at, moves.stood) in
           let forward = stop_forward (r.seen s.store) moves.at (ready.cursors w moves.at moves.stood) in
-          never_back r (after r s e) es w b _ next h.1 moves.stands (omega arith))
+          never_back r (after r s e) es w b _ next plain.1 h.1 moves.stands (omega arith))
     ]
 
 -- a place stays a place, and its cell keeps its size
@@ -78,11 +85,11 @@ size_kept old new p n e h =
     sizes new.first new.cells p ∙ ap (λ (f : ℕ). size_in f (widths new.cells) p) e.first ∙ ap (λ (ws : List ℕ). size_in old.first ws p) e.widths_are
     ∙ size_more old.first (widths old.cells) e.more p n (sym (sizes old.first old.cells p) ∙ h)
 
-pub places_kept : {S I : Type 0} (r : Rules S I) (s : State S) (es : List (Event I)) (p : ℕ) → AllLawful r (history r s es) → is_place (r.seen s.store) p ≡ true → is_place (r.seen (state_after r s es).store) p ≡ true
-places_kept r s es p h is = place_kept _ _ p (history_extends r s es h) is
+pub places_kept : {S I : Type 0} (r : Rules S I) (s : State S) (es : List (Event I)) (p : ℕ) → AllPlain (history r s es) → AllLawful r (history r s es) → is_place (r.seen s.store) p ≡ true → is_place (r.seen (state_after r s es).store) p ≡ true
+places_kept r s es p plain h is = place_kept _ _ p (history_extends r s es plain h) is
 
-pub sizes_kept : {S I : Type 0} (r : Rules S I) (s : State S) (es : List (Event I)) (p n : ℕ) → AllLawful r (history r s es) → size_at (r.seen s.store) p ≡ Some n → size_at (r.seen (state_after r s es).store) p ≡ Some n
-sizes_kept r s es p n h is = size_kept _ _ p n (history_extends r s es h) is
+pub sizes_kept : {S I : Type 0} (r : Rules S I) (s : State S) (es : List (Event I)) (p n : ℕ) → AllPlain (history r s es) → AllLawful r (history r s es) → size_at (r.seen s.store) p ≡ Some n → size_at (r.seen (state_after r s es).store) p ≡ Some n
+sizes_kept r s es p n plain h is = size_kept _ _ p n (history_extends r s es plain h) is
 
 -- what is appended stands at the old end
 fills_end : (old new : Store) (p : ℕ) → Fills old new p → end_of new ≡ end_of old
@@ -101,5 +108,5 @@ pub put_place : {S I : Type 0} (r : Rules S I) (s : State S) (item : I) (p : ℕ
 put_place r s item p h told =
     let old = r.seen s.store in
     let new = r.seen (after r s (Put item)).store in
-    let puts : Puts old new p = subst (λ (x : Said). Changes (Put item) x old new) told h in
+    let puts : Puts old new p = subst (λ (x : Said). Changes x old new) told h in
     elim puts.how [ inl f ↦ inl (fills_end old new p f) | inr a ↦ inr (a.place, appends_end old new p a) ]

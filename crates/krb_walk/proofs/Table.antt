@@ -1,18 +1,20 @@
 -- How a session's table of cursors follows the events.
-use Rattle.std.proofs.Common.{◌≡◌, ℕ, ◌<◌, List, length, take, set, Option, Some, None, Result, Ok, Err, refl, sym, ap, ◌∙◌, subst, arith}
-use Rattle.std.specs.Prelude.{IfOk, OnOk}
-use Rattle.std.proofs.lemmas.List.{length-take}
-use Rattle.std.proofs.Math.Seq.{take-set-lt}
+use Rattle.std.proofs.Common.{◌≡◌, ℕ, ◌<◌, ◌≤◌, true, List, ◌++◌, length, map, take, drop, set, Option, Some, None, Result, Ok, Err, refl, sym, ap, ◌∙◌, subst, arith}
+use Rattle.std.specs.Prelude.{IfOk, OnOk, OnErr, slice_get}
+use Rattle.std.proofs.lemmas.List.{length-take, length-append, length-map, take-append-drop}
+use Rattle.std.proofs.Math.Seq.{take-set-lt, take-append_seam}
 use Rattle.krb_walk.specs.declared.refusal.Refusal.{Refusal}
 use Rattle.krb_walk.specs.declared.refusal.Refusal.TheVariants.{Code as ByCode, NoMemory}
 use Rattle.krb_walk.specs.declared.refusal.Code.{Code}
 use Rattle.krb_walk.specs.declared.fault.FaultKind.{FaultKind}
-use Rattle.krb_walk.specs.Store.{Store, Record, end_of, end_stop, stop_of, stop_at, next_live}
+use Rattle.krb_walk.specs.Store.{Store, Record, end_of, end_stop, stop_of, stop_at, next_live, is_place}
 use Rattle.krb_walk.specs.Changes.{Puts, Cuts}
-use Rattle.krb_walk.specs.Rules.{Rules, PutGives, CutGives}
+use Rattle.krb_walk.specs.Ranks.{carry, Rewrites}
+use Rattle.krb_walk.specs.Rules.{Rules, PutGives, CutGives, RewriteGives}
 use Rattle.krb_walk.specs.Events.{State, stop_cursor}
 use Rattle.krb_walk.specs.Kept.{IsKept, place_after}
 use Rattle.krb_walk.proofs.Places.{Extends, puts-extends, cuts-extends, sound_kept, place_kept}
+use Rattle.krb_walk.proofs.Effects.{was_map, place_carried}
 
 -- the state that a table shows
 abbrev pub shown : {S : Type 0} → S → List ℕ → ℕ → State S
@@ -55,3 +57,29 @@ put_kept r old new item (Err NoMemory) table count gives puts kept = same_kept r
 pub cut_kept : {S I : Type 0} (r : Rules S I) (old new : S) (p : ℕ) (result : Result (Unit {0}) Code) (table : List ℕ) (count : ℕ) → CutGives (r.cut old p) old result new → OnOk result (Cuts (r.seen old) (r.seen new) p) → IsKept r old table count → IsKept r new table count
 cut_kept r old new p (Ok done) table count gives cuts kept = extends_kept r old new table count (cuts-extends _ _ p cuts) kept
 cut_kept r old new p (Err code) table count gives cuts kept = same_kept r old new table count gives.1 kept
+
+-- a rewrite carries the cursors in the front of the table
+carried_kept : {S I : Type 0} (r : Rules S I) (old new : S) (front back now : List ℕ) (count : ℕ) → Rewrites (r.seen old) (r.seen new) → now ≡ map (carry (r.seen old) (r.seen new)) front → length front ≡ count → count ≤ 1024 → length (front ++ back) ≡ 1024 → IsKept r new (now ++ back) count
+carried_kept r old new front back now count h is len few room =
+    let same : length now ≡ length front = ap length is ∙ length-map front (carry (r.seen old) (r.seen new)) in
+    let shown_is : take count (now ++ back) ≡ now = ap (λ (k : ℕ). take k (now ++ back)) (sym (same ∙ len)) ∙ take-append_seam now back in
+    record {
+      few = few;
+      room = omega (arith, length-append now back, length-append front back, same, room);
+      ready = record {
+        sound = h.sound;
+        cursors = λ w c e. (
+            let there = ap (λ (l : List ℕ). slice_get l w) (sym (shown_is ∙ is)) ∙ e in
+            let was = was_map (carry (r.seen old) (r.seen new)) front w c there in
+            subst (λ (p : ℕ). is_place (r.seen new) p ≡ true) was.is (place_carried (r.seen old) (r.seen new) was.at));
+      };
+    }
+
+pub rewrite_kept : {S I : Type 0} (r : Rules S I) (old new : S) (result : Result (Unit {0}) Refusal) (table now : List ℕ) (count : ℕ) → RewriteGives (r.rewrite old) old result new → OnOk result (Rewrites (r.seen old) (r.seen new))
+    → OnOk result (now ≡ map (carry (r.seen old) (r.seen new)) (take count table) ++ drop count table) → OnErr result (now ≡ table) → IsKept r old table count → IsKept r new now count
+rewrite_kept r old new (Ok done) table now count gives rewrites carries keeps kept =
+    let front = take count table in
+    let len : length front ≡ count = omega (arith, length-take count table, kept.few, kept.room) in
+    subst (λ (l : List ℕ). IsKept r new l count) (sym carries) (carried_kept r old new front (drop count table) (map (carry (r.seen old) (r.seen new)) front) count rewrites refl len kept.few (ap length (take-append-drop count table) ∙ kept.room))
+rewrite_kept r old new (Err (ByCode code)) table now count gives rewrites carries keeps kept = subst (λ (l : List ℕ). IsKept r new l count) (sym keeps) (same_kept r old new table count gives.1 kept)
+rewrite_kept r old new (Err NoMemory) table now count gives rewrites carries keeps kept = subst (λ (l : List ℕ). IsKept r new l count) (sym keeps) (same_kept r old new table count gives kept)

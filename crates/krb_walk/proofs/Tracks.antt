@@ -5,15 +5,14 @@ use Rattle.std.specs.List.{filter_map}
 use Rattle.std.proofs.lemmas.List.{append-nil}
 use Rattle.std.proofs.lemmas.Bool.Decides.{nat_tests}
 use Rattle.krb_walk.specs.Store.{Store, end_of, is_place, IsSound, next_live, live_at}
-use Rattle.krb_walk.specs.Said.{Said, Placed, Gone}
 use Rattle.krb_walk.specs.Events.{stop_cursor}
 use Rattle.krb_walk.specs.History.{Row}
-use Rattle.krb_walk.specs.Track.{Name, Pass, Track, goes_past, last_names, last_cursor, Shifts, IsPass, IsTrack}
-use Rattle.krb_walk.specs.Due.{rows_at_pass, given_over, turn, row_of, row_at_turn, due_over, rows_between, due_at_pass, due_by_steps}
+use Rattle.krb_walk.specs.Track.{RecordName, WalkEvent, Track, PlacesStay, goes_past, last_names, last_cursor, IsWalkEvent, IsTrack}
+use Rattle.krb_walk.specs.Due.{rows_at_event, given_over, turn, row_of, row_at_turn, due_over, rows_between, due_at_event, due_by_steps}
 use Rattle.krb_walk.proofs.Cells.{rows_of_next, StepsRows, step_gives, spots, places_spots, same_from}
-use Rattle.krb_walk.proofs.Places.{Extends, extends_on, puts-extends, cuts-extends, stop_forward, widths}
-use Rattle.krb_walk.proofs.Effects.{same_extends}
-use Rattle.krb_walk.proofs.Passes.{end_of_step, Goes, effect_of}
+use Rattle.krb_walk.proofs.Places.{Extends, extends_on, stop_forward, widths}
+use Rattle.krb_walk.proofs.Effects.{same_extends, changes-extends}
+use Rattle.krb_walk.proofs.WalkEvents.{end_of_step, Advances, effect_of, stays_put}
 
 -- no place behind a cursor has a turn
 pub past_none : (p : ℕ) (o q : Option ℕ) → ((d : ℕ) → o ≡ Some d → q ≡ Some d) → goes_past p o q ≡ false
@@ -28,7 +27,7 @@ none_due [] = refl
 none_due (p ∷ ps) = none_due ps
 
 -- a track after another
-pub tracks_join : (n : ℕ) (s : Store) (names : List Name) (c : Option ℕ) (t u : Track) (mid last : Store) → IsTrack n s names c t mid → IsTrack (n + length t) mid (last_names names t) (last_cursor c t) u last → IsTrack n s names c (t ++ u) last
+pub tracks_join : (n : ℕ) (s : Store) (names : List RecordName) (c : Option ℕ) (t u : Track) (mid last : Store) → IsTrack n s names c t mid → IsTrack (n + length t) mid (last_names names t) (last_cursor c t) u last → IsTrack n s names c (t ++ u) last
 tracks_join n s names c [] u mid last h k =
     let e : n + 0 ≡ n = omega arith in
     subst (λ (m : ℕ). IsTrack m s names c u last) e (subst (λ (z : Store). IsTrack (n + 0) z names c u last) h k)
@@ -36,40 +35,35 @@ tracks_join n s names c (x ∷ xs) u mid last h k =
     let e : n + suc (length xs) ≡ suc n + length xs = omega arith in
     (h.0, tracks_join (suc n) x.after _ x.to xs u mid last h.1 (subst (λ (m : ℕ). IsTrack m mid (last_names names (x ∷ xs)) (last_cursor c (x ∷ xs)) u last) e k))
 
-pub shifts-extends : (told : Said) (old new : Store) → Shifts told old new → Extends old new
-shifts-extends (Placed p) old new h = puts-extends old new p h
-shifts-extends (Gone p) old new h = cuts-extends old new p h
-shifts-extends told old new h = same_extends old new h
-
-pub track_extends : (n : ℕ) (s : Store) (names : List Name) (c : Option ℕ) (t : Track) (last : Store) → IsTrack n s names c t last → Extends s last
-track_extends n s names c [] last h = same_extends s last h
-track_extends n s names c (x ∷ xs) last h = extends_on s x.after last (subst (λ (z : Store). Extends z x.after) h.0.before (shifts-extends x.reply x.before x.after h.0.shifts)) (track_extends (suc n) x.after _ x.to xs last h.1)
+pub track_extends : (n : ℕ) (s : Store) (names : List RecordName) (c : Option ℕ) (t : Track) (last : Store) → PlacesStay t → IsTrack n s names c t last → Extends s last
+track_extends n s names c [] last k h = same_extends s last h
+track_extends n s names c (x ∷ xs) last k h = extends_on s x.after last (subst (λ (z : Store). Extends z x.after) h.0.before (changes-extends x.reply x.before x.after k.0 h.0.changes)) (track_extends (suc n) x.after _ x.to xs last k.1 h.1)
 
 -- the turn of a place, at the first event or later
-pub turn_later : (p : ℕ) (x : Pass) (xs : Track) → goes_past p x.from x.to ≡ false → turn p (x ∷ xs) ≡ turn p xs
-turn_later p x xs e = ap (λ (b : Bool). cond {A = Option Pass} b (Some x) (turn p xs)) e
+pub turn_later : (p : ℕ) (x : WalkEvent) (xs : Track) → goes_past p x.from x.to ≡ false → turn p (x ∷ xs) ≡ turn p xs
+turn_later p x xs e = ap (λ (b : Bool). cond {A = Option WalkEvent} b (Some x) (turn p xs)) e
 
-pub turn_first : (p : ℕ) (x : Pass) (xs : Track) → goes_past p x.from x.to ≡ true → turn p (x ∷ xs) ≡ Some x
-turn_first p x xs e = ap (λ (b : Bool). cond {A = Option Pass} b (Some x) (turn p xs)) e
+pub turn_first : (p : ℕ) (x : WalkEvent) (xs : Track) → goes_past p x.from x.to ≡ true → turn p (x ∷ xs) ≡ Some x
+turn_first p x xs e = ap (λ (b : Bool). cond {A = Option WalkEvent} b (Some x) (turn p xs)) e
 
 -- no place behind the cursor has a turn
-pub behind_none : (p n : ℕ) (s : Store) (names : List Name) (c : Option ℕ) (t : Track) (last : Store) (d : ℕ) → IsTrack n s names c t last → c ≡ Some d → p < d → turn p t ≡ None
-behind_none p n s names c [] last d h at lt = refl
-behind_none p n s names c (x ∷ xs) last d h at lt = elim (effect_of x h.0.effect) [
-  | inl holds ↦ turn_later p x xs (past_none p _ _ holds.stays) ∙ behind_none p (suc n) x.after _ x.to xs last d h.1 (holds.stays d (h.0.from ∙ at)) lt
+pub behind_none : (p n : ℕ) (s : Store) (names : List RecordName) (c : Option ℕ) (t : Track) (last : Store) (d : ℕ) → PlacesStay t → IsTrack n s names c t last → c ≡ Some d → p < d → turn p t ≡ None
+behind_none p n s names c [] last d k h at lt = refl
+behind_none p n s names c (x ∷ xs) last d k h at lt = elim (effect_of x h.0.effect) [
+  | inl holds ↦ turn_later p x xs (past_none p _ _ (λ e. stays_put x e holds k.0)) ∙ behind_none p (suc n) x.after _ x.to xs last d k.1 h.1 (stays_put x d holds k.0 (h.0.from ∙ at)) lt
   | inr goes ↦ (
       let same : d ≡ goes.at = cc (at, goes.stood, h.0.from) in
       let forward = stop_forward x.before goes.at (h.0.here goes.at goes.stood) in
       let misses : (nat_le goes.at p && nat_lt p (end_of_step x goes.at)) ≡ false = grind (arith, nat_tests) in
-      turn_later p x xs (past_by p _ _ _ _ goes.stood goes.stands ∙ misses) ∙ behind_none p (suc n) x.after _ x.to xs last (end_of_step x goes.at) h.1 goes.stands (omega arith))
+      turn_later p x xs (past_by p _ _ _ _ goes.stood goes.stands ∙ misses) ∙ behind_none p (suc n) x.after _ x.to xs last (end_of_step x goes.at) k.1 h.1 goes.stands (omega arith))
 ]
 
-steps_rows : (n : ℕ) (s : Store) (names : List Name) (c : Option ℕ) (x : Pass) (xs : Track) (last : Store) → IsTrack n s names c (x ∷ xs) last → (g : Goes x)
+steps_rows : (n : ℕ) (s : Store) (names : List RecordName) (c : Option ℕ) (x : WalkEvent) (xs : Track) (last : Store) → PlacesStay xs → IsTrack n s names c (x ∷ xs) last → (g : Advances x)
     → StepsRows (λ p. row_at_turn p (turn p (x ∷ xs))) (λ p. row_at_turn p (turn p xs)) x.number g.at (end_of_step x g.at) (live_at x.before)
-steps_rows n s names c x xs last h g =
+steps_rows n s names c x xs last k h g =
     let at = g.at in
     let to = end_of_step x g.at in
-    let none = λ (p : ℕ) (lt : p < to). behind_none p (suc n) x.after _ x.to xs last to h.1 g.stands lt in
+    let none = λ (p : ℕ) (lt : p < to). behind_none p (suc n) x.after _ x.to xs last to k h.1 g.stands lt in
     record {
       forward = stop_forward x.before at (h.0.here at g.stood);
       passed = λ p le lt. (
@@ -85,20 +79,20 @@ steps_rows n s names c x xs last h g =
       none = λ p lt. ap (row_at_turn p) (none p lt);
     }
 
-given_spots : (n : ℕ) (s : Store) (names : List Name) (c : Option ℕ) (t : Track) (last : Store) → IsTrack n s names c t last → given_over t ≡ filter_map (λ p. row_at_turn p (turn p t)) (spots last.first (widths last.cells))
-given_spots n s names c [] last h = sym (none_due (spots last.first (widths last.cells)))
-given_spots n s names c (x ∷ xs) last h =
-    let ih = given_spots (suc n) x.after _ x.to xs last h.1 in
+given_spots : (n : ℕ) (s : Store) (names : List RecordName) (c : Option ℕ) (t : Track) (last : Store) → PlacesStay t → IsTrack n s names c t last → given_over t ≡ filter_map (λ p. row_at_turn p (turn p t)) (spots last.first (widths last.cells))
+given_spots n s names c [] last k h = sym (none_due (spots last.first (widths last.cells)))
+given_spots n s names c (x ∷ xs) last k h =
+    let ih = given_spots (suc n) x.after _ x.to xs last k.1 h.1 in
     let f : ℕ → Option Row = λ p. row_at_turn p (turn p (x ∷ xs)) in
     let g : ℕ → Option Row = λ p. row_at_turn p (turn p xs) in
     elim (effect_of x h.0.effect) [
       | inl holds ↦ (
           ap (λ (rows : List Row). rows ++ given_over xs) holds.silent ∙ ih
-          ∙ sym (same_from f g last.first (widths last.cells) (λ p _. ap (row_at_turn p) (turn_later p x xs (past_none p _ _ holds.stays)))))
+          ∙ sym (same_from f g last.first (widths last.cells) (λ p _. ap (row_at_turn p) (turn_later p x xs (past_none p _ _ (λ e. stays_put x e holds k.0))))))
       | inr goes ↦ (
-          let grows = extends_on x.before x.after last (shifts-extends x.reply x.before x.after h.0.shifts) (track_extends (suc n) x.after _ x.to xs last h.1) in
+          let grows = extends_on x.before x.after last (changes-extends x.reply x.before x.after k.0 h.0.changes) (track_extends (suc n) x.after _ x.to xs last k.1 h.1) in
           let same : spots last.first (widths last.cells) ≡ spots x.before.first (widths x.before.cells ++ grows.more) = ap (λ (at : ℕ). spots at (widths last.cells)) grows.first ∙ ap (spots x.before.first) grows.widths_are in
-          let steps = step_gives f g x.number goes.at _ x.before.first x.before.cells grows.more (live_at x.before) (steps_rows n s names c x xs last h goes) h.0.sound (λ p le. refl) refl in
+          let steps = step_gives f g x.number goes.at _ x.before.first x.before.cells grows.more (live_at x.before) (steps_rows n s names c x xs last k.1 h goes) h.0.sound (λ p le. refl) refl in
           ap (λ (rows : List Row). rows ++ given_over xs) goes.tells
           ∙ ap (λ (rows : List Row). rows_of_next x.number (next_live x.before goes.at) ++ rows) ih
           ∙ ap (λ (ps : List ℕ). rows_of_next x.number (next_live x.before goes.at) ++ filter_map g ps) same
@@ -107,8 +101,8 @@ given_spots n s names c (x ∷ xs) last h =
     ]
 
 -- what a track gives is what is due over it
-pub track_gives : (n : ℕ) (s : Store) (names : List Name) (c : Option ℕ) (t : Track) (last : Store) → IsTrack n s names c t last → given_over t ≡ due_over t last
-track_gives n s names c t last h = given_spots n s names c t last h ∙ sym (ap (filter_map (λ p. row_at_turn p (turn p t))) (places_spots last.first last.cells))
+pub track_gives : (n : ℕ) (s : Store) (names : List RecordName) (c : Option ℕ) (t : Track) (last : Store) → PlacesStay t → IsTrack n s names c t last → given_over t ≡ due_over t last
+track_gives n s names c t last k h = given_spots n s names c t last k h ∙ sym (ap (filter_map (λ p. row_at_turn p (turn p t))) (places_spots last.first last.cells))
 
 -- what a step passes
 pub between : (s : Store) (n c : ℕ) → IsSound s → is_place s c ≡ true → rows_between n s (Some c) (Some (stop_cursor (end_of s) (next_live s c))) ≡ rows_of_next n (next_live s c)
@@ -127,16 +121,16 @@ between s n c sound here =
     ∙ ap (λ (rows : List Row). rows_of_next n (next_live s c) ++ rows) (none_due (spots s.first (widths s.cells ++ []))) ∙ append-nil (rows_of_next n (next_live s c))
 
 -- a pass gives what is due at it
-pass_gives : (n : ℕ) (s : Store) (names : List Name) (c : Option ℕ) (x : Pass) → IsPass n s names c x → rows_at_pass x ≡ due_at_pass x
-pass_gives n s names c x h = elim (effect_of x h.effect) [
-  | inl holds ↦ holds.silent ∙ sym (ap (λ (b : Bool). cond {A = List Row} b (rows_between x.number x.before x.from x.to) []) holds.other)
+event_gives : (n : ℕ) (s : Store) (names : List RecordName) (c : Option ℕ) (x : WalkEvent) → IsWalkEvent n s names c x → rows_at_event x ≡ due_at_event x
+event_gives n s names c x h = elim (effect_of x h.effect) [
+  | inl holds ↦ holds.silent ∙ sym (ap (λ (b : Bool). cond {A = List Row} b (rows_between x.number x.before x.from x.to) []) holds.idle)
   | inr goes ↦ (
       let due : rows_between x.number x.before x.from x.to ≡ rows_of_next x.number (next_live x.before goes.at) =
       ap (λ (o : Option ℕ). rows_between x.number x.before o x.to) goes.stood ∙ ap (rows_between x.number x.before (Some goes.at)) goes.stands ∙ between x.before x.number goes.at h.sound (h.here goes.at goes.stood) in
-      goes.tells ∙ sym due ∙ sym (ap (λ (b : Bool). cond {A = List Row} b (rows_between x.number x.before x.from x.to) []) goes.own))
+      goes.tells ∙ sym due ∙ sym (ap (λ (b : Bool). cond {A = List Row} b (rows_between x.number x.before x.from x.to) []) goes.stepped))
 ]
 
 -- what a track gives is due step by step
-pub track_gives_by_steps : (n : ℕ) (s : Store) (names : List Name) (c : Option ℕ) (t : Track) (last : Store) → IsTrack n s names c t last → given_over t ≡ due_by_steps t
+pub track_gives_by_steps : (n : ℕ) (s : Store) (names : List RecordName) (c : Option ℕ) (t : Track) (last : Store) → IsTrack n s names c t last → given_over t ≡ due_by_steps t
 track_gives_by_steps n s names c [] last h = refl
-track_gives_by_steps n s names c (x ∷ xs) last h = ap (λ (rows : List Row). rows ++ given_over xs) (pass_gives n s names c x h.0) ∙ ap (λ (rows : List Row). due_at_pass x ++ rows) (track_gives_by_steps (suc n) x.after _ x.to xs last h.1)
+track_gives_by_steps n s names c (x ∷ xs) last h = ap (λ (rows : List Row). rows ++ given_over xs) (event_gives n s names c x h.0) ∙ ap (λ (rows : List Row). due_at_event x ++ rows) (track_gives_by_steps (suc n) x.after _ x.to xs last h.1)

@@ -1,6 +1,8 @@
--- How a store changes: one cell becomes another of its size, or one is put at the end.
+-- How a store changes: one cell becomes another of its size, or one is put at the end, or all are written anew.
 use Rattle.std.specs.Prelude.{◌≡◌, ℕ, ◌<◌, ◌⊎◌, List, [], ◌∷◌, ◌++◌, Some, None}
 use Rattle.krb_walk.specs.Store.{Cell, Store, end_from, end_of}
+use Rattle.krb_walk.specs.Ranks.{Rewrites}
+use Rattle.krb_walk.specs.Said.{Said, Placed, Gone, Rewritten}
 
 -- one cell, at a place, becomes another; all else stays
 pub record OneCell (old new : Store) (p : ℕ) (was is : Cell) : Type 0 where
@@ -43,3 +45,10 @@ pub record Puts (old new : Store) (p : ℕ) : Type 0 where
 pub record Cuts (old new : Store) (p : ℕ) : Type 0 where
   pub whole : old.fault ≡ None
   pub how : Frees old new p
+
+-- a store changes as the reply says: by one cell, or it is rewritten, or it stays
+abbrev pub Changes : Said → Store → Store → Type 0
+Changes (Placed p) old new = Puts old new p
+Changes (Gone p) old new = Cuts old new p
+Changes (Rewritten p) old new = Rewrites old new
+Changes said old new = new ≡ old

@@ -3,7 +3,7 @@ use Rattle.std.specs.Prelude.{◌≡◌, ℕ, ◌+◌, ◌≤◌, true, List, �
 use Rattle.std.specs.List.{AllByRecursion}
 use Rattle.std.specs.Option.{option_map}
 use Rattle.krb_walk.specs.declared.event.Event.{Event}
-use Rattle.krb_walk.specs.declared.event.Event.TheVariants.{Put, Cut}
+use Rattle.krb_walk.specs.declared.event.Event.TheVariants.{Put, Cut, Rewrite}
 use Rattle.krb_walk.specs.declared.fault.FaultKind.{FaultKind}
 use Rattle.krb_walk.specs.Store.{Store, Record, cell_at, end_of}
 use Rattle.krb_walk.specs.Laws.{records_from}
@@ -31,6 +31,8 @@ RefusesChange (Put item) (Refused code) = Unit {0}
 RefusesChange (Put item) said = ⊥
 RefusesChange (Cut p) (Refused code) = Unit {0}
 RefusesChange (Cut p) said = ⊥
+RefusesChange Rewrite (Refused code) = Unit {0}
+RefusesChange Rewrite said = ⊥
 RefusesChange e said = Unit {0}
 
 -- all additions and removals are refused, and the store stays

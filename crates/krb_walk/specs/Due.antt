@@ -1,20 +1,19 @@
 -- What is due to a walk, and what it is given.
 use Rattle.std.specs.Prelude.{ℕ, cond, ◌&&◌, nat_le, nat_lt, List, [], find, filter_map, flat_map, Option, Some, None}
 use Rattle.krb_walk.specs.Store.{Store, Record, places, live_at}
-use Rattle.krb_walk.specs.Said.{tells_step}
 use Rattle.krb_walk.specs.History.{Row, rows_of_reply}
-use Rattle.krb_walk.specs.Track.{Pass, Track, passes}
+use Rattle.krb_walk.specs.Track.{WalkEvent, Track, passes}
 
 -- what the walk is given at an event
-abbrev pub rows_at_pass : Pass → List Row
-rows_at_pass x = rows_of_reply x.walk x.number x.reply
+abbrev pub rows_at_event : WalkEvent → List Row
+rows_at_event x = rows_of_reply x.walk x.number x.reply
 
 -- what the walk is given
 abbrev pub given_over : Track → List Row
-given_over t = flat_map rows_at_pass t
+given_over t = flat_map rows_at_event t
 
 -- the turn of a place: the event at which the walk passes it
-abbrev pub turn : ℕ → Track → Option Pass
+abbrev pub turn : ℕ → Track → Option WalkEvent
 turn p t = find (passes p) t
 
 -- the row of an event, if a record stood there
@@ -23,7 +22,7 @@ row_of n None = None
 row_of n (Some r) = Some (record { event = n; stood = r })
 
 -- the row of a turn: the live cell that stood at the place just before
-abbrev pub row_at_turn : ℕ → Option Pass → Option Row
+abbrev pub row_at_turn : ℕ → Option WalkEvent → Option Row
 row_at_turn p None = None
 row_at_turn p (Some x) = row_of x.number (live_at x.before p)
 
@@ -37,9 +36,9 @@ rows_between n s (Some c) (Some d) = filter_map (λ p. cond (nat_le c p && nat_l
 rows_between n s c d = []
 
 -- what is due at an event: if it is a step of the walk, the live cells that its cursor goes past
-abbrev pub due_at_pass : Pass → List Row
-due_at_pass x = cond (tells_step x.walk x.reply) (rows_between x.number x.before x.from x.to) []
+abbrev pub due_at_event : WalkEvent → List Row
+due_at_event x = cond x.stepped (rows_between x.number x.before x.from x.to) []
 
 -- what is due step by step: this speaks of no last store, so it holds also where places change between steps
 abbrev pub due_by_steps : Track → List Row
-due_by_steps t = flat_map due_at_pass t
+due_by_steps t = flat_map due_at_event t

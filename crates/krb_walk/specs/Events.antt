@@ -1,12 +1,13 @@
 -- What each event is answered, and what it leaves.
-use Rattle.std.specs.Prelude.{ℕ, cond, ◌&&◌, nat_lt, List, [], ◌∷◌, ◌++◌, length, Option, Some, None, Result, Ok, Err, slice_get, slice_set}
+use Rattle.std.specs.Prelude.{ℕ, cond, ◌&&◌, nat_lt, List, [], ◌∷◌, ◌++◌, length, map, Option, Some, None, Result, Ok, Err, slice_get, slice_set}
 use Rattle.krb_walk.specs.declared.event.Event.{Event}
-use Rattle.krb_walk.specs.declared.event.Event.TheVariants.{Start, Resume, Step, Put, Cut}
+use Rattle.krb_walk.specs.declared.event.Event.TheVariants.{Start, Resume, Step, Put, Cut, Rewrite}
 use Rattle.krb_walk.specs.declared.fault.FaultKind.{FaultKind}
 use Rattle.krb_walk.specs.declared.refusal.Code.{Code}
 use Rattle.krb_walk.specs.declared.refusal.Code.TheVariants.{NotAPlace, NoSuchWalk, TooManyWalks}
 use Rattle.krb_walk.specs.Store.{Store, Record, end_of, is_place, next_live}
-use Rattle.krb_walk.specs.Said.{Said, Started, Gave, Ended, Faulted, Placed, Gone, Refused}
+use Rattle.krb_walk.specs.Ranks.{carry}
+use Rattle.krb_walk.specs.Said.{Said, Started, Gave, Ended, Faulted, Placed, Gone, Rewritten, Refused}
 use Rattle.krb_walk.specs.Rules.{Rules}
 
 -- a store, and the cursor of each walk
@@ -76,10 +77,20 @@ abbrev pub cut_said : {S : Type 0} → ℕ → Result S Code → Said
 cut_said p (Ok new) = Gone p
 cut_said p (Err code) = Refused code
 
--- the store after Cut
+-- the store after Cut, or Rewrite
 abbrev pub cut_store : {S : Type 0} → S → Result S Code → S
 cut_store old (Ok new) = new
 cut_store old (Err code) = old
+
+-- the reply to Rewrite: the new end place
+abbrev pub rewrite_said : {S : Type 0} → (S → Store) → Result S Code → Said
+rewrite_said seen (Ok new) = Rewritten (end_of (seen new))
+rewrite_said seen (Err code) = Refused code
+
+-- the cursors after it: each is carried
+abbrev pub rewrite_cursors : {S : Type 0} → (S → Store) → S → List ℕ → Result S Code → List ℕ
+rewrite_cursors seen old cursors (Ok new) = map (carry (seen old) (seen new)) cursors
+rewrite_cursors seen old cursors (Err code) = cursors
 
 -- ---- the whole table
 
@@ -90,6 +101,7 @@ reply_to r s (Resume p) = resume_said (r.seen s.store) s.cursors p
 reply_to r s (Step w) = step_said (r.seen s.store) w (slice_get s.cursors w)
 reply_to r s (Put item) = put_said (r.put s.store item)
 reply_to r s (Cut p) = cut_said p (r.cut s.store p)
+reply_to r s Rewrite = rewrite_said r.seen (r.rewrite s.store)
 
 -- the store after an event
 abbrev pub store_after : {S I : Type 0} → Rules S I → State S → Event I → S
@@ -98,6 +110,7 @@ store_after r s (Resume p) = s.store
 store_after r s (Step w) = s.store
 store_after r s (Put item) = put_store s.store (r.put s.store item)
 store_after r s (Cut p) = cut_store s.store (r.cut s.store p)
+store_after r s Rewrite = cut_store s.store (r.rewrite s.store)
 
 -- the cursors after an event
 abbrev pub cursors_after : {S I : Type 0} → Rules S I → State S → Event I → List ℕ
@@ -106,6 +119,7 @@ cursors_after r s (Resume p) = resume_cursors (r.seen s.store) s.cursors p
 cursors_after r s (Step w) = step_cursors (r.seen s.store) s.cursors w (slice_get s.cursors w)
 cursors_after r s (Put item) = s.cursors
 cursors_after r s (Cut p) = s.cursors
+cursors_after r s Rewrite = rewrite_cursors r.seen s.store s.cursors (r.rewrite s.store)
 
 -- the state after an event
 abbrev pub after : {S I : Type 0} → Rules S I → State S → Event I → State S

@@ -1,10 +1,10 @@
 -- Histories: events one after the other, each with its reply.
-use Rattle.std.specs.Prelude.{◌≡◌, ℕ, suc, cond, ◌==◌, List, [], ◌∷◌, ◌++◌, map, Some, slice_get}
+use Rattle.std.specs.Prelude.{◌≡◌, ℕ, suc, Bool, false, cond, ◌&&◌, ◌==◌, List, [], ◌∷◌, ◌++◌, map, Some, is_some, slice_get}
 use Rattle.krb_walk.specs.declared.event.Event.{Event}
-use Rattle.krb_walk.specs.declared.event.Event.TheVariants.{Step, Put, Cut}
+use Rattle.krb_walk.specs.declared.event.Event.TheVariants.{Step}
 use Rattle.krb_walk.specs.Store.{Store, Record, IsPlace, IsSound}
-use Rattle.krb_walk.specs.Changes.{Puts, Cuts}
-use Rattle.krb_walk.specs.Said.{Said, Gave, Placed, Gone}
+use Rattle.krb_walk.specs.Changes.{Changes}
+use Rattle.krb_walk.specs.Said.{Said, Gave, is_rewritten}
 use Rattle.krb_walk.specs.Rules.{Rules}
 use Rattle.krb_walk.specs.Events.{State, reply_to, after}
 
@@ -33,20 +33,19 @@ abbrev pub state_after : {S I : Type 0} → Rules S I → State S → List (Even
 state_after r s [] = s
 state_after r s (e ∷ es) = state_after r (after r s e) es
 
--- an event with this reply changes the store by one cell, or leaves it
-abbrev pub Changes : {I : Type 0} → Event I → Said → Store → Store → Type 0
-Changes (Put item) (Placed p) old new = Puts old new p
-Changes (Cut q) (Gone p) old new = Cuts old new q
-Changes e said old new = new ≡ old
-
 -- a moment at which the store changes as it may
 abbrev pub IsLawful : {S I : Type 0} → Rules S I → Moment S I → Type 0
-IsLawful r m = Changes m.event m.reply (r.seen m.before.store) (r.seen m.after.store)
+IsLawful r m = Changes m.reply (r.seen m.before.store) (r.seen m.after.store)
 
 -- a history in which it does so at each moment
 abbrev pub AllLawful : {S I : Type 0} → Rules S I → List (Moment S I) → Type 0
 AllLawful r [] = Unit {0}
 AllLawful r (m ∷ ms) = IsLawful r m × AllLawful r ms
+
+-- a history in which no event rewrites the store
+abbrev pub AllPlain : {S I : Type 0} → List (Moment S I) → Type 0
+AllPlain [] = Unit {0}
+AllPlain (m ∷ ms) = (is_rewritten m.reply ≡ false) × AllPlain ms
 
 -- the cells take up places, and each cursor is a place of the store
 pub record IsReady {S I : Type 0} (r : Rules S I) (s : State S) : Type 0 where
@@ -80,6 +79,15 @@ given_from n w (m ∷ ms) = rows_of_reply w n m.reply ++ given_from (suc n) w ms
 -- what a walk is given: a row for each reply Gave to it, the events numbered from 1
 abbrev pub given : {S I : Type 0} → ℕ → List (Moment S I) → List Row
 given w h = given_from 1 w h
+
+-- an event is a step of walk w
+abbrev pub is_step : {I : Type 0} → ℕ → Event I → Bool
+is_step w (Step v) = v == w
+is_step w e = false
+
+-- an event is a step of walk w, which stands
+abbrev pub steps_walk : {S I : Type 0} → State S → Event I → ℕ → Bool
+steps_walk s e w = is_step w e && is_some (slice_get s.cursors w)
 
 -- the reply to an event, if it is a step of walk w
 abbrev pub told_if_step : {I : Type 0} → ℕ → Event I → Said → List Said

@@ -1,31 +1,33 @@
 -- Runs that join: a walk goes on in the next run over the same store.
-use Rattle.std.specs.Prelude.{◌≡◌, ◌⊎◌, ℕ, suc, List, ◌∷◌, ◌++◌, length, Option, Some, slice_get}
+use Rattle.std.specs.Prelude.{◌≡◌, ◌⊎◌, ℕ, suc, false, List, ◌∷◌, ◌++◌, length, Option, Some, slice_get}
+use Rattle.std.specs.List.{AllByRecursion}
 use Rattle.krb_walk.specs.declared.event.Event.{Event}
 use Rattle.krb_walk.specs.declared.event.Event.TheVariants.{Resume}
-use Rattle.krb_walk.specs.Said.{Started}
+use Rattle.krb_walk.specs.Said.{Started, is_rewritten}
 use Rattle.krb_walk.specs.Store.{Store}
 use Rattle.krb_walk.specs.Rules.{Rules}
 use Rattle.krb_walk.specs.Events.{State, reply_to}
 use Rattle.krb_walk.specs.History.{Moment, IsRun, state_after, last_store, history}
 use Rattle.krb_walk.specs.Track.{Track, first_names, last_names, last_cursor, track_of, track_on}
 
--- a walk is resumed at a place, after any other events
+-- a walk is resumed at a place, after any other events, none of which rewrites the store
 pub record Resumes {S I : Type 0} (r : Rules S I) (s : State S) (events : List (Event I)) (w c : ℕ) : Type 0 where
   pub earlier : List (Event I)
   pub later : List (Event I)
   pub events_are : events ≡ earlier ++ Resume c ∷ later
   pub told : reply_to r (state_after r s earlier) (Resume c) ≡ Started w c
+  pub plain : AllByRecursion (λ m. is_rewritten m.reply ≡ false) (history r s earlier)
 
 -- a walk goes on at a place: it stands there already, or it is resumed there
-abbrev pub GoesOnAt : {S I : Type 0} → Rules S I → State S → List (Event I) → ℕ → ℕ → Type 0
-GoesOnAt r s events w c = (slice_get s.cursors w ≡ Some c) ⊎ Resumes r s events w c
+abbrev pub StandsOrResumes : {S I : Type 0} → Rules S I → State S → List (Event I) → ℕ → ℕ → Type 0
+StandsOrResumes r s events w c = (slice_get s.cursors w ≡ Some c) ⊎ Resumes r s events w c
 
 -- a run over the last store of a track, in which walk v goes on where the track's walk stands
 pub record Next {T J : Type 0} (first : Store) (start : Option ℕ) (t : Track) (last : Store) (q : Rules T J) (z : State T) (events : List (Event J)) (v c : ℕ) : Type 0 where
   pub run : IsRun q z events
   pub store : q.seen z.store ≡ last
   pub cursor : last_cursor start t ≡ Some c
-  pub goes_on : GoesOnAt q z events v c
+  pub goes_on : StandsOrResumes q z events v c
 
 -- a track, and then that of walk v over the next run, with its cursor at c in between
 abbrev pub track_then : {T J : Type 0} → Store → Track → Rules T J → ℕ → ℕ → List (Moment T J) → Track
@@ -37,7 +39,7 @@ pub record Join {S T I J : Type 0} (r : Rules S I) (s : State S) (events : List 
   pub next_run : IsRun q z next
   pub store : q.seen z.store ≡ last_store r s events
   pub cursor : slice_get (state_after r s events).cursors w ≡ Some c
-  pub goes_on : GoesOnAt q z next v c
+  pub goes_on : StandsOrResumes q z next v c
 
 -- the track of walk w over a run, and then of v over the next
 abbrev pub joined : {S T I J : Type 0} → Rules S I → State S → List (Event I) → ℕ → Rules T J → State T → List (Event J) → ℕ → ℕ → Track

@@ -1,7 +1,18 @@
--- What the contracts of this crate say.
+-- What the contracts of this crate say, in ten words:
+-- store: a first place, cells that touch one another, and perhaps a fault behind them
+-- cell: a width of places with bytes, and then it is live, or without, and then it is free
+-- place: where a cell begins, or the end of the last one
+-- walk: what goes from record to record, a step at a time; its cursor is the place where it stands
+-- record: one life of a live cell, named by the place where it was put and its birth, the number of that event; it stands at the live cell of its rank
+-- track: what each event of a run, or of runs that join, is to one walk
+-- turn: the step of a walk that passes a record where it stands
+-- row: an event and the record that it gives
+-- due: the rows of the live cells that the cursor passes, step by step
+-- rewrite: the live cells alone are written anew, in order, and each cursor is carried to the first that it had ahead
 pub mod Numbers
 pub mod Store
 pub mod Laws
+pub mod Ranks
 pub mod Changes
 pub mod Rules
 pub mod Said

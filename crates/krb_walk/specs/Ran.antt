@@ -1,15 +1,15 @@
 -- What a session did in a run of events.
-use Rattle.std.specs.Prelude.{◌≡◌, ℕ, ◌<◌, List, ◌++◌, length, take, Some, slice_get}
+use Rattle.std.specs.Prelude.{◌≡◌, ℕ, ◌<◌, List, ◌++◌, length, take, Some}
 use Rattle.krb_walk.specs.declared.event.Event.{Event}
 use Rattle.krb_walk.specs.declared.fault.FaultKind.{FaultKind}
 use Rattle.krb_walk.specs.Said.{Said}
 use Rattle.krb_walk.specs.Rules.{Rules}
 use Rattle.krb_walk.specs.Events.{State}
 use Rattle.krb_walk.specs.History.{IsReady, IsRun, history, replies, state_after, given}
-use Rattle.krb_walk.specs.Track.{track_of}
-use Rattle.krb_walk.specs.Due.{due_over}
+use Rattle.krb_walk.specs.Track.{PlacesStay, track_of}
+use Rattle.krb_walk.specs.Due.{due_over, due_by_steps}
 use Rattle.krb_walk.specs.Fair.{IsFair}
-use Rattle.krb_walk.specs.Cursors.{FewGive, RefusesChanges, GivesThenFaults}
+use Rattle.krb_walk.specs.Cursors.{RefusesChanges}
 
 -- a run of events: the replies and the state are those of the history, and every walk is given what is due to it
 pub record Ran {S I : Type 0} (r : Rules S I) (old new : State S) (events : List (Event I)) (told_old told_new : List Said) : Type 0 where
@@ -17,11 +17,10 @@ pub record Ran {S I : Type 0} (r : Rules S I) (old new : State S) (events : List
   pub state : new ≡ state_after r old events
   pub run : IsRun r old events
   pub is_ready : IsReady r new
-  pub given_is_due : (w : ℕ) → given w (history r old events) ≡ due_over (track_of r old events w) (r.seen new.store)
+  pub given_is_due : (w : ℕ) → given w (history r old events) ≡ due_by_steps (track_of r old events w)
+  pub given_is_due_at_places : (w : ℕ) → PlacesStay (track_of r old events w) → given w (history r old events) ≡ due_over (track_of r old events w) (r.seen new.store)
   pub fair : (w : ℕ) → IsFair (track_of r old events w) (r.seen new.store)
-  pub few : (w c : ℕ) → slice_get old.cursors w ≡ Some c → FewGive r old events w c
   pub damaged_refuses : (kind : FaultKind) → (r.seen old.store).fault ≡ Some kind → RefusesChanges r old events
-  pub damaged_gives : (kind : FaultKind) (w c : ℕ) → (r.seen old.store).fault ≡ Some kind → slice_get old.cursors w ≡ Some c → GivesThenFaults r old events w c kind
 
 -- a run that stopped for want of memory: the events before one of them
 pub record RanSome {S I : Type 0} (r : Rules S I) (old new : State S) (events : List (Event I)) (told_old told_new : List Said) : Type 0 where

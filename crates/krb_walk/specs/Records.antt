@@ -1,10 +1,13 @@
--- Records along a track: which are alive, and how often each comes.
-use Rattle.std.specs.Prelude.{◌≡◌, ℕ, ◌≤◌, Bool, true, cond, ◌&&◌, ◌==◌, List, [], ◌∷◌, ◌++◌, length, filter, flat_map, Option, Some, None}
-use Rattle.std.specs.List.{list_any, AllByRecursion}
-use Rattle.krb_walk.specs.Said.{Placed, Gone, completes, is_placed}
+-- Records along a track, on which the store may be rewritten: how often each comes.
+use Rattle.std.specs.Prelude.{◌≡◌, ◌↔◌, ℕ, ◌≤◌, Bool, false, true, cond, ◌&&◌, ◌==◌, IsSome, List, [], ◌∷◌, ◌++◌, length, find, filter, flat_map, Option, Some, None}
+use Rattle.std.specs.List.{AllByRecursion}
+use Rattle.krb_walk.specs.Ranks.{live_places}
+use Rattle.krb_walk.specs.Said.{Gone, Placed, completes, is_placed}
 use Rattle.krb_walk.specs.History.{Row}
-use Rattle.krb_walk.specs.Track.{Name, Pass, Track}
-use Rattle.krb_walk.specs.Due.{rows_at_pass, turn}
+use Rattle.krb_walk.specs.Track.{RecordName, WalkEvent, Track, goes_past}
+use Rattle.krb_walk.specs.Due.{rows_at_event}
+
+-- ---- rows, and where a track begins
 
 -- the rows at a place
 abbrev pub rows_at : ℕ → List Row → List Row
@@ -15,69 +18,119 @@ pub record OneRow (rows : List Row) : Type 0 where
   pub row : Row
   pub only : rows ≡ row ∷ []
 
--- a record is one of those alive
-abbrev pub is_alive : List Name → Name → Bool
-is_alive names r = list_any (λ x. (x.place == r.place) && (x.birth == r.birth)) names
-
--- the same, as a fact
-abbrev pub Alive : List Name → Name → Type 0
-Alive names r = is_alive names r ≡ true
-
--- a record that is alive stands at a place
-pub record IsNamed (names : List Name) (p : ℕ) : Type 0 where
-  pub name : Name
-  pub place : name.place ≡ p
-  pub alive : Alive names name
-
--- the rows of a record: those at its place, at events before which it is alive
-abbrev pub rows_of_record : Name → Track → List Row
-rows_of_record r t = flat_map (λ x. cond (is_alive x.names r) (rows_at r.place (rows_at_pass x)) []) t
-
 -- the cursor at the first event
 abbrev pub begins : Track → Option ℕ
 begins [] = None
 begins (x ∷ xs) = x.from
 
--- the walk stands at or before the record's place, and from then on until the walk is completed the record is alive
-pub record IsAliveUntilDone (r : Name) (t : Track) : Type 0 where
+-- how many additions are accepted along a track
+abbrev pub additions : Track → ℕ
+additions t = length (filter (λ x. is_placed x.reply) t)
+
+-- ---- a record stands at the live cell of its rank
+
+-- two names are the same
+abbrev pub is_name : RecordName → RecordName → Bool
+is_name r x = (r.place == x.place) && (r.birth == x.birth)
+
+-- the place of a record, among names and the places of the live cells in the same order
+abbrev pub place_among : RecordName → List RecordName → List ℕ → Option ℕ
+place_among r (x ∷ names) (p ∷ ps) = cond (is_name r x) (Some p) (place_among r names ps)
+place_among r names ps = None
+
+-- where a record stands before an event, if it is alive: at the live cell of its rank
+abbrev pub place_of : RecordName → WalkEvent → Option ℕ
+place_of r x = place_among r x.names (live_places x.before)
+
+-- a record that is alive stands at a place
+pub record IsNamed (x : WalkEvent) (p : ℕ) : Type 0 where
+  pub name : RecordName
+  pub stands : place_of name x ≡ Some p
+
+-- the rows at a place, if there is one
+abbrev pub rows_at_some : Option ℕ → List Row → List Row
+rows_at_some None rows = []
+rows_at_some (Some p) rows = rows_at p rows
+
+-- the rows of a record: at each event, those at the place where it stands
+abbrev pub rows_here : RecordName → WalkEvent → List Row
+rows_here r x = rows_at_some (place_of r x) (rows_at_event x)
+
+abbrev pub rows_of : RecordName → Track → List Row
+rows_of r t = flat_map (rows_here r) t
+
+-- a cursor goes past the place, if there is one
+abbrev pub goes_past_some : Option ℕ → Option ℕ → Option ℕ → Bool
+goes_past_some None c d = false
+goes_past_some (Some p) c d = goes_past p c d
+
+-- a step of the walk passes the record where it stands
+abbrev pub passes_record : RecordName → WalkEvent → Bool
+passes_record r x = x.stepped && goes_past_some (place_of r x) x.from x.to
+
+-- the turn of a record: the step that passes it
+abbrev pub turn_of : RecordName → Track → Option WalkEvent
+turn_of r t = find (passes_record r) t
+
+-- a record has a turn, at which it is alive
+pub record HasTurn (r : RecordName) (t : Track) : Type 0 where
+  pub at : WalkEvent
+  pub is : turn_of r t ≡ Some at
+  pub alive : IsSome (place_of r at)
+
+-- where a record stands at the first event
+abbrev pub place_at_first : RecordName → Track → Option ℕ
+place_at_first r [] = None
+place_at_first r (x ∷ xs) = place_of r x
+
+-- the walk stands at or before the record, and from then on until the walk is completed the record is alive
+pub record IsAliveUntilDone (r : RecordName) (t : Track) : Type 0 where
   pub earlier : Track
   pub steps : Track
-  pub done : Pass
+  pub done : WalkEvent
   pub later : Track
   pub track_is : t ≡ earlier ++ (steps ++ done ∷ later)
   pub start : ℕ
+  pub place : ℕ
   pub began : begins (steps ++ done ∷ later) ≡ Some start
-  pub ahead : start ≤ r.place
-  pub alive : AllByRecursion (λ x. Alive x.names r) steps
-  pub alive_last : Alive done.names r
+  pub stood : place_at_first r (steps ++ done ∷ later) ≡ Some place
+  pub ahead : start ≤ place
+  pub alive : AllByRecursion (λ x. IsSome (place_of r x)) steps
+  pub alive_last : IsSome (place_of r done)
   pub completed : completes done.walk done.reply ≡ true
 
--- a record is cut before its turn
-pub record IsCutBefore (r : Name) (t : Track) : Type 0 where
+-- a record is cut where it stands, before a step passed it
+pub record IsCutBefore (r : RecordName) (t : Track) : Type 0 where
   pub earlier : Track
-  pub cut : Pass
+  pub cut : WalkEvent
   pub later : Track
+  pub place : ℕ
   pub track_is : t ≡ earlier ++ cut ∷ later
-  pub was_alive : Alive cut.names r
-  pub gone : cut.reply ≡ Gone r.place
-  pub no_turn : turn r.place (earlier ++ cut ∷ []) ≡ None
+  pub stood : place_of r cut ≡ Some place
+  pub gone : cut.reply ≡ Gone place
+  pub no_turn : turn_of r (earlier ++ cut ∷ []) ≡ None
 
 -- a record is added while the walk stands at c
-pub record IsAddedAt (r : Name) (c : ℕ) (t : Track) : Type 0 where
+pub record IsAddedAt (r : RecordName) (c : ℕ) (t : Track) : Type 0 where
   pub earlier : Track
-  pub put : Pass
+  pub put : WalkEvent
   pub later : Track
   pub track_is : t ≡ earlier ++ put ∷ later
   pub placed : put.reply ≡ Placed r.place
   pub born : r.birth ≡ put.number
   pub cursor : put.from ≡ Some c
 
--- a record has a turn, and is alive just before
-pub record HasTurn (r : Name) (t : Track) : Type 0 where
-  pub at : Pass
-  pub is : turn r.place t ≡ Some at
-  pub alive : Alive at.names r
-
--- how many additions are accepted along a track
-abbrev pub additions : Track → ℕ
-additions t = length (filter (λ x. is_placed x.reply) t)
+-- each record comes as it is due, over rewrites too
+pub record EachComesAsDue (t : Track) : Type 0 where
+  -- "each once"
+  pub at_most_once : (r : RecordName) → length (rows_of r t) ≤ 1
+  -- "when its cursor passes their place": once, if ever
+  pub turn_is_unique : (r : RecordName) → length (filter (passes_record r) t) ≤ 1
+  -- "exactly the records alive when its cursor passes their place"
+  pub once_if_it_has_a_turn : (r : RecordName) → OneRow (rows_of r t) ↔ HasTurn r t
+  -- "one alive throughout a completed walk comes once"
+  pub throughout_once : (r : RecordName) → IsAliveUntilDone r t → OneRow (rows_of r t)
+  -- "one removed before its turn never"
+  pub cut_before_never : (r : RecordName) → IsCutBefore r t → rows_of r t ≡ []
+  -- "one added exactly when its place lies ahead and it lives to its turn"
+  pub added_if_ahead : (r : RecordName) (c : ℕ) → IsAddedAt r c t → OneRow (rows_of r t) ↔ ((c ≤ r.place) × HasTurn r t)

@@ -10,6 +10,7 @@ pub record Rules (S I : Type 0) : Type 0 where
   pub seen : S → Store
   pub put : S → I → Result (ℕ × S) Code
   pub cut : S → ℕ → Result S Code
+  pub rewrite : S → Result S Code
   -- whether an addition takes no memory
   pub takes_none : S → I → Bool
 
@@ -23,6 +24,12 @@ PutGives given old (Err NoMemory) new = new ≡ old
 abbrev pub CutGives : {S : Type 0} → Result S Code → S → Result (Unit {0}) Code → S → Type 0
 CutGives given old (Ok done) new = given ≡ Ok new
 CutGives given old (Err code) new = (given ≡ Err code) × (new ≡ old)
+
+-- a rewrite answered as the rules have it; want of memory leaves the store
+abbrev pub RewriteGives : {S : Type 0} → Result S Code → S → Result (Unit {0}) Refusal → S → Type 0
+RewriteGives given old (Ok done) new = given ≡ Ok new
+RewriteGives given old (Err (ByCode code)) new = (given ≡ Err code) × (new ≡ old)
+RewriteGives given old (Err NoMemory) new = new ≡ old
 
 -- an addition that is not answered want of memory
 abbrev pub IsNotWanting : Result ℕ Refusal → Type 0

@@ -13,6 +13,7 @@ pub data Said : Type 0 where
   Faulted : (walk : ℕ) (fault : Fault) → Said
   Placed : (place : ℕ) → Said
   Gone : (place : ℕ) → Said
+  Rewritten : (end : ℕ) → Said
   Refused : (code : Code) → Said
 
 -- what a reply says
@@ -23,6 +24,7 @@ said (reply.Ended w n) = Ended w n
 said (reply.Faulted w f) = Faulted w f
 said (reply.Placed p) = Placed p
 said (reply.Gone p) = Gone p
+said (reply.Rewritten p) = Rewritten p
 said (reply.Refused c) = Refused c
 
 -- a walk is told what a step of it met
@@ -42,6 +44,11 @@ completes w said = false
 abbrev pub is_gave : Said → Bool
 is_gave (Gave w p next bytes) = true
 is_gave said = false
+
+-- a rewrite is accepted
+abbrev pub is_rewritten : Said → Bool
+is_rewritten (Rewritten p) = true
+is_rewritten said = false
 
 -- an addition is accepted
 abbrev pub is_placed : Said → Bool

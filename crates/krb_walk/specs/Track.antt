@@ -1,61 +1,58 @@
 -- A walk, event by event: its track.
-use Rattle.std.specs.Prelude.{◌≡◌, ℕ, suc, Bool, false, ◌&&◌, nat_le, nat_lt, ◌⊎◌, IsSomeAnd, List, [], ◌∷◌, length, map, filter, insert, remove, Option, Some, None, slice_get}
+use Rattle.std.specs.Prelude.{◌≡◌, ℕ, suc, Bool, true, false, ◌&&◌, nat_le, nat_lt, ◌⊎◌, IsSomeAnd, List, [], ◌∷◌, map, insert, remove, Option, Some, None, slice_get}
+use Rattle.std.specs.List.{AllByRecursion}
 use Rattle.std.specs.Option.{option_or}
 use Rattle.krb_walk.specs.declared.event.Event.{Event}
-use Rattle.krb_walk.specs.Store.{Store, IsSound, IsPlace, records, next_live, end_of, fault_of}
-use Rattle.krb_walk.specs.Changes.{Puts, Cuts}
-use Rattle.krb_walk.specs.Said.{Said, Gave, Ended, Faulted, Placed, Gone, tells_step}
+use Rattle.krb_walk.specs.Store.{Store, IsSound, IsPlace, next_live, end_of, fault_of}
+use Rattle.krb_walk.specs.Ranks.{live_places, rank, carry}
+use Rattle.krb_walk.specs.Changes.{Changes}
+use Rattle.krb_walk.specs.Said.{Said, Gave, Ended, Faulted, Placed, Gone, Rewritten, tells_step, is_rewritten}
 use Rattle.krb_walk.specs.Rules.{Rules}
 use Rattle.krb_walk.specs.Events.{State}
-use Rattle.krb_walk.specs.History.{Moment, history}
+use Rattle.krb_walk.specs.History.{Moment, history, steps_walk}
 
 -- the name of a record: the place where it was put, and its birth, the number of the event that put it, or 0
-pub record Name : Type 0 where
+pub record RecordName : Type 0 where
   pub place : ℕ
   pub birth : ℕ
 
--- the places of the live cells, in order
-abbrev pub live_places : Store → List ℕ
-live_places s = map (λ r. r.place) (records s)
-
--- the rank of a place: how many live cells stand before it
-abbrev pub rank : Store → ℕ → ℕ
-rank s p = length (filter (λ q. nat_lt q p) (live_places s))
-
 -- the names of the records of a store at the start
-abbrev pub first_names : Store → List Name
+abbrev pub first_names : Store → List RecordName
 first_names s = map (λ p. record { place = p; birth = 0 }) (live_places s)
 
 -- the names after event n: an addition inserts one at the rank of its cell, a removal takes out that of its cell
-abbrev pub names_after : ℕ → Said → Store → Store → List Name → List Name
+abbrev pub names_after : ℕ → Said → Store → Store → List RecordName → List RecordName
 names_after n (Placed p) old new names = insert names (rank new p) (record { place = p; birth = n })
 names_after n (Gone p) old new names = remove names (rank old p)
 names_after n said old new names = names
 
 -- what one event is to a walk
-pub record Pass : Type 0 where
+pub record WalkEvent : Type 0 where
   pub number : ℕ
   pub walk : ℕ
+  -- whether it is a step of the walk, which stands
+  pub stepped : Bool
   -- the store, and the walk's cursor, before the event and after it
   pub before : Store
   pub after : Store
   pub from : Option ℕ
   pub to : Option ℕ
   -- the names of the live cells before it, in order
-  pub names : List Name
+  pub names : List RecordName
   pub reply : Said
 
--- the passes, in the order of the events
+-- what each event is to it, in order
 abbrev pub Track : Type 0
-Track = List Pass
+Track = List WalkEvent
 
 -- the track of a walk over a history whose first event has number n; while the walk is not made its cursor counts as c
-abbrev pub track_on : {S I : Type 0} → ℕ → List Name → Option ℕ → Rules S I → ℕ → List (Moment S I) → Track
+abbrev pub track_on : {S I : Type 0} → ℕ → List RecordName → Option ℕ → Rules S I → ℕ → List (Moment S I) → Track
 track_on n names c r w [] = []
 track_on n names c r w (m ∷ ms) =
     record {
       number = n;
       walk = w;
+      stepped = steps_walk m.before m.event w;
       before = r.seen m.before.store;
       after = r.seen m.after.store;
       from = option_or (slice_get m.before.cursors w) c;
@@ -79,11 +76,11 @@ goes_past p (Some c) (Some d) = nat_le c p && nat_lt p d
 goes_past p c d = false
 
 -- a walk passes a place at an event
-abbrev pub passes : ℕ → Pass → Bool
+abbrev pub passes : ℕ → WalkEvent → Bool
 passes p x = goes_past p x.from x.to
 
 -- the names after the last event
-abbrev pub last_names : List Name → Track → List Name
+abbrev pub last_names : List RecordName → Track → List RecordName
 last_names names [] = names
 last_names names (x ∷ xs) = last_names (names_after x.number x.reply x.before x.after x.names) xs
 
@@ -92,7 +89,11 @@ abbrev pub last_cursor : Option ℕ → Track → Option ℕ
 last_cursor c [] = c
 last_cursor c (x ∷ xs) = last_cursor x.to xs
 
--- ---- what makes passes the track of one walk
+-- no event rewrites the store, so places stay
+abbrev pub PlacesStay : Track → Type 0
+PlacesStay t = AllByRecursion (λ x. is_rewritten x.reply ≡ false) t
+
+-- ---- what makes a track that of one walk
 
 -- a step of walk w that stands at c is answered with the next live cell, or else the fault, or the end; then it stands at the place after that
 abbrev pub AnswersStep : Store → ℕ → ℕ → Said → ℕ → Type 0
@@ -101,25 +102,26 @@ AnswersStep s w c (Ended v next) to = (v ≡ w) × (next_live s c ≡ None) × (
 AnswersStep s w c (Faulted v fault) to = (v ≡ w) × (next_live s c ≡ None) × (fault_of s ≡ Some fault) × (to ≡ end_of s)
 AnswersStep s w c said to = ⊥
 
--- a store changes as the reply says
-abbrev pub Shifts : Said → Store → Store → Type 0
-Shifts (Placed p) old new = Puts old new p
-Shifts (Gone p) old new = Cuts old new p
-Shifts said old new = new ≡ old
+-- where a cursor then stands that no step moves: a rewrite carries it, all else leaves it
+abbrev pub carried : Said → Store → Store → ℕ → ℕ
+carried (Rewritten p) old new c = carry old new c
+carried said old new c = c
 
--- an event that is no step of the walk leaves its cursor
-pub record Stays (x : Pass) : Type 0 where
+-- an event that is no step of the walk leaves its cursor, or carries it
+pub record Stays (x : WalkEvent) : Type 0 where
+  pub idle : x.stepped ≡ false
   pub other : tells_step x.walk x.reply ≡ false
-  pub stays : (c : ℕ) → x.from ≡ Some c → x.to ≡ Some c
+  pub stays : (c : ℕ) → x.from ≡ Some c → x.to ≡ Some (carried x.reply x.before x.after c)
 
 -- a step of the walk moves it, and is answered so
-pub record Steps (x : Pass) : Type 0 where
+pub record MovesCursor (x : WalkEvent) : Type 0 where
+  pub stepped : x.stepped ≡ true
   pub at : ℕ
   pub stood : x.from ≡ Some at
   pub answered : IsSomeAnd x.to (AnswersStep x.before x.walk at x.reply)
 
--- event n of a walk, in a store with these names and with this cursor
-pub record IsPass (n : ℕ) (s : Store) (known : List Name) (c : Option ℕ) (x : Pass) : Type 0 where
+-- event n, as a walk sees it in a store with these names and with this cursor
+pub record IsWalkEvent (n : ℕ) (s : Store) (known : List RecordName) (c : Option ℕ) (x : WalkEvent) : Type 0 where
   pub number : x.number ≡ n
   pub before : x.before ≡ s
   pub names : x.names ≡ known
@@ -127,15 +129,16 @@ pub record IsPass (n : ℕ) (s : Store) (known : List Name) (c : Option ℕ) (x 
   pub sound : IsSound x.before
   pub here : (d : ℕ) → x.from ≡ Some d → IsPlace x.before d
   pub there : (d : ℕ) → x.to ≡ Some d → IsPlace x.after d
-  pub shifts : Shifts x.reply x.before x.after
-  pub effect : Stays x ⊎ Steps x
+  pub changes : Changes x.reply x.before x.after
+  pub effect : Stays x ⊎ MovesCursor x
 
--- passes that follow one another, from event n on, and end with a store
-abbrev pub IsTrack : ℕ → Store → List Name → Option ℕ → Track → Store → Type 0
+-- events that follow one another, from event n on, and end with a store
+abbrev pub IsTrack : ℕ → Store → List RecordName → Option ℕ → Track → Store → Type 0
 IsTrack n s names c [] last = last ≡ s
-IsTrack n s names c (x ∷ xs) last = IsPass n s names c x × IsTrack (suc n) x.after (names_after x.number x.reply x.before x.after x.names) x.to xs last
+IsTrack n s names c (x ∷ xs) last = IsWalkEvent n s names c x × IsTrack (suc n) x.after (names_after x.number x.reply x.before x.after x.names) x.to xs last
 
 -- the track of one walk, from the first event on, that begins in a store with a cursor and ends with a store: over one run, or over runs that join
 pub record IsWalk (s : Store) (c : Option ℕ) (t : Track) (last : Store) : Type 0 where
+  pub sound : IsSound s
   pub here : (d : ℕ) → c ≡ Some d → IsPlace s d
   pub is : IsTrack 1 s (first_names s) c t last

@@ -17,6 +17,8 @@ pub enum Event<I> {
     Put(I),
     /// The removal of the record at this place.
     Cut(u32),
+    /// A rewrite of the store; each cursor is carried.
+    Rewrite,
 }
 
 /// What a session replies. Walks are numbered from 0 in order of making; `next` is where the walk's
@@ -48,5 +50,7 @@ pub enum Reply<A: Allocator> {
     Placed(u32),
     /// The place of the record that was removed.
     Gone(u32),
+    /// The new end place, after a rewrite.
+    Rewritten(u32),
     Refused(Code),
 }

@@ -6,4 +6,5 @@ pub mod damaged;
 pub mod due;
 pub mod joins;
 pub mod records;
+pub mod rewrites;
 pub mod stops;

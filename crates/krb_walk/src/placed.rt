@@ -1,9 +1,11 @@
 //! What a session asks of a store.
 
-ghost use Rattle.std.specs.Prelude.{◌≡◌, true, IsSome, IfOk, OnOk, Some};
+ghost use Rattle.std.specs.Prelude.{◌≡◌, true, IsSome, IfOk, OnOk, OnErr, Some, map};
 ghost use Rattle.krb_walk.specs.Store.{IsPlace, IsSound, end_of, fault_of, is_place, live_bytes, stop_at};
 ghost use Rattle.krb_walk.specs.Changes.{Cuts, Puts};
-ghost use Rattle.krb_walk.specs.Rules.{Rules, PutGives, CutGives, IsNotWanting};
+ghost use Rattle.std.specs.List.{AllByRecursion};
+ghost use Rattle.krb_walk.specs.Ranks.{carry, Rewrites};
+ghost use Rattle.krb_walk.specs.Rules.{Rules, PutGives, CutGives, RewriteGives, IsNotWanting};
 
 use crate::fault::Fault;
 use crate::refusal::{Code, Refusal};
@@ -54,4 +56,13 @@ pub trait Placed {
     fn cut(&mut self, place: u32) -> Result<(), Code>
         ensures gives { CutGives (rules.cut self.old place) self.old result self.new }
         ensures cuts { OnOk result (Cuts (rules.seen self.old) (rules.seen self.new) place) };
+
+    /// Writes the live cells anew, in order, without free cells. Each cursor is carried: to the new place of
+    /// the first live cell at or after it, or to the new end.
+    fn rewrite(&mut self, cursors: &mut [u32]) -> Result<(), Refusal>
+        requires { AllByRecursion (IsPlace (rules.seen self.old)) cursors.old }
+        ensures gives { RewriteGives (rules.rewrite self.old) self.old result self.new }
+        ensures rewrites { OnOk result (Rewrites (rules.seen self.old) (rules.seen self.new)) }
+        ensures carries { OnOk result (cursors.new ≡ map (carry (rules.seen self.old) (rules.seen self.new)) cursors.old) }
+        ensures keeps { OnErr result (cursors.new ≡ cursors.old) };
 }

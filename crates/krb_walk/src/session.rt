@@ -1,10 +1,11 @@
 //! A session: a store, and the cursors of the walks over it.
 
-ghost use Rattle.std.specs.Prelude.{◌≡◌, ◌<◌, [], length, slice_get, slice_set};
+ghost use Rattle.std.specs.Prelude.{◌≡◌, ◌<◌, [], ◌∷◌, length, slice_get, slice_set};
 ghost use Rattle.krb_walk.specs.declared.event.Event.TheVariants.{Step};
 ghost use Rattle.krb_walk.specs.Store.{IsPlace, end_of, next_live, stop_at};
-ghost use Rattle.krb_walk.specs.Events.{State, after, stop_cursor};
+ghost use Rattle.krb_walk.specs.Events.{State, after, reply_to, stop_cursor};
 ghost use Rattle.krb_walk.specs.History.{IsReady};
+ghost use Rattle.krb_walk.specs.Ran.{Ran};
 ghost use Rattle.krb_walk.specs.Kept.{step_result, place_after};
 
 mod events;
@@ -27,6 +28,7 @@ pub struct Session<P: Placed, A: Allocator + Copy> {
 impl<P: Placed, A: Allocator + Copy> Model for Session<P, A> {
     ghost use Rattle.std.specs.Prelude.{take};
     ghost use Rattle.krb_walk.specs.Events.{State};
+    ghost use Rattle.krb_walk.specs.Ran.{Ran};
     ghost use Rattle.krb_walk.specs.Kept.{IsKept};
 
     ghost Value = { State P };
@@ -87,10 +89,18 @@ impl<P: Placed, A: Allocator + Copy> Session<P, A> {
         store
     }
 
-    /// The event `Step` without the record's bytes: moves a walk on, and says where it stopped.
+    /// The event `Step` without the record's bytes: moves a walk on, and says where it stopped. It takes no memory.
     pub fn step(&mut self, walk: u32) -> Result<Stop, Code>
         ensures stop { result ≡ step_result (P.rules.seen self.old.store) (slice_get self.old.cursors walk) }
+        ensures ran { Ran P.rules self.old self.new (Step walk ∷ []) [] (reply_to P.rules self.old (Step walk) ∷ []) }
+    {
+        self.move_on(walk)
+    }
+
+    fn move_on(&mut self, walk: u32) -> Result<Stop, Code>
+        ensures stop { result ≡ step_result (P.rules.seen self.old.store) (slice_get self.old.cursors walk) }
         ensures state { self.new ≡ after P.rules self.old (Step walk) }
+        ensures ready { IsReady P.rules self.old }
     {
         let Some(cursor) = self.cursor(walk) else {
             return Err(Code::NoSuchWalk);

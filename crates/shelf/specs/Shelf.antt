@@ -1,9 +1,9 @@
 -- A shelf: slots of four places each, from place 8 on, and perhaps a fault behind them.
-use Rattle.std.specs.Prelude.{ℕ, ◌+◌, ◌-◌, ◌*◌, ◌/◌, Bool, cond, ◌||◌, nat_le, nat_lt, List, [], ◌∷◌, ◌++◌, length, map, position, Option, Some, None, is_some, is_none, Result, Ok, Err, slice_set}
+use Rattle.std.specs.Prelude.{ℕ, ◌+◌, ◌-◌, ◌*◌, ◌/◌, Bool, cond, ◌||◌, nat_le, nat_lt, List, [], ◌∷◌, ◌++◌, length, map, filter, take, position, Option, Some, None, is_some, is_none, Result, Ok, Err, slice_set}
 use Rattle.krb_walk.specs.declared.fault.FaultKind.{FaultKind}
 use Rattle.krb_walk.specs.declared.refusal.Code.{Code}
 use Rattle.krb_walk.specs.declared.refusal.Code.TheVariants.{Damaged, Full, NotLive}
-use Rattle.krb_walk.specs.Store.{Cell, Store, live_bytes}
+use Rattle.krb_walk.specs.Store.{Cell, Store, IsPlace, live_bytes}
 use Rattle.krb_walk.specs.Rules.{Rules}
 
 -- the slots, each free or with its bytes, and what is wrong behind them, if something is
@@ -65,6 +65,22 @@ cut_of s p = cond (is_some s.fault) (Err Damaged) (cut_from s p (live_bytes (sto
 abbrev pub takes_none_of : Contents → Bool
 takes_none_of s = is_some s.fault || is_some (first_free s) || nat_le 1000 (length s.slots)
 
+-- the slots that are not free, in order
+abbrev pub full_slots : List (Option (List ℕ)) → List (Option (List ℕ))
+full_slots slots = filter is_some slots
+
+-- a rewrite leaves these alone; a shelf with a fault refuses it
+abbrev pub rewrite_of : Contents → Result Contents Code
+rewrite_of s = cond (is_some s.fault) (Err Damaged) (Ok (record { slots = full_slots s.slots; fault = s.fault }))
+
+-- where a rewrite carries a place: to that of its slot when the free ones before it are gone
+abbrev pub carried_place : List (Option (List ℕ)) → ℕ → ℕ
+carried_place slots p = place_of (length (full_slots (take (slot_at p) slots)))
+
+-- a number is the place of one of these slots, or the place after the last
+abbrev pub IsSlotPlace : List (Option (List ℕ)) → ℕ → Type 0
+IsSlotPlace slots p = IsPlace (store_of (record { slots = slots; fault = None })) p
+
 -- a shelf as a store that is walked
 abbrev pub shelf_rules : Rules Contents (List ℕ)
-shelf_rules = record { seen = store_of; put = put_of; cut = cut_of; takes_none = λ s bytes. takes_none_of s }
+shelf_rules = record { seen = store_of; put = put_of; cut = cut_of; rewrite = rewrite_of; takes_none = λ s bytes. takes_none_of s }

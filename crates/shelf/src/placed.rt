@@ -1,7 +1,10 @@
 //! A shelf as a store that is walked.
 
 use crate::shelf::Shelf;
-use crate::slots::{FIRST, MOST_SLOTS, WIDTH, bytes_in, first_free, free_from, place_of, slot_at};
+use crate::slots::{
+    FIRST, MOST_SLOTS, WIDTH, bytes_in, carry_places, drop_free, first_free, free_from, place_of,
+    slot_at,
+};
 use krb_walk::{Code, Fault, Placed, Refusal, Stop};
 use std::alloc::Allocator;
 
@@ -78,6 +81,16 @@ impl<A: Allocator> Placed for Shelf<A> {
             return Err(Code::NotLive);
         }
         self.slots[slot_at(place)] = None;
+        Ok(())
+    }
+
+    /// The full slots alone are left. Takes no memory.
+    fn rewrite(&mut self, cursors: &mut [u32]) -> Result<(), Refusal> {
+        if self.fault.is_some() {
+            return Err(Refusal::Code(Code::Damaged));
+        }
+        carry_places(&self.slots, cursors);
+        drop_free(&mut self.slots);
         Ok(())
     }
 }

@@ -1,7 +1,10 @@
 //! The slots of a shelf, as a slice.
 
-ghost use Rattle.std.specs.Prelude.{◌≡◌, ◌≤◌, length, position, is_none, is_some, option_copied, drop};
-ghost use Rattle.shelf.specs.Shelf.{place_of, slot_at, bytes_in};
+ghost use Rattle.std.specs.Prelude.{◌≡◌, ◌≤◌, length, position, is_none, is_some, option_copied, drop, map, take};
+ghost use Rattle.std.specs.List.{AllByRecursion};
+ghost use Rattle.shelf.specs.Shelf.{IsSlotPlace, bytes_in, carried_place, full_slots, place_of, slot_at};
+
+use std::alloc::Allocator;
 
 /// How many slots there are at most.
 pub const MOST_SLOTS: usize = 1000;
@@ -53,4 +56,40 @@ pub fn bytes_in(slots: &[Option<[u8; 4]>], place: u32) -> Option<&[u8]>
     }
     let bytes = slots.get(slot_at(place))?.as_ref()?;
     Some(bytes)
+}
+
+/// How many slots before this number are not free.
+pub fn full_before(slots: &[Option<[u8; 4]>], slot: usize) -> usize
+    requires { slot ≤ length slots.now }
+    ensures { result ≡ length (full_slots (take slot slots.now)) }
+{
+    let (behind, _) = slots.split_at(slot);
+    behind.iter().filter(|slot| slot.is_some()).count()
+}
+
+/// The place of the slot at a place when the free slots before it are gone.
+pub fn carried_place(slots: &[Option<[u8; 4]>], place: u32) -> u32
+    requires few { length slots.now ≤ 1000 }
+    requires here { IsSlotPlace slots.now place }
+    ensures { result ≡ carried_place slots.now place }
+{
+    place_of(full_before(slots, slot_at(place)))
+}
+
+/// Carries all these places.
+pub fn carry_places(slots: &[Option<[u8; 4]>], places: &mut [u32])
+    requires few { length slots.now ≤ 1000 }
+    requires here { AllByRecursion (IsSlotPlace slots.now) places.old }
+    ensures { places.new ≡ map (carried_place slots.now) places.old }
+{
+    for place in places.iter_mut() {
+        *place = carried_place(slots, *place);
+    }
+}
+
+/// Leaves the full slots alone, in order. Takes no memory.
+pub fn drop_free<A: Allocator>(slots: &mut Vec<Option<[u8; 4]>, A>)
+    ensures { slots.new.items ≡ full_slots slots.old.items }
+{
+    slots.retain(|slot| slot.is_some());
 }

@@ -5,6 +5,7 @@ mod damaged;
 mod growths;
 mod joined;
 mod resumes;
+mod rewrites;
 mod told;
 
 use crate::Shelf;

@@ -1,12 +1,12 @@
 //! Cursors and places.
 
-ghost use Rattle.std.specs.Prelude.{◌≡◌, ◌≢◌, ◌⊎◌, ℕ, ◌≤◌, ◌<◌, IsSomeAnd, List, Some, slice_get};
+ghost use Rattle.std.specs.Prelude.{◌≡◌, false, ◌≢◌, ◌⊎◌, ℕ, ◌≤◌, ◌<◌, IsSomeAnd, List, Some, slice_get};
 ghost use Rattle.krb_walk.specs.declared.event.Event.{Event};
 ghost use Rattle.krb_walk.specs.declared.event.Event.TheVariants.{Step, Put};
 ghost use Rattle.krb_walk.specs.Store.{IsPlace, end_of};
-ghost use Rattle.krb_walk.specs.Said.{Placed};
+ghost use Rattle.krb_walk.specs.Said.{Placed, is_rewritten};
 ghost use Rattle.krb_walk.specs.Events.{State, after, reply_to};
-ghost use Rattle.krb_walk.specs.History.{IsReady, IsLawful, IsRun, AllLawful, moment, history, state_after, last_store};
+ghost use Rattle.krb_walk.specs.History.{IsReady, IsLawful, IsRun, AllLawful, AllPlain, moment, history, state_after, last_store};
 ghost use Rattle.krb_walk.specs.Track.{AnswersStep};
 ghost use Rattle.krb_walk.specs.Cursors.{FewGive, size_at};
 
@@ -19,7 +19,7 @@ pub fn cursors_are_places<P: Placed>()
 
 /// A cursor never goes back.
 pub fn cursors_never_go_back<P: Placed>()
-    ensures { (s : State P) (events : List (Event P.Item)) (w c : ℕ) → IsRun P.rules s events
+    ensures { (s : State P) (events : List (Event P.Item)) (w c : ℕ) → IsRun P.rules s events → AllPlain (history P.rules s events)
         → slice_get s.cursors w ≡ Some c
         → IsSomeAnd (slice_get (state_after P.rules s events).cursors w) (λ d. c ≤ d) }
 {}
@@ -27,7 +27,7 @@ pub fn cursors_never_go_back<P: Placed>()
 /// Only a step of its walk moves a cursor.
 pub fn only_its_steps_move_a_cursor<P: Placed>()
     ensures { (s : State P) (event : Event P.Item) (w c : ℕ) → slice_get s.cursors w ≡ Some c
-        → event ≢ Step w
+        → event ≢ Step w → is_rewritten (reply_to P.rules s event) ≡ false
         → slice_get (after P.rules s event).cursors w ≡ Some c }
 {}
 
@@ -47,9 +47,9 @@ pub fn few_steps_give<P: Placed>()
 
 /// A place stays a place, and its cell keeps its size.
 pub fn places_stay<P: Placed>()
-    ensures places { (s : State P) (events : List (Event P.Item)) (p : ℕ) → AllLawful P.rules (history P.rules s events)
+    ensures places { (s : State P) (events : List (Event P.Item)) (p : ℕ) → AllPlain (history P.rules s events) → AllLawful P.rules (history P.rules s events)
         → IsPlace (P.rules.seen s.store) p → IsPlace (last_store P.rules s events) p }
-    ensures sizes { (s : State P) (events : List (Event P.Item)) (p size : ℕ) → AllLawful P.rules (history P.rules s events)
+    ensures sizes { (s : State P) (events : List (Event P.Item)) (p size : ℕ) → AllPlain (history P.rules s events) → AllLawful P.rules (history P.rules s events)
         → size_at (P.rules.seen s.store) p ≡ Some size → size_at (last_store P.rules s events) p ≡ Some size }
 {}
 

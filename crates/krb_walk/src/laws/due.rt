@@ -1,34 +1,27 @@
 //! What a walk is given is what is due to it.
 
-ghost use Rattle.std.specs.Prelude.{◌≡◌, ℕ, ◌≤◌, List, filter, length, slice_get, Option};
+ghost use Rattle.std.specs.Prelude.{◌≡◌, ℕ, List, slice_get, Option};
 ghost use Rattle.krb_walk.specs.declared.event.Event.{Event};
 ghost use Rattle.krb_walk.specs.Store.{Store};
 ghost use Rattle.krb_walk.specs.Events.{State};
 ghost use Rattle.krb_walk.specs.History.{IsRun, history, last_store, given};
-ghost use Rattle.krb_walk.specs.Track.{Track, track_of, passes, IsWalk};
+ghost use Rattle.krb_walk.specs.Track.{Track, PlacesStay, track_of, IsWalk};
 ghost use Rattle.krb_walk.specs.Due.{given_over, due_over, due_by_steps};
 ghost use Rattle.krb_walk.specs.Fair.{IsFair};
 
 use crate::placed::Placed;
 
-/// What a walk is given is due to it: for each place of the last store, in order, the record that stood
-/// there just before the event at which the walk passed it.
+/// What a walk is given is due to it, step by step: each step gives the live cells that its cursor goes past.
 pub fn given_is_due<P: Placed>()
-    ensures { (s : State P) (events : List (Event P.Item)) (w : ℕ) → IsRun P.rules s events
-        → given w (history P.rules s events) ≡ due_over (track_of P.rules s events w) (last_store P.rules s events) }
-{}
-
-/// The same, step by step: each step gives the live cells that its cursor goes past. This speaks of no
-/// last store, so it is the form that holds where places change between steps.
-pub fn given_is_due_by_steps<P: Placed>()
     ensures { (s : State P) (events : List (Event P.Item)) (w : ℕ) → IsRun P.rules s events
         → given w (history P.rules s events) ≡ due_by_steps (track_of P.rules s events w) }
 {}
 
-/// A walk passes a place at most once.
-pub fn a_turn_is_unique<P: Placed>()
-    ensures { (s : State P) (events : List (Event P.Item)) (w p : ℕ) → IsRun P.rules s events
-        → length (filter (passes p) (track_of P.rules s events w)) ≤ 1 }
+/// Where no event rewrites the store: for each place of the last store, in order, the record that stood there
+/// just before the event at which the walk passed it.
+pub fn given_is_due_at_places<P: Placed>()
+    ensures { (s : State P) (events : List (Event P.Item)) (w : ℕ) → IsRun P.rules s events → PlacesStay (track_of P.rules s events w)
+        → given w (history P.rules s events) ≡ due_over (track_of P.rules s events w) (last_store P.rules s events) }
 {}
 
 /// The rows along a walk's track are those that the replies give.

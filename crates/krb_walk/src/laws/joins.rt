@@ -6,7 +6,7 @@ ghost use Rattle.krb_walk.specs.Store.{Store};
 ghost use Rattle.krb_walk.specs.Events.{State};
 ghost use Rattle.krb_walk.specs.History.{history, last_store, given, given_from};
 ghost use Rattle.krb_walk.specs.Track.{Track, IsWalk};
-ghost use Rattle.krb_walk.specs.Due.{due_over};
+ghost use Rattle.krb_walk.specs.Due.{due_by_steps};
 ghost use Rattle.krb_walk.specs.Fair.{IsFair};
 ghost use Rattle.krb_walk.specs.Joins.{Next, Join, joined, track_then};
 
@@ -26,7 +26,7 @@ pub fn joined_runs_give_what_is_due<P: Placed, Q: Placed>()
     ensures { (s : State P) (events : List (Event P.Item)) (w : ℕ) (z : State Q) (next : List (Event Q.Item)) (v c : ℕ)
         → Join P.rules s events w Q.rules z next v c
         → given w (history P.rules s events) ++ given_from (suc (length (history P.rules s events))) v (history Q.rules z next)
-        ≡ due_over (joined P.rules s events w Q.rules z next v c) (last_store Q.rules z next) }
+        ≡ due_by_steps (joined P.rules s events w Q.rules z next v c) }
 {}
 
 /// All that holds of one walk holds of it over both.

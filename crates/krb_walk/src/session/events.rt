@@ -1,8 +1,11 @@
 //! The events of a session, one at a time and in a run.
 
-ghost use Rattle.std.specs.Prelude.{◌≡◌, ◌<◌, ◌++◌, ◌∷◌, [], false, length, map, IfOk, OnOk, OnErr, IsOk};
-ghost use Rattle.krb_walk.specs.declared.event.Event.TheVariants.{Start, Resume, Step, Put, Cut};
+ghost use Rattle.std.specs.Prelude.{◌≡◌, ◌<◌, ◌≤◌, ◌++◌, ◌∷◌, [], false, length, map, take, drop, IfOk, OnOk, OnErr, IsOk};
+ghost use Rattle.krb_walk.specs.declared.event.Event.TheVariants.{Start, Resume, Step, Put, Cut, Rewrite};
 ghost use Rattle.krb_walk.specs.Store.{IsPlace, next_live, stop_at};
+ghost use Rattle.std.specs.List.{AllByRecursion};
+ghost use Rattle.krb_walk.specs.Ranks.{carry, Rewrites};
+ghost use Rattle.krb_walk.specs.Rules.{RewriteGives};
 ghost use Rattle.krb_walk.specs.Said.{said, Started, is_gave};
 ghost use Rattle.krb_walk.specs.Events.{reply_to, after, stop_said};
 ghost use Rattle.krb_walk.specs.History.{IsLawful, IsReady, moment};
@@ -70,6 +73,7 @@ impl<P: Placed, A: Allocator + Copy> Session<P, A> {
             Event::Step(walk) => self.give(*walk),
             Event::Put(item) => self.put(item),
             Event::Cut(place) => Ok(self.cut(*place)),
+            Event::Rewrite => self.rewrite(),
         }
     }
 
@@ -150,6 +154,33 @@ impl<P: Placed, A: Allocator + Copy> Session<P, A> {
             Err(code) => Reply::Refused(code),
         }
     }
+
+    /// All cursors are handed to the store, which carries them.
+    fn rewrite(&mut self) -> Result<Reply<A>, NoMemory>
+        ensures reply { IfOk result (λ r. said r ≡ reply_to P.rules self.old Rewrite) }
+        ensures state { OnOk result (self.new ≡ after P.rules self.old Rewrite) }
+        ensures lawful { OnOk result (IsLawful P.rules (moment P.rules self.old Rewrite)) }
+        ensures err { OnErr result (self.new ≡ self.old) }
+    {
+        match rewrite_front(&mut self.store, &mut self.cursors, self.count as usize) {
+            Ok(()) => Ok(Reply::Rewritten(self.store.end())),
+            Err(Refusal::Code(code)) => Ok(Reply::Refused(code)),
+            Err(Refusal::NoMemory) => Err(NoMemory),
+        }
+    }
+}
+
+/// Rewrites a store, and carries the cursors in the front of a table.
+fn rewrite_front<P: Placed>(store: &mut P, table: &mut [u32], count: usize) -> Result<(), Refusal>
+    requires few { count ≤ length table.old }
+    requires places { AllByRecursion (IsPlace (P.rules.seen store.old)) (take count table.old) }
+    ensures gives { RewriteGives (P.rules.rewrite store.old) store.old result store.new }
+    ensures rewrites { OnOk result (Rewrites (P.rules.seen store.old) (P.rules.seen store.new)) }
+    ensures carries { OnOk result (table.new ≡ map (carry (P.rules.seen store.old) (P.rules.seen store.new)) (take count table.old) ++ drop count table.old) }
+    ensures keeps { OnErr result (table.new ≡ table.old) }
+{
+    let (cursors, _) = table.split_at_mut(count);
+    store.rewrite(cursors)
 }
 
 fn copy_bytes<A: Allocator>(alloc: A, bytes: &[u8]) -> Result<Vec<u8, A>, NoMemory>

@@ -84,6 +84,7 @@ fn events_without_memory_are_answered_as_ever(rt: HostRuntime) -> Result<(), Fai
         (Event::Cut(9), Told::Refused(Code::NotLive)),
         (Event::Cut(8), Told::Gone(8)),
         (Event::Put(C), Told::Placed(8)),
+        (Event::Rewrite, Told::Rewritten(16)),
     ] {
         let reply = reply_without_memory(&mut session, event)?;
         assert!(rt; tells(&reply, told));

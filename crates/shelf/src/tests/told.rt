@@ -12,6 +12,7 @@ pub enum Told {
     Faulted(u32, Fault),
     Placed(u32),
     Gone(u32),
+    Rewritten(u32),
     Refused(Code),
 }
 
@@ -32,6 +33,7 @@ pub fn tells<M: Allocator>(reply: &Reply<M>, told: Told) -> bool {
         (Reply::Faulted { walk, fault }, Told::Faulted(w, f)) => *walk == w && *fault == f,
         (Reply::Placed(place), Told::Placed(p)) => *place == p,
         (Reply::Gone(place), Told::Gone(p)) => *place == p,
+        (Reply::Rewritten(end), Told::Rewritten(e)) => *end == e,
         (Reply::Refused(code), Told::Refused(c)) => *code == c,
         _ => false,
     }

@@ -1,0 +1,167 @@
+-- Each cell of the old image is given the place that it goes to.
+use Rattle.std.proofs.Common.{◌≡◌, ℕ, ◌+◌, ◌-◌, ◌<◌, ◌≤◌, true, false, eqb, List, [], ◌∷◌, ◌++◌, length, take, drop, inl, inr, refl, sym, ap, subst, ◌∙◌, arith}
+use Rattle.std.specs.Prelude.{nat_le}
+use Rattle.std.specs.Int.{w32}
+use Rattle.std.specs.List.{splice}
+use Rattle.std.proofs.lemmas.Bool.{ne_eqb, cases_lt}
+use Rattle.std.proofs.lemmas.Bool.Decides.{eqb_tells, nat_tests}
+use Rattle.std.proofs.lemmas.List.{take_at, drop_at, take-append-le, drop-append-le, drop-take, take-take, length-take, length-drop, drop-drop}
+use Rattle.krb_wire.specs.declared.format.Order.TheVariants.{Big}
+use Rattle.krb_wire.specs.declared.format.KtFormat.{KtFormat}
+use Rattle.krb_wire.specs.declared.format.KtFormat.TheVariants.{V2}
+use Rattle.krb_wire.specs.Spelling.{digits}
+use Rattle.krb_wire.proofs.Fields.{wide32}
+use Rattle.krb_keytab.specs.declared.image.CellsEnd.{CellsEnd}
+use Rattle.krb_keytab.specs.declared.step.Step.{Step}
+use Rattle.krb_keytab.specs.declared.step.Step.TheVariants as step
+use Rattle.krb_keytab.specs.Cells.{Cell, contents}
+use Rattle.krb_keytab.specs.Seen.{from_step}
+use Rattle.krb_keytab.specs.Questions.{size, is_place, end_place}
+use Rattle.krb_keytab.specs.Known.{EndsKnown}
+use Rattle.krb_keytab.specs.Rewritten.{place_after, cells_after, carried, AreGiven}
+use Rattle.krb_keytab.proofs.Cuts.{far}
+use Rattle.krb_keytab.proofs.Splices.{splice-behind}
+
+-- ---- places of cells
+
+pub place_ge : (at : ℕ) (cs : List Cell) (p : ℕ) → is_place at cs p ≡ true → at ≤ p
+place_ge at [] p h = elim (eqb_tells p at) [
+  | inl y ↦ omega (arith, y.1)
+  | inr n ↦ let no = n.0 in absurd (cc (no, h))
+]
+place_ge at (c ∷ cs) p h = elim (eqb_tells p at) [
+  | inl y ↦ omega (arith, y.1)
+  | inr n ↦ let no = n.0 in let ge = place_ge (at + 4 + size c) cs p (rw no at h) in omega (arith, ge)
+]
+
+place_past : (at : ℕ) (c : Cell) (cs : List Cell) (p : ℕ) → at < p → is_place at (c ∷ cs) p ≡ is_place (at + 4 + size c) cs p
+place_past at c cs p lt = let no : eqb p at ≡ false = ne_eqb p at (λ e. omega (arith, lt, e)) in rw no refl
+
+carried_past : (at : ℕ) (c : Cell) (cs : List Cell) (to : ℕ) (ds : List Cell) (p : ℕ) → at < p → carried at (c ∷ cs) to ds p ≡ carried (at + 4 + size c) cs (place_after c to ds) (cells_after c ds) p
+carried_past at c cs to ds p lt = let no : nat_le p at ≡ false = grind (arith, nat_tests) in rw no refl
+
+carried_here : (at : ℕ) (cs : List Cell) (to : ℕ) (ds : List Cell) → carried at cs to ds at ≡ to
+carried_here at [] to ds = refl
+carried_here at (c ∷ cs) to ds = let yes : nat_le at at ≡ true = grind (arith, nat_tests) in rw yes refl
+
+-- ---- bytes
+
+pub drop_more : (xs ys : List ℕ) (at n : ℕ) → drop at xs ≡ drop at ys → at ≤ n → drop n xs ≡ drop n ys
+drop_more xs ys at n same le =
+    let is : (n - at) + at ≡ n = omega arith in
+    let is2 : at + (n - at) ≡ n = omega arith in
+    ap (λ (m : ℕ). drop m xs) (sym is2) ∙ sym (drop-drop (n - at) at xs) ∙ ap (drop (n - at)) same ∙ drop-drop (n - at) at ys ∙ ap (λ (m : ℕ). drop m ys) is2
+
+-- four bytes were put at a place
+put_here : (xs : List ℕ) (at n : ℕ) → at + 4 ≤ length xs → take 4 (drop at (splice xs at (at + 4) (digits Big w32 n))) ≡ digits Big w32 n
+put_here xs at n le =
+    let d = digits Big w32 n in
+    ap (take 4) (drop_at (take at xs) (d ++ drop (at + 4) xs) at (omega (arith, length-take at xs))) ∙ take_at d (drop (at + 4) xs) 4 ((wide32 Big).len n)
+
+-- and those before it stay
+put_before : (xs d : List ℕ) (at p : ℕ) → at ≤ length xs → p + 4 ≤ at → take 4 (drop p (splice xs at (at + 4) d)) ≡ take 4 (drop p xs)
+put_before xs d at p le lt =
+    let len : length (take at xs) ≡ at = omega (arith, length-take at xs) in
+    let is : p + (at - p) ≡ at = omega arith in
+    let cut : drop p (take at xs) ≡ take (at - p) (drop p xs) = ap (λ (m : ℕ). drop p (take m xs)) (sym is) ∙ drop-take p (at - p) xs in
+    ap (take 4) (drop-append-le p (take at xs) (d ++ drop (at + 4) xs) (omega (arith, len)))
+    ∙ take-append-le 4 (drop p (take at xs)) (d ++ drop (at + 4) xs) (omega (arith, len, length-drop p (take at xs)))
+    ∙ ap (take 4) cut ∙ take-take 4 (at - p) (drop p xs) (omega arith)
+
+-- ---- what is read from a place on
+
+from_tail : (f : KtFormat) (now old : List ℕ) (at : ℕ) (s : Step) → drop at now ≡ drop at old → from_step f now at s ≡ from_step f old at s
+from_tail f now old at (step.Live n) same = rw (drop_more now old at (at + 4) same (omega arith), drop_more now old at (at + 4 + n) same (omega arith)) refl
+from_tail f now old at (step.Free n) same = rw (drop_more now old at (at + 4) same (omega arith), drop_more now old at (at + 4 + n) same (omega arith)) refl
+from_tail f now old at (step.End e) same = rw same refl
+
+pub value_before : (f : KtFormat) (now old : List ℕ) (at : ℕ) (s : Step) → drop at now ≡ drop at old → contents f (drop at now) ≡ from_step f now at s → contents f (drop at old) ≡ from_step f old at s
+value_before f now old at s same value = ap (contents f) (sym same) ∙ value ∙ from_tail f now old at s same
+
+-- what is known of the end, where the bytes from the place on are the same
+pub known_tail : (f : KtFormat) (now old : List ℕ) (at : ℕ) (e : CellsEnd) → drop at now ≡ drop at old → length now ≡ length old → EndsKnown f old at e → EndsKnown f now at e
+known_tail f now old at e same len known =
+    let le : at ≤ e.place = omega (arith, far (contents f (drop at old)).cells at, known.place) in
+    let tails = drop_more now old at e.place same le in
+    record {
+      place = ap (λ (b : List ℕ). end_place at (contents f b).cells) same ∙ known.place;
+      within = omega (arith, known.within, len);
+      same = ap (λ (b : List ℕ). (contents f b).end) same ∙ known.same ∙ sym (ap (λ (b : List ℕ). (contents f b).end) tails);
+      ending = ap (contents f) tails ∙ known.ending ∙ sym (from_tail f now old e.place (step.End e.ending) tails);
+    }
+
+-- ---- the cells before a place were given theirs
+
+pub record IsGivenTo (f : KtFormat) (old now new : List ℕ) (at to : ℕ) : Type 0 where
+  pub len : length now ≡ length old
+  pub tails : drop at now ≡ drop at old
+  pub left : (p : ℕ) → at ≤ p → is_place 2 (contents f (drop 2 old)).cells p ≡ is_place at (contents f (drop at old)).cells p
+  pub same : (p : ℕ) → at ≤ p → carried 2 (contents f (drop 2 old)).cells 2 (contents V2 (drop 2 new)).cells p ≡ carried at (contents f (drop at old)).cells to (contents V2 (drop to new)).cells p
+  pub before : (p : ℕ) → is_place 2 (contents f (drop 2 old)).cells p ≡ true → p < at → p + 4 ≤ at
+  pub told : (p : ℕ) → is_place 2 (contents f (drop 2 old)).cells p ≡ true → p < at → take 4 (drop p now) ≡ digits Big w32 (carried 2 (contents f (drop 2 old)).cells 2 (contents V2 (drop 2 new)).cells p)
+
+pub given_first : (f : KtFormat) (old new : List ℕ) → IsGivenTo f old old new 2 2
+given_first f old new = record {
+  len = refl;
+  tails = refl;
+  left = λ p le. refl;
+  same = λ p le. refl;
+  before = λ p h lt. let ge = place_ge 2 (contents f (drop 2 old)).cells p h in absurd (omega (arith, ge, lt));
+  told = λ p h lt. let ge = place_ge 2 (contents f (drop 2 old)).cells p h in absurd (omega (arith, ge, lt));
+}
+
+-- no place stands within a cell
+not_within : (at : ℕ) (c : Cell) (cs : List Cell) (p : ℕ) → is_place at (c ∷ cs) p ≡ true → p < at + 4 + size c → p ≡ at
+not_within at c cs p h lt = elim (eqb_tells p at) [
+  | inl y ↦ y.1
+  | inr n ↦ let no = n.0 in let ge = place_ge (at + 4 + size c) cs p (rw no at h) in absurd (omega (arith, ge, lt))
+]
+
+-- one cell more
+pub given_next : (f : KtFormat) (old now now' new : List ℕ) (at to to' n : ℕ) (c : Cell) (cs : List Cell) → IsGivenTo f old now new at to → at + 4 ≤ length now
+    → (contents f (drop at old)).cells ≡ c ∷ cs → cs ≡ (contents f (drop (at + 4 + n) old)).cells → size c ≡ n
+    → to' ≡ place_after c to (contents V2 (drop to new)).cells → (contents V2 (drop to' new)).cells ≡ cells_after c (contents V2 (drop to new)).cells
+    → now' ≡ splice now at (at + 4) (digits Big w32 to) → length now' ≡ length now → IsGivenTo f old now' new (at + 4 + n) to'
+given_next f old now now' new at to to' n c cs g room cells others is_n is_to is_ds wrote len =
+    let CS = (contents f (drop 2 old)).cells in
+    let DS = (contents V2 (drop 2 new)).cells in
+    let ds = (contents V2 (drop to new)).cells in
+    let d = digits Big w32 to in
+    let next = at + 4 + n in
+    let here : (p : ℕ) → at ≤ p → is_place 2 CS p ≡ is_place at (c ∷ cs) p = λ p le. g.left p le ∙ ap (λ (x : List Cell). is_place at x p) cells in
+    let behind : drop next now' ≡ drop next now = ap (drop next) wrote ∙ splice-behind now d at (at + 4) next (omega arith) (omega (arith, (wide32 Big).len to)) (omega arith) in
+    let not_in : (p : ℕ) → is_place 2 CS p ≡ true → at ≤ p → p < next → p ≡ at = λ p h le lt. not_within at c cs p (sym (here p le) ∙ h) (omega (arith, is_n, lt)) in
+    let goes : carried 2 CS 2 DS at ≡ to = g.same at (omega arith) ∙ carried_here at (contents f (drop at old)).cells to ds in
+    let old_told : (p : ℕ) → is_place 2 CS p ≡ true → p < at → take 4 (drop p now') ≡ digits Big w32 (carried 2 CS 2 DS p) =
+    λ p h lt. ap (λ (b : List ℕ). take 4 (drop p b)) wrote ∙ put_before now d at p (omega arith) (g.before p h lt) ∙ g.told p h lt in
+    let new_told : take 4 (drop at now') ≡ digits Big w32 (carried 2 CS 2 DS at) =
+    ap (λ (b : List ℕ). take 4 (drop at b)) wrote ∙ put_here now at to room ∙ ap (digits Big w32) (sym goes) in
+    record {
+      len = len ∙ g.len;
+      tails = behind ∙ drop_more now old at next g.tails (omega arith);
+      left = λ p le. here p (omega (arith, le)) ∙ place_past at c cs p (omega (arith, le)) ∙ ap (λ (m : ℕ). is_place (at + 4 + m) cs p) is_n ∙ ap (λ (x : List Cell). is_place next x p) others;
+      same = λ p le. g.same p (omega (arith, le)) ∙ ap (λ (x : List Cell). carried at x to ds p) cells ∙ carried_past at c cs to ds p (omega (arith, le))
+          ∙ ap (λ (m : ℕ). carried (at + 4 + m) cs (place_after c to ds) (cells_after c ds) p) is_n
+          ∙ ap (λ (x : List Cell). carried next x (place_after c to ds) (cells_after c ds) p) others
+          ∙ ap (λ (m : ℕ). carried next (contents f (drop next old)).cells m (cells_after c ds) p) (sym is_to)
+          ∙ ap (λ (x : List Cell). carried next (contents f (drop next old)).cells to' x p) (sym is_ds);
+      before = λ p h lt. elim (cases_lt p at) [
+        | inl less ↦ omega (arith, g.before p h less)
+        | inr ge ↦ omega (arith, not_in p h ge lt)
+      ];
+      told = λ p h lt. elim (cases_lt p at) [
+        | inl less ↦ old_told p h less
+        | inr ge ↦ subst (λ (q : ℕ). take 4 (drop q now') ≡ digits Big w32 (carried 2 CS 2 DS q)) (sym (not_in p h ge lt)) new_told
+      ];
+    }
+
+-- all of them were
+pub given_all : (f : KtFormat) (old now new : List ℕ) (at to end : ℕ) → IsGivenTo f old now new at to → at ≡ end → at ≤ length now → AreGiven now end (contents f (drop 2 old)).cells (contents V2 (drop 2 new)).cells
+given_all f old now new at to end g is le = λ p h lt. record {
+  within = omega (arith, g.before p h (omega (arith, lt, is)), le);
+  bytes = g.told p h (omega (arith, lt, is));
+}
+
+pub given_end : (f : KtFormat) (old now new : List ℕ) (at to end : ℕ) → IsGivenTo f old now new at to → at ≡ end → (contents f (drop at old)).cells ≡ [] → to ≡ carried 2 (contents f (drop 2 old)).cells 2 (contents V2 (drop 2 new)).cells end
+given_end f old now new at to end g is none =
+    sym (g.same end (omega (arith, is)) ∙ ap (λ (x : List Cell). carried at x to (contents V2 (drop to new)).cells end) none)

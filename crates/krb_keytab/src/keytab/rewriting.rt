@@ -1,0 +1,52 @@
+//! Writing a keytab anew.
+
+ghost use Rattle.std.specs.Prelude.{◌≡◌, map, OnOk, OnErr};
+ghost use Rattle.std.specs.List.{AllByRecursion};
+ghost use Rattle.krb_walk.specs.Store.{IsPlace};
+ghost use Rattle.krb_walk.specs.Ranks.{carry, Rewrites};
+ghost use Rattle.krb_keytab.specs.Store.{store_of, entries};
+ghost use Rattle.krb_keytab.specs.Rewritten.{AnswersRewrite};
+
+use super::Keytab;
+use crate::anew::{anew_is_sound, image_anew, len_anew};
+use crate::carry::carry_cursors;
+use crate::image::CellsEnd;
+use crate::step::Ending;
+use krb_walk::{Code, Refusal};
+use krb_wire::KtFormat;
+use std::alloc::Allocator;
+
+impl<A: Allocator + Copy> Keytab<A> {
+    /// Writes the records anew, in version 2: each entry in order in its written form, with its name type,
+    /// which is 0 from version 1, without holes, and with nothing behind them. Each cursor is carried to
+    /// the new place of the first record at or after it, or to the new end. A damaged keytab refuses, and
+    /// then so does a limit that the new image would pass. Memory is taken once, for the new image.
+    pub fn rewrite(&mut self, cursors: &mut [u32]) -> Result<(), Refusal>
+        requires { AllByRecursion (IsPlace (store_of self.old)) cursors.old }
+        ensures answers { AnswersRewrite self.old result self.new }
+        ensures rewrites { OnOk result (Rewrites (store_of self.old) (store_of self.new)) }
+        ensures entries { OnOk result (entries self.new ≡ entries self.old) }
+        ensures carries { OnOk result (cursors.new ≡ map (carry (store_of self.old) (store_of self.new)) cursors.old) }
+        ensures keeps { OnErr result (cursors.new ≡ cursors.old) }
+    {
+        if self.fault().is_some() {
+            return Err(Refusal::Code(Code::Damaged));
+        }
+        let Some(len) = len_anew(self, self.limit as usize) else {
+            return Err(Refusal::Code(Code::Full));
+        };
+        anew_is_sound(self);
+        let Ok(image) = image_anew(self, *self.image.allocator(), len) else {
+            return Err(Refusal::NoMemory);
+        };
+        let end = CellsEnd {
+            place: len,
+            ending: Ending::Bare,
+        };
+        carry_cursors(self.format, &mut self.image, self.end, &image, end, cursors);
+        self.image = image;
+        self.format = KtFormat::V2;
+        self.end = end;
+        Ok(())
+    }
+}

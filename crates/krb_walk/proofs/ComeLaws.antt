@@ -1,0 +1,275 @@
+-- The laws of records, over rewrites too.
+use Rattle.std.proofs.Common.{◌≡◌, ℕ, suc, ◌+◌, ◌<◌, ◌≤◌, Bool, true, false, cond, List, [], ◌∷◌, ◌++◌, length, take, drop, Option, Some, None, inl, inr, refl, sym, ap, ◌∙◌, subst, arith, append_assoc}
+use Rattle.std.specs.Prelude.{◌&&◌, ◌||◌, ◌==◌, ◌⊎◌, nat_le, nat_lt, IsSome}
+use Rattle.std.specs.List.{AllByRecursion, list_any}
+use Rattle.std.proofs.lemmas.Bool.Decides.{nat_tests}
+use Rattle.std.proofs.lemmas.List.{length-append}
+use Rattle.std.proofs.lemmas.Grind.{flat_map-append}
+use Rattle.krb_walk.specs.Store.{Store, end_of, IsSound}
+use Rattle.krb_walk.specs.Ranks.{live_places}
+use Rattle.krb_walk.specs.Changes.{Puts, Cuts, Changes}
+use Rattle.krb_walk.specs.Said.{Said, Placed, Gone, completes, tells_step, is_rewritten}
+use Rattle.krb_walk.specs.History.{Row, rows_of_reply}
+use Rattle.krb_walk.specs.Track.{RecordName, WalkEvent, Track, first_names, names_after, last_names, last_cursor, IsWalkEvent, IsTrack, IsWalk}
+use Rattle.krb_walk.specs.Due.{rows_at_event}
+use Rattle.krb_walk.specs.Records.{rows_at, OneRow, begins, is_name, place_among, place_of, place_at_first, rows_at_some, rows_here, rows_of, passes_record, turn_of, HasTurn, IsAliveUntilDone, IsCutBefore, IsAddedAt, EachComesAsDue}
+use Rattle.krb_walk.proofs.Lives.{lives_lt, puts_insert, cuts_insert}
+use Rattle.krb_walk.proofs.Names.{any_lt, apart}
+use Rattle.krb_walk.proofs.WalkEvents.{end_of_step, effect_of, ends_of, completes_stepped, carried_same, carried_own}
+use Rattle.krb_walk.proofs.Carries.{le_or}
+use Rattle.krb_walk.proofs.Ranked.{Keeps, first_keeps, unborn, among_none, among_remove, Still, still_after}
+use Rattle.krb_walk.proofs.Comes.{among_any, among_born, keeps_here, keeps_next, place_here, passes_none, passes_by, passes_alive, turn_later, turn_first, Comes, behind_none, comes}
+use Rattle.krb_walk.proofs.Unique.{one_turn}
+
+-- ---- the parts of a track
+abbrev pub store_behind : Store → Track → Store
+store_behind s [] = s
+store_behind s (x ∷ xs) = store_behind x.after xs
+
+pub track_rest : (n : ℕ) (s : Store) (names : List RecordName) (c : Option ℕ) (t u : Track) (last : Store) → IsTrack n s names c (t ++ u) last → IsTrack (n + length t) (store_behind s t) (last_names names t) (last_cursor c t) u last
+track_rest n s names c [] u last h = let e : n ≡ n + 0 = omega arith in subst (λ (m : ℕ). IsTrack m s names c u last) e h
+track_rest n s names c (x ∷ xs) u last h =
+    let e : suc n + length xs ≡ n + suc (length xs) = omega arith in
+    subst (λ (m : ℕ). IsTrack m (store_behind x.after xs) (last_names names (x ∷ xs)) (last_cursor x.to xs) u last) e (track_rest (suc n) x.after _ x.to xs u last h.1)
+
+track_front : (n : ℕ) (s : Store) (names : List RecordName) (c : Option ℕ) (t u : Track) (last : Store) → IsTrack n s names c (t ++ u) last → IsTrack n s names c t (store_behind s t)
+track_front n s names c [] u last h = refl
+track_front n s names c (x ∷ xs) u last h = (h.0, track_front (suc n) x.after _ x.to xs u last h.1)
+
+keeps_rest : (n : ℕ) (s : Store) (names : List RecordName) (c : Option ℕ) (t u : Track) (last : Store) → IsTrack n s names c (t ++ u) last → Keeps n s names → Keeps (n + length t) (store_behind s t) (last_names names t)
+keeps_rest n s names c [] u last h k = let e : n ≡ n + 0 = omega arith in subst (λ (m : ℕ). Keeps m s names) e k
+keeps_rest n s names c (x ∷ xs) u last h k =
+    let e : suc n + length xs ≡ n + suc (length xs) = omega arith in
+    subst (λ (m : ℕ). Keeps m (store_behind x.after xs) (last_names names (x ∷ xs))) e (keeps_rest (suc n) x.after _ x.to xs u last h.1 (keeps_next n s names c x h.0 k))
+
+split_at : (t : Track) (x : WalkEvent) (u : Track) → (t ++ x ∷ []) ++ u ≡ t ++ x ∷ u
+split_at t x u = append_assoc t (x ∷ []) u
+
+-- ---- at most one row, and one exactly with a turn
+at_most_one : (r : RecordName) (t : Track) → Comes r t → length (rows_of r t) ≤ 1
+at_most_one r t c = elim c [ inl none ↦ omega (arith, ap length none.1) | inr one ↦ omega (arith, ap length one.1.only) ]
+
+turn_if_row : (r : RecordName) (t : Track) → Comes r t → OneRow (rows_of r t) → HasTurn r t
+turn_if_row r t c one = elim c [ inl none ↦ cc (none.1, one.only) | inr has ↦ has.0 ]
+
+row_if_turn : (r : RecordName) (t : Track) → Comes r t → HasTurn r t → OneRow (rows_of r t)
+row_if_turn r t c turn = elim c [ inl none ↦ cc (none.0, turn.is) | inr has ↦ has.1 ]
+
+none_if : (r : RecordName) (t : Track) → Comes r t → turn_of r t ≡ None → rows_of r t ≡ []
+none_if r t c e = elim c [ inl none ↦ none.1 | inr has ↦ cc (has.0.is, e) ]
+
+empty_by : (rows : List Row) (row : Row) → length (rows ++ row ∷ []) ≤ 1 → rows ≡ []
+empty_by [] row le = refl
+empty_by (x ∷ rows) row le = absurd (omega (arith, length-append rows (row ∷ [])))
+
+one_of_rest : (r : RecordName) (t u : Track) → length (rows_of r (t ++ u)) ≤ 1 → OneRow (rows_of r u) → OneRow (rows_of r (t ++ u))
+one_of_rest r t u le one =
+    let split : rows_of r (t ++ u) ≡ rows_of r t ++ one.row ∷ [] = flat_map-append (rows_here r) t u ∙ ap (λ (rows : List Row). rows_of r t ++ rows) one.only in
+    let none = empty_by (rows_of r t) one.row (omega (arith, ap length split)) in
+    record { row = one.row; only = split ∙ ap (λ (rows : List Row). rows ++ one.row ∷ []) none }
+
+-- ---- alive until the walk is done
+record HasPlace (o : Option ℕ) : Type 0 where
+  at : ℕ
+  is : o ≡ Some at
+
+stands_of : (o : Option ℕ) → IsSome o → HasPlace o
+stands_of (Some p) h = record { at = p; is = refl }
+stands_of None h = cc
+
+stands_next : (r : RecordName) (n : ℕ) (s : Store) (names : List RecordName) (c : Option ℕ) (steps : Track) (done : WalkEvent) (later : Track) (last : Store) → IsTrack n s names c (steps ++ done ∷ later) last
+    → AllByRecursion (λ x. IsSome (place_of r x)) steps → IsSome (place_of r done) → HasPlace (place_among r names (live_places s))
+stands_next r n s names c [] done later last h all some = let at = stands_of (place_of r done) some in record { at = at.at; is = sym (place_here r n s names c done h.0) ∙ at.is }
+stands_next r n s names c (x ∷ steps) done later last h all some = let at = stands_of (place_of r x) all.0 in record { at = at.at; is = sym (place_here r n s names c x h.0) ∙ at.is }
+
+ahead_on : (was is : Option ℕ) (c d p : ℕ) → (is ≡ None) ⊎ Still was is c d → was ≡ Some p → c ≤ p → HasPlace is → (q : ℕ) → is ≡ Some q → d ≤ q
+ahead_on was is c d p h at le stands q e = elim h [
+  | inl none ↦ cc (none, e)
+  | inr still ↦ (
+      let same_p : still.p ≡ p = cc (still.was_at, at) in
+      let same_q : still.q ≡ q = cc (still.is_at, e) in
+      let lt : c ≤ still.p = omega arith in
+      let on = still.side.on lt in
+      omega arith)
+]
+
+has_now : (r : RecordName) (x : WalkEvent) (xs : Track) → passes_record r x ≡ true → HasTurn r (x ∷ xs)
+has_now r x xs e = record { at = x; is = turn_first r x xs e; alive = passes_alive r x e }
+
+has_later : (r : RecordName) (x : WalkEvent) (xs : Track) → passes_record r x ≡ false → HasTurn r xs → HasTurn r (x ∷ xs)
+has_later r x xs e has = record { at = has.at; is = turn_later r x xs e ∙ has.is; alive = has.alive }
+
+step_has : (r : RecordName) (n : ℕ) (s : Store) (names : List RecordName) (c : Option ℕ) (x : WalkEvent) (t : Track) (start p : ℕ) (b : Bool) → passes_record r x ≡ b → IsWalkEvent n s names c x → Keeps n s names → c ≡ Some start → place_of r x ≡ Some p → start ≤ p
+    → HasPlace (place_among r (names_after x.number x.reply x.before x.after x.names) (live_places x.after))
+    → ((next q : ℕ) → x.to ≡ Some next → place_among r (names_after x.number x.reply x.before x.after x.names) (live_places x.after) ≡ Some q → next ≤ q → HasTurn r t) → HasTurn r (x ∷ t)
+step_has r n s names c x t start p true e h k at is le stands ih = has_now r x t e
+step_has r n s names c x t start p false e h k at is le stands ih =
+    let kx = keeps_here n s names c x h k in
+    let born = among_born x.number r x.names (live_places x.before) p kx.born is in
+    has_later r x t e (elim (effect_of x h.effect) [
+      | inl holds ↦ (
+          let on = ahead_on _ _ start _ p (still_after x.number x.reply x.before x.after x.names r start h.sound h.changes kx born) is le stands stands.at stands.is in
+          ih _ stands.at (holds.stays start (h.from ∙ at)) stands.is on)
+      | inr goes ↦ (
+          let same : start ≡ goes.at = cc (at, goes.stood, h.from) in
+          let to = end_of_step x goes.at in
+          let missed : (nat_le goes.at p && nat_lt p to) ≡ false = sym (passes_by r x p goes.at _ goes.stepped is goes.stood goes.stands) ∙ e in
+          let near : to ≤ p = grind (arith, nat_tests) in
+          let on = ahead_on _ _ to _ p (still_after x.number x.reply x.before x.after x.names r to h.sound h.changes kx born) is near stands stands.at stands.is in
+          ih to stands.at goes.stands stands.is (omega (arith, on, carried_own x.walk x.reply x.before x.after to goes.own)))
+    ])
+
+done_has : (r : RecordName) (n : ℕ) (s : Store) (names : List RecordName) (c : Option ℕ) (steps : Track) (done : WalkEvent) (later : Track) (last : Store) (start p : ℕ) → IsTrack n s names c (steps ++ done ∷ later) last → Keeps n s names → c ≡ Some start
+    → place_among r names (live_places s) ≡ Some p → start ≤ p → AllByRecursion (λ x. IsSome (place_of r x)) steps → IsSome (place_of r done) → completes done.walk done.reply ≡ true → HasTurn r (steps ++ done ∷ later)
+done_has r n s names c [] done later last start p h k at is le all some completed =
+    let here = place_here r n s names c done h.0 ∙ is in
+    let inside = any_lt (end_of done.before) p (live_places done.before) (lives_lt done.before.first done.before.cells h.0.sound) (among_any r done.names (live_places done.before) p here) in
+    let passed : (nat_le start p && nat_lt p (end_of done.before)) ≡ true = grind (arith, nat_tests) in
+    has_now r done later (passes_by r done p start _ (completes_stepped done h.0.effect completed) here (h.0.from ∙ at) (ends_of done h.0.effect completed) ∙ passed)
+done_has r n s names c (x ∷ steps) done later last start p h k at is le all some completed =
+    let stands = stands_next r (suc n) x.after _ x.to steps done later last h.1 all.1 some in
+    step_has r n s names c x (steps ++ done ∷ later) start p (passes_record r x) refl h.0 k at (place_here r n s names c x h.0 ∙ is) le stands
+    (λ next q to there near. done_has r (suc n) x.after _ x.to steps done later last next q h.1 (keeps_next n s names c x h.0 k) to there near all.1 some completed)
+
+begins_is : (n : ℕ) (s : Store) (names : List RecordName) (c : Option ℕ) (u : Track) (last : Store) (d : ℕ) → IsTrack n s names c u last → begins u ≡ Some d → c ≡ Some d
+begins_is n s names c [] last d h is = cc
+begins_is n s names c (y ∷ ys) last d h is = sym h.0.from ∙ is
+
+first_is : (r : RecordName) (n : ℕ) (s : Store) (names : List RecordName) (c : Option ℕ) (u : Track) (last : Store) (p : ℕ) → IsTrack n s names c u last → place_at_first r u ≡ Some p → place_among r names (live_places s) ≡ Some p
+first_is r n s names c [] last p h is = cc
+first_is r n s names c (y ∷ ys) last p h is = sym (place_here r n s names c y h.0) ∙ is
+
+throughout_once : (r : RecordName) (n : ℕ) (s : Store) (names : List RecordName) (c : Option ℕ) (t : Track) (last : Store) → IsTrack n s names c t last → Keeps n s names → IsAliveUntilDone r t → OneRow (rows_of r t)
+throughout_once r n s names c t last h k a =
+    let on = a.steps ++ a.done ∷ a.later in
+    let whole : IsTrack n s names c (a.earlier ++ on) last = subst (λ (z : Track). IsTrack n s names c z last) a.track_is h in
+    let rest = track_rest n s names c a.earlier on last whole in
+    let kept = keeps_rest n s names c a.earlier on last whole k in
+    let at = begins_is _ _ _ _ on last a.start rest a.began in
+    let stood = first_is r _ _ _ _ on last a.place rest a.stood in
+    let has = done_has r _ _ _ _ a.steps a.done a.later last a.start a.place rest kept at stood a.ahead a.alive a.alive_last a.completed in
+    let one = row_if_turn r on (comes r _ _ _ _ on last rest kept) has in
+    subst (λ (z : Track). OneRow (rows_of r z)) (sym a.track_is) (one_of_rest r a.earlier on (at_most_one r (a.earlier ++ on) (comes r n s names c (a.earlier ++ on) last whole k)) one)
+
+-- ---- cut before a step passed it
+dead_none : (r : RecordName) (n : ℕ) (s : Store) (names : List RecordName) (c : Option ℕ) (t : Track) (last : Store) → IsTrack n s names c t last → Keeps n s names → r.birth < n → place_among r names (live_places s) ≡ None → turn_of r t ≡ None
+dead_none r n s names c [] last h k lt dead = refl
+dead_none r n s names c (x ∷ xs) last h k lt dead =
+    let here = place_here r n s names c x h.0 ∙ dead in
+    let kx = keeps_here n s names c x h.0 k in
+    let still : place_among r (names_after x.number x.reply x.before x.after x.names) (live_places x.after) ≡ None =
+    elim (still_after x.number x.reply x.before x.after x.names r 0 h.0.sound h.0.changes kx (omega (arith, h.0.number))) [ inl none ↦ none | inr stood ↦ cc (stood.was_at, here) ] in
+    turn_later r x xs (passes_none r x here) ∙ dead_none r (suc n) x.after _ x.to xs last h.1 (keeps_next n s names c x h.0 k) (omega arith) still
+
+gone_by : (r : RecordName) (p : ℕ) (o : Option ℕ) (names : List RecordName) (ps : List ℕ) → (list_any (λ q. q == p) ps ≡ true → ⊥) → place_among r names ps ≡ o → (o ≡ None) ⊎ (o ≡ Some p) → o ≡ None
+gone_by r p o names ps never is h = elim h [ inl none ↦ none | inr some ↦ absurd (never (among_any r names ps p (is ∙ some))) ]
+
+cut_none : (r : RecordName) (n p : ℕ) (old new : Store) (names : List RecordName) → IsSound old → Cuts old new p → Keeps n old names → place_among r names (live_places old) ≡ Some p → place_among r (names_after n (Gone p) old new names) (live_places new) ≡ None
+cut_none r n p old new names sound cuts k is =
+    let i = cuts_insert old new p sound cuts in
+    let after = names_after n (Gone p) old new names in
+    let now = ap (λ (j : ℕ). place_among r (take j names ++ drop (suc j) names) (live_places new)) i.rank_is ∙ ap (place_among r (take (length i.front) names ++ drop (suc (length i.front)) names)) i.lo_is in
+    let never : list_any (λ q. q == p) (live_places new) ≡ true → ⊥ = λ e. apart p i.front i.back i.less i.more (subst (λ (ps : List ℕ). list_any (λ q. q == p) ps ≡ true) i.lo_is e) in
+    gone_by r p (place_among r after (live_places new)) after (live_places new) never refl
+    (elim (among_remove r p i.front i.back names k.distinct (k.as_many ∙ ap length i.hi_is)) [
+      | inl none ↦ inl (now ∙ none)
+      | inr same ↦ inr (now ∙ same ∙ sym (ap (place_among r names) i.hi_is) ∙ is)
+    ])
+
+cut_never : (r : RecordName) (n : ℕ) (s : Store) (names : List RecordName) (c : Option ℕ) (t : Track) (last : Store) → IsTrack n s names c t last → Keeps n s names → IsCutBefore r t → rows_of r t ≡ []
+cut_never r n s names c t last h k a =
+    let x = a.cut in
+    let whole : IsTrack n s names c (a.earlier ++ x ∷ a.later) last = subst (λ (z : Track). IsTrack n s names c z last) a.track_is h in
+    let rest = track_rest n s names c a.earlier (x ∷ a.later) last whole in
+    let kept = keeps_rest n s names c a.earlier (x ∷ a.later) last whole k in
+    let kx = keeps_here _ _ _ _ x rest.0 kept in
+    let kn = keeps_next _ _ _ _ x rest.0 kept in
+    let cuts : Cuts x.before x.after a.place = subst (λ (told : Said). Changes told x.before x.after) a.gone rest.0.changes in
+    let dead : place_among r (names_after x.number x.reply x.before x.after x.names) (live_places x.after) ≡ None =
+    ap (λ (told : Said). place_among r (names_after x.number told x.before x.after x.names) (live_places x.after)) a.gone ∙ cut_none r x.number a.place x.before x.after x.names rest.0.sound cuts kx a.stood in
+    let born : r.birth < suc (n + length a.earlier) = omega (arith, among_born x.number r x.names (live_places x.before) a.place kx.born a.stood, rest.0.number) in
+    let none = dead_none r _ x.after _ x.to a.later last rest.1 kn born dead in
+    let later : rows_of r a.later ≡ [] = none_if r a.later (comes r _ x.after _ x.to a.later last rest.1 kn) none in
+    let pre = a.earlier ++ x ∷ [] in
+    let joined : IsTrack n s names c (pre ++ a.later) last = subst (λ (z : Track). IsTrack n s names c z last) (sym (split_at a.earlier x a.later)) whole in
+    let front = track_front n s names c pre a.later last joined in
+    let first : rows_of r pre ≡ [] = none_if r pre (comes r n s names c pre _ front k) a.no_turn in
+    ap (rows_of r) (a.track_is ∙ sym (split_at a.earlier x a.later)) ∙ flat_map-append (rows_here r) pre a.later ∙ ap (λ (rows : List Row). rows ++ rows_of r a.later) first ∙ later
+
+-- ---- added on the way
+early_none : (r : RecordName) (n : ℕ) (s : Store) (names : List RecordName) (c : Option ℕ) (t : Track) (last : Store) → IsTrack n s names c t last → Keeps n s names → n + length t ≤ r.birth → turn_of r t ≡ None
+early_none r n s names c [] last h k le = refl
+early_none r n s names c (x ∷ t) last h k le =
+    let kx = keeps_here n s names c x h.0 k in
+    turn_later r x t (passes_none r x (among_none r x.names (live_places x.before) (unborn x.number r x.names kx.born (omega (arith, h.0.number)))))
+    ∙ early_none r (suc n) x.after _ x.to t last h.1 (keeps_next n s names c x h.0 k) (omega arith)
+
+self_by : (r nm : RecordName) (b d : Bool) → (r.place == nm.place) ≡ b → (r.birth == nm.birth) ≡ d → r.place ≡ nm.place → r.birth ≡ nm.birth → is_name r nm ≡ true
+self_by r nm true true e f p q = rw (e, f) refl
+self_by r nm true false e f p q = let yes_it : (r.birth == nm.birth) ≡ true = grind (arith, nat_tests) in cc (f, yes_it)
+self_by r nm false d e f p q = let yes_it : (r.place == nm.place) ≡ true = grind (arith, nat_tests) in cc (e, yes_it)
+
+among_self_cons : (r x : RecordName) (p q : ℕ) (b : Bool) (rest : Option ℕ) (others : List RecordName) → is_name r x ≡ b → list_any (is_name r) (x ∷ others) ≡ false → (list_any (is_name r) others ≡ false → rest ≡ Some p) → cond b (Some q) rest ≡ Some p
+among_self_cons r x p q true rest others e h ih = cc (ap (λ (d : Bool). d || list_any (is_name r) others) e, h)
+among_self_cons r x p q false rest others e h ih = ih (sym (ap (λ (d : Bool). d || list_any (is_name r) others) e) ∙ h)
+
+among_self : (r nm : RecordName) (p : ℕ) (front back : List ℕ) (names : List RecordName) → is_name r nm ≡ true → list_any (is_name r) names ≡ false → length names ≡ length (front ++ back) → place_among r (take (length front) names ++ nm ∷ drop (length front) names) (front ++ p ∷ back) ≡ Some p
+among_self r nm p [] back names own new e = ap (λ (b : Bool). cond b (Some p) (place_among r names back)) own
+among_self r nm p (q ∷ front) back [] own new e = absurd (omega (arith, e))
+among_self r nm p (q ∷ front) back (x ∷ names) own new e =
+    among_self_cons r x p q (is_name r x) _ names refl new (λ rest. among_self r nm p front back names own rest (let s : length names ≡ length (front ++ back) = omega (arith, e) in s))
+
+put_stands : (r : RecordName) (n : ℕ) (old new : Store) (names : List RecordName) → IsSound old → Puts old new r.place → Keeps n old names → r.birth ≡ n → place_among r (names_after n (Placed r.place) old new names) (live_places new) ≡ Some r.place
+put_stands r n old new names sound puts k born =
+    let i = puts_insert old new r.place sound puts in
+    let nm : RecordName = record { place = r.place; birth = n } in
+    ap (λ (j : ℕ). place_among r (take j names ++ nm ∷ drop j names) (live_places new)) i.rank_is ∙ ap (place_among r (take (length i.front) names ++ nm ∷ drop (length i.front) names)) i.hi_is
+    ∙ among_self r nm r.place i.front i.back names (self_by r nm (r.place == nm.place) (r.birth == nm.birth) refl refl refl born) (unborn n r names k.born (omega (arith, born))) (k.as_many ∙ ap length i.lo_is)
+
+not_step : (w : ℕ) (told : Said) (p : ℕ) → told ≡ Placed p → (tells_step w told ≡ false) × (is_rewritten told ≡ false)
+not_step w told p e = (ap (tells_step w) e, ap is_rewritten e)
+
+some_empty : (o : Option ℕ) (rows : List Row) → rows ≡ [] → rows_at_some o rows ≡ []
+some_empty None rows e = refl
+some_empty (Some p) rows e = ap (rows_at p) e
+
+behind_never : (r : RecordName) (at n : ℕ) (s : Store) (names : List RecordName) (c : Option ℕ) (t : Track) (last : Store) → IsTrack n s names c t last → Keeps n s names → (a : IsAddedAt r at t) → r.place < at → rows_of r t ≡ []
+behind_never r at n s names c t last h k a lt =
+    let x = a.put in
+    let whole : IsTrack n s names c (a.earlier ++ x ∷ a.later) last = subst (λ (z : Track). IsTrack n s names c z last) a.track_is h in
+    let rest = track_rest n s names c a.earlier (x ∷ a.later) last whole in
+    let kept = keeps_rest n s names c a.earlier (x ∷ a.later) last whole k in
+    let kx = keeps_here _ _ _ _ x rest.0 kept in
+    let kn = keeps_next _ _ _ _ x rest.0 kept in
+    let told = not_step x.walk x.reply r.place a.placed in
+    let front = track_front n s names c a.earlier (x ∷ a.later) last whole in
+    let first : rows_of r a.earlier ≡ [] = none_if r a.earlier (comes r n s names c a.earlier _ front k) (early_none r n s names c a.earlier _ front k (omega (arith, a.born, rest.0.number))) in
+    let here : rows_here r x ≡ [] = some_empty (place_of r x) (rows_at_event x) (ap (rows_of_reply x.walk x.number) a.placed) in
+    let puts : Puts x.before x.after r.place = subst (λ (z : Said). Changes z x.before x.after) a.placed rest.0.changes in
+    let stands : place_among r (names_after x.number x.reply x.before x.after x.names) (live_places x.after) ≡ Some r.place =
+    ap (λ (z : Said). place_among r (names_after x.number z x.before x.after x.names) (live_places x.after)) a.placed ∙ put_stands r x.number x.before x.after x.names rest.0.sound puts kx a.born in
+    let to : x.to ≡ Some at = elim (effect_of x rest.0.effect) [ inl holds ↦ holds.stays at a.cursor ∙ ap Some (carried_same x.reply x.before x.after at told.1) | inr goes ↦ cc (goes.own, told.0) ] in
+    let none = behind_none r _ x.after _ x.to a.later last at rest.1 kn (omega (arith, a.born, rest.0.number)) to (λ q e. (let same : r.place ≡ q = cc (stands, e) in omega arith)) in
+    let later : rows_of r a.later ≡ [] = none_if r a.later (comes r _ x.after _ x.to a.later last rest.1 kn) none in
+    ap (rows_of r) a.track_is ∙ flat_map-append (rows_here r) a.earlier (x ∷ a.later) ∙ ap (λ (rows : List Row). rows ++ (rows_here r x ++ rows_of r a.later)) first ∙ ap (λ (rows : List Row). rows ++ rows_of r a.later) here ∙ later
+
+ahead_of : (r : RecordName) (at n : ℕ) (s : Store) (names : List RecordName) (c : Option ℕ) (t : Track) (last : Store) → IsTrack n s names c t last → Keeps n s names → IsAddedAt r at t → OneRow (rows_of r t) → at ≤ r.place
+ahead_of r at n s names c t last h k a one = elim (le_or r.place at (nat_lt r.place at) refl) [
+  | inl lt ↦ cc (behind_never r at n s names c t last h k a lt, one.only)
+  | inr le ↦ le
+]
+
+-- ---- all of them
+pub each_comes : (first : Store) (start : Option ℕ) (t : Track) (last : Store) → IsWalk first start t last → EachComesAsDue t
+each_comes first start t last walk =
+    let k = first_keeps first walk.sound in
+    let names = first_names first in
+    let c : (r : RecordName) → Comes r t = λ r. comes r 1 first names start t last walk.is k in
+    record {
+      at_most_once = λ r. at_most_one r t (c r);
+      turn_is_unique = λ r. one_turn r 1 first names start t last walk.is k;
+      once_if_it_has_a_turn = λ r. (turn_if_row r t (c r), row_if_turn r t (c r));
+      throughout_once = λ r a. throughout_once r 1 first names start t last walk.is k a;
+      cut_before_never = λ r a. cut_never r 1 first names start t last walk.is k a;
+      added_if_ahead = λ r at a. (λ one. (ahead_of r at 1 first names start t last walk.is k a one, turn_if_row r t (c r) one), λ both. row_if_turn r t (c r) both.1);
+    }

@@ -1,0 +1,161 @@
+-- What one event of a walk does to its cursor, and gives.
+use Rattle.std.proofs.Common.{◌≡◌, ℕ, true, false, List, [], Option, Some, None, inl, inr, refl, sym, ap, ◌∙◌, subst, arith}
+use Rattle.std.specs.Prelude.{◌==◌, ◌⊎◌, IsSomeAnd}
+use Rattle.std.proofs.lemmas.Bool.Decides.{nat_tests}
+use Rattle.krb_walk.specs.Store.{Store, end_of, next_live}
+use Rattle.krb_walk.specs.Said.{Said, Started, Gave, Ended, Faulted, Placed, Gone, Rewritten, Refused, tells_step, completes, is_rewritten}
+use Rattle.krb_walk.specs.Events.{stop_cursor}
+use Rattle.krb_walk.specs.History.{rows_of_reply}
+use Rattle.krb_walk.specs.Track.{RecordName, WalkEvent, carried, AnswersStep, Stays, MovesCursor, IsWalkEvent}
+use Rattle.krb_walk.specs.Due.{rows_at_event}
+use Rattle.krb_walk.specs.Fair.{CursorMayGo, CursorIsSound}
+use Rattle.krb_walk.proofs.Cells.{rows_of_next}
+use Rattle.krb_walk.proofs.Places.{stop_forward}
+
+-- where a step from a place leads
+abbrev pub end_of_step : WalkEvent → ℕ → ℕ
+end_of_step x at = stop_cursor (end_of x.before) (next_live x.before at)
+
+-- a pass that leaves the cursor gives no row, and one that moves it that of the next live cell
+pub record Holds (x : WalkEvent) : Type 0 where
+  pub idle : x.stepped ≡ false
+  pub other : tells_step x.walk x.reply ≡ false
+  pub stays : (d : ℕ) → x.from ≡ Some d → x.to ≡ Some (carried x.reply x.before x.after d)
+  pub silent : rows_at_event x ≡ []
+
+pub record Advances (x : WalkEvent) : Type 0 where
+  pub stepped : x.stepped ≡ true
+  pub at : ℕ
+  pub stood : x.from ≡ Some at
+  pub stands : x.to ≡ Some (end_of_step x at)
+  pub tells : rows_at_event x ≡ rows_of_next x.number (next_live x.before at)
+  pub answered : AnswersStep x.before x.walk at x.reply (end_of_step x at)
+  pub own : tells_step x.walk x.reply ≡ true
+
+-- a reply that tells no step gives no row
+silent_of : (w n : ℕ) (told : Said) → tells_step w told ≡ false → rows_of_reply w n told ≡ []
+silent_of w n (Gave v p next bytes) e = rw e refl
+silent_of w n told e = refl
+
+-- what an answered step tells
+record Answered (s : Store) (w c : ℕ) (told : Said) (to : ℕ) : Type 0 where
+  leads : to ≡ stop_cursor (end_of s) (next_live s c)
+  tells : (n : ℕ) → rows_of_reply w n told ≡ rows_of_next n (next_live s c)
+  own : tells_step w told ≡ true
+
+answered : (s : Store) (w c : ℕ) (told : Said) (to : ℕ) → AnswersStep s w c told to → Answered s w c told to
+answered s w c (Gave v p next bytes) to a =
+    let same : v ≡ w = a.0 in
+    let own : (v == w) ≡ true = grind (arith, nat_tests) in
+    record {
+      leads = a.2 ∙ sym (ap (stop_cursor (end_of s)) a.1);
+      tells = λ n. rw own (sym (ap (rows_of_next n) a.1));
+      own = own;
+    }
+answered s w c (Ended v next) to a =
+    let same : v ≡ w = a.0 in
+    record {
+      leads = a.4 ∙ sym (ap (stop_cursor (end_of s)) a.1);
+      tells = λ n. sym (ap (rows_of_next n) a.1);
+      own = grind (arith, nat_tests);
+    }
+answered s w c (Faulted v fault) to a =
+    let same : v ≡ w = a.0 in
+    record {
+      leads = a.3 ∙ sym (ap (stop_cursor (end_of s)) a.1);
+      tells = λ n. sym (ap (rows_of_next n) a.1);
+      own = grind (arith, nat_tests);
+    }
+answered s w c (Started v next) to a = absurd a
+answered s w c (Placed p) to a = absurd a
+answered s w c (Gone p) to a = absurd a
+answered s w c (Rewritten p) to a = absurd a
+answered s w c (Refused code) to a = absurd a
+
+pub answered_own : (s : Store) (w c : ℕ) (told : Said) (to : ℕ) → AnswersStep s w c told to → tells_step w told ≡ true
+answered_own s w c told to a = (answered s w c told to a).own
+
+goes_by : (x : WalkEvent) (at : ℕ) (to : Option ℕ) → x.stepped ≡ true → x.from ≡ Some at → x.to ≡ to → IsSomeAnd to (AnswersStep x.before x.walk at x.reply) → Advances x
+goes_by x at (Some d) step stood is a =
+    let told = answered x.before x.walk at x.reply d a in
+    record {
+      stepped = step;
+      at = at;
+      stood = stood;
+      stands = is ∙ ap Some told.leads;
+      tells = told.tells x.number;
+      answered = subst (AnswersStep x.before x.walk at x.reply) told.leads a;
+      own = told.own;
+    }
+goes_by x at None step stood is a = absurd a
+
+pub effect_of : (x : WalkEvent) → Stays x ⊎ MovesCursor x → Holds x ⊎ Advances x
+effect_of x effect = elim effect [
+  | inl stays ↦ inl (record { idle = stays.idle; other = stays.other; stays = stays.stays; silent = silent_of x.walk x.number x.reply stays.other })
+  | inr steps ↦ inr (goes_by x steps.at x.to steps.stepped steps.stood refl steps.answered)
+]
+
+-- a walk that is told that nothing is left stands at the end
+pub completes_tells : (w : ℕ) (told : Said) → completes w told ≡ true → tells_step w told ≡ true
+completes_tells w (Gave v p next bytes) h = cc
+completes_tells w (Ended v next) h = h
+completes_tells w (Faulted v fault) h = h
+completes_tells w told h = h
+
+ends_at : (s : Store) (w c : ℕ) (told : Said) (to : ℕ) → AnswersStep s w c told to → completes w told ≡ true → to ≡ end_of s
+ends_at s w c (Gave v p next bytes) to a h = cc
+ends_at s w c (Ended v next) to a h = a.4
+ends_at s w c (Faulted v fault) to a h = a.3
+ends_at s w c (Started v next) to a h = absurd a
+ends_at s w c (Placed p) to a h = absurd a
+ends_at s w c (Gone p) to a h = absurd a
+ends_at s w c (Rewritten p) to a h = absurd a
+ends_at s w c (Refused code) to a h = absurd a
+
+pub ends_of : (x : WalkEvent) → Stays x ⊎ MovesCursor x → completes x.walk x.reply ≡ true → x.to ≡ Some (end_of x.before)
+ends_of x effect told = elim (effect_of x effect) [
+  | inl holds ↦ cc (holds.other, completes_tells x.walk x.reply told)
+  | inr goes ↦ goes.stands ∙ ap Some (ends_at x.before x.walk goes.at x.reply _ goes.answered told)
+]
+
+pub completes_stepped : (x : WalkEvent) → Stays x ⊎ MovesCursor x → completes x.walk x.reply ≡ true → x.stepped ≡ true
+completes_stepped x effect told = elim (effect_of x effect) [
+  | inl holds ↦ cc (holds.other, completes_tells x.walk x.reply told)
+  | inr goes ↦ goes.stepped
+]
+
+-- where no rewrite is told, a cursor is carried nowhere
+pub carried_same : (told : Said) (old new : Store) (c : ℕ) → is_rewritten told ≡ false → carried told old new c ≡ c
+carried_same (Rewritten p) old new c e = cc
+carried_same told old new c e = refl
+
+own_no_rewrite : (w : ℕ) (told : Said) → tells_step w told ≡ true → is_rewritten told ≡ false
+own_no_rewrite w (Rewritten p) e = cc
+own_no_rewrite w told e = refl
+
+-- nor at a step
+pub carried_own : (w : ℕ) (told : Said) (old new : Store) (c : ℕ) → tells_step w told ≡ true → carried told old new c ≡ c
+carried_own w told old new c e = carried_same told old new c (own_no_rewrite w told e)
+
+pub stays_put : (x : WalkEvent) (d : ℕ) → Holds x → is_rewritten x.reply ≡ false → x.from ≡ Some d → x.to ≡ Some d
+stays_put x d holds put_by at = holds.stays d at ∙ ap Some (carried_same x.reply x.before x.after d put_by)
+
+-- a cursor is a place, and goes on as it may
+pub cursor_is_sound : (n : ℕ) (s : Store) (names : List RecordName) (c : Option ℕ) (x : WalkEvent) (d : ℕ) → IsWalkEvent n s names c x → x.from ≡ Some d → CursorIsSound x d
+cursor_is_sound n s names c x d h at = elim (effect_of x h.effect) [
+  | inl holds ↦ record {
+    place = h.here d at;
+    to = subst (λ (o : Option ℕ). IsSomeAnd o (CursorMayGo x d)) (sym (holds.stays d at)) (record { forward = λ put_by. omega (arith, carried_same x.reply x.before x.after d put_by); moves = λ own. cc (own, holds.idle); stays = λ other. refl });
+  }
+  | inr goes ↦ (
+      let same : goes.at ≡ d = cc (at, goes.stood) in
+      let forward = stop_forward x.before goes.at (h.here goes.at goes.stood) in
+      record {
+        place = h.here d at;
+        to = subst (λ (o : Option ℕ). IsSomeAnd o (CursorMayGo x d)) (sym goes.stands) (record {
+          forward = λ _. omega (arith, forward, same);
+          moves = λ own. subst (λ (m : ℕ). AnswersStep x.before x.walk m x.reply (end_of_step x goes.at)) same goes.answered;
+          stays = λ other. cc (other, goes.stepped);
+        });
+      })
+]

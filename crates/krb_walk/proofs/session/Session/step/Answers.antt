@@ -1,0 +1,5 @@
+use Rattle.krb_walk.proofs.Runs.{ran_step}
+use Rattle.krb_walk.proofs.session.Session.step.Goals as goal
+
+pub returns-clause-ran : goal.returns-clause-ran
+returns-clause-ran g c = ran_step g.P.Placed.rules c.args.self.now c.move_on.new.self c.args.walk c.move_on.ensures.ready c.move_on.ensures.state
