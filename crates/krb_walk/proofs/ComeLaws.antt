@@ -15,48 +15,13 @@ use Rattle.krb_walk.specs.Due.{rows_at_event}
 use Rattle.krb_walk.specs.Records.{rows_at, OneRow, begins, is_name, place_among, place_of, place_at_first, rows_at_some, rows_here, rows_of, passes_record, turn_of, HasTurn, IsAliveUntilDone, IsCutBefore, IsAddedAt, EachComesAsDue}
 use Rattle.krb_walk.proofs.Lives.{lives_lt, puts_insert, cuts_insert}
 use Rattle.krb_walk.proofs.Names.{any_lt, apart}
-use Rattle.krb_walk.proofs.WalkEvents.{end_of_step, effect_of, ends_of, completes_stepped, carried_same, carried_own}
+use Rattle.krb_walk.proofs.WalkEvents.{end_of_step, effect_of, ends_of, completes_stepped, carry_by-same, carry_by-own}
 use Rattle.krb_walk.proofs.Carries.{le_or}
 use Rattle.krb_walk.proofs.Ranked.{Keeps, first_keeps, unborn, among_none, among_remove, Still, still_after}
-use Rattle.krb_walk.proofs.Comes.{among_any, among_born, keeps_here, keeps_next, place_here, passes_none, passes_by, passes_alive, turn_later, turn_first, Comes, behind_none, comes}
+use Rattle.krb_walk.proofs.Comes.{among_any, among_born, keeps_here, keeps_next, place_here, passes_none, passes_by, passes_alive, turn_later, turn_first, Comes, behind_none, comes, at_most_one, turn_if_row, row_if_turn, none_if}
 use Rattle.krb_walk.proofs.Unique.{one_turn}
-
--- ---- the parts of a track
-abbrev pub store_behind : Store → Track → Store
-store_behind s [] = s
-store_behind s (x ∷ xs) = store_behind x.after xs
-
-pub track_rest : (n : ℕ) (s : Store) (names : List RecordName) (c : Option ℕ) (t u : Track) (last : Store) → IsTrack n s names c (t ++ u) last → IsTrack (n + length t) (store_behind s t) (last_names names t) (last_cursor c t) u last
-track_rest n s names c [] u last h = let e : n ≡ n + 0 = omega arith in subst (λ (m : ℕ). IsTrack m s names c u last) e h
-track_rest n s names c (x ∷ xs) u last h =
-    let e : suc n + length xs ≡ n + suc (length xs) = omega arith in
-    subst (λ (m : ℕ). IsTrack m (store_behind x.after xs) (last_names names (x ∷ xs)) (last_cursor x.to xs) u last) e (track_rest (suc n) x.after _ x.to xs u last h.1)
-
-track_front : (n : ℕ) (s : Store) (names : List RecordName) (c : Option ℕ) (t u : Track) (last : Store) → IsTrack n s names c (t ++ u) last → IsTrack n s names c t (store_behind s t)
-track_front n s names c [] u last h = refl
-track_front n s names c (x ∷ xs) u last h = (h.0, track_front (suc n) x.after _ x.to xs u last h.1)
-
-keeps_rest : (n : ℕ) (s : Store) (names : List RecordName) (c : Option ℕ) (t u : Track) (last : Store) → IsTrack n s names c (t ++ u) last → Keeps n s names → Keeps (n + length t) (store_behind s t) (last_names names t)
-keeps_rest n s names c [] u last h k = let e : n ≡ n + 0 = omega arith in subst (λ (m : ℕ). Keeps m s names) e k
-keeps_rest n s names c (x ∷ xs) u last h k =
-    let e : suc n + length xs ≡ n + suc (length xs) = omega arith in
-    subst (λ (m : ℕ). Keeps m (store_behind x.after xs) (last_names names (x ∷ xs))) e (keeps_rest (suc n) x.after _ x.to xs u last h.1 (keeps_next n s names c x h.0 k))
-
-split_at : (t : Track) (x : WalkEvent) (u : Track) → (t ++ x ∷ []) ++ u ≡ t ++ x ∷ u
-split_at t x u = append_assoc t (x ∷ []) u
-
--- ---- at most one row, and one exactly with a turn
-at_most_one : (r : RecordName) (t : Track) → Comes r t → length (rows_of r t) ≤ 1
-at_most_one r t c = elim c [ inl none ↦ omega (arith, ap length none.1) | inr one ↦ omega (arith, ap length one.1.only) ]
-
-turn_if_row : (r : RecordName) (t : Track) → Comes r t → OneRow (rows_of r t) → HasTurn r t
-turn_if_row r t c one = elim c [ inl none ↦ cc (none.1, one.only) | inr has ↦ has.0 ]
-
-row_if_turn : (r : RecordName) (t : Track) → Comes r t → HasTurn r t → OneRow (rows_of r t)
-row_if_turn r t c turn = elim c [ inl none ↦ cc (none.0, turn.is) | inr has ↦ has.1 ]
-
-none_if : (r : RecordName) (t : Track) → Comes r t → turn_of r t ≡ None → rows_of r t ≡ []
-none_if r t c e = elim c [ inl none ↦ none.1 | inr has ↦ cc (has.0.is, e) ]
+use Rattle.krb_walk.proofs.Parts.{track_rest, track_front, keeps_rest, split_at}
+use Rattle.krb_walk.proofs.Order.{in_order}
 
 empty_by : (rows : List Row) (row : Row) → length (rows ++ row ∷ []) ≤ 1 → rows ≡ []
 empty_by [] row le = refl
@@ -116,7 +81,7 @@ step_has r n s names c x t start p false e h k at is le stands ih =
           let missed : (nat_le goes.at p && nat_lt p to) ≡ false = sym (passes_by r x p goes.at _ goes.stepped is goes.stood goes.stands) ∙ e in
           let near : to ≤ p = grind (arith, nat_tests) in
           let on = ahead_on _ _ to _ p (still_after x.number x.reply x.before x.after x.names r to h.sound h.changes kx born) is near stands stands.at stands.is in
-          ih to stands.at goes.stands stands.is (omega (arith, on, carried_own x.walk x.reply x.before x.after to goes.own)))
+          ih to stands.at goes.stands stands.is (omega (arith, on, carry_by-own x.walk x.reply x.before x.after to goes.own)))
     ])
 
 done_has : (r : RecordName) (n : ℕ) (s : Store) (names : List RecordName) (c : Option ℕ) (steps : Track) (done : WalkEvent) (later : Track) (last : Store) (start p : ℕ) → IsTrack n s names c (steps ++ done ∷ later) last → Keeps n s names → c ≡ Some start
@@ -248,7 +213,7 @@ behind_never r at n s names c t last h k a lt =
     let puts : Puts x.before x.after r.place = subst (λ (z : Said). Changes z x.before x.after) a.placed rest.0.changes in
     let stands : place_among r (names_after x.number x.reply x.before x.after x.names) (live_places x.after) ≡ Some r.place =
     ap (λ (z : Said). place_among r (names_after x.number z x.before x.after x.names) (live_places x.after)) a.placed ∙ put_stands r x.number x.before x.after x.names rest.0.sound puts kx a.born in
-    let to : x.to ≡ Some at = elim (effect_of x rest.0.effect) [ inl holds ↦ holds.stays at a.cursor ∙ ap Some (carried_same x.reply x.before x.after at told.1) | inr goes ↦ cc (goes.own, told.0) ] in
+    let to : x.to ≡ Some at = elim (effect_of x rest.0.effect) [ inl holds ↦ holds.stays at a.cursor ∙ ap Some (carry_by-same x.reply x.before x.after at told.1) | inr goes ↦ cc (goes.own, told.0) ] in
     let none = behind_none r _ x.after _ x.to a.later last at rest.1 kn (omega (arith, a.born, rest.0.number)) to (λ q e. (let same : r.place ≡ q = cc (stands, e) in omega arith)) in
     let later : rows_of r a.later ≡ [] = none_if r a.later (comes r _ x.after _ x.to a.later last rest.1 kn) none in
     ap (rows_of r) a.track_is ∙ flat_map-append (rows_here r) a.earlier (x ∷ a.later) ∙ ap (λ (rows : List Row). rows ++ (rows_here r x ++ rows_of r a.later)) first ∙ ap (λ (rows : List Row). rows ++ rows_of r a.later) here ∙ later
@@ -268,6 +233,7 @@ each_comes first start t last walk =
     record {
       at_most_once = λ r. at_most_one r t (c r);
       turn_is_unique = λ r. one_turn r 1 first names start t last walk.is k;
+      in_file_order = λ p q a. in_order p q 1 first names start t last walk.is k a;
       once_if_it_has_a_turn = λ r. (turn_if_row r t (c r), row_if_turn r t (c r));
       throughout_once = λ r a. throughout_once r 1 first names start t last walk.is k a;
       cut_before_never = λ r a. cut_never r 1 first names start t last walk.is k a;

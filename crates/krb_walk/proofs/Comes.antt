@@ -1,5 +1,5 @@
 -- A record comes exactly if a step passes it where it stands.
-use Rattle.std.proofs.Common.{◌≡◌, ℕ, suc, ◌<◌, ◌≤◌, Bool, true, false, cond, List, [], ◌∷◌, ◌++◌, Option, Some, None, inl, inr, refl, sym, ap, ◌∙◌, subst, arith}
+use Rattle.std.proofs.Common.{◌≡◌, ℕ, suc, ◌<◌, ◌≤◌, Bool, true, false, cond, List, [], ◌∷◌, ◌++◌, length, Option, Some, None, inl, inr, refl, sym, ap, ◌∙◌, subst, arith}
 use Rattle.std.specs.Prelude.{◌&&◌, ◌==◌, ◌⊎◌, nat_le, nat_lt, IsSome}
 use Rattle.std.specs.List.{list_any}
 use Rattle.std.specs.Option.{option_to_list}
@@ -7,11 +7,11 @@ use Rattle.std.proofs.lemmas.Bool.Decides.{nat_tests}
 use Rattle.krb_walk.specs.Store.{Store, Record, live_at}
 use Rattle.krb_walk.specs.Ranks.{live_places}
 use Rattle.krb_walk.specs.History.{Row}
-use Rattle.krb_walk.specs.Track.{RecordName, WalkEvent, Track, names_after, carried, IsWalkEvent, IsTrack}
+use Rattle.krb_walk.specs.Track.{RecordName, WalkEvent, Track, names_after, carry_by, IsWalkEvent, IsTrack}
 use Rattle.krb_walk.specs.Due.{row_of, rows_at_event}
 use Rattle.krb_walk.specs.Records.{rows_at, OneRow, is_name, place_among, place_of, rows_at_some, rows_here, rows_of, goes_past_some, passes_record, turn_of, HasTurn}
 use Rattle.krb_walk.proofs.Places.{stop_forward, or_true}
-use Rattle.krb_walk.proofs.WalkEvents.{end_of_step, Advances, effect_of, carried_own}
+use Rattle.krb_walk.proofs.WalkEvents.{end_of_step, Advances, effect_of, carry_by-own}
 use Rattle.krb_walk.proofs.Names.{AreBorn, or_left, in_lives}
 use Rattle.krb_walk.proofs.StepRows.{step_at}
 use Rattle.krb_walk.proofs.Carries.{le_or}
@@ -90,30 +90,56 @@ behind_on was is c d q h b e = elim h [
 ]
 
 pub behind_next : (r : RecordName) (n : ℕ) (s : Store) (names : List RecordName) (o : Option ℕ) (x : WalkEvent) (c : ℕ) → IsWalkEvent n s names o x → Keeps n s names → r.birth < n → ((p : ℕ) → place_of r x ≡ Some p → p < c)
-    → IsBehind r (names_after x.number x.reply x.before x.after x.names) x.after (carried x.reply x.before x.after c)
+    → IsBehind r (names_after x.number x.reply x.before x.after x.names) x.after (carry_by x.reply x.before x.after c)
 behind_next r n s names o x c h k lt b = λ q e. behind_on (place_of r x) _ c _ q (still_after x.number x.reply x.before x.after x.names r c h.sound h.changes (keeps_here n s names o x h k) (omega (arith, h.number))) b e
 
 misses_by : (r : RecordName) (x : WalkEvent) (g : Advances x) (o : Option ℕ) → place_of r x ≡ o → ((p : ℕ) → o ≡ Some p → p < g.at) → passes_record r x ≡ false
 misses_by r x g None e b = passes_none r x e
 misses_by r x g (Some p) e b = let lt = b p refl in let misses : (nat_le g.at p && nat_lt p (end_of_step x g.at)) ≡ false = grind (arith, nat_tests) in passes_by r x p g.at _ g.stepped e g.stood g.stands ∙ misses
 
+-- a record is behind the cursor after an event
+pub record StaysBehind (r : RecordName) (x : WalkEvent) : Type 0 where
+  pub to : ℕ
+  pub is : x.to ≡ Some to
+  pub behind : IsBehind r (names_after x.number x.reply x.before x.after x.names) x.after to
+
+-- a step leaves it behind where it was behind the place that the step goes to
+behind_step : (r : RecordName) (n : ℕ) (s : Store) (names : List RecordName) (c : Option ℕ) (x : WalkEvent) (g : Advances x) → IsWalkEvent n s names c x → Keeps n s names → r.birth < n → ((p : ℕ) → place_of r x ≡ Some p → p < end_of_step x g.at) → StaysBehind r x
+behind_step r n s names c x g h k lt b =
+    let to = end_of_step x g.at in
+    let put = carry_by-own x.walk x.reply x.before x.after to g.own in
+    record {
+      to = to;
+      is = g.stands;
+      behind = subst (λ (m : ℕ). IsBehind r (names_after x.number x.reply x.before x.after x.names) x.after m) put (behind_next r n s names c x to h k lt b);
+    }
+
+pub behind_event : (r : RecordName) (n : ℕ) (s : Store) (names : List RecordName) (c : Option ℕ) (x : WalkEvent) (d : ℕ) → IsWalkEvent n s names c x → Keeps n s names → r.birth < n → c ≡ Some d → IsBehind r names s d → StaysBehind r x
+behind_event r n s names c x d h k lt at b =
+    let here = place_here r n s names c x h in
+    let bx : (p : ℕ) → place_of r x ≡ Some p → p < d = λ p e. b p (sym here ∙ e) in
+    elim (effect_of x h.effect) [
+      | inl holds ↦ record { to = _; is = holds.stays d (h.from ∙ at); behind = behind_next r n s names c x d h k lt bx }
+      | inr goes ↦ (
+          let same : d ≡ goes.at = cc (at, goes.stood, h.from) in
+          let forward = stop_forward x.before goes.at (h.here goes.at goes.stood) in
+          behind_step r n s names c x goes h k lt (λ p e. omega (arith, bx p e)))
+    ]
+
+-- and no step passes it
+behind_missed : (r : RecordName) (n : ℕ) (s : Store) (names : List RecordName) (c : Option ℕ) (x : WalkEvent) (d : ℕ) → IsWalkEvent n s names c x → c ≡ Some d → IsBehind r names s d → passes_record r x ≡ false
+behind_missed r n s names c x d h at b = elim (effect_of x h.effect) [
+  | inl holds ↦ passes_other r x holds.idle
+  | inr goes ↦ (
+      let same : d ≡ goes.at = cc (at, goes.stood, h.from) in
+      misses_by r x goes (place_of r x) refl (λ p e. omega (arith, b p (sym (place_here r n s names c x h) ∙ e))))
+]
+
 pub behind_none : (r : RecordName) (n : ℕ) (s : Store) (names : List RecordName) (c : Option ℕ) (t : Track) (last : Store) (d : ℕ) → IsTrack n s names c t last → Keeps n s names → r.birth < n → c ≡ Some d → IsBehind r names s d → turn_of r t ≡ None
 behind_none r n s names c [] last d h k lt at b = refl
 behind_none r n s names c (x ∷ xs) last d h k lt at b =
-    let here = place_here r n s names c x h.0 in
-    let bx : (p : ℕ) → place_of r x ≡ Some p → p < d = λ p e. b p (sym here ∙ e) in
-    let kx = keeps_next n s names c x h.0 k in
-    elim (effect_of x h.0.effect) [
-      | inl holds ↦ turn_later r x xs (passes_other r x holds.idle) ∙ behind_none r (suc n) x.after _ x.to xs last _ h.1 kx (omega arith) (holds.stays d (h.0.from ∙ at)) (behind_next r n s names c x d h.0 k lt bx)
-      | inr goes ↦ (
-          let same : d ≡ goes.at = cc (at, goes.stood, h.0.from) in
-          let forward = stop_forward x.before goes.at (h.0.here goes.at goes.stood) in
-          let to = end_of_step x goes.at in
-          let next = behind_next r n s names c x to h.0 k lt (λ p e. omega (arith, bx p e)) in
-          let put = carried_own x.walk x.reply x.before x.after to goes.own in
-          turn_later r x xs (misses_by r x goes (place_of r x) refl (λ p e. omega (arith, bx p e)))
-          ∙ behind_none r (suc n) x.after _ x.to xs last to h.1 kx (omega arith) goes.stands (subst (λ (m : ℕ). IsBehind r (names_after x.number x.reply x.before x.after x.names) x.after m) put next))
-    ]
+    let on = behind_event r n s names c x d h.0 k lt at b in
+    turn_later r x xs (behind_missed r n s names c x d h.0 at b) ∙ behind_none r (suc n) x.after _ x.to xs last on.to h.1 (keeps_next n s names c x h.0 k) (omega arith) on.is on.behind
 
 -- the rows of a record at a pass
 here_some : (r : RecordName) (x : WalkEvent) (p : ℕ) → place_of r x ≡ Some p → rows_here r x ≡ rows_at p (rows_at_event x)
@@ -157,34 +183,40 @@ comes_now r x xs e here none c = elim c [
   | inr one ↦ cc (none, one.0.is)
 ]
 
--- a record that is passed is not passed again
-none_after : (r : RecordName) (n : ℕ) (s : Store) (names : List RecordName) (c : Option ℕ) (x : WalkEvent) (xs : Track) (last : Store) (g : Advances x) (p : ℕ) → IsTrack n s names c (x ∷ xs) last → Keeps n s names → place_of r x ≡ Some p
-    → (nat_le g.at p && nat_lt p (end_of_step x g.at)) ≡ true → turn_of r xs ≡ None
-none_after r n s names c x xs last g p h k is e =
-    let kx = keeps_here n s names c x h.0 k in
-    let born : r.birth < n = omega (arith, among_born x.number r x.names (live_places x.before) p kx.born is, h.0.number) in
-    let to = end_of_step x g.at in
-    let lt : p < to = grind (arith, nat_tests) in
-    let put = carried_own x.walk x.reply x.before x.after to g.own in
-    let next = behind_next r n s names c x to h.0 k born (λ q f. (let same : p ≡ q = cc (is, f) in omega arith)) in
-    behind_none r (suc n) x.after _ x.to xs last to h.1 (keeps_next n s names c x h.0 k) (omega arith) g.stands (subst (λ (m : ℕ). IsBehind r (names_after x.number x.reply x.before x.after x.names) x.after m) put next)
+-- a record that is passed is behind the cursor from then on, so it is not passed again
+pub record IsPassed (r : RecordName) (n : ℕ) (x : WalkEvent) : Type 0 where
+  pub born : r.birth < n
+  pub on : StaysBehind r x
 
-none_by : (r : RecordName) (n : ℕ) (s : Store) (names : List RecordName) (c : Option ℕ) (x : WalkEvent) (xs : Track) (last : Store) (g : Advances x) (o : Option ℕ) → IsTrack n s names c (x ∷ xs) last → Keeps n s names → place_of r x ≡ o → passes_record r x ≡ true → turn_of r xs ≡ None
-none_by r n s names c x xs last g None h k is e = cc (passes_none r x is, e)
-none_by r n s names c x xs last g (Some p) h k is e = none_after r n s names c x xs last g p h k is (sym (passes_by r x p g.at _ g.stepped is g.stood g.stands) ∙ e)
+passed_at : (r : RecordName) (n : ℕ) (s : Store) (names : List RecordName) (c : Option ℕ) (x : WalkEvent) (g : Advances x) (p : ℕ) → IsWalkEvent n s names c x → Keeps n s names → place_of r x ≡ Some p → (nat_le g.at p && nat_lt p (end_of_step x g.at)) ≡ true → IsPassed r n x
+passed_at r n s names c x g p h k is e =
+    let kx = keeps_here n s names c x h k in
+    let born : r.birth < n = omega (arith, among_born x.number r x.names (live_places x.before) p kx.born is, h.number) in
+    let lt : p < end_of_step x g.at = grind (arith, nat_tests) in
+    record { born = born; on = behind_step r n s names c x g h k born (λ q f. (let same : p ≡ q = cc (is, f) in omega arith)) }
+
+passed_by : (r : RecordName) (n : ℕ) (s : Store) (names : List RecordName) (c : Option ℕ) (x : WalkEvent) (g : Advances x) (o : Option ℕ) → IsWalkEvent n s names c x → Keeps n s names → place_of r x ≡ o → passes_record r x ≡ true → IsPassed r n x
+passed_by r n s names c x g None h k is e = cc (passes_none r x is, e)
+passed_by r n s names c x g (Some p) h k is e = passed_at r n s names c x g p h k is (sym (passes_by r x p g.at _ g.stepped is g.stood g.stands) ∙ e)
+
+pub passed : (r : RecordName) (n : ℕ) (s : Store) (names : List RecordName) (c : Option ℕ) (x : WalkEvent) → IsWalkEvent n s names c x → Keeps n s names → passes_record r x ≡ true → IsPassed r n x
+passed r n s names c x h k e = elim (effect_of x h.effect) [
+  | inl holds ↦ cc (passes_other r x holds.idle, e)
+  | inr goes ↦ passed_by r n s names c x goes (place_of r x) h k refl e
+]
 
 pub passed_once : (r : RecordName) (n : ℕ) (s : Store) (names : List RecordName) (c : Option ℕ) (x : WalkEvent) (xs : Track) (last : Store) → IsTrack n s names c (x ∷ xs) last → Keeps n s names → passes_record r x ≡ true → turn_of r xs ≡ None
-passed_once r n s names c x xs last h k e = elim (effect_of x h.0.effect) [
-  | inl holds ↦ cc (passes_other r x holds.idle, e)
-  | inr goes ↦ none_by r n s names c x xs last goes (place_of r x) h k refl e
-]
+passed_once r n s names c x xs last h k e =
+    let was = passed r n s names c x h.0 k e in
+    behind_none r (suc n) x.after _ x.to xs last was.on.to h.1 (keeps_next n s names c x h.0 k) (omega (arith, was.born)) was.on.is was.on.behind
 
 comes_at : (r : RecordName) (n : ℕ) (s : Store) (names : List RecordName) (c : Option ℕ) (x : WalkEvent) (xs : Track) (last : Store) (g : Advances x) (p : ℕ) (b : Bool) → IsTrack n s names c (x ∷ xs) last → Keeps n s names → place_of r x ≡ Some p
     → (nat_le g.at p && nat_lt p (end_of_step x g.at)) ≡ b → Comes r xs → Comes r (x ∷ xs)
 comes_at r n s names c x xs last g p true h k is e ih =
     let held = in_lives x.before.first p x.before.cells h.0.sound (among_any r x.names (live_places x.before) p is) in
     let rows = here_some r x p is ∙ ap (rows_at p) g.tells ∙ step_at x.number x.before g.at p true h.0.sound (h.0.here g.at g.stood) e in
-    comes_now r x xs (passes_by r x p g.at _ g.stepped is g.stood g.stands ∙ e) (one_found x.number (live_at x.before p) held.held (rows_here r x) held.is rows) (none_after r n s names c x xs last g p h k is e) ih
+    let now = passes_by r x p g.at _ g.stepped is g.stood g.stands ∙ e in
+    comes_now r x xs now (one_found x.number (live_at x.before p) held.held (rows_here r x) held.is rows) (passed_once r n s names c x xs last h k now) ih
 comes_at r n s names c x xs last g p false h k is e ih =
     comes_later r x xs (passes_by r x p g.at _ g.stepped is g.stood g.stands ∙ e) (here_some r x p is ∙ ap (rows_at p) g.tells ∙ step_at x.number x.before g.at p false h.0.sound (h.0.here g.at g.stood) e) ih
 
@@ -200,3 +232,16 @@ comes r n s names c (x ∷ xs) last h k =
       | inl holds ↦ comes_later r x xs (passes_other r x holds.idle) (silent_here r x holds.silent) ih
       | inr goes ↦ comes_go r n s names c x xs last goes (place_of r x) h k refl ih
     ]
+
+-- ---- at most one row, and one exactly with a turn
+pub at_most_one : (r : RecordName) (t : Track) → Comes r t → length (rows_of r t) ≤ 1
+at_most_one r t c = elim c [ inl none ↦ omega (arith, ap length none.1) | inr one ↦ omega (arith, ap length one.1.only) ]
+
+pub turn_if_row : (r : RecordName) (t : Track) → Comes r t → OneRow (rows_of r t) → HasTurn r t
+turn_if_row r t c one = elim c [ inl none ↦ cc (none.1, one.only) | inr has ↦ has.0 ]
+
+pub row_if_turn : (r : RecordName) (t : Track) → Comes r t → HasTurn r t → OneRow (rows_of r t)
+row_if_turn r t c turn = elim c [ inl none ↦ cc (none.0, turn.is) | inr has ↦ has.1 ]
+
+pub none_if : (r : RecordName) (t : Track) → Comes r t → turn_of r t ≡ None → rows_of r t ≡ []
+none_if r t c e = elim c [ inl none ↦ none.1 | inr has ↦ cc (has.0.is, e) ]

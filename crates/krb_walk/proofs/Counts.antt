@@ -5,19 +5,20 @@ use Rattle.std.specs.List.{AllByRecursion, list_any}
 use Rattle.std.proofs.lemmas.List.{length-append}
 use Rattle.std.proofs.lemmas.Bool.Decides.{nat_tests}
 use Rattle.krb_walk.specs.Store.{Store, Record, end_of, IsSound, records, next_live}
-use Rattle.krb_walk.specs.Laws.{records_from}
 use Rattle.krb_walk.specs.Changes.{Changes}
 use Rattle.krb_walk.specs.Said.{Said, Placed, Gone, Rewritten, is_placed}
 use Rattle.krb_walk.specs.Events.{stop_cursor}
 use Rattle.krb_walk.specs.History.{Row}
 use Rattle.krb_walk.specs.Ranks.{live_places, carry}
-use Rattle.krb_walk.specs.Track.{RecordName, WalkEvent, Track, carried, IsTrack}
+use Rattle.krb_walk.specs.Track.{RecordName, WalkEvent, Track, carry_by, IsTrack}
 use Rattle.krb_walk.specs.Due.{rows_at_event, given_over}
-use Rattle.krb_walk.specs.Records.{additions, is_name, place_among, IsNamed}
+use Rattle.krb_walk.specs.Records.{is_name, place_among, IsNamed}
+use Rattle.krb_walk.specs.Counts.{additions}
+use Rattle.krb_walk.specs.Stops.{records_from}
 use Rattle.krb_walk.proofs.Stops.{stops_give_records}
 use Rattle.krb_walk.proofs.Cells.{rows_of_next}
 use Rattle.krb_walk.proofs.Places.{or_cases, or_true}
-use Rattle.krb_walk.proofs.WalkEvents.{end_of_step, effect_of, carried_own}
+use Rattle.krb_walk.proofs.WalkEvents.{end_of_step, effect_of, carry_by-own}
 use Rattle.krb_walk.proofs.Lives.{lives_lt, puts_insert, cuts_insert}
 use Rattle.krb_walk.proofs.Names.{or_left}
 use Rattle.krb_walk.proofs.Carries.{below, carry_keeps_rank}
@@ -84,7 +85,7 @@ ahead_below : (c : ℕ) (ps : List ℕ) → ahead_of c ps + below c ps ≡ lengt
 ahead_below c [] = refl
 ahead_below c (p ∷ ps) = ahead_below_by (nat_le c p) (nat_lt p c) p (filter (λ q. nat_le c q) ps) (filter (λ q. nat_lt q c) ps) (length ps) (λ e. grind (arith, nat_tests)) (λ e. grind (arith, nat_tests)) (ahead_below c ps)
 
-shift_count : (told : Said) (old new : Store) (c : ℕ) → IsSound old → Changes told old new → length (records_from new (carried told old new c)) ≤ length (records_from old c) + added told
+shift_count : (told : Said) (old new : Store) (c : ℕ) → IsSound old → Changes told old new → length (records_from new (carry_by told old new c)) ≤ length (records_from old c) + added told
 shift_count (Placed p) old new c sound h = let i = puts_insert old new p sound h in omega (arith, count_in (λ q. nat_le c q) i.front i.back p, ap (ahead_of c) i.lo_is, ap (ahead_of c) i.hi_is, ahead_places c (records old), ahead_places c (records new))
 shift_count (Gone p) old new c sound h = let i = cuts_insert old new p sound h in omega (arith, count_out (λ q. nat_le c q) i.front i.back p, ap (ahead_of c) i.lo_is, ap (ahead_of c) i.hi_is, ahead_places c (records old), ahead_places c (records new))
 shift_count (Rewritten p) old new c sound h =
@@ -113,7 +114,7 @@ few_steps n s names c (x ∷ t) u last d h at =
           let from = ap (λ (m : ℕ). length (records_from x.before m)) is in
           let ih = few_steps (suc n) x.after _ x.to t u last stop h.1 goes.stands in
           let go = go_count x.number x.before goes.at (next_live x.before goes.at) h.0.sound refl in
-          let put = ap (λ (m : ℕ). length (records_from x.after m)) (carried_own x.walk x.reply x.before x.after stop goes.own) in
+          let put = ap (λ (m : ℕ). length (records_from x.after m)) (carry_by-own x.walk x.reply x.before x.after stop goes.own) in
           omega (arith, ih, adds, rows, same, from, go, put, ap length goes.tells, shift_count x.reply x.before x.after stop h.0.sound h.0.changes))
     ]
 

@@ -13,12 +13,12 @@ use Rattle.krb_walk.specs.Rules.{Rules}
 use Rattle.krb_walk.specs.Events.{State, after, reply_to, store_after, cursors_after, stop_cursor, stop_said, end_said, put_said, cut_said, cut_store, rewrite_said, rewrite_cursors, step_said, step_cursors}
 use Rattle.krb_walk.specs.History.{IsReady, IsLawful, AllLawful, AllPlain, moment, history, state_after, steps_walk}
 use Rattle.krb_walk.specs.Ranks.{rank, nth_or, carry}
-use Rattle.krb_walk.specs.Track.{carried, AnswersStep}
+use Rattle.krb_walk.specs.Track.{carry_by, AnswersStep}
 use Rattle.krb_walk.proofs.Lists.{get-push, get-append, get-set, get-set_other, get-set_same}
 use Rattle.krb_walk.proofs.Places.{Extends, extends_self, extends_on, puts-extends, cuts-extends, sound_kept, place_kept, place_first, stop_place, or_true}
 use Rattle.krb_walk.proofs.Stops.{is_place_from-first}
 use Rattle.krb_walk.proofs.Lives.{lives}
-use Rattle.krb_walk.proofs.WalkEvents.{carried_same}
+use Rattle.krb_walk.proofs.WalkEvents.{carry_by-same}
 
 pub same_extends : (old new : Store) → new ≡ old → Extends old new
 same_extends old new e = subst (λ (s : Store). Extends old s) (sym e) (extends_self old)
@@ -147,7 +147,7 @@ ready_after r s e ready h = record {
 -- an event that is no step of a walk, and one that is
 pub record Unmoved {S I : Type 0} (r : Rules S I) (s : State S) (e : Event I) (w : ℕ) : Type 0 where
   pub idle : steps_walk s e w ≡ false
-  pub stays : (d : ℕ) → slice_get s.cursors w ≡ Some d → slice_get (cursors_after r s e) w ≡ Some (carried (reply_to r s e) (r.seen s.store) (r.seen (store_after r s e)) d)
+  pub stays : (d : ℕ) → slice_get s.cursors w ≡ Some d → slice_get (cursors_after r s e) w ≡ Some (carry_by (reply_to r s e) (r.seen s.store) (r.seen (store_after r s e)) d)
   pub other : tells_step w (reply_to r s e) ≡ false
 
 pub record Moves {S I : Type 0} (r : Rules S I) (s : State S) (e : Event I) (w : ℕ) : Type 0 where
@@ -199,10 +199,10 @@ plain_cut : {S : Type 0} (p : ℕ) (given : Result S Code) → is_rewritten (cut
 plain_cut p (Ok given) = refl
 plain_cut p (Err code) = refl
 
-stays_plain : (told : Said) (old new : Store) (q : Option ℕ) (d : ℕ) → is_rewritten told ≡ false → q ≡ Some d → q ≡ Some (carried told old new d)
-stays_plain told old new q d plain h = h ∙ sym (ap Some (carried_same told old new d plain))
+stays_plain : (told : Said) (old new : Store) (q : Option ℕ) (d : ℕ) → is_rewritten told ≡ false → q ≡ Some d → q ≡ Some (carry_by told old new d)
+stays_plain told old new q d plain h = h ∙ sym (ap Some (carry_by-same told old new d plain))
 
-rewrite_stays : {S : Type 0} (seen : S → Store) (old : S) (cursors : List ℕ) (given : Result S Code) (w d : ℕ) → slice_get cursors w ≡ Some d → slice_get (rewrite_cursors seen old cursors given) w ≡ Some (carried (rewrite_said seen given) (seen old) (seen (cut_store old given)) d)
+rewrite_stays : {S : Type 0} (seen : S → Store) (old : S) (cursors : List ℕ) (given : Result S Code) (w d : ℕ) → slice_get cursors w ≡ Some d → slice_get (rewrite_cursors seen old cursors given) w ≡ Some (carry_by (rewrite_said seen given) (seen old) (seen (cut_store old given)) d)
 rewrite_stays seen old cursors (Ok new) w d h = get_map (carry (seen old) (seen new)) cursors w d h
 rewrite_stays seen old cursors (Err code) w d h = h
 

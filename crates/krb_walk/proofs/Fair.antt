@@ -4,19 +4,22 @@ use Rattle.std.specs.List.{AllByRecursion}
 use Rattle.std.proofs.lemmas.Grind.{flat_map-append}
 use Rattle.krb_walk.specs.declared.event.Event.{Event}
 use Rattle.krb_walk.specs.Store.{Store}
-use Rattle.krb_walk.specs.Laws.{records_from}
 use Rattle.krb_walk.specs.Rules.{Rules}
 use Rattle.krb_walk.specs.Events.{State}
 use Rattle.krb_walk.specs.History.{Moment, Row, IsReady, AllLawful, history, state_after, given, given_from, rows_of_reply}
 use Rattle.krb_walk.specs.Track.{RecordName, WalkEvent, Track, PlacesStay, first_names, track_on, track, last_names, IsTrack, IsWalk}
 use Rattle.krb_walk.specs.Due.{rows_at_event, given_over, due_over, due_by_steps}
-use Rattle.krb_walk.specs.Records.{additions}
-use Rattle.krb_walk.specs.Fair.{CursorIsSound, IsFair}
+use Rattle.krb_walk.specs.Fair.{IsFair}
 use Rattle.krb_walk.specs.Joins.{Join, joined}
+use Rattle.krb_walk.specs.Cursors.{CursorIsSound}
+use Rattle.krb_walk.specs.Counts.{additions}
+use Rattle.krb_walk.specs.Stops.{records_from}
 use Rattle.krb_walk.proofs.WalkEvents.{cursor_is_sound}
 use Rattle.krb_walk.proofs.Tracks.{track_gives, track_gives_by_steps}
 use Rattle.krb_walk.proofs.Ranked.{first_keeps}
-use Rattle.krb_walk.proofs.ComeLaws.{track_rest, each_comes}
+use Rattle.krb_walk.proofs.Parts.{track_rest}
+use Rattle.krb_walk.proofs.Order.{sides_kept}
+use Rattle.krb_walk.proofs.ComeLaws.{each_comes}
 use Rattle.krb_walk.proofs.Names.{first_named}
 use Rattle.krb_walk.proofs.Unique.{one_past, names_many, names_at}
 use Rattle.krb_walk.proofs.Counts.{rows_named, few_steps}
@@ -47,6 +50,7 @@ walk_fair first start t last walk =
       names_stand_at_places = λ keeps. names_at 1 first names start t last keeps walk.is (first_named first);
       rows_are_of_records = rows_named 1 first names start t last walk.is k;
       each = each_comes first start t last walk;
+      sides = λ r. sides_kept r 1 first names start t last walk.is k;
       few_steps = few_of 1 first names start t last walk.is;
       steps_are_told = steps_told 1 first names start t last walk.is;
       other_steps_end = others_end 1 first names start t last walk.is;

@@ -6,17 +6,16 @@ use Rattle.std.specs.Option.{option_to_list}
 use Rattle.krb_walk.specs.declared.fault.Fault.{Fault}
 use Rattle.krb_walk.specs.declared.fault.FaultKind.{FaultKind}
 use Rattle.krb_walk.specs.Store.{Store, Record, end_of, IsSound, next_live, fault_from}
-use Rattle.krb_walk.specs.Laws.{records_from}
 use Rattle.krb_walk.specs.Changes.{Changes}
 use Rattle.krb_walk.specs.Said.{Said, Started, Gave, Ended, Faulted, Placed, Gone, Rewritten, Refused, tells_step, completes, is_gave, is_rewritten}
 use Rattle.krb_walk.specs.Events.{stop_cursor, stop_said, end_said}
 use Rattle.krb_walk.specs.Track.{RecordName, WalkEvent, Track, AnswersStep, IsTrack}
-use Rattle.krb_walk.specs.Cursors.{gave}
-use Rattle.krb_walk.specs.Fair.{as_walk, told_over, IsToldToFault}
+use Rattle.krb_walk.specs.Damage.{IsToldToFault, as_walk, gave, told_over}
+use Rattle.krb_walk.specs.Stops.{records_from}
 use Rattle.krb_walk.proofs.Stops.{stops_give_records, stops_end}
-use Rattle.krb_walk.proofs.WalkEvents.{end_of_step, effect_of, carried_same}
+use Rattle.krb_walk.proofs.WalkEvents.{end_of_step, effect_of, carry_by-same}
 use Rattle.krb_walk.proofs.Counts.{none_at_end}
-use Rattle.krb_walk.proofs.ComeLaws.{track_rest}
+use Rattle.krb_walk.proofs.Parts.{track_rest}
 
 -- the records from a place on are the next one, and those from where a step from there leads
 pub records_next : (s : Store) (c : ℕ) (found : Option Record) → IsSound s → next_live s c ≡ found → records_from s c ≡ option_to_list found ++ records_from s (stop_cursor (end_of s) found)
@@ -83,7 +82,7 @@ faulted_told w n s names c (x ∷ xs) last d m kind fault h at =
     let fault_on : x.after.fault ≡ Some kind = ap (λ (z : Store). z.fault) same_store ∙ fault in
     elim (effect_of x h.0.effect) [
       | inl holds ↦ (
-          let to = holds.stays d (h.0.from ∙ at) ∙ ap Some (carried_same x.reply x.before x.after d plain) in
+          let to = holds.stays d (h.0.from ∙ at) ∙ ap Some (carry_by-same x.reply x.before x.after d plain) in
           let ih = faulted_told w (suc n) x.after _ x.to xs last d m kind fault_on h.1 to in
           subst (λ (l : List Said). ToldBy l s w d m kind) (sym (told_idle w x xs holds.idle)) (subst (λ (z : Store). ToldBy (told_over w xs) z w d m kind) same_store ih))
       | inr goes ↦ (

@@ -8,10 +8,10 @@ use Rattle.krb_walk.specs.Said.{Said, is_rewritten}
 use Rattle.krb_walk.specs.Rules.{Rules}
 use Rattle.krb_walk.specs.Events.{State, after, reply_to, store_after, cursors_after}
 use Rattle.krb_walk.specs.History.{IsReady, AllLawful, history, state_after}
-use Rattle.krb_walk.specs.Track.{RecordName, track_on, carried, AnswersStep, IsTrack}
+use Rattle.krb_walk.specs.Track.{RecordName, track_on, carry_by, AnswersStep, IsTrack}
 use Rattle.krb_walk.proofs.Places.{place_kept}
 use Rattle.krb_walk.proofs.Effects.{ready_after, effect, changes-extends}
-use Rattle.krb_walk.proofs.WalkEvents.{carried_same}
+use Rattle.krb_walk.proofs.WalkEvents.{carry_by-same}
 
 -- where the walk is made, it is made at c, and before that no event rewrites the store
 pub record Fits {S I : Type 0} (c : Option ℕ) (r : Rules S I) (w : ℕ) (s : State S) (e : Event I) : Type 0 where
@@ -26,11 +26,11 @@ pub made_none : {S I : Type 0} (r : Rules S I) (w : ℕ) (s : State S) (es : Lis
 made_none r w s [] = tt
 made_none r w s (e ∷ es) = (record { made = λ d a is. cc; plain = λ d is. cc }, made_none r w (after r s e) es)
 
-stays_on : (told : Said) (old new : Store) (c o q : Option ℕ) → ((d : ℕ) → o ≡ Some d → q ≡ Some (carried told old new d)) → ((d a : ℕ) → c ≡ Some d → o ≡ None → q ≡ Some a → a ≡ d) → ((d : ℕ) → c ≡ Some d → o ≡ None → is_rewritten told ≡ false)
-    → (d : ℕ) → option_or o c ≡ Some d → option_or q c ≡ Some (carried told old new d)
-stays_on told old new c (Some x) q stays made plain d h = let same : x ≡ d = cc in ap (λ (z : Option ℕ). option_or z c) (stays x refl) ∙ ap (λ (y : ℕ). Some (carried told old new y)) same
-stays_on told old new c None None stays made plain d h = h ∙ sym (ap Some (carried_same told old new d (plain d h refl)))
-stays_on told old new c None (Some a) stays made plain d h = ap Some (made d a h refl refl) ∙ sym (ap Some (carried_same told old new d (plain d h refl)))
+stays_on : (told : Said) (old new : Store) (c o q : Option ℕ) → ((d : ℕ) → o ≡ Some d → q ≡ Some (carry_by told old new d)) → ((d a : ℕ) → c ≡ Some d → o ≡ None → q ≡ Some a → a ≡ d) → ((d : ℕ) → c ≡ Some d → o ≡ None → is_rewritten told ≡ false)
+    → (d : ℕ) → option_or o c ≡ Some d → option_or q c ≡ Some (carry_by told old new d)
+stays_on told old new c (Some x) q stays made plain d h = let same : x ≡ d = cc in ap (λ (z : Option ℕ). option_or z c) (stays x refl) ∙ ap (λ (y : ℕ). Some (carry_by told old new y)) same
+stays_on told old new c None None stays made plain d h = h ∙ sym (ap Some (carry_by-same told old new d (plain d h refl)))
+stays_on told old new c None (Some a) stays made plain d h = ap Some (made d a h refl refl) ∙ sym (ap Some (carry_by-same told old new d (plain d h refl)))
 
 places_on : {S I : Type 0} (r : Rules S I) (s : State S) (c o : Option ℕ) → ((d : ℕ) → o ≡ Some d → is_place (r.seen s.store) d ≡ true) → ((d : ℕ) → c ≡ Some d → o ≡ None → is_place (r.seen s.store) d ≡ true) → (d : ℕ) → option_or o c ≡ Some d → is_place (r.seen s.store) d ≡ true
 places_on r s c None all made d h = made d h refl

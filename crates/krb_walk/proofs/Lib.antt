@@ -16,6 +16,8 @@ pub mod StepRows
 pub mod Ranked
 pub mod Comes
 pub mod Unique
+pub mod Parts
+pub mod Order
 pub mod ComeLaws
 pub mod Counts
 pub mod Faults

@@ -7,7 +7,7 @@ use Rattle.krb_walk.specs.Store.{Store, end_of, IsSound}
 use Rattle.krb_walk.specs.Ranks.{live_places, rank}
 use Rattle.krb_walk.specs.Changes.{Changes}
 use Rattle.krb_walk.specs.Said.{Said, Placed, Gone, Rewritten}
-use Rattle.krb_walk.specs.Track.{RecordName, first_names, names_after, carried}
+use Rattle.krb_walk.specs.Track.{RecordName, first_names, names_after, carry_by}
 use Rattle.krb_walk.specs.Records.{is_name, place_among}
 use Rattle.krb_walk.proofs.Lives.{puts_insert, cuts_insert}
 use Rattle.krb_walk.proofs.Names.{AreBorn, born_after, first_born}
@@ -181,7 +181,7 @@ rewrite_still r old new names c d (Some p) (Some q) a b e side = inr (record { p
 
 -- an event leaves a record on its side of each cursor, or the record is no more
 pub still_after : (n : ℕ) (told : Said) (old new : Store) (names : List RecordName) (r : RecordName) (c : ℕ) → IsSound old → Changes told old new → Keeps n old names → r.birth < n
-    → (place_among r (names_after n told old new names) (live_places new) ≡ None) ⊎ Still (place_among r names (live_places old)) (place_among r (names_after n told old new names) (live_places new)) c (carried told old new c)
+    → (place_among r (names_after n told old new names) (live_places new) ≡ None) ⊎ Still (place_among r names (live_places old)) (place_among r (names_after n told old new names) (live_places new)) c (carry_by told old new c)
 still_after n (Placed p) old new names r c sound h k lt =
     let i = puts_insert old new p sound h in
     let nm : RecordName = record { place = p; birth = n } in

@@ -6,19 +6,18 @@ use Rattle.std.specs.Option.{option_map}
 use Rattle.krb_walk.specs.declared.event.Event.{Event}
 use Rattle.krb_walk.specs.declared.event.Event.TheVariants.{Start, Resume, Step, Put, Cut, Rewrite}
 use Rattle.krb_walk.specs.declared.refusal.Code.{Code}
-use Rattle.krb_walk.specs.Store.{Cell, Store, standing, end_from, end_of, is_place, next_live}
+use Rattle.krb_walk.specs.Store.{Cell, Store, standing, end_from, end_of, is_place, next_live, size_at}
 use Rattle.krb_walk.specs.Changes.{Fills, Appends, Puts, Changes}
 use Rattle.krb_walk.specs.Said.{Said, Placed, is_rewritten}
 use Rattle.krb_walk.specs.Rules.{Rules}
 use Rattle.krb_walk.specs.Events.{State, after, reply_to, stop_cursor, step_cursors, rewrite_said, rewrite_cursors}
 use Rattle.krb_walk.specs.History.{IsReady, IsLawful, AllLawful, AllPlain, moment, history, state_after}
 use Rattle.krb_walk.specs.Track.{AnswersStep}
-use Rattle.krb_walk.specs.Cursors.{size_at}
 use Rattle.krb_walk.proofs.Lists.{get-set_other}
 use Rattle.krb_walk.proofs.Splits.{end_from-append}
 use Rattle.krb_walk.proofs.Places.{Extends, place_kept, stop_forward, widths}
 use Rattle.krb_walk.proofs.Effects.{effect, own_step, ready_after, history_extends, get_push_cond}
-use Rattle.krb_walk.proofs.WalkEvents.{carried_same}
+use Rattle.krb_walk.proofs.WalkEvents.{carry_by-same}
 
 -- what a step is answered
 pub step_answered : {S I : Type 0} (r : Rules S I) (s : State S) (w c : ℕ) → slice_get s.cursors w ≡ Some c → IsSomeAnd (slice_get (after {I = I} r s (Step w)).cursors w) (AnswersStep (r.seen s.store) w c (reply_to {I = I} r s (Step w)))
@@ -49,7 +48,7 @@ never_back r s [] w b c ready plain h at le = subst (λ (o : Option ℕ). IsSome
 never_back r s (e ∷ es) w b c ready plain h at le =
     let next = ready_after r s e ready h.0 in
     elim (effect r s e w) [
-      | inl still ↦ never_back r (after r s e) es w b c next plain.1 h.1 (still.stays c at ∙ ap Some (carried_same (reply_to r s e) _ _ c plain.0)) le
+      | inl still ↦ never_back r (after r s e) es w b c next plain.1 h.1 (still.stays c at ∙ ap Some (carry_by-same (reply_to r s e) _ _ c plain.0)) le
       | inr moves ↦ (
           let same : c ≡ moves.at = cc (at, moves.stood) in
           let forward = stop_forward (r.seen s.store) moves.at (ready.cursors w moves.at moves.stood) in

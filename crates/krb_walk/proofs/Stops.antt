@@ -7,7 +7,7 @@ use Rattle.std.proofs.lemmas.Bool.{leb-true, leb-false, le-leb, lt-leb}
 use Rattle.krb_walk.specs.declared.fault.FaultKind.{FaultKind}
 use Rattle.krb_walk.specs.declared.stop.Stop.TheVariants.{Live}
 use Rattle.krb_walk.specs.Store.{Cell, Store, Record, IsSound, IsPlace, standing, end_from, end_of, is_place_from, record_of, record_of_some, bytes_of_some, next_live, live_bytes, end_stop, stop_of, stop_at}
-use Rattle.krb_walk.specs.Laws.{records_from, StopsGiveRecords, StopsEnd, WalksBeginWithAll}
+use Rattle.krb_walk.specs.Stops.{StopsEnd, StopsGiveRecords, WalksBeginWithAll, records_from}
 
 -- the first record at or after p, the records, and the cell at p, of cells from a place on
 abbrev pub next_from : ℕ → List Cell → ℕ → Option Record

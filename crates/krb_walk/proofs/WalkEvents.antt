@@ -6,9 +6,9 @@ use Rattle.krb_walk.specs.Store.{Store, end_of, next_live}
 use Rattle.krb_walk.specs.Said.{Said, Started, Gave, Ended, Faulted, Placed, Gone, Rewritten, Refused, tells_step, completes, is_rewritten}
 use Rattle.krb_walk.specs.Events.{stop_cursor}
 use Rattle.krb_walk.specs.History.{rows_of_reply}
-use Rattle.krb_walk.specs.Track.{RecordName, WalkEvent, carried, AnswersStep, Stays, MovesCursor, IsWalkEvent}
+use Rattle.krb_walk.specs.Track.{RecordName, WalkEvent, carry_by, AnswersStep, Stays, MovesCursor, IsWalkEvent}
 use Rattle.krb_walk.specs.Due.{rows_at_event}
-use Rattle.krb_walk.specs.Fair.{CursorMayGo, CursorIsSound}
+use Rattle.krb_walk.specs.Cursors.{CursorIsSound, CursorMayGo}
 use Rattle.krb_walk.proofs.Cells.{rows_of_next}
 use Rattle.krb_walk.proofs.Places.{stop_forward}
 
@@ -20,7 +20,7 @@ end_of_step x at = stop_cursor (end_of x.before) (next_live x.before at)
 pub record Holds (x : WalkEvent) : Type 0 where
   pub idle : x.stepped ≡ false
   pub other : tells_step x.walk x.reply ≡ false
-  pub stays : (d : ℕ) → x.from ≡ Some d → x.to ≡ Some (carried x.reply x.before x.after d)
+  pub stays : (d : ℕ) → x.from ≡ Some d → x.to ≡ Some (carry_by x.reply x.before x.after d)
   pub silent : rows_at_event x ≡ []
 
 pub record Advances (x : WalkEvent) : Type 0 where
@@ -125,27 +125,27 @@ completes_stepped x effect told = elim (effect_of x effect) [
 ]
 
 -- where no rewrite is told, a cursor is carried nowhere
-pub carried_same : (told : Said) (old new : Store) (c : ℕ) → is_rewritten told ≡ false → carried told old new c ≡ c
-carried_same (Rewritten p) old new c e = cc
-carried_same told old new c e = refl
+pub carry_by-same : (told : Said) (old new : Store) (c : ℕ) → is_rewritten told ≡ false → carry_by told old new c ≡ c
+carry_by-same (Rewritten p) old new c e = cc
+carry_by-same told old new c e = refl
 
 own_no_rewrite : (w : ℕ) (told : Said) → tells_step w told ≡ true → is_rewritten told ≡ false
 own_no_rewrite w (Rewritten p) e = cc
 own_no_rewrite w told e = refl
 
 -- nor at a step
-pub carried_own : (w : ℕ) (told : Said) (old new : Store) (c : ℕ) → tells_step w told ≡ true → carried told old new c ≡ c
-carried_own w told old new c e = carried_same told old new c (own_no_rewrite w told e)
+pub carry_by-own : (w : ℕ) (told : Said) (old new : Store) (c : ℕ) → tells_step w told ≡ true → carry_by told old new c ≡ c
+carry_by-own w told old new c e = carry_by-same told old new c (own_no_rewrite w told e)
 
 pub stays_put : (x : WalkEvent) (d : ℕ) → Holds x → is_rewritten x.reply ≡ false → x.from ≡ Some d → x.to ≡ Some d
-stays_put x d holds put_by at = holds.stays d at ∙ ap Some (carried_same x.reply x.before x.after d put_by)
+stays_put x d holds put_by at = holds.stays d at ∙ ap Some (carry_by-same x.reply x.before x.after d put_by)
 
 -- a cursor is a place, and goes on as it may
 pub cursor_is_sound : (n : ℕ) (s : Store) (names : List RecordName) (c : Option ℕ) (x : WalkEvent) (d : ℕ) → IsWalkEvent n s names c x → x.from ≡ Some d → CursorIsSound x d
 cursor_is_sound n s names c x d h at = elim (effect_of x h.effect) [
   | inl holds ↦ record {
     place = h.here d at;
-    to = subst (λ (o : Option ℕ). IsSomeAnd o (CursorMayGo x d)) (sym (holds.stays d at)) (record { forward = λ put_by. omega (arith, carried_same x.reply x.before x.after d put_by); moves = λ own. cc (own, holds.idle); stays = λ other. refl });
+    to = subst (λ (o : Option ℕ). IsSomeAnd o (CursorMayGo x d)) (sym (holds.stays d at)) (record { forward = λ put_by. omega (arith, carry_by-same x.reply x.before x.after d put_by); moves = λ own. cc (own, holds.idle); stays = λ other. refl });
   }
   | inr goes ↦ (
       let same : goes.at ≡ d = cc (at, goes.stood) in

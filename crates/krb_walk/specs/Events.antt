@@ -5,7 +5,8 @@ use Rattle.krb_walk.specs.declared.event.Event.TheVariants.{Start, Resume, Step,
 use Rattle.krb_walk.specs.declared.fault.FaultKind.{FaultKind}
 use Rattle.krb_walk.specs.declared.refusal.Code.{Code}
 use Rattle.krb_walk.specs.declared.refusal.Code.TheVariants.{NotAPlace, NoSuchWalk, TooManyWalks}
-use Rattle.krb_walk.specs.Store.{Store, Record, end_of, is_place, next_live}
+use Rattle.krb_walk.specs.declared.stop.Stop.{Stop}
+use Rattle.krb_walk.specs.Store.{Store, Record, end_of, is_place, next_live, stop_at}
 use Rattle.krb_walk.specs.Ranks.{carry}
 use Rattle.krb_walk.specs.Said.{Said, Started, Gave, Ended, Faulted, Placed, Gone, Rewritten, Refused}
 use Rattle.krb_walk.specs.Rules.{Rules}
@@ -59,6 +60,11 @@ step_said s w (Some c) = stop_said s w (next_live s c)
 abbrev pub step_cursors : Store → List ℕ → ℕ → Option ℕ → List ℕ
 step_cursors s cursors w None = cursors
 step_cursors s cursors w (Some c) = slice_set cursors w (stop_cursor (end_of s) (next_live s c))
+
+-- what the step answers without the record's bytes
+abbrev pub step_result : Store → Option ℕ → Result Stop Code
+step_result s None = Err NoSuchWalk
+step_result s (Some c) = Ok (stop_at s c)
 
 -- ---- Put and Cut: what the store's rules give
 

@@ -88,13 +88,3 @@ is_step w e = false
 -- an event is a step of walk w, which stands
 abbrev pub steps_walk : {S I : Type 0} → State S → Event I → ℕ → Bool
 steps_walk s e w = is_step w e && is_some (slice_get s.cursors w)
-
--- the reply to an event, if it is a step of walk w
-abbrev pub told_if_step : {I : Type 0} → ℕ → Event I → Said → List Said
-told_if_step w (Step v) said = cond (v == w) (said ∷ []) []
-told_if_step w e said = []
-
--- the replies to the steps of walk w
-abbrev pub told_to_steps : {S I : Type 0} → ℕ → List (Moment S I) → List Said
-told_to_steps w [] = []
-told_to_steps w (m ∷ ms) = told_if_step w m.event m.reply ++ told_to_steps w ms

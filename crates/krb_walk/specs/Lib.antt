@@ -1,5 +1,5 @@
 -- What the contracts of this crate say, in ten words:
--- store: a first place, cells that touch one another, and perhaps a fault behind them
+-- store: a first place, cells that touch one another, and perhaps a fault after them
 -- cell: a width of places with bytes, and then it is live, or without, and then it is free
 -- place: where a cell begins, or the end of the last one
 -- walk: what goes from record to record, a step at a time; its cursor is the place where it stands
@@ -11,18 +11,21 @@
 -- rewrite: the live cells alone are written anew, in order, and each cursor is carried to the first that it had ahead
 pub mod Numbers
 pub mod Store
-pub mod Laws
+pub mod Stops
 pub mod Ranks
-pub mod Changes
 pub mod Rules
 pub mod Said
+pub mod Changes
 pub mod Events
+pub mod Memory
 pub mod History
 pub mod Track
 pub mod Due
 pub mod Records
+pub mod Counts
+pub mod Cursors
+pub mod Damage
 pub mod Fair
 pub mod Joins
-pub mod Cursors
 pub mod Ran
 pub mod Kept

@@ -9,7 +9,7 @@ use Rattle.krb_walk.specs.History.{IsReady, IsRun, history, replies, state_after
 use Rattle.krb_walk.specs.Track.{PlacesStay, track_of}
 use Rattle.krb_walk.specs.Due.{due_over, due_by_steps}
 use Rattle.krb_walk.specs.Fair.{IsFair}
-use Rattle.krb_walk.specs.Cursors.{RefusesChanges}
+use Rattle.krb_walk.specs.Damage.{RefusesChanges}
 
 -- a run of events: the replies and the state are those of the history, and every walk is given what is due to it
 pub record Ran {S I : Type 0} (r : Rules S I) (old new : State S) (events : List (Event I)) (told_old told_new : List Said) : Type 0 where

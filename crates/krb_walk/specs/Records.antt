@@ -1,8 +1,8 @@
 -- Records along a track, on which the store may be rewritten: how often each comes.
-use Rattle.std.specs.Prelude.{◌≡◌, ◌↔◌, ℕ, ◌≤◌, Bool, false, true, cond, ◌&&◌, ◌==◌, IsSome, List, [], ◌∷◌, ◌++◌, length, find, filter, flat_map, Option, Some, None}
+use Rattle.std.specs.Prelude.{◌≡◌, ◌↔◌, ℕ, ◌<◌, ◌≤◌, Bool, false, true, cond, ◌&&◌, ◌==◌, IsSome, List, [], ◌∷◌, ◌++◌, length, find, filter, flat_map, Option, Some, None}
 use Rattle.std.specs.List.{AllByRecursion}
 use Rattle.krb_walk.specs.Ranks.{live_places}
-use Rattle.krb_walk.specs.Said.{Gone, Placed, completes, is_placed}
+use Rattle.krb_walk.specs.Said.{Gone, Placed, completes}
 use Rattle.krb_walk.specs.History.{Row}
 use Rattle.krb_walk.specs.Track.{RecordName, WalkEvent, Track, goes_past}
 use Rattle.krb_walk.specs.Due.{rows_at_event}
@@ -22,10 +22,6 @@ pub record OneRow (rows : List Row) : Type 0 where
 abbrev pub begins : Track → Option ℕ
 begins [] = None
 begins (x ∷ xs) = x.from
-
--- how many additions are accepted along a track
-abbrev pub additions : Track → ℕ
-additions t = length (filter (λ x. is_placed x.reply) t)
 
 -- ---- a record stands at the live cell of its rank
 
@@ -120,12 +116,27 @@ pub record IsAddedAt (r : RecordName) (c : ℕ) (t : Track) : Type 0 where
   pub born : r.birth ≡ put.number
   pub cursor : put.from ≡ Some c
 
+-- a step passes a record after another was given, and both are alive just before that step
+pub record ComeInTurn (first second : RecordName) (t : Track) : Type 0 where
+  pub earlier : Track
+  pub at : WalkEvent
+  pub later : Track
+  pub track_is : t ≡ earlier ++ at ∷ later
+  pub given : OneRow (rows_of first earlier)
+  pub turn : passes_record second at ≡ true
+  pub first_place : ℕ
+  pub second_place : ℕ
+  pub first_stands : place_of first at ≡ Some first_place
+  pub second_stands : place_of second at ≡ Some second_place
+
 -- each record comes as it is due, over rewrites too
 pub record EachComesAsDue (t : Track) : Type 0 where
   -- "each once"
   pub at_most_once : (r : RecordName) → length (rows_of r t) ≤ 1
   -- "when its cursor passes their place": once, if ever
   pub turn_is_unique : (r : RecordName) → length (filter (passes_record r) t) ≤ 1
+  -- "in file order": of two that come in turn, the first stands before the second
+  pub in_file_order : (first second : RecordName) (a : ComeInTurn first second t) → a.first_place < a.second_place
   -- "exactly the records alive when its cursor passes their place"
   pub once_if_it_has_a_turn : (r : RecordName) → OneRow (rows_of r t) ↔ HasTurn r t
   -- "one alive throughout a completed walk comes once"

@@ -1,4 +1,4 @@
--- What a store gives for an addition and a removal, where no memory is wanting.
+-- What a store gives for each change, where memory is there.
 use Rattle.std.specs.Prelude.{◌≡◌, ℕ, Bool, Result, Ok, Err}
 use Rattle.krb_walk.specs.declared.refusal.Code.{Code}
 use Rattle.krb_walk.specs.declared.refusal.Refusal.{Refusal}
@@ -14,7 +14,7 @@ pub record Rules (S I : Type 0) : Type 0 where
   -- whether an addition takes no memory
   pub takes_none : S → I → Bool
 
--- an addition answered as the rules have it; want of memory leaves the store
+-- an addition answered as the rules have it; a failed allocation leaves the store
 abbrev pub PutGives : {S : Type 0} → Result (ℕ × S) Code → S → Result ℕ Refusal → S → Type 0
 PutGives given old (Ok place) new = given ≡ Ok (place, new)
 PutGives given old (Err (ByCode code)) new = (given ≡ Err code) × (new ≡ old)
@@ -25,13 +25,8 @@ abbrev pub CutGives : {S : Type 0} → Result S Code → S → Result (Unit {0})
 CutGives given old (Ok done) new = given ≡ Ok new
 CutGives given old (Err code) new = (given ≡ Err code) × (new ≡ old)
 
--- a rewrite answered as the rules have it; want of memory leaves the store
+-- a rewrite answered as the rules have it; a failed allocation leaves the store
 abbrev pub RewriteGives : {S : Type 0} → Result S Code → S → Result (Unit {0}) Refusal → S → Type 0
 RewriteGives given old (Ok done) new = given ≡ Ok new
 RewriteGives given old (Err (ByCode code)) new = (given ≡ Err code) × (new ≡ old)
 RewriteGives given old (Err NoMemory) new = new ≡ old
-
--- an addition that is not answered want of memory
-abbrev pub IsNotWanting : Result ℕ Refusal → Type 0
-IsNotWanting (Err NoMemory) = ⊥
-IsNotWanting result = Unit {0}

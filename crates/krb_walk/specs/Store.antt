@@ -1,6 +1,7 @@
 -- A store: cells that touch one another, and perhaps a fault after the last of them.
 use Rattle.std.specs.Prelude.{◌≡◌, ℕ, ◌+◌, ◌<◌, Bool, true, ◌&&◌, ◌||◌, ◌==◌, nat_le, List, [], ◌∷◌, map, find, Option, Some, None, is_some}
 use Rattle.std.specs.List.{AllByRecursion, filter_map}
+use Rattle.std.specs.Option.{option_map}
 use Rattle.krb_walk.specs.declared.fault.FaultKind.{FaultKind}
 use Rattle.krb_walk.specs.declared.fault.Fault.{Fault}
 use Rattle.krb_walk.specs.declared.stop.Stop.{Stop}
@@ -56,6 +57,10 @@ IsPlace s p = is_place s p ≡ true
 -- the cell that stands at a place
 abbrev pub cell_at : Store → ℕ → Option Standing
 cell_at s p = find (λ x. x.place == p) (standing s.first s.cells)
+
+-- the size of the cell at a place
+abbrev pub size_at : Store → ℕ → Option ℕ
+size_at s p = option_map (λ x. x.cell.width) (cell_at s p)
 
 -- a live cell: its place, the place after it, its bytes
 pub record Record : Type 0 where

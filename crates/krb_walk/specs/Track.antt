@@ -103,15 +103,15 @@ AnswersStep s w c (Faulted v fault) to = (v ≡ w) × (next_live s c ≡ None) �
 AnswersStep s w c said to = ⊥
 
 -- where a cursor then stands that no step moves: a rewrite carries it, all else leaves it
-abbrev pub carried : Said → Store → Store → ℕ → ℕ
-carried (Rewritten p) old new c = carry old new c
-carried said old new c = c
+abbrev pub carry_by : Said → Store → Store → ℕ → ℕ
+carry_by (Rewritten p) old new c = carry old new c
+carry_by said old new c = c
 
 -- an event that is no step of the walk leaves its cursor, or carries it
 pub record Stays (x : WalkEvent) : Type 0 where
   pub idle : x.stepped ≡ false
   pub other : tells_step x.walk x.reply ≡ false
-  pub stays : (c : ℕ) → x.from ≡ Some c → x.to ≡ Some (carried x.reply x.before x.after c)
+  pub stays : (c : ℕ) → x.from ≡ Some c → x.to ≡ Some (carry_by x.reply x.before x.after c)
 
 -- a step of the walk moves it, and is answered so
 pub record MovesCursor (x : WalkEvent) : Type 0 where

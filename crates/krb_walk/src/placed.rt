@@ -5,7 +5,8 @@ ghost use Rattle.krb_walk.specs.Store.{IsPlace, IsSound, end_of, fault_of, is_pl
 ghost use Rattle.krb_walk.specs.Changes.{Cuts, Puts};
 ghost use Rattle.std.specs.List.{AllByRecursion};
 ghost use Rattle.krb_walk.specs.Ranks.{carry, Rewrites};
-ghost use Rattle.krb_walk.specs.Rules.{Rules, PutGives, CutGives, RewriteGives, IsNotWanting};
+ghost use Rattle.krb_walk.specs.Rules.{Rules, PutGives, CutGives, RewriteGives};
+ghost use Rattle.krb_walk.specs.Memory.{HadMemory};
 
 use crate::fault::Fault;
 use crate::refusal::{Code, Refusal};
@@ -50,7 +51,7 @@ pub trait Placed {
     fn put(&mut self, item: &Self::Item) -> Result<u32, Refusal>
         ensures gives { PutGives (rules.put self.old item.now) self.old result self.new }
         ensures puts { IfOk result (Puts (rules.seen self.old) (rules.seen self.new)) }
-        ensures memory { rules.takes_none self.old item.now ≡ true → IsNotWanting result };
+        ensures memory { rules.takes_none self.old item.now ≡ true → HadMemory result };
 
     /// Frees the live cell at a place. Takes no memory.
     fn cut(&mut self, place: u32) -> Result<(), Code>

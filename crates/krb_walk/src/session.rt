@@ -3,10 +3,10 @@
 ghost use Rattle.std.specs.Prelude.{◌≡◌, ◌<◌, [], ◌∷◌, length, slice_get, slice_set};
 ghost use Rattle.krb_walk.specs.declared.event.Event.TheVariants.{Step};
 ghost use Rattle.krb_walk.specs.Store.{IsPlace, end_of, next_live, stop_at};
-ghost use Rattle.krb_walk.specs.Events.{State, after, reply_to, stop_cursor};
+ghost use Rattle.krb_walk.specs.Events.{State, after, reply_to, stop_cursor, step_result};
 ghost use Rattle.krb_walk.specs.History.{IsReady};
 ghost use Rattle.krb_walk.specs.Ran.{Ran};
-ghost use Rattle.krb_walk.specs.Kept.{step_result, place_after};
+ghost use Rattle.krb_walk.specs.Kept.{place_after};
 
 mod events;
 

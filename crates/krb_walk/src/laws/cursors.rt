@@ -3,12 +3,11 @@
 ghost use Rattle.std.specs.Prelude.{◌≡◌, false, ◌≢◌, ◌⊎◌, ℕ, ◌≤◌, ◌<◌, IsSomeAnd, List, Some, slice_get};
 ghost use Rattle.krb_walk.specs.declared.event.Event.{Event};
 ghost use Rattle.krb_walk.specs.declared.event.Event.TheVariants.{Step, Put};
-ghost use Rattle.krb_walk.specs.Store.{IsPlace, end_of};
+ghost use Rattle.krb_walk.specs.Store.{IsPlace, end_of, size_at};
 ghost use Rattle.krb_walk.specs.Said.{Placed, is_rewritten};
 ghost use Rattle.krb_walk.specs.Events.{State, after, reply_to};
 ghost use Rattle.krb_walk.specs.History.{IsReady, IsLawful, IsRun, AllLawful, AllPlain, moment, history, state_after, last_store};
 ghost use Rattle.krb_walk.specs.Track.{AnswersStep};
-ghost use Rattle.krb_walk.specs.Cursors.{FewGive, size_at};
 
 use crate::placed::Placed;
 
@@ -36,13 +35,6 @@ pub fn only_its_steps_move_a_cursor<P: Placed>()
 pub fn steps_are_answered<P: Placed>()
     ensures { (s : State P) (w c : ℕ) → slice_get s.cursors w ≡ Some c
         → IsSomeAnd (slice_get (after P.rules s (Step w)).cursors w) (AnswersStep (P.rules.seen s.store) w c (reply_to P.rules s (Step w))) }
-{}
-
-/// Up to any event, at most as many steps of a walk give a record as there were live cells at or after its
-/// cursor, and additions since; all its other steps are told the end or the fault.
-pub fn few_steps_give<P: Placed>()
-    ensures { (s : State P) (events : List (Event P.Item)) (w c : ℕ) → IsRun P.rules s events
-        → slice_get s.cursors w ≡ Some c → FewGive P.rules s events w c }
 {}
 
 /// A place stays a place, and its cell keeps its size.

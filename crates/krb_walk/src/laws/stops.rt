@@ -1,6 +1,6 @@
 //! To go from stop to stop is to go through all records.
 
-ghost use Rattle.krb_walk.specs.Laws.{WalksBeginWithAll, StopsGiveRecords, StopsEnd};
+ghost use Rattle.krb_walk.specs.Stops.{WalksBeginWithAll, StopsGiveRecords, StopsEnd};
 
 /// To go from stop to stop, from the first place on, is to go through all records in order: a stop is
 /// the first record at or after its place, its next place lies ahead of it and is one, and where there

@@ -9,7 +9,7 @@ ghost use Rattle.krb_walk.specs.Rules.{RewriteGives};
 ghost use Rattle.krb_walk.specs.Said.{said, Started, is_gave};
 ghost use Rattle.krb_walk.specs.Events.{reply_to, after, stop_said};
 ghost use Rattle.krb_walk.specs.History.{IsLawful, IsReady, moment};
-ghost use Rattle.krb_walk.specs.Kept.{TakesNone};
+ghost use Rattle.krb_walk.specs.Memory.{TakesNone};
 ghost use Rattle.krb_walk.specs.Ran.{Ran, RanSome};
 
 use super::{Session, stop_from};

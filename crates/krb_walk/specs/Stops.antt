@@ -1,4 +1,4 @@
--- Laws of the definitions of a store.
+-- From stop to stop: the records that are left.
 use Rattle.std.specs.Prelude.{◌≡◌, ℕ, ◌<◌, ◌≤◌, nat_le, List, [], ◌∷◌, Some, None, filter}
 use Rattle.krb_walk.specs.Store.{Store, Record, IsSound, IsPlace, records, next_live, end_of, live_bytes}
 
