@@ -41,7 +41,7 @@ among_born n r [] ps p h e = cc
 among_born n r (x ∷ names) [] p h e = cc
 among_born n r (x ∷ names) (q ∷ ps) p h e = among_born_by n r x q p (is_name r x) (place_among r names ps) refl h.0 e (λ f. among_born n r names ps p h.1 f)
 
--- the names at a pass
+-- the names at an event
 pub keeps_here : (n : ℕ) (s : Store) (names : List RecordName) (c : Option ℕ) (x : WalkEvent) → IsWalkEvent n s names c x → Keeps n s names → Keeps x.number x.before x.names
 keeps_here n s names c x h k =
     subst (λ (m : ℕ). Keeps m x.before x.names) (sym h.number) (subst (λ (z : Store). Keeps n z x.names) (sym h.before) (subst (λ (l : List RecordName). Keeps n s l) (sym h.names) k))
@@ -54,7 +54,7 @@ keeps_next n s names c x h k =
 pub place_here : (r : RecordName) (n : ℕ) (s : Store) (names : List RecordName) (c : Option ℕ) (x : WalkEvent) → IsWalkEvent n s names c x → place_of r x ≡ place_among r names (live_places s)
 place_here r n s names c x h = ap (λ (l : List RecordName). place_among r l (live_places x.before)) h.names ∙ ap (λ (z : Store). place_among r names (live_places z)) h.before
 
--- whether a pass passes a record
+-- whether an event passes a record
 and_false : (a b : Bool) → b ≡ false → (a && b) ≡ false
 and_false true b e = e
 and_false false b e = refl
@@ -141,7 +141,7 @@ behind_none r n s names c (x ∷ xs) last d h k lt at b =
     let on = behind_event r n s names c x d h.0 k lt at b in
     turn_later r x xs (behind_missed r n s names c x d h.0 at b) ∙ behind_none r (suc n) x.after _ x.to xs last on.to h.1 (keeps_next n s names c x h.0 k) (omega arith) on.is on.behind
 
--- the rows of a record at a pass
+-- the rows of a record at an event
 here_some : (r : RecordName) (x : WalkEvent) (p : ℕ) → place_of r x ≡ Some p → rows_here r x ≡ rows_at p (rows_at_event x)
 here_some r x p e = ap (λ (o : Option ℕ). rows_at_some o (rows_at_event x)) e
 

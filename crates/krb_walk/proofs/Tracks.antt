@@ -120,7 +120,7 @@ between s n c sound here =
     ap (filter_map f) (places_spots s.first s.cells ∙ ap (spots s.first) (sym (append-nil (widths s.cells)))) ∙ gives
     ∙ ap (λ (rows : List Row). rows_of_next n (next_live s c) ++ rows) (none_due (spots s.first (widths s.cells ++ []))) ∙ append-nil (rows_of_next n (next_live s c))
 
--- a pass gives what is due at it
+-- an event gives what is due at it
 event_gives : (n : ℕ) (s : Store) (names : List RecordName) (c : Option ℕ) (x : WalkEvent) → IsWalkEvent n s names c x → rows_at_event x ≡ due_at_event x
 event_gives n s names c x h = elim (effect_of x h.effect) [
   | inl holds ↦ holds.silent ∙ sym (ap (λ (b : Bool). cond {A = List Row} b (rows_between x.number x.before x.from x.to) []) holds.idle)

@@ -16,7 +16,7 @@ use Rattle.krb_walk.proofs.Places.{stop_forward}
 abbrev pub end_of_step : WalkEvent → ℕ → ℕ
 end_of_step x at = stop_cursor (end_of x.before) (next_live x.before at)
 
--- a pass that leaves the cursor gives no row, and one that moves it that of the next live cell
+-- an event that leaves the cursor gives no row, and one that moves it that of the next live cell
 pub record Holds (x : WalkEvent) : Type 0 where
   pub idle : x.stepped ≡ false
   pub other : tells_step x.walk x.reply ≡ false

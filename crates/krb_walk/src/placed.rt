@@ -18,7 +18,7 @@ pub trait Placed {
     /// What is added to it.
     type Item;
 
-    /// What it is as a store, and what its additions and removals give.
+    /// How it is seen as a store, and what its additions, removals and rewrites give.
     ghost rules: { Rules Self Self.Item };
 
     fn first(&self) -> u32
@@ -58,8 +58,8 @@ pub trait Placed {
         ensures gives { CutGives (rules.cut self.old place) self.old result self.new }
         ensures cuts { OnOk result (Cuts (rules.seen self.old) (rules.seen self.new) place) };
 
-    /// Writes the live cells anew, in order, without free cells. Each cursor is carried: to the new place of
-    /// the first live cell at or after it, or to the new end.
+    /// Writes the live cells anew, in order, without free cells. Each number in `cursors` is a place, and is
+    /// carried: to the new place of the first live cell at or after it, or to the new end.
     fn rewrite(&mut self, cursors: &mut [u32]) -> Result<(), Refusal>
         requires { AllByRecursion (IsPlace (rules.seen self.old)) cursors.old }
         ensures gives { RewriteGives (rules.rewrite self.old) self.old result self.new }

@@ -40,7 +40,7 @@ impl Code {
     }
 }
 
-/// A refusal, or want of memory.
+/// A refusal, or an allocation that failed.
 #[derive(Clone, Copy, Debug, PartialEq, Eq)]
 pub enum Refusal {
     Code(Code),

@@ -1,5 +1,5 @@
-//! Records: each comes exactly if it has a turn. What is said holds along each walk, over one run or over
-//! runs that join, rewrites included; only where it speaks of places does it want that none is rewritten.
+//! Records: each comes exactly if it has a turn. All of it holds along each walk, over one run or over runs
+//! that join, rewrites included; only what speaks of places presupposes that no event rewrites the store.
 
 ghost use Rattle.std.specs.Prelude.{◌≡◌, ◌↔◌, ◌≤◌, ℕ, List, Option, filter, length, map};
 ghost use Rattle.std.specs.List.{AllByRecursion};

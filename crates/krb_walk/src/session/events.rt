@@ -24,8 +24,7 @@ use std::alloc::Allocator;
 const MOST_WALKS: u32 = 1024;
 
 impl<P: Placed, A: Allocator + Copy> Session<P, A> {
-    /// Applies an event. Memory is taken only for the bytes of `Gave`, and by an addition whose store
-    /// grows.
+    /// Applies an event. Only the bytes of `Gave`, an addition whose store grows and a rewrite take memory.
     pub fn apply(&mut self, event: &Event<P::Item>) -> Result<Reply<A>, NoMemory>
         ensures ran { IfOk result (λ r. Ran P.rules self.old self.new (event.now ∷ []) [] (said r ∷ [])) }
         ensures memory { TakesNone P.rules self.old event.now → IsOk result }
@@ -35,8 +34,8 @@ impl<P: Placed, A: Allocator + Copy> Session<P, A> {
     }
 
     /// Applies events in order, and appends the reply to each. The room for a reply is taken before its
-    /// event is applied: after `NoMemory` the replies to the events before it are kept, and the state is
-    /// the one after them.
+    /// event is applied: after `NoMemory` the replies so far are kept, and the state is the one after their
+    /// events.
     pub fn run(
         &mut self,
         events: &[Event<P::Item>],
@@ -162,7 +161,7 @@ impl<P: Placed, A: Allocator + Copy> Session<P, A> {
         ensures lawful { OnOk result (IsLawful P.rules (moment P.rules self.old Rewrite)) }
         ensures err { OnErr result (self.new ≡ self.old) }
     {
-        match rewrite_front(&mut self.store, &mut self.cursors, self.count as usize) {
+        match rewrite_with(&mut self.store, &mut self.cursors, self.count as usize) {
             Ok(()) => Ok(Reply::Rewritten(self.store.end())),
             Err(Refusal::Code(code)) => Ok(Reply::Refused(code)),
             Err(Refusal::NoMemory) => Err(NoMemory),
@@ -170,8 +169,8 @@ impl<P: Placed, A: Allocator + Copy> Session<P, A> {
     }
 }
 
-/// Rewrites a store, and carries the cursors in the front of a table.
-fn rewrite_front<P: Placed>(store: &mut P, table: &mut [u32], count: usize) -> Result<(), Refusal>
+/// Rewrites a store, and carries the first `count` cursors of a table.
+fn rewrite_with<P: Placed>(store: &mut P, table: &mut [u32], count: usize) -> Result<(), Refusal>
     requires few { count ≤ length table.old }
     requires places { AllByRecursion (IsPlace (P.rules.seen store.old)) (take count table.old) }
     ensures gives { RewriteGives (P.rules.rewrite store.old) store.old result store.new }
