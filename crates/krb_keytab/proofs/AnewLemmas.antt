@@ -11,7 +11,7 @@ use Rattle.krb_wire.specs.declared.format.KtFormat.TheVariants.{V1, V2}
 use Rattle.krb_wire.specs.Spelling.{Parts, FitsKt, HasSpelling, count_field}
 use Rattle.krb_wire.proofs.Fields.{some_is}
 use Rattle.krb_walk.specs.Store.{Record, live_bytes}
-use Rattle.krb_walk.specs.Laws.{records_from}
+use Rattle.krb_walk.specs.Stops.{records_from}
 use Rattle.krb_walk.proofs.Stops.{Stopped, walks_begin_with_all}
 use Rattle.krb_keytab.specs.Entry.{EntryParts, entry_at, Spells}
 use Rattle.krb_keytab.specs.Cells.{cell}

@@ -7,7 +7,7 @@ use Rattle.krb_wire.specs.Spelling.{Parts}
 use Rattle.krb_walk.specs.declared.refusal.Code.{Code}
 use Rattle.krb_walk.specs.declared.refusal.Code.TheVariants.{Damaged, NotFound, KvnoNotFound}
 use Rattle.krb_walk.specs.Store.{Record, records, fault_of}
-use Rattle.krb_walk.specs.Laws.{records_from}
+use Rattle.krb_walk.specs.Stops.{records_from}
 use Rattle.krb_keytab.specs.Entry.{EntryParts, entry_at}
 use Rattle.krb_keytab.specs.Store.{State, store_of}
 

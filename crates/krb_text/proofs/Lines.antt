@@ -6,7 +6,7 @@ use Rattle.std.proofs.lemmas.List.Concat.{flat_map-cons}
 use Rattle.krb_wire.specs.Reading.{◌>>=◌}
 use Rattle.krb_walk.specs.declared.stop.Stop.TheVariants.{Live}
 use Rattle.krb_walk.specs.Store.{Record, IsSound, IsPlace, stop_at, end_of, live_bytes}
-use Rattle.krb_walk.specs.Laws.{records_from}
+use Rattle.krb_walk.specs.Stops.{records_from}
 use Rattle.krb_walk.proofs.Stops.{walks_begin_with_all, stopped, ended}
 use Rattle.krb_keytab.specs.Entry.{EntryParts, entry_at}
 use Rattle.krb_keytab.specs.Store.{State, store_of, entry_at_place}

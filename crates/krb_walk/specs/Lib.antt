@@ -1,9 +1,9 @@
 -- What the contracts of this crate say, in ten words:
 -- store: a first place, cells that touch one another, and perhaps a fault after them
--- cell: a width of places with bytes, and then it is live, or without, and then it is free
+-- cell: a width of places, live with bytes, or free without
 -- place: where a cell begins, or the end of the last one
 -- walk: what goes from record to record, a step at a time; its cursor is the place where it stands
--- record: one life of a live cell, named by the place where it was put and its birth, the number of that event; it stands at the live cell of its rank
+-- record: a live cell as it stands; over events it goes by its name, the place where it was put and its birth, the number of that event, and stands at the live cell of its rank
 -- track: what each event of a run, or of runs that join, is to one walk
 -- turn: the step of a walk that passes a record where it stands
 -- row: an event and the record that it gives

@@ -62,7 +62,7 @@ cell_at s p = find (λ x. x.place == p) (standing s.first s.cells)
 abbrev pub size_at : Store → ℕ → Option ℕ
 size_at s p = option_map (λ x. x.cell.width) (cell_at s p)
 
--- a live cell: its place, the place after it, its bytes
+-- a record, a live cell as it stands: its place, the place after it, its bytes
 pub record Record : Type 0 where
   pub place : ℕ
   pub next : ℕ

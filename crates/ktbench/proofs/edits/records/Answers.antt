@@ -1,6 +1,6 @@
 use Rattle.std.proofs.Common.{◌≡◌, ℕ, List, [], ◌∷◌, ◌++◌, map, append-nil, append_assoc, sym, ap, ◌∙◌, arith}
 use Rattle.krb_walk.specs.Store.{Record}
-use Rattle.krb_walk.specs.Laws.{records_from}
+use Rattle.krb_walk.specs.Stops.{records_from}
 use Rattle.krb_walk.proofs.Stops.{walks_begin_with_all, stopped, ended}
 use Rattle.krb_keytab.specs.Store.{store_of}
 use Rattle.ktbench.proofs.edits.records.Goals as goal

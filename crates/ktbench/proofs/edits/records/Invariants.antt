@@ -1,6 +1,6 @@
 use Rattle.std.proofs.Common.{◌≡◌, ◌++◌, ◌-◌, map}
 use Rattle.krb_walk.specs.Store.{IsPlace, IsSound, end_of, records}
-use Rattle.krb_walk.specs.Laws.{records_from}
+use Rattle.krb_walk.specs.Stops.{records_from}
 use Rattle.krb_keytab.specs.Store.{store_of}
 use Rattle.ktbench.proofs.edits.records.Given as goal
 
