@@ -1,5 +1,5 @@
 -- The laws of records, over rewrites too.
-use Rattle.std.proofs.Common.{◌≡◌, ℕ, suc, ◌+◌, ◌<◌, ◌≤◌, Bool, true, false, cond, List, [], ◌∷◌, ◌++◌, length, take, drop, Option, Some, None, inl, inr, refl, sym, ap, ◌∙◌, subst, arith, append_assoc}
+use Rattle.std.proofs.Common.{◌≡◌, ℕ, suc, ◌+◌, ◌<◌, ◌≤◌, Bool, true, false, cond, List, [], ◌∷◌, ◌++◌, length, take, drop, Option, Some, None, inl, inr, refl, sym, ap, ◌∙◌, subst, arith}
 use Rattle.std.specs.Prelude.{◌&&◌, ◌||◌, ◌==◌, ◌⊎◌, nat_le, nat_lt, IsSome}
 use Rattle.std.specs.List.{AllByRecursion, list_any}
 use Rattle.std.proofs.lemmas.Bool.Decides.{nat_tests}
@@ -10,7 +10,7 @@ use Rattle.krb_walk.specs.Ranks.{live_places}
 use Rattle.krb_walk.specs.Changes.{Puts, Cuts, Changes}
 use Rattle.krb_walk.specs.Said.{Said, Placed, Gone, completes, tells_step, is_rewritten}
 use Rattle.krb_walk.specs.History.{Row, rows_of_reply}
-use Rattle.krb_walk.specs.Track.{RecordName, WalkEvent, Track, first_names, names_after, last_names, last_cursor, IsWalkEvent, IsTrack, IsWalk}
+use Rattle.krb_walk.specs.Track.{RecordName, WalkEvent, Track, first_names, names_after, IsWalkEvent, IsTrack, IsWalk}
 use Rattle.krb_walk.specs.Due.{rows_at_event}
 use Rattle.krb_walk.specs.Records.{rows_at, OneRow, begins, is_name, place_among, place_of, place_at_first, rows_at_some, rows_here, rows_of, passes_record, turn_of, HasTurn, IsAliveUntilDone, IsCutBefore, IsAddedAt, EachComesAsDue}
 use Rattle.krb_walk.proofs.Lives.{lives_lt, puts_insert, cuts_insert}

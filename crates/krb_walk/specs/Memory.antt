@@ -1,5 +1,5 @@
 -- What takes no memory.
-use Rattle.std.specs.Prelude.{◌≡◌, ℕ, true, false, Result, Ok, Err}
+use Rattle.std.specs.Prelude.{◌≡◌, ℕ, true, false, Result, Err}
 use Rattle.krb_walk.specs.declared.event.Event.{Event}
 use Rattle.krb_walk.specs.declared.event.Event.TheVariants.{Step, Put, Rewrite}
 use Rattle.krb_walk.specs.declared.refusal.Refusal.{Refusal}
