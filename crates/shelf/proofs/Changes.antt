@@ -50,7 +50,7 @@ fills s k bytes whole e =
     let free = slice_get-get_or s.slots k None first.0 ∙ ap Some (free_is_none (get_or s.slots k None) first.1) in
     record { whole = whole; how = inl (record { width = 4; bytes = bytes; cell = one_slot s k None (Some bytes) free }) }
 
--- the bytes go behind the last slot
+-- the bytes go after the last slot
 pub appends : (s : Contents) (bytes : List ℕ) → s.fault ≡ None → Puts (store_of s) (store_of (with_more s (Some bytes))) (place_of (length s.slots))
 appends s bytes whole =
     record { whole = whole; how = inr (record { width = 4; bytes = bytes; some_width = omega arith; place = sym (end 8 s.slots); cells = map-append cell_of s.slots (Some bytes ∷ []); first = refl; fault = refl }) }

@@ -1,4 +1,4 @@
--- A shelf: slots of four places each, from place 8 on, and perhaps a fault behind them.
+-- A shelf: slots of four places each, from place 8 on, and perhaps a fault after them.
 use Rattle.std.specs.Prelude.{ℕ, ◌+◌, ◌-◌, ◌*◌, ◌/◌, Bool, cond, ◌||◌, nat_le, nat_lt, List, [], ◌∷◌, ◌++◌, length, map, filter, take, position, Option, Some, None, is_some, is_none, Result, Ok, Err, slice_set}
 use Rattle.krb_walk.specs.declared.fault.FaultKind.{FaultKind}
 use Rattle.krb_walk.specs.declared.refusal.Code.{Code}
@@ -6,7 +6,7 @@ use Rattle.krb_walk.specs.declared.refusal.Code.TheVariants.{Damaged, Full, NotL
 use Rattle.krb_walk.specs.Store.{Cell, Store, IsPlace, live_bytes}
 use Rattle.krb_walk.specs.Rules.{Rules}
 
--- the slots, each free or with its bytes, and what is wrong behind them, if something is
+-- the slots, each free or with its bytes, and what is wrong after them, if something is
 pub record Contents : Type 0 where
   pub slots : List (Option (List ℕ))
   pub fault : Option FaultKind
@@ -39,11 +39,11 @@ first_free s = position is_none s.slots
 abbrev pub with_slot : Contents → ℕ → Option (List ℕ) → Contents
 with_slot s k slot = record { slots = slice_set s.slots k slot; fault = s.fault }
 
--- the shelf with one more slot behind the last
+-- the shelf with one more slot after the last
 abbrev pub with_more : Contents → Option (List ℕ) → Contents
 with_more s slot = record { slots = s.slots ++ slot ∷ []; fault = s.fault }
 
--- an addition goes into the first free slot; where there is none, behind the last, up to 1,000 slots
+-- an addition goes into the first free slot; where there is none, after the last, up to 1,000 slots
 abbrev pub put_into : Contents → List ℕ → Option ℕ → Result (ℕ × Contents) Code
 put_into s bytes (Some k) = Ok (place_of k, with_slot s k (Some bytes))
 put_into s bytes None = cond (nat_lt (length s.slots) 1000) (Ok (place_of (length s.slots), with_more s (Some bytes))) (Err Full)
@@ -61,7 +61,7 @@ cut_from s p None = Err NotLive
 abbrev pub cut_of : Contents → ℕ → Result Contents Code
 cut_of s p = cond (is_some s.fault) (Err Damaged) (cut_from s p (live_bytes (store_of s) p))
 
--- an addition takes memory only where it goes behind the last slot
+-- an addition takes memory only where it goes after the last slot
 abbrev pub takes_none_of : Contents → Bool
 takes_none_of s = is_some s.fault || is_some (first_free s) || nat_le 1000 (length s.slots)
 

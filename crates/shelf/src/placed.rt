@@ -54,7 +54,7 @@ impl<A: Allocator> Placed for Shelf<A> {
         bytes_in(&self.slots, place).unwrap()
     }
 
-    /// It goes into the first free slot; where there is none, behind the last.
+    /// It goes into the first free slot; where there is none, after the last.
     fn put(&mut self, item: &[u8; 4]) -> Result<u32, Refusal> {
         if self.fault.is_some() {
             return Err(Refusal::Code(Code::Damaged));

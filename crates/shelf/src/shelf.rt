@@ -1,4 +1,4 @@
-//! A list of slots, and perhaps a fault behind them.
+//! A list of slots, and perhaps a fault after them.
 
 ghost use Rattle.std.specs.Prelude.{◌≡◌, ◌≤◌, [], length, Some, None};
 ghost use Rattle.shelf.specs.Shelf.{Contents};
@@ -44,7 +44,7 @@ impl<A: Allocator> Shelf<A> {
         Shelf { slots, fault: None }
     }
 
-    /// A shelf of these slots with a fault behind the last of them.
+    /// A shelf of these slots with a fault after the last of them.
     pub fn damaged(slots: Vec<Option<[u8; 4]>, A>, kind: FaultKind) -> Shelf<A>
         requires { length slots.items ≤ 1000 }
         ensures { result ≡ record { slots = slots.items; fault = Some kind } }

@@ -63,8 +63,8 @@ pub fn full_before(slots: &[Option<[u8; 4]>], slot: usize) -> usize
     requires { slot ≤ length slots.now }
     ensures { result ≡ length (full_slots (take slot slots.now)) }
 {
-    let (behind, _) = slots.split_at(slot);
-    behind.iter().filter(|slot| slot.is_some()).count()
+    let (before, _) = slots.split_at(slot);
+    before.iter().filter(|slot| slot.is_some()).count()
 }
 
 /// The place of the slot at a place when the free slots before it are gone.

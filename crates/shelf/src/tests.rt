@@ -1,15 +1,12 @@
 //! Sessions over a shelf. What they tell is written out by hand: slot k stands at 8 + 4 k.
 
-mod cursors;
-mod damaged;
 mod growths;
 mod joined;
-mod resumes;
 mod rewrites;
 mod told;
 
 use crate::Shelf;
-use krb_walk::{Event, FaultKind, Reply, Session};
+use krb_walk::{Event, Reply, Session};
 use std::alloc::{Allocator, Global};
 use std::test::Fail;
 
@@ -23,23 +20,16 @@ const D: [u8; 4] = *b"dddd";
 
 const E: [u8; 4] = *b"eeee";
 
-const F: [u8; 4] = *b"ffff";
-
-/// A session over a shelf of these slots, with that fault.
+/// A session over a shelf of these slots.
 fn session_over<M: Allocator + Copy>(
     alloc: M,
     slots: &[Option<[u8; 4]>],
-    fault: Option<FaultKind>,
 ) -> Result<Session<Shelf<M>, M>, Fail> {
     if slots.len() > 1000 {
         return Err(Fail::from("more than 1,000 slots"));
     }
     let slots = Vec::from_slice(alloc, slots)?;
-    let shelf = match fault {
-        Some(kind) => Shelf::damaged(slots, kind),
-        None => Shelf::of(slots),
-    };
-    Ok(Session::new(alloc, shelf))
+    Ok(Session::new(alloc, Shelf::of(slots)))
 }
 
 /// The replies to these events.
@@ -51,6 +41,6 @@ fn replies_to(
     let mut replies = Vec::new(alloc);
     match session.run(events, &mut replies) {
         Ok(()) => Ok(replies),
-        Err(_) => Err(Fail::from("want of memory")),
+        Err(_) => Err(Fail::from("out of memory")),
     }
 }

@@ -1,4 +1,4 @@
-//! Growths that are refused.
+//! Allocations that fail.
 
 use super::told::{Told, first_other, tells};
 use super::{A, B, C, D, E, session_over};
@@ -8,8 +8,8 @@ use refusing::{Refusing, refuse_each};
 use std::alloc::Allocator;
 use std::test::Fail;
 
-/// After a refused growth the replies are those of the events before one of them. The rest of the
-/// events, on the same session and the same replies, has the replies that it has without a refusal.
+/// After a failed allocation the replies are those of the events before one of them. The rest of the
+/// events, on the same session and the same replies, has the replies that it has without a failure.
 #[test]
 fn a_run_goes_on_where_it_stopped(rt: HostRuntime) -> Result<(), Fail> {
     let expected = [
@@ -25,7 +25,7 @@ fn a_run_goes_on_where_it_stopped(rt: HostRuntime) -> Result<(), Fail> {
         Told::Gave(0, 20, 24, E),
     ];
     let requests = refuse_each(rt.alloc(), 100, |heap, n| {
-        let mut session = session_over(heap, &[Some(A), Some(B)], None)?;
+        let mut session = session_over(heap, &[Some(A), Some(B)])?;
         let mut replies = Vec::new(heap);
         let events = [
             Event::Start,
@@ -65,15 +65,15 @@ fn reply_without_memory<M: Allocator + Copy>(
 ) -> Result<Reply<M>, Fail> {
     match session.apply(&event) {
         Ok(reply) => Ok(reply),
-        Err(_) => Err(Fail::from("want of memory")),
+        Err(_) => Err(Fail::from("out of memory")),
     }
 }
 
-/// Where every growth is refused, what needs none is answered as ever.
+/// Where every allocation fails, what takes no memory is answered as ever.
 #[test]
 fn events_without_memory_are_answered_as_ever(rt: HostRuntime) -> Result<(), Fail> {
     let heap = Refusing::new(rt.alloc());
-    let mut session = session_over(&heap, &[Some(A), Some(B)], None)?;
+    let mut session = session_over(&heap, &[Some(A), Some(B)])?;
     heap.refuse_from(1);
     for (event, told) in [
         (Event::Start, Told::Started(0, 8)),
@@ -93,12 +93,12 @@ fn events_without_memory_are_answered_as_ever(rt: HostRuntime) -> Result<(), Fai
     Ok(())
 }
 
-/// Where every growth is refused, a step that gives and an addition behind the last slot want memory and
-/// change nothing; the calls that look at a session work.
+/// Where every allocation fails, a step that gives and an addition after the last slot change nothing; the
+/// calls that look at a session work.
 #[test]
-fn events_that_want_memory_change_nothing(rt: HostRuntime) -> Result<(), Fail> {
+fn events_without_memory_change_nothing(rt: HostRuntime) -> Result<(), Fail> {
     let heap = Refusing::new(rt.alloc());
-    let mut session = session_over(&heap, &[Some(A), Some(B)], None)?;
+    let mut session = session_over(&heap, &[Some(A), Some(B)])?;
     heap.refuse_from(1);
     reply_without_memory(&mut session, Event::Start)?;
     assert!(rt; session.apply(&Event::Step(0)).is_err());

@@ -10,7 +10,7 @@ use std::test::Fail;
 #[test]
 fn a_walk_goes_on_in_a_second_session(rt: HostRuntime) -> Result<(), Fail> {
     let alloc = rt.alloc();
-    let mut session = session_over(alloc, &[Some(A), Some(B), Some(C)], None)?;
+    let mut session = session_over(alloc, &[Some(A), Some(B), Some(C)])?;
     let replies = replies_to(alloc, &mut session, &[Event::Start, Event::Step(0)])?;
     let expected = [Told::Started(0, 8), Told::Gave(0, 8, 12, A)];
     assert_eq!(rt; first_other(&replies, &expected), None);
@@ -55,7 +55,7 @@ fn a_walk_goes_on_in_a_second_session(rt: HostRuntime) -> Result<(), Fail> {
 #[test]
 fn a_step_stops_where_the_event_does(rt: HostRuntime) -> Result<(), Fail> {
     let alloc = rt.alloc();
-    let mut session = session_over(alloc, &[Some(A), None, Some(B)], None)?;
+    let mut session = session_over(alloc, &[Some(A), None, Some(B)])?;
     replies_to(alloc, &mut session, &[Event::Start, Event::Start])?;
     assert!(rt; session.step(0) == Ok(Stop::Live { place: 8, next: 12 }));
     assert!(rt;
@@ -93,7 +93,7 @@ fn a_step_stops_where_the_event_does(rt: HostRuntime) -> Result<(), Fail> {
 #[test]
 fn the_worked_run_comes_to_its_end(rt: HostRuntime) -> Result<(), Fail> {
     let Ok((session, replies)) = worked_run(rt.alloc()) else {
-        return Err(Fail::from("want of memory"));
+        return Err(Fail::from("out of memory"));
     };
     assert_eq!(rt; replies.len(), 13);
     assert!(rt; tells(&replies[10], Told::Gave(0, 16, 20, [13, 14, 15, 16])));

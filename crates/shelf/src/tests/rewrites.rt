@@ -2,15 +2,16 @@
 
 use super::told::{Told, first_other};
 use super::{A, B, C, D, replies_to, session_over};
-use krb_walk::{Code, Event, FaultKind};
+use crate::Shelf;
+use krb_walk::{Code, Event, Fault, FaultKind, Session};
 use std::test::Fail;
 
 /// Walks at two places, a removal, a rewrite, then steps. A stands at 12, B at 16 and C at 20; the rewrite
-/// leaves A at 8 and C at 12. The first walk stands behind A before it and after it.
+/// leaves A at 8 and C at 12. The first walk stands after A before it and afterwards.
 #[test]
 fn walks_go_on_over_a_rewrite(rt: HostRuntime) -> Result<(), Fail> {
     let alloc = rt.alloc();
-    let mut session = session_over(alloc, &[None, Some(A), Some(B), Some(C)], None)?;
+    let mut session = session_over(alloc, &[None, Some(A), Some(B), Some(C)])?;
     let replies = replies_to(
         alloc,
         &mut session,
@@ -64,23 +65,32 @@ fn walks_go_on_over_a_rewrite(rt: HostRuntime) -> Result<(), Fail> {
     Ok(())
 }
 
-/// A shelf with a fault is not rewritten, and its walks stay.
+/// A shelf with a fault gives its record and then its fault, and is not rewritten.
 #[test]
 fn a_damaged_shelf_is_not_rewritten(rt: HostRuntime) -> Result<(), Fail> {
     let alloc = rt.alloc();
-    let slots = [None, Some(A)];
-    let mut session = session_over(alloc, &slots, Some(FaultKind::Overrun))?;
+    let slots = Vec::from_slice(alloc, &[None, Some(A)])?;
+    let shelf = Shelf::damaged(slots, FaultKind::Overrun);
+    let fault = Fault {
+        place: 16,
+        kind: FaultKind::Overrun,
+    };
     let replies = replies_to(
         alloc,
-        &mut session,
-        &[Event::Resume(12), Event::Rewrite, Event::Step(0)],
+        &mut Session::new(alloc, shelf),
+        &[
+            Event::Resume(12),
+            Event::Rewrite,
+            Event::Step(0),
+            Event::Step(0),
+        ],
     )?;
     let expected = [
         Told::Started(0, 12),
         Told::Refused(Code::Damaged),
         Told::Gave(0, 12, 16, A),
+        Told::Faulted(0, fault),
     ];
     assert_eq!(rt; first_other(&replies, &expected), None);
-    assert!(rt; session.store().slots() == slots.as_slice());
     Ok(())
 }
