@@ -64,7 +64,7 @@ length_components o (suc n) bytes x e =
     let ih : length f.1.0 ≡ n = length_components o n f.0.1 f.1 f.3 in
     ap (λ (y : List (List ℕ) × List ℕ). length y.0) (sym f.4) ∙ ap suc ih
 
--- the component at a place stands behind those before it
+-- the component at a place stands after those before it
 pub nth : (o : Order) (n i : ℕ) (bytes : List ℕ) (x : List (List ℕ) × List ℕ) → components_at o n bytes ≡ Some x → i < n
     → (rest : List ℕ) × (found : List ℕ × List ℕ) × (components_end o i bytes ≡ Some rest) × (data16_at o rest ≡ Some found) × (slice_get x.0 i ≡ Some found.0)
 nth o zero i bytes x e lt = absurd (omega arith)

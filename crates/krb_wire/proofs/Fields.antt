@@ -43,7 +43,7 @@ pub is_some_has : {A : Type 0} (o : Option A) → IsSome o → (x : A) × (o ≡
 is_some_has (Some x) h = (x, refl)
 is_some_has None h = absurd cc
 
--- what a reader took from the front
+-- what a reader took from the start
 pub record Takes (bytes text rest : List ℕ) : Type 0 where
   pub parts : bytes ≡ text ++ rest
   pub rest_fits : IsBytes rest
@@ -93,8 +93,8 @@ number_takes o w limit wide bytes n rest fits e =
     let long : byte_len w ≤ length bytes = ltb-false _ _ g.0 in
     let n-is : number o w (take (byte_len w) bytes) ≡ n = ap (λ (p : ℕ × List ℕ). p.0) g.1 in
     let rest-is : drop (byte_len w) bytes ≡ rest = ap (λ (p : ℕ × List ℕ). p.1) g.1 in
-    let front : digits o w n ≡ take (byte_len w) bytes = rw (← n-is) (wide.back (take (byte_len w) bytes) (omega (arith, length-take (byte_len w) bytes)) (IsBytes-take (byte_len w) bytes fits)) in
-    (record { parts = rw (front, ← rest-is) (sym (take-append-drop (byte_len w) bytes)); rest_fits = rw (← rest-is) (IsBytes-drop (byte_len w) bytes fits) }, rw (← n-is) (wide.below (take (byte_len w) bytes) (IsBytes-take (byte_len w) bytes fits)))
+    let prefix : digits o w n ≡ take (byte_len w) bytes = rw (← n-is) (wide.back (take (byte_len w) bytes) (omega (arith, length-take (byte_len w) bytes)) (IsBytes-take (byte_len w) bytes fits)) in
+    (record { parts = rw (prefix, ← rest-is) (sym (take-append-drop (byte_len w) bytes)); rest_fits = rw (← rest-is) (IsBytes-drop (byte_len w) bytes fits) }, rw (← n-is) (wide.below (take (byte_len w) bytes) (IsBytes-take (byte_len w) bytes fits)))
 
 pub number_again : (o : Order) (w : Width) (limit : ℕ) (wide : IsWide o w limit) (n : ℕ) (rest : List ℕ) → n < limit → number_at o w (digits o w n ++ rest) ≡ Some (n, rest)
 number_again o w limit wide n rest lt =

@@ -4,6 +4,7 @@ pub mod Places
 pub mod SpliceLemmas
 pub mod Principals
 pub mod WidthLemmas
+pub mod QuoteLemmas
 pub mod TextLemmas
 pub mod AtomLemmas
 pub mod RoundTrip

@@ -5,27 +5,28 @@ use Rattle.std.proofs.lemmas.Bool.Decides.{nat_tests}
 use Rattle.krb_wire.specs.declared.atom.Atom.{Atom}
 use Rattle.krb_wire.specs.declared.atom.Atom.TheVariants.{Byte, Slash, At}
 use Rattle.krb_wire.specs.Spelling.{Parts}
-use Rattle.krb_wire.specs.Names.{quoted, quote, joined, name_text}
-use Rattle.krb_wire.specs.Atoms.{atoms, byte_of, is_slash, before_at, behind_at}
-use Rattle.krb_wire.specs.NameOf.{realm_fault, faults_of, leftmost, components_of, realm_of, name_of}
+use Rattle.krb_wire.specs.Quote.{quoted_byte, quote}
+use Rattle.krb_wire.specs.Names.{joined_components, name_text}
+use Rattle.krb_wire.specs.Atoms.{atoms, byte_of, is_slash, before_at, after_at}
+use Rattle.krb_wire.specs.NameOf.{realm_fault, faults_of, first_fault, components_of, realm_of, name_of}
 use Rattle.krb_wire.proofs.TextLemmas.{joined_from, joined_is}
 
 -- a quoted byte is one atom
-atoms-quoted : (b : ℕ) (rest : List ℕ) → atoms (quoted b ++ rest) ≡ Byte b ∷ atoms rest
-atoms-quoted b rest = grind (arith, nat_tests)
+atoms-quoted_byte : (b : ℕ) (rest : List ℕ) → atoms (quoted_byte b ++ rest) ≡ Byte b ∷ atoms rest
+atoms-quoted_byte b rest = grind (arith, nat_tests)
 
 -- quoted bytes are their atoms
 atoms-quote : (bs rest : List ℕ) → atoms (quote bs ++ rest) ≡ map Byte bs ++ atoms rest
 unfolding quote
 atoms-quote [] rest = refl
-atoms-quote (b ∷ bs) rest = ap atoms (append_assoc (quoted b) (quote bs) rest) ∙ atoms-quoted b (quote bs ++ rest) ∙ ap (λ (l : List Atom). Byte b ∷ l) (atoms-quote bs rest)
+atoms-quote (b ∷ bs) rest = ap atoms (append_assoc (quoted_byte b) (quote bs) rest) ∙ atoms-quoted_byte b (quote bs ++ rest) ∙ ap (λ (l : List Atom). Byte b ∷ l) (atoms-quote bs rest)
 
--- the atoms of components, each behind a `/`, before others
+-- the atoms of components, each after a `/`, before others
 abbrev others_atoms : List (List ℕ) → List Atom → List Atom
 others_atoms [] tail = tail
 others_atoms (c ∷ cs) tail = Slash ∷ (map Byte c ++ others_atoms cs tail)
 
--- components behind a `/` each are their atoms
+-- components after a `/` each are their atoms
 atoms-others : (cs : List (List ℕ)) (rest : List ℕ) → atoms (joined_from false cs ++ rest) ≡ others_atoms cs (atoms rest)
 atoms-others [] rest = refl
 atoms-others (c ∷ cs) rest =
@@ -43,7 +44,7 @@ atoms-realm realm = ap (λ (l : List Atom). At ∷ l) (ap atoms (sym (append-nil
 atoms-name_text : (p : Parts) (c : List ℕ) (cs : List (List ℕ)) → p.components ≡ c ∷ cs → atoms (name_text p) ≡ text_atoms c cs p.realm
 atoms-name_text p c cs e =
     let text : List ℕ = 64 ∷ quote p.realm in
-    ap (λ (l : List (List ℕ)). atoms (joined l ++ text)) e ∙ ap (λ (l : List ℕ). atoms (l ++ text)) (joined_is (c ∷ cs))
+    ap (λ (l : List (List ℕ)). atoms (joined_components l ++ text)) e ∙ ap (λ (l : List ℕ). atoms (l ++ text)) (joined_is (c ∷ cs))
     ∙ ap atoms (append_assoc (quote c) (joined_from false cs) text) ∙ atoms-quote c (joined_from false cs ++ text)
     ∙ ap (λ (l : List Atom). map Byte c ++ l) (atoms-others cs text ∙ ap (others_atoms cs) (atoms-realm p.realm))
 
@@ -67,7 +68,7 @@ split-bytes : (bs : List ℕ) (rest : List Atom) (ps : List (List Atom)) → sli
 split-bytes [] rest ps e = e
 split-bytes (b ∷ bs) rest ps e = ap (onto_first (Byte b)) (split-bytes bs rest ps e)
 
--- components behind a `/` each are split there
+-- components after a `/` each are split there
 split-others : (cs : List (List ℕ)) (realm : List ℕ) → slice_split is_slash (before_at (others_atoms cs (At ∷ map Byte realm))) ≡ [] ∷ map (map Byte) cs
 split-others [] realm = refl
 split-others (c ∷ cs) realm = ap (λ (ps : List (List Atom)). [] ∷ ps) (split-bytes c (others_atoms cs (At ∷ map Byte realm)) (map (map Byte) cs) (split-others cs realm))
@@ -87,26 +88,26 @@ components-text : (c : List ℕ) (cs : List (List ℕ)) (realm : List ℕ) → c
 components-text c cs realm = ap (map (map byte_of)) (split-bytes c (others_atoms cs (At ∷ map Byte realm)) (map (map Byte) cs) (split-others cs realm)) ∙ components_again (c ∷ cs)
 
 -- no byte is an `@`
-behind_at-bytes : (bs : List ℕ) (rest : List Atom) → behind_at (map Byte bs ++ rest) ≡ behind_at rest
-behind_at-bytes [] rest = refl
-behind_at-bytes (b ∷ bs) rest = behind_at-bytes bs rest
+after_at-bytes : (bs : List ℕ) (rest : List Atom) → after_at (map Byte bs ++ rest) ≡ after_at rest
+after_at-bytes [] rest = refl
+after_at-bytes (b ∷ bs) rest = after_at-bytes bs rest
 
--- the realm stands behind the components
-behind_at-others : (cs : List (List ℕ)) (realm : List ℕ) → behind_at (others_atoms cs (At ∷ map Byte realm)) ≡ Some (map Byte realm)
-behind_at-others [] realm = refl
-behind_at-others (c ∷ cs) realm = behind_at-bytes c (others_atoms cs (At ∷ map Byte realm)) ∙ behind_at-others cs realm
+-- the realm stands after the components
+after_at-others : (cs : List (List ℕ)) (realm : List ℕ) → after_at (others_atoms cs (At ∷ map Byte realm)) ≡ Some (map Byte realm)
+after_at-others [] realm = refl
+after_at-others (c ∷ cs) realm = after_at-bytes c (others_atoms cs (At ∷ map Byte realm)) ∙ after_at-others cs realm
 
 -- the realm of a name's text
 realm-text : (c : List ℕ) (cs : List (List ℕ)) (realm : List ℕ) (d : Option (List ℕ)) → realm_of (text_atoms c cs realm) d ≡ Some realm
 realm-text c cs realm d =
-    rw (behind_at-bytes c (others_atoms cs (At ∷ map Byte realm)) ∙ behind_at-others cs realm) (ap Some (bytes_again realm))
+    rw (after_at-bytes c (others_atoms cs (At ∷ map Byte realm)) ∙ after_at-others cs realm) (ap Some (bytes_again realm))
 
 -- the same, by the components
 named_again : (p : Parts) (d : Option (List ℕ)) (cs : List (List ℕ)) → p.components ≡ cs → 0 < length cs → name_of (name_text p) d ≡ Ok (record p { name_type = 1 })
 named_again p d [] e lt = absurd (omega arith)
 named_again p d (c ∷ cs) e lt =
     let cut = atoms-name_text p c cs e in
-    let fault : leftmost (faults_of (text_atoms c cs p.realm)) ≡ None = ap leftmost (faults_of-bytes c (others_atoms cs (At ∷ map Byte p.realm)) ∙ faults_of-others cs p.realm) in
+    let fault : first_fault (faults_of (text_atoms c cs p.realm)) ≡ None = ap first_fault (faults_of-bytes c (others_atoms cs (At ∷ map Byte p.realm)) ∙ faults_of-others cs p.realm) in
     rw (cut, fault, realm-text c cs p.realm d, components-text c cs p.realm ∙ sym e) refl
 
 -- the text of a name with a component has that name

@@ -1,12 +1,7 @@
--- How the text of a name grows, component by component and byte by byte.
-use Rattle.std.proofs.Common.{◌≡◌, ℕ, ◌+◌, ◌<◌, ◌≤◌, List, [], ◌∷◌, ◌++◌, Bool, true, false, length, take, get_or, refl, sym, ap, ◌∙◌, append_assoc, append-nil, length-append, arith}
-use Rattle.std.proofs.lemmas.List.Folds.{length-flat_map-take}
-use Rattle.krb_wire.specs.Names.{quoted, quote, joined, separator, Grew}
-
--- the quoted bytes up to one, and that one, are no longer than all
-pub quote_room : (bytes : List ℕ) (i : ℕ) → i < length bytes → length (quote (take i bytes)) + length (quoted (get_or bytes i 0)) ≤ length (quote bytes)
-unfolding quote
-quote_room bytes i lt = length-flat_map-take quoted bytes i 0 lt
+-- How the text of a name grows, component by component.
+use Rattle.std.proofs.Common.{◌≡◌, ℕ, ◌+◌, ◌≤◌, List, [], ◌∷◌, ◌++◌, Bool, true, false, length, refl, sym, ap, ◌∙◌, append_assoc, append-nil, length-append, arith}
+use Rattle.krb_wire.specs.Quote.{quote}
+use Rattle.krb_wire.specs.Names.{joined_components, separator, Grew}
 
 -- components of which the first has a `/` before it, or has none
 abbrev pub joined_from : Bool → List (List ℕ) → List ℕ
@@ -14,12 +9,13 @@ joined_from first [] = []
 joined_from first (c ∷ cs) = separator first ++ (quote c ++ joined_from false cs)
 
 -- joined with a `/` between each two, or with one before each but the first, is the same
-pub joined_is : (cs : List (List ℕ)) → joined cs ≡ joined_from true cs
-unfolding joined
+pub joined_is : (cs : List (List ℕ)) → joined_components cs ≡ joined_from true cs
+unfolding joined_components
 joined_is [] = refl
 joined_is (c ∷ []) = sym (append-nil (quote c))
 joined_is (c ∷ d ∷ cs) = ap (λ (t : List ℕ). quote c ++ (47 ∷ t)) (joined_is (d ∷ cs))
 
+-- bytes were appended, and then more
 pub Grew-then : (a b c : List ℕ) → Grew a b → Grew b c → Grew a c
 Grew-then a b c p q = record { more = p.more ++ q.more; parts = q.parts ∙ ap (λ (x : List ℕ). x ++ q.more) p.parts ∙ append_assoc a p.more q.more }
 
@@ -31,8 +27,8 @@ joined_step whole out out' x first cs ds e is_cs is_out =
     ∙ sym (append_assoc out (separator first ++ quote x) (joined_from false ds)) ∙ ap (λ (t : List ℕ). t ++ joined_from false ds) (sym is_out)
 
 -- what is written and one component more are no longer than all
-pub joined_room : (old out x : List ℕ) (first : Bool) (all cs ds : List (List ℕ)) → old ++ joined all ≡ out ++ joined_from first cs → cs ≡ x ∷ ds → length out + length (separator first ++ quote x) ≤ length old + length (joined all)
+pub joined_room : (old out x : List ℕ) (first : Bool) (all cs ds : List (List ℕ)) → old ++ joined_components all ≡ out ++ joined_from first cs → cs ≡ x ∷ ds → length out + length (separator first ++ quote x) ≤ length old + length (joined_components all)
 joined_room old out x first all cs ds e is_cs =
-    let text : old ++ joined all ≡ out ++ ((separator first ++ quote x) ++ joined_from false ds) =
+    let text : old ++ joined_components all ≡ out ++ ((separator first ++ quote x) ++ joined_from false ds) =
     e ∙ ap (λ (l : List (List ℕ)). out ++ joined_from first l) is_cs ∙ ap (λ (t : List ℕ). out ++ t) (sym (append_assoc (separator first) (quote x) (joined_from false ds))) in
-    omega (arith, ap length text, length-append old (joined all), length-append out ((separator first ++ quote x) ++ joined_from false ds), length-append (separator first ++ quote x) (joined_from false ds))
+    omega (arith, ap length text, length-append old (joined_components all), length-append out ((separator first ++ quote x) ++ joined_from false ds), length-append (separator first ++ quote x) (joined_from false ds))

@@ -7,7 +7,7 @@ use Rattle.krb_wire.specs.declared.name_fault.NameFault.TheVariants.{NoRealm, Lo
 use Rattle.krb_wire.specs.declared.atom.Atom.{Atom}
 use Rattle.krb_wire.specs.declared.atom.Atom.TheVariants.{Byte, Slash, At, Lone}
 use Rattle.krb_wire.specs.Spelling.{Parts}
-use Rattle.krb_wire.specs.Atoms.{atoms, byte_of, is_slash, before_at, behind_at}
+use Rattle.krb_wire.specs.Atoms.{atoms, byte_of, is_slash, before_at, after_at}
 
 -- the number of a fault
 abbrev pub name_fault_number : NameFault → ℕ
@@ -31,24 +31,24 @@ realm_fault Slash = Some SlashInRealm
 realm_fault At = Some SecondAt
 realm_fault Lone = Some LoneBackslash
 
--- all that is wrong, from left to right: before the first `@`, then behind it
+-- all that is wrong, from left to right: before the first `@`, then after it
 abbrev pub faults_of : List Atom → List NameFault
-faults_of text = filter_map component_fault (before_at text) ++ filter_map realm_fault (unwrap_or (behind_at text) [])
+faults_of text = filter_map component_fault (before_at text) ++ filter_map realm_fault (unwrap_or (after_at text) [])
 
--- the first of the faults
-abbrev pub leftmost : List NameFault → Option NameFault
-leftmost [] = None
-leftmost (fault ∷ others) = Some fault
+-- the first fault, if there is one
+abbrev pub first_fault : List NameFault → Option NameFault
+first_fault [] = None
+first_fault (fault ∷ others) = Some fault
 
 -- the components: what stands before any `@`, split at each `/`
 abbrev pub components_of : List Atom → List (List ℕ)
 components_of text = map (map byte_of) (slice_split is_slash (before_at text))
 
--- the realm: what stands behind the `@`, or else the default realm
+-- the realm: what stands after the `@`, or else the default realm
 abbrev pub realm_of : List Atom → Option (List ℕ) → Option (List ℕ)
-realm_of text default_realm = option_or (option_map (map byte_of) (behind_at text)) default_realm
+realm_of text default_realm = option_or (option_map (map byte_of) (after_at text)) default_realm
 
--- the leftmost fault, or want of a realm, or the name, of type 1: a principal
+-- the leftmost fault, or that there is no realm, or the name, of type 1: a principal
 abbrev pub name_or_fault : Option NameFault → Option (List ℕ) → List (List ℕ) → Result Parts NameFault
 name_or_fault (Some fault) realm components = Err fault
 name_or_fault None None components = Err NoRealm
@@ -56,4 +56,4 @@ name_or_fault None (Some realm) components = Ok (record { name_type = 1; realm =
 
 -- the name of a text, or its fault
 abbrev pub name_of : List ℕ → Option (List ℕ) → Result Parts NameFault
-name_of text default_realm = name_or_fault (leftmost (faults_of (atoms text))) (realm_of (atoms text) default_realm) (components_of (atoms text))
+name_of text default_realm = name_or_fault (first_fault (faults_of (atoms text))) (realm_of (atoms text) default_realm) (components_of (atoms text))

@@ -81,6 +81,6 @@ ReadsAt view bytes None read = read ≡ None
 abbrev pub items_of : {A Z : Type 0} → List (Vec A Z) → List (List A)
 items_of vs = map vec_items vs
 
--- what a name with memory of its own is
+-- what an owned name is
 abbrev pub principal_parts : {A : Type 0} → Principal A → Parts
 principal_parts p = record { name_type = p.name_type; realm = vec_items p.realm; components = items_of (vec_items p.components) }

@@ -1,7 +1,7 @@
 //! The text of a name, cut into atoms.
 
 ghost use Rattle.std.specs.Prelude.{◌≡◌, ◌<◌, [], ◌∷◌, length, MatchOption};
-ghost use Rattle.krb_wire.specs.Atoms.{atoms, meant, plain};
+ghost use Rattle.krb_wire.specs.Atoms.{atoms, meaning, unquoted_atom};
 
 // A byte that stands for itself or is quoted, an unquoted `/` or `@`, or a backslash that ends the text.
 #[derive(Clone, Copy, PartialEq, Eq)]
@@ -13,7 +13,7 @@ pub enum Atom {
 }
 
 fn meant_by(byte: u8) -> u8
-    ensures { result ≡ meant byte }
+    ensures { result ≡ meaning byte }
 {
     match byte {
         b'n' => b'\n',
@@ -25,7 +25,7 @@ fn meant_by(byte: u8) -> u8
 }
 
 fn plain_atom(byte: u8) -> Atom
-    ensures { result ≡ plain byte }
+    ensures { result ≡ unquoted_atom byte }
 {
     match byte {
         b'/' => Atom::Slash,

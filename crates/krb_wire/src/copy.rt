@@ -33,7 +33,7 @@ fn copy_parts<N: Name, A: Allocator + Copy>(alloc: A, name: &N) -> Result<Princi
     })
 }
 
-/// The same name type, realm and components, with memory of their own.
+/// An owned copy: the same name type, realm and components.
 pub fn copy_name<N: Name, A: Allocator + Copy>(alloc: A, name: &N) -> Result<Principal<A>, NoMemory>
     ensures { IfOk result (λ p. principal_parts p ≡ N.parts name.now) }
 {

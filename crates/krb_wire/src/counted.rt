@@ -8,7 +8,7 @@ ghost use Rattle.krb_wire.specs.Reading.{Gives, ReadsAt, data16_at};
 use crate::format::Order;
 use crate::numbers::{put_u16, split_u16};
 
-/// The counted data at the front, without its length, and the bytes after it.
+/// The counted data that the bytes begin with, without its length, and the bytes after it.
 #[tactic(auto, unfolding(crate::specs::Reading::data16_at))]
 pub fn split_data16(order: Order, bytes: &[u8]) -> Option<(&[u8], &[u8])>
     ensures { Gives (λ x. (x.0.now, x.1.now)) result (data16_at order bytes.now) }

@@ -1,5 +1,5 @@
 //! Names, counted data and numbers of Kerberos files, read from bytes and written over them without
-//! taking memory, and names as text.
+//! allocating, and names as text.
 #![tactic(auto)]
 
 mod atom;
@@ -15,6 +15,7 @@ mod name_fault;
 mod numbers;
 mod parse;
 mod principal;
+mod quote;
 mod same;
 mod spelling;
 mod text;

@@ -1,8 +1,8 @@
-//! Want of memory.
+//! Out of memory.
 
 use thiserror::Error;
 
-/// A growth was refused.
+/// An allocation failed.
 #[derive(Clone, Copy, Debug, PartialEq, Eq, Error)]
 #[error("out of memory")]
 pub struct NoMemory;

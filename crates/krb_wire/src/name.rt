@@ -8,7 +8,7 @@ use std::alloc::Allocator;
 
 /// The name of a principal. A realm and components are bytes and need not be text.
 pub trait Name {
-    /// What the components lie in, where each has memory of its own.
+    /// The allocator of the components, where they are owned.
     type Heap: Allocator;
 
     /// Which name it is.

@@ -17,10 +17,10 @@ pub enum NameFault {
     /// It has a second unquoted `@`.
     #[error("a second @")]
     SecondAt = 3,
-    /// It has an unquoted `/` behind the `@`.
+    /// It has an unquoted `/` after the `@`.
     #[error("a / in the realm")]
     SlashInRealm = 4,
-    /// A growth was refused.
+    /// An allocation failed.
     #[error("out of memory")]
     NoMemory = 5,
 }

@@ -31,7 +31,7 @@ pub fn read_u32(order: Order, bytes: &[u8]) -> u32
     }
 }
 
-/// The byte at the front, and the bytes after it.
+/// The first byte, and the bytes after it.
 pub fn split_u8(bytes: &[u8]) -> Option<(u8, &[u8])>
     ensures { Gives (λ x. (x.0, x.1.now)) result (byte_at bytes.now) }
 {
@@ -39,7 +39,7 @@ pub fn split_u8(bytes: &[u8]) -> Option<(u8, &[u8])>
     Some((*first, rest))
 }
 
-/// The number at the front, and the bytes after it.
+/// The number in the first two bytes, and the bytes after it.
 pub fn split_u16(order: Order, bytes: &[u8]) -> Option<(u16, &[u8])>
     ensures { Gives (λ x. (x.0, x.1.now)) result (number_at order w16 bytes.now) }
 {
@@ -50,7 +50,7 @@ pub fn split_u16(order: Order, bytes: &[u8]) -> Option<(u16, &[u8])>
     Some((read_u16(order, front), rest))
 }
 
-/// The number at the front, and the bytes after it.
+/// The number in the first four bytes, and the bytes after it.
 pub fn split_u32(order: Order, bytes: &[u8]) -> Option<(u32, &[u8])>
     ensures { Gives (λ x. (x.0, x.1.now)) result (number_at order w32 bytes.now) }
 {

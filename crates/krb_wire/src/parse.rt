@@ -2,9 +2,9 @@
 
 ghost use Rattle.std.specs.Prelude.{◌≡◌, ◌<◌, ◌⊎◌, length, Ok, Err, Some, None, IsOk, IfOk, IfErr, IfSome, MatchOption, option_map, option_copied};
 ghost use Rattle.krb_wire.specs.Reading.{items_of, principal_parts};
-ghost use Rattle.krb_wire.specs.Atoms.{atoms, behind_at};
-ghost use Rattle.krb_wire.specs.Fronts.{front, behind_front};
-ghost use Rattle.krb_wire.specs.NameOf.{faults_of, leftmost, components_of, realm_of, name_of};
+ghost use Rattle.krb_wire.specs.Atoms.{atoms, after_at};
+ghost use Rattle.krb_wire.specs.FirstComponent.{first_component, after_first};
+ghost use Rattle.krb_wire.specs.NameOf.{faults_of, first_fault, components_of, realm_of, name_of};
 
 use crate::atom::{Atom, next_atom};
 use crate::name_fault::NameFault;
@@ -13,7 +13,7 @@ use std::alloc::{AllocError, Allocator};
 
 // The fault furthest left. Where one is found, what follows it is not looked at.
 fn leftmost_fault(text: &[u8]) -> Option<NameFault>
-    ensures { result ≡ leftmost (faults_of (atoms text.now)) }
+    ensures { result ≡ first_fault (faults_of (atoms text.now)) }
 {
     let mut rest = text;
     let mut in_realm = false;
@@ -30,9 +30,9 @@ fn leftmost_fault(text: &[u8]) -> Option<NameFault>
     None
 }
 
-// The text behind the first unquoted `@`.
+// The text after the first unquoted `@`.
 fn realm_text(text: &[u8]) -> Option<&[u8]>
-    ensures { option_map (λ realm. atoms realm.now) result ≡ behind_at (atoms text.now) }
+    ensures { option_map (λ realm. atoms realm.now) result ≡ after_at (atoms text.now) }
 {
     let mut rest = text;
     while let Some((atom, more)) = next_atom(rest) {
@@ -44,7 +44,7 @@ fn realm_text(text: &[u8]) -> Option<&[u8]>
     None
 }
 
-// What is wrong with a text, but for want of memory.
+// What is wrong with a text, memory aside.
 fn fault_of(text: &[u8], default_realm: Option<&[u8]>) -> Option<NameFault>
     ensures { MatchOption result (IsOk (name_of text.now (option_copied default_realm.entry)))
         (λ fault. name_of text.now (option_copied default_realm.entry) ≡ Err fault) }
@@ -59,8 +59,8 @@ fn fault_of(text: &[u8], default_realm: Option<&[u8]>) -> Option<NameFault>
 }
 
 // How many bytes the first component has.
-fn front_len(text: &[u8]) -> usize
-    ensures { result ≡ length (front (atoms text.now)) }
+fn first_component_len(text: &[u8]) -> usize
+    ensures { result ≡ length (first_component (atoms text.now)) }
 {
     let mut rest = text;
     let mut len = 0;
@@ -74,17 +74,17 @@ fn front_len(text: &[u8]) -> usize
     len
 }
 
-// The first component, and the text behind the `/` that ends it, if one does.
-fn read_front<A: Allocator>(
+// The first component, and the text after the `/` that ends it, if one does.
+fn read_first_component<A: Allocator>(
     alloc: A,
     text: &[u8],
 ) -> Result<(Vec<u8, A>, Option<&[u8]>), AllocError>
-    ensures bytes { IfOk result (λ x. x.0.items ≡ front (atoms text.now)) }
+    ensures bytes { IfOk result (λ x. x.0.items ≡ first_component (atoms text.now)) }
     ensures rest { IfOk result (λ x. option_map (λ rest. atoms rest.now) x.1
-        ≡ behind_front (atoms text.now)) }
+        ≡ after_first (atoms text.now)) }
     ensures shorter { IfOk result (λ x. IfSome x.1 (λ rest. length rest.now < length text.now)) }
 {
-    let mut bytes = Vec::with_capacity(alloc, front_len(text))?;
+    let mut bytes = Vec::with_capacity(alloc, first_component_len(text))?;
     let mut rest = text;
     while let Some((atom, more)) = next_atom(rest) {
         let byte = match atom {
@@ -109,7 +109,7 @@ fn read_components<A: Allocator + Copy>(
     let mut all = Vec::new(alloc);
     let mut rest = text;
     loop {
-        let (component, more) = read_front(alloc, rest)?;
+        let (component, more) = read_first_component(alloc, rest)?;
         all.push(component)?;
         let Some(next) = more else {
             return Ok(all);
@@ -118,7 +118,7 @@ fn read_components<A: Allocator + Copy>(
     }
 }
 
-// What stands behind the `@`, or else a copy of the default realm.
+// What stands after the `@`, or else a copy of the default realm.
 fn read_realm<A: Allocator>(
     alloc: A,
     text: &[u8],
@@ -130,7 +130,7 @@ fn read_realm<A: Allocator>(
 {
     // A realm with nothing wrong has neither `/` nor `@`: it reads as a component does.
     if let Some(realm) = realm_text(text) {
-        let (bytes, _) = read_front(alloc, realm)?;
+        let (bytes, _) = read_first_component(alloc, realm)?;
         return Ok(bytes);
     }
     let Some(realm) = default_realm else {
@@ -157,10 +157,10 @@ fn read_name<A: Allocator + Copy>(
     })
 }
 
-/// The name that a text has, of type 1. Components are separated by `/`, and the realm stands behind
+/// The name that a text has, of type 1. Components are separated by `/`, and the realm stands after
 /// an `@` or is the default realm. A backslash quotes the next byte: `\n`, `\t`, `\b` and `\0` are
 /// newline, tab, backspace and NUL, and any other byte is itself. Of a backslash at the end, a second
-/// `@` and a `/` in the realm the one furthest left is answered, and before want of a realm.
+/// `@` and a `/` in the realm, the fault is the one furthest left; a missing realm comes after them.
 pub fn parse_name<A: Allocator + Copy>(
     alloc: A,
     text: &[u8],
@@ -168,7 +168,7 @@ pub fn parse_name<A: Allocator + Copy>(
 ) -> Result<Principal<A>, NameFault>
     ensures ok { IfOk result (λ p. name_of text.now (option_copied default_realm.entry)
         ≡ Ok (principal_parts p)) }
-    // Memory is wanting only where the text has a name.
+    // It runs out of memory only where the text has a name.
     ensures err { IfErr result (λ fault.
         (name_of text.now (option_copied default_realm.entry) ≡ Err fault)
         ⊎ ((fault ≡ NameFault.NoMemory)

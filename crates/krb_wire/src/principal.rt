@@ -1,4 +1,4 @@
-//! Names with memory of their own.
+//! Owned names.
 
 ghost use Rattle.std.specs.Prelude.{◌≡◌};
 ghost use Rattle.krb_wire.specs.Spelling.{Parts};
@@ -8,7 +8,7 @@ use crate::components::Components;
 use crate::name::Name;
 use std::alloc::Allocator;
 
-/// A name with memory of its own.
+/// An owned name.
 #[derive(Drop)]
 pub struct Principal<A: Allocator> {
     pub name_type: u32,

@@ -1,11 +1,12 @@
-mod growths;
 mod spelled;
 
-use crate::{
-    KtFormat, Name, Principal, copy_name, parse_name, read_kt_principal, same_name, write_name,
-};
+use crate::{Name, Principal, copy_name, parse_name, write_name};
+use refusing::refuse_each;
 use std::alloc::Global;
 use std::test::Fail;
+
+const LONG: &[u8] =
+    b"host\\/a/a-long-component-that-is-quoted-in-more-than-one-batch-as-it-has-a-tab-\\t-in-it@R";
 
 fn named(
     alloc: Global,
@@ -18,77 +19,82 @@ fn named(
     }
 }
 
-fn printed(alloc: Global, name: &Principal<Global>) -> Result<Vec<u8>, Fail> {
-    let mut out = Vec::new(alloc);
-    match write_name(name, &mut out) {
-        Ok(()) => Ok(out),
-        Err(_) => Err(Fail::from("out of memory")),
-    }
-}
-
+// What krb5_parse_name reads, and what krb5_unparse_name writes for it.
 #[test]
-fn faults_of_texts(rt: HostRuntime) -> Result<(), Fail> {
-    for (text, number) in [("a", 1), ("a\\", 2), ("a@b@c\\", 3), ("a@b/c", 4)] {
-        let Err(fault) = parse_name(rt.alloc(), text.as_bytes(), None) else {
-            return Err(Fail::from("a name"));
-        };
-        assert_eq!(rt; fault.number(), number, "{text}");
-    }
-    Ok(())
-}
-
-#[test]
-fn names_of_one_component(rt: HostRuntime) -> Result<(), Fail> {
-    let alloc = rt.alloc();
-    let default_realm = b"R".as_slice();
-    for (text, default_realm, want) in [
-        ("@R", None, "@R"),
-        ("a@", None, "a@"),
-        ("a", Some(default_realm), "a@R"),
-        ("", Some(default_realm), "@R"),
+fn texts_of_names(rt: HostRuntime) -> Result<(), Fail> {
+    let realm = b"R".as_slice();
+    for (text, default_realm, components, want) in [
+        (b"@R".as_slice(), None, 1, b"@R".as_slice()),
+        (b"a@", None, 1, b"a@"),
+        (b"a", Some(realm), 1, b"a@R"),
+        (b"", Some(realm), 1, b"@R"),
+        (b"host/a@S", Some(realm), 2, b"host/a@S"),
+        (b"\\a\\/b\\@c\\\\@R", None, 1, b"a\\/b\\@c\\\\@R"),
+        (b"\n\t\x08\0@R", None, 1, b"\\n\\t\\b\\0@R"),
+        (LONG, None, 2, LONG),
     ] {
-        let name = named(alloc, text.as_bytes(), default_realm)?;
-        assert_eq!(rt; name.count(), 1, "{text}");
-        assert_eq!(rt; name.name_type(), 1, "{text}");
-        assert!(rt;
-            printed(alloc, &name)?.as_slice() == want.as_bytes(),
-            "{text}"
-        );
+        let name = named(rt.alloc(), text, default_realm)?;
+        assert_eq!(rt; name.count(), components, "{want:?}");
+        let mut out = Vec::new(rt.alloc());
+        assert!(rt; write_name(&name, &mut out).is_ok());
+        assert!(rt; out.as_slice() == want, "{want:?}");
+    }
+    Ok(())
+}
+
+/// A text that is no name takes no memory.
+#[test]
+fn texts_that_are_no_names(rt: HostRuntime) -> Result<(), Fail> {
+    for (text, number) in [("a", 1), ("a\\", 2), ("a@b@c\\", 3), ("a@b/c", 4)] {
+        let requests = refuse_each(rt.alloc(), 100, |heap, n| {
+            heap.refuse(n);
+            let Err(fault) = parse_name(heap, text.as_bytes(), None) else {
+                return Err(Fail::from("a name"));
+            };
+            assert_eq!(rt; fault.number(), number, "{text}");
+            Ok(())
+        })?;
+        assert_eq!(rt; requests, 0, "{text}");
     }
     Ok(())
 }
 
 #[test]
-fn quoted_bytes_read_back(rt: HostRuntime) -> Result<(), Fail> {
-    let alloc = rt.alloc();
-    let component = Vec::from_slice(alloc, b"a/b@c\\\n\0")?;
-    let name = Principal {
-        name_type: 0,
-        realm: Vec::from_slice(alloc, b"R")?,
-        components: Vec::from_array(alloc, [component])?,
-    };
-    let text = printed(alloc, &name)?;
-    assert!(rt; text.as_slice() == b"a\\/b\\@c\\\\\\n\\0@R".as_slice());
-    let again = named(alloc, &text, None)?;
-    assert_eq!(rt; again.name_type(), 1);
-    assert!(rt; same_name(&name, &again));
+fn refused_allocations_of_parse_name(rt: HostRuntime) -> Result<(), Fail> {
+    let realm = b"R".as_slice();
+    for (text, default_realm) in [("host/a@R", None), ("host/a", Some(realm))] {
+        let requests = refuse_each(rt.alloc(), 100, |heap, n| {
+            heap.refuse(n);
+            let name = parse_name(heap, text.as_bytes(), default_realm);
+            assert_eq!(rt; name.is_err(), heap.refused());
+            Ok(())
+        })?;
+        assert!(rt; requests >= 4, "{requests}");
+    }
     Ok(())
 }
 
 #[test]
-fn copy_of_a_name(rt: HostRuntime) -> Result<(), Fail> {
-    let alloc = rt.alloc();
-    let bytes = b"\0\x02\0\x01R\0\x04host\0\x01a\0\0\0\x05".as_slice();
-    let Some((view, _)) = read_kt_principal(KtFormat::V2, bytes, 0) else {
-        return Err(Fail::from("no name"));
-    };
-    let Ok(copy) = copy_name(alloc, &view) else {
-        return Err(Fail::from("out of memory"));
-    };
-    assert_eq!(rt; copy.name_type(), 5);
-    assert!(rt; same_name(&copy, &view));
-    assert!(rt; same_name(&view, &named(alloc, b"host/a@R", None)?));
-    assert!(rt; !same_name(&copy, &named(alloc, b"host@R", None)?));
-    assert!(rt; !same_name(&copy, &named(alloc, b"host/a@", None)?));
+fn refused_allocations_of_copy_name(rt: HostRuntime) -> Result<(), Fail> {
+    let name = named(rt.alloc(), b"host/a@R", None)?;
+    let requests = refuse_each(rt.alloc(), 100, |heap, n| {
+        heap.refuse(n);
+        assert_eq!(rt; copy_name(heap, &name).is_err(), heap.refused());
+        Ok(())
+    })?;
+    assert!(rt; requests >= 4, "{requests}");
+    Ok(())
+}
+
+#[test]
+fn refused_allocations_of_write_name(rt: HostRuntime) -> Result<(), Fail> {
+    let name = named(rt.alloc(), LONG, None)?;
+    let requests = refuse_each(rt.alloc(), 100, |heap, n| {
+        let mut out = Vec::new(heap);
+        heap.refuse(n);
+        assert_eq!(rt; write_name(&name, &mut out).is_err(), heap.refused());
+        Ok(())
+    })?;
+    assert!(rt; requests >= 2, "{requests}");
     Ok(())
 }

@@ -1,77 +1,15 @@
 //! Names as text, after krb5_unparse_name.
 
-ghost use Rattle.std.specs.Prelude.{◌≡◌, ◌<◌, ◌≤◌, ◌+◌, ◌∷◌, [], ◌++◌, IsTrue, OnOk, OnErr, length, vec_len, vec_capacity};
-ghost use Rattle.krb_wire.specs.Names.{quoted, quote, separator, joined, name_text, Grew, HadNoRoom};
+ghost use Rattle.std.specs.Prelude.{◌≡◌, ◌≤◌, ◌++◌, OnOk, OnErr, vec_capacity};
+ghost use Rattle.krb_wire.specs.Quote.{quote};
+ghost use Rattle.krb_wire.specs.Names.{separator, joined_components, name_text, Grew, HadNoRoom};
 
 use crate::memory::NoMemory;
 use crate::name::Name;
+use crate::quote::push_quote;
 use std::alloc::{AllocError, Allocator};
 
-// Is true of no byte that is quoted.
-fn is_plain(byte: u8) -> bool
-    ensures { IsTrue result → quoted byte ≡ byte ∷ [] }
-{
-    (byte > b'\n') & (byte != b'/') & (byte != b'@') & (byte != b'\\')
-}
-
-// Whether the bytes stand for themselves, as those of most names do. All are looked at, many at once.
-#[tactic(auto, unfolding(crate::specs::Names::quote))]
-fn is_plain_text(bytes: &[u8]) -> bool
-    ensures { IsTrue result → quote bytes.now ≡ bytes.now }
-{
-    let mut plain = true;
-    for byte in bytes {
-        plain &= is_plain(*byte);
-    }
-    plain
-}
-
-fn push_quoted<A: Allocator>(out: &mut Vec<u8, A>, byte: u8) -> Result<(), AllocError>
-    ensures ok { OnOk result (out.new.items ≡ out.old.items ++ quoted byte) }
-    ensures err { OnErr result (out.new.items ≡ out.old.items) }
-    ensures capacity { vec_capacity out.old ≤ vec_capacity out.new }
-    ensures full { OnErr result (HadNoRoom out.old (quoted byte)) }
-{
-    match byte {
-        b'/' | b'@' | b'\\' => out.extend_from_slice(&[b'\\', byte]),
-        b'\n' => out.extend_from_slice(b"\\n"),
-        b'\t' => out.extend_from_slice(b"\\t"),
-        8 => out.extend_from_slice(b"\\b"),
-        0 => out.extend_from_slice(b"\\0"),
-        _ => out.extend_from_slice(&[byte]),
-    }
-}
-
-// Each byte quoted, one by one.
-#[cold]
-#[inline(never)]
-#[tactic(auto, unfolding(crate::specs::Names::quote))]
-fn push_each_quoted<A: Allocator>(out: &mut Vec<u8, A>, bytes: &[u8]) -> Result<(), AllocError>
-    ensures ok { OnOk result (out.new.items ≡ out.old.items ++ quote bytes.now) }
-    ensures err { OnErr result (Grew out.old.items out.new.items) }
-    ensures capacity { vec_capacity out.old ≤ vec_capacity out.new }
-    ensures full { OnErr result (HadNoRoom out.old (quote bytes.now)) }
-{
-    for byte in bytes {
-        push_quoted(out, *byte)?;
-    }
-    Ok(())
-}
-
-#[inline]
-fn push_quote<A: Allocator>(out: &mut Vec<u8, A>, bytes: &[u8]) -> Result<(), AllocError>
-    ensures ok { OnOk result (out.new.items ≡ out.old.items ++ quote bytes.now) }
-    ensures err { OnErr result (Grew out.old.items out.new.items) }
-    ensures capacity { vec_capacity out.old ≤ vec_capacity out.new }
-    ensures full { OnErr result (HadNoRoom out.old (quote bytes.now)) }
-{
-    if is_plain_text(bytes) {
-        return out.extend_from_slice(bytes);
-    }
-    push_each_quoted(out, bytes)
-}
-
-// A component, behind a `/` where it is not the first.
+// Appends a component, after a `/` unless it is the first.
 fn push_component<A: Allocator>(
     out: &mut Vec<u8, A>,
     first: bool,
@@ -92,10 +30,10 @@ fn push_component<A: Allocator>(
 
 fn push_components<N: Name, A: Allocator>(name: &N, out: &mut Vec<u8, A>) -> Result<(), AllocError>
     ensures ok { OnOk result
-        (out.new.items ≡ out.old.items ++ joined (N.parts name.now).components) }
+        (out.new.items ≡ out.old.items ++ joined_components (N.parts name.now).components) }
     ensures err { OnErr result (Grew out.old.items out.new.items) }
     ensures capacity { vec_capacity out.old ≤ vec_capacity out.new }
-    ensures full { OnErr result (HadNoRoom out.old (joined (N.parts name.now).components)) }
+    ensures full { OnErr result (HadNoRoom out.old (joined_components (N.parts name.now).components)) }
 {
     let mut first = true;
     for component in name.components() {
@@ -121,7 +59,7 @@ fn push_name<N: Name, A: Allocator>(name: &N, out: &mut Vec<u8, A>) -> Result<()
 pub fn write_name<N: Name, A: Allocator>(name: &N, out: &mut Vec<u8, A>) -> Result<(), NoMemory>
     ensures ok { OnOk result (out.new.items ≡ out.old.items ++ name_text (N.parts name.now)) }
     ensures err { OnErr result (out.new.items ≡ out.old.items) }
-    // Memory is wanting only where the text does not fit the room that there is.
+    // It runs out of memory only where the text does not fit the room that there is.
     ensures full { OnErr result (HadNoRoom out.old (name_text (N.parts name.now))) }
 {
     let len = out.len();

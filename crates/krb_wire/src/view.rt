@@ -47,7 +47,7 @@ fn component_count(format: KtFormat, field: u16) -> Option<usize>
     }
 }
 
-// The name type at the front: version 1 has none, which reads as 0.
+// The name type that the bytes begin with: version 1 has none, and it reads as 0.
 fn name_type_of(format: KtFormat, bytes: &[u8]) -> Option<(u32, &[u8])>
     ensures { Gives (λ x. (x.0, x.1.now)) result (name_type_at format bytes.now) }
 {
@@ -81,7 +81,7 @@ fn component_at(order: Order, count: usize, bytes: &[u8], i: usize) -> Option<&[
     Some(component)
 }
 
-/// The name that a keytab has at the front of the bytes, and the bytes after it.
+/// The name that the bytes begin with, as a keytab spells it, and the bytes after it.
 #[inline(always)]
 #[tactic(auto, unfolding(crate::specs::Reading::kt_principal_at))]
 pub fn split_kt_principal(format: KtFormat, bytes: &[u8]) -> Option<(PrincipalView<'_>, &[u8])>

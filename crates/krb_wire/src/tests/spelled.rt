@@ -6,12 +6,6 @@ use crate::{
 use std::alloc::Global;
 use std::test::Fail;
 
-const FORMATS: [KtFormat; 3] = [
-    KtFormat::V1(Order::Little),
-    KtFormat::V1(Order::Big),
-    KtFormat::V2,
-];
-
 // The spelling, between two bytes that stay as they were.
 fn spelled<N: Name>(alloc: Global, format: KtFormat, name: &N) -> Result<Vec<u8>, Fail> {
     let Some(len) = kt_principal_len(format, name) else {
@@ -27,7 +21,12 @@ fn spelled<N: Name>(alloc: Global, format: KtFormat, name: &N) -> Result<Vec<u8>
     Ok(Vec::from_slice(alloc, &out[1..next])?)
 }
 
-fn name_with(alloc: Global, realm: usize, components: usize) -> Result<Principal<Global>, Fail> {
+fn name_with(
+    alloc: Global,
+    realm: usize,
+    components: usize,
+    component: usize,
+) -> Result<Principal<Global>, Fail> {
     let mut name = Principal {
         name_type: 1,
         realm: Vec::new(alloc),
@@ -35,16 +34,18 @@ fn name_with(alloc: Global, realm: usize, components: usize) -> Result<Principal
     };
     name.realm.resize(realm, b'R')?;
     for _ in 0..components {
-        name.components.push(Vec::new(alloc))?;
+        let mut bytes = Vec::new(alloc);
+        bytes.resize(component, b'c')?;
+        name.components.push(bytes)?;
     }
     Ok(name)
 }
 
 // The bytes are written out by hand from MIT's description of the keytab file format.
 #[test]
-fn a_name_is_spelled_in_each_format(rt: HostRuntime) -> Result<(), Fail> {
+fn a_name_in_each_format(rt: HostRuntime) -> Result<(), Fail> {
     let name = named(rt.alloc(), b"host/a@R", None)?;
-    for (format, want) in [
+    for (format, bytes) in [
         (
             KtFormat::V1(Order::Little),
             b"\x03\0\x01\0R\x04\0host\x01\0a".as_slice(),
@@ -58,77 +59,51 @@ fn a_name_is_spelled_in_each_format(rt: HostRuntime) -> Result<(), Fail> {
             b"\0\x02\0\x01R\0\x04host\0\x01a\0\0\0\x01".as_slice(),
         ),
     ] {
-        assert!(rt; spelled(rt.alloc(), format, &name)?.as_slice() == want);
-    }
-    Ok(())
-}
-
-#[test]
-fn a_realm_has_at_most_65535_bytes(rt: HostRuntime) -> Result<(), Fail> {
-    for format in FORMATS {
-        let longest = name_with(rt.alloc(), 65_535, 0)?;
-        let len = 65_539 + if format == KtFormat::V2 { 4 } else { 0 };
-        assert!(rt; kt_principal_len(format, &longest) == Some(len));
-        assert!(rt; spelled(rt.alloc(), format, &longest)?.len() as u64 == len);
-        let longer = name_with(rt.alloc(), 65_536, 0)?;
-        assert!(rt; kt_principal_len(format, &longer).is_none());
-    }
-    Ok(())
-}
-
-#[test]
-fn a_component_has_at_most_65535_bytes(rt: HostRuntime) -> Result<(), Fail> {
-    for format in FORMATS {
-        let mut name = name_with(rt.alloc(), 0, 1)?;
-        let Some(component) = name.components.first_mut() else {
-            return Err(Fail::from("no component"));
+        assert!(rt; spelled(rt.alloc(), format, &name)?.as_slice() == bytes);
+        let Some((view, next)) = read_kt_principal(format, bytes, 0) else {
+            return Err(Fail::from("no name"));
         };
-        component.resize(65_535, b'c')?;
-        let len = 65_541 + if format == KtFormat::V2 { 4 } else { 0 };
-        assert!(rt; kt_principal_len(format, &name) == Some(len));
-        let Some(component) = name.components.first_mut() else {
-            return Err(Fail::from("no component"));
-        };
-        component.push(b'c')?;
-        assert!(rt; kt_principal_len(format, &name).is_none());
+        assert!(rt; next == bytes.len() && same_name(&view, &name));
     }
     Ok(())
 }
 
+// Lengths and counts of 16 bits; version 1 counts the realm as a component.
 #[test]
-fn version_1_has_room_for_one_component_less(rt: HostRuntime) -> Result<(), Fail> {
-    for (components, in_v1, in_v2) in [
-        (65_534, true, true),
-        (65_535, false, true),
-        (65_536, false, false),
+fn names_with_and_without_a_spelling(rt: HostRuntime) -> Result<(), Fail> {
+    for (realm, components, component, in_v1, in_v2) in [
+        (65_535, 0, 0, Some(65_539), Some(65_543)),
+        (65_536, 0, 0, None, None),
+        (0, 1, 65_535, Some(65_541), Some(65_545)),
+        (0, 1, 65_536, None, None),
+        (1, 65_534, 0, Some(131_073), Some(131_077)),
+        (1, 65_535, 0, None, Some(131_079)),
+        (1, 65_536, 0, None, None),
     ] {
-        let name = name_with(rt.alloc(), 1, components)?;
-        let len = 5 + 2 * components as u64;
-        for (format, fits, len) in [
-            (KtFormat::V1(Order::Little), in_v1, len),
-            (KtFormat::V1(Order::Big), in_v1, len),
-            (KtFormat::V2, in_v2, len + 4),
+        let name = name_with(rt.alloc(), realm, components, component)?;
+        for (format, want) in [
+            (KtFormat::V1(Order::Little), in_v1),
+            (KtFormat::V1(Order::Big), in_v1),
+            (KtFormat::V2, in_v2),
         ] {
-            let want = if fits { Some(len) } else { None };
-            assert!(rt; kt_principal_len(format, &name) == want, "{components}");
-            if fits {
-                assert!(rt; spelled(rt.alloc(), format, &name)?.len() as u64 == len);
-            }
+            assert_eq!(rt;
+                kt_principal_len(format, &name),
+                want,
+                "{realm} {components}"
+            );
         }
     }
     Ok(())
 }
 
-// To look up each from the front would pass 2,147,385,345 components.
+// To look up each component from the first on would pass 2,147,385,345 components.
 #[test]
 fn a_view_of_65535_components_is_spelled_in_one_pass(rt: HostRuntime) -> Result<(), Fail> {
-    let name = name_with(rt.alloc(), 1, 65_535)?;
+    let name = name_with(rt.alloc(), 1, 65_535, 0)?;
     let bytes = spelled(rt.alloc(), KtFormat::V2, &name)?;
-    let Some((view, next)) = read_kt_principal(KtFormat::V2, &bytes, 0) else {
+    let Some((view, _)) = read_kt_principal(KtFormat::V2, &bytes, 0) else {
         return Err(Fail::from("no name"));
     };
-    assert_eq!(rt; next, bytes.len());
-    assert!(rt; same_name(&view, &name));
     assert!(rt; spelled(rt.alloc(), KtFormat::V2, &view)?.as_slice() == bytes.as_slice());
     Ok(())
 }

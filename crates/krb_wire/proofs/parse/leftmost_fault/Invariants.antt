@@ -1,11 +1,11 @@
 use Rattle.std.proofs.Common.{◌≡◌, length}
 use Rattle.krb_wire.specs.Atoms.{atoms}
-use Rattle.krb_wire.specs.NameOf.{faults_of, leftmost}
+use Rattle.krb_wire.specs.NameOf.{faults_of, first_fault}
 use Rattle.krb_wire.proofs.AtomLemmas.{faults_from}
 use Rattle.krb_wire.proofs.parse.leftmost_fault.Given as goal
 
 abbrev pub invariant-loop-atom : goal.invariant-loop-atom
-invariant-loop-atom l = leftmost (faults_from l.in_realm (atoms l.rest)) ≡ leftmost (faults_of (atoms l.fn.text))
+invariant-loop-atom l = first_fault (faults_from l.in_realm (atoms l.rest)) ≡ first_fault (faults_of (atoms l.fn.text))
 
 abbrev pub decreases-loop-atom : goal.decreases-loop-atom
 decreases-loop-atom l = length l.rest

@@ -2,13 +2,13 @@ use Rattle.std.proofs.Common.{◌≡◌, ◌∙◌, sym, ap, List, ℕ, Some, No
 use Rattle.std.specs.Prelude.{option_copied}
 use Rattle.krb_wire.specs.Atoms.{atoms}
 use Rattle.krb_wire.specs.NameOf.{realm_of}
-use Rattle.krb_wire.proofs.AtomLemmas.{named, realm_of-front, no_realm}
+use Rattle.krb_wire.proofs.AtomLemmas.{named, realm_of-first, no_realm}
 use Rattle.krb_wire.proofs.parse.read_realm.Goals as goal
 
 pub returns-in-Some : goal.returns-in-Some
 returns-in-Some g c =
     let sound = named _ _ _ c.requires in
-    realm_of-front (atoms c.args.text.now) (atoms c.in-Some.realm.now) (option_copied c.args.default_realm) sound.0 c.in-Some.ensures
+    realm_of-first (atoms c.args.text.now) (atoms c.in-Some.realm.now) (option_copied c.args.default_realm) sound.0 c.in-Some.ensures
     ∙ ap (λ (bytes : List ℕ). Some bytes) (sym c.in_ok-bytes.ensures.bytes)
 
 pub unreachable-requires : goal.unreachable-requires

@@ -1,12 +1,12 @@
 use Rattle.std.proofs.Common.{◌≡◌, ◌≤◌, ◌++◌, length}
 use Rattle.krb_wire.specs.Atoms.{atoms}
-use Rattle.krb_wire.specs.Fronts.{front, behind_front}
-use Rattle.krb_wire.proofs.parse.read_front.Given as goal
+use Rattle.krb_wire.specs.FirstComponent.{first_component, after_first}
+use Rattle.krb_wire.proofs.parse.read_first_component.Given as goal
 
 abbrev pub invariant-loop-atom : goal.invariant-loop-atom
 invariant-loop-atom g l = record {
-  bytes : l.bytes.items ++ front (atoms l.rest) ≡ front (atoms l.fn.text);
-  rest : behind_front (atoms l.rest) ≡ behind_front (atoms l.fn.text);
+  bytes : l.bytes.items ++ first_component (atoms l.rest) ≡ first_component (atoms l.fn.text);
+  rest : after_first (atoms l.rest) ≡ after_first (atoms l.fn.text);
   shorter : length l.rest ≤ length l.fn.text;
 }
 

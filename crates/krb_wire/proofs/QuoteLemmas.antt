@@ -1,0 +1,105 @@
+-- Bytes that are quoted one by one, run by run and batch by batch.
+use Rattle.std.proofs.Common.{◌≡◌, ◌≢◌, ℕ, ◌+◌, ◌<◌, ◌≤◌, List, [], ◌∷◌, ◌++◌, cond, eqb, length, map, take, drop, set, get_or, refl, sym, ap, subst, ◌∙◌, append_assoc, append-nil, length-append, length-set, arith}
+use Rattle.std.specs.List.{All, flat_map, range_with_len}
+use Rattle.std.proofs.Math.Seq.{take-add}
+use Rattle.std.proofs.lemmas.Bool.{ne_eqb, cond-false}
+use Rattle.std.proofs.lemmas.Grind.{flat_map-append, take-set_at}
+use Rattle.std.proofs.lemmas.List.{take_more, take_more_set, take-append-drop, take-take}
+use Rattle.std.proofs.lemmas.List.Elements.{All-nil, All-cons, All-head, All-tail, All-append, All-take}
+use Rattle.std.proofs.lemmas.List.FromFn.{get_or-map-range_with_len}
+use Rattle.krb_wire.specs.declared.quote.TheConstants.{LETTERS}
+use Rattle.krb_wire.specs.Quote.{quoted_byte, IsPlain, quote}
+
+-- ---- plain bytes
+
+-- a plain byte more
+pub plain_step : (bytes : List ℕ) (i : ℕ) → i < length bytes → All IsPlain (take i bytes) → IsPlain (get_or bytes i 0) → All IsPlain (take (i + 1) bytes)
+plain_step bytes i lt before one = subst (All IsPlain) (sym (take_more bytes i 0 lt)) (All-append IsPlain (take i bytes) _ before (All-cons IsPlain _ [] one (All-nil IsPlain)))
+
+-- a plain run more
+pub plain_more : (bytes : List ℕ) (at n : ℕ) → All IsPlain (take at bytes) → All IsPlain (take n (drop at bytes)) → All IsPlain (take (at + n) bytes)
+plain_more bytes at n before run = subst (All IsPlain) (sym (take-add at n bytes)) (All-append IsPlain (take at bytes) _ before run)
+
+-- a plain prefix and a plain rest that meet or overlap are all bytes
+pub plain_whole : (bytes : List ℕ) (at last : ℕ) → last ≤ at → All IsPlain (take at bytes) → All IsPlain (drop last bytes) → All IsPlain bytes
+plain_whole bytes at last le prefix rest =
+    let before = subst (All IsPlain) (take-take last at bytes le) (All-take IsPlain last (take at bytes) prefix) in
+    subst (All IsPlain) (take-append-drop last bytes) (All-append IsPlain (take last bytes) _ before rest)
+
+-- plain bytes stand for themselves
+pub quote_plain : (bytes : List ℕ) → All IsPlain bytes → quote bytes ≡ bytes
+unfolding quote
+quote_plain [] p = refl
+quote_plain (b ∷ bytes) p =
+    let one : quoted_byte b ≡ b ∷ [] = All-head IsPlain b bytes p in
+    ap (λ (x : List ℕ). x ++ quote bytes) one ∙ ap (λ (x : List ℕ). b ∷ x) (quote_plain bytes (All-tail IsPlain b bytes p))
+
+pub ruleset plain_quotes = (quote_plain)
+
+-- ---- the table of letters
+
+-- a byte as a table has it
+by_table : List ℕ → ℕ → List ℕ
+by_table table b = cond (eqb (get_or table b 0) 46) (b ∷ []) (92 ∷ get_or table b 0 ∷ [])
+
+-- two functions that are equal at the numbers below 256, listed
+same_at : (f h : ℕ → List ℕ) → map f (range_with_len 0 256) ≡ map h (range_with_len 0 256) → (b : ℕ) → b < 256 → f b ≡ h b
+same_at f h all b lt =
+    sym (get_or-map-range_with_len f 0 256 b b [] lt (omega arith))
+    ∙ ap (λ (l : List (List ℕ)). get_or l b []) all
+    ∙ get_or-map-range_with_len h 0 256 b b [] lt (omega arith)
+
+-- the table has each of the 256 bytes as the definition has it: both are computed
+quoted-table : (b : ℕ) → b < 256 → quoted_byte b ≡ by_table LETTERS b
+unfolding by_table
+quoted-table b lt = same_at quoted_byte (by_table LETTERS) refl b lt
+
+-- a letter stands after a backslash
+by_table-letter : (table : List ℕ) (b : ℕ) → get_or table b 0 ≢ 46 → by_table table b ≡ 92 ∷ get_or table b 0 ∷ []
+unfolding by_table
+by_table-letter table b other = cond-false _ _ _ (ne_eqb _ _ other)
+
+-- a byte that has a letter is a backslash and that letter
+pub quoted-letter : (b : ℕ) → b < 256 → get_or LETTERS b 0 ≢ 46 → quoted_byte b ≡ 92 ∷ get_or LETTERS b 0 ∷ []
+quoted-letter b lt other = quoted-table b lt ∙ by_table-letter LETTERS b other
+
+-- two bytes stored at a place
+pub stored : (text : List ℕ) (at x y : ℕ) → at + 2 ≤ length text → take (at + 2) (set (set text at x) (at + 1) y) ≡ take at text ++ x ∷ y ∷ []
+stored text at x y room =
+    take-set_at (set text at x) (at + 1) (at + 2) y (omega arith) (omega (arith, length-set text at x))
+    ∙ ap (λ (t : List ℕ). t ++ y ∷ []) (take_more_set text at x (omega arith)) ∙ append_assoc (take at text) (x ∷ []) (y ∷ [])
+
+-- ---- bytes as text
+
+-- a byte more is quoted
+pub quote_step : (bytes : List ℕ) (i : ℕ) → i < length bytes → quote (take i bytes) ++ quoted_byte (get_or bytes i 0) ≡ quote (take (i + 1) bytes)
+unfolding quote
+quote_step bytes i lt =
+    ap (λ (t : List ℕ). flat_map quoted_byte (take i bytes) ++ t) (sym (append-nil (quoted_byte (get_or bytes i 0))))
+    ∙ sym (flat_map-append quoted_byte (take i bytes) (get_or bytes i 0 ∷ []))
+    ∙ ap (λ (t : List ℕ). flat_map quoted_byte t) (sym (take_more bytes i 0 lt))
+
+-- a prefix and what follows it, each quoted
+quote_parts : (n : ℕ) (bytes : List ℕ) → quote (take n bytes) ++ quote (drop n bytes) ≡ quote bytes
+unfolding quote
+quote_parts n bytes = sym (flat_map-append quoted_byte (take n bytes) (drop n bytes)) ∙ ap (λ (t : List ℕ). flat_map quoted_byte t) (take-append-drop n bytes)
+
+-- what is written, the next batch and what follows it are all
+pub rest_step : (all out rest batch after : List ℕ) (n : ℕ) → out ++ quote rest ≡ all → batch ≡ take n rest → after ≡ drop n rest → (out ++ quote batch) ++ quote after ≡ all
+rest_step all out rest batch after n e is_batch is_after =
+    append_assoc out (quote batch) (quote after)
+    ∙ ap (λ (t : List ℕ). out ++ (quote t ++ quote after)) is_batch
+    ∙ ap (λ (t : List ℕ). out ++ (quote (take n rest) ++ quote t)) is_after
+    ∙ ap (λ (t : List ℕ). out ++ t) (quote_parts n rest) ∙ e
+
+-- what is written and the next batch are no longer than all
+pub rest_room : (old out bytes rest batch after : List ℕ) (n : ℕ) → out ++ quote rest ≡ old ++ quote bytes → batch ≡ take n rest → after ≡ drop n rest → length out + length (quote batch) ≤ length old + length (quote bytes)
+rest_room old out bytes rest batch after n e is_batch is_after =
+    let text = ap length (rest_step (old ++ quote bytes) out rest batch after n e is_batch is_after) in
+    omega (arith, text, length-append old (quote bytes), length-append out (quote batch), length-append (out ++ quote batch) (quote after))
+
+-- where nothing is left, all is written
+pub rest_done : (all out rest : List ℕ) → length rest ≡ 0 → out ++ quote rest ≡ all → out ≡ all
+unfolding quote
+rest_done all out [] none e = sym (append-nil out) ∙ e
+rest_done all out (x ∷ xs) none e = absurd (omega arith)

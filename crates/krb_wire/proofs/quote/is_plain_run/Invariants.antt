@@ -1,0 +1,8 @@
+use Rattle.std.proofs.Common.{take}
+use Rattle.std.specs.Prelude.{IsTrue}
+use Rattle.std.specs.List.{All}
+use Rattle.krb_wire.specs.Quote.{IsPlain}
+use Rattle.krb_wire.proofs.quote.is_plain_run.Given as goal
+
+abbrev pub invariant-loop-byte : goal.invariant-loop-byte
+invariant-loop-byte l = IsTrue l.plain → All IsPlain (take l.byte-index l.bytes)

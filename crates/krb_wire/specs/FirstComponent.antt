@@ -1,0 +1,20 @@
+-- The first component of a text, for the readers of one component.
+use Rattle.std.specs.Prelude.{ℕ, List, [], ◌∷◌, Option, Some, None}
+use Rattle.krb_wire.specs.declared.atom.Atom.{Atom}
+use Rattle.krb_wire.specs.declared.atom.Atom.TheVariants.{Byte, Slash, At, Lone}
+
+-- the bytes up to the first `/` or `@`, or all where there is none
+abbrev pub first_component : List Atom → List ℕ
+first_component [] = []
+first_component (Byte b ∷ rest) = b ∷ first_component rest
+first_component (Slash ∷ rest) = []
+first_component (At ∷ rest) = []
+first_component (Lone ∷ rest) = 92 ∷ first_component rest
+
+-- what stands after that `/`, if it is one
+abbrev pub after_first : List Atom → Option (List Atom)
+after_first [] = None
+after_first (Byte b ∷ rest) = after_first rest
+after_first (Slash ∷ rest) = Some rest
+after_first (At ∷ rest) = None
+after_first (Lone ∷ rest) = after_first rest
