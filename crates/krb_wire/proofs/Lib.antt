@@ -2,6 +2,7 @@ pub mod Fields
 pub mod ComponentLists
 pub mod Places
 pub mod SpliceLemmas
+pub mod NamesTold
 pub mod Principals
 pub mod WidthLemmas
 pub mod QuoteLemmas

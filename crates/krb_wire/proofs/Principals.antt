@@ -10,6 +10,7 @@ use Rattle.krb_wire.specs.declared.format.KtFormat.TheVariants.{V1, V2}
 use Rattle.krb_wire.specs.Spelling.{Parts, digits, data16, order_of, count_field, name_type_field, kt_principal, HasNameType, IsShort, FitsKt}
 use Rattle.krb_wire.specs.Reading.{◌>>=◌, number_at, data16_at, components_at, components_of_count, name_type_at, kt_principal_at}
 use Rattle.krb_wire.proofs.Fields.{IsBytes, bind_some, some_is, Takes, Takes-then, wide16, wide32, number_takes, number_again, data16_takes, data16_again}
+use Rattle.krb_wire.proofs.NamesTold.{lengths_of, lengths_fit}
 use Rattle.krb_wire.proofs.Places.{IsField}
 use Rattle.krb_wire.proofs.ComponentLists.{components_take, components_again, length_components}
 
@@ -50,7 +51,7 @@ kt_principal_takes f bytes x fits e =
     let e1 = Takes-then bytes (digits o w16 a.0.0) a.0.1 (data16 o r.0.0 ++ (flat_map (data16 o) c.0.0 ++ name_type_field f t.0.0)) t.0.1 ta.0 e2 in
     let whole : Takes bytes (kt_principal f made.0) made.1 = subst (λ (n : ℕ). Takes bytes (digits o w16 n ++ (data16 o r.0.0 ++ (flat_map (data16 o) c.0.0 ++ name_type_field f t.0.0))) t.0.1) field e1 in
     let short : count_field f (length c.0.0) < 2 ^ 16 = subst (λ (n : ℕ). n < 2 ^ 16) field ta.1 in
-    subst (λ (y : Parts × List ℕ). Takes bytes (kt_principal f y.0) y.1 × FitsKt f y.0) (some_is made x t.2) (whole, record { count = short; realm = tr.1; components = tc.1; name_type = tt.1 })
+    subst (λ (y : Parts × List ℕ). Takes bytes (kt_principal f y.0) y.1 × FitsKt f y.0) (some_is made x t.2) (whole, record { lengths = lengths_fit f (record { name_type = t.0.0; realm = r.0.0; components = c.0.0 }) (record { count = short; realm = tr.1; components = tc.1 }); name_type = tt.1 })
 
 pub kt_principal_again : (f : KtFormat) (p : Parts) (rest : List ℕ) → FitsKt f p → kt_principal_at f (kt_principal f p ++ rest) ≡ Some (p, rest)
 unfolding kt_principal_at
@@ -61,8 +62,9 @@ kt_principal_again f p rest fits =
     let d1 = data16 o p.realm in
     let d2 = flat_map (data16 o) p.components in
     let d3 = name_type_field f p.name_type in
+    let l = lengths_of f p fits.lengths in
     let grouped : kt_principal f p ++ rest ≡ d0 ++ (d1 ++ (d2 ++ (d3 ++ rest))) = append_assoc d0 (d1 ++ (d2 ++ d3)) rest ∙ ap (λ (b : List ℕ). d0 ++ b) (append_assoc d1 (d2 ++ d3) rest ∙ ap (λ (b : List ℕ). d1 ++ b) (append_assoc d2 d3 rest)) in
-    ap (kt_principal_at f) grouped ∙ rw (number_again o w16 (2 ^ 16) (wide16 o) (count_field f n) (d1 ++ (d2 ++ (d3 ++ rest))) fits.count, count_again f n, data16_again o p.realm (d2 ++ (d3 ++ rest)) fits.realm, components_again o p.components (d3 ++ rest) fits.components, name_type_again f p.name_type rest fits.name_type) refl
+    ap (kt_principal_at f) grouped ∙ rw (number_again o w16 (2 ^ 16) (wide16 o) (count_field f n) (d1 ++ (d2 ++ (d3 ++ rest))) l.count, count_again f n, data16_again o p.realm (d2 ++ (d3 ++ rest)) l.realm, components_again o p.components (d3 ++ rest) l.components, name_type_again f p.name_type rest fits.name_type) refl
 
 pub no_data16 : (o : Order) → data16_at o [] ≡ None
 unfolding data16_at

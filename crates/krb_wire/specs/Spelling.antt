@@ -1,6 +1,6 @@
 -- What names are, and the one spelling of each.
-use Rattle.std.specs.Prelude.{◌≡◌, ℕ, ◌+◌, ◌<◌, ◌^◌, ◌≤◌, List, [], ◌++◌, length, drop}
-use Rattle.std.specs.List.{flat_map, AllByRecursion}
+use Rattle.std.specs.Prelude.{◌≡◌, ℕ, ◌+◌, ◌<◌, ◌^◌, ◌≤◌, List, [], ◌++◌, length, drop, Bool, ◌&&◌, nat_lt, IsTrue}
+use Rattle.std.specs.List.{flat_map, list_all}
 use Rattle.std.specs.Int.{Width, w16, w32, to_be_bytes, to_le_bytes, from_be_bytes, from_le_bytes}
 use Rattle.krb_wire.specs.declared.format.Order.{Order}
 use Rattle.krb_wire.specs.declared.format.Order.TheVariants.{Big, Little}
@@ -58,18 +58,18 @@ HasNameType V2 t = t < 2 ^ 32
 abbrev pub IsShort : List ℕ → Type 0
 IsShort bytes = length bytes < 2 ^ 16
 
+-- the length of the bytes fits sixteen bits
+abbrev pub is_short : List ℕ → Bool
+is_short bytes = nat_lt (length bytes) (2 ^ 16)
+
+-- so does each length and count of a name: then it can be written, and version 1 leaves the name type out
+abbrev pub name_fits : KtFormat → Parts → Bool
+name_fits f p = nat_lt (count_field f (length p.components)) (2 ^ 16) && (is_short p.realm && list_all is_short p.components)
+
 -- what has a spelling
 pub record FitsKt (f : KtFormat) (p : Parts) : Type 0 where
-  pub count : count_field f (length p.components) < 2 ^ 16
-  pub realm : IsShort p.realm
-  pub components : AllByRecursion IsShort p.components
+  pub lengths : IsTrue (name_fits f p)
   pub name_type : HasNameType f p.name_type
-
--- what can be written: the lengths and the count fit their fields of sixteen bits; version 1 leaves the name type out
-pub record HasSpelling (f : KtFormat) (p : Parts) : Type 0 where
-  pub count : count_field f (length p.components) < 2 ^ 16
-  pub realm : IsShort p.realm
-  pub components : AllByRecursion IsShort p.components
 
 -- a text stands in bytes, from a place to the next
 pub record Stands (bytes : List ℕ) (at next : ℕ) (text : List ℕ) : Type 0 where

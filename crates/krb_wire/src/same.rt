@@ -1,7 +1,7 @@
 //! Equal names.
 
 ghost use Rattle.std.specs.Prelude.{◌≡◌, ◌↔◌, IsTrue};
-ghost use Rattle.krb_wire.specs.SameName.{IsSameName};
+ghost use Rattle.krb_wire.specs.SameName.{have_same_name};
 
 use crate::components::Components;
 use crate::name::Name;
@@ -26,7 +26,7 @@ fn same_components<A: Allocator, B: Allocator>(
 
 /// Whether the realms and the components are equal. Name types do not count.
 pub fn same_name<N: Name, M: Name>(one: &N, other: &M) -> bool
-    ensures { IsTrue result ↔ (IsSameName (N.parts one.now) (M.parts other.now)) }
+    ensures { result ≡ have_same_name (N.parts one.now) (M.parts other.now) }
 {
     one.realm() == other.realm() && same_components(one.components(), other.components())
 }

@@ -1,8 +1,8 @@
 //! Names as a keytab spells them.
 
-ghost use Rattle.std.specs.Prelude.{◌≡◌, ◌≤◌, ◌<◌, ◌^◌, ◌+◌, ◌↔◌, ℕ, length, IsSome, IfSome};
+ghost use Rattle.std.specs.Prelude.{◌≡◌, ◌≤◌, ◌<◌, ◌^◌, ◌+◌, ◌↔◌, ℕ, length, is_some, IsTrue, IsSome, IfSome};
 ghost use Rattle.std.specs.List.{flat_map, splice, AllByRecursion};
-ghost use Rattle.krb_wire.specs.Spelling.{HasSpelling, IsShort, count_field, data16, kt_principal, name_type_field};
+ghost use Rattle.krb_wire.specs.Spelling.{name_fits, IsShort, count_field, data16, kt_principal, name_type_field};
 
 use crate::counted::put_data16;
 use crate::format::{KtFormat, Order};
@@ -46,7 +46,7 @@ fn name_type_len(format: KtFormat) -> u64
 /// 16 bits: more than 65,535 components (65,534 in version 1), or a realm or a component of more than
 /// 65,535 bytes.
 pub fn kt_principal_len<N: Name>(format: KtFormat, name: &N) -> Option<u64>
-    ensures some { IsSome result ↔ HasSpelling format (N.parts name.now) }
+    ensures some { is_some result ≡ name_fits format (N.parts name.now) }
     ensures len { IfSome result (λ n. n ≡ length (kt_principal format (N.parts name.now))) }
     // Each such sum fits a u64, with room to add more.
     ensures small { IfSome result (λ n. n < 2 ^ 33) }
@@ -95,7 +95,7 @@ fn put_name_type(format: KtFormat, name_type: u32, out: &mut [u8], at: usize) ->
 /// Writes the name at a place as a keytab spells it, and no other byte; the answer is the place after
 /// it. `kt_principal_len` says whether it has a spelling, and how much room that takes.
 pub fn put_kt_principal<N: Name>(format: KtFormat, name: &N, out: &mut [u8], at: usize) -> usize
-    requires spelled { HasSpelling format (N.parts name.now) }
+    requires spelled { IsTrue (name_fits format (N.parts name.now)) }
     requires room { at + length (kt_principal format (N.parts name.now)) ≤ length out.old }
     ensures next { result ≡ at + length (kt_principal format (N.parts name.now)) }
     ensures written { out.new ≡ splice out.old at result (kt_principal format (N.parts name.now)) }

@@ -3,6 +3,7 @@ use Rattle.std.specs.List.{flat_map, splice}
 use Rattle.std.specs.Int.{w16}
 use Rattle.krb_wire.specs.Spelling.{digits, data16, kt_principal, name_type_field}
 use Rattle.krb_wire.proofs.Fields.{wide16}
+use Rattle.krb_wire.proofs.NamesTold.{lengths_of}
 use Rattle.krb_wire.proofs.SpliceLemmas.{splice-four}
 use Rattle.krb_wire.proofs.spelling.put_kt_principal.Goals as goal
 
@@ -24,3 +25,7 @@ returns-clause-written g c =
     (omega (arith, room, ap length spelled)) (omega (arith, next, len)) c.put_data16-components.ensures.next c.put_components-name_type.ensures.next c.put_name_type.ensures.next
     c.put_u16-realm.ensures.written c.put_data16-components.ensures.written c.put_components-name_type.ensures.written c.put_name_type.ensures.written
     ∙ ap (splice c.args.out.now c.args.at c.put_name_type.result) spelled
+
+pub put_components-name_type-requires-clause-short :
+    goal.put_components-name_type-requires-clause-short
+put_components-name_type-requires-clause-short g c = (lengths_of c.args.format (g.N.Name.parts c.args.name.now) c.requires.spelled).components

@@ -1,0 +1,47 @@
+use Rattle.std.proofs.Common.{rules, ◌≡◌, ◌<◌, ◌^◌, ◌+◌, ◌++◌, ◌∙◌, ℕ, List, [], length, ap, sym, subst, length-append, arith}
+use Rattle.std.specs.Int.{w16}
+use Rattle.std.specs.List.{flat_map, AllByRecursion}
+use Rattle.std.proofs.lemmas.List.Concat.{flat_map-cons}
+use Rattle.krb_wire.specs.Spelling.{digits, data16, order_of, kt_principal, IsShort, count_field}
+use Rattle.krb_wire.proofs.Fields.{wide16}
+use Rattle.krb_wire.proofs.NamesTold.{lengths_fit, fits_not}
+use Rattle.krb_wire.proofs.spelling.kt_principal_len.Goals as goal
+
+pub returns-then-component-gt65535-clause-some : goal.returns-then-component-gt65535-clause-some
+returns-then-component-gt65535-clause-some g c =
+    fits_not c.args.format (g.N.Name.parts c.args.name.now) (λ l.
+        let left = subst (AllByRecursion IsShort) c.in-Some.ensures.steps (c.loop-component.invariant.short.0 l.components) in
+        let short = left.0 in
+        let long = c.if-component-gt65535.true in
+        absurd (omega (arith, short, long)))
+
+pub loop-component-preserved : goal.loop-component-preserved
+loop-component-preserved g c = record {
+  len =
+      let o = order_of c.args.format in
+      let component = c.in-Some.component.now in
+      let others = flat_map (data16 o) c.next.new.self in
+      let cut : flat_map (data16 o) c.loop-component.component-iterator ≡ data16 o component ++ others = ap (flat_map (data16 o)) c.in-Some.ensures.steps ∙ flat_map-cons (data16 o) component c.next.new.self in
+      let was : c.loop-component.len + length (flat_map (data16 o) c.loop-component.component-iterator) ≡ length (kt_principal c.args.format (g.N.Name.parts c.args.name.now)) = c.loop-component.invariant.len in
+      omega (arith, was, ap length cut, length-append (data16 o component) others, length-append (digits o w16 (length component)) component, (wide16 o).len (length component));
+  small =
+      let was = c.loop-component.invariant.small in
+      let short = c.if-component-gt65535.false in
+      omega (arith, was, short, ap length c.in-Some.ensures.steps);
+  short = (
+    λ all. (subst (AllByRecursion IsShort) c.in-Some.ensures.steps (c.loop-component.invariant.short.0 all)).1,
+    λ rest. c.loop-component.invariant.short.1 (subst (AllByRecursion IsShort) (sym c.in-Some.ensures.steps) (let short = c.if-component-gt65535.false in omega (arith, short), rest)),
+  );
+}
+
+pub returns-clause-some : goal.returns-clause-some
+returns-clause-some g c =
+    let p = g.N.Name.parts c.args.name.now in
+    let count : count_field c.args.format (length p.components) < 2 ^ 16 = search rules in
+    let long = c.if-realm-gt65535.false in
+    let none = c.in-None.ensures.steps.0 in
+    sym (lengths_fit c.args.format p (record {
+      count = count;
+      realm = omega (arith, long, ap length c.realm-realm.ensures);
+      components = c.loop-component.invariant.short.1 (subst (AllByRecursion IsShort) (sym none) tt);
+    }))
