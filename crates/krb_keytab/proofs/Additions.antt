@@ -1,8 +1,8 @@
 -- What an addition gives, told by the image that is kept.
 use Rattle.std.proofs.Common.{◌≡◌, ℕ, ◌+◌, ◌<◌, ◌≤◌, Bool, true, false, cond, ltb, List, [], ◌∷◌, ◌++◌, length, drop, Option, Some, None, Result, Ok, Err, refl, sym, ap, ◌∙◌, length-append, arith}
-use Rattle.std.specs.Prelude.{is_some, option_map}
+use Rattle.std.specs.Prelude.{is_some, option_map, nat_le}
 use Rattle.std.specs.List.{flat_map}
-use Rattle.std.proofs.lemmas.Bool.{lt-ltb, le-ltb}
+use Rattle.std.proofs.lemmas.Bool.{lt-ltb, le-ltb, lt-leb}
 use Rattle.std.proofs.lemmas.List.{length-replicate}
 use Rattle.krb_wire.specs.declared.format.KtFormat.{KtFormat}
 use Rattle.krb_wire.specs.Spelling.{order_of}
@@ -11,6 +11,7 @@ use Rattle.krb_walk.specs.declared.fault.FaultKind.{FaultKind}
 use Rattle.krb_walk.specs.declared.refusal.Code.TheVariants as code
 use Rattle.krb_walk.specs.declared.refusal.Refusal.{Refusal}
 use Rattle.krb_walk.specs.declared.refusal.Refusal.TheVariants.{Code as ByCode, NoMemory}
+use Rattle.krb_walk.specs.Rules.{PutGives, IsNotWanting}
 use Rattle.krb_walk.specs.Store.{end_of, fault_from, fault_of}
 use Rattle.krb_keytab.specs.declared.image.CellsEnd.{CellsEnd}
 use Rattle.krb_keytab.specs.declared.hole.Hole.{Hole}
@@ -21,14 +22,14 @@ use Rattle.krb_keytab.specs.Questions.{end_place, kind_of}
 use Rattle.krb_keytab.specs.Known.{IsKnownEnd, mark_len, len_with}
 use Rattle.krb_keytab.specs.Store.{State, image_of, store_of}
 use Rattle.krb_keytab.specs.Written.{fits, written}
-use Rattle.krb_keytab.specs.Changes.{PlacedCell, first_hole, with_filled, with_last, end_after, appending, putting_into, putting_bytes, putting}
+use Rattle.krb_keytab.specs.Changes.{PlacedCell, first_hole, with_filled, with_last, end_after, appending, putting_into, putting_bytes, putting, is_refused, takes_none}
 use Rattle.krb_keytab.specs.Holes.{hole_of, hole_from}
-use Rattle.krb_keytab.specs.Answers.{AnswersAppend, AnswersPut}
+use Rattle.krb_keytab.specs.Appends.{AnswersAppend}
 use Rattle.krb_keytab.proofs.Cuts.{end_place_is, end_place-append}
 use Rattle.krb_keytab.proofs.Stores.{held, end_held}
 use Rattle.krb_keytab.proofs.Appended.{zeros_after}
 
--- ---- behind the cells
+-- ---- after the cells
 
 none_from : (place : ℕ) (kind : Option FaultKind) → fault_from place kind ≡ None → kind ≡ None
 none_from place None h = refl
@@ -46,7 +47,7 @@ last_len f limit bytes x e known whole =
     let place : end_place 2 cells ≡ e.place + 4 + length x = end_place-append 2 k.cells (Live x ∷ []) ∙ ap (λ (n : ℕ). n + 4 + length x) known.place in
     omega (arith, mark, place, end_place_is o 2 cells, length-append (flat_map (cell o) cells) t)
 
--- a keytab that is kept, and the record that is put behind its cells
+-- a keytab that is kept, and the record that is put after its cells
 pub record Appends (f : KtFormat) (limit : ℕ) (bytes x : List ℕ) (k : State) (e : CellsEnd) (n : ℕ) : Type 0 where
   pub known : IsKnownEnd f bytes e
   pub is : held f limit bytes ≡ k
@@ -104,13 +105,28 @@ put_is k e whole fit =
     ap (λ (b : Bool). cond b (Err code.Damaged) (cond (fits k.format e) (putting_bytes k (written k.format e)) (Err code.TooLong))) whole
     ∙ ap (λ (b : Bool). cond b (putting_bytes k (written k.format e)) (Err code.TooLong)) fit
 
--- where no hole is large enough, it is put behind the cells
-pub answers_put : (k : State) (e : EntryParts) (result : Result ℕ Refusal) (new : State) → is_some (fault_of (store_of k)) ≡ false → fits k.format e ≡ true → first_hole 2 (length (written k.format e)) k.contents.cells ≡ None
-    → AnswersAppend k (written k.format e) result new → AnswersPut k e result new
-answers_put k e (Ok place) new whole fit none h = put_is k e whole fit ∙ ap (putting_into k (written k.format e)) none ∙ h
-answers_put k e (Err (ByCode refused)) new whole fit none h = (put_is k e whole fit ∙ ap (putting_into k (written k.format e)) none ∙ h.0, h.1)
-answers_put k e (Err NoMemory) new whole fit none h =
-    (record { given = put_is k e whole fit ∙ ap (putting_into k (written k.format e)) none ∙ h.0; no_hole = none; longer = h.1 }, h.2)
+-- where no hole is large enough, it is put after the cells
+pub put_after_all : (k : State) (e : EntryParts) → is_some (fault_of (store_of k)) ≡ false → fits k.format e ≡ true → first_hole 2 (length (written k.format e)) k.contents.cells ≡ None → putting k e ≡ appending k (written k.format e)
+put_after_all k e whole fit none = put_is k e whole fit ∙ ap (putting_into k (written k.format e)) none
+
+pub gives_put : (k : State) (e : EntryParts) (result : Result ℕ Refusal) (new : State) → putting k e ≡ appending k (written k.format e) → AnswersAppend k (written k.format e) result new → PutGives (putting k e) k result new
+gives_put k e (Ok place) new is h = is ∙ h
+gives_put k e (Err (ByCode refused)) new is h = (is ∙ h.0, h.1)
+gives_put k e (Err NoMemory) new is h = h.2
+
+-- memory is asked for only where none of these holds
+takes_some : (k : State) (e : EntryParts) → is_refused (putting k e) ≡ false → is_some (first_hole 2 (length (written k.format e)) k.contents.cells) ≡ false → length (image_of k) < length (image_of (with_last k (written k.format e))) → takes_none k e ≡ false
+takes_some k e given none longer =
+    let no : nat_le (length (image_of (with_last k (written k.format e)))) (length (image_of k)) ≡ false = lt-leb _ _ longer in
+    rw (given, none, no) refl
+
+pub put_wants : (k : State) (e : EntryParts) (result : Result ℕ Refusal) (new : State) → putting k e ≡ appending k (written k.format e) → first_hole 2 (length (written k.format e)) k.contents.cells ≡ None
+    → AnswersAppend k (written k.format e) result new → takes_none k e ≡ true → IsNotWanting result
+put_wants k e (Ok place) new is none h takes = tt
+put_wants k e (Err (ByCode refused)) new is none h takes = tt
+put_wants k e (Err NoMemory) new is none h takes =
+    let no = takes_some k e (ap is_refused (is ∙ h.0)) (ap is_some none) h.1 in
+    absurd cc
 
 -- a hole, by its place
 into_hole : (k : State) (x : List ℕ) (h : Hole) (o : Option PlacedCell) → option_map hole_of o ≡ Some h → putting_into k x o ≡ Ok (h.place, with_filled k x h.place)

@@ -8,18 +8,18 @@ use Rattle.std.proofs.lemmas.List.Concat.{flat_map-cons}
 use Rattle.krb_wire.specs.declared.format.Order.TheVariants.{Big}
 use Rattle.krb_wire.specs.declared.format.KtFormat.{KtFormat}
 use Rattle.krb_wire.specs.declared.format.KtFormat.TheVariants.{V1, V2}
-use Rattle.krb_wire.specs.Spelling.{Parts, FitsKt, HasSpelling, count_field}
+use Rattle.krb_wire.specs.Spelling.{Parts, count_field, name_fits}
 use Rattle.krb_wire.proofs.Fields.{some_is}
+use Rattle.krb_wire.proofs.NamesTold.{lengths_of, lengths_fit}
 use Rattle.krb_walk.specs.Store.{Record, live_bytes}
 use Rattle.krb_walk.specs.Stops.{records_from}
 use Rattle.krb_walk.proofs.Stops.{Stopped, walks_begin_with_all}
 use Rattle.krb_keytab.specs.Entry.{EntryParts, entry_at, Spells}
 use Rattle.krb_keytab.specs.Cells.{cell}
 use Rattle.krb_keytab.specs.Store.{State, store_of, entries, image_of}
-use Rattle.krb_keytab.specs.Written.{fits, written}
-use Rattle.krb_keytab.specs.Rewritten.{anew, rewritten}
+use Rattle.krb_keytab.specs.Written.{fits}
+use Rattle.krb_keytab.specs.Rewrite.{new_record, rewrite_of}
 use Rattle.krb_keytab.proofs.WrittenLemmas.{fits_yes}
-use Rattle.krb_keytab.proofs.Cuts.{cell_len}
 
 -- the entries from a place on
 abbrev pub entries_from : State → ℕ → List EntryParts
@@ -36,23 +36,23 @@ entries_stop k p at next b e stop live is =
 
 -- the bytes of the new records that are left
 abbrev pub rest : State → ℕ → List ℕ
-rest k p = flat_map (cell Big) (map anew (entries_from k p))
+rest k p = flat_map (cell Big) (map new_record (entries_from k p))
 
-pub rest_stop : (k : State) (p at next : ℕ) (b : List ℕ) (e : EntryParts) → Stopped (store_of k) p at next → live_bytes (store_of k) at ≡ Some b → entry_at k.format b ≡ Some e → rest k p ≡ cell Big (anew e) ++ rest k next
+pub rest_stop : (k : State) (p at next : ℕ) (b : List ℕ) (e : EntryParts) → Stopped (store_of k) p at next → live_bytes (store_of k) at ≡ Some b → entry_at k.format b ≡ Some e → rest k p ≡ cell Big (new_record e) ++ rest k next
 rest_stop k p at next b e stop live is =
-    ap (λ (es : List EntryParts). flat_map (cell Big) (map anew es)) (entries_stop k p at next b e stop live is) ∙ flat_map-cons (cell Big) (anew e) (map anew (entries_from k next))
+    ap (λ (es : List EntryParts). flat_map (cell Big) (map new_record es)) (entries_stop k p at next b e stop live is) ∙ flat_map-cons (cell Big) (new_record e) (map new_record (entries_from k next))
 
-pub rest_first : (k : State) → rest k 2 ≡ flat_map (cell Big) (map anew (entries k))
-rest_first k = ap (λ (es : List EntryParts). flat_map (cell Big) (map anew es)) (entries_first k)
+pub rest_first : (k : State) → rest k 2 ≡ flat_map (cell Big) (map new_record (entries k))
+rest_first k = ap (λ (es : List EntryParts). flat_map (cell Big) (map new_record es)) (entries_first k)
 
-pub image_anew : (k : State) → image_of (rewritten k) ≡ 5 ∷ 2 ∷ rest k 2
-image_anew k = ap (λ (b : List ℕ). 5 ∷ 2 ∷ b) (append-nil (flat_map (cell Big) (map anew (entries k))) ∙ sym (rest_first k))
+pub image_anew : (k : State) → image_of (rewrite_of k) ≡ 5 ∷ 2 ∷ rest k 2
+image_anew k = ap (λ (b : List ℕ). 5 ∷ 2 ∷ b) (append-nil (flat_map (cell Big) (map new_record (entries k))) ∙ sym (rest_first k))
 
-pub len_all : (k : State) → length (image_of (rewritten k)) ≡ 2 + length (rest k 2)
+pub len_all : (k : State) → length (image_of (rewrite_of k)) ≡ 2 + length (rest k 2)
 len_all k = ap length (image_anew k) ∙ omega arith
 
-pub rest_len : (k : State) (p at next : ℕ) (b : List ℕ) (e : EntryParts) → Stopped (store_of k) p at next → live_bytes (store_of k) at ≡ Some b → entry_at k.format b ≡ Some e → length (rest k p) ≡ length (cell Big (anew e)) + length (rest k next)
-rest_len k p at next b e stop live is = ap length (rest_stop k p at next b e stop live is) ∙ length-append (cell Big (anew e)) (rest k next)
+pub rest_len : (k : State) (p at next : ℕ) (b : List ℕ) (e : EntryParts) → Stopped (store_of k) p at next → live_bytes (store_of k) at ≡ Some b → entry_at k.format b ≡ Some e → length (rest k p) ≡ length (cell Big (new_record e)) + length (rest k next)
+rest_len k p at next b e stop live is = ap length (rest_stop k p at next b e stop live is) ∙ length-append (cell Big (new_record e)) (rest k next)
 
 -- ---- an entry that was read fits version 2
 
@@ -60,13 +60,13 @@ count_fits : (f : KtFormat) (n : ℕ) → count_field f n < 2 ^ 16 → n < 2 ^ 1
 count_fits (V1 o) n lt = omega arith
 count_fits V2 n lt = lt
 
-name_fits_anew : (f : KtFormat) (p : Parts) → FitsKt f p → HasSpelling V2 p
-name_fits_anew f p h = record { count = count_fits f (length p.components) h.count; realm = h.realm; components = h.components }
+name_fits_anew : (f : KtFormat) (p : Parts) → name_fits f p ≡ true → name_fits V2 p ≡ true
+name_fits_anew f p h = let l = lengths_of f p h in lengths_fit V2 p (record { count = count_fits f (length p.components) l.count; realm = l.realm; components = l.components })
 
 pub fits_anew : (f : KtFormat) (e : EntryParts) (b : List ℕ) → Spells f e b → fits V2 e ≡ true
 fits_anew f e b s =
     let same = s.entry in
-    let name : HasSpelling V2 e.principal = subst (λ (p : Parts). HasSpelling V2 p) (sym (ap (λ (x : EntryParts). x.principal) same)) (name_fits_anew f s.fields.principal s.fit.principal) in
+    let name : name_fits V2 e.principal ≡ true = ap (λ (x : EntryParts). name_fits V2 x.principal) same ∙ name_fits_anew f s.fields.principal s.fit.principal.lengths in
     let key : e.key ≡ s.fields.key = ap (λ (x : EntryParts). x.key) same in
     sym (fits_yes V2 e name (omega (arith, s.fit.key, ap length key)))
 
@@ -75,14 +75,11 @@ fits_anew f e b s =
 pub entry_read : (k : State) (f : KtFormat) (b : List ℕ) (e : EntryParts) → f ≡ k.format → entry_at f b ≡ Some e → entry_at k.format b ≡ Some e
 entry_read k f b e same is = ap (λ (x : KtFormat). entry_at x b) (sym same) ∙ is
 
-pub anew_cell_len : (e : EntryParts) → length (cell Big (anew e)) ≡ 4 + length (written V2 e)
-anew_cell_len e = cell_len Big (anew e)
-
 pub rest_none : (k : State) (p : ℕ) → records_from (store_of k) p ≡ [] → rest k p ≡ []
-rest_none k p none = ap (λ (rs : List Record). flat_map (cell Big) (map anew (filter_map (λ r. entry_at k.format r.bytes) rs))) none
+rest_none k p none = ap (λ (rs : List Record). flat_map (cell Big) (map new_record (filter_map (λ r. entry_at k.format r.bytes) rs))) none
 
 -- the two first bytes, and then the records
-pub spelled_first : (k : State) (xs : List ℕ) → length xs ≡ length (image_of (rewritten k)) → splice (slice_set (slice_set xs 0 5) 1 2) 2 (2 + length (rest k 2)) (rest k 2) ≡ image_of (rewritten k)
+pub spelled_first : (k : State) (xs : List ℕ) → length xs ≡ length (image_of (rewrite_of k)) → splice (slice_set (slice_set xs 0 5) 1 2) 2 (2 + length (rest k 2)) (rest k 2) ≡ image_of (rewrite_of k)
 spelled_first k [] len = absurd (omega (arith, len, len_all k))
 spelled_first k (a ∷ []) len = absurd (omega (arith, len, len_all k))
 spelled_first k (a ∷ b ∷ xs) len =
@@ -97,5 +94,5 @@ spelled_all out left whole to none so_far =
     sym (take-append-drop to out) ∙ ap (λ (n : ℕ). take to out ++ drop n out) (sym is) ∙ ap (λ (b : List ℕ). take to out ++ (b ++ drop (to + length left) out)) (sym none) ∙ so_far
 
 -- the first place is 2
-pub spelled_from : (k : State) (xs : List ℕ) (p : ℕ) → p ≡ 2 → length xs ≡ length (image_of (rewritten k)) → splice (slice_set (slice_set xs 0 5) 1 2) 2 (2 + length (rest k p)) (rest k p) ≡ image_of (rewritten k)
-spelled_from k xs p is len = subst (λ (q : ℕ). splice (slice_set (slice_set xs 0 5) 1 2) 2 (2 + length (rest k q)) (rest k q) ≡ image_of (rewritten k)) (sym is) (spelled_first k xs len)
+pub spelled_from : (k : State) (xs : List ℕ) (p : ℕ) → p ≡ 2 → length xs ≡ length (image_of (rewrite_of k)) → splice (slice_set (slice_set xs 0 5) 1 2) 2 (2 + length (rest k p)) (rest k p) ≡ image_of (rewrite_of k)
+spelled_from k xs p is len = subst (λ (q : ℕ). splice (slice_set (slice_set xs 0 5) 1 2) 2 (2 + length (rest k q)) (rest k q) ≡ image_of (rewrite_of k)) (sym is) (spelled_first k xs len)

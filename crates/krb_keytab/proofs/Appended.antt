@@ -1,4 +1,4 @@
--- What a record behind the cells makes of an image.
+-- What a record after the cells makes of an image.
 use Rattle.std.proofs.Common.{◌≡◌, ℕ, ◌+◌, ◌-◌, ◌^◌, ◌<◌, ◌≤◌, List, [], ◌∷◌, ◌++◌, length, take, drop, replicate, None, refl, sym, ap, subst, ◌∙◌, append_assoc, length-append, arith}
 use Rattle.std.specs.Prelude.{IsSome}
 use Rattle.std.specs.List.{flat_map, splice}
@@ -31,7 +31,7 @@ after_sound f Bare h whole = tt
 after_sound f (Mark rest) h whole = tt
 after_sound f (Damaged kind rest) h whole = absurd cc
 
--- behind an appended record stand zeros, as many as an end mark has
+-- after an appended record stand zeros, as many as an end mark has
 pub zeros_after : (o : Order) (e : Ending) (k : End) (bytes : List ℕ) → k ≡ ends bytes e → kind_of k ≡ None → replicate {A = ℕ} (mark_len e) 0 ≡ end_bytes o (end_after k)
 zeros_after Big ending.Bare k bytes is whole = rw is refl
 zeros_after Little ending.Bare k bytes is whole = rw is refl
@@ -39,7 +39,7 @@ zeros_after Big ending.Mark k bytes is whole = rw is refl
 zeros_after Little ending.Mark k bytes is whole = rw is refl
 zeros_after o (ending.Damaged kind) k bytes is whole = absurd (let no = rw is at whole in cc)
 
--- and they are what ended the cells before, without bytes behind it
+-- and they are what ended the cells before, without bytes after it
 ends_after : (o : Order) (e : Ending) (k : End) (bytes : List ℕ) → k ≡ ends bytes e → kind_of k ≡ None → ends (end_bytes o (end_after k)) e ≡ end_after k
 ends_after Big ending.Bare k bytes is whole = rw is refl
 ends_after Little ending.Bare k bytes is whole = rw is refl
@@ -57,7 +57,7 @@ drop_all (x ∷ xs) = drop_all xs
 behind_all : (mid image' : List ℕ) (at : ℕ) (bytes : List ℕ) → image' ≡ splice mid at (length mid) bytes → image' ≡ take at mid ++ bytes
 behind_all mid image' at bytes written = written ∙ ap (λ (b : List ℕ). take at mid ++ (bytes ++ b)) (drop_all mid) ∙ ap (λ (b : List ℕ). take at mid ++ b) (append-nil bytes)
 
--- a record behind the cells, and the same end
+-- a record after the cells, and the same end
 with_one : (f : KtFormat) (k : Contents) (x : List ℕ) → spelling (order_of f) (record { cells = k.cells ++ Live x ∷ []; end = end_after k.end }) ≡ flat_map (cell (order_of f)) k.cells ++ (cell (order_of f) (Live x) ++ end_bytes (order_of f) (end_after k.end))
 with_one f k x =
     let o = order_of f in
@@ -84,7 +84,7 @@ known_after f image' front k x e bytes fits sound whole place was parts len is =
       ending = ap (contents f) there ∙ again ∙ ap (λ (y : End). record { cells = []; end = y }) (sym (ap (λ (b : List ℕ). ends b e.ending) there ∙ ends_after o e.ending k.end bytes was whole));
     }
 
--- a record behind the cells
+-- a record after the cells
 pub appended_is : (f : KtFormat) (image mid image' x : List ℕ) (e : CellsEnd) → 2 ≤ length image → 0 < length x → length x < 2 ^ 31 → IsBytes image → IsBytes image' → IsKnownEnd f image e → IsRecord f x → kind_of (contents f (drop 2 image)).end ≡ None
     → take e.place mid ≡ take e.place image → length mid ≡ len_with e (length x)
     → image' ≡ splice mid e.place (length mid) (cell (order_of f) (Live x) ++ replicate {A = ℕ} (length mid - (e.place + 4 + length x)) 0)

@@ -22,7 +22,7 @@ pub record TakesCell (f : KtFormat) (bytes : List ℕ) (c : Cell) (after : List 
   pub takes : Takes bytes (cell (order_of f) c) after
   pub sound : IsCell f c
 
--- what stands behind the cells
+-- what stands after the cells
 pub record IsAtEnd (f : KtFormat) (bytes : List ℕ) (e : End) : Type 0 where
   pub parts : bytes ≡ end_bytes (order_of f) e
   pub sound : IsEnd f e
@@ -216,7 +216,7 @@ spelled_within f (suc n) bytes fits lt =
 pub contents_spelled : (f : KtFormat) (bytes : List ℕ) → IsBytes bytes → IsSpelled f bytes (contents f bytes)
 contents_spelled f bytes fits = spelled_within f (suc (length bytes)) bytes fits (omega arith)
 
--- what contents are behind some cells
+-- what contents are after some cells
 abbrev pub behind : List Cell → Contents → Contents
 behind cs k = record { cells = cs ++ k.cells; end = k.end }
 

@@ -25,7 +25,7 @@ use Rattle.krb_keytab.proofs.CellLemmas.{contents_spelled, contents_again}
 pub cell_len : (o : Order) (c : Cell) → length (cell o c) ≡ 4 + size c
 cell_len o c = omega (arith, length-append (digits o w32 (length_field c)) (bytes_of c), (wide32 o).len (length_field c))
 
--- the cells end behind their spelling
+-- the cells end after their spelling
 pub end_place_is : (o : Order) (at : ℕ) (cs : List Cell) → end_place at cs ≡ at + length (flat_map (cell o) cs)
 end_place_is o at [] = omega arith
 end_place_is o at (c ∷ cs) =

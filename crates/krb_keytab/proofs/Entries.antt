@@ -68,7 +68,7 @@ found_entry view f bytes None fits h = tt
 pub only_entry : {X : Type 0} (view : X → EntryParts) (f : KtFormat) (bytes : List ℕ) (result : Option X) → Gives view result (entry_at f bytes) → (e : EntryParts) → Spells f e bytes → Gives view result (Some e)
 only_entry view f bytes result h e s = subst (Gives view result) (entry_again f e bytes s) h
 
--- bytes behind an entry leave an entry
+-- bytes after an entry leave an entry
 pub entry_more : (f : KtFormat) (bytes more : List ℕ) → IsBytes bytes → IsSome (entry_at f bytes) → IsSome (entry_at f (bytes ++ more))
 entry_more f bytes more fits some =
     let e = is_some_has (entry_at f bytes) some in

@@ -18,7 +18,7 @@ use Rattle.krb_keytab.specs.Cells.{Cell, contents}
 use Rattle.krb_keytab.specs.Seen.{from_step}
 use Rattle.krb_keytab.specs.Questions.{size, is_place, end_place}
 use Rattle.krb_keytab.specs.Known.{EndsKnown}
-use Rattle.krb_keytab.specs.Rewritten.{place_after, cells_after, carried, AreGiven}
+use Rattle.krb_keytab.specs.Carry.{place_after, cells_after, new_place, AreGiven}
 use Rattle.krb_keytab.proofs.Cuts.{far}
 use Rattle.krb_keytab.proofs.Splices.{splice-behind}
 
@@ -37,10 +37,10 @@ place_ge at (c ∷ cs) p h = elim (eqb_tells p at) [
 place_past : (at : ℕ) (c : Cell) (cs : List Cell) (p : ℕ) → at < p → is_place at (c ∷ cs) p ≡ is_place (at + 4 + size c) cs p
 place_past at c cs p lt = let no : eqb p at ≡ false = ne_eqb p at (λ e. omega (arith, lt, e)) in rw no refl
 
-carried_past : (at : ℕ) (c : Cell) (cs : List Cell) (to : ℕ) (ds : List Cell) (p : ℕ) → at < p → carried at (c ∷ cs) to ds p ≡ carried (at + 4 + size c) cs (place_after c to ds) (cells_after c ds) p
+carried_past : (at : ℕ) (c : Cell) (cs : List Cell) (to : ℕ) (ds : List Cell) (p : ℕ) → at < p → new_place at (c ∷ cs) to ds p ≡ new_place (at + 4 + size c) cs (place_after c to ds) (cells_after c ds) p
 carried_past at c cs to ds p lt = let no : nat_le p at ≡ false = grind (arith, nat_tests) in rw no refl
 
-carried_here : (at : ℕ) (cs : List Cell) (to : ℕ) (ds : List Cell) → carried at cs to ds at ≡ to
+carried_here : (at : ℕ) (cs : List Cell) (to : ℕ) (ds : List Cell) → new_place at cs to ds at ≡ to
 carried_here at [] to ds = refl
 carried_here at (c ∷ cs) to ds = let yes : nat_le at at ≡ true = grind (arith, nat_tests) in rw yes refl
 
@@ -96,9 +96,9 @@ pub record IsGivenTo (f : KtFormat) (old now new : List ℕ) (at to : ℕ) : Typ
   pub len : length now ≡ length old
   pub tails : drop at now ≡ drop at old
   pub left : (p : ℕ) → at ≤ p → is_place 2 (contents f (drop 2 old)).cells p ≡ is_place at (contents f (drop at old)).cells p
-  pub same : (p : ℕ) → at ≤ p → carried 2 (contents f (drop 2 old)).cells 2 (contents V2 (drop 2 new)).cells p ≡ carried at (contents f (drop at old)).cells to (contents V2 (drop to new)).cells p
+  pub same : (p : ℕ) → at ≤ p → new_place 2 (contents f (drop 2 old)).cells 2 (contents V2 (drop 2 new)).cells p ≡ new_place at (contents f (drop at old)).cells to (contents V2 (drop to new)).cells p
   pub before : (p : ℕ) → is_place 2 (contents f (drop 2 old)).cells p ≡ true → p < at → p + 4 ≤ at
-  pub told : (p : ℕ) → is_place 2 (contents f (drop 2 old)).cells p ≡ true → p < at → take 4 (drop p now) ≡ digits Big w32 (carried 2 (contents f (drop 2 old)).cells 2 (contents V2 (drop 2 new)).cells p)
+  pub told : (p : ℕ) → is_place 2 (contents f (drop 2 old)).cells p ≡ true → p < at → take 4 (drop p now) ≡ digits Big w32 (new_place 2 (contents f (drop 2 old)).cells 2 (contents V2 (drop 2 new)).cells p)
 
 pub given_first : (f : KtFormat) (old new : List ℕ) → IsGivenTo f old old new 2 2
 given_first f old new = record {
@@ -131,27 +131,27 @@ given_next f old now now' new at to to' n c cs g room cells others is_n is_to is
     let here : (p : ℕ) → at ≤ p → is_place 2 CS p ≡ is_place at (c ∷ cs) p = λ p le. g.left p le ∙ ap (λ (x : List Cell). is_place at x p) cells in
     let behind : drop next now' ≡ drop next now = ap (drop next) wrote ∙ splice-behind now d at (at + 4) next (omega arith) (omega (arith, (wide32 Big).len to)) (omega arith) in
     let not_in : (p : ℕ) → is_place 2 CS p ≡ true → at ≤ p → p < next → p ≡ at = λ p h le lt. not_within at c cs p (sym (here p le) ∙ h) (omega (arith, is_n, lt)) in
-    let goes : carried 2 CS 2 DS at ≡ to = g.same at (omega arith) ∙ carried_here at (contents f (drop at old)).cells to ds in
-    let old_told : (p : ℕ) → is_place 2 CS p ≡ true → p < at → take 4 (drop p now') ≡ digits Big w32 (carried 2 CS 2 DS p) =
+    let goes : new_place 2 CS 2 DS at ≡ to = g.same at (omega arith) ∙ carried_here at (contents f (drop at old)).cells to ds in
+    let old_told : (p : ℕ) → is_place 2 CS p ≡ true → p < at → take 4 (drop p now') ≡ digits Big w32 (new_place 2 CS 2 DS p) =
     λ p h lt. ap (λ (b : List ℕ). take 4 (drop p b)) wrote ∙ put_before now d at p (omega arith) (g.before p h lt) ∙ g.told p h lt in
-    let new_told : take 4 (drop at now') ≡ digits Big w32 (carried 2 CS 2 DS at) =
+    let new_told : take 4 (drop at now') ≡ digits Big w32 (new_place 2 CS 2 DS at) =
     ap (λ (b : List ℕ). take 4 (drop at b)) wrote ∙ put_here now at to room ∙ ap (digits Big w32) (sym goes) in
     record {
       len = len ∙ g.len;
       tails = behind ∙ drop_more now old at next g.tails (omega arith);
       left = λ p le. here p (omega (arith, le)) ∙ place_past at c cs p (omega (arith, le)) ∙ ap (λ (m : ℕ). is_place (at + 4 + m) cs p) is_n ∙ ap (λ (x : List Cell). is_place next x p) others;
-      same = λ p le. g.same p (omega (arith, le)) ∙ ap (λ (x : List Cell). carried at x to ds p) cells ∙ carried_past at c cs to ds p (omega (arith, le))
-          ∙ ap (λ (m : ℕ). carried (at + 4 + m) cs (place_after c to ds) (cells_after c ds) p) is_n
-          ∙ ap (λ (x : List Cell). carried next x (place_after c to ds) (cells_after c ds) p) others
-          ∙ ap (λ (m : ℕ). carried next (contents f (drop next old)).cells m (cells_after c ds) p) (sym is_to)
-          ∙ ap (λ (x : List Cell). carried next (contents f (drop next old)).cells to' x p) (sym is_ds);
+      same = λ p le. g.same p (omega (arith, le)) ∙ ap (λ (x : List Cell). new_place at x to ds p) cells ∙ carried_past at c cs to ds p (omega (arith, le))
+          ∙ ap (λ (m : ℕ). new_place (at + 4 + m) cs (place_after c to ds) (cells_after c ds) p) is_n
+          ∙ ap (λ (x : List Cell). new_place next x (place_after c to ds) (cells_after c ds) p) others
+          ∙ ap (λ (m : ℕ). new_place next (contents f (drop next old)).cells m (cells_after c ds) p) (sym is_to)
+          ∙ ap (λ (x : List Cell). new_place next (contents f (drop next old)).cells to' x p) (sym is_ds);
       before = λ p h lt. elim (cases_lt p at) [
         | inl less ↦ omega (arith, g.before p h less)
         | inr ge ↦ omega (arith, not_in p h ge lt)
       ];
       told = λ p h lt. elim (cases_lt p at) [
         | inl less ↦ old_told p h less
-        | inr ge ↦ subst (λ (q : ℕ). take 4 (drop q now') ≡ digits Big w32 (carried 2 CS 2 DS q)) (sym (not_in p h ge lt)) new_told
+        | inr ge ↦ subst (λ (q : ℕ). take 4 (drop q now') ≡ digits Big w32 (new_place 2 CS 2 DS q)) (sym (not_in p h ge lt)) new_told
       ];
     }
 
@@ -162,6 +162,6 @@ given_all f old now new at to end g is le = λ p h lt. record {
   bytes = g.told p h (omega (arith, lt, is));
 }
 
-pub given_end : (f : KtFormat) (old now new : List ℕ) (at to end : ℕ) → IsGivenTo f old now new at to → at ≡ end → (contents f (drop at old)).cells ≡ [] → to ≡ carried 2 (contents f (drop 2 old)).cells 2 (contents V2 (drop 2 new)).cells end
+pub given_end : (f : KtFormat) (old now new : List ℕ) (at to end : ℕ) → IsGivenTo f old now new at to → at ≡ end → (contents f (drop at old)).cells ≡ [] → to ≡ new_place 2 (contents f (drop 2 old)).cells 2 (contents V2 (drop 2 new)).cells end
 given_end f old now new at to end g is none =
-    sym (g.same end (omega (arith, is)) ∙ ap (λ (x : List Cell). carried at x to (contents V2 (drop to new)).cells end) none)
+    sym (g.same end (omega (arith, is)) ∙ ap (λ (x : List Cell). new_place at x to (contents V2 (drop to new)).cells end) none)

@@ -18,3 +18,4 @@ pub mod AnewLemmas
 pub mod Given
 pub mod CursorLemmas
 pub mod Rewrites
+pub mod CarryLemmas

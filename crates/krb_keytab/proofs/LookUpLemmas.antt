@@ -1,113 +1,49 @@
 -- Looking at one entry after the other finds what look-up gives.
-use Rattle.std.proofs.Common.{◌≡◌, ℕ, ◌<◌, ◌≤◌, Bool, true, false, cond, ltb, List, [], ◌∷◌, Option, Some, None, Result, Ok, Err, refl, sym, ap, subst, ◌∙◌, arith, inl, inr}
+use Rattle.std.proofs.Common.{◌≡◌, ℕ, ◌<◌, ◌≤◌, Bool, true, false, cond, ltb, List, [], ◌∷◌, ◌++◌, Option, Some, None, Result, Ok, Err, refl, sym, ap, subst, ◌∙◌, arith, inl, inr}
 use Rattle.std.specs.Prelude.{◌&&◌, ◌||◌, ◌==◌, max, filter, find}
 use Rattle.std.specs.Prelude.{option_map}
 use Rattle.std.specs.List.{filter_map, cons_option}
-use Rattle.std.specs.Cmp.Lexicographic.{pointwise}
-use Rattle.std.specs.Str.{bytes_eq}
+use Rattle.std.proofs.lemmas.List.{append-nil}
+use Rattle.std.proofs.lemmas.List.Elements.{filter-append}
 use Rattle.std.proofs.lemmas.Bool.{cases_lt, lt-ltb, le-ltb, eq-eqb, ne_eqb}
 use Rattle.std.proofs.lemmas.Bool.Decides.{eqb_tells}
-use Rattle.std.proofs.lemmas.Slice.Eq.{bytes_eq-Decides, slice_eq-Decides}
 use Rattle.krb_wire.specs.Spelling.{Parts}
 use Rattle.krb_wire.proofs.Fields.{some_is}
 use Rattle.krb_walk.specs.Store.{live_bytes}
+use Rattle.krb_walk.specs.Stops.{records_from}
 use Rattle.krb_walk.proofs.Stops.{Stopped, walks_begin_with_all}
 use Rattle.krb_keytab.specs.Entry.{EntryParts, entry_at}
 use Rattle.krb_keytab.specs.Store.{State, store_of}
-use Rattle.krb_wire.specs.SameName.{IsSameName}
+use Rattle.krb_wire.specs.SameName.{have_same_name}
 use Rattle.krb_walk.specs.declared.refusal.Code.{Code}
-use Rattle.krb_keytab.specs.LookUp.{Placed, have_same_name, is_asked, greatest, version_asked, found, missing, look_up_in, is_better, SoFar, with_entry, with_entries, placed_entry, placed_entries, placed_from}
+use Rattle.krb_keytab.specs.Looked.{answer, IsFoundAmong}
+use Rattle.krb_keytab.specs.LookUp.{Placed, is_asked, greatest, version_asked, found, look_up_in, placed_entry, placed_entries}
 
--- ---- names
+-- ---- one entry after the other
 
-pub same_bool : (a b : Bool) → (a ≡ true → b ≡ true) → (b ≡ true → a ≡ true) → a ≡ b
-same_bool true b to from = sym (to refl)
-same_bool false true to from = from refl
-same_bool false false to from = refl
-
-pub and_both : (a b : Bool) → (a && b) ≡ true → (a ≡ true) × (b ≡ true)
-and_both true b e = (refl, e)
-and_both false b e = absurd cc
-
-have_same_name-told : (p q : Parts) → have_same_name p q ≡ true → IsSameName p q
-have_same_name-told p q e =
-    let both = and_both (bytes_eq p.realm q.realm) (pointwise bytes_eq p.components q.components) e in
-    record { realm = (bytes_eq-Decides p.realm q.realm).0 both.0; components = (slice_eq-Decides bytes_eq-Decides p.components q.components (pointwise bytes_eq p.components q.components) refl).0 both.1 }
-
-told-have_same_name : (p q : Parts) → IsSameName p q → have_same_name p q ≡ true
-told-have_same_name p q h =
-    let realm : bytes_eq p.realm q.realm ≡ true = (bytes_eq-Decides p.realm q.realm).1 h.realm in
-    let components : pointwise bytes_eq p.components q.components ≡ true = (slice_eq-Decides bytes_eq-Decides p.components q.components (pointwise bytes_eq p.components q.components) refl).1 h.components in
-    rw (realm, components) refl
-
--- a test of equal names is the definition's
-pub same_name_is : (p q : Parts) (answer : Bool) → (answer ≡ true → IsSameName p q) → (IsSameName p q → answer ≡ true) → answer ≡ have_same_name p q
-same_name_is p q answer to from = same_bool answer (have_same_name p q) (λ e. told-have_same_name p q (to e)) (λ e. from (have_same_name-told p q e))
-
--- ---- entries
-
--- what is answered of what was found
-abbrev pub answer : Bool → Option Placed → Result Placed Code
-answer named (Some x) = Ok x
-answer named None = Err (missing named)
-
-abbrev pub answer_of : SoFar → Result Placed Code
-answer_of s = answer s.named s.best
+-- an entry of that version is looked for more than the one that was found so far
+abbrev pub is_better : ℕ → Option Placed → ℕ → Bool
+is_better kvno None version = kvno == 0 || version == kvno
+is_better kvno (Some x) version = kvno == 0 && ltb x.1.version version
 
 -- the one that is looked for, after some entries that are asked for
 abbrev best_after : ℕ → Option Placed → List Placed → Option Placed
 best_after v best [] = best
 best_after v best (x ∷ xs) = best_after v (cond (is_better v best x.1.version) (Some x) best) xs
 
--- an entry that is asked for, and one that is not
-pub with_entry-asked : (n : Parts) (v t : ℕ) (s : SoFar) (x : Placed) → is_asked n t x ≡ true → with_entry n v t s x ≡ record { named = true; best = cond (is_better v s.best x.1.version) (Some x) s.best }
-with_entry-asked n v t s x e = ap (λ (b : Bool). cond {A = SoFar} b (record { named = true; best = cond (is_better v s.best x.1.version) (Some x) s.best }) s) e
+-- and after one more
+best-append : (v : ℕ) (best : Option Placed) (xs : List Placed) (x : Placed) → best_after v best (xs ++ x ∷ []) ≡ cond (is_better v (best_after v best xs) x.1.version) (Some x) (best_after v best xs)
+best-append v best [] x = refl
+best-append v best (y ∷ ys) x = best-append v (cond (is_better v best y.1.version) (Some y) best) ys x
 
-pub with_entry-other : (n : Parts) (v t : ℕ) (s : SoFar) (x : Placed) → is_asked n t x ≡ false → with_entry n v t s x ≡ s
-with_entry-other n v t s x e = ap (λ (b : Bool). cond {A = SoFar} b (record { named = true; best = cond (is_better v s.best x.1.version) (Some x) s.best }) s) e
+-- whether there is some entry
+abbrev some_of : List Placed → Bool
+some_of [] = false
+some_of (x ∷ xs) = true
 
-filter-asked : (n : Parts) (t : ℕ) (x : Placed) (xs : List Placed) → is_asked n t x ≡ true → filter (is_asked n t) (x ∷ xs) ≡ x ∷ filter (is_asked n t) xs
-filter-asked n t x xs e = ap (λ (b : Bool). cond b (x ∷ filter (is_asked n t) xs) (filter (is_asked n t) xs)) e
-
-filter-other : (n : Parts) (t : ℕ) (x : Placed) (xs : List Placed) → is_asked n t x ≡ false → filter (is_asked n t) (x ∷ xs) ≡ filter (is_asked n t) xs
-filter-other n t x xs e = ap (λ (b : Bool). cond b (x ∷ filter (is_asked n t) xs) (filter (is_asked n t) xs)) e
-
--- entries that are not asked for change nothing
-asked_cons : (n : Parts) (v t : ℕ) (named : Bool) (best : Option Placed) (x : Placed) (xs : List Placed) (b : Bool) → is_asked n t x ≡ b
-    → ((m : Bool) (c : Option Placed) → (with_entries n v t (record { named = m; best = c }) xs).best ≡ best_after v c (filter (is_asked n t) xs))
-    → (with_entries n v t (record { named = named; best = best }) (x ∷ xs)).best ≡ best_after v best (filter (is_asked n t) (x ∷ xs))
-asked_cons n v t named best x xs true e ih =
-    ap (λ (s : SoFar). (with_entries n v t s xs).best) (with_entry-asked n v t (record { named = named; best = best }) x e) ∙ ih true (cond (is_better v best x.1.version) (Some x) best) ∙ ap (best_after v best) (sym (filter-asked n t x xs e))
-asked_cons n v t named best x xs false e ih =
-    ap (λ (s : SoFar). (with_entries n v t s xs).best) (with_entry-other n v t (record { named = named; best = best }) x e) ∙ ih named best ∙ ap (best_after v best) (sym (filter-other n t x xs e))
-
-best_is : (n : Parts) (v t : ℕ) (all : List Placed) (named : Bool) (best : Option Placed) → (with_entries n v t (record { named = named; best = best }) all).best ≡ best_after v best (filter (is_asked n t) all)
-best_is n v t [] named best = refl
-best_is n v t (x ∷ xs) named best = asked_cons n v t named best x xs (is_asked n t x) refl (λ m c. best_is n v t xs m c)
-
--- whether some entry was asked for
-some_of : List Placed → Bool → Bool
-some_of [] named = named
-some_of (x ∷ xs) named = true
-
-some_true : (xs : List Placed) → some_of xs true ≡ true
-unfolding some_of
-some_true [] = refl
-some_true (x ∷ xs) = refl
-
-named_cons : (n : Parts) (v t : ℕ) (named : Bool) (best : Option Placed) (x : Placed) (xs : List Placed) (b : Bool) → is_asked n t x ≡ b
-    → ((m : Bool) (c : Option Placed) → (with_entries n v t (record { named = m; best = c }) xs).named ≡ some_of (filter (is_asked n t) xs) m)
-    → (with_entries n v t (record { named = named; best = best }) (x ∷ xs)).named ≡ some_of (filter (is_asked n t) (x ∷ xs)) named
-unfolding some_of
-named_cons n v t named best x xs true e ih =
-    ap (λ (s : SoFar). (with_entries n v t s xs).named) (with_entry-asked n v t (record { named = named; best = best }) x e) ∙ ih true (cond (is_better v best x.1.version) (Some x) best) ∙ some_true (filter (is_asked n t) xs) ∙ ap (λ (ys : List Placed). some_of ys named) (sym (filter-asked n t x xs e))
-named_cons n v t named best x xs false e ih =
-    ap (λ (s : SoFar). (with_entries n v t s xs).named) (with_entry-other n v t (record { named = named; best = best }) x e) ∙ ih named best ∙ ap (λ (ys : List Placed). some_of ys named) (sym (filter-other n t x xs e))
-
-named_is : (n : Parts) (v t : ℕ) (all : List Placed) (named : Bool) (best : Option Placed) → (with_entries n v t (record { named = named; best = best }) all).named ≡ some_of (filter (is_asked n t) all) named
-unfolding some_of
-named_is n v t [] named best = refl
-named_is n v t (x ∷ xs) named best = named_cons n v t named best x xs (is_asked n t x) refl (λ m c. named_is n v t xs m c)
+some-append : (xs : List Placed) (x : Placed) → some_of (xs ++ x ∷ []) ≡ true
+some-append [] x = refl
+some-append (y ∷ ys) x = refl
 
 -- ---- the first with a version
 
@@ -185,26 +121,69 @@ best_found v x xs = elim (eqb_tells v 0) [
       first_with v (x ∷ xs) no ∙ ap (λ (n : ℕ). with_version n (x ∷ xs)) (sym asked)
 ]
 
-answer_found : (o : Option Placed) → answer_of (record { named = true; best = o }) ≡ found o
+answer_found : (o : Option Placed) → answer true o ≡ found o
 answer_found None = refl
 answer_found (Some x) = refl
 
-answer_by : (s : SoFar) (v : ℕ) (xs : List Placed) → s.best ≡ best_after v None xs → s.named ≡ some_of xs false → answer_of s ≡ look_up_in v xs
-unfolding some_of
-answer_by s v [] best named = rw (best, named) refl
-answer_by s v (x ∷ xs) best named = rw (best ∙ best_found v x xs, named) (answer_found (with_version (version_asked v (x ∷ xs)) (x ∷ xs)))
-
 -- what is found after all entries is what look-up gives
-pub looked_up : (n : Parts) (v t : ℕ) (all : List Placed) → answer_of (with_entries n v t (record { named = false; best = None }) all) ≡ look_up_in v (filter (is_asked n t) all)
-looked_up n v t all = answer_by (with_entries n v t (record { named = false; best = None }) all) v (filter (is_asked n t) all) (best_is n v t all false None) (named_is n v t all false None)
+looked_up : (v : ℕ) (xs : List Placed) → answer (some_of xs) (best_after v None xs) ≡ look_up_in v xs
+looked_up v [] = refl
+looked_up v (x ∷ xs) = ap (answer true) (best_found v x xs) ∙ answer_found (with_version (version_asked v (x ∷ xs)) (x ∷ xs))
 
--- the same, where it is known what was found
-pub answered : (n : Parts) (v t : ℕ) (all : List Placed) (named : Bool) (best : Option Placed) → ◌≡◌ {A = SoFar} (record { named = named; best = best }) (with_entries n v t (record { named = false; best = None }) all) → answer named best ≡ look_up_in v (filter (is_asked n t) all)
-answered n v t all named best e = ap answer_of e ∙ looked_up n v t all
+-- one answer tells one entry
+same_best : (n m : Bool) (a b : Option Placed) → answer n a ≡ answer m b → a ≡ b
+same_best n m (Some x) (Some y) e = cc
+same_best n true (Some x) None e = absurd cc
+same_best n false (Some x) None e = absurd cc
+same_best true m None (Some y) e = absurd cc
+same_best false m None (Some y) e = absurd cc
+same_best n m None None e = refl
+
+answer_cond : (better : Bool) (x : Placed) (best : Option Placed) → answer true (cond better (Some x) best) ≡ cond better (Ok x) (answer true best)
+answer_cond true x best = refl
+answer_cond false x best = refl
 
 -- the next entry, where it is the better one or not
-pub with_next : (n : Parts) (v t : ℕ) (s : SoFar) (x : Placed) (better : Bool) → is_asked n t x ≡ true → is_better v s.best x.1.version ≡ better → record { named = true; best = cond better (Some x) s.best } ≡ with_entry n v t s x
-with_next n v t s x better asked is = sym (with_entry-asked n v t s x asked ∙ ap (λ (b : Bool). record { named = true; best = cond b (Some x) s.best }) is)
+pub next_found : (v : ℕ) (named : Bool) (best : Option Placed) (xs : List Placed) (x : Placed) (version : ℕ) (better : Bool) → x.1.version ≡ version → better ≡ is_better v best version → answer named best ≡ look_up_in v xs
+    → look_up_in v (xs ++ x ∷ []) ≡ cond better (Ok x) (answer true best)
+next_found v named best xs x version better is_version is so_far =
+    let same : best_after v None xs ≡ best = same_best (some_of xs) named (best_after v None xs) best (looked_up v xs ∙ sym so_far) in
+    sym (looked_up v (xs ++ x ∷ []))
+    ∙ ap (λ (b : Bool). answer b (best_after v None (xs ++ x ∷ []))) (some-append xs x)
+    ∙ ap (answer true) (best-append v None xs x)
+    ∙ ap (λ (o : Option Placed). answer true (cond (is_better v o x.1.version) (Some x) o)) same
+    ∙ ap (λ (n : ℕ). answer true (cond (is_better v best n) (Some x) best)) is_version
+    ∙ ap (λ (b : Bool). answer true (cond b (Some x) best)) (sym is)
+    ∙ answer_cond better x best
+
+filter-asked : (n : Parts) (t : ℕ) (xs : List Placed) (x : Placed) (b : Bool) → is_asked n t x ≡ b → filter (is_asked n t) (xs ++ x ∷ []) ≡ filter (is_asked n t) xs ++ cond b (x ∷ []) []
+filter-asked n t xs x b e = filter-append (is_asked n t) xs (x ∷ []) ∙ ap (λ (c : Bool). filter (is_asked n t) xs ++ cond c (x ∷ []) []) e
+
+-- an entry that is not asked for changes nothing
+pub not_asked : (n : Parts) (v t : ℕ) (xs : List Placed) (x : Placed) (named : Bool) (best : Option Placed) → is_asked n t x ≡ false → IsFoundAmong n v t xs named best → IsFoundAmong n v t (xs ++ x ∷ []) named best
+not_asked n v t xs x named best other so_far =
+    so_far ∙ ap (look_up_in v) (sym (filter-asked n t xs x false other ∙ append-nil (filter (is_asked n t) xs)))
+
+-- one that is asked for is the one that is looked for, or not
+pub asked : (n : Parts) (v t : ℕ) (xs : List Placed) (x : Placed) (better : Bool) (best : Option Placed) → is_asked n t x ≡ true → look_up_in v (filter (is_asked n t) xs ++ x ∷ []) ≡ cond better (Ok x) (answer true best)
+    → IsFoundAmong n v t (xs ++ x ∷ []) true (cond better (Some x) best)
+asked n v t xs x better best is next = answer_cond better x best ∙ sym next ∙ ap (look_up_in v) (sym (filter-asked n t xs x true is))
+
+-- ---- entries from a place on
+
+abbrev pub placed_from : State → ℕ → List Placed
+placed_from k p = filter_map (placed_entry k) (records_from (store_of k) p)
+
+-- the entries before a place were looked at
+pub record SoFar (k : State) (n : Parts) (v t place : ℕ) (named : Bool) (best : Option Placed) : Type 0 where
+  pub seen : List Placed
+  pub found : IsFoundAmong n v t seen named best
+  pub all : seen ++ placed_from k place ≡ placed_entries k
+
+pub none_left : (k : State) (n : Parts) (v t place : ℕ) (named : Bool) (best : Option Placed) → placed_from k place ≡ [] → SoFar k n v t place named best → IsFoundAmong n v t (placed_entries k) named best
+none_left k n v t place named best none s =
+    let all : s.seen ≡ placed_entries k = sym (append-nil s.seen) ∙ ap (λ (xs : List Placed). s.seen ++ xs) (sym none) ∙ s.all in
+    subst (λ (xs : List Placed). IsFoundAmong n v t xs named best) all s.found
 
 -- the entries from a stop on: the one there, and those from the next place on
 pub placed_stop : (k : State) (p at next : ℕ) (b : List ℕ) (e : EntryParts) → Stopped (store_of k) p at next → live_bytes (store_of k) at ≡ Some b → entry_at k.format b ≡ Some e → placed_from k p ≡ (at, e) ∷ placed_from k next

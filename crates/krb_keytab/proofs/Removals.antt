@@ -48,7 +48,7 @@ if_placed : (k : State) (p : ℕ) (o : Option EntryParts) → is_some (store_byt
 if_placed k p (Some e) h = h
 if_placed k p None h = tt
 
--- a live cell behind others holds its bytes in the store
+-- a live cell after others holds its bytes in the store
 pub holds : (k : State) (front back : List Cell) (b : List ℕ) (p : ℕ) → k.contents.cells ≡ front ++ (Live b ∷ back) → p ≡ end_place 2 front → store_bytes (store_of k) p ≡ Some b
 holds k front back b p parts place =
     let here : live_at p (Live b ∷ back) p ≡ Some b = rw (eq-eqb p p refl) refl in
@@ -57,7 +57,7 @@ holds k front back b p parts place =
 stands : (k : State) (front back : List Cell) (b : List ℕ) (p : ℕ) → k.contents.cells ≡ front ++ (Live b ∷ back) → p ≡ end_place 2 front → is_some (store_bytes (store_of k) p) ≡ true
 stands k front back b p parts place = ap is_some (holds k front back b p parts place)
 
--- the place behind one cell more
+-- the place after one cell more
 next_place : (front : List Cell) (c : Cell) (p : ℕ) → p ≡ end_place 2 front → p + (4 + size c) ≡ end_place 2 (front ++ c ∷ [])
 next_place front c p place = sym (past p (size c)) ∙ ap (λ (n : ℕ). n + 4 + size c) place ∙ sym (end_place-append 2 front (c ∷ []))
 

@@ -30,7 +30,7 @@ all_join P (x ∷ xs) ys h k = (h.0, all_join P xs ys h.1 k)
 
 -- ---- where a cell stands
 
--- the cells before and behind the one at a place
+-- the cells before and after the one at a place
 pub record StandsAt (cs : List Cell) (at p : ℕ) (c : Cell) : Type 0 where
   pub front : List Cell
   pub back : List Cell

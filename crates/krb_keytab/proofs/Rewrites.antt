@@ -25,7 +25,8 @@ use Rattle.krb_keytab.specs.Cells.{Cell, Live, Free, Bare, Contents, bytes_of, l
 use Rattle.krb_keytab.specs.Questions.{size, is_place, kind_of, end_place}
 use Rattle.krb_keytab.specs.Store.{State, IsImage, placed, store_of, image_of, entries}
 use Rattle.krb_keytab.specs.Written.{written, fits, IsEntry}
-use Rattle.krb_keytab.specs.Rewritten.{anew, rewritten, rewriting, place_after, cells_after, carried, AreGiven, HasGiven, GoesBy}
+use Rattle.krb_keytab.specs.Rewrite.{new_record, rewrite_of, rewrite_result}
+use Rattle.krb_keytab.specs.Carry.{place_after, cells_after, new_place, AreGiven, HasGiven, GoesBy}
 use Rattle.krb_keytab.specs.declared.step.Ending.TheVariants as ending
 use Rattle.krb_keytab.specs.Known.{IsKnownEnd}
 use Rattle.krb_keytab.proofs.CellLemmas.{contents_again}
@@ -56,95 +57,28 @@ entries_all k = entries_is k.format 2 k.contents.cells
 
 -- the new cells
 abbrev pub anews : KtFormat → List Cell → List Cell
-anews f cs = map anew (entries_of f cs)
+anews f cs = map new_record (entries_of f cs)
 
-entries_live : (f : KtFormat) (b : List ℕ) (e : EntryParts) (cs : List Cell) → entry_at f b ≡ Some e → entries_of f (Live b ∷ cs) ≡ e ∷ entries_of f cs
+pub entries_live : (f : KtFormat) (b : List ℕ) (e : EntryParts) (cs : List Cell) → entry_at f b ≡ Some e → entries_of f (Live b ∷ cs) ≡ e ∷ entries_of f cs
 unfolding entries_of
 entries_live f b e cs is = ap (λ (o : Option EntryParts). cons_option o (entries_of f cs)) is
 
-entries_free : (f : KtFormat) (b : List ℕ) (cs : List Cell) → entries_of f (Free b ∷ cs) ≡ entries_of f cs
+pub entries_free : (f : KtFormat) (b : List ℕ) (cs : List Cell) → entries_of f (Free b ∷ cs) ≡ entries_of f cs
 unfolding entries_of
 entries_free f b cs = refl
 
-entries_none : (f : KtFormat) → entries_of f [] ≡ []
+pub entries_none : (f : KtFormat) → entries_of f [] ≡ []
 unfolding entries_of
 entries_none f = refl
 
-anews_live : (f : KtFormat) (b : List ℕ) (e : EntryParts) (cs : List Cell) → entry_at f b ≡ Some e → anews f (Live b ∷ cs) ≡ anew e ∷ anews f cs
-anews_live f b e cs is = ap (map anew) (entries_live f b e cs is)
+pub anews_live : (f : KtFormat) (b : List ℕ) (e : EntryParts) (cs : List Cell) → entry_at f b ≡ Some e → anews f (Live b ∷ cs) ≡ new_record e ∷ anews f cs
+anews_live f b e cs is = ap (map new_record) (entries_live f b e cs is)
 
-anews_free : (f : KtFormat) (b : List ℕ) (cs : List Cell) → anews f (Free b ∷ cs) ≡ anews f cs
-anews_free f b cs = ap (map anew) (entries_free f b cs)
+pub anews_free : (f : KtFormat) (b : List ℕ) (cs : List Cell) → anews f (Free b ∷ cs) ≡ anews f cs
+anews_free f b cs = ap (map new_record) (entries_free f b cs)
 
-anews_none : (f : KtFormat) → anews f [] ≡ []
-anews_none f = ap (map anew) (entries_none f)
-
--- ---- where a place is carried
-
--- told by the ranks of live cells
-abbrev by_rank : ℕ → List Cell → ℕ → List Cell → ℕ → ℕ
-by_rank at cs to ds p = nth_or (end_from to (map placed ds)) (lives to (map placed ds)) (below p (lives at (map placed cs)))
-
-first_of : (to : ℕ) (es : List EntryParts) → nth_or (end_from to (map placed (map anew es))) (lives to (map placed (map anew es))) 0 ≡ to
-first_of to [] = refl
-first_of to (e ∷ es) = refl
-
-at_or_after : (f : KtFormat) (at to p : ℕ) (cs : List Cell) (es : List EntryParts) → AllByRecursion (IsCell f) cs → p ≤ at → by_rank at cs to (map anew es) p ≡ to
-at_or_after f at to p cs es sound le =
-    let ps = lives at (map placed cs) in
-    let none : below p ps ≡ 0 = below_none p at (end_from at (map placed cs)) ps le (lives_rise at (map placed cs) (store_sound f cs sound)) in
-    ap (nth_or (end_from to (map placed (map anew es))) (lives to (map placed (map anew es)))) none ∙ first_of to es
-
-carried_by : (at to p : ℕ) (c : Cell) (cs ds : List Cell) (n : ℕ) → (p ≤ at → n ≡ to) → (at < p → n ≡ carried (at + 4 + size c) cs (place_after c to ds) (cells_after c ds) p) → carried at (c ∷ cs) to ds p ≡ n
-carried_by at to p c cs ds n here later = elim (cases_lt at p) [
-  | inl lt ↦ let no : nat_le p at ≡ false = grind (arith, nat_tests) in rw no (sym (later lt))
-  | inr le ↦ let yes : nat_le p at ≡ true = grind (arith, nat_tests) in rw yes (sym (here le))
-]
-
-live_rank : (at to p : ℕ) (b : List ℕ) (e : EntryParts) (cs : List Cell) (es : List EntryParts) → at < p → by_rank at (Live b ∷ cs) to (anew e ∷ map anew es) p ≡ by_rank (at + 4 + length b) cs (to + 4 + length (written V2 e)) (map anew es) p
-live_rank at to p b e cs es lt =
-    let at2 = at + (4 + length b) in
-    let to2 = to + (4 + length (written V2 e)) in
-    let ds = map placed (map anew es) in
-    let ps = lives at2 (map placed cs) in
-    ap (λ (n : ℕ). nth_or (end_from to2 ds) (to ∷ lives to2 ds) n) (below_some p at ps lt)
-    ∙ sym (ap (λ (n : ℕ). by_rank n cs (to + 4 + length (written V2 e)) (map anew es) p) (past at (length b)) ∙ ap (λ (n : ℕ). by_rank at2 cs n (map anew es) p) (past to (length (written V2 e))))
-
-pub carried_is : (f : KtFormat) (cs : List Cell) (at to p : ℕ) → AllByRecursion (IsCell f) cs → carried at cs to (anews f cs) p ≡ by_rank at cs to (anews f cs) p
-carried_is f [] at to p sound = ap (λ (ds : List Cell). carried at [] to ds p) (anews_none f) ∙ sym (ap (λ (ds : List Cell). by_rank at [] to ds p) (anews_none f))
-carried_is f (Free b ∷ cs) at to p sound =
-    let goal : carried at (Free b ∷ cs) to (anews f cs) p ≡ by_rank at (Free b ∷ cs) to (anews f cs) p =
-    carried_by at to p (Free b) cs (anews f cs) (by_rank at (Free b ∷ cs) to (anews f cs) p)
-    (λ le. at_or_after f at to p (Free b ∷ cs) (entries_of f cs) sound le)
-    (λ lt. sym (carried_is f cs (at + 4 + length b) to p sound.1 ∙ ap (λ (n : ℕ). by_rank n cs to (anews f cs) p) (past at (length b)))) in
-    ap (λ (ds : List Cell). carried at (Free b ∷ cs) to ds p) (anews_free f b cs) ∙ goal ∙ sym (ap (λ (ds : List Cell). by_rank at (Free b ∷ cs) to ds p) (anews_free f b cs))
-carried_is f (Live b ∷ cs) at to p sound =
-    let e = is_some_has (entry_at f b) sound.0.2 in
-    let is = anews_live f b e.0 cs e.1 in
-    let goal : carried at (Live b ∷ cs) to (anew e.0 ∷ anews f cs) p ≡ by_rank at (Live b ∷ cs) to (anew e.0 ∷ anews f cs) p =
-    carried_by at to p (Live b) cs (anew e.0 ∷ anews f cs) (by_rank at (Live b ∷ cs) to (anew e.0 ∷ anews f cs) p)
-    (λ le. at_or_after f at to p (Live b ∷ cs) (e.0 ∷ entries_of f cs) sound le)
-    (λ lt. live_rank at to p b e.0 cs (entries_of f cs) lt ∙ sym (carried_is f cs (at + 4 + length b) (to + 4 + length (written V2 e.0)) p sound.1)) in
-    ap (λ (ds : List Cell). carried at (Live b ∷ cs) to ds p) is ∙ goal ∙ sym (ap (λ (ds : List Cell). by_rank at (Live b ∷ cs) to ds p) is)
-
-pub carry_is : (k : State) (p : ℕ) → AllByRecursion (IsCell k.format) k.contents.cells → carried 2 k.contents.cells 2 (rewritten k).contents.cells p ≡ carry (store_of k) (store_of (rewritten k)) p
-carry_is k p sound =
-    let same = entries_all k in
-    subst (λ (es : List EntryParts). carried 2 k.contents.cells 2 (map anew es) p ≡ by_rank 2 k.contents.cells 2 (map anew es) p) (sym same) (carried_is k.format k.contents.cells 2 2 p sound)
-
-end_after_cell : (c : Cell) (to : ℕ) (ds : List Cell) → end_place (place_after c to ds) (cells_after c ds) ≡ end_place to ds
-end_after_cell (Free b) to ds = refl
-end_after_cell (Live b) to [] = refl
-end_after_cell (Live b) to (d ∷ ds) = refl
-
-one_of : (b : Bool) (m n end : ℕ) → m ≤ end → n ≤ end → cond b m n ≤ end
-one_of true m n end x y = x
-one_of false m n end x y = y
-
--- a place goes no farther than the new end
-pub carried_le : (cs : List Cell) (at to p : ℕ) (ds : List Cell) → carried at cs to ds p ≤ end_place to ds
-carried_le [] at to p ds = far ds to
-carried_le (c ∷ cs) at to p ds = one_of (nat_le p at) to (carried (at + 4 + size c) cs (place_after c to ds) (cells_after c ds) p) (end_place to ds) (far ds to) (subst (λ (n : ℕ). carried (at + 4 + size c) cs (place_after c to ds) (cells_after c ds) p ≤ n) (end_after_cell c to ds) (carried_le cs (at + 4 + size c) (place_after c to ds) p (cells_after c ds)))
+pub anews_none : (f : KtFormat) → anews f [] ≡ []
+anews_none f = ap (map new_record) (entries_none f)
 
 -- ---- as many live cells
 
@@ -155,7 +89,7 @@ as_many_of f (Live b ∷ cs) at to sound =
     let e = is_some_has (entry_at f b) sound.0.2 in
     ap (λ (ds : List Cell). length (lives to (map placed ds))) (anews_live f b e.0 cs e.1) ∙ ap suc (as_many_of f cs (at + (4 + length b)) (to + (4 + length (written V2 e.0))) sound.1)
 
-all_live_of : (es : List EntryParts) → AllByRecursion (λ (c : StoreCell). is_some c.live ≡ true) (map placed (map anew es))
+all_live_of : (es : List EntryParts) → AllByRecursion (λ (c : StoreCell). is_some c.live ≡ true) (map placed (map new_record es))
 all_live_of [] = tt
 all_live_of (e ∷ es) = (refl, all_live_of es)
 
@@ -222,9 +156,9 @@ sound_anew f (Live b ∷ cs) sound fits small =
     let e = is_some_has (entry_at f b) sound.0.2 in
     let is = anews_live f b e.0 cs e.1 in
     let g = gives_back f b e.0 fits.0 e.1 in
-    let len : length (flat_map (cell Big) (anew e.0 ∷ anews f cs)) ≡ (4 + length (written V2 e.0)) + length (flat_map (cell Big) (anews f cs)) =
-    ap length (flat_map-cons (cell Big) (anew e.0) (anews f cs)) ∙ length-append (cell Big (anew e.0)) (flat_map (cell Big) (anews f cs)) ∙ ap (λ (n : ℕ). n + length (flat_map (cell Big) (anews f cs))) (cell_len Big (anew e.0)) in
-    let whole : length (flat_map (cell Big) (anew e.0 ∷ anews f cs)) < 2 ^ 31 = subst (λ (ds : List Cell). length (flat_map (cell Big) ds) < 2 ^ 31) is small in
+    let len : length (flat_map (cell Big) (new_record e.0 ∷ anews f cs)) ≡ (4 + length (written V2 e.0)) + length (flat_map (cell Big) (anews f cs)) =
+    ap length (flat_map-cons (cell Big) (new_record e.0) (anews f cs)) ∙ length-append (cell Big (new_record e.0)) (flat_map (cell Big) (anews f cs)) ∙ ap (λ (n : ℕ). n + length (flat_map (cell Big) (anews f cs))) (cell_len Big (new_record e.0)) in
+    let whole : length (flat_map (cell Big) (new_record e.0 ∷ anews f cs)) < 2 ^ 31 = subst (λ (ds : List Cell). length (flat_map (cell Big) ds) < 2 ^ 31) is small in
     subst (AllByRecursion (IsCell V2)) (sym is) ((written_some e.0, omega (arith, len, whole), ap is_some g.back), sound_anew f cs sound.1 fits.1 (omega (arith, len, whole)))
 
 -- ---- each entry is kept
@@ -239,34 +173,34 @@ kept_of f (Live b ∷ cs) sound fits =
 
 -- ---- the keytab and its image
 
-pub new_sound : (k : State) (bytes : List ℕ) → IsSound k.format k.contents → bytes ≡ image_of k → IsBytes bytes → length (image_of (rewritten k)) ≤ 2 ^ 30 → AllByRecursion (IsCell V2) (rewritten k).contents.cells
+pub new_sound : (k : State) (bytes : List ℕ) → IsSound k.format k.contents → bytes ≡ image_of k → IsBytes bytes → length (image_of (rewrite_of k)) ≤ 2 ^ 30 → AllByRecursion (IsCell V2) (rewrite_of k).contents.cells
 new_sound k bytes sound is fits small =
     let cells = k.contents.cells in
     let o = order_of k.format in
     let inner : IsBytes (flat_map (cell o) cells ++ end_bytes o k.contents.end) = IsBytes-drop 2 (image_of k) (subst IsBytes is fits) in
     let same = entries_all k in
-    let len : length (flat_map (cell Big) (map anew (entries k))) ≤ length (image_of (rewritten k)) = omega (arith, length-append (flat_map (cell Big) (map anew (entries k))) []) in
-    subst (λ (es : List EntryParts). AllByRecursion (IsCell V2) (map anew es)) (sym same)
-    (sound_anew k.format cells sound.cells (cell_bytes o cells (end_bytes o k.contents.end) inner) (subst (λ (es : List EntryParts). length (flat_map (cell Big) (map anew es)) < 2 ^ 31) same (omega (arith, len, small))))
+    let len : length (flat_map (cell Big) (map new_record (entries k))) ≤ length (image_of (rewrite_of k)) = omega (arith, length-append (flat_map (cell Big) (map new_record (entries k))) []) in
+    subst (λ (es : List EntryParts). AllByRecursion (IsCell V2) (map new_record es)) (sym same)
+    (sound_anew k.format cells sound.cells (cell_bytes o cells (end_bytes o k.contents.end) inner) (subst (λ (es : List EntryParts). length (flat_map (cell Big) (map new_record es)) < 2 ^ 31) same (omega (arith, len, small))))
 
-pub entries_kept : (k : State) (bytes : List ℕ) → IsSound k.format k.contents → bytes ≡ image_of k → IsBytes bytes → entries (rewritten k) ≡ entries k
+pub entries_kept : (k : State) (bytes : List ℕ) → IsSound k.format k.contents → bytes ≡ image_of k → IsBytes bytes → entries (rewrite_of k) ≡ entries k
 entries_kept k bytes sound is fits =
     let cells = k.contents.cells in
     let o = order_of k.format in
     let inner : IsBytes (flat_map (cell o) cells ++ end_bytes o k.contents.end) = IsBytes-drop 2 (image_of k) (subst IsBytes is fits) in
-    entries_all (rewritten k) ∙ ap (λ (es : List EntryParts). entries_of V2 (map anew es)) (entries_all k)
+    entries_all (rewrite_of k) ∙ ap (λ (es : List EntryParts). entries_of V2 (map new_record es)) (entries_all k)
     ∙ kept_of k.format cells sound.cells (cell_bytes o cells (end_bytes o k.contents.end) inner) ∙ sym (entries_all k)
 
-pub contents_anew : (k : State) (new : List ℕ) → IsSound V2 (rewritten k).contents → new ≡ image_of (rewritten k) → IsBytes new → contents V2 (drop 2 new) ≡ (rewritten k).contents
+pub contents_anew : (k : State) (new : List ℕ) → IsSound V2 (rewrite_of k).contents → new ≡ image_of (rewrite_of k) → IsBytes new → contents V2 (drop 2 new) ≡ (rewrite_of k).contents
 contents_anew k new sound is fits =
-    ap (λ (b : List ℕ). contents V2 (drop 2 b)) is ∙ contents_again V2 (rewritten k).contents sound (IsBytes-drop 2 (image_of (rewritten k)) (subst IsBytes is fits))
+    ap (λ (b : List ℕ). contents V2 (drop 2 b)) is ∙ contents_again V2 (rewrite_of k).contents sound (IsBytes-drop 2 (image_of (rewrite_of k)) (subst IsBytes is fits))
 
-pub known_anew : (k : State) (new : List ℕ) (len : ℕ) → contents V2 (drop 2 new) ≡ (rewritten k).contents → new ≡ image_of (rewritten k) → len ≡ length (image_of (rewritten k)) → IsKnownEnd V2 new (record { place = len; ending = ending.Bare })
+pub known_anew : (k : State) (new : List ℕ) (len : ℕ) → contents V2 (drop 2 new) ≡ (rewrite_of k).contents → new ≡ image_of (rewrite_of k) → len ≡ length (image_of (rewrite_of k)) → IsKnownEnd V2 new (record { place = len; ending = ending.Bare })
 known_anew k new len is spelled is_len =
-    let ds = (rewritten k).contents.cells in
+    let ds = (rewrite_of k).contents.cells in
     let at_end : drop len new ≡ [] = drop_of_length-le new {i = len} (omega (arith, is_len, ap length spelled)) in
     let none : contents V2 (drop len new) ≡ record { cells = []; end = Bare } = ap (contents V2) at_end ∙ contents_none V2 in
-    let flat : length (image_of (rewritten k)) ≡ 2 + length (flat_map (cell Big) ds) = omega (arith, length-append (flat_map (cell Big) ds) []) in
+    let flat : length (image_of (rewrite_of k)) ≡ 2 + length (flat_map (cell Big) ds) = omega (arith, length-append (flat_map (cell Big) ds) []) in
     record {
       place = ap (λ (x : Contents). end_place 2 x.cells) is ∙ omega (arith, end_place_is Big 2 ds, flat, is_len);
       within = omega (arith, is_len, ap length spelled);
@@ -275,7 +209,7 @@ known_anew k new len is spelled is_len =
     }
 
 -- bytes that are kept as an image
-pub is_image : (k : State) (new : List ℕ) (limit len : ℕ) → new ≡ image_of (rewritten k) → len ≡ length (image_of (rewritten k)) → len ≤ limit → limit ≤ 1073741824 → IsImage V2 limit new
+pub is_image : (k : State) (new : List ℕ) (limit len : ℕ) → new ≡ image_of (rewrite_of k) → len ≡ length (image_of (rewrite_of k)) → len ≤ limit → limit ≤ 1073741824 → IsImage V2 limit new
 is_image k new limit len spelled is_len within small = record {
   long = omega (arith, ap length spelled);
   first = ap (λ (b : List ℕ). slice_index b 0) spelled;
@@ -284,71 +218,24 @@ is_image k new limit len spelled is_len within small = record {
   limit_fits = small;
 }
 
-pub rewrites_store : (k : State) → IsSound k.format k.contents → IsSound V2 (rewritten k).contents → (store_of k).fault ≡ None → Rewrites (store_of k) (store_of (rewritten k))
+pub rewrites_store : (k : State) → IsSound k.format k.contents → IsSound V2 (rewrite_of k).contents → (store_of k).fault ≡ None → Rewrites (store_of k) (store_of (rewrite_of k))
 rewrites_store k was sound whole = record {
   whole = whole;
   fault = refl;
-  sound = store_sound V2 (rewritten k).contents.cells sound.cells;
+  sound = store_sound V2 (rewrite_of k).contents.cells sound.cells;
   all_live = all_live_of (entries k);
-  as_many = ap (λ (es : List EntryParts). length (lives 2 (map placed (map anew es)))) (entries_all k) ∙ as_many_of k.format k.contents.cells 2 2 was.cells;
+  as_many = ap (λ (es : List EntryParts). length (lives 2 (map placed (map new_record es)))) (entries_all k) ∙ as_many_of k.format k.contents.cells 2 2 was.cells;
 }
 
-pub rewriting_done : (k : State) (n : ℕ) → is_some (fault_of (store_of k)) ≡ false → n ≡ length (image_of (rewritten k)) → n ≤ k.limit → rewriting k ≡ Ok (rewritten k)
+pub rewriting_done : (k : State) (n : ℕ) → is_some (fault_of (store_of k)) ≡ false → n ≡ length (image_of (rewrite_of k)) → n ≤ k.limit → rewrite_result k ≡ Ok (rewrite_of k)
 rewriting_done k n whole is le =
-    let short : nat_lt k.limit (length (image_of (rewritten k))) ≡ false = le-ltb _ _ (omega (arith, is, le)) in
+    let short : nat_lt k.limit (length (image_of (rewrite_of k))) ≡ false = le-ltb _ _ (omega (arith, is, le)) in
     rw (whole, short) refl
 
--- ---- cursors
-
-place_le : (cs : List Cell) (p : ℕ) → is_place 2 cs p ≡ true → p ≤ end_place 2 cs
-place_le cs p h = omega (arith, place_in 2 (map placed cs) p (sym (is_place-store 2 p cs) ∙ h), end_place-store 2 cs)
-
-place_before : (cs : List Cell) (p end : ℕ) → is_place 2 cs p ≡ true → end_place 2 cs ≡ end → p ≢ end → p < end
-place_before cs p end h is ne = elim (cases_lt p end) [
-  | inl lt ↦ lt
-  | inr le ↦ absurd (ne (omega (arith, le, is, place_le cs p h)))
-]
-
--- each cursor was given a place
-pub all_given : (image : List ℕ) (end : ℕ) (cs ds : List Cell) (cursors : List ℕ) → AreGiven image end cs ds → end_place 2 cs ≡ end → AllByRecursion (λ p. is_place 2 cs p ≡ true) cursors → AllByRecursion (HasGiven image end) cursors
-all_given image end cs ds [] given is h = tt
-all_given image end cs ds (p ∷ ps) given is h = (λ ne. (given p h.0 (place_before cs p end h.0 is ne)).within, all_given image end cs ds ps given is h.1)
-
--- and goes there
-pub all_go : (image : List ℕ) (end last : ℕ) (cs ds : List Cell) (cursors : List ℕ) → AreGiven image end cs ds → end_place 2 cs ≡ end → last ≡ carried 2 cs 2 ds end → end_place 2 ds < 2 ^ 32
-    → AllByRecursion (λ p. is_place 2 cs p ≡ true) cursors → AllByRecursion (GoesBy image end last (carried 2 cs 2 ds)) cursors
-all_go image end last cs ds [] given is is_last small h = tt
-all_go image end last cs ds (p ∷ ps) given is is_last small h = (
-  record {
-    small = omega (arith, carried_le cs 2 2 p ds, small);
-    ends = λ e. is_last ∙ ap (carried 2 cs 2 ds) (sym e);
-    told = λ ne. given p h.0 (place_before cs p end h.0 is ne);
-  },
-  all_go image end last cs ds ps given is is_last small h.1,
-)
-
--- places of the store are places of its cells
-pub all_places : (f : KtFormat) (limit : ℕ) (image bytes : List ℕ) (k : State) (cursors : List ℕ) → bytes ≡ image → held f limit image ≡ k → AllByRecursion (IsPlace (store_of k)) cursors → AllByRecursion (λ p. is_place 2 (contents f (drop 2 bytes)).cells p ≡ true) cursors
-all_places f limit image bytes k [] same is h = tt
-all_places f limit image bytes k (p ∷ ps) same is h = (place_held f limit image bytes k p same is h.0, all_places f limit image bytes k ps same is h.1)
-
-map_same : (f g : ℕ → ℕ) (xs : List ℕ) → ((x : ℕ) → f x ≡ g x) → map f xs ≡ map g xs
-map_same f g [] same = refl
-map_same f g (x ∷ xs) same = ap (λ (n : ℕ). n ∷ map f xs) (same x) ∙ ap (λ (ys : List ℕ). g x ∷ ys) (map_same f g xs same)
-
-pub all_carried : (f : KtFormat) (limit : ℕ) (image bytes new : List ℕ) (k after : State) (cursors : List ℕ) → bytes ≡ image → held f limit image ≡ k → AllByRecursion (IsCell k.format) k.contents.cells → contents V2 (drop 2 new) ≡ (rewritten k).contents → after ≡ rewritten k
-    → map (carried 2 (contents f (drop 2 bytes)).cells 2 (contents V2 (drop 2 new)).cells) cursors ≡ map (carry (store_of k) (store_of after)) cursors
-all_carried f limit image bytes new k after cursors same is sound spelled done =
-    ap (λ (b : List ℕ). map (carried 2 (contents f (drop 2 b)).cells 2 (contents V2 (drop 2 new)).cells) cursors) same
-    ∙ ap (λ (s : State). map (carried 2 s.contents.cells 2 (contents V2 (drop 2 new)).cells) cursors) is
-    ∙ ap (λ (x : Contents). map (carried 2 k.contents.cells 2 x.cells) cursors) spelled
-    ∙ map_same (carried 2 k.contents.cells 2 (rewritten k).contents.cells) (carry (store_of k) (store_of (rewritten k))) cursors (λ p. carry_is k p sound)
-    ∙ ap (λ (s : State). map (carry (store_of k) (store_of s)) cursors) (sym done)
-
 -- the new image, as a keytab
-pub held_anew : (f : KtFormat) (limit : ℕ) (image new : List ℕ) (k : State) → held f limit image ≡ k → contents V2 (drop 2 new) ≡ (rewritten k).contents → held V2 limit new ≡ rewritten k
+pub held_anew : (f : KtFormat) (limit : ℕ) (image new : List ℕ) (k : State) → held f limit image ≡ k → contents V2 (drop 2 new) ≡ (rewrite_of k).contents → held V2 limit new ≡ rewrite_of k
 held_anew f limit image new k is spelled =
-    ap (λ (x : Contents). record { format = V2; limit = limit; contents = x }) spelled ∙ ap (λ (n : ℕ). record { format = V2; limit = n; contents = (rewritten k).contents }) (ap (λ (s : State). s.limit) is)
+    ap (λ (x : Contents). record { format = V2; limit = limit; contents = x }) spelled ∙ ap (λ (n : ℕ). record { format = V2; limit = n; contents = (rewrite_of k).contents }) (ap (λ (s : State). s.limit) is)
 
 pub whole_kind : (k : State) → is_some (fault_of (store_of k)) ≡ false → (store_of k).fault ≡ None
 whole_kind k h = whole_of (end_of (store_of k)) (kind_of k.contents.end) h

@@ -7,7 +7,7 @@ use Rattle.krb_wire.proofs.SpliceLemmas.{splice-then}
 pub splice-len : (xs a : List ℕ) (i j : ℕ) → j ≤ length xs → j ≡ i + length a → length (splice xs i j a) ≡ length xs
 splice-len xs a i j within is_j = omega (arith, length-append (take i xs) (a ++ drop j xs), length-append a (drop j xs), length-take i xs, length-drop j xs)
 
--- behind the part that was put all is as it was
+-- after the part that was put all is as it was
 pub splice-behind : (xs a : List ℕ) (i j k : ℕ) → i ≤ length xs → j ≡ i + length a → j ≤ k → drop k (splice xs i j a) ≡ drop k xs
 splice-behind xs a i j k within is_j le =
     let front = take i xs ++ a in
@@ -23,7 +23,7 @@ pub record Wrote (old new : List ℕ) (at to : ℕ) (bytes : List ℕ) : Type 0 
   pub place : to ≡ at + length bytes
   pub written : new ≡ splice old at to bytes
 
--- one part, and the next behind it
+-- one part, and the next after it
 pub wrote-then : (old mid new : List ℕ) (at i j : ℕ) (x y : List ℕ) → at ≤ length old → Wrote old mid at i x → Wrote mid new i j y → Wrote old new at j (x ++ y)
 wrote-then old mid new at i j x y within first second =
     let is_i = first.place in

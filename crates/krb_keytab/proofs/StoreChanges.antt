@@ -13,11 +13,12 @@ use Rattle.krb_walk.specs.Changes.{OneCell, Puts, Cuts}
 use Rattle.krb_keytab.specs.Entry.{EntryParts}
 use Rattle.krb_keytab.specs.Cells.{Cell, Live, Free, End, Bare, Mark, Damaged}
 use Rattle.krb_keytab.specs.Questions.{kind_of}
-use Rattle.krb_keytab.specs.Store.{State, placed, store_of, image_of}
-use Rattle.krb_keytab.specs.Written.{fits, written}
+use Rattle.krb_keytab.specs.Store.{State, placed, store_of, image_of, entry_at_place}
+use Rattle.krb_keytab.specs.Written.{fits, written, read_back, IsEntry}
 use Rattle.krb_keytab.specs.Changes.{PlacedCell, turned_at, freed, is_hole, padded, filled, first_hole, with_filled, with_last, end_after, without, appending, putting_into, putting_bytes, putting, cutting}
-use Rattle.krb_keytab.specs.Answers.{AnswersPut, AnswersCut}
+use Rattle.krb_walk.specs.Rules.{PutGives, CutGives}
 use Rattle.krb_keytab.proofs.CellLemmas.{chosen}
+use Rattle.krb_keytab.proofs.FoundAgain.{added_reads, removed_none}
 use Rattle.krb_keytab.proofs.Stores.{end_place-store, live_at-store}
 use Rattle.krb_keytab.proofs.Turned.{padded_len}
 use Rattle.krb_keytab.proofs.Replaced.{StandsAt, live_stands, hole_stands, turned}
@@ -71,7 +72,7 @@ cuts_of k p new e =
       ]
     ]
 
-pub removal_cuts : (k new : State) (p : ℕ) (result : Result (Unit {0}) Code) → AnswersCut k (cutting k p) result new → OnOk result (Cuts (store_of k) (store_of new) p)
+pub removal_cuts : (k new : State) (p : ℕ) (result : Result (Unit {0}) Code) → CutGives (cutting k p) k result new → OnOk result (Cuts (store_of k) (store_of new) p)
 removal_cuts k new p (Ok done) a = cuts_of k p new a
 removal_cuts k new p (Err refused) a = tt
 
@@ -105,7 +106,7 @@ appends_at k x whole still = record {
   });
 }
 
--- an end that is no fault is none behind a record more
+-- an end that is no fault is none after a record more
 still_whole : (e : End) → kind_of e ≡ None → kind_of (end_after e) ≡ None
 still_whole Bare h = refl
 still_whole (Mark rest) h = refl
@@ -144,6 +145,16 @@ puts_of k e p new is =
       ]
     ]
 
-pub addition_puts : (k new : State) (e : EntryParts) (result : Result ℕ Refusal) → AnswersPut k e result new → IfOk result (Puts (store_of k) (store_of new))
+pub addition_puts : (k new : State) (e : EntryParts) (result : Result ℕ Refusal) → PutGives (putting k e) k result new → IfOk result (Puts (store_of k) (store_of new))
 addition_puts k new e (Ok p) a = puts_of k e p new a
 addition_puts k new e (Err refusal) a = tt
+
+-- ---- what stands afterwards
+
+pub removal_gone : (k new : State) (p : ℕ) (result : Result (Unit {0}) Code) → CutGives (cutting k p) k result new → OnOk result (store_bytes (store_of new) p ≡ None)
+removal_gone k new p (Ok done) a = removed_none k p new a
+removal_gone k new p (Err refused) a = tt
+
+pub addition_read : (k new : State) (e : EntryParts) (result : Result ℕ Refusal) → IsEntry e → PutGives (putting k e) k result new → IfOk result (λ p. entry_at_place new p ≡ Some (read_back k.format e))
+addition_read k new e (Ok p) is a = added_reads k e (p, new) is a
+addition_read k new e (Err refusal) is a = tt

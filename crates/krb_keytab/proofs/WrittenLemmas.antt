@@ -8,61 +8,27 @@ use Rattle.std.proofs.lemmas.Bool.Decides.{eqb_tells}
 use Rattle.krb_wire.specs.declared.format.Order.{Order}
 use Rattle.krb_wire.specs.declared.format.KtFormat.{KtFormat}
 use Rattle.krb_wire.specs.declared.format.KtFormat.TheVariants.{V1, V2}
-use Rattle.krb_wire.specs.Spelling.{Parts, digits, data16, order_of, count_field, kt_principal, IsShort, HasNameType, HasSpelling}
+use Rattle.krb_wire.specs.Spelling.{digits, data16, order_of, kt_principal, IsShort, is_short, name_fits, HasNameType}
 use Rattle.krb_wire.proofs.Fields.{some_is, wide16, wide32, number_again}
 use Rattle.krb_keytab.specs.Entry.{EntryParts, front, version_by, Spells}
-use Rattle.krb_keytab.specs.Written.{is_short, name_fits, fits, front_of, written, kept_type, read_back, IsEntry, IsRecord}
+use Rattle.krb_keytab.specs.Written.{fits, front_of, written, kept_type, read_back, IsEntry, IsRecord}
 use Rattle.krb_keytab.proofs.Entries.{entry_again}
-use Rattle.krb_keytab.proofs.LookUpLemmas.{same_bool, and_both}
+use Rattle.krb_wire.proofs.NamesTold.{and_both, both_and}
 use Rattle.krb_keytab.proofs.Splices.{Wrote, wrote-then}
 
 -- ---- what fits
 
-both_and : (a b : Bool) → a ≡ true → b ≡ true → (a && b) ≡ true
-both_and a b x y = rw (x, y) refl
-
-all_short : (cs : List (List ℕ)) → list_all is_short cs ≡ true → AllByRecursion IsShort cs
-all_short [] e = tt
-all_short (c ∷ cs) e =
-    let both = and_both (is_short c) (list_all is_short cs) e in
-    (ltb-true (length c) (2 ^ 16) both.0, all_short cs both.1)
-
-short_all : (cs : List (List ℕ)) → AllByRecursion IsShort cs → list_all is_short cs ≡ true
-short_all [] h = refl
-short_all (c ∷ cs) h = both_and (is_short c) (list_all is_short cs) (lt-ltb (length c) (2 ^ 16) h.0) (short_all cs h.1)
-
-pub name_has_spelling : (f : KtFormat) (p : Parts) → name_fits f p ≡ true → HasSpelling f p
-name_has_spelling f p e =
-    let count = and_both (ltb (count_field f (length p.components)) (2 ^ 16)) (is_short p.realm && list_all is_short p.components) e in
-    let realm = and_both (is_short p.realm) (list_all is_short p.components) count.1 in
-    record {
-      count = ltb-true (count_field f (length p.components)) (2 ^ 16) count.0;
-      realm = ltb-true (length p.realm) (2 ^ 16) realm.0;
-      components = all_short p.components realm.1;
-    }
-
-spelling_fits : (f : KtFormat) (p : Parts) → HasSpelling f p → name_fits f p ≡ true
-spelling_fits f p h =
-    both_and (ltb (count_field f (length p.components)) (2 ^ 16)) (is_short p.realm && list_all is_short p.components) (lt-ltb (count_field f (length p.components)) (2 ^ 16) h.count)
-    (both_and (is_short p.realm) (list_all is_short p.components) (lt-ltb (length p.realm) (2 ^ 16) h.realm) (short_all p.components h.components))
-
--- a test whether a name has a spelling is the definition's
-pub name_fits_is : (f : KtFormat) (p : Parts) (answer : Bool) → (answer ≡ true → HasSpelling f p) → (HasSpelling f p → answer ≡ true) → answer ≡ name_fits f p
-name_fits_is f p answer to from = same_bool answer (name_fits f p) (λ e. spelling_fits f p (to e)) (λ e. from (name_has_spelling f p e))
-
-pub name_of_entry_fits : (f : KtFormat) (e : EntryParts) → fits f e ≡ true → HasSpelling f e.principal
-name_of_entry_fits f e h = name_has_spelling f e.principal (and_both (name_fits f e.principal) (is_short e.key) h).0
+pub name_of_entry_fits : (f : KtFormat) (e : EntryParts) → fits f e ≡ true → name_fits f e.principal ≡ true
+name_of_entry_fits f e h = (and_both (name_fits f e.principal) (is_short e.key) h).0
 
 pub key_of_entry_fits : (f : KtFormat) (e : EntryParts) → fits f e ≡ true → IsShort e.key
 key_of_entry_fits f e h = ltb-true (length e.key) (2 ^ 16) (and_both (name_fits f e.principal) (is_short e.key) h).1
 
-pub fits_no : (f : KtFormat) (e : EntryParts) → (HasSpelling f e.principal → false ≡ true) → false ≡ fits f e
-fits_no f e from =
-    let no : false ≡ name_fits f e.principal = name_fits_is f e.principal false (λ h. absurd cc) from in
-    ap (λ (b : Bool). b && is_short e.key) no
+pub fits_no : (f : KtFormat) (e : EntryParts) → false ≡ name_fits f e.principal → false ≡ fits f e
+fits_no f e h = ap (λ (b : Bool). b && is_short e.key) h
 
-pub fits_yes : (f : KtFormat) (e : EntryParts) → HasSpelling f e.principal → length e.key ≤ 65535 → true ≡ fits f e
-fits_yes f e h le = sym (both_and (name_fits f e.principal) (is_short e.key) (spelling_fits f e.principal h) (lt-ltb (length e.key) (2 ^ 16) (omega arith)))
+pub fits_yes : (f : KtFormat) (e : EntryParts) → name_fits f e.principal ≡ true → length e.key ≤ 65535 → true ≡ fits f e
+fits_yes f e h le = sym (both_and (name_fits f e.principal) (is_short e.key) h (lt-ltb (length e.key) (2 ^ 16) (omega arith)))
 
 -- ---- how long it is
 
@@ -105,7 +71,7 @@ written_spells f e n fit is =
       fields = front_of (read_back f e);
       tail = d5 ++ z;
       fit = record {
-        principal = record { count = p.count; realm = p.realm; components = p.components; name_type = kept_fits f e.principal.name_type is.name_type };
+        principal = record { lengths = p; name_type = kept_fits f e.principal.name_type is.name_type };
         timestamp = is.timestamp;
         low_version = omega arith;
         enctype = is.enctype;

@@ -16,7 +16,7 @@ pub data Cell : Type 0 where
   Live : List ℕ → Cell
   Free : List ℕ → Cell
 
--- what stands behind the cells: nothing, a length 0 and more bytes, or bytes that are none of these
+-- what stands after the cells: nothing, a length 0 and more bytes, or bytes that are none of these
 pub data End : Type 0 where
   Bare : End
   Mark : List ℕ → End
@@ -49,7 +49,7 @@ end_bytes o Bare = []
 end_bytes o (Mark rest) = digits o w32 0 ++ rest
 end_bytes o (Damaged kind rest) = rest
 
--- the bytes behind the two version bytes
+-- the bytes after the two version bytes
 abbrev pub spelling : Order → Contents → List ℕ
 spelling o k = flat_map (cell o) k.cells ++ end_bytes o k.end
 

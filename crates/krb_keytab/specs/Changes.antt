@@ -1,5 +1,5 @@
 -- Adding an entry to a keytab, and removing one. A keytab is a store for walks: `store_of` is how it is seen, `putting` what an addition gives, and `cutting` what a removal gives.
-use Rattle.std.specs.Prelude.{ℕ, ◌+◌, ◌-◌, List, [], ◌∷◌, ◌++◌, length, map, find, replicate, Option, Some, None, is_some, Result, Ok, Err, Bool, false, nat_lt, nat_le, ◌==◌, if◌then◌else◌}
+use Rattle.std.specs.Prelude.{ℕ, ◌+◌, ◌-◌, List, [], ◌∷◌, ◌++◌, length, map, find, replicate, Option, Some, None, is_some, Result, Ok, Err, Bool, true, false, ◌||◌, nat_lt, nat_le, ◌==◌, if◌then◌else◌}
 use Rattle.krb_wire.specs.Spelling.{Parts}
 use Rattle.krb_walk.specs.declared.refusal.Code.{Code}
 use Rattle.krb_walk.specs.declared.refusal.Code.TheVariants as code
@@ -11,7 +11,7 @@ use Rattle.krb_keytab.specs.Store.{State, image_of, store_of}
 use Rattle.krb_keytab.specs.LookUp.{Placed, finding}
 use Rattle.krb_keytab.specs.Written.{fits, written}
 
--- a cell, behind its place
+-- the place of a cell, and the cell
 abbrev pub PlacedCell : Type 0
 PlacedCell = ℕ × Cell
 
@@ -60,11 +60,11 @@ is_hole n (Free b) = nat_le n (length b)
 abbrev pub first_hole : ℕ → ℕ → List Cell → Option PlacedCell
 first_hole at n cells = find (λ x. is_hole n x.1) (placed_cells at cells)
 
--- bytes, and zeros behind them up to a size
+-- bytes, and zeros after them up to a size
 abbrev pub padded : List ℕ → ℕ → List ℕ
 padded bytes n = bytes ++ replicate (n - length bytes) 0
 
--- a record of the cell's size that begins with these bytes, and is zeros behind them
+-- a record of the cell's size that begins with these bytes, and is zeros after them
 abbrev pub filled : List ℕ → Cell → Cell
 filled bytes c = Live (padded bytes (size c))
 
@@ -72,23 +72,23 @@ filled bytes c = Live (padded bytes (size c))
 abbrev pub with_filled : State → List ℕ → ℕ → State
 with_filled k bytes p = record k { contents = record { cells = turned_at 2 (filled bytes) p k.contents.cells; end = k.contents.end } }
 
--- what ends the cells after one more: behind an end mark nothing is left
+-- what ends the cells after one more: after an end mark nothing is left
 abbrev pub end_after : End → End
 end_after Bare = Bare
 end_after (Mark rest) = Mark []
 end_after (Damaged kind rest) = Damaged kind rest
 
--- the keytab with a record of these bytes behind its cells
+-- the keytab with a record of these bytes after its cells
 abbrev pub with_last : State → List ℕ → State
 with_last k bytes = record k { contents = record { cells = k.contents.cells ++ Live bytes ∷ []; end = end_after k.contents.end } }
 
--- the addition of bytes behind the cells: refused where the image would be longer than the limit
+-- the addition of bytes after the cells: refused where the image would be longer than the limit
 abbrev pub appending : State → List ℕ → Result (ℕ × State) Code
 appending k bytes =
     if nat_lt k.limit (length (image_of (with_last k bytes))) then Err code.Full
     else Ok (end_of (store_of k), with_last k bytes)
 
--- the addition of bytes, into a hole where there is one, and else behind the cells
+-- the addition of bytes, into a hole where there is one, and else after the cells
 abbrev pub putting_into : State → List ℕ → Option PlacedCell → Result (ℕ × State) Code
 putting_into k bytes (Some hole) = Ok (hole.0, with_filled k bytes hole.0)
 putting_into k bytes None = appending k bytes
@@ -102,3 +102,15 @@ abbrev pub putting : State → EntryParts → Result (ℕ × State) Code
 putting k e =
     if is_some (fault_of (store_of k)) then Err code.Damaged
     else (if fits k.format e then putting_bytes k (written k.format e) else Err code.TooLong)
+
+-- an addition is refused
+abbrev pub is_refused : Result (ℕ × State) Code → Bool
+is_refused (Ok given) = false
+is_refused (Err refused) = true
+
+-- an addition takes no memory where it is refused, where a hole takes the entry, and where the image becomes no longer
+abbrev pub takes_none : State → EntryParts → Bool
+takes_none k e =
+    is_refused (putting k e)
+    || is_some (first_hole 2 (length (written k.format e)) k.contents.cells)
+    || nat_le (length (image_of (with_last k (written k.format e)))) (length (image_of k))

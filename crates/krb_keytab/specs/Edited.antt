@@ -23,7 +23,7 @@ pub record Edited (o : Order) (limit : ℕ) (image new : List ℕ) (events : Lis
   pub ran : Ran keytab_rules (new_session keytab) after events told_old told_new
   pub image_is : new ≡ image_of after.store
 
--- the same, where memory was wanting: the events before one of them were run
+-- the same, where it ran out of memory: the events before one of them were run
 pub record EditedSome (o : Order) (limit : ℕ) (image new : List ℕ) (events : List (Event EntryParts)) (told_old told_new : List Said) : Type 0 where
   pub keytab : State
   pub opens : opening o limit image ≡ Ok keytab
@@ -31,7 +31,7 @@ pub record EditedSome (o : Order) (limit : ℕ) (image new : List ℕ) (events :
   pub ran : RanSome keytab_rules (new_session keytab) after events told_old told_new
   pub image_is : new ≡ image_of after.store
 
--- an image that is no keytab is handed back, and nothing is replied; where memory was wanting, the image is that after the events before
+-- an image that is no keytab is handed back, and nothing is replied; where it ran out of memory, the image is that after the events before
 abbrev pub EditRefuses : {A : Type 0} → EditRefused A → Order → ℕ → Vec ℕ A → List (Event EntryParts) → List Said → List Said → Type 0
 EditRefuses (NotAKeytab refused) o limit image events told_old told_new = (opening o limit image.items ≡ Err refused.why) × (refused.image ≡ image) × (told_new ≡ told_old)
 EditRefuses (NoMemory bytes) o limit image events told_old told_new = EditedSome o limit image.items bytes.items events told_old told_new

@@ -5,7 +5,7 @@ use Rattle.krb_keytab.specs.Cells.{Cell}
 use Rattle.krb_keytab.specs.Questions.{size}
 use Rattle.krb_keytab.specs.Changes.{PlacedCell, first_hole}
 
--- the hole that a cell is, behind its place
+-- the hole that a cell is, from its place and the cell
 abbrev pub hole_of : PlacedCell → Hole
 hole_of x = record { place = x.0; size = size x.1 }
 

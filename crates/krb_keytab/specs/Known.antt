@@ -26,12 +26,12 @@ pub record IsChanged (f : KtFormat) (old new : List ℕ) (k : Contents) (e : Cel
   pub contents : contents f (drop 2 new) ≡ k
   pub known : IsKnownEnd f new e
 
--- how many bytes the end mark has behind an appended record
+-- how many bytes the end mark has after an appended record
 abbrev pub mark_len : Ending → ℕ
 mark_len ending.Bare = 0
 mark_len ending.Mark = 4
 mark_len (ending.Damaged kind) = 0
 
--- how long an image is with a record of so many bytes behind its cells
+-- how long an image is with a record of so many bytes after its cells
 abbrev pub len_with : CellsEnd → ℕ → ℕ
 len_with e n = e.place + 4 + n + mark_len e.ending

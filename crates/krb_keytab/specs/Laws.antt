@@ -27,7 +27,7 @@ IsLongest = (f : KtFormat) (cells : List Cell) (rest : List ℕ) → AllByRecurs
 abbrev pub IsOnlyOne : Type 0
 IsOnlyOne = (f : KtFormat) (k : Contents) → IsSound f k → AreBytes (spelling (order_of f) k) → contents f (spelling (order_of f) k) ≡ k
 
--- the written form of an entry, also with zeros behind it, spells that entry and no other; in version 1 its name type is 0
+-- the written form of an entry, also with zeros after it, spells that entry and no other; in version 1 its name type is 0
 pub record IsReadBack (f : KtFormat) (e : EntryParts) (bytes : List ℕ) : Type 0 where
   pub spelled : Spells f (read_back f e) bytes
   pub only : (x : EntryParts) → Spells f x bytes → x ≡ read_back f e

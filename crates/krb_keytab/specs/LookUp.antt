@@ -1,17 +1,15 @@
 -- Looking up an entry by name, version and enctype.
-use Rattle.std.specs.Prelude.{ℕ, List, [], ◌∷◌, Bool, true, false, ◌&&◌, ◌||◌, ◌==◌, nat_lt, max, filter, find, is_some, Option, None, Some, option_map, Result, Ok, Err, if◌then◌else◌}
+use Rattle.std.specs.Prelude.{ℕ, List, [], ◌∷◌, Bool, ◌&&◌, ◌||◌, ◌==◌, max, filter, find, is_some, Option, None, Some, option_map, Result, Ok, Err, if◌then◌else◌}
 use Rattle.std.specs.List.{filter_map}
-use Rattle.std.specs.Cmp.Lexicographic.{pointwise}
-use Rattle.std.specs.Str.{bytes_eq}
 use Rattle.krb_wire.specs.Spelling.{Parts}
+use Rattle.krb_wire.specs.SameName.{have_same_name}
 use Rattle.krb_walk.specs.declared.refusal.Code.{Code}
 use Rattle.krb_walk.specs.declared.refusal.Code.TheVariants.{Damaged, NotFound, KvnoNotFound}
 use Rattle.krb_walk.specs.Store.{Record, records, fault_of}
-use Rattle.krb_walk.specs.Stops.{records_from}
 use Rattle.krb_keytab.specs.Entry.{EntryParts, entry_at}
 use Rattle.krb_keytab.specs.Store.{State, store_of}
 
--- an entry, behind the place of its record
+-- the place of a record, and its entry
 abbrev pub Placed : Type 0
 Placed = ℕ × EntryParts
 
@@ -22,10 +20,6 @@ placed_entry k r = option_map (λ e. (r.place, e)) (entry_at k.format r.bytes)
 -- the entries with their places, in file order
 abbrev pub placed_entries : State → List Placed
 placed_entries k = filter_map (placed_entry k) (records (store_of k))
-
--- the realms and the components are equal
-abbrev pub have_same_name : Parts → Parts → Bool
-have_same_name p q = bytes_eq p.realm q.realm && pointwise bytes_eq p.components q.components
 
 -- the entry has the name, and the enctype unless that is 0
 abbrev pub is_asked : Parts → ℕ → Placed → Bool
@@ -57,36 +51,3 @@ look_up k name kvno enctype = look_up_in kvno (filter (is_asked name enctype) (p
 -- what a look-up answers: a damaged keytab refuses it
 abbrev pub finding : State → Parts → ℕ → ℕ → Result Placed Code
 finding k name kvno enctype = if is_some (fault_of (store_of k)) then Err Damaged else look_up k name kvno enctype
-
--- ---- the same, one entry after the other
-
--- an entry of that version is looked for more than the one that was found so far
-abbrev pub is_better : ℕ → Option Placed → ℕ → Bool
-is_better kvno None version = kvno == 0 || version == kvno
-is_better kvno (Some x) version = kvno == 0 && nat_lt x.1.version version
-
--- why nothing was found, where some entry was asked for or none was
-abbrev pub missing : Bool → Code
-missing true = KvnoNotFound
-missing false = NotFound
-
--- what was found so far: whether some entry was asked for, and which is looked for
-pub record SoFar : Type 0 where
-  pub named : Bool
-  pub best : Option Placed
-
--- after one entry more
-abbrev pub with_entry : Parts → ℕ → ℕ → SoFar → Placed → SoFar
-with_entry name kvno enctype s x =
-    if is_asked name enctype x
-    then record { named = true; best = (if is_better kvno s.best x.1.version then Some x else s.best) }
-    else s
-
--- after some entries more
-abbrev pub with_entries : Parts → ℕ → ℕ → SoFar → List Placed → SoFar
-with_entries name kvno enctype s [] = s
-with_entries name kvno enctype s (x ∷ xs) = with_entries name kvno enctype (with_entry name kvno enctype s x) xs
-
--- the entries with their places, from a place on
-abbrev pub placed_from : State → ℕ → List Placed
-placed_from k p = filter_map (placed_entry k) (records_from (store_of k) p)

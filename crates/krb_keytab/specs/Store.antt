@@ -43,7 +43,7 @@ abbrev pub placed : Cell → StoreCell
 placed (Live b) = record { width = 4 + length b; live = Some b }
 placed (Free b) = record { width = 4 + length b; live = None }
 
--- the store that a keytab is: its cells stand behind the two version bytes
+-- the store that a keytab is: its cells stand after the two version bytes
 abbrev pub store_of : State → Store
 store_of k = record { first = 2; cells = map placed k.contents.cells; fault = kind_of k.contents.end }
 
@@ -72,6 +72,6 @@ IsInOrder o V2 = Unit {0}
 abbrev pub Reopens : State → List ℕ → Type 0
 Reopens k bytes = (o : Order) (limit : ℕ) → IsInOrder o k.format → k.limit ≤ limit → opening o limit bytes ≡ Ok (record k { limit = limit })
 
--- a keytab without cells, and with nothing behind them
+-- a keytab without cells, and with nothing after them
 abbrev pub empty : KtFormat → ℕ → State
 empty f limit = record { format = f; limit = limit; contents = record { cells = []; end = Bare } }

@@ -1,21 +1,12 @@
 -- The one spelling that is written for an entry: fields as in MIT's "Keytab file format", section "Key entry format"; that the 32-bit version always stands is our choice.
-use Rattle.std.specs.Prelude.{ℕ, ◌<◌, ◌^◌, ◌%◌, List, ◌++◌, length, replicate, Bool, ◌&&◌, nat_lt, IsSome}
-use Rattle.std.specs.List.{list_all}
+use Rattle.std.specs.Prelude.{ℕ, ◌<◌, ◌^◌, ◌%◌, List, ◌++◌, replicate, Bool, ◌&&◌, IsSome}
 use Rattle.std.specs.Int.{w32}
 use Rattle.krb_wire.specs.declared.format.KtFormat.{KtFormat}
 use Rattle.krb_wire.specs.declared.format.KtFormat.TheVariants.{V1, V2}
-use Rattle.krb_wire.specs.Spelling.{Parts, digits, order_of, count_field}
+use Rattle.krb_wire.specs.Spelling.{digits, order_of, is_short, name_fits}
 use Rattle.krb_keytab.specs.Entry.{EntryParts, Front, front, entry_at}
 
--- the length of the bytes fits sixteen bits
-abbrev pub is_short : List ℕ → Bool
-is_short bytes = nat_lt (length bytes) (2 ^ 16)
-
--- so does each length and count of a name
-abbrev pub name_fits : KtFormat → Parts → Bool
-name_fits f p = nat_lt (count_field f (length p.components)) (2 ^ 16) && (is_short p.realm && list_all is_short p.components)
-
--- so does each length and count of an entry
+-- each length and count of an entry fits its field of sixteen bits
 abbrev pub fits : KtFormat → EntryParts → Bool
 fits f e = name_fits f e.principal && is_short e.key
 
@@ -32,7 +23,7 @@ pub record FormParts : Type 0 where
   pub format : KtFormat
   pub bytes : List ℕ
 
--- the bytes begin with an entry, whatever zeros stand behind them
+-- the bytes begin with an entry, whatever zeros stand after them
 abbrev pub IsRecord : KtFormat → List ℕ → Type 0
 IsRecord f bytes = (n : ℕ) → IsSome (entry_at f (bytes ++ replicate n 0))
 

@@ -9,66 +9,57 @@ ghost use Rattle.krb_keytab.specs.Store.{image_of, entries};
 ghost use Rattle.krb_keytab.specs.Known.{IsKnownEnd};
 ghost use Rattle.krb_keytab.specs.declared.step.Ending.TheVariants.{Bare};
 ghost use Rattle.krb_keytab.specs.Written.{fits, written};
-ghost use Rattle.krb_keytab.specs.Rewritten.{anew, rewritten};
+ghost use Rattle.krb_keytab.specs.Rewrite.{new_record, rewrite_of};
 
-use crate::cells::bytes_fit;
+use crate::cells::{bytes_fit, put_record};
 use crate::entry::{EntryView, read_entry};
+use crate::form::Form;
 use crate::keytab::Keytab;
 use krb_walk::Stop;
-use krb_wire::{
-    KtFormat, NoMemory, Order, kt_principal_len, put_data16, put_kt_principal, put_u8, put_u16,
-    put_u32,
-};
+use krb_wire::{KtFormat, NoMemory, PrincipalView};
 use std::alloc::Allocator;
 
-// How many bytes the written form of an entry has.
-fn form_len(entry: &EntryView<'_>) -> u64
+// The written form in version 2 of an entry that was read.
+fn form_anew<'a>(entry: &'a EntryView<'a>) -> Form<'a, PrincipalView<'a>>
     requires { IsTrue (fits V2 entry.now) }
-    ensures len { result ≡ length (written V2 entry.now) }
-    ensures small { result < 2 ^ 34 }
+    ensures { result ≡ record { format = V2; bytes = written V2 entry.now } }
 {
-    let key = entry.key().len();
-    let Some(principal) = kt_principal_len(KtFormat::V2, entry.principal()) else {
+    let Some(form) = Form::of(KtFormat::V2, entry.fields()) else {
         unreachable!()
     };
-    principal + 13 + key as u64
+    form
 }
 
-// Writes that form at a place; the answer is the place after it.
-fn put_form(entry: &EntryView<'_>, out: &mut [u8], at: usize) -> usize
-    requires fits { IsTrue (fits V2 entry.now) }
-    requires room { at + length (written V2 entry.now) ≤ length out.old }
-    ensures next { result ≡ at + length (written V2 entry.now) }
-    ensures written { out.new ≡ splice out.old at result (written V2 entry.now) }
+// How many bytes a record of that form takes, with its length.
+fn len_of_record(entry: &EntryView<'_>) -> usize
+    requires { IsTrue (fits V2 entry.now) }
+    ensures len { result ≡ length (cell Big (new_record entry.now)) }
+    ensures small { result < 2 ^ 35 }
 {
-    let order = Order::Big;
-    let timestamp = put_kt_principal(KtFormat::V2, entry.principal(), out, at);
-    let low = put_u32(order, entry.timestamp(), out, timestamp);
-    let enctype = put_u8((entry.kvno() % 256) as u8, out, low);
-    let key = put_u16(order, entry.enctype(), out, enctype);
-    let version = put_data16(order, entry.key(), out, key);
-    put_u32(order, entry.kvno(), out, version)
+    4 + form_anew(entry).len()
 }
 
 // Writes a record of that form at a place; the answer is the place after it.
 fn put_anew(entry: &EntryView<'_>, out: &mut [u8], at: usize) -> usize
     requires fits { IsTrue (fits V2 entry.now) }
-    requires room { at + length (cell Big (anew entry.now)) ≤ length out.old }
+    requires room { at + length (cell Big (new_record entry.now)) ≤ length out.old }
     requires small { length out.old ≤ 2 ^ 30 }
-    ensures next { result ≡ at + length (cell Big (anew entry.now)) }
-    ensures written { out.new ≡ splice out.old at result (cell Big (anew entry.now)) }
+    ensures next { result ≡ at + length (cell Big (new_record entry.now)) }
+    ensures written { out.new ≡ splice out.old at result (cell Big (new_record entry.now)) }
 {
-    let form = put_u32(Order::Big, form_len(entry) as u32, out, at);
-    put_form(entry, out, form)
+    let form = form_anew(entry);
+    let size = form.len();
+    put_record(out, at, size, &form);
+    at + 4 + size
 }
 
 /// How long the image is that has each record anew, unless it is longer than a limit.
 pub fn len_anew<A: Allocator>(keytab: &Keytab<A>, limit: usize) -> Option<usize>
     requires some { 2 ≤ limit }
     requires small { limit ≤ 2 ^ 30 }
-    ensures len { IfSome result (λ n. n ≡ length (image_of (rewritten keytab.now))) }
+    ensures len { IfSome result (λ n. n ≡ length (image_of (rewrite_of keytab.now))) }
     ensures within { IfSome result (λ n. n ≤ limit) }
-    ensures long { IfNone result (limit < length (image_of (rewritten keytab.now))) }
+    ensures long { IfNone result (limit < length (image_of (rewrite_of keytab.now))) }
 {
     let mut len: usize = 2;
     let mut place = keytab.first();
@@ -76,7 +67,7 @@ pub fn len_anew<A: Allocator>(keytab: &Keytab<A>, limit: usize) -> Option<usize>
         let Some(entry) = read_entry(keytab.format(), keytab.bytes_at(at)) else {
             unreachable!()
         };
-        len = len + 4 + form_len(&entry) as usize;
+        len = len + len_of_record(&entry);
         if len > limit {
             return None;
         }
@@ -87,9 +78,9 @@ pub fn len_anew<A: Allocator>(keytab: &Keytab<A>, limit: usize) -> Option<usize>
 
 // Writes that image.
 fn spell_anew<A: Allocator>(keytab: &Keytab<A>, out: &mut [u8])
-    requires len { length out.old ≡ length (image_of (rewritten keytab.now)) }
+    requires len { length out.old ≡ length (image_of (rewrite_of keytab.now)) }
     requires small { length out.old ≤ 2 ^ 30 }
-    ensures { out.new ≡ image_of (rewritten keytab.now) }
+    ensures { out.new ≡ image_of (rewrite_of keytab.now) }
 {
     out[0] = 5;
     out[1] = 2;
@@ -106,19 +97,19 @@ fn spell_anew<A: Allocator>(keytab: &Keytab<A>, out: &mut [u8])
 
 // The same in a vector.
 fn spell_into<A: Allocator, B: Allocator>(keytab: &Keytab<A>, image: &mut Vec<u8, B>)
-    requires len { vec_len image.old ≡ length (image_of (rewritten keytab.now)) }
+    requires len { vec_len image.old ≡ length (image_of (rewrite_of keytab.now)) }
     requires small { vec_len image.old ≤ 2 ^ 30 }
-    ensures { image.new.items ≡ image_of (rewritten keytab.now) }
+    ensures { image.new.items ≡ image_of (rewrite_of keytab.now) }
 {
     spell_anew(keytab, image);
 }
 
 /// What is written anew is sound, and holds the same entries.
 pub fn anew_is_sound<A: Allocator>(keytab: &Keytab<A>)
-    requires { length (image_of (rewritten keytab.now)) ≤ 2 ^ 30 }
+    requires { length (image_of (rewrite_of keytab.now)) ≤ 2 ^ 30 }
     ensures was { IsSound keytab.now.format keytab.now.contents }
-    ensures sound { IsSound V2 (rewritten keytab.now).contents }
-    ensures entries { entries (rewritten keytab.now) ≡ entries keytab.now }
+    ensures sound { IsSound V2 (rewrite_of keytab.now).contents }
+    ensures entries { entries (rewrite_of keytab.now) ≡ entries keytab.now }
 {
     bytes_fit(keytab.image());
 }
@@ -129,10 +120,10 @@ pub fn image_anew<A: Allocator, B: Allocator>(
     alloc: B,
     len: usize,
 ) -> Result<Vec<u8, B>, NoMemory>
-    requires len { len ≡ length (image_of (rewritten keytab.now)) }
+    requires len { len ≡ length (image_of (rewrite_of keytab.now)) }
     requires small { len ≤ 2 ^ 30 }
-    ensures spelled { IfOk result (λ v. v.items ≡ image_of (rewritten keytab.now)) }
-    ensures contents { IfOk result (λ v. contents V2 (drop 2 v.items) ≡ (rewritten keytab.now).contents) }
+    ensures spelled { IfOk result (λ v. v.items ≡ image_of (rewrite_of keytab.now)) }
+    ensures contents { IfOk result (λ v. contents V2 (drop 2 v.items) ≡ (rewrite_of keytab.now).contents) }
     ensures known { IfOk result (λ v. IsKnownEnd V2 v.items (record { place = len; ending = Bare })) }
 {
     anew_is_sound(keytab);

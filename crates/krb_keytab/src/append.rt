@@ -1,6 +1,6 @@
-//! Records put behind the cells of an image.
+//! Records put after the cells of an image.
 
-ghost use Rattle.std.specs.Prelude.{◌≡◌, ◌≤◌, ◌<◌, ◌^◌, ◌+◌, ◌-◌, ◌++◌, ◌∷◌, [], None, length, drop, take, replicate, IfOk, OnOk, OnErr, vec_len};
+ghost use Rattle.std.specs.Prelude.{◌≡◌, ◌≤◌, ◌<◌, ◌^◌, ◌+◌, ◌-◌, ◌++◌, ◌∷◌, [], None, length, drop, take, replicate, IfOk, OnOk, OnErr, vec_len, vec_capacity};
 ghost use Rattle.std.specs.List.{splice};
 ghost use Rattle.krb_wire.specs.Spelling.{order_of};
 ghost use Rattle.krb_keytab.specs.Cells.{cell, contents, Live};
@@ -12,9 +12,10 @@ use crate::cells::{bytes_fit, put_record, put_zeros};
 use crate::form::Form;
 use crate::image::CellsEnd;
 use crate::step::Ending;
+use krb_wire::Name;
 use std::alloc::{AllocError, Allocator};
 
-// An end mark is kept behind an appended record.
+// An end mark is kept after an appended record.
 fn mark_len(ending: Ending) -> usize
     ensures { result ≡ mark_len ending }
 {
@@ -24,7 +25,7 @@ fn mark_len(ending: Ending) -> usize
     }
 }
 
-/// How long an image is with a record of so many bytes behind its cells.
+/// How long an image is with a record of so many bytes after its cells.
 pub fn len_with(end: CellsEnd, need: usize) -> usize
     requires place { end.place ≤ 2 ^ 30 }
     requires need { need < 2 ^ 34 }
@@ -41,6 +42,7 @@ fn set_len<A: Allocator>(image: &mut Vec<u8, A>, at: usize, len: usize) -> Resul
     ensures len { OnOk result (vec_len image.new ≡ len) }
     ensures err { OnErr result (image.new.items ≡ image.old.items) }
     ensures full { OnErr result (vec_len image.old < len) }
+    ensures room { len ≤ vec_len image.old → vec_capacity image.new ≡ vec_capacity image.old }
 {
     if len <= image.len() {
         image.truncate(len);
@@ -49,8 +51,8 @@ fn set_len<A: Allocator>(image: &mut Vec<u8, A>, at: usize, len: usize) -> Resul
     image.resize(len, 0)
 }
 
-// Makes all bytes from a place on a record, and zeros behind it.
-fn put_last<A: Allocator>(image: &mut [u8], at: usize, form: &Form<'_, A>)
+// Makes all bytes from a place on a record, and zeros after it.
+fn put_last<N: Name>(image: &mut [u8], at: usize, form: &Form<'_, N>)
     requires room { at + 4 + length form.now.bytes ≤ length image.old }
     requires small { length form.now.bytes < 2 ^ 31 }
     ensures { image.new ≡ splice image.old at (length image.old)
@@ -64,10 +66,11 @@ fn put_last<A: Allocator>(image: &mut [u8], at: usize, form: &Form<'_, A>)
 }
 
 // The same in a vector, whose length stays.
-fn put_behind<A: Allocator, B: Allocator>(image: &mut Vec<u8, A>, at: usize, form: &Form<'_, B>)
+fn put_after<A: Allocator, N: Name>(image: &mut Vec<u8, A>, at: usize, form: &Form<'_, N>)
     requires room { at + 4 + length form.now.bytes ≤ vec_len image.old }
     requires small { length form.now.bytes < 2 ^ 31 }
     ensures len { vec_len image.new ≡ vec_len image.old }
+    ensures room { vec_capacity image.new ≡ vec_capacity image.old }
     ensures written { image.new.items ≡ splice image.old.items at (length image.old.items)
         (cell (order_of form.now.format) (Live form.now.bytes)
         ++ replicate (length image.old.items - (at + 4 + length form.now.bytes)) 0) }
@@ -75,12 +78,12 @@ fn put_behind<A: Allocator, B: Allocator>(image: &mut Vec<u8, A>, at: usize, for
     put_last(image, at, form);
 }
 
-/// Puts a record behind the cells, and an end mark behind it where one stood. The answer is where the
+/// Puts a record after the cells, and an end mark after it where one stood. The answer is where the
 /// cells end then.
-pub fn append_record<A: Allocator, B: Allocator>(
+pub fn append_record<A: Allocator, N: Name>(
     image: &mut Vec<u8, A>,
     end: CellsEnd,
-    form: &Form<'_, B>,
+    form: &Form<'_, N>,
 ) -> Result<CellsEnd, AllocError>
     requires long { 2 ≤ vec_len image.old }
     requires small { vec_len image.old ≤ 2 ^ 30 }
@@ -96,6 +99,9 @@ pub fn append_record<A: Allocator, B: Allocator>(
     ensures len { OnOk result (vec_len image.new ≡ len_with end (length form.now.bytes)) }
     ensures err { OnErr result (image.new.items ≡ image.old.items) }
     ensures full { OnErr result (vec_len image.old < len_with end (length form.now.bytes)) }
+    // No memory is taken where the image becomes no longer.
+    ensures room { len_with end (length form.now.bytes) ≤ vec_len image.old
+        → vec_capacity image.new ≡ vec_capacity image.old }
 {
     bytes_fit(image);
     let need = form.len();
@@ -104,6 +110,6 @@ pub fn append_record<A: Allocator, B: Allocator>(
         place: end.place + 4 + need,
         ending: end.ending,
     };
-    put_behind(image, end.place, form);
+    put_after(image, end.place, form);
     Ok(after)
 }

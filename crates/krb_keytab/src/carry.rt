@@ -10,7 +10,7 @@ ghost use Rattle.krb_wire.specs.declared.format.KtFormat.TheVariants.{V2};
 ghost use Rattle.krb_keytab.specs.Cells.{contents, Live};
 ghost use Rattle.krb_keytab.specs.Questions.{is_place};
 ghost use Rattle.krb_keytab.specs.Known.{IsKnownEnd, EndsKnown};
-ghost use Rattle.krb_keytab.specs.Rewritten.{carried, place_after, cells_after, AreGiven, HasGiven, GoesBy};
+ghost use Rattle.krb_keytab.specs.Carry.{new_place, place_after, cells_after, AreGiven, HasGiven, GoesBy};
 
 use crate::image::{CellsEnd, known_step};
 use crate::step::Step;
@@ -49,7 +49,7 @@ fn give_places(
     requires new_known { IsKnownEnd V2 new.now new_end }
     ensures len { length image.new ≡ length image.old }
     ensures given { AreGiven image.new end.place (contents format (drop 2 image.old)).cells (contents V2 (drop 2 new.now)).cells }
-    ensures end { result ≡ carried 2 (contents format (drop 2 image.old)).cells 2 (contents V2 (drop 2 new.now)).cells end.place }
+    ensures end { result ≡ new_place 2 (contents format (drop 2 image.old)).cells 2 (contents V2 (drop 2 new.now)).cells end.place }
     ensures small { result ≤ 2 ^ 30 }
 {
     let mut at: usize = 2;
@@ -110,7 +110,7 @@ pub fn carry_cursors(
     requires new_small { length new.now ≤ 2 ^ 30 }
     requires new_known { IsKnownEnd V2 new.now new_end }
     requires places { AllByRecursion (λ p. is_place 2 (contents format (drop 2 image.old)).cells p ≡ true) cursors.old }
-    ensures { cursors.new ≡ map (carried 2 (contents format (drop 2 image.old)).cells 2 (contents V2 (drop 2 new.now)).cells) cursors.old }
+    ensures { cursors.new ≡ map (new_place 2 (contents format (drop 2 image.old)).cells 2 (contents V2 (drop 2 new.now)).cells) cursors.old }
 {
     let last = give_places(format, image, end, new, new_end);
     carry_all(image, end.place, last as u32, cursors);

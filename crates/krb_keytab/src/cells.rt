@@ -8,8 +8,7 @@ ghost use Rattle.krb_keytab.specs.Changes.{padded};
 ghost use Rattle.krb_keytab.specs.Laws.{AreBytes};
 
 use crate::form::Form;
-use krb_wire::{KtFormat, put_u32};
-use std::alloc::Allocator;
+use krb_wire::{KtFormat, Name, put_u32};
 
 /// What a slice of bytes holds is below 256.
 pub fn bytes_fit(bytes: &[u8])
@@ -37,8 +36,8 @@ pub fn put_hole(format: KtFormat, image: &mut [u8], at: usize, size: usize)
     put_zeros(image, from, from + size);
 }
 
-/// Makes the bytes at a place a record of so many bytes: a written form, and zeros behind it.
-pub fn put_record<A: Allocator>(image: &mut [u8], at: usize, size: usize, form: &Form<'_, A>)
+/// Makes the bytes at a place a record of so many bytes: a written form, and zeros after it.
+pub fn put_record<N: Name>(image: &mut [u8], at: usize, size: usize, form: &Form<'_, N>)
     requires room { at + 4 + size ≤ length image.old }
     requires fits { length form.now.bytes ≤ size }
     requires small { size < 2 ^ 31 }
@@ -46,6 +45,6 @@ pub fn put_record<A: Allocator>(image: &mut [u8], at: usize, size: usize, form: 
         (cell (order_of form.now.format) (Live (padded form.now.bytes size))) }
 {
     let from = put_u32(form.format().order(), size as u32, image, at);
-    let behind = form.put(image, from);
-    put_zeros(image, behind, from + size);
+    let after = form.put(image, from);
+    put_zeros(image, after, from + size);
 }

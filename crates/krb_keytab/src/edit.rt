@@ -16,7 +16,7 @@ use std::alloc::Allocator;
 pub enum EditRefused<A: Allocator> {
     /// It is no keytab.
     NotAKeytab(KtOpenRefused<A>),
-    /// Memory was wanting; the image is the one after the events that have a reply.
+    /// Out of memory; the image is the one after the events that have a reply.
     NoMemory(Vec<u8, A>),
 }
 

@@ -5,6 +5,7 @@ ghost use Rattle.std.specs.Int.{w32};
 ghost use Rattle.krb_wire.specs.Reading.{Gives, number_at};
 ghost use Rattle.krb_keytab.specs.Entry.{EntryParts, entry_at, Spells, version_by};
 
+use crate::fields::Fields;
 use krb_wire::{
     KtFormat, Order, PrincipalView, split_data16, split_kt_principal, split_u8, split_u16,
     split_u32,
@@ -67,6 +68,19 @@ impl<'a> EntryView<'a> {
         ensures { result.now ≡ self.now.key }
     {
         self.key
+    }
+
+    // Its fields.
+    pub(crate) fn fields(&self) -> Fields<'_, PrincipalView<'a>>
+        ensures { result ≡ self.now }
+    {
+        Fields {
+            principal: &self.principal,
+            timestamp: self.timestamp,
+            kvno: self.version,
+            enctype: self.enctype,
+            key: self.key,
+        }
     }
 }
 

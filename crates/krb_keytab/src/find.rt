@@ -1,10 +1,8 @@
 //! Looking up an entry.
 
-ghost use Rattle.std.specs.Prelude.{◌≡◌, ◌==◌, ◌||◌, false, ℕ, None, Some, Ok, IfOk, IfErr, Err, option_map, IsSome, IfSome};
-ghost use Rattle.krb_walk.specs.Store.{live_bytes};
-ghost use Rattle.krb_keytab.specs.Entry.{entry_at};
-ghost use Rattle.krb_keytab.specs.Store.{store_of};
-ghost use Rattle.krb_keytab.specs.LookUp.{is_asked, is_better, with_entry, with_entries, placed_entries, SoFar, missing, look_up, finding};
+ghost use Rattle.std.specs.Prelude.{◌≡◌, ◌==◌, ◌||◌, ◌∷◌, ◌++◌, [], true, ℕ, Bool, List, None, Ok, Err, if◌then◌else◌};
+ghost use Rattle.krb_keytab.specs.LookUp.{Placed, is_asked, placed_entries, look_up_in, look_up, finding};
+ghost use Rattle.krb_keytab.specs.Looked.{answer, IsFoundAmong};
 
 use crate::entry::{EntryView, read_entry};
 use crate::keytab::Keytab;
@@ -27,7 +25,9 @@ fn is_asked<N: Name>(name: &N, enctype: u16, entry: &EntryView<'_>) -> bool
 
 // Whether an entry of that version is looked for more than the one found so far.
 fn is_better(kvno: u32, best: &Option<(u32, EntryView<'_>)>, version: u32) -> bool
-    ensures { result ≡ is_better kvno best.now version }
+    ensures { (named : Bool) (xs : List Placed) (x : Placed) → x.1.version ≡ version
+        → answer named best.now ≡ look_up_in kvno xs
+        → look_up_in kvno (xs ++ x ∷ []) ≡ (if result then Ok x else answer true best.now) }
 {
     match best {
         None => kvno == 0 || version == kvno,
@@ -45,8 +45,10 @@ struct Looked<'a> {
 impl<'a> Looked<'a> {
     // Looks at the next entry.
     fn look<N: Name>(&mut self, name: &N, kvno: u32, enctype: u16, place: u32, entry: EntryView<'a>)
-        ensures { record { named = self.new.named; best = self.new.best } ≡ with_entry (N.parts name.now)
-            kvno enctype (record { named = self.old.named; best = self.old.best }) (place, entry.entry) }
+        ensures { (xs : List Placed)
+            → IsFoundAmong (N.parts name.now) kvno enctype xs self.old.named self.old.best
+            → IsFoundAmong (N.parts name.now) kvno enctype (xs ++ (place, entry.entry) ∷ [])
+            self.new.named self.new.best }
     {
         if !is_asked(name, enctype, &entry) {
             return;
@@ -65,8 +67,8 @@ fn look_at_all<'a, N: Name, A: Allocator>(
     kvno: u32,
     enctype: u16,
 ) -> Looked<'a>
-    ensures { record { named = result.named; best = result.best } ≡ with_entries (N.parts name.now)
-        kvno enctype (record { named = false; best = None }) (placed_entries keytab.entry.now) }
+    ensures { IsFoundAmong (N.parts name.now) kvno enctype (placed_entries keytab.entry.now)
+        result.named result.best }
 {
     let mut looked = Looked {
         named: false,
@@ -85,7 +87,7 @@ fn look_at_all<'a, N: Name, A: Allocator>(
 
 // Why nothing was found.
 fn missing(named: bool) -> Code
-    ensures { result ≡ missing named }
+    ensures { Err result ≡ answer named None }
 {
     if named {
         Code::KvnoNotFound

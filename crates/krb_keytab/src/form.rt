@@ -1,44 +1,43 @@
 //! The written form of an entry.
 
-ghost use Rattle.std.specs.Prelude.{◌≡◌, ◌≤◌, ◌<◌, ◌^◌, ◌+◌, ℕ, length, is_some, IsTrue, IfSome};
+ghost use Rattle.std.specs.Prelude.{◌≡◌, ◌≤◌, ◌<◌, ◌^◌, ◌+◌, length, is_some, IsTrue, IfSome};
 ghost use Rattle.std.specs.List.{splice};
-ghost use Rattle.krb_keytab.specs.Written.{fits, written, FormParts, IsEntry, IsRecord};
+ghost use Rattle.krb_keytab.specs.Written.{fits, written, FormParts, IsRecord};
 
-use crate::new_entry::NewEntry;
+use crate::fields::Fields;
 use krb_wire::{
-    KtFormat, kt_principal_len, put_data16, put_kt_principal, put_u8, put_u16, put_u32,
+    KtFormat, Name, kt_principal_len, put_data16, put_kt_principal, put_u8, put_u16, put_u32,
 };
-use std::alloc::Allocator;
 use std::marker::Model;
 
 /// The written form of an entry, with its length. Contracts see its bytes, and the format that they
 /// are in.
 #[derive(Drop)]
-pub struct Form<'a, A: Allocator> {
+pub struct Form<'a, N: Name> {
     format: KtFormat,
-    entry: &'a NewEntry<A>,
+    entry: Fields<'a, N>,
     len: usize,
 }
 
-impl<'a, A: Allocator> Model for Form<'a, A> {
+impl<'a, N: Name> Model for Form<'a, N> {
     ghost use Rattle.std.specs.Prelude.{◌≡◌, ◌<◌, ◌^◌, length, IsTrue};
     ghost use Rattle.krb_keytab.specs.Written.{fits, written, FormParts, IsEntry};
 
     ghost Value = { FormParts };
 
-    ghost view = { λ w. record { format = w.format; bytes = written w.format w.entry.now } };
+    ghost view = { λ w. record { format = w.format; bytes = written w.format w.entry } };
 
-    ghost invariant = { λ w. IsTrue (fits w.format w.entry.now) × IsEntry w.entry.now
-        × (w.len ≡ length (written w.format w.entry.now)) × (w.len < 2 ^ 34) };
+    ghost invariant = { λ w. IsTrue (fits w.format w.entry) × IsEntry w.entry
+        × (w.len ≡ length (written w.format w.entry)) × (w.len < 2 ^ 34) };
 }
 
 // How many bytes are written for an entry: none where a length or a count does not fit its field.
-fn entry_len<A: Allocator>(format: KtFormat, entry: &NewEntry<A>) -> Option<u64>
+fn entry_len<N: Name>(format: KtFormat, entry: &Fields<'_, N>) -> Option<u64>
     ensures fits { is_some result ≡ fits format entry.now }
     ensures len { IfSome result (λ n. n ≡ length (written format entry.now)) }
     ensures small { IfSome result (λ n. n < 2 ^ 34) }
 {
-    let principal = kt_principal_len(format, &entry.principal)?;
+    let principal = kt_principal_len(format, entry.principal)?;
     let key = entry.key.len();
     if key > 65_535 {
         return None;
@@ -47,57 +46,32 @@ fn entry_len<A: Allocator>(format: KtFormat, entry: &NewEntry<A>) -> Option<u64>
 }
 
 // Writes an entry at a place; the answer is the place after it.
-fn put_entry<A: Allocator>(
-    format: KtFormat,
-    entry: &NewEntry<A>,
-    out: &mut [u8],
-    at: usize,
-) -> usize
+fn put_entry<N: Name>(format: KtFormat, entry: &Fields<'_, N>, out: &mut [u8], at: usize) -> usize
     requires fits { IsTrue (fits format entry.now) }
     requires room { at + length (written format entry.now) ≤ length out.old }
     ensures next { result ≡ at + length (written format entry.now) }
     ensures written { out.new ≡ splice out.old at result (written format entry.now) }
 {
     let order = format.order();
-    let timestamp = put_kt_principal(format, &entry.principal, out, at);
+    let timestamp = put_kt_principal(format, entry.principal, out, at);
     let low = put_u32(order, entry.timestamp, out, timestamp);
     let enctype = put_u8((entry.kvno % 256) as u8, out, low);
     let key = put_u16(order, entry.enctype, out, enctype);
-    let version = put_data16(order, &entry.key, out, key);
+    let version = put_data16(order, entry.key, out, key);
     put_u32(order, entry.kvno, out, version)
 }
 
-// Numbers of these types are below their types' ends.
-fn in_range(name_type: u32, timestamp: u32, kvno: u32, enctype: u16)
-    ensures name_type { name_type < 2 ^ 32 }
-    ensures timestamp { timestamp < 2 ^ 32 }
-    ensures kvno { kvno < 2 ^ 32 }
-    ensures enctype { enctype < 2 ^ 16 }
-{}
-
-// So are those of an entry.
-fn numbers_fit<A: Allocator>(entry: &NewEntry<A>)
-    ensures { IsEntry entry.now }
-{
-    in_range(
-        entry.principal.name_type,
-        entry.timestamp,
-        entry.kvno,
-        entry.enctype,
-    );
-}
-
-impl<'a, A: Allocator> Form<'a, A> {
+impl<'a, N: Name> Form<'a, N> {
     /// The written form of an entry, where each length and count fits its field.
-    pub fn of(format: KtFormat, entry: &'a NewEntry<A>) -> Option<Form<'a, A>>
-        ensures fits { is_some result ≡ fits format entry.now }
+    pub fn of(format: KtFormat, entry: Fields<'a, N>) -> Option<Form<'a, N>>
+        ensures fits { is_some result ≡ fits format entry.entry }
         ensures bytes { IfSome result (λ w. w ≡ record {
           format = format;
-          bytes = written format entry.now;
+          bytes = written format entry.entry;
         }) }
     {
-        let len = entry_len(format, entry)? as usize;
-        numbers_fit(entry);
+        let len = entry_len(format, &entry)? as usize;
+        entry.numbers_fit();
         Some(Form { format, entry, len })
     }
 
@@ -108,7 +82,7 @@ impl<'a, A: Allocator> Form<'a, A> {
         self.format
     }
 
-    /// How many bytes it has. They begin with an entry, whatever zeros stand behind them.
+    /// How many bytes it has. They begin with an entry, whatever zeros stand after them.
     pub fn len(&self) -> usize
         ensures len { result ≡ length self.now.bytes }
         ensures some { 0 < result }
@@ -124,6 +98,6 @@ impl<'a, A: Allocator> Form<'a, A> {
         ensures next { result ≡ at + length self.now.bytes }
         ensures written { out.new ≡ splice out.old at result self.now.bytes }
     {
-        put_entry(self.format, self.entry, out, at)
+        put_entry(self.format, &self.entry, out, at)
     }
 }

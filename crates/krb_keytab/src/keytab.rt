@@ -9,13 +9,15 @@ ghost use Rattle.krb_walk.specs.Store.{end_of, fault_of, is_place, stop_at, live
 ghost use Rattle.krb_keytab.specs.Entry.{entry_at, Spells};
 ghost use Rattle.krb_keytab.specs.Cells.{contents, IsSound};
 ghost use Rattle.krb_keytab.specs.Known.{IsKnownEnd};
+ghost use Rattle.krb_keytab.specs.Laws.{AreBytes};
 ghost use Rattle.krb_keytab.specs.Store.{State, opening, image_of, store_of, entry_at_place, IsImage, Reopens, empty};
 
+use crate::cells::bytes_fit;
 use crate::entry::{EntryView, read_entry};
 use crate::image::{
     CellsEnd, end_of_cells, is_place_of, live_bytes_of, live_of, spelled_of, stop_of,
 };
-use crate::open::{KtOpenFault, KtOpenRefused, format_in, version_of};
+use crate::open::{Head, KtOpenRefused, read_head, version_of};
 use krb_walk::{Fault, Stop};
 use krb_wire::{KtFormat, Limits, NoMemory, Order};
 use std::alloc::Allocator;
@@ -70,33 +72,15 @@ impl<A: Allocator> Keytab<A> {
         ensures err { IfErr result (λ e. (opening v1_order limits image.items ≡ Err e.why)
             × (e.image ≡ image)) }
     {
-        if image.len() < 2 {
-            return Err(KtOpenRefused {
-                why: KtOpenFault::TooShort,
+        match read_head(v1_order, limits.image(), &image) {
+            Ok(Head { format, limit, end }) => Ok(Keytab {
                 image,
-            });
+                format,
+                limit,
+                end,
+            }),
+            Err(why) => Err(KtOpenRefused { why, image }),
         }
-        let Some(format) = format_in(v1_order, &image) else {
-            return Err(KtOpenRefused {
-                why: KtOpenFault::BadVersion,
-                image,
-            });
-        };
-        let limit = limits.image();
-        if image.len() > limit as usize {
-            return Err(KtOpenRefused {
-                why: KtOpenFault::TooLarge,
-                image,
-            });
-        }
-        let _ = spelled_of(format, &image);
-        let end = end_of_cells(format, &image);
-        Ok(Keytab {
-            image,
-            format,
-            limit,
-            end,
-        })
     }
 
     /// Its version, and of version 1 the order.
@@ -109,10 +93,12 @@ impl<A: Allocator> Keytab<A> {
     /// The bytes that spell it.
     pub fn image(&self) -> &[u8]
         ensures spelled { result.now ≡ image_of self.now }
+        ensures bytes { AreBytes result.now }
         ensures sound { IsSound self.now.format self.now.contents }
         // It is opened as this keytab again.
         ensures reopens { Reopens self.now result.now }
     {
+        bytes_fit(&self.image);
         spelled_of(self.format, &self.image)
     }
 
@@ -131,7 +117,7 @@ impl<A: Allocator> Keytab<A> {
         image
     }
 
-    /// The place of the first cell: 2, behind the version bytes.
+    /// The place of the first cell: 2, after the version bytes.
     pub fn first(&self) -> u32
         ensures first { result ≡ (store_of self.now).first }
         ensures sound { IsSoundStore (store_of self.now) }
@@ -169,7 +155,7 @@ impl<A: Allocator> Keytab<A> {
         stop_of(self.format, &self.image, self.end, place as usize)
     }
 
-    /// The bytes of the record at a place, after its length: an entry, and what is behind it.
+    /// The bytes of the record at a place, after its length: an entry, and what is after it.
     pub fn bytes_at(&self, place: u32) -> &[u8]
         requires { IsSome (live_bytes (store_of self.now) place) }
         ensures bytes { live_bytes (store_of self.now) place ≡ Some result.now }

@@ -7,6 +7,7 @@ mod carry;
 mod cells;
 mod edit;
 mod entry;
+mod fields;
 mod find;
 mod form;
 mod hole;

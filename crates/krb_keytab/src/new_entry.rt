@@ -3,6 +3,7 @@
 ghost use Rattle.std.specs.Prelude.{◌≡◌, IfOk};
 
 use crate::entry::EntryView;
+use crate::fields::Fields;
 use krb_wire::{NoMemory, Principal, copy_name};
 use std::alloc::Allocator;
 use std::marker::Model;
@@ -33,6 +34,21 @@ impl<A: Allocator> Model for NewEntry<A> {
       enctype = e.enctype;
       key = e.key.items;
     } };
+}
+
+impl<A: Allocator> NewEntry<A> {
+    // Its fields.
+    pub(crate) fn fields(&self) -> Fields<'_, Principal<A>>
+        ensures { result ≡ self.now }
+    {
+        Fields {
+            principal: &self.principal,
+            timestamp: self.timestamp,
+            kvno: self.kvno,
+            enctype: self.enctype,
+            key: &self.key,
+        }
+    }
 }
 
 impl<'a> EntryView<'a> {

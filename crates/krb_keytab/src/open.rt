@@ -1,9 +1,12 @@
 //! Which images are keytabs.
 
-ghost use Rattle.std.specs.Prelude.{◌≡◌, ◌≤◌, length};
-ghost use Rattle.krb_keytab.specs.Cells.{version_byte};
-ghost use Rattle.krb_keytab.specs.Store.{format_of};
+ghost use Rattle.std.specs.Prelude.{◌≡◌, ◌≤◌, length, drop, IfOk, IfErr, Ok, Err};
+ghost use Rattle.krb_keytab.specs.Cells.{contents, image as image_of, version_byte};
+ghost use Rattle.krb_keytab.specs.Known.{IsKnownEnd};
+ghost use Rattle.krb_keytab.specs.Store.{format_of, opening, IsImage};
+ghost use Rattle.krb_keytab.specs.Opening.{fault_number};
 
+use crate::image::{CellsEnd, end_of_cells, spelled_of};
 use krb_wire::{KtFormat, Order};
 use std::alloc::Allocator;
 
@@ -11,11 +14,24 @@ use std::alloc::Allocator;
 #[derive(Clone, Copy, Debug, PartialEq, Eq)]
 pub enum KtOpenFault {
     /// It has fewer than two bytes.
-    TooShort = 1,
+    TooShort,
     /// Its first byte is not 5, or its second neither 1 nor 2.
-    BadVersion = 2,
+    BadVersion,
     /// It is longer than the limit.
-    TooLarge = 3,
+    TooLarge,
+}
+
+impl KtOpenFault {
+    /// Its number, as messages have it.
+    pub fn number(self) -> u8
+        ensures { result ≡ fault_number self }
+    {
+        match self {
+            KtOpenFault::TooShort => 1,
+            KtOpenFault::BadVersion => 2,
+            KtOpenFault::TooLarge => 3,
+        }
+    }
 }
 
 /// An image that is no keytab, handed back as it was.
@@ -23,6 +39,42 @@ pub enum KtOpenFault {
 pub struct KtOpenRefused<A: Allocator> {
     pub why: KtOpenFault,
     pub image: Vec<u8, A>,
+}
+
+/// What is known of an image that is a keytab.
+#[derive(Clone, Copy, Debug, PartialEq, Eq)]
+pub struct Head {
+    pub format: KtFormat,
+    pub limit: u32,
+    pub end: CellsEnd,
+}
+
+/// Reads an image. Each entry is read once; there are only bytes here, and nothing to take memory from.
+pub fn read_head(v1_order: Order, limit: u32, image: &[u8]) -> Result<Head, KtOpenFault>
+    requires { limit ≤ 1073741824 }
+    ensures ok { IfOk result (λ h. opening v1_order limit image.now ≡ Ok (record {
+      format = h.format;
+      limit = h.limit;
+      contents = contents h.format (drop 2 image.now);
+    })) }
+    ensures kept { IfOk result (λ h. IsImage h.format h.limit image.now) }
+    ensures known { IfOk result (λ h. IsKnownEnd h.format image.now h.end) }
+    ensures spelled { IfOk result (λ h. image.now
+        ≡ image_of h.format (contents h.format (drop 2 image.now))) }
+    ensures err { IfErr result (λ why. opening v1_order limit image.now ≡ Err why) }
+{
+    if image.len() < 2 {
+        return Err(KtOpenFault::TooShort);
+    }
+    let Some(format) = format_in(v1_order, image) else {
+        return Err(KtOpenFault::BadVersion);
+    };
+    if image.len() > limit as usize {
+        return Err(KtOpenFault::TooLarge);
+    }
+    let _ = spelled_of(format, image);
+    let end = end_of_cells(format, image);
+    Ok(Head { format, limit, end })
 }
 
 /// The format that the two first bytes tell, where version 1 has that order.

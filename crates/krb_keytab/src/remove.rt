@@ -1,5 +1,8 @@
 //! Removing an entry by its name.
 
+ghost use Rattle.std.specs.Prelude.{◌≡◌, None, IfOk};
+ghost use Rattle.krb_walk.specs.Store.{live_bytes};
+ghost use Rattle.krb_keytab.specs.Store.{store_of};
 ghost use Rattle.krb_keytab.specs.Changes.{removing};
 ghost use Rattle.krb_keytab.specs.Answers.{AnswersRemove};
 
@@ -12,8 +15,10 @@ impl<A: Allocator> Keytab<A> {
     /// Removes the record that `find` gives for the same arguments, and answers its place. It refuses
     /// as `find` does.
     pub fn remove<N: Name>(&mut self, name: &N, kvno: u32, enctype: u16) -> Result<u32, Code>
-        ensures { AnswersRemove self.old (removing self.old (N.parts name.now) kvno enctype)
+        ensures gives { AnswersRemove self.old (removing self.old (N.parts name.now) kvno enctype)
             result self.new }
+        // No record stands there any more.
+        ensures gone { IfOk result (λ place. live_bytes (store_of self.new) place ≡ None) }
     {
         let (place, _) = self.find(name, kvno, enctype)?;
         self.remove_at(place)?;

@@ -1,4 +1,5 @@
 mod additions;
+mod claims;
 mod edits;
 mod growths;
 mod look_up;

@@ -11,8 +11,7 @@ use crate::cells::{bytes_fit, put_hole, put_record};
 use crate::form::Form;
 use crate::hole::Hole;
 use crate::image::{CellsEnd, live_bytes_of};
-use krb_wire::KtFormat;
-use std::alloc::Allocator;
+use krb_wire::{KtFormat, Name};
 
 /// Makes the live cell at a place a hole of zeros.
 pub fn free_cell(format: KtFormat, image: &mut [u8], end: CellsEnd, place: usize)
@@ -32,7 +31,7 @@ pub fn free_cell(format: KtFormat, image: &mut [u8], end: CellsEnd, place: usize
 }
 
 /// Makes the first hole that is large enough a record of its size.
-pub fn fill_hole<A: Allocator>(image: &mut [u8], end: CellsEnd, hole: Hole, form: &Form<'_, A>)
+pub fn fill_hole<N: Name>(image: &mut [u8], end: CellsEnd, hole: Hole, form: &Form<'_, N>)
     requires long { 2 ≤ length image.old }
     requires small { length image.old ≤ 2 ^ 30 }
     requires known { IsKnownEnd form.now.format image.old end }

@@ -1,11 +1,14 @@
 //! Changes of a keytab: each is one of its image, in place.
 
-ghost use Rattle.std.specs.Prelude.{◌≡◌, ◌<◌, ◌^◌, length, Some, None, IfSome};
-ghost use Rattle.krb_walk.specs.Store.{fault_of};
-ghost use Rattle.krb_keytab.specs.Store.{store_of};
-ghost use Rattle.krb_keytab.specs.Changes.{cutting, with_filled};
+ghost use Rattle.std.specs.Prelude.{◌≡◌, ◌<◌, ◌^◌, true, length, Some, None, IsSome, IfSome, IfOk, OnOk};
+ghost use Rattle.krb_walk.specs.Rules.{PutGives, CutGives};
+ghost use Rattle.krb_walk.specs.Memory.{HadMemory};
+ghost use Rattle.krb_walk.specs.Store.{fault_of, live_bytes};
+ghost use Rattle.krb_keytab.specs.Store.{store_of, entry_at_place};
+ghost use Rattle.krb_keytab.specs.Written.{read_back, IsEntry};
+ghost use Rattle.krb_keytab.specs.Changes.{cutting, putting, takes_none, with_filled, without};
 ghost use Rattle.krb_keytab.specs.Holes.{hole_from};
-ghost use Rattle.krb_keytab.specs.Answers.{AnswersCut, AnswersAppend, AnswersPut};
+ghost use Rattle.krb_keytab.specs.Appends.{AnswersAppend};
 
 use super::Keytab;
 use crate::append::{append_record, len_with};
@@ -15,13 +18,24 @@ use crate::image::spelled_of;
 use crate::new_entry::NewEntry;
 use crate::turn::{fill_hole, free_cell};
 use krb_walk::{Code, Refusal};
+use krb_wire::Name;
 use std::alloc::Allocator;
 
 impl<A: Allocator> Keytab<A> {
+    // Makes the record at a place a hole.
+    fn free(&mut self, place: u32)
+        requires { IsSome (live_bytes (store_of self.old) place) }
+        ensures { self.new ≡ without self.old place }
+    {
+        free_cell(self.format, &mut self.image, self.end, place as usize);
+    }
+
     /// Makes the record at a place a hole of its size, all zeros (MIT krb5, "Keytab file format"). A
     /// damaged keytab refuses.
     pub fn remove_at(&mut self, place: u32) -> Result<(), Code>
-        ensures { AnswersCut self.old (cutting self.old place) result self.new }
+        ensures gives { CutGives (cutting self.old place) self.old result self.new }
+        // No record stands there any more.
+        ensures gone { OnOk result (live_bytes (store_of self.new) place ≡ None) }
     {
         if self.fault().is_some() {
             return Err(Code::Damaged);
@@ -29,7 +43,7 @@ impl<A: Allocator> Keytab<A> {
         if self.record(place).is_none() {
             return Err(Code::NotLive);
         }
-        free_cell(self.format, &mut self.image, self.end, place as usize);
+        self.free(place);
         Ok(())
     }
 
@@ -42,7 +56,7 @@ impl<A: Allocator> Keytab<A> {
     }
 
     // Puts a record into that hole.
-    fn fill<B: Allocator>(&mut self, hole: Hole, form: &Form<'_, B>)
+    fn fill<N: Name>(&mut self, hole: Hole, form: &Form<'_, N>)
         requires hole { hole_from 2 (length form.now.bytes) self.old.contents.cells ≡ Some hole }
         requires format { form.now.format ≡ self.old.format }
         ensures { self.new ≡ with_filled self.old form.now.bytes hole.place }
@@ -50,8 +64,8 @@ impl<A: Allocator> Keytab<A> {
         fill_hole(&mut self.image, self.end, hole, form);
     }
 
-    // Puts a record behind the cells of a keytab that is whole.
-    fn append<B: Allocator>(&mut self, form: &Form<'_, B>) -> Result<u32, Refusal>
+    // Puts a record after the cells of a keytab that is whole.
+    fn append<N: Name>(&mut self, form: &Form<'_, N>) -> Result<u32, Refusal>
         requires whole { fault_of (store_of self.old) ≡ None }
         requires format { form.now.format ≡ self.old.format }
         ensures { AnswersAppend self.old form.now.bytes result self.new }
@@ -70,17 +84,24 @@ impl<A: Allocator> Keytab<A> {
         }
     }
 
-    /// Puts an entry into the first hole that is large enough, or else behind the cells, and answers
+    /// Puts an entry into the first hole that is large enough, or else after the cells, and answers
     /// its place. A damaged keytab refuses it, and then so does an entry with a part too long for its
     /// length, and then a limit that the image would pass. Memory is taken only where the image
     /// becomes longer than it was. What is our choice here and what is MIT's is in docs/FORMATS.md.
     pub fn add<B: Allocator>(&mut self, entry: &NewEntry<B>) -> Result<u32, Refusal>
-        ensures { AnswersPut self.old entry.now result self.new }
+        ensures gives { PutGives (putting self.old entry.now) self.old result self.new }
+        ensures memory { takes_none self.old entry.now ≡ true → HadMemory result }
+        // It is read at the place that is answered; in version 1 with name type 0.
+        ensures read { IfOk result (λ place. entry_at_place self.new place
+            ≡ Some (read_back self.old.format entry.now)) }
+        ensures numbers { IsEntry entry.now }
     {
+        let fields = entry.fields();
+        fields.numbers_fit();
         if self.fault().is_some() {
             return Err(Refusal::Code(Code::Damaged));
         }
-        let Some(form) = Form::of(self.format(), entry) else {
+        let Some(form) = Form::of(self.format(), fields) else {
             return Err(Refusal::Code(Code::TooLong));
         };
         let Some(hole) = self.hole(form.len()) else {

@@ -1,11 +1,12 @@
 //! Writing a keytab anew.
 
-ghost use Rattle.std.specs.Prelude.{◌≡◌, map, OnOk, OnErr};
+ghost use Rattle.std.specs.Prelude.{◌≡◌, map, Ok, OnOk, OnErr, IfErr};
 ghost use Rattle.std.specs.List.{AllByRecursion};
+ghost use Rattle.krb_walk.specs.Rules.{RewriteGives};
 ghost use Rattle.krb_walk.specs.Store.{IsPlace};
 ghost use Rattle.krb_walk.specs.Ranks.{carry, Rewrites};
 ghost use Rattle.krb_keytab.specs.Store.{store_of, entries};
-ghost use Rattle.krb_keytab.specs.Rewritten.{AnswersRewrite};
+ghost use Rattle.krb_keytab.specs.Rewrite.{rewrite_of, rewrite_result};
 
 use super::Keytab;
 use crate::anew::{anew_is_sound, image_anew, len_anew};
@@ -18,12 +19,14 @@ use std::alloc::Allocator;
 
 impl<A: Allocator + Copy> Keytab<A> {
     /// Writes the records anew, in version 2: each entry in order in its written form, with its name type,
-    /// which is 0 from version 1, without holes, and with nothing behind them. Each cursor is carried to
+    /// which is 0 from version 1, without holes, and with nothing after them. Each cursor is carried to
     /// the new place of the first record at or after it, or to the new end. A damaged keytab refuses, and
     /// then so does a limit that the new image would pass. Memory is taken once, for the new image.
     pub fn rewrite(&mut self, cursors: &mut [u32]) -> Result<(), Refusal>
         requires { AllByRecursion (IsPlace (store_of self.old)) cursors.old }
-        ensures answers { AnswersRewrite self.old result self.new }
+        ensures gives { RewriteGives (rewrite_result self.old) self.old result self.new }
+        // Memory is asked for only where nothing refuses.
+        ensures memory { IfErr result (λ e. e ≡ Refusal.NoMemory → rewrite_result self.old ≡ Ok (rewrite_of self.old)) }
         ensures rewrites { OnOk result (Rewrites (store_of self.old) (store_of self.new)) }
         ensures entries { OnOk result (entries self.new ≡ entries self.old) }
         ensures carries { OnOk result (cursors.new ≡ map (carry (store_of self.old) (store_of self.new)) cursors.old) }

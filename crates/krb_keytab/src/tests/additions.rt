@@ -56,7 +56,7 @@ fn holes_of_other_sizes(rt: HostRuntime) -> Result<(), Fail> {
     Ok(())
 }
 
-/// What stood behind an end mark is gone after an addition, however much it was.
+/// What stood after an end mark is gone after an addition, however much it was.
 #[test]
 fn what_stands_behind_an_end_mark(rt: HostRuntime) -> Result<(), Fail> {
     let alloc = rt.alloc();
@@ -107,7 +107,7 @@ fn versions_above_255(rt: HostRuntime) -> Result<(), Fail> {
     Ok(())
 }
 
-/// A record that just fits the limit is no Full, with an end mark behind it or without.
+/// A record that just fits the limit is no Full, with an end mark after it or without.
 #[test]
 fn limits_that_just_fit(rt: HostRuntime) -> Result<(), Fail> {
     let alloc = rt.alloc();

@@ -44,7 +44,7 @@ fn an_image_that_is_no_keytab_is_handed_back(rt: HostRuntime) -> Result<(), Fail
     Ok(())
 }
 
-/// An image after all events, and whether memory was wanting on the way: then the rest of the events was
+/// An image after all events, and whether a growth was refused on the way: then the rest of the events was
 /// applied to the image that was handed back.
 fn edited<A: Allocator + Copy>(
     alloc: A,

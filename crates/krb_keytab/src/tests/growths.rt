@@ -87,7 +87,7 @@ fn changes_that_take_no_memory(rt: HostRuntime) -> Result<(), Fail> {
     Ok(())
 }
 
-/// With every growth refused: an addition over what stands behind an end mark.
+/// With every growth refused: an addition over what stands after an end mark.
 #[test]
 fn an_addition_over_the_bytes_behind_an_end_mark(rt: HostRuntime) -> Result<(), Fail> {
     let added = b(rt.alloc())?;

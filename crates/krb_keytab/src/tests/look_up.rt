@@ -219,7 +219,7 @@ fn zeros(rt: HostRuntime) -> Result<(), Fail> {
     )
 }
 
-/// Nothing is found in a keytab without entries, in its holes and behind its end.
+/// Nothing is found in a keytab without entries, in its holes and after its end.
 #[test]
 fn no_entries(rt: HostRuntime) -> Result<(), Fail> {
     let hole = b"\xff\xff\xff\xd1".as_slice();

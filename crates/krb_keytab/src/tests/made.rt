@@ -6,7 +6,7 @@ use krb_wire::{Limits, Order, parse_name};
 use std::alloc::{Allocator, Global};
 use std::test::Fail;
 
-/// The pieces, one behind the other.
+/// The pieces, one after the other.
 pub fn joined<A: Allocator + Copy>(alloc: A, pieces: &[&[u8]]) -> Result<Vec<u8, A>, Fail> {
     let mut bytes = Vec::new(alloc);
     for piece in pieces {

@@ -1,4 +1,4 @@
-//! Records that MIT krb5 1.20 wrote (kadmin, ktutil and libkrb5), and one of Heimdal, each behind its
+//! Records that MIT krb5 1.20 wrote (kadmin, ktutil and libkrb5), and one of Heimdal, each after its
 //! length. The keys are those of a throw-away realm.
 
 /// Versions 2 and 3 of `hist/h@PEER.TEST`, at 2, 77, 136 and 211.

@@ -126,7 +126,7 @@ fn holes_are_filled_as_kadmin_filled_them(rt: HostRuntime) -> Result<(), Fail> {
     )
 }
 
-/// The mark of four zeros was put behind the record of ktutil, as an addition under way leaves it.
+/// The mark of four zeros was put after the record of ktutil, as an addition under way leaves it.
 #[test]
 fn an_end_mark_is_moved_as_libkrb5_moved_it(rt: HostRuntime) -> Result<(), Fail> {
     let alloc = rt.alloc();
@@ -156,7 +156,7 @@ fn a_record_is_removed_as_libkrb5_removed_it(rt: HostRuntime) -> Result<(), Fail
 }
 
 /// The new entry has name type 1 and no flags, and takes the place of one that Heimdal wrote, which has
-/// name type 3 and flags behind its version.
+/// name type 3 and flags after its version.
 #[test]
 fn a_record_of_heimdal_gives_its_place_to_another(rt: HostRuntime) -> Result<(), Fail> {
     let alloc = rt.alloc();

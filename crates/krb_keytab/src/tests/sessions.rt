@@ -125,8 +125,8 @@ fn an_empty_keytab_ends_at_once(rt: HostRuntime) -> Result<(), Fail> {
     Ok(())
 }
 
-/// A removal and an addition behind a cursor are not seen by its walk, and the record is as long as the
-/// hole.
+/// A removal and an addition at a place that a cursor has passed are not seen by its walk, and the record is
+/// as long as the hole.
 #[test]
 fn changes_behind_a_cursor_are_not_seen(rt: HostRuntime) -> Result<(), Fail> {
     let alloc = rt.alloc();
@@ -159,7 +159,7 @@ fn changes_behind_a_cursor_are_not_seen(rt: HostRuntime) -> Result<(), Fail> {
     Ok(())
 }
 
-/// A record that takes the place where a cursor stands is given to its walk, with the zeros behind it.
+/// A record that takes the place where a cursor stands is given to its walk, with the zeros after it.
 #[test]
 fn a_record_put_at_a_cursor_is_given(rt: HostRuntime) -> Result<(), Fail> {
     let alloc = rt.alloc();
@@ -201,7 +201,7 @@ fn the_same_record_again_is_another_one(rt: HostRuntime) -> Result<(), Fail> {
     Ok(())
 }
 
-/// A walk that has ended goes on where a record is added behind the last.
+/// A walk that has ended goes on where a record is added after the last.
 #[test]
 fn a_walk_that_ended_goes_on(rt: HostRuntime) -> Result<(), Fail> {
     let alloc = rt.alloc();

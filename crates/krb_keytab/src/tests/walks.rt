@@ -51,7 +51,7 @@ fn a_damaged_keytab_gives_its_records_then_its_fault(rt: HostRuntime) -> Result<
     Ok(())
 }
 
-/// A walk stops at an end mark. An addition takes its place, with a new mark and nothing more behind.
+/// A walk stops at an end mark. An addition takes its place, with a new mark and nothing more after.
 #[test]
 fn an_addition_moves_the_end_mark(rt: HostRuntime) -> Result<(), Fail> {
     let alloc = rt.alloc();

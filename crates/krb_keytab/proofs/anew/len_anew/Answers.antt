@@ -1,11 +1,11 @@
 use Rattle.std.proofs.Common.{◌≡◌, ℕ, ◌+◌, List, length, refl, sym, ap, subst, ◌∙◌, arith}
 use Rattle.std.specs.Prelude.{Option, IsSome}
-use Rattle.krb_wire.specs.declared.format.KtFormat.TheVariants.{V2}
+use Rattle.krb_wire.specs.declared.format.Order.TheVariants.{Big}
 use Rattle.krb_walk.proofs.Stops.{walks_begin_with_all, stopped, ended}
+use Rattle.krb_keytab.specs.Cells.{cell}
 use Rattle.krb_keytab.specs.Store.{store_of, image_of}
-use Rattle.krb_keytab.specs.Written.{written}
-use Rattle.krb_keytab.specs.Rewritten.{rewritten}
-use Rattle.krb_keytab.proofs.AnewLemmas.{rest, len_all, rest_len, rest_none, entry_read, anew_cell_len, fits_anew}
+use Rattle.krb_keytab.specs.Rewrite.{new_record, rewrite_of}
+use Rattle.krb_keytab.proofs.AnewLemmas.{rest, len_all, rest_len, rest_none, entry_read, fits_anew}
 use Rattle.krb_keytab.proofs.anew.len_anew.Goals as goal
 
 pub records-init : goal.records-init
@@ -24,8 +24,8 @@ bytes_at-requires g c =
     let stop = stopped (store_of c.args.keytab.now) c.records.place c.in-Live.at c.in-Live.next c.records.invariant.sound (sym c.in-Live.ensures) in
     subst (λ (o : Option (List ℕ)). IsSome o) (sym stop.live) refl
 
-pub form_len-requires : goal.form_len-requires
-form_len-requires g c = fits_anew c.format.result c.in-Some.entry c.bytes_at.result.now c.in-Some.ensures.found
+pub len_of_record-len-requires : goal.len_of_record-len-requires
+len_of_record-len-requires g c = fits_anew c.format.result c.in-Some.entry c.bytes_at.result.now c.in-Some.ensures.found
 
 pub returns-then-len-limit-clause-long : goal.returns-then-len-limit-clause-long
 returns-then-len-limit-clause-long g c =
@@ -33,11 +33,10 @@ returns-then-len-limit-clause-long g c =
     let stop = stopped (store_of k) c.records.place c.in-Live.at c.in-Live.next c.records.invariant.sound (sym c.in-Live.ensures) in
     let read = entry_read k c.format.result c.bytes_at.result.now c.in-Some.entry c.format.ensures c.in-Some.ensures.exact in
     let more = rest_len k c.records.place c.in-Live.at c.in-Live.next c.bytes_at.result.now c.in-Some.entry stop c.bytes_at.ensures.bytes read in
-    let form = anew_cell_len c.in-Some.entry in
-    let so_far : c.records.len + length (rest k c.records.place) ≡ length (image_of (rewritten k)) = c.records.invariant.so_far in
-    let len : c.form_len.result ≡ length (written V2 c.in-Some.entry) = c.form_len.ensures.len in
+    let so_far : c.records.len + length (rest k c.records.place) ≡ length (image_of (rewrite_of k)) = c.records.invariant.so_far in
+    let len : c.len_of_record-len.result ≡ length (cell Big (new_record c.in-Some.entry)) = c.len_of_record-len.ensures.len in
     let past = c.if-len-limit.true in
-    omega (arith, more, form, so_far, len, past)
+    omega (arith, more, so_far, len, past)
 
 pub records-smaller : goal.records-smaller
 records-smaller g c =
@@ -52,14 +51,13 @@ records-preserved g c =
     let stop = stopped (store_of k) c.records.place c.in-Live.at c.in-Live.next c.records.invariant.sound (sym c.in-Live.ensures) in
     let read = entry_read k c.format.result c.bytes_at.result.now c.in-Some.entry c.format.ensures c.in-Some.ensures.exact in
     let more = rest_len k c.records.place c.in-Live.at c.in-Live.next c.bytes_at.result.now c.in-Some.entry stop c.bytes_at.ensures.bytes read in
-    let form = anew_cell_len c.in-Some.entry in
-    let so_far : c.records.len + length (rest k c.records.place) ≡ length (image_of (rewritten k)) = c.records.invariant.so_far in
-    let len : c.form_len.result ≡ length (written V2 c.in-Some.entry) = c.form_len.ensures.len in
+    let so_far : c.records.len + length (rest k c.records.place) ≡ length (image_of (rewrite_of k)) = c.records.invariant.so_far in
+    let len : c.len_of_record-len.result ≡ length (cell Big (new_record c.in-Some.entry)) = c.len_of_record-len.ensures.len in
     let past = c.if-len-limit.false in
     record {
       place = stop.place;
       sound = c.records.invariant.sound;
-      so_far = omega (arith, more, form, so_far, len);
+      so_far = omega (arith, more, so_far, len);
       within = omega (arith, past);
     }
 
@@ -67,7 +65,7 @@ pub returns : goal.returns
 returns g c =
     let k = c.args.keytab.now in
     let none = rest_none k c.records.place (ended (store_of k) c.records.place (λ at next e. c.in_default.not-Live at next (c.stop_at.ensures ∙ e))) in
-    let so_far : c.records.len + length (rest k c.records.place) ≡ length (image_of (rewritten k)) = c.records.invariant.so_far in
+    let so_far : c.records.len + length (rest k c.records.place) ≡ length (image_of (rewrite_of k)) = c.records.invariant.so_far in
     let within = c.records.invariant.within in
     record {
       len = omega (arith, so_far, ap length none);

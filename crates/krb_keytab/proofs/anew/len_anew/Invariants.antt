@@ -1,7 +1,7 @@
 use Rattle.std.proofs.Common.{◌≡◌, ◌≤◌, ◌+◌, ◌-◌, length}
 use Rattle.krb_walk.specs.Store.{IsPlace, IsSound, end_of}
 use Rattle.krb_keytab.specs.Store.{store_of, image_of}
-use Rattle.krb_keytab.specs.Rewritten.{rewritten}
+use Rattle.krb_keytab.specs.Rewrite.{rewrite_of}
 use Rattle.krb_keytab.proofs.AnewLemmas.{rest}
 use Rattle.krb_keytab.proofs.anew.len_anew.Given as goal
 
@@ -9,7 +9,7 @@ abbrev pub invariant-records : goal.invariant-records
 invariant-records g l = record {
   place : IsPlace (store_of l.keytab) l.place;
   sound : IsSound (store_of l.keytab);
-  so_far : l.len + length (rest l.keytab l.place) ≡ length (image_of (rewritten l.keytab));
+  so_far : l.len + length (rest l.keytab l.place) ≡ length (image_of (rewrite_of l.keytab));
   within : l.len ≤ l.limit;
 }
 

@@ -1,23 +1,22 @@
-use Rattle.std.proofs.Common.{◌≡◌, length, ap, arith, ◌∙◌}
+use Rattle.std.proofs.Common.{◌≡◌, ◌+◌, ℕ, List, length, ap, ◌∙◌}
+use Rattle.std.specs.List.{splice}
 use Rattle.krb_wire.specs.declared.format.Order.TheVariants.{Big}
 use Rattle.krb_wire.specs.declared.format.KtFormat.TheVariants.{V2}
-use Rattle.krb_wire.specs.Spelling.{digits}
-use Rattle.std.specs.Int.{w32}
-use Rattle.krb_wire.proofs.Fields.{wide32}
-use Rattle.krb_wire.proofs.SpliceLemmas.{splice-then}
-use Rattle.std.specs.List.{splice}
-use Rattle.krb_keytab.specs.Written.{written}
-use Rattle.krb_keytab.proofs.AnewLemmas.{anew_cell_len}
+use Rattle.krb_wire.specs.Spelling.{order_of}
+use Rattle.krb_keytab.specs.Cells.{cell, Live}
+use Rattle.krb_keytab.specs.Changes.{padded}
+use Rattle.krb_keytab.specs.Written.{FormParts, written}
+use Rattle.krb_keytab.proofs.Turned.{padded_self}
 use Rattle.krb_keytab.proofs.anew.put_anew.Goals as goal
+
+-- a record of just the length of its written form has nothing after that
+just_fits : (old new x : List ℕ) (form : FormParts) (at size : ℕ) → form ≡ record { format = V2; bytes = x } → size ≡ length form.bytes
+    → new ≡ splice old at (at + 4 + size) (cell (order_of form.format) (Live (padded form.bytes size))) → new ≡ splice old at (at + 4 + size) (cell Big (Live x))
+just_fits old new x form at size is len put =
+    let is_len : size ≡ length x = len ∙ ap (λ (w : FormParts). length w.bytes) is in
+    put ∙ ap (λ (w : FormParts). splice old at (at + 4 + size) (cell (order_of w.format) (Live (padded w.bytes size)))) is
+    ∙ ap (λ (n : ℕ). splice old at (at + 4 + size) (cell Big (Live (padded x n)))) is_len ∙ ap (λ (b : List ℕ). splice old at (at + 4 + size) (cell Big (Live b))) (padded_self x)
 
 pub returns-clause-written : goal.returns-clause-written
 returns-clause-written c =
-    let w = written V2 c.args.entry.now in
-    let len = c.form_len.ensures.len in
-    let room = c.requires.room in
-    let is : c.form_len.result ≡ length w = len in
-    let next = c.put_u32-form.ensures.next in
-    let four = (wide32 Big).len (length w) in
-    splice-then c.args.out.now c.put_u32-form.new.out c.put_form.new.out (digits Big w32 (length w)) w c.args.at c.put_u32-form.result c.put_form.result
-    (omega (arith, room, anew_cell_len c.args.entry.now)) (omega (arith, next, four)) (omega (arith, c.put_form.ensures.next))
-    (c.put_u32-form.ensures.written ∙ ap (λ n. splice c.args.out.now c.args.at c.put_u32-form.result (digits Big w32 n)) is) c.put_form.ensures.written
+    just_fits c.args.out.now c.put_record.new.image (written V2 c.args.entry.now) c.form_anew-form.result c.args.at c.len-size.result c.form_anew-form.ensures c.len-size.ensures.len c.put_record.ensures

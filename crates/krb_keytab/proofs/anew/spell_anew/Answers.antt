@@ -6,7 +6,7 @@ use Rattle.krb_wire.proofs.SpliceLemmas.{splice-step}
 use Rattle.krb_wire.specs.declared.format.Order.TheVariants.{Big}
 use Rattle.krb_keytab.specs.Cells.{cell}
 use Rattle.krb_keytab.specs.Store.{store_of, image_of}
-use Rattle.krb_keytab.specs.Rewritten.{anew, rewritten}
+use Rattle.krb_keytab.specs.Rewrite.{new_record, rewrite_of}
 use Rattle.krb_keytab.proofs.AnewLemmas.{rest, len_all, rest_len, rest_stop, rest_none, entry_read, fits_anew, spelled_from, spelled_all}
 use Rattle.krb_keytab.proofs.anew.spell_anew.Goals as goal
 
@@ -15,7 +15,7 @@ records-init g c =
     let k = c.args.keytab.now in
     let out = c.args.out.now in
     let first = c.first-place.ensures.first in
-    let len : length out ≡ length (image_of (rewritten k)) = c.requires.len in
+    let len : length out ≡ length (image_of (rewrite_of k)) = c.requires.len in
     let all = len_all k in
     let at : length (rest k c.first-place.result) ≡ length (rest k 2) = ap (λ (p : ℕ). length (rest k p)) first in
     let set : length (slice_set (slice_set out 0 5) 1 2) ≡ length out = length-set (slice_set out 0 5) 1 2 ∙ length-set out 0 5 in
@@ -64,11 +64,11 @@ records-preserved g c =
       place = stop.place;
       sound = c.records.invariant.sound;
       room = omega (arith, more, room, next, same_len);
-      written = splice-step c.records.out c.put_anew-to.new.out (rest k c.records.place) (cell Big (anew c.in-Some.entry)) (rest k c.in-Live.next) (image_of (rewritten k)) c.records.to c.put_anew-to.result (omega (arith, room)) cut next c.put_anew-to.ensures.written c.records.invariant.written;
+      written = splice-step c.records.out c.put_anew-to.new.out (rest k c.records.place) (cell Big (new_record c.in-Some.entry)) (rest k c.in-Live.next) (image_of (rewrite_of k)) c.records.to c.put_anew-to.result (omega (arith, room)) cut next c.put_anew-to.ensures.written c.records.invariant.written;
     }
 
 pub returns : goal.returns
 returns g c =
     let k = c.args.keytab.now in
     let none = rest_none k c.records.place (ended (store_of k) c.records.place (λ at next e. c.in_default.not-Live at next (c.stop_at.ensures ∙ e))) in
-    spelled_all c.records.out (rest k c.records.place) (image_of (rewritten k)) c.records.to none c.records.invariant.written
+    spelled_all c.records.out (rest k c.records.place) (image_of (rewrite_of k)) c.records.to none c.records.invariant.written

@@ -2,7 +2,7 @@ use Rattle.std.proofs.Common.{◌≡◌, ◌+◌, ◌-◌, length}
 use Rattle.std.specs.List.{splice}
 use Rattle.krb_walk.specs.Store.{IsPlace, IsSound, end_of}
 use Rattle.krb_keytab.specs.Store.{store_of, image_of}
-use Rattle.krb_keytab.specs.Rewritten.{rewritten}
+use Rattle.krb_keytab.specs.Rewrite.{rewrite_of}
 use Rattle.krb_keytab.proofs.AnewLemmas.{rest}
 use Rattle.krb_keytab.proofs.anew.spell_anew.Given as goal
 
@@ -11,7 +11,7 @@ invariant-records g l = record {
   place : IsPlace (store_of l.keytab) l.place;
   sound : IsSound (store_of l.keytab);
   room : l.to + length (rest l.keytab l.place) ≡ length l.out;
-  written : splice l.out l.to (l.to + length (rest l.keytab l.place)) (rest l.keytab l.place) ≡ image_of (rewritten l.keytab);
+  written : splice l.out l.to (l.to + length (rest l.keytab l.place)) (rest l.keytab l.place) ≡ image_of (rewrite_of l.keytab);
 }
 
 abbrev pub decreases-records : goal.decreases-records

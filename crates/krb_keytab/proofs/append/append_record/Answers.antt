@@ -29,5 +29,5 @@ returns-clause-changed g c =
     let fits : IsBytes old = rw c.deref.ensures.value at c.bytes_fit.ensures in
     let items : length c.set_len.new.image.items ≡ c.set_len.new.image.len = let ok = c.set_len.new.image.ok.0 in omega arith in
     let is_len : length c.set_len.new.image.items ≡ len_with e (length x) = items ∙ set.len ∙ c.len_with.ensures ∙ ap (λ (n : ℕ). len_with e n) need.len in
-    let done = appended_is f old c.set_len.new.image.items c.put_behind.new.image.items x e (let ok = c.args.image.now.ok.0 in let long = c.requires.long in omega arith) (let n = need.len in let some = need.some in omega arith) (omega (arith, room)) fits (bytes_of c.put_behind.new.image.items c.type_inv.image) c.requires.known need.record c.requires.whole set.ok is_len c.put_behind.ensures.written in
-    subst (λ (n : ℕ). IsChanged f old c.put_behind.new.image.items (record { cells = k.cells ++ Live x ∷ []; end = end_after k.end }) (record { place = e.place + 4 + n; ending = e.ending })) (sym need.len) done
+    let done = appended_is f old c.set_len.new.image.items c.put_after.new.image.items x e (let ok = c.args.image.now.ok.0 in let long = c.requires.long in omega arith) (let n = need.len in let some = need.some in omega arith) (omega (arith, room)) fits (bytes_of c.put_after.new.image.items c.type_inv.image) c.requires.known need.record c.requires.whole set.ok is_len c.put_after.ensures.written in
+    subst (λ (n : ℕ). IsChanged f old c.put_after.new.image.items (record { cells = k.cells ++ Live x ∷ []; end = end_after k.end }) (record { place = e.place + 4 + n; ending = e.ending })) (sym need.len) done

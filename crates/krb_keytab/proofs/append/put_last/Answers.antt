@@ -1,16 +1,13 @@
 use Rattle.std.proofs.Common.{◌≡◌, ℕ, ◌+◌, ◌-◌, ◌≤◌, List, ◌++◌, length, replicate, refl, ap, ◌∙◌, arith}
 use Rattle.std.specs.List.{splice}
-use Rattle.std.proofs.lemmas.List.{append-nil}
 use Rattle.krb_wire.specs.declared.format.Order.{Order}
 use Rattle.krb_wire.specs.Spelling.{order_of}
 use Rattle.krb_wire.proofs.SpliceLemmas.{splice-then}
 use Rattle.krb_keytab.specs.Cells.{cell, Live}
 use Rattle.krb_keytab.specs.Changes.{padded}
 use Rattle.krb_keytab.proofs.Cuts.{cell_len}
+use Rattle.krb_keytab.proofs.Turned.{padded_self}
 use Rattle.krb_keytab.proofs.append.put_last.Goals as goal
-
-padded_self : (x : List ℕ) → padded x (length x) ≡ x
-padded_self x = let none : length x - length x ≡ 0 = omega arith in ap (λ (m : ℕ). x ++ replicate {A = ℕ} m 0) none ∙ append-nil x
 
 last_written : (o : Order) (image mid new x : List ℕ) (at n len : ℕ) → n ≡ length x → at + 4 + length x ≤ length image → len ≡ length image
     → mid ≡ splice image at (at + 4 + n) (cell o (Live (padded x n))) → new ≡ splice mid (at + 4 + n) len (replicate {A = ℕ} (len - (at + 4 + n)) 0)

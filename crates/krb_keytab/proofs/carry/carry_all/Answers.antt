@@ -1,6 +1,6 @@
 use Rattle.std.proofs.Common.{◌<◌, length, sym, subst, ◌∙◌, ap, arith}
 use Rattle.std.proofs.lemmas.List.{length-set}
-use Rattle.krb_keytab.specs.Rewritten.{GoesBy}
+use Rattle.krb_keytab.specs.Carry.{GoesBy}
 use Rattle.krb_keytab.proofs.CursorLemmas.{all_at, same_at, carried_more, behind_more}
 use Rattle.krb_keytab.proofs.carry.carry_all.Goals as goal
 
@@ -18,7 +18,7 @@ loop-cursor-preserved c =
     record {
       len = length-set xs i v ∙ len;
       behind = behind_more xs ys i v lx inv.behind;
-      carried = λ go all.
+      new_place = λ go all.
           let P = GoesBy c.args.image.now c.args.end c.args.last go in
-          carried_more go xs ys i v lx ly (inv.carried go all) (c.place_given.ensures go (subst P (sym same) (all_at P ys i ly all)) ∙ ap go same);
+          carried_more go xs ys i v lx ly (inv.new_place go all) (c.place_given.ensures go (subst P (sym same) (all_at P ys i ly all)) ∙ ap go same);
     }

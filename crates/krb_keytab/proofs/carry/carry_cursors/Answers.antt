@@ -2,7 +2,7 @@ use Rattle.std.proofs.Common.{arith}
 use Rattle.krb_wire.specs.declared.format.KtFormat.TheVariants.{V2}
 use Rattle.std.specs.Prelude.{drop}
 use Rattle.krb_keytab.specs.Cells.{contents}
-use Rattle.krb_keytab.proofs.Rewrites.{all_given, all_go}
+use Rattle.krb_keytab.proofs.CarryLemmas.{all_given, all_go}
 use Rattle.krb_keytab.proofs.carry.carry_cursors.Goals as goal
 
 pub carry_all-requires : goal.carry_all-requires

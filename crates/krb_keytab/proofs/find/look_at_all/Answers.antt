@@ -1,10 +1,10 @@
-use Rattle.std.proofs.Common.{◌≡◌, [], List, ℕ, None, false, refl, sym, ap, subst, ◌∙◌, arith}
+use Rattle.std.proofs.Common.{◌≡◌, [], ◌∷◌, ◌++◌, List, ℕ, refl, sym, ap, subst, ◌∙◌, append_assoc, arith}
 use Rattle.std.specs.List.{filter_map}
 use Rattle.std.specs.Prelude.{Option, IsSome}
 use Rattle.krb_walk.proofs.Stops.{walks_begin_with_all, stopped, ended}
 use Rattle.krb_keytab.specs.Store.{store_of}
-use Rattle.krb_keytab.specs.LookUp.{SoFar, with_entries, placed_from, placed_entry}
-use Rattle.krb_keytab.proofs.LookUpLemmas.{placed_first, placed_stop}
+use Rattle.krb_keytab.specs.LookUp.{Placed, placed_entry}
+use Rattle.krb_keytab.proofs.LookUpLemmas.{placed_from, placed_first, placed_stop, none_left}
 use Rattle.krb_keytab.proofs.find.look_at_all.Goals as goal
 
 pub records-init : goal.records-init
@@ -13,7 +13,7 @@ records-init g c =
     record {
       place = rw c.first-place.ensures.first (walks_begin_with_all (store_of k)).place;
       sound = c.first-place.ensures.sound;
-      same = ap (with_entries (g.N.Name.parts c.args.name.now) c.args.kvno c.args.enctype (record { named = false; best = None })) (ap (placed_from k) c.first-place.ensures.first ∙ placed_first k);
+      so_far = record { seen = []; found = refl; all = ap (placed_from k) c.first-place.ensures.first ∙ placed_first k };
     }
 
 pub bytes_at-requires : goal.bytes_at-requires
@@ -34,11 +34,16 @@ records-preserved g c =
     let stop = stopped (store_of k) c.records.place c.in-Live.at c.in-Live.next c.records.invariant.sound (sym c.in-Live.ensures) in
     let read = rw c.format.ensures at c.in-Some.ensures.exact in
     let placed = placed_stop k c.records.place c.in-Live.at c.in-Live.next c.bytes_at.result.now c.in-Some.entry stop c.bytes_at.ensures.bytes read in
-    let from = with_entries (g.N.Name.parts c.args.name.now) c.args.kvno c.args.enctype in
+    let so_far = c.records.invariant.so_far in
+    let x : Placed = (c.in-Live.at, c.in-Some.entry) in
     record {
       place = stop.place;
       sound = c.records.invariant.sound;
-      same = ap (λ (s : SoFar). from s (placed_from k c.in-Live.next)) c.look.ensures ∙ sym (ap (from (record { named = c.records.looked.named; best = c.records.looked.best })) placed) ∙ c.records.invariant.same;
+      so_far = record {
+        seen = so_far.seen ++ x ∷ [];
+        found = c.look.ensures so_far.seen so_far.found;
+        all = append_assoc so_far.seen (x ∷ []) (placed_from k c.in-Live.next) ∙ ap (λ (xs : List Placed). so_far.seen ++ xs) (sym placed) ∙ so_far.all;
+      };
     }
 
 pub returns : goal.returns
@@ -46,4 +51,4 @@ returns g c =
     let k = c.args.keytab.now in
     let none = ended (store_of k) c.records.place (λ at next e. c.in_default.not-Live at next (c.stop_at.ensures ∙ e)) in
     let rest : placed_from k c.records.place ≡ [] = ap (λ rs. filter_map (placed_entry k) rs) none in
-    rw rest at c.records.invariant.same
+    none_left k (g.N.Name.parts c.args.name.now) c.args.kvno c.args.enctype c.records.place c.records.looked.named c.records.looked.best rest c.records.invariant.so_far

@@ -1,12 +1,14 @@
 use Rattle.std.proofs.Common.{◌≡◌, ℕ, List, None, Some, Ok, true, false, length, ap, sym, subst, ◌∙◌}
 use Rattle.std.specs.Prelude.{is_some}
 use Rattle.krb_walk.specs.Store.{fault_of}
-use Rattle.krb_keytab.specs.Written.{FormParts, fits, written}
+use Rattle.krb_keytab.specs.Written.{FormParts, fits, written, IsEntry}
 use Rattle.krb_keytab.specs.Store.{State, store_of}
 use Rattle.krb_keytab.specs.Changes.{with_filled}
 use Rattle.krb_keytab.specs.Holes.{hole_from}
-use Rattle.krb_keytab.specs.Answers.{AnswersAppend}
-use Rattle.krb_keytab.proofs.Additions.{answers_put, none_large, put_in_hole}
+use Rattle.krb_keytab.specs.Appends.{AnswersAppend}
+use Rattle.krb_keytab.proofs.Additions.{gives_put, put_wants, put_after_all, none_large, put_in_hole}
+use Rattle.krb_keytab.proofs.FoundAgain.{added_reads}
+use Rattle.krb_keytab.proofs.StoreChanges.{addition_read}
 use Rattle.krb_keytab.proofs.keytab.Keytab.add.Goals as goal
 
 pub returns-in_default-hole : goal.returns-in_default-hole
@@ -14,13 +16,22 @@ returns-in_default-hole g c =
     let k = c.args.self.now in
     let e = c.args.entry.now in
     let whole : is_some (fault_of (store_of k)) ≡ false = let a = c.fault.ensures in let b = c.is_some.ensures in let d = c.if-is_some.false in cc in
-    let fit : fits k.format e ≡ true = sym (rw c.format.ensures at c.in-Some.ensures.fits) in
-    let form = rw c.format.ensures at c.in-Some.ensures.bytes in
+    let fit : fits k.format e ≡ true = sym (rw (c.fields-fields.ensures, c.format.ensures) at c.in-Some.ensures.fits) in
+    let form = rw (c.fields-fields.ensures, c.format.ensures) at c.in-Some.ensures.bytes in
     let bytes : c.in-Some.form.bytes ≡ written k.format e = ap (λ (w : FormParts). w.bytes) form in
     let none : hole_from 2 (length (written k.format e)) k.contents.cells ≡ None =
     ap (λ (n : ℕ). hole_from 2 n k.contents.cells) (sym (c.len.ensures.len ∙ ap (λ (b : List ℕ). length b) bytes)) ∙ sym c.hole.ensures.first ∙ c.in_default-hole.is in
-    answers_put k e c.append.result c.append.new.self whole fit (none_large k (length (written k.format e)) none)
-    (subst (λ (b : List ℕ). AnswersAppend k b c.append.result c.append.new.self) bytes c.append.ensures)
+    let no_hole = none_large k (length (written k.format e)) none in
+    let after = put_after_all k e whole fit no_hole in
+    let answer = subst (λ (b : List ℕ). AnswersAppend k b c.append.result c.append.new.self) bytes c.append.ensures in
+    let is = subst IsEntry c.fields-fields.ensures c.numbers_fit.ensures in
+    let gives = gives_put k e c.append.result c.append.new.self after answer in
+    record {
+      gives = gives;
+      memory = put_wants k e c.append.result c.append.new.self after no_hole answer;
+      read = addition_read k c.append.new.self e c.append.result is gives;
+      numbers = is;
+    }
 
 pub returns : goal.returns
 returns g c =
@@ -28,9 +39,16 @@ returns g c =
     let e = c.args.entry.now in
     let h = c.in-Some-hole.hole in
     let whole : is_some (fault_of (store_of k)) ≡ false = let a = c.fault.ensures in let b = c.is_some.ensures in let d = c.if-is_some.false in cc in
-    let fit : fits k.format e ≡ true = sym (rw c.format.ensures at c.in-Some.ensures.fits) in
-    let form = rw c.format.ensures at c.in-Some.ensures.bytes in
+    let fit : fits k.format e ≡ true = sym (rw (c.fields-fields.ensures, c.format.ensures) at c.in-Some.ensures.fits) in
+    let form = rw (c.fields-fields.ensures, c.format.ensures) at c.in-Some.ensures.bytes in
     let bytes : c.in-Some.form.bytes ≡ written k.format e = ap (λ (w : FormParts). w.bytes) form in
     let hole : hole_from 2 (length (written k.format e)) k.contents.cells ≡ Some h =
     ap (λ (n : ℕ). hole_from 2 n k.contents.cells) (sym (c.len.ensures.len ∙ ap (λ (b : List ℕ). length b) bytes)) ∙ sym c.in-Some-hole.ensures.first in
-    put_in_hole k e h whole fit hole ∙ ap (λ (b : List ℕ). Ok (h.place, with_filled k b h.place)) (sym bytes) ∙ ap (λ (y : State). Ok (h.place, y)) (sym c.fill.ensures)
+    let is = subst IsEntry c.fields-fields.ensures c.numbers_fit.ensures in
+    let gives = put_in_hole k e h whole fit hole ∙ ap (λ (b : List ℕ). Ok (h.place, with_filled k b h.place)) (sym bytes) ∙ ap (λ (y : State). Ok (h.place, y)) (sym c.fill.ensures) in
+    record {
+      gives = gives;
+      memory = λ takes. tt;
+      read = added_reads k e (h.place, c.fill.new.self) is gives;
+      numbers = is;
+    }

@@ -1,14 +1,18 @@
-use Rattle.std.proofs.Common.{◌≡◌, ℕ, List, Option, Some, None, true, refl, sym, ◌∙◌, subst}
+use Rattle.std.proofs.Common.{rules, ◌≡◌, ℕ, List, Option, Some, None, Ok, true, refl, subst}
 use Rattle.std.specs.Prelude.{IsSome, is_some, option_copied}
 use Rattle.std.specs.Borrow.{Bor}
-use Rattle.krb_keytab.proofs.Stores.{live_held}
+use Rattle.krb_keytab.specs.Changes.{cutting}
+use Rattle.krb_keytab.proofs.FoundAgain.{removed_none}
 use Rattle.krb_keytab.proofs.keytab.Keytab.remove_at.Goals as goal
 
 copied_some : (bytes : Option (Bor (List ℕ))) → is_some bytes ≡ true → IsSome (option_copied bytes)
 copied_some (Some b) e = refl
 copied_some None e = absurd cc
 
-pub free_cell-requires-clause-live : goal.free_cell-requires-clause-live
-free_cell-requires-clause-live g c =
-    let same = live_held c.self.inside.format c.self.inside.limit c.self.inside.image.items c.deref_mut.result.now c.args.self.now c.args.place c.deref_mut.ensures.value c.self.view_is in
-    subst (λ (o : Option (List ℕ)). IsSome o) (c.record.ensures ∙ sym same) (copied_some c.record.result c.if-is_none.ensures)
+pub free-requires : goal.free-requires
+free-requires g c = subst (λ (o : Option (List ℕ)). IsSome o) c.record.ensures (copied_some c.record.result c.if-is_none.ensures)
+
+pub returns-clause-gone : goal.returns-clause-gone
+returns-clause-gone g c =
+    let gives : cutting c.args.self.now c.args.place ≡ Ok c.free.new.self = search rules in
+    removed_none c.args.self.now c.args.place c.free.new.self gives

@@ -8,7 +8,8 @@ use Rattle.krb_keytab.specs.declared.step.Ending.TheVariants as ending
 use Rattle.krb_keytab.specs.Known.{IsKnownEnd}
 use Rattle.krb_keytab.specs.Store.{State, store_of, entries}
 use Rattle.krb_keytab.proofs.Stores.{held}
-use Rattle.krb_keytab.proofs.Rewrites.{all_places, all_carried, held_anew, rewriting_done, rewrites_store, is_image, whole_kind}
+use Rattle.krb_keytab.proofs.CarryLemmas.{all_places, all_carried}
+use Rattle.krb_keytab.proofs.Rewrites.{held_anew, rewriting_done, rewrites_store, is_image, whole_kind}
 use Rattle.krb_keytab.proofs.keytab.Keytab.rewrite.Goals as goal
 
 pub carry_cursors-requires-clause-new_known : goal.carry_cursors-requires-clause-new_known
@@ -24,8 +25,8 @@ pub invariant_of-self : goal.invariant_of-self
 invariant_of-self g c =
     (is_image c.args.self.now c.in-Ok.image.items c.self.inside.limit c.in-Some.len c.in-Ok.ensures.spelled c.in-Some.ensures.len c.in-Some.ensures.within c.self.invariant.0.limit_fits, c.in-Ok.ensures.known)
 
-pub returns-clause-answers : goal.returns-clause-answers
-returns-clause-answers g c =
+pub returns-clause-gives : goal.returns-clause-gives
+returns-clause-gives g c =
     let i = c.self.inside in
     let k = c.args.self.now in
     let whole : is_some (fault_of (store_of k)) ≡ false = let a = c.fault.ensures in let b = c.is_some.ensures in let d = c.if-is_some.false in cc in

@@ -1,0 +1,155 @@
+-- Where the places of a keytab are carried that is written anew.
+use Rattle.std.proofs.Common.{◌≡◌, ◌≢◌, ℕ, suc, ◌+◌, ◌^◌, ◌<◌, ◌≤◌, Bool, true, false, cond, List, [], ◌∷◌, ◌++◌, length, map, drop, Option, Some, None, Ok, inl, inr, refl, sym, ap, subst, ◌∙◌, append_assoc, length-append, arith}
+use Rattle.std.specs.Prelude.{nat_le, nat_lt, is_some, slice_index, ◌==◌}
+use Rattle.std.specs.Int.{w32}
+use Rattle.std.specs.List.{filter_map, flat_map, cons_option, AllByRecursion}
+use Rattle.std.proofs.lemmas.Bool.{le-ltb, cases_lt}
+use Rattle.std.proofs.lemmas.Bool.Decides.{nat_tests}
+use Rattle.std.proofs.lemmas.List.{append-nil, take_at, drop_at}
+use Rattle.std.proofs.lemmas.List.Concat.{flat_map-cons}
+use Rattle.krb_wire.specs.declared.format.Order.{Order}
+use Rattle.krb_wire.specs.declared.format.Order.TheVariants.{Big}
+use Rattle.krb_wire.specs.declared.format.KtFormat.{KtFormat}
+use Rattle.krb_wire.specs.declared.format.KtFormat.TheVariants.{V1, V2}
+use Rattle.krb_wire.specs.Spelling.{order_of, digits, HasNameType}
+use Rattle.krb_wire.specs.Reading.{number_at}
+use Rattle.krb_wire.proofs.Fields.{IsBytes, IsBytes-drop, IsBytes-take, is_some_has, wide32, number_takes}
+use Rattle.krb_walk.specs.Store.{Cell as StoreCell, IsPlace, end_from, end_of, fault_of}
+use Rattle.krb_walk.specs.Ranks.{nth_or, carry, Rewrites}
+use Rattle.krb_walk.proofs.Stops.{records_of}
+use Rattle.krb_walk.proofs.Lives.{lives}
+use Rattle.krb_walk.proofs.Places.{place_in}
+use Rattle.krb_walk.proofs.Carries.{lives_rise, below, below_none, below_some}
+use Rattle.krb_keytab.specs.Entry.{EntryParts, entry_at, front, entry_of, Spells, version_by}
+use Rattle.krb_keytab.specs.Cells.{Cell, Live, Free, Bare, Contents, bytes_of, length_field, cell, end_bytes, contents, IsCell, IsSound}
+use Rattle.krb_keytab.specs.Questions.{size, is_place, kind_of, end_place}
+use Rattle.krb_keytab.specs.Store.{State, IsImage, placed, store_of, image_of, entries}
+use Rattle.krb_keytab.specs.Written.{written, fits, IsEntry}
+use Rattle.krb_keytab.specs.Rewrite.{new_record, rewrite_of, rewrite_result}
+use Rattle.krb_keytab.specs.Carry.{place_after, cells_after, new_place, AreGiven, HasGiven, GoesBy}
+use Rattle.krb_keytab.specs.declared.step.Ending.TheVariants as ending
+use Rattle.krb_keytab.specs.Known.{IsKnownEnd}
+use Rattle.krb_keytab.proofs.CellLemmas.{contents_again}
+use Rattle.krb_keytab.proofs.Turned.{contents_none}
+use Rattle.std.proofs.Math.ListN.{drop_of_length-le}
+use Rattle.krb_keytab.proofs.Cuts.{cell_len, far, end_place_is}
+use Rattle.krb_keytab.proofs.Entries.{entry_spelled, entry_again}
+use Rattle.krb_keytab.proofs.WrittenLemmas.{written_spells, written_len}
+use Rattle.krb_keytab.proofs.Stores.{past, store_sound, is_place-store, end_place-store, held, place_held}
+use Rattle.krb_keytab.proofs.AnewLemmas.{fits_anew}
+use Rattle.krb_keytab.proofs.StoreChanges.{whole_of}
+use Rattle.krb_keytab.proofs.Rewrites.{anews, entries_of, entries_all, anews_live, anews_free, anews_none}
+
+-- ---- where a place is carried
+
+-- told by the ranks of live cells
+abbrev by_rank : ℕ → List Cell → ℕ → List Cell → ℕ → ℕ
+by_rank at cs to ds p = nth_or (end_from to (map placed ds)) (lives to (map placed ds)) (below p (lives at (map placed cs)))
+
+first_of : (to : ℕ) (es : List EntryParts) → nth_or (end_from to (map placed (map new_record es))) (lives to (map placed (map new_record es))) 0 ≡ to
+first_of to [] = refl
+first_of to (e ∷ es) = refl
+
+at_or_after : (f : KtFormat) (at to p : ℕ) (cs : List Cell) (es : List EntryParts) → AllByRecursion (IsCell f) cs → p ≤ at → by_rank at cs to (map new_record es) p ≡ to
+at_or_after f at to p cs es sound le =
+    let ps = lives at (map placed cs) in
+    let none : below p ps ≡ 0 = below_none p at (end_from at (map placed cs)) ps le (lives_rise at (map placed cs) (store_sound f cs sound)) in
+    ap (nth_or (end_from to (map placed (map new_record es))) (lives to (map placed (map new_record es)))) none ∙ first_of to es
+
+carried_by : (at to p : ℕ) (c : Cell) (cs ds : List Cell) (n : ℕ) → (p ≤ at → n ≡ to) → (at < p → n ≡ new_place (at + 4 + size c) cs (place_after c to ds) (cells_after c ds) p) → new_place at (c ∷ cs) to ds p ≡ n
+carried_by at to p c cs ds n here later = elim (cases_lt at p) [
+  | inl lt ↦ let no : nat_le p at ≡ false = grind (arith, nat_tests) in rw no (sym (later lt))
+  | inr le ↦ let yes : nat_le p at ≡ true = grind (arith, nat_tests) in rw yes (sym (here le))
+]
+
+live_rank : (at to p : ℕ) (b : List ℕ) (e : EntryParts) (cs : List Cell) (es : List EntryParts) → at < p → by_rank at (Live b ∷ cs) to (new_record e ∷ map new_record es) p ≡ by_rank (at + 4 + length b) cs (to + 4 + length (written V2 e)) (map new_record es) p
+live_rank at to p b e cs es lt =
+    let at2 = at + (4 + length b) in
+    let to2 = to + (4 + length (written V2 e)) in
+    let ds = map placed (map new_record es) in
+    let ps = lives at2 (map placed cs) in
+    ap (λ (n : ℕ). nth_or (end_from to2 ds) (to ∷ lives to2 ds) n) (below_some p at ps lt)
+    ∙ sym (ap (λ (n : ℕ). by_rank n cs (to + 4 + length (written V2 e)) (map new_record es) p) (past at (length b)) ∙ ap (λ (n : ℕ). by_rank at2 cs n (map new_record es) p) (past to (length (written V2 e))))
+
+pub carried_is : (f : KtFormat) (cs : List Cell) (at to p : ℕ) → AllByRecursion (IsCell f) cs → new_place at cs to (anews f cs) p ≡ by_rank at cs to (anews f cs) p
+carried_is f [] at to p sound = ap (λ (ds : List Cell). new_place at [] to ds p) (anews_none f) ∙ sym (ap (λ (ds : List Cell). by_rank at [] to ds p) (anews_none f))
+carried_is f (Free b ∷ cs) at to p sound =
+    let goal : new_place at (Free b ∷ cs) to (anews f cs) p ≡ by_rank at (Free b ∷ cs) to (anews f cs) p =
+    carried_by at to p (Free b) cs (anews f cs) (by_rank at (Free b ∷ cs) to (anews f cs) p)
+    (λ le. at_or_after f at to p (Free b ∷ cs) (entries_of f cs) sound le)
+    (λ lt. sym (carried_is f cs (at + 4 + length b) to p sound.1 ∙ ap (λ (n : ℕ). by_rank n cs to (anews f cs) p) (past at (length b)))) in
+    ap (λ (ds : List Cell). new_place at (Free b ∷ cs) to ds p) (anews_free f b cs) ∙ goal ∙ sym (ap (λ (ds : List Cell). by_rank at (Free b ∷ cs) to ds p) (anews_free f b cs))
+carried_is f (Live b ∷ cs) at to p sound =
+    let e = is_some_has (entry_at f b) sound.0.2 in
+    let is = anews_live f b e.0 cs e.1 in
+    let goal : new_place at (Live b ∷ cs) to (new_record e.0 ∷ anews f cs) p ≡ by_rank at (Live b ∷ cs) to (new_record e.0 ∷ anews f cs) p =
+    carried_by at to p (Live b) cs (new_record e.0 ∷ anews f cs) (by_rank at (Live b ∷ cs) to (new_record e.0 ∷ anews f cs) p)
+    (λ le. at_or_after f at to p (Live b ∷ cs) (e.0 ∷ entries_of f cs) sound le)
+    (λ lt. live_rank at to p b e.0 cs (entries_of f cs) lt ∙ sym (carried_is f cs (at + 4 + length b) (to + 4 + length (written V2 e.0)) p sound.1)) in
+    ap (λ (ds : List Cell). new_place at (Live b ∷ cs) to ds p) is ∙ goal ∙ sym (ap (λ (ds : List Cell). by_rank at (Live b ∷ cs) to ds p) is)
+
+pub carry_is : (k : State) (p : ℕ) → AllByRecursion (IsCell k.format) k.contents.cells → new_place 2 k.contents.cells 2 (rewrite_of k).contents.cells p ≡ carry (store_of k) (store_of (rewrite_of k)) p
+carry_is k p sound =
+    let same = entries_all k in
+    subst (λ (es : List EntryParts). new_place 2 k.contents.cells 2 (map new_record es) p ≡ by_rank 2 k.contents.cells 2 (map new_record es) p) (sym same) (carried_is k.format k.contents.cells 2 2 p sound)
+
+end_after_cell : (c : Cell) (to : ℕ) (ds : List Cell) → end_place (place_after c to ds) (cells_after c ds) ≡ end_place to ds
+end_after_cell (Free b) to ds = refl
+end_after_cell (Live b) to [] = refl
+end_after_cell (Live b) to (d ∷ ds) = refl
+
+one_of : (b : Bool) (m n end : ℕ) → m ≤ end → n ≤ end → cond b m n ≤ end
+one_of true m n end x y = x
+one_of false m n end x y = y
+
+-- a place goes no farther than the new end
+pub carried_le : (cs : List Cell) (at to p : ℕ) (ds : List Cell) → new_place at cs to ds p ≤ end_place to ds
+carried_le [] at to p ds = far ds to
+carried_le (c ∷ cs) at to p ds = one_of (nat_le p at) to (new_place (at + 4 + size c) cs (place_after c to ds) (cells_after c ds) p) (end_place to ds) (far ds to) (subst (λ (n : ℕ). new_place (at + 4 + size c) cs (place_after c to ds) (cells_after c ds) p ≤ n) (end_after_cell c to ds) (carried_le cs (at + 4 + size c) (place_after c to ds) p (cells_after c ds)))
+
+-- ---- cursors
+
+place_le : (cs : List Cell) (p : ℕ) → is_place 2 cs p ≡ true → p ≤ end_place 2 cs
+place_le cs p h = omega (arith, place_in 2 (map placed cs) p (sym (is_place-store 2 p cs) ∙ h), end_place-store 2 cs)
+
+place_before : (cs : List Cell) (p end : ℕ) → is_place 2 cs p ≡ true → end_place 2 cs ≡ end → p ≢ end → p < end
+place_before cs p end h is ne = elim (cases_lt p end) [
+  | inl lt ↦ lt
+  | inr le ↦ absurd (ne (omega (arith, le, is, place_le cs p h)))
+]
+
+-- each cursor was given a place
+pub all_given : (image : List ℕ) (end : ℕ) (cs ds : List Cell) (cursors : List ℕ) → AreGiven image end cs ds → end_place 2 cs ≡ end → AllByRecursion (λ p. is_place 2 cs p ≡ true) cursors → AllByRecursion (HasGiven image end) cursors
+all_given image end cs ds [] given is h = tt
+all_given image end cs ds (p ∷ ps) given is h = (λ ne. (given p h.0 (place_before cs p end h.0 is ne)).within, all_given image end cs ds ps given is h.1)
+
+-- and goes there
+pub all_go : (image : List ℕ) (end last : ℕ) (cs ds : List Cell) (cursors : List ℕ) → AreGiven image end cs ds → end_place 2 cs ≡ end → last ≡ new_place 2 cs 2 ds end → end_place 2 ds < 2 ^ 32
+    → AllByRecursion (λ p. is_place 2 cs p ≡ true) cursors → AllByRecursion (GoesBy image end last (new_place 2 cs 2 ds)) cursors
+all_go image end last cs ds [] given is is_last small h = tt
+all_go image end last cs ds (p ∷ ps) given is is_last small h = (
+  record {
+    small = omega (arith, carried_le cs 2 2 p ds, small);
+    ends = λ e. is_last ∙ ap (new_place 2 cs 2 ds) (sym e);
+    told = λ ne. given p h.0 (place_before cs p end h.0 is ne);
+  },
+  all_go image end last cs ds ps given is is_last small h.1,
+)
+
+-- places of the store are places of its cells
+pub all_places : (f : KtFormat) (limit : ℕ) (image bytes : List ℕ) (k : State) (cursors : List ℕ) → bytes ≡ image → held f limit image ≡ k → AllByRecursion (IsPlace (store_of k)) cursors → AllByRecursion (λ p. is_place 2 (contents f (drop 2 bytes)).cells p ≡ true) cursors
+all_places f limit image bytes k [] same is h = tt
+all_places f limit image bytes k (p ∷ ps) same is h = (place_held f limit image bytes k p same is h.0, all_places f limit image bytes k ps same is h.1)
+
+map_same : (f g : ℕ → ℕ) (xs : List ℕ) → ((x : ℕ) → f x ≡ g x) → map f xs ≡ map g xs
+map_same f g [] same = refl
+map_same f g (x ∷ xs) same = ap (λ (n : ℕ). n ∷ map f xs) (same x) ∙ ap (λ (ys : List ℕ). g x ∷ ys) (map_same f g xs same)
+
+pub all_carried : (f : KtFormat) (limit : ℕ) (image bytes new : List ℕ) (k after : State) (cursors : List ℕ) → bytes ≡ image → held f limit image ≡ k → AllByRecursion (IsCell k.format) k.contents.cells → contents V2 (drop 2 new) ≡ (rewrite_of k).contents → after ≡ rewrite_of k
+    → map (new_place 2 (contents f (drop 2 bytes)).cells 2 (contents V2 (drop 2 new)).cells) cursors ≡ map (carry (store_of k) (store_of after)) cursors
+all_carried f limit image bytes new k after cursors same is sound spelled done =
+    ap (λ (b : List ℕ). map (new_place 2 (contents f (drop 2 b)).cells 2 (contents V2 (drop 2 new)).cells) cursors) same
+    ∙ ap (λ (s : State). map (new_place 2 s.contents.cells 2 (contents V2 (drop 2 new)).cells) cursors) is
+    ∙ ap (λ (x : Contents). map (new_place 2 k.contents.cells 2 x.cells) cursors) spelled
+    ∙ map_same (new_place 2 k.contents.cells 2 (rewrite_of k).contents.cells) (carry (store_of k) (store_of (rewrite_of k))) cursors (λ p. carry_is k p sound)
+    ∙ ap (λ (s : State). map (carry (store_of k) (store_of s)) cursors) (sym done)

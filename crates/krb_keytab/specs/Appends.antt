@@ -1,0 +1,14 @@
+-- What an addition after the cells answers, and which keytab it leaves.
+use Rattle.std.specs.Prelude.{◌≡◌, ℕ, ◌<◌, List, length, Result, Ok, Err}
+use Rattle.krb_walk.specs.declared.refusal.Refusal.{Refusal}
+use Rattle.krb_walk.specs.declared.refusal.Refusal.TheVariants.{Code as ByCode, NoMemory}
+use Rattle.krb_walk.specs.Store.{end_of}
+use Rattle.krb_keytab.specs.Store.{State, image_of, store_of}
+use Rattle.krb_keytab.specs.Changes.{with_last, appending}
+
+-- it answered what it gives, or that it is out of memory where the image becomes longer
+abbrev pub AnswersAppend : State → List ℕ → Result ℕ Refusal → State → Type 0
+AnswersAppend k bytes (Ok place) new = appending k bytes ≡ Ok (place, new)
+AnswersAppend k bytes (Err (ByCode refused)) new = (appending k bytes ≡ Err refused) × (new ≡ k)
+AnswersAppend k bytes (Err NoMemory) new =
+    (appending k bytes ≡ Ok (end_of (store_of k), with_last k bytes)) × (length (image_of k) < length (image_of (with_last k bytes))) × (new ≡ k)

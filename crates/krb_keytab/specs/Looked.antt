@@ -1,0 +1,16 @@
+-- What was found among the first entries of a look-up: whether some entry was asked for, and which is looked for.
+use Rattle.std.specs.Prelude.{◌≡◌, ℕ, List, Bool, true, false, filter, Option, None, Some, Result, Ok, Err}
+use Rattle.krb_wire.specs.Spelling.{Parts}
+use Rattle.krb_walk.specs.declared.refusal.Code.{Code}
+use Rattle.krb_walk.specs.declared.refusal.Code.TheVariants.{NotFound, KvnoNotFound}
+use Rattle.krb_keytab.specs.LookUp.{Placed, is_asked, look_up_in}
+
+-- what is answered of that
+abbrev pub answer : Bool → Option Placed → Result Placed Code
+answer named (Some x) = Ok x
+answer true None = Err KvnoNotFound
+answer false None = Err NotFound
+
+-- it is what look-up gives among these entries
+abbrev pub IsFoundAmong : Parts → ℕ → ℕ → List Placed → Bool → Option Placed → Type 0
+IsFoundAmong name kvno enctype xs named best = answer named best ≡ look_up_in kvno (filter (is_asked name enctype) xs)
