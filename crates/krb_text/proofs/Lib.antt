@@ -1,4 +1,4 @@
-pub mod Fronts
+pub mod Prefixes
 pub mod FileLists
 pub mod Passing
 pub mod Lines

@@ -1,9 +1,9 @@
 -- How a text passes to a writer: what was gathered, what was sent, and what a failure leaves.
 use Rattle.std.proofs.Common.{◌≡◌, ℕ, List, [], ◌++◌, Option, sym, ap, ◌∙◌, append_assoc, append-nil}
 use Rattle.std.specs.Io.KnownBytes.{Appends}
-use Rattle.krb_text.specs.Bytes.{AppendsFront}
+use Rattle.krb_text.specs.Bytes.{AppendsPrefix}
 use Rattle.krb_text.specs.Gathered.{Sent, Passed}
-use Rattle.krb_text.proofs.Fronts.{Appends-nil, Appends-trans, AppendsFront-longer}
+use Rattle.krb_text.proofs.Prefixes.{Appends-nil, Appends-trans, AppendsPrefix-longer}
 
 -- three pieces are gathered
 pub gathered_three : (a b c d x y z : List ℕ) → b ≡ a ++ x → c ≡ b ++ y → d ≡ c ++ z → d ≡ a ++ (x ++ (y ++ z))
@@ -38,17 +38,17 @@ passed_last o p whole x b more h e = record {
   parts = ap (λ (t : List ℕ). t ++ x) (h.parts ∙ ap (λ (t : List ℕ). h.sent ++ t) (append-nil b)) ∙ append_assoc h.sent b x ∙ ap (λ (t : List ℕ). h.sent ++ t) (sym e ∙ sym (append-nil more));
 }
 
--- what was sent is a front of the whole
-pub passed_front : (o p : Option (List ℕ)) (whole rest b : List ℕ) → Passed o p whole rest b → AppendsFront o p whole
-passed_front o p whole rest b h = record { front = h.sent; rest = b ++ rest; appends = h.appends; splits = h.parts }
+-- what was sent is a prefix of the whole
+pub passed_prefix : (o p : Option (List ℕ)) (whole rest b : List ℕ) → Passed o p whole rest b → AppendsPrefix o p whole
+passed_prefix o p whole rest b h = record { prefix = h.sent; rest = b ++ rest; appends = h.appends; splits = h.parts }
 
--- and still is where a front of what is gathered is sent
-pub passed_fail : (o p q : Option (List ℕ)) (whole rest b : List ℕ) → Passed o p whole rest b → AppendsFront p q b → AppendsFront o q whole
+-- and still is where a prefix of what is gathered is sent
+pub passed_fail : (o p q : Option (List ℕ)) (whole rest b : List ℕ) → Passed o p whole rest b → AppendsPrefix p q b → AppendsPrefix o q whole
 passed_fail o p q whole rest b h f = record {
-  front = h.sent ++ f.front;
+  prefix = h.sent ++ f.prefix;
   rest = f.rest ++ rest;
-  appends = Appends-trans o p q h.sent f.front h.appends f.appends;
-  splits = h.parts ∙ ap (λ (t : List ℕ). h.sent ++ (t ++ rest)) f.splits ∙ ap (λ (t : List ℕ). h.sent ++ t) (append_assoc f.front f.rest rest) ∙ sym (append_assoc h.sent f.front (f.rest ++ rest));
+  appends = Appends-trans o p q h.sent f.prefix h.appends f.appends;
+  splits = h.parts ∙ ap (λ (t : List ℕ). h.sent ++ (t ++ rest)) f.splits ∙ ap (λ (t : List ℕ). h.sent ++ t) (append_assoc f.prefix f.rest rest) ∙ sym (append_assoc h.sent f.prefix (f.rest ++ rest));
 }
 
 -- all that is gathered is sent at last
@@ -57,11 +57,11 @@ passed_all o p q whole b h s =
     let is : whole ≡ h.sent ++ b = h.parts ∙ ap (λ (t : List ℕ). h.sent ++ t) (append-nil b) in
     rw is (Appends-trans o p q h.sent b h.appends s)
 
--- a front of the first two of three pieces is one of all
-pub front_of_three : (o p : Option (List ℕ)) (b first second third : List ℕ) → b ≡ first → AppendsFront o p (b ++ second) → AppendsFront o p (first ++ (second ++ third))
-front_of_three o p b first second third is f =
-    let same : AppendsFront o p (first ++ second) = rw (sym is) f in
-    rw (sym (append_assoc first second third)) (AppendsFront-longer o p (first ++ second) third same)
+-- a prefix of the first two of three pieces is one of all
+pub prefix_of_three : (o p : Option (List ℕ)) (b first second third : List ℕ) → b ≡ first → AppendsPrefix o p (b ++ second) → AppendsPrefix o p (first ++ (second ++ third))
+prefix_of_three o p b first second third is f =
+    let same : AppendsPrefix o p (first ++ second) = rw (sym is) f in
+    rw (sym (append_assoc first second third)) (AppendsPrefix-longer o p (first ++ second) third same)
 
 -- the first two of three pieces passed, and the third is gathered
 pub passed_three : (o p : Option (List ℕ)) (b first second third more last : List ℕ) → b ≡ first → Passed o p (b ++ second) [] more → last ≡ more ++ third → Passed o p (first ++ (second ++ third)) [] last

@@ -1,5 +1,5 @@
 -- Files as a map from names to bytes.
-use Rattle.std.specs.Prelude.{◌≡◌, ◌⊎◌, ℕ, ◌-◌, ◌^◌, ◌<◌, List, length, if◌then◌else◌, nat_lt, Option, None, Some, Result, Ok, Err}
+use Rattle.std.specs.Prelude.{◌≡◌, ◌⊎◌, ℕ, ◌-◌, ◌^◌, ◌<◌, List, length, if◌then◌else◌, nat_lt, Option, None, Some, Result, Ok, Err, Vec}
 use Rattle.krb_text.specs.declared.files.LoadFault.{LoadFault}
 use Rattle.krb_text.specs.declared.files.LoadFault.TheVariants.{Missing, TooLarge}
 
@@ -14,6 +14,11 @@ SameFiles old new = (name : List ℕ) → new name ≡ old name
 -- the count of failures rose, or it can rise no further
 abbrev pub CountsFailure : ℕ → ℕ → Type 0
 CountsFailure old new = (old < new) ⊎ (old ≡ 2 ^ 64 - 1)
+
+-- the bytes that were loaded, or why none were
+abbrev pub answer_of : {A : Type 0} → Result (Vec ℕ A) LoadFault → Result (List ℕ) LoadFault
+answer_of (Ok bytes) = Ok bytes.items
+answer_of (Err fault) = Err fault
 
 -- what a load of at most `limit` bytes gives of what stands under the name
 abbrev pub loaded : Option (List ℕ) → ℕ → Result (List ℕ) LoadFault

@@ -1,8 +1,8 @@
 -- Files in memory.
-use Rattle.std.specs.Prelude.{◌≡◌, ◌⊎◌, ◌==◌, ◌||◌, ℕ, ◌+◌, ◌-◌, ◌^◌, List, Bool, if◌then◌else◌, find, option_map, Result, Err, IsOk}
+use Rattle.std.specs.Prelude.{◌≡◌, ◌⊎◌, ◌==◌, ◌||◌, ℕ, ◌+◌, ◌-◌, ◌^◌, List, Bool, true, false, if◌then◌else◌, find, option_map, Result, Ok, Err, IsOk}
 use Rattle.std.specs.Str.{bytes_eq}
 use Rattle.krb_text.specs.declared.files.LoadFault.{LoadFault}
-use Rattle.krb_text.specs.declared.files.LoadFault.TheVariants.{NoMemory}
+use Rattle.krb_text.specs.declared.files.LoadFault.TheVariants.{Failed, NoMemory}
 use Rattle.krb_text.specs.Files.{FileMap}
 
 -- the bytes of the first pair of that name
@@ -26,6 +26,12 @@ after_call m =
     else (if m.failing == 1 then record m { failing = 0; failures = m.failures + 1 }
     else record m { failing = m.failing - 1 })
 
--- a copy of what was loaded was refused memory, or nothing was loaded
+-- there was no memory for a copy of what was loaded, or nothing was loaded
 abbrev pub FaultOf : Result (List ℕ) LoadFault → LoadFault → Type 0
 FaultOf load fault = ((fault ≡ NoMemory) × IsOk load) ⊎ (load ≡ Err fault)
+
+-- a call that fails says so, and any other gives what stands there, or there was no memory for a copy
+abbrev pub AnswersOf : Bool → Result (List ℕ) LoadFault → Result (List ℕ) LoadFault → Type 0
+AnswersOf true load answer = answer ≡ Err Failed
+AnswersOf false load (Ok bytes) = load ≡ Ok bytes
+AnswersOf false load (Err fault) = FaultOf load fault

@@ -57,7 +57,7 @@ pub fn etype_text<A: Allocator>(etype: u16, out: &mut Vec<u8, A>) -> Result<(), 
     ensures err { OnErr result (out.new.items ≡ out.old.items) }
     ensures capacity { vec_capacity out.old ≤ vec_capacity out.new }
 
-    // Memory is wanting only where the text does not fit the room that there is.
+    // It is out of memory only where the text does not fit into the room that there was.
     ensures full { OnErr result (HadNoRoom out.old (etype_text_of etype)) }
 
     // The text of a number of the table is read as that number.

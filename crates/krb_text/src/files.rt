@@ -1,7 +1,7 @@
 //! Files by name.
 
-ghost use Rattle.std.specs.Prelude.{◌≡◌, ◌≤◌, ◌⊎◌, ℕ, ◌-◌, ◌^◌, Ok, Err, IfOk, IfErr, IsErrOf};
-ghost use Rattle.krb_text.specs.Files.{FileMap, SameFiles, CountsFailure, loaded};
+ghost use Rattle.std.specs.Prelude.{◌≡◌, ◌≤◌, ◌⊎◌, ℕ, ◌-◌, ◌^◌, List, Result, Ok, Err, IfOk, IfErr, IsErrOf};
+ghost use Rattle.krb_text.specs.Files.{FileMap, SameFiles, CountsFailure, answer_of, loaded};
 
 use std::alloc::Allocator;
 use thiserror::Error;
@@ -10,17 +10,19 @@ use thiserror::Error;
 #[derive(Clone, Copy, Debug, PartialEq, Eq, Error)]
 pub enum LoadFault {
     #[error("no such file")]
-    Missing = 1,
+    Missing,
     #[error("file too large")]
-    TooLarge = 2,
+    TooLarge,
     #[error("cannot read")]
-    Failed = 3,
+    Failed,
     #[error("out of memory")]
-    NoMemory = 4,
+    NoMemory,
 }
 
 /// Files by name. What is said of their bytes holds while the files are honest.
 pub trait Files {
+    ghost use Rattle.krb_text.specs.declared.files.LoadFault.{LoadFault};
+
     /// What stands under each name.
     ghost file: { Self → FileMap };
 
@@ -29,6 +31,10 @@ pub trait Files {
 
     /// How many calls failed, as far as a u64 counts.
     ghost failure_count: { Self → ℕ };
+
+    /// What a load of that name and limit may answer, and what it leaves. Honest or not, no answer
+    /// comes from elsewhere.
+    ghost answers: { Self → List ℕ → ℕ → Result (List ℕ) LoadFault → Self → Type 0 };
 
     /// The bytes of a file, if they are at most `limit`.
     fn load<A: Allocator>(
@@ -39,6 +45,7 @@ pub trait Files {
     ) -> Result<Vec<u8, A>, LoadFault>
         ensures honest { is_honest self.old → is_honest self.new }
         ensures same { is_honest self.old → SameFiles (file self.old) (file self.new) }
+        ensures answered { answers self.old name.now limit (answer_of result) self.new }
 
         // Where neither a call nor memory failed, the answer is what stands there.
         ensures ok { is_honest self.old

@@ -1,13 +1,14 @@
 //! Text on its way to a writer, gathered into large writes.
 
-ghost use Rattle.std.specs.Prelude.{◌≡◌, ◌++◌, ◌∷◌, [], decimal, ◌<◌, vec_len, OnOk, OnErr, IfErr};
+ghost use Rattle.std.specs.Prelude.{◌≡◌, ◌++◌, ◌∷◌, [], decimal, ◌<◌, vec_len, is_err, IsFalse, OnOk, OnErr, IfErr};
 ghost use Rattle.krb_wire.specs.Names.{HadNoRoom, name_text};
-ghost use Rattle.krb_text.specs.Bytes.{AppendsFront};
+ghost use Rattle.krb_text.specs.Bytes.{AppendsPrefix};
 ghost use Rattle.krb_text.specs.Gathered.{Sent};
 ghost use Rattle.krb_text.specs.Listing.{right_in_4};
 
 use crate::append::append;
 use crate::output::{OutFault, put};
+use crate::watched::Watched;
 use itoa::{Buffer, write_digits};
 use krb_wire::{Name, write_name};
 use std::alloc::Allocator;
@@ -77,13 +78,15 @@ pub fn gather_name<N: Name, A: Allocator>(
 /// Writes what is gathered where it is much.
 pub fn send_if_full<A: Allocator, W: Write>(
     gathered: &mut Vec<u8, A>,
-    out: &mut W,
+    out: &mut Watched<W>,
 ) -> Result<(), OutFault>
-    ensures ok { OnOk result (Sent (W.contents out.old) (W.contents out.new)
+    requires { IsFalse out.old.failed }
+    ensures ok { OnOk result (Sent out.old.contents out.new.contents
         gathered.old.items gathered.new.items) }
     ensures little { OnOk result (vec_len gathered.new < FULL) }
-    ensures front { OnErr result
-        (AppendsFront (W.contents out.old) (W.contents out.new) gathered.old.items) }
+    ensures prefix { OnErr result
+        (AppendsPrefix out.old.contents out.new.contents gathered.old.items) }
+    ensures failed { out.new.failed ≡ is_err result }
     ensures why { IfErr result (λ fault. fault ≡ OutFault.Write) }
 {
     if gathered.len() < FULL {

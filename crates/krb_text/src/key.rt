@@ -30,7 +30,7 @@ pub fn key_text<A: Allocator>(key: &[u8], out: &mut Vec<u8, A>) -> Result<(), No
     ensures err { OnErr result (out.new.items ≡ out.old.items) }
     ensures capacity { vec_capacity out.old ≤ vec_capacity out.new }
 
-    // Memory is wanting only where the text does not fit the room that there is.
+    // It is out of memory only where the text does not fit into the room that there was.
     ensures full { OnErr result (HadNoRoom out.old (key_text_of key.now)) }
 {
     let start = out.len();

@@ -1,4 +1,4 @@
-//! Keytabs and credential caches as text, and files by name.
+//! Keytabs as text, and files by name.
 #![tactic(auto)]
 
 mod append;
@@ -16,6 +16,7 @@ mod output;
 #[cfg(test)]
 mod tests;
 mod time;
+mod watched;
 
 pub use columns::KtColumns;
 pub use etype::{etype_of, etype_text, key_size};
@@ -27,3 +28,4 @@ pub use mem_files::MemFiles;
 pub use numbers::parse_u32;
 pub use output::{OutFault, put};
 pub use time::time_text;
+pub use watched::Watched;

@@ -1,10 +1,10 @@
 //! The listing of a keytab.
 
-ghost use Rattle.std.specs.Prelude.{◌≡◌, ◌++◌, ◌∷◌, [], OnOk, OnErr, IfErr, IsSome, codes};
+ghost use Rattle.std.specs.Prelude.{◌≡◌, ◌++◌, ◌∷◌, [], OnOk, OnErr, IfErr, IsFalse, IsSome, codes};
 ghost use Rattle.std.specs.Io.KnownBytes.{Appends};
 ghost use Rattle.krb_walk.specs.Store.{live_bytes, fault_of};
 ghost use Rattle.krb_keytab.specs.Store.{store_of};
-ghost use Rattle.krb_text.specs.Bytes.{AppendsFront};
+ghost use Rattle.krb_text.specs.Bytes.{AppendsPrefix, is_write_fault};
 ghost use Rattle.krb_text.specs.Gathered.{Passed};
 ghost use Rattle.krb_text.specs.Listing.{titles, heading, line_at, entry_lines, fault_line, list_text};
 
@@ -12,6 +12,7 @@ use crate::columns::KtColumns;
 use crate::gather::{FULL, gather, gather_number, send_if_full};
 use crate::line::gather_entry;
 use crate::output::{OutFault, put};
+use crate::watched::Watched;
 use krb_keytab::{Keytab, read_entry};
 use krb_walk::{Fault, Stop};
 use std::alloc::Allocator;
@@ -65,12 +66,14 @@ fn list_records<A: Allocator, B: Allocator, W: Write>(
     keytab: &Keytab<B>,
     columns: KtColumns,
     gathered: &mut Vec<u8, A>,
-    out: &mut W,
+    out: &mut Watched<W>,
 ) -> Result<(), OutFault>
-    ensures ok { OnOk result (Passed (W.contents out.old) (W.contents out.new)
+    requires { IsFalse out.old.failed }
+    ensures ok { OnOk result (Passed out.old.contents out.new.contents
         (gathered.old.items ++ entry_lines columns keytab.now) [] gathered.new.items) }
-    ensures front { OnErr result (AppendsFront (W.contents out.old) (W.contents out.new)
+    ensures prefix { OnErr result (AppendsPrefix out.old.contents out.new.contents
         (gathered.old.items ++ entry_lines columns keytab.now)) }
+    ensures failed { out.new.failed ≡ is_write_fault result }
 {
     let mut place = keytab.first();
     'records: while let Stop::Live { place: at, next } = keytab.stop_at(place) {
@@ -100,18 +103,20 @@ fn gather_fault<A: Allocator>(
 
 /// Writes the listing of a keytab under that name: a heading, a line for each record in file order, and
 /// where the image is damaged its fault. It is gathered into large writes; where one fails, what went
-/// out is a front of the text.
+/// out is a prefix of the text.
 pub fn list_keytab<A: Allocator, B: Allocator, W: Write>(
     alloc: A,
     name: &str,
     keytab: &Keytab<B>,
     columns: KtColumns,
-    out: &mut W,
+    out: &mut Watched<W>,
 ) -> Result<(), OutFault>
-    ensures ok { OnOk result (Appends (W.contents out.old) (W.contents out.new)
+    requires { IsFalse out.old.failed }
+    ensures ok { OnOk result (Appends out.old.contents out.new.contents
         (list_text columns name.now keytab.now)) }
-    ensures front { OnErr result (AppendsFront (W.contents out.old) (W.contents out.new)
+    ensures prefix { OnErr result (AppendsPrefix out.old.contents out.new.contents
         (list_text columns name.now keytab.now)) }
+    ensures failed { out.new.failed ≡ is_write_fault result }
 {
     let Ok(mut gathered) = Vec::with_capacity(alloc, 2 * FULL) else {
         return Err(OutFault::NoMemory);

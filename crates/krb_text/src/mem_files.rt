@@ -3,7 +3,7 @@
 ghost use Rattle.std.specs.Prelude.{◌≡◌, ◌⊎◌, ◌↔◌, Ok, IfOk, IfErr, IsErrOf, IsTrue, map, option_map, option_copied, find, string_bytes};
 ghost use Rattle.std.specs.Str.{bytes_eq};
 ghost use Rattle.krb_text.specs.Files.{loaded};
-ghost use Rattle.krb_text.specs.MemFiles.{Memory, FaultOf, file_in, failing_next, after_call};
+ghost use Rattle.krb_text.specs.MemFiles.{Memory, AnswersOf, FaultOf, file_in, failing_next, after_call};
 
 use crate::files::{Files, LoadFault};
 use std::alloc::Allocator;
@@ -111,6 +111,10 @@ impl<A: Allocator> Files for MemFiles<A> {
     ghost is_honest = { λ _. Unit {0} };
 
     ghost failure_count = { λ m. m.failures };
+
+    ghost answers = { λ m name limit answer after.
+        AnswersOf (failing_next m) (loaded (file_in m.files name) limit) answer
+        × (after ≡ after_call m) };
 
     fn load<B: Allocator>(
         &mut self,

@@ -1,10 +1,11 @@
 //! Bytes into a writer.
 
-ghost use Rattle.std.specs.Prelude.{◌≡◌, [], IsOk, OnOk, OnErr, IfErr};
+ghost use Rattle.std.specs.Prelude.{◌≡◌, [], is_err, OnOk, OnErr, IfErr};
 ghost use Rattle.std.specs.Io.KnownBytes.{Appends};
 ghost use Rattle.krb_text.specs.declared.output.OutFault.TheVariants.{NoMemory as OutOfMemory};
-ghost use Rattle.krb_text.specs.Bytes.{AppendsFront};
+ghost use Rattle.krb_text.specs.Bytes.{AppendsPrefix};
 
+use crate::watched::Watched;
 use krb_wire::NoMemory;
 use std::io::Write;
 use thiserror::Error;
@@ -27,20 +28,23 @@ impl From<NoMemory> for OutFault {
     }
 }
 
-/// Writes all the bytes. After a failure the writer has taken a front of them.
-pub fn put<W: Write>(out: &mut W, bytes: &[u8]) -> Result<(), OutFault>
-    ensures ok { OnOk result (Appends (W.contents out.old) (W.contents out.new) bytes.now) }
-    ensures front { OnErr result
-        (AppendsFront (W.contents out.old) (W.contents out.new) bytes.now) }
+/// Writes all the bytes, and none where the writer failed before. After a failure it has taken a prefix
+/// of them.
+pub fn put<W: Write>(out: &mut Watched<W>, bytes: &[u8]) -> Result<(), OutFault>
+    ensures ok { OnOk result (Appends out.old.contents out.new.contents bytes.now) }
+    ensures prefix { OnErr result (AppendsPrefix out.old.contents out.new.contents bytes.now) }
+    ensures failed { out.new.failed ≡ is_err result }
     ensures why { IfErr result (λ fault. fault ≡ OutFault.Write) }
-    ensures nothing { bytes.now ≡ [] → IsOk result }
+    ensures nothing { bytes.now ≡ [] → out.new.failed ≡ out.old.failed }
 {
+    if out.has_failed() {
+        return Err(OutFault::Write);
+    }
     let mut done = 0;
     while done < bytes.len() {
-        match out.write(&bytes[done..]) {
-            Ok(0) => return Err(OutFault::Write),
-            Ok(n) => done += n,
-            Err(_) => return Err(OutFault::Write),
+        match out.write_some(&bytes[done..]) {
+            Some(n) => done += n,
+            None => return Err(OutFault::Write),
         }
     }
     Ok(())
@@ -54,7 +58,7 @@ mod tests {
     #[test]
     fn writes_behind_what_is_there(rt: HostRuntime) -> Result<(), Fail> {
         let mut out = Vec::from_slice(rt.alloc(), b"old ")?;
-        assert!(rt; put(&mut out, b"text") == Ok(()));
+        assert!(rt; put(&mut Watched::new(&mut out), b"text") == Ok(()));
         assert!(rt; out.as_slice() == b"old text".as_slice());
         Ok(())
     }

@@ -85,7 +85,7 @@ pub fn time_text<A: Allocator>(seconds: u32, out: &mut Vec<u8, A>) -> Result<(),
     ensures err { OnErr result (out.new.items ≡ out.old.items) }
     ensures capacity { vec_capacity out.old ≤ vec_capacity out.new }
 
-    // Memory is wanting only where the text does not fit the room that there is.
+    // It is out of memory only where the text does not fit into the room that there was.
     ensures full { OnErr result (HadNoRoom out.old (time_text_of seconds)) }
 {
     let (year, month, day) = civil_day(seconds / 86_400);

@@ -1,3 +1,4 @@
-pub mod Ends
-pub mod Pieces
 pub mod Reading
+pub mod Faults
+pub mod Pieces
+pub mod Ends

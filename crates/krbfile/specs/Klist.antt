@@ -16,6 +16,10 @@ use Rattle.krbfile.specs.declared.action.ListKind.TheVariants.{Keytab}
 use Rattle.krbfile.specs.Messages.{message, file_message}
 use Rattle.krbfile.specs.Runs.{Run}
 
+-- the most bytes that a file may have
+abbrev pub most_bytes : ℕ
+most_bytes = 16777216
+
 -- what is said of a file that was not loaded
 abbrev pub load_message : List ℕ → LoadFault → List ℕ
 load_message file load.Missing = file_message file (codes "no such file")
@@ -43,12 +47,8 @@ opening_run then_ file (Err fault) = record { out = []; err = open_message file 
 
 -- a file was loaded, or not
 abbrev pub load_run : (State → Run) → Order → List ℕ → Result (List ℕ) LoadFault → Run
-load_run then_ order file (Ok image) = opening_run then_ file (opening order 16777216 image)
+load_run then_ order file (Ok image) = opening_run then_ file (opening order most_bytes image)
 load_run then_ order file (Err fault) = record { out = []; err = load_message file fault; status = load_status fault }
-
--- something is done with the keytab of a file, where the bytes are those that stand under its name
-abbrev pub file_run : (State → Run) → Order → List ℕ → Option (List ℕ) → Run
-file_run then_ order file content = load_run then_ order file (loaded content 16777216)
 
 -- a keytab is listed; the listing tells its fault, if there is one
 abbrev pub listing_run : KtColumns → List ℕ → State → Run
@@ -62,6 +62,10 @@ listing_run columns file keytab = record {
 abbrev pub columns_of : ListKind → KtColumns
 columns_of (Keytab columns) = columns
 
--- the listing of a file
+-- the listing of what was loaded under a name
+abbrev pub listing_loaded : KlistOptions → List ℕ → Result (List ℕ) LoadFault → Run
+listing_loaded options file = load_run (listing_run (columns_of options.kind) file) options.v1_order file
+
+-- the listing of what stands under a name
 abbrev pub klist_run : KlistOptions → List ℕ → Option (List ℕ) → Run
-klist_run options file content = file_run (listing_run (columns_of options.kind) file) options.v1_order file content
+klist_run options file content = listing_loaded options file (loaded content most_bytes)

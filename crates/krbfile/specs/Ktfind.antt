@@ -5,10 +5,12 @@ use Rattle.krb_walk.specs.declared.refusal.Code.{Code}
 use Rattle.krb_walk.specs.Numbers.{code_number}
 use Rattle.krb_keytab.specs.LookUp.{Placed, finding}
 use Rattle.krb_keytab.specs.Store.{State}
+use Rattle.krb_text.specs.declared.files.LoadFault.{LoadFault}
+use Rattle.krb_text.specs.Files.{loaded}
 use Rattle.krb_text.specs.Found.{found_line}
 use Rattle.krbfile.specs.declared.action.FindOptions.{FindOptions}
 use Rattle.krbfile.specs.Messages.{file_message}
-use Rattle.krbfile.specs.Klist.{file_run}
+use Rattle.krbfile.specs.Klist.{load_run, most_bytes}
 use Rattle.krbfile.specs.Runs.{Run}
 
 -- what is said of a look-up that was refused
@@ -24,6 +26,10 @@ found_run file (Err code) = record { out = []; err = refused_message file code; 
 abbrev pub finding_run : {A : Type 0} → FindOptions A → List ℕ → State → Run
 finding_run options file keytab = found_run file (finding keytab (principal_parts options.name) options.kvno options.enctype)
 
--- the look-up in a file
+-- the look-up in what was loaded under a name
+abbrev pub finding_loaded : {A : Type 0} → FindOptions A → List ℕ → Result (List ℕ) LoadFault → Run
+finding_loaded options file = load_run (finding_run options file) options.v1_order file
+
+-- the look-up in what stands under a name
 abbrev pub ktfind_run : {A : Type 0} → FindOptions A → List ℕ → Option (List ℕ) → Run
-ktfind_run options file content = file_run (finding_run options file) options.v1_order file content
+ktfind_run options file content = finding_loaded options file (loaded content most_bytes)

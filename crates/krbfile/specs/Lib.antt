@@ -4,4 +4,5 @@ pub mod Messages
 pub mod Runs
 pub mod Klist
 pub mod Ktfind
+pub mod Options
 pub mod Actions

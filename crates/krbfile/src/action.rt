@@ -49,9 +49,9 @@ pub enum Action {
 #[derive(Clone, Copy, Debug, PartialEq, Eq, Error)]
 pub enum WordFault {
     #[error("bad command line")]
-    BadLine = 1,
+    BadLine,
     #[error("out of memory")]
-    NoMemory = 2,
+    NoMemory,
 }
 
 impl From<AllocError> for WordFault {

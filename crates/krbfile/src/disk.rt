@@ -2,6 +2,7 @@
 
 ghost use Rattle.std.specs.Prelude.{◌≡◌, ◌≤◌, ℕ, None};
 ghost use Rattle.krb_text.specs.Files.{CountsFailure};
+ghost use Rattle.krbfile.specs.Load.{AnswersFromDisk};
 
 use crate::load::load;
 use krb_text::{Files, LoadFault};
@@ -44,6 +45,8 @@ impl<R: rt::Files> Files for DiskFiles<'_, R> {
     ghost is_honest = { λ _. ⊥ };
 
     ghost failure_count = { λ failures. failures };
+
+    ghost answers = { λ old _ limit answer new. AnswersFromDisk old new limit answer };
 
     fn load<A: Allocator>(
         &mut self,

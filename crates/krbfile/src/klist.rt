@@ -1,18 +1,15 @@
 //! Lists a file.
 
-ghost use Rattle.std.specs.Prelude.{◌≡◌, ◌≢◌, ◌⊎◌, Ok, codes};
-ghost use Rattle.std.specs.Io.KnownBytes.{Appends};
-ghost use Rattle.krb_text.specs.Bytes.{AppendsFront};
+ghost use Rattle.std.specs.Prelude.{◌⊎◌, Ok, IsFalse};
 ghost use Rattle.krb_text.specs.Files.{SameFiles};
-ghost use Rattle.krbfile.specs.Messages.{message};
-ghost use Rattle.krbfile.specs.Runs.{EndsRun, FailsToRead};
-ghost use Rattle.krbfile.specs.Klist.{columns_of, klist_run, load_run, listing_run};
+ghost use Rattle.krbfile.specs.Runs.{EndsRun, EndsLoaded, FailsToRead, HasCause};
+ghost use Rattle.krbfile.specs.Klist.{klist_run, listing_loaded, listing_run, most_bytes};
 
 use crate::action::{KlistOptions, ListKind};
 use crate::messages::complain;
 use crate::refuse::{LIMIT, refuse_image, refuse_load};
 use krb_keytab::Keytab;
-use krb_text::{Files, KtColumns, OutFault, list_keytab};
+use krb_text::{Files, KtColumns, OutFault, Watched, list_keytab};
 use krb_wire::Limits;
 use std::alloc::Allocator;
 use std::io::Write;
@@ -23,11 +20,12 @@ fn list_opened<A: Allocator, B: Allocator, W: Write, E: Write>(
     file: &str,
     keytab: &Keytab<B>,
     columns: KtColumns,
-    out: &mut W,
-    err: &mut E,
+    out: &mut Watched<W>,
+    err: &mut Watched<E>,
 ) -> u8
+    requires { IsFalse out.old.failed }
     ensures { EndsRun (listing_run columns file.now keytab.now)
-        (W.contents out.old) (W.contents out.new) (E.contents err.old) (E.contents err.new) result }
+        out.old out.new err.old err.new result }
 {
     match list_keytab(alloc, file, keytab, columns, out) {
         Ok(()) if keytab.fault().is_some() => 1,
@@ -49,12 +47,12 @@ fn list_image<A: Allocator + Copy, W: Write, E: Write>(
     options: &KlistOptions,
     file: &str,
     image: Vec<u8, A>,
-    out: &mut W,
-    err: &mut E,
+    out: &mut Watched<W>,
+    err: &mut Watched<E>,
 ) -> u8
-    ensures { EndsRun (load_run (listing_run (columns_of options.now.kind) file.now)
-        options.now.v1_order file.now (Ok image.items))
-        (W.contents out.old) (W.contents out.new) (E.contents err.old) (E.contents err.new) result }
+    requires { IsFalse out.old.failed }
+    ensures { EndsRun (listing_loaded options.now file.now (Ok image.items))
+        out.old out.new err.old err.new result }
 {
     let ListKind::Keytab(columns) = options.kind;
     match Keytab::open(image, options.v1_order, Limits::usual()) {
@@ -67,33 +65,30 @@ fn list_image<A: Allocator + Copy, W: Write, E: Write>(
 }
 
 /// Lists the file of that name on `out`, and answers the status. What goes wrong is said on `err`;
-/// a failure of `err` is passed over.
+/// a failure of `err` changes nothing else.
 pub fn run_klist<A: Allocator + Copy, F: Files, W: Write, E: Write>(
     alloc: A,
     options: &KlistOptions,
     file: &str,
     files: &mut F,
-    out: &mut W,
-    err: &mut E,
+    out: &mut Watched<W>,
+    err: &mut Watched<E>,
 ) -> u8
-    // The listing of what stands under the name, or what is wrong with it.
-    ensures run { F.is_honest files.old → result ≢ 3 → result ≢ 4 →
-        (let run = klist_run options.now file.now (F.file files.old file.now) in
-        (result ≡ run.status)
-        × Appends (W.contents out.old) (W.contents out.new) run.out
-        × AppendsFront (E.contents err.old) (E.contents err.new) run.err) }
+    requires { IsFalse out.old.failed }
 
-    // However it ends, no other text is out.
-    ensures front { F.is_honest files.old → AppendsFront (W.contents out.old) (W.contents out.new)
-        (klist_run options.now file.now (F.file files.old file.now)).out }
+    // What stands under the name decides the run, unless the file could not be read.
+    ensures run { F.is_honest files.old → FailsToRead file.now
+        (F.failure_count files.old) (F.failure_count files.new) out.old out.new err.old err.new result
+        ⊎ EndsRun (klist_run options.now file.now (F.file files.old file.now))
+        out.old out.new err.old err.new result }
 
-    // The file could not be read, or the output not be written.
-    ensures failed { result ≡ 3 → FailsToRead file.now
-        (F.failure_count files.old) (F.failure_count files.new)
-        (W.contents out.old) (W.contents out.new) (E.contents err.old) (E.contents err.new)
-        ⊎ AppendsFront (E.contents err.old) (E.contents err.new) (message (codes "cannot write output")) }
-    ensures no_memory { result ≡ 4 → AppendsFront (E.contents err.old) (E.contents err.new)
-        (message (codes "out of memory")) }
+    // Honest or not, what the files answered decides it.
+    ensures loaded { EndsLoaded (λ answer. F.answers files.old file.now most_bytes answer files.new)
+        (listing_loaded options.now file.now) (F.failure_count files.old) (F.failure_count files.new) out.old out.new err.old err.new result }
+
+    // Statuses 3 and 4 have their causes.
+    ensures cause { HasCause (F.failure_count files.old) (F.failure_count files.new)
+        out.new err.old err.new result }
 
     ensures same { F.is_honest files.old → SameFiles (F.file files.old) (F.file files.new) }
     ensures honest { F.is_honest files.old → F.is_honest files.new }

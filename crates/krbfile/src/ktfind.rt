@@ -1,20 +1,17 @@
 //! Looks up an entry.
 
-ghost use Rattle.std.specs.Prelude.{◌≡◌, ◌≢◌, ◌⊎◌, [], Ok, codes};
-ghost use Rattle.std.specs.Io.KnownBytes.{Appends};
-ghost use Rattle.krb_text.specs.Bytes.{AppendsFront};
+ghost use Rattle.std.specs.Prelude.{◌⊎◌, [], Ok, IsFalse};
 ghost use Rattle.krb_text.specs.Files.{SameFiles};
 ghost use Rattle.krb_text.specs.Found.{found_line};
-ghost use Rattle.krbfile.specs.Messages.{message};
-ghost use Rattle.krbfile.specs.Runs.{EndsRun, FailsToRead};
-ghost use Rattle.krbfile.specs.Klist.{load_run};
-ghost use Rattle.krbfile.specs.Ktfind.{finding_run, ktfind_run};
+ghost use Rattle.krbfile.specs.Runs.{EndsRun, EndsLoaded, FailsToRead, HasCause};
+ghost use Rattle.krbfile.specs.Klist.{most_bytes};
+ghost use Rattle.krbfile.specs.Ktfind.{finding_loaded, finding_run, ktfind_run};
 
 use crate::action::FindOptions;
 use crate::messages::complain;
 use crate::refuse::{LIMIT, refuse_code, refuse_image, refuse_load};
 use krb_keytab::{EntryView, Keytab};
-use krb_text::{Files, found_text, put};
+use krb_text::{Files, Watched, found_text, put};
 use krb_wire::Limits;
 use std::alloc::Allocator;
 use std::io::Write;
@@ -24,11 +21,12 @@ fn show_found<A: Allocator, W: Write, E: Write>(
     alloc: A,
     place: u32,
     entry: &EntryView<'_>,
-    out: &mut W,
-    err: &mut E,
+    out: &mut Watched<W>,
+    err: &mut Watched<E>,
 ) -> u8
+    requires { IsFalse out.old.failed }
     ensures { EndsRun (record { out = found_line (place, entry.now); err = []; status = 0 })
-        (W.contents out.old) (W.contents out.new) (E.contents err.old) (E.contents err.new) result }
+        out.old out.new err.old err.new result }
 {
     let Ok(line) = found_text(alloc, place, entry) else {
         complain(err, "out of memory");
@@ -47,11 +45,12 @@ fn find_opened<A: Allocator, B: Allocator, C: Allocator, W: Write, E: Write>(
     options: &FindOptions<B>,
     file: &str,
     keytab: &Keytab<C>,
-    out: &mut W,
-    err: &mut E,
+    out: &mut Watched<W>,
+    err: &mut Watched<E>,
 ) -> u8
+    requires { IsFalse out.old.failed }
     ensures { EndsRun (finding_run options.now file.now keytab.now)
-        (W.contents out.old) (W.contents out.new) (E.contents err.old) (E.contents err.new) result }
+        out.old out.new err.old err.new result }
 {
     match keytab.find(&options.name, options.kvno, options.enctype) {
         Ok((place, entry)) => show_found(alloc, place, &entry, out, err),
@@ -68,12 +67,12 @@ fn find_image<A: Allocator + Copy, B: Allocator, W: Write, E: Write>(
     options: &FindOptions<B>,
     file: &str,
     image: Vec<u8, A>,
-    out: &mut W,
-    err: &mut E,
+    out: &mut Watched<W>,
+    err: &mut Watched<E>,
 ) -> u8
-    ensures { EndsRun (load_run (finding_run options.now file.now)
-        options.now.v1_order file.now (Ok image.items))
-        (W.contents out.old) (W.contents out.new) (E.contents err.old) (E.contents err.new) result }
+    requires { IsFalse out.old.failed }
+    ensures { EndsRun (finding_loaded options.now file.now (Ok image.items))
+        out.old out.new err.old err.new result }
 {
     match Keytab::open(image, options.v1_order, Limits::usual()) {
         Ok(keytab) => find_opened(alloc, options, file, &keytab, out, err),
@@ -85,33 +84,30 @@ fn find_image<A: Allocator + Copy, B: Allocator, W: Write, E: Write>(
 }
 
 /// Looks up an entry in the file of that name and shows it on `out`, and answers the status. What goes
-/// wrong is said on `err`; a failure of `err` is passed over.
+/// wrong is said on `err`; a failure of `err` changes nothing else.
 pub fn run_ktfind<A: Allocator + Copy, B: Allocator, F: Files, W: Write, E: Write>(
     alloc: A,
     options: &FindOptions<B>,
     file: &str,
     files: &mut F,
-    out: &mut W,
-    err: &mut E,
+    out: &mut Watched<W>,
+    err: &mut Watched<E>,
 ) -> u8
-    // The entry in what stands under the name, or what is wrong.
-    ensures run { F.is_honest files.old → result ≢ 3 → result ≢ 4 →
-        (let run = ktfind_run options.now file.now (F.file files.old file.now) in
-        (result ≡ run.status)
-        × Appends (W.contents out.old) (W.contents out.new) run.out
-        × AppendsFront (E.contents err.old) (E.contents err.new) run.err) }
+    requires { IsFalse out.old.failed }
 
-    // However it ends, no other text is out.
-    ensures front { F.is_honest files.old → AppendsFront (W.contents out.old) (W.contents out.new)
-        (ktfind_run options.now file.now (F.file files.old file.now)).out }
+    // What stands under the name decides the run, unless the file could not be read.
+    ensures run { F.is_honest files.old → FailsToRead file.now
+        (F.failure_count files.old) (F.failure_count files.new) out.old out.new err.old err.new result
+        ⊎ EndsRun (ktfind_run options.now file.now (F.file files.old file.now))
+        out.old out.new err.old err.new result }
 
-    // The file could not be read, or the output not be written.
-    ensures failed { result ≡ 3 → FailsToRead file.now
-        (F.failure_count files.old) (F.failure_count files.new)
-        (W.contents out.old) (W.contents out.new) (E.contents err.old) (E.contents err.new)
-        ⊎ AppendsFront (E.contents err.old) (E.contents err.new) (message (codes "cannot write output")) }
-    ensures no_memory { result ≡ 4 → AppendsFront (E.contents err.old) (E.contents err.new)
-        (message (codes "out of memory")) }
+    // Honest or not, what the files answered decides it.
+    ensures loaded { EndsLoaded (λ answer. F.answers files.old file.now most_bytes answer files.new)
+        (finding_loaded options.now file.now) (F.failure_count files.old) (F.failure_count files.new) out.old out.new err.old err.new result }
+
+    // Statuses 3 and 4 have their causes.
+    ensures cause { HasCause (F.failure_count files.old) (F.failure_count files.new)
+        out.new err.old err.new result }
 
     ensures same { F.is_honest files.old → SameFiles (F.file files.old) (F.file files.new) }
     ensures honest { F.is_honest files.old → F.is_honest files.new }

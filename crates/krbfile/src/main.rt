@@ -7,6 +7,7 @@ mod klist;
 mod ktfind;
 mod load;
 mod messages;
+mod options;
 mod refuse;
 mod run;
 #[cfg(test)]
@@ -14,11 +15,12 @@ mod tests;
 mod words;
 
 use disk::DiskFiles;
+use krb_text::Watched;
 use std::process::ExitCode;
 
 fn main(rt: HostRuntime) -> ExitCode {
     let mut files = DiskFiles::new(&rt);
-    let mut out = rt.stdout();
-    let mut err = rt.stderr();
+    let mut out = Watched::new(rt.stdout());
+    let mut err = Watched::new(rt.stderr());
     ExitCode::from(run::run(&rt, &mut files, &mut out, &mut err))
 }

@@ -1,49 +1,75 @@
 //! Lines for the error output.
 
-ghost use Rattle.std.specs.Prelude.{◌++◌, decimal, OnOk, OnErr};
-ghost use Rattle.std.specs.Io.KnownBytes.{Appends};
+ghost use Rattle.std.specs.Prelude.{◌++◌, decimal, OnOk, OnErr, IsTrue};
 ghost use Rattle.std.specs.List.{flat_map};
-ghost use Rattle.krb_text.specs.Bytes.{AppendsFront};
+ghost use Rattle.krb_text.specs.Bytes.{AppendsPrefix};
+ghost use Rattle.krb_text.specs.Gathered.{Sent};
 ghost use Rattle.krbfile.specs.Messages.{message, file_message};
+ghost use Rattle.krbfile.specs.Runs.{Says};
 
+use arrayvec::ArrayString;
 use itoa::Buffer;
-use krb_text::{OutFault, put};
+use krb_text::{OutFault, Watched, put};
 use std::io::Write;
 
-// Writes the texts one behind the other.
-fn put_all<W: Write>(out: &mut W, texts: &[&str]) -> Result<(), OutFault>
-    ensures ok { OnOk result (Appends (W.contents out.old) (W.contents out.new)
-        (flat_map (λ text. text.now) texts.now)) }
-    ensures front { OnErr result (AppendsFront (W.contents out.old) (W.contents out.new)
-        (flat_map (λ text. text.now) texts.now)) }
+// A line that names a file has room in this, if the name has at most 4,096 bytes.
+const LINE: usize = 4160;
+
+// Gathers one more text. Where there is no room for it, writes what was gathered, and then the text.
+fn add<E: Write>(
+    text: &str,
+    line: &mut ArrayString<LINE>,
+    err: &mut Watched<E>,
+) -> Result<(), OutFault>
+    ensures ok { OnOk result (Sent err.old.contents err.new.contents
+        (line.old.bytes ++ text.now) line.new.bytes) }
+    ensures prefix { OnErr result (AppendsPrefix err.old.contents err.new.contents
+        (line.old.bytes ++ text.now)) }
+    ensures failed { OnErr result (IsTrue err.new.failed) }
 {
-    for text in texts {
-        put(out, text.as_bytes())?;
+    match line.try_push_str(text) {
+        Ok(()) => Ok(()),
+        Err(_) => {
+            put(err, line.as_str().as_bytes())?;
+            line.clear();
+            put(err, text.as_bytes())
+        }
     }
-    Ok(())
+}
+
+// Says the texts one after the other, in one write if they have room in a line.
+fn say<E: Write>(err: &mut Watched<E>, texts: &[&str])
+    ensures { Says err.old err.new (flat_map (λ text. text.now) texts.now) }
+{
+    let mut line = ArrayString::new();
+    for text in texts {
+        match add(text, &mut line, err) {
+            Ok(()) => {}
+            Err(_) => return,
+        }
+    }
+    let _ = put(err, line.as_str().as_bytes());
 }
 
 /// Says something on the error output. A failure there is passed over.
-pub fn complain<E: Write>(err: &mut E, what: &str)
-    ensures { AppendsFront (E.contents err.old) (E.contents err.new) (message what.now) }
+pub fn complain<E: Write>(err: &mut Watched<E>, what: &str)
+    ensures { Says err.old err.new (message what.now) }
 {
-    let _ = put_all(err, &["krbfile: ", what, "\n"]);
+    say(err, &["krbfile: ", what, "\n"]);
 }
 
 /// Says something of a file on the error output. A failure there is passed over.
-pub fn complain_of<E: Write>(err: &mut E, file: &str, what: &str)
-    ensures { AppendsFront (E.contents err.old) (E.contents err.new)
-        (file_message file.now what.now) }
+pub fn complain_of<E: Write>(err: &mut Watched<E>, file: &str, what: &str)
+    ensures { Says err.old err.new (file_message file.now what.now) }
 {
-    let _ = put_all(err, &["krbfile: ", file, ": ", what, "\n"]);
+    say(err, &["krbfile: ", file, ": ", what, "\n"]);
 }
 
 /// Says something of a file that ends in a number. A failure there is passed over.
-pub fn complain_number_of<E: Write>(err: &mut E, file: &str, what: &str, number: u32)
-    ensures { AppendsFront (E.contents err.old) (E.contents err.new)
-        (file_message file.now (what.now ++ decimal number)) }
+pub fn complain_number_of<E: Write>(err: &mut Watched<E>, file: &str, what: &str, number: u32)
+    ensures { Says err.old err.new (file_message file.now (what.now ++ decimal number)) }
 {
     let mut buffer = Buffer::new();
     let digits = buffer.format(number);
-    let _ = put_all(err, &["krbfile: ", file, ": ", what, digits, "\n"]);
+    say(err, &["krbfile: ", file, ": ", what, digits, "\n"]);
 }

@@ -2,13 +2,13 @@
 
 ghost use Rattle.std.specs.Prelude.{◌≡◌, ◌++◌, codes, decimal};
 ghost use Rattle.krb_walk.specs.Numbers.{code_number};
-ghost use Rattle.krb_text.specs.Bytes.{AppendsFront};
 ghost use Rattle.krbfile.specs.Klist.{load_message, load_status, open_message};
 ghost use Rattle.krbfile.specs.Ktfind.{refused_message};
+ghost use Rattle.krbfile.specs.Runs.{Says};
 
 use crate::messages::{complain, complain_number_of, complain_of};
 use krb_keytab::KtOpenFault;
-use krb_text::LoadFault;
+use krb_text::{LoadFault, Watched};
 use krb_walk::Code;
 use std::io::Write;
 
@@ -16,10 +16,9 @@ use std::io::Write;
 pub const LIMIT: u32 = 16_777_216;
 
 /// Says why a file was not loaded, and answers the status for it.
-pub fn refuse_load<E: Write>(file: &str, fault: LoadFault, err: &mut E) -> u8
+pub fn refuse_load<E: Write>(file: &str, fault: LoadFault, err: &mut Watched<E>) -> u8
     ensures status { result ≡ load_status fault }
-    ensures err { AppendsFront (E.contents err.old) (E.contents err.new)
-        (load_message file.now fault) }
+    ensures err { Says err.old err.new (load_message file.now fault) }
 {
     match fault {
         LoadFault::Missing => {
@@ -42,8 +41,8 @@ pub fn refuse_load<E: Write>(file: &str, fault: LoadFault, err: &mut E) -> u8
 }
 
 /// Says why an image was not opened.
-pub fn refuse_image<E: Write>(file: &str, fault: KtOpenFault, err: &mut E)
-    ensures { AppendsFront (E.contents err.old) (E.contents err.new) (open_message file.now fault) }
+pub fn refuse_image<E: Write>(file: &str, fault: KtOpenFault, err: &mut Watched<E>)
+    ensures { Says err.old err.new (open_message file.now fault) }
 {
     match fault {
         KtOpenFault::TooShort => complain_of(err, file, "not a keytab (1)"),
@@ -53,9 +52,8 @@ pub fn refuse_image<E: Write>(file: &str, fault: KtOpenFault, err: &mut E)
 }
 
 /// Says why a keytab refused.
-pub fn refuse_code<E: Write>(file: &str, code: Code, err: &mut E)
-    ensures { AppendsFront (E.contents err.old) (E.contents err.new)
-        (refused_message file.now code) }
+pub fn refuse_code<E: Write>(file: &str, code: Code, err: &mut Watched<E>)
+    ensures { Says err.old err.new (refused_message file.now code) }
 {
     complain_number_of(err, file, "refused ", code.number());
 }

@@ -1,17 +1,18 @@
 //! From the words of the command line to the status.
 
-ghost use Rattle.std.specs.Prelude.{◌≡◌, ◌≢◌, [], codes};
-ghost use Rattle.std.specs.Io.KnownBytes.{Appends};
-ghost use Rattle.krb_text.specs.Bytes.{AppendsFront};
-ghost use Rattle.krbfile.specs.Runs.{EndsRun};
-ghost use Rattle.krbfile.specs.Actions.{action_run, word_message, word_status};
+ghost use Rattle.std.specs.Prelude.{◌≡◌, ◌⊎◌, ℕ, List, Result, IsFalse};
+ghost use Rattle.krbfile.specs.declared.action.Action.{Action};
+ghost use Rattle.krbfile.specs.declared.action.WordFault.{WordFault};
+ghost use Rattle.krbfile.specs.Runs.{EndsRun, FailsToRead, HasCause, Says};
+ghost use Rattle.krbfile.specs.Klist.{most_bytes};
+ghost use Rattle.krbfile.specs.Actions.{EndsAction, EndsAsked, action_run, asked_run, help_run, word_message, word_status};
 
 use crate::action::{Action, WordFault};
 use crate::klist::run_klist;
 use crate::ktfind::run_ktfind;
 use crate::messages::complain;
 use crate::words::parse_words;
-use krb_text::{Files, put};
+use krb_text::{Files, Watched, put};
 use std::alloc::Allocator;
 use std::io::Write;
 use std::{env, io, rt};
@@ -26,9 +27,9 @@ fn words_of<R: rt::Env + AllocGlobal>(rt: &R) -> Result<Vec<String>, WordFault> 
 }
 
 // Says why a command line was not read, and answers the status for it.
-fn refuse_words<E: Write>(fault: WordFault, err: &mut E) -> u8
+fn refuse_words<E: Write>(fault: WordFault, err: &mut Watched<E>) -> u8
     ensures status { result ≡ word_status fault }
-    ensures err { AppendsFront (E.contents err.old) (E.contents err.new) (word_message fault) }
+    ensures err { Says err.old err.new (word_message fault) }
 {
     match fault {
         WordFault::BadLine => {
@@ -43,9 +44,10 @@ fn refuse_words<E: Write>(fault: WordFault, err: &mut E) -> u8
 }
 
 // Shows help that was asked for.
-fn show_help<W: Write, E: Write>(text: &str, out: &mut W, err: &mut E) -> u8
-    ensures { EndsRun (record { out = text.now; err = []; status = 0 })
-        (W.contents out.old) (W.contents out.new) (E.contents err.old) (E.contents err.new) result }
+fn show_help<W: Write, E: Write>(text: &str, out: &mut Watched<W>, err: &mut Watched<E>) -> u8
+    requires { IsFalse out.old.failed }
+    ensures { EndsRun (help_run text.now)
+        out.old out.new err.old err.new result }
 {
     if put(out, text.as_bytes()).is_err() {
         complain(err, "cannot write output");
@@ -59,16 +61,17 @@ fn act<A: Allocator + Copy, F: Files, W: Write, E: Write>(
     alloc: A,
     action: &Action,
     files: &mut F,
-    out: &mut W,
-    err: &mut E,
+    out: &mut Watched<W>,
+    err: &mut Watched<E>,
 ) -> u8
-    ensures run { F.is_honest files.old → result ≢ 3 → result ≢ 4 →
-        (let run = action_run action.now (F.file files.old) in
-        (result ≡ run.status)
-        × Appends (W.contents out.old) (W.contents out.new) run.out
-        × AppendsFront (E.contents err.old) (E.contents err.new) run.err) }
-    ensures front { F.is_honest files.old → AppendsFront (W.contents out.old) (W.contents out.new)
-        (action_run action.now (F.file files.old)).out }
+    requires { IsFalse out.old.failed }
+    ensures run { F.is_honest files.old → ((file : List ℕ) × FailsToRead file
+        (F.failure_count files.old) (F.failure_count files.new) out.old out.new err.old err.new result)
+        ⊎ EndsRun (action_run action.now (F.file files.old)) out.old out.new err.old err.new result }
+    ensures action { EndsAction action.now (λ file answer. F.answers files.old file most_bytes answer files.new)
+        (F.failure_count files.old) (F.failure_count files.new) out.old out.new err.old err.new result }
+    ensures cause { HasCause (F.failure_count files.old) (F.failure_count files.new)
+        out.new err.old err.new result }
 {
     match action {
         Action::Klist(options, file) => run_klist(alloc, options, file.as_str(), files, out, err),
@@ -77,19 +80,49 @@ fn act<A: Allocator + Copy, F: Files, W: Write, E: Write>(
     }
 }
 
+// Does what was asked for, or says why the command line was not read, and answers the status.
+fn respond<A: Allocator + Copy, F: Files, W: Write, E: Write>(
+    alloc: A,
+    asked: &Result<Action, WordFault>,
+    files: &mut F,
+    out: &mut Watched<W>,
+    err: &mut Watched<E>,
+) -> u8
+    requires { IsFalse out.old.failed }
+    ensures run { F.is_honest files.old → ((file : List ℕ) × FailsToRead file
+        (F.failure_count files.old) (F.failure_count files.new) out.old out.new err.old err.new result)
+        ⊎ EndsRun (asked_run asked.now (F.file files.old)) out.old out.new err.old err.new result }
+    ensures asked { EndsAsked asked.now (λ file answer. F.answers files.old file most_bytes answer files.new)
+        (F.failure_count files.old) (F.failure_count files.new) out.old out.new err.old err.new result }
+    ensures cause { HasCause (F.failure_count files.old) (F.failure_count files.new)
+        out.new err.old err.new result }
+{
+    match asked {
+        Ok(action) => act(alloc, action, files, out, err),
+        Err(fault) => refuse_words(*fault, err),
+    }
+}
+
+// What the words of the command line ask for.
+fn asked<R: rt::Env + AllocGlobal>(rt: &R) -> Result<Action, WordFault> {
+    parse_words(rt.alloc(), words_of(rt)?)
+}
+
 /// Does what the words of the command line ask for, and answers the status.
 pub fn run<R: rt::Env + AllocGlobal, F: Files, W: Write, E: Write>(
     rt: &R,
     files: &mut F,
-    out: &mut W,
-    err: &mut E,
-) -> u8 {
-    let words = match words_of(rt) {
-        Ok(words) => words,
-        Err(fault) => return refuse_words(fault, err),
-    };
-    match parse_words(rt.alloc(), words) {
-        Ok(action) => act(rt.alloc(), &action, files, out, err),
-        Err(fault) => refuse_words(fault, err),
-    }
+    out: &mut Watched<W>,
+    err: &mut Watched<E>,
+) -> u8
+    requires { IsFalse out.old.failed }
+
+    // Something was asked for, or the line was not read, and that decides the run.
+    ensures asked { (asked : Result Action WordFault)
+        × EndsAsked asked (λ file answer. F.answers files.old file most_bytes answer files.new)
+        (F.failure_count files.old) (F.failure_count files.new) out.old out.new err.old err.new result }
+    ensures cause { HasCause (F.failure_count files.old) (F.failure_count files.new)
+        out.new err.old err.new result }
+{
+    respond(rt.alloc(), &asked(rt), files, out, err)
 }

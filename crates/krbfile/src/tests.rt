@@ -1,6 +1,7 @@
 //! Runs over files in memory. Images and texts are spelled out by hand.
 
 mod columns;
+mod disks;
 mod finds;
 mod lines;
 mod listings;

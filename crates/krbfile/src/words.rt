@@ -1,36 +1,10 @@
 //! The words of a command line.
 
-ghost use Rattle.std.specs.Prelude.{◌≡◌, if◌then◌else◌, IsTrue, IsFalse, None, Some};
-
-use crate::action::{Action, FindOptions, KlistOptions, ListKind, WordFault};
+use crate::action::{Action, WordFault};
+use crate::options::{KlistWords, KtfindWords, klist_action, ktfind_action};
 use clap::error::ErrorKind;
 use clap::{Arg, ArgAction, ArgMatches, Command, Error};
-use krb_text::{KtColumns, etype_of, parse_u32};
-use krb_wire::{NameFault, Order, Principal, parse_name};
 use std::alloc::{AllocError, Global};
-
-fn order_of(v1_big: bool) -> Order
-    ensures { result ≡ (if v1_big then Order.Big else Order.Little) }
-{
-    if v1_big { Order::Big } else { Order::Little }
-}
-
-// The options that the flags of klist ask for: none where they name no kind of file.
-fn klist_options(keytab: bool, columns: KtColumns, v1_big: bool) -> Option<KlistOptions>
-    ensures unnamed { IsFalse keytab → result ≡ None }
-    ensures keytab { IsTrue keytab → result ≡ Some (record {
-      kind = ListKind.Keytab columns;
-      v1_order = (if v1_big then Order.Big else Order.Little);
-    }) }
-{
-    if !keytab {
-        return None;
-    }
-    Some(KlistOptions {
-        kind: ListKind::Keytab(columns),
-        v1_order: order_of(v1_big),
-    })
-}
 
 fn flag<'a>(alloc: Global, id: &'a str, letter: char, help: &'a str) -> Arg<'a> {
     Arg::new(alloc, id)
@@ -91,43 +65,40 @@ fn krbfile_command<'a>(alloc: Global) -> Result<Command<'a>, AllocError> {
         .subcommand(ktfind_command(alloc)?)
 }
 
-fn klist_action(alloc: Global, matches: &ArgMatches) -> Result<Action, WordFault> {
-    let columns = KtColumns {
+// The words of klist that were found.
+fn klist_words<'a>(matches: &ArgMatches<'a>) -> Option<KlistWords<'a>> {
+    Some(KlistWords {
+        keytab: matches.get_flag("keytab"),
         times: matches.get_flag("times"),
         etypes: matches.get_flag("etypes"),
         keys: matches.get_flag("keys"),
-    };
-    let options = klist_options(
-        matches.get_flag("keytab"),
-        columns,
-        matches.get_flag("v1-big"),
-    );
-    match (options, matches.get_str("file")) {
-        (Some(options), Some(file)) => Ok(Action::Klist(options, String::from_str(alloc, file)?)),
+        v1_big: matches.get_flag("v1-big"),
+        file: matches.get_str("file")?,
+    })
+}
+
+// The words of ktfind that were found.
+fn ktfind_words<'a>(matches: &ArgMatches<'a>) -> Option<KtfindWords<'a>> {
+    Some(KtfindWords {
+        v1_big: matches.get_flag("v1-big"),
+        file: matches.get_str("file")?,
+        kvno: matches.get_str("kvno")?,
+        etype: matches.get_str("etype")?,
+        name: matches.get_str("name")?,
+    })
+}
+
+// What a command and its words ask for.
+fn command_action(alloc: Global, matches: &ArgMatches) -> Result<Action, WordFault> {
+    match matches.subcommand() {
+        Some(("klist", found)) => {
+            klist_action(alloc, &klist_words(found).ok_or(WordFault::BadLine)?)
+        }
+        Some(("ktfind", found)) => {
+            ktfind_action(alloc, &ktfind_words(found).ok_or(WordFault::BadLine)?)
+        }
         _ => Err(WordFault::BadLine),
     }
-}
-
-// The name that a word spells, with its realm.
-fn name_of(alloc: Global, text: &str) -> Result<Principal<Global>, WordFault> {
-    match parse_name(alloc, text.as_bytes(), None) {
-        Ok(name) => Ok(name),
-        Err(NameFault::NoMemory) => Err(WordFault::NoMemory),
-        Err(_) => Err(WordFault::BadLine),
-    }
-}
-
-fn ktfind_action(alloc: Global, matches: &ArgMatches) -> Result<Action, WordFault> {
-    let text = |id: &str| matches.get_str(id).ok_or(WordFault::BadLine);
-    let kvno = parse_u32(text("kvno")?.as_bytes()).ok_or(WordFault::BadLine)?;
-    let enctype = etype_of(text("etype")?.as_bytes()).ok_or(WordFault::BadLine)?;
-    let options = FindOptions {
-        name: name_of(alloc, text("name")?)?,
-        kvno,
-        enctype,
-        v1_order: order_of(matches.get_flag("v1-big")),
-    };
-    Ok(Action::Ktfind(options, String::from_str(alloc, text("file")?)?))
 }
 
 // Help that was asked for is no fault.
@@ -142,13 +113,8 @@ fn help_or_fault(alloc: Global, error: Error) -> Result<Action, WordFault> {
 /// What the words ask for; the first is the program's name.
 pub fn parse_words(alloc: Global, words: Vec<String>) -> Result<Action, WordFault> {
     let command = krbfile_command(alloc)?;
-    let matches = match command.try_get_matches_from(words.as_slice()) {
-        Ok(matches) => matches,
-        Err(error) => return help_or_fault(alloc, error),
-    };
-    match matches.subcommand() {
-        Some(("klist", klist)) => klist_action(alloc, klist),
-        Some(("ktfind", ktfind)) => ktfind_action(alloc, ktfind),
-        _ => Err(WordFault::BadLine),
+    match command.try_get_matches_from(words.as_slice()) {
+        Ok(matches) => command_action(alloc, &matches),
+        Err(error) => help_or_fault(alloc, error),
     }
 }

@@ -1,5 +1,5 @@
 use super::keytabs::{ALL, B, HEAD, HOST, listed, opened};
-use crate::{OutFault, etype_text, found_text, list_keytab, time_text};
+use crate::{OutFault, Watched, etype_text, found_text, list_keytab, time_text};
 use refusing::refuse_each;
 use std::test::Fail;
 
@@ -64,7 +64,7 @@ fn growths_of_a_found_line(rt: HostRuntime) -> Result<(), Fail> {
     Ok(())
 }
 
-/// Where a growth is refused, a front of the listing is out.
+/// Where a growth is refused, a prefix of the listing is out.
 #[test]
 fn growths_of_a_listing(rt: HostRuntime) -> Result<(), Fail> {
     let alloc = rt.alloc();
@@ -73,7 +73,7 @@ fn growths_of_a_listing(rt: HostRuntime) -> Result<(), Fail> {
     let requests = refuse_each(alloc, 100, |heap, n| {
         let mut out = Vec::new(alloc);
         heap.refuse(n);
-        match list_keytab(heap, "k", &keytab, ALL, &mut out) {
+        match list_keytab(heap, "k", &keytab, ALL, &mut Watched::new(&mut out)) {
             Ok(()) => assert!(rt; !heap.refused() && out.as_slice() == want.as_slice()),
             Err(fault) => {
                 assert!(rt; heap.refused() && fault == OutFault::NoMemory);

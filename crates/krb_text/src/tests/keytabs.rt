@@ -1,4 +1,4 @@
-use crate::{KtColumns, list_keytab};
+use crate::{KtColumns, Watched, list_keytab};
 use krb_keytab::Keytab;
 use krb_wire::{Limits, Order};
 use std::alloc::Global;
@@ -43,7 +43,7 @@ pub fn listed(
     columns: KtColumns,
 ) -> Result<Vec<u8>, Fail> {
     let mut out = Vec::new(alloc);
-    match list_keytab(alloc, name, keytab, columns, &mut out) {
+    match list_keytab(alloc, name, keytab, columns, &mut Watched::new(&mut out)) {
         Ok(()) => Ok(out),
         Err(_) => Err(Fail::from("not listed")),
     }

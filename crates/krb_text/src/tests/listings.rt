@@ -1,5 +1,5 @@
 use super::keytabs::{ALL, B, HEAD, HOST, listed, opened};
-use crate::{KtColumns, list_keytab};
+use crate::{KtColumns, Watched, list_keytab};
 use std::test::Fail;
 
 /// The name stands as it is given, and what a keytab has none of is not shown.
@@ -83,7 +83,8 @@ KVNO Timestamp            Principal\n\
     }
     let keytab = opened(rt.alloc(), &pieces)?;
     let mut out = Vec::from_slice(rt.alloc(), b"before\n")?;
-    assert!(rt; list_keytab(rt.alloc(), "k", &keytab, ALL, &mut out) == Ok(()));
+    let listed = list_keytab(rt.alloc(), "k", &keytab, ALL, &mut Watched::new(&mut out));
+    assert!(rt; listed == Ok(()));
     assert!(rt; out.as_slice() == want.as_bytes());
     Ok(())
 }

@@ -1,6 +1,41 @@
 use super::samples::{HEAD, files_of, list, options};
+use crate::messages::complain_of;
+use krb_text::Watched;
 use krb_wire::Order;
+use std::io::{self, Write};
 use std::test::Fail;
+
+/// Takes all bytes, and counts the writes.
+#[derive(Clone, Copy)]
+struct Writes(u64);
+
+impl Write for Writes {
+    fn write(&mut self, buf: &[u8]) -> io::Result<usize> {
+        self.0 = self.0.saturating_add(1);
+        Ok(buf.len())
+    }
+
+    fn flush(&mut self) -> io::Result<()> {
+        Ok(())
+    }
+}
+
+/// So the messages of runs that share an error output do not mix. A name of more than 4,096 bytes goes
+/// out on its own.
+#[test]
+fn a_message_is_one_write(rt: HostRuntime) -> Result<(), Fail> {
+    for (length, want) in [(1u64, 1u64), (4096, 1), (5000, 3)] {
+        let mut name = String::new(rt.alloc());
+        for _ in 0..length {
+            name.push('n')?;
+        }
+        let mut writes = Writes(0);
+        let mut err = Watched::new(&mut writes);
+        complain_of(&mut err, name.as_str(), "no such file");
+        assert_eq!(rt; writes.0, want, "{length}");
+    }
+    Ok(())
+}
 
 #[test]
 fn files_that_are_no_keytabs(rt: HostRuntime) -> Result<(), Fail> {

@@ -1,5 +1,6 @@
 use super::samples::{B, HEAD, HOST, files_of, options};
 use crate::klist::run_klist;
+use krb_text::Watched;
 use krb_wire::Order;
 use refusing::refuse_each;
 use std::test::Fail;
@@ -17,7 +18,14 @@ fn an_output_that_fails_at_each_byte(rt: HostRuntime) -> Result<(), Fail> {
         let mut files = files_of(alloc, &[HEAD, HOST, B])?;
         let mut out = FailingWriter::new(alloc, 5, room, WhenFull::Fails);
         let mut err = Vec::new(alloc);
-        let status = run_klist(alloc, &options, "k", &mut files, &mut out, &mut err);
+        let status = run_klist(
+            alloc,
+            &options,
+            "k",
+            &mut files,
+            &mut Watched::new(&mut out),
+            &mut Watched::new(&mut err),
+        );
         assert!(rt; out.taken.as_slice() == &TEXT[..room], "at {room}");
         let message = b"krbfile: cannot write output\n".as_slice();
         let (want, said) = if room < 73 {
@@ -39,14 +47,21 @@ fn an_error_output_that_fails(rt: HostRuntime) -> Result<(), Fail> {
     let mut out = Vec::new(alloc);
     let mut err = FailingWriter::new(alloc, 100, 12, WhenFull::TakesNothing);
     let options = options(Order::Little);
-    let status = run_klist(alloc, &options, "no", &mut files, &mut out, &mut err);
+    let status = run_klist(
+        alloc,
+        &options,
+        "no",
+        &mut files,
+        &mut Watched::new(&mut out),
+        &mut Watched::new(&mut err),
+    );
     assert_eq!(rt; status, 1);
     assert!(rt; out.is_empty());
     assert!(rt; err.taken.as_slice() == b"krbfile: no:".as_slice());
     Ok(())
 }
 
-/// Want of memory has its own status, and a front of the text is out.
+/// Out of memory has its own status, and a prefix of the text is out.
 #[test]
 fn each_growth_refused(rt: HostRuntime) -> Result<(), Fail> {
     let requests = refuse_each(rt.alloc(), 100, |heap, n| {
@@ -55,7 +70,14 @@ fn each_growth_refused(rt: HostRuntime) -> Result<(), Fail> {
         let (mut out, mut err) = (Vec::new(alloc), Vec::new(alloc));
         let options = options(Order::Little);
         heap.refuse(n);
-        let status = run_klist(heap, &options, "k", &mut files, &mut out, &mut err);
+        let status = run_klist(
+            heap,
+            &options,
+            "k",
+            &mut files,
+            &mut Watched::new(&mut out),
+            &mut Watched::new(&mut err),
+        );
         let message = b"krbfile: out of memory\n".as_slice();
         let (want, said) = if heap.refused() {
             (4, message)

@@ -1,7 +1,7 @@
 use crate::action::{FindOptions, KlistOptions, ListKind};
 use crate::klist::run_klist;
 use crate::ktfind::run_ktfind;
-use krb_text::{KtColumns, MemFiles};
+use krb_text::{KtColumns, MemFiles, Watched};
 use krb_wire::{Order, parse_name};
 use std::alloc::{AllocError, Global};
 use std::test::Fail;
@@ -62,7 +62,14 @@ pub fn list(
     files: &mut MemFiles<Global>,
 ) -> Outcome {
     let (mut out, mut err) = (Vec::new(alloc), Vec::new(alloc));
-    let status = run_klist(alloc, options, file, files, &mut out, &mut err);
+    let status = run_klist(
+        alloc,
+        options,
+        file,
+        files,
+        &mut Watched::new(&mut out),
+        &mut Watched::new(&mut err),
+    );
     Outcome { out, err, status }
 }
 
@@ -92,6 +99,13 @@ pub fn find(
     files: &mut MemFiles<Global>,
 ) -> Outcome {
     let (mut out, mut err) = (Vec::new(alloc), Vec::new(alloc));
-    let status = run_ktfind(alloc, options, file, files, &mut out, &mut err);
+    let status = run_ktfind(
+        alloc,
+        options,
+        file,
+        files,
+        &mut Watched::new(&mut out),
+        &mut Watched::new(&mut err),
+    );
     Outcome { out, err, status }
 }

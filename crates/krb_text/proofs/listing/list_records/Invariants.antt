@@ -1,4 +1,5 @@
 use Rattle.std.proofs.Common.{◌++◌, ◌-◌}
+use Rattle.std.specs.Prelude.{IsFalse}
 use Rattle.krb_walk.specs.Store.{IsPlace, IsSound, end_of}
 use Rattle.krb_keytab.specs.Store.{store_of}
 use Rattle.krb_text.specs.Gathered.{Passed}
@@ -10,7 +11,8 @@ abbrev pub invariant-records : goal.invariant-records
 invariant-records g l = record {
   place : IsPlace (store_of l.keytab) l.place;
   sound : IsSound (store_of l.keytab);
-  passed : Passed (g.W.Write.contents l.fn.out) (g.W.Write.contents l.out) (l.fn.gathered.items ++ entry_lines l.columns l.keytab) (lines_from l.columns l.keytab l.place) l.gathered.items;
+  well : IsFalse l.out.failed;
+  passed : Passed l.fn.out.contents l.out.contents (l.fn.gathered.items ++ entry_lines l.columns l.keytab) (lines_from l.columns l.keytab l.place) l.gathered.items;
 }
 
 abbrev pub decreases-records : goal.decreases-records

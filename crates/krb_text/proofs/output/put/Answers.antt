@@ -1,20 +1,19 @@
-use Rattle.std.proofs.Common.{arith, rules, length-take, length-drop}
-use Rattle.krb_text.proofs.Fronts.{AppendsFront-take, Appends-take-more}
+use Rattle.std.proofs.Common.{arith, length-take, length-drop, ◌∙◌}
+use Rattle.krb_text.proofs.Prefixes.{AppendsPrefix-take, Appends-take-more, Appends-keeps}
 use Rattle.krb_text.proofs.output.put.Goals as goal
 
 pub loop-done-preserved : goal.loop-done-preserved
 loop-done-preserved g c =
-    let bound = simp (length-take, length-drop) at c.in-Ok.ensures.bound in
+    let said = c.in-Some.ensures in
+    let bound = simp (length-take, length-drop) at said.1 in
     record {
       within = omega arith;
-      sent = Appends-take-more _ _ _ c.loop-done.done c.in-Ok.n c.args.bytes.now c.loop-done.invariant.within
-          c.loop-done.invariant.sent c.in-Ok.ensures.bytes;
+      sent = Appends-take-more _ _ _ c.loop-done.done c.in-Some.n c.args.bytes.now c.loop-done.invariant.within
+          c.loop-done.invariant.sent said.2;
+      well = said.3 ∙ c.loop-done.invariant.well;
     }
 
--- a write that took nothing leaves what was sent before
-pub returns-in-Ok-eq0-clause-front : goal.returns-in-Ok-eq0-clause-front
-returns-in-Ok-eq0-clause-front g c = AppendsFront-take _ _ c.loop-done.done c.args.bytes.now (search rules)
-
--- and so does one that failed
-pub returns-in-Err-clause-front : goal.returns-in-Err-clause-front
-returns-in-Err-clause-front g c = AppendsFront-take _ _ c.loop-done.done c.args.bytes.now (search rules)
+-- a write that failed leaves what was sent before
+pub returns-in-None-clause-prefix : goal.returns-in-None-clause-prefix
+returns-in-None-clause-prefix g c =
+    AppendsPrefix-take _ _ c.loop-done.done c.args.bytes.now (Appends-keeps _ _ _ _ c.loop-done.invariant.sent c.in-None.ensures.0)

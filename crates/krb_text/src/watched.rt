@@ -1,0 +1,85 @@
+//! A writer that remembers whether it failed.
+
+ghost use Rattle.std.specs.Prelude.{◌≡◌, ◌<◌, ◌≤◌, length, take, IsTrue, IsFalse, MatchOption};
+ghost use Rattle.std.specs.Io.KnownBytes.{Appends, Keeps};
+
+use std::io::Write;
+use std::marker::Model;
+
+/// A writer that remembers whether one of its writes failed, with an error or by taking no byte. It does
+/// not forget that. Contracts see what it holds, where that is known, and whether it has failed.
+#[derive(Drop)]
+pub struct Watched<W: Write> {
+    writer: W,
+    failed: bool,
+}
+
+impl<W: Write> Model for Watched<W> {
+    ghost use Rattle.krb_text.specs.Bytes.{Watch};
+
+    ghost Value = { Watch };
+
+    ghost view = { λ w. record { contents = W.contents w.writer; failed = w.failed } };
+}
+
+impl<W: Write> Watched<W> {
+    /// No write has failed yet.
+    pub fn new(writer: W) -> Watched<W>
+        ensures contents { result.contents ≡ W.contents writer }
+        ensures failed { IsFalse result.failed }
+    {
+        Watched {
+            writer,
+            failed: false,
+        }
+    }
+
+    /// Whether a write failed.
+    pub fn has_failed(&self) -> bool
+        ensures { result ≡ self.now.failed }
+    {
+        self.failed
+    }
+
+    /// Makes one write: the number of bytes that were taken, or none where it failed.
+    pub fn write_some(&mut self, bytes: &[u8]) -> Option<usize>
+        requires { 0 < length bytes.now }
+        ensures { MatchOption result
+            (Keeps self.old.contents self.new.contents × IsTrue self.new.failed)
+            (λ n. (0 < n) × (n ≤ length bytes.now) × Appends self.old.contents self.new.contents (take n bytes.now)
+            × (self.new.failed ≡ self.old.failed)) }
+    {
+        match self.writer.write(bytes) {
+            Ok(n) if n > 0 => Some(n),
+            _ => {
+                self.failed = true;
+                None
+            }
+        }
+    }
+}
+
+#[cfg(test)]
+mod tests {
+    use crate::{OutFault, Watched, put};
+    use std::test::Fail;
+    use streams::{FailingWriter, WhenFull};
+
+    /// No contract can tell a failure of the writer from one that is made up.
+    #[test]
+    fn fails_when_its_writer_does(rt: HostRuntime) -> Result<(), Fail> {
+        for when_full in [WhenFull::Fails, WhenFull::TakesNothing] {
+            let mut full = FailingWriter::new(rt.alloc(), 2, 3, when_full);
+            let mut out = Watched::new(&mut full);
+            assert!(rt; put(&mut out, b"abc") == Ok(()));
+            assert!(rt; !out.has_failed());
+            for text in [b"d", b"e"] {
+                assert!(rt; put(&mut out, text) == Err(OutFault::Write));
+                assert!(rt; out.has_failed());
+            }
+            assert!(rt; full.taken.as_slice() == b"abc".as_slice());
+            assert_eq!(rt; full.failures(), 1, "no write comes after a failure");
+        }
+        Ok(())
+    }
+}

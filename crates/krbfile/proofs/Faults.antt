@@ -1,0 +1,64 @@
+-- What is wrong with the text of a name is never memory.
+use Rattle.std.proofs.Common.{◌≡◌, ◌⊎◌, inl, inr, ℕ, List, [], ◌∷◌, ◌++◌, append-nil, Option, Some, None, Result, Ok, Err, ap, subst, ◌∙◌}
+use Rattle.std.specs.Prelude.{IsOk, unwrap_or}
+use Rattle.std.specs.List.{filter_map, cons_option}
+use Rattle.krb_wire.specs.declared.name_fault.NameFault.{NameFault}
+use Rattle.krb_wire.specs.declared.name_fault.NameFault.TheVariants.{NoRealm, LoneBackslash, SecondAt, SlashInRealm, NoMemory}
+use Rattle.krb_wire.specs.declared.atom.Atom.{Atom}
+use Rattle.krb_wire.specs.declared.atom.Atom.TheVariants.{Byte, Slash, At, Lone}
+use Rattle.krb_wire.specs.Spelling.{Parts}
+use Rattle.krb_wire.specs.Atoms.{atoms, before_at, behind_at}
+use Rattle.krb_wire.specs.NameOf.{component_fault, realm_fault, leftmost, faults_of, realm_of, components_of, name_or_fault, name_of}
+
+-- a fault, if there is one, other than that memory ran out
+abbrev IsOfText : Option NameFault → Type 0
+IsOfText None = Unit {0}
+IsOfText (Some NoRealm) = Unit {0}
+IsOfText (Some LoneBackslash) = Unit {0}
+IsOfText (Some SecondAt) = Unit {0}
+IsOfText (Some SlashInRealm) = Unit {0}
+IsOfText (Some NoMemory) = ⊥
+
+component_is_of_text : (a : Atom) → IsOfText (component_fault a)
+component_is_of_text (Byte b) = tt
+component_is_of_text Slash = tt
+component_is_of_text At = tt
+component_is_of_text Lone = tt
+
+realm_is_of_text : (a : Atom) → IsOfText (realm_fault a)
+realm_is_of_text (Byte b) = tt
+realm_is_of_text Slash = tt
+realm_is_of_text At = tt
+realm_is_of_text Lone = tt
+
+leftmost-cons : (o : Option NameFault) (rest others : List NameFault) → IsOfText o → IsOfText (leftmost (rest ++ others)) → IsOfText (leftmost (cons_option o rest ++ others))
+leftmost-cons None rest others o h = h
+leftmost-cons (Some fault) rest others o h = o
+
+-- the first of what is wrong with some atoms, or of what comes after them
+leftmost-filter_map : (f : Atom → Option NameFault) → ((a : Atom) → IsOfText (f a)) → (as' : List Atom) (others : List NameFault) → IsOfText (leftmost others)
+    → IsOfText (leftmost (filter_map f as' ++ others))
+leftmost-filter_map f each [] others h = h
+leftmost-filter_map f each (a ∷ as') others h = leftmost-cons (f a) (filter_map f as') others (each a) (leftmost-filter_map f each as' others h)
+
+abbrev fault_or : Result Parts NameFault → Option NameFault
+fault_or (Ok name) = None
+fault_or (Err fault) = Some fault
+
+name_or_fault-is_of_text : (o : Option NameFault) (realm : Option (List ℕ)) (components : List (List ℕ)) → IsOfText o → IsOfText (fault_or (name_or_fault o realm components))
+name_or_fault-is_of_text (Some fault) realm components h = h
+name_or_fault-is_of_text None None components h = tt
+name_or_fault-is_of_text None (Some realm) components h = tt
+
+faults-is_of_text : (text : List Atom) → IsOfText (leftmost (faults_of text))
+faults-is_of_text text =
+    let behind = unwrap_or (behind_at text) [] in
+    let realm = subst (λ l. IsOfText (leftmost l)) (append-nil (filter_map realm_fault behind)) (leftmost-filter_map realm_fault realm_is_of_text behind [] tt) in
+    leftmost-filter_map component_fault component_is_of_text (before_at text) (filter_map realm_fault behind) realm
+
+-- where memory ran out the text has a name
+pub ran_out_at_a_name : (text : List ℕ) (realm : Option (List ℕ)) (fault : NameFault) → fault ≡ NoMemory → (name_of text realm ≡ Err fault) ⊎ ((fault ≡ NoMemory) × IsOk (name_of text realm)) → IsOk (name_of text realm)
+ran_out_at_a_name text realm fault is (inl e) =
+    let at_fault = name_or_fault-is_of_text (leftmost (faults_of (atoms text))) (realm_of (atoms text) realm) (components_of (atoms text)) (faults-is_of_text (atoms text)) in
+    absurd (subst IsOfText (ap fault_or e ∙ ap Some is) at_fault)
+ran_out_at_a_name text realm fault is (inr h) = h.1
