@@ -11,7 +11,8 @@ use Rattle.krb_walk.specs.declared.fault.FaultKind.{FaultKind}
 use Rattle.krb_walk.specs.declared.refusal.Code.TheVariants as code
 use Rattle.krb_walk.specs.declared.refusal.Refusal.{Refusal}
 use Rattle.krb_walk.specs.declared.refusal.Refusal.TheVariants.{Code as ByCode, NoMemory}
-use Rattle.krb_walk.specs.Rules.{PutGives, IsNotWanting}
+use Rattle.krb_walk.specs.Rules.{PutGives}
+use Rattle.krb_walk.specs.Memory.{HadMemory}
 use Rattle.krb_walk.specs.Store.{end_of, fault_from, fault_of}
 use Rattle.krb_keytab.specs.declared.image.CellsEnd.{CellsEnd}
 use Rattle.krb_keytab.specs.declared.hole.Hole.{Hole}
@@ -121,7 +122,7 @@ takes_some k e given none longer =
     rw (given, none, no) refl
 
 pub put_wants : (k : State) (e : EntryParts) (result : Result ℕ Refusal) (new : State) → putting k e ≡ appending k (written k.format e) → first_hole 2 (length (written k.format e)) k.contents.cells ≡ None
-    → AnswersAppend k (written k.format e) result new → takes_none k e ≡ true → IsNotWanting result
+    → AnswersAppend k (written k.format e) result new → takes_none k e ≡ true → HadMemory result
 put_wants k e (Ok place) new is none h takes = tt
 put_wants k e (Err (ByCode refused)) new is none h takes = tt
 put_wants k e (Err NoMemory) new is none h takes =
