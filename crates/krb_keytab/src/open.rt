@@ -4,7 +4,7 @@ ghost use Rattle.std.specs.Prelude.{◌≡◌, ◌≤◌, length, drop, IfOk, If
 ghost use Rattle.krb_keytab.specs.Cells.{contents, image as image_of, version_byte};
 ghost use Rattle.krb_keytab.specs.Known.{IsKnownEnd};
 ghost use Rattle.krb_keytab.specs.Store.{format_of, opening, IsImage};
-ghost use Rattle.krb_keytab.specs.Opening.{fault_number};
+ghost use Rattle.krb_keytab.specs.Opening.{open_fault_number};
 
 use crate::image::{CellsEnd, end_of_cells, spelled_of};
 use krb_wire::{KtFormat, Order};
@@ -23,8 +23,8 @@ pub enum KtOpenFault {
 
 impl KtOpenFault {
     /// Its number, as messages have it.
-    pub fn number(self) -> u8
-        ensures { result ≡ fault_number self }
+    pub fn number(self) -> u32
+        ensures { result ≡ open_fault_number self }
     {
         match self {
             KtOpenFault::TooShort => 1,

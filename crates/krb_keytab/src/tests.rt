@@ -6,6 +6,7 @@ mod look_up;
 mod made;
 mod peer_records;
 mod peers;
+mod readme;
 mod records;
 mod removals;
 mod rewrites;

@@ -7,8 +7,8 @@ use Rattle.krb_wire.specs.declared.name_fault.NameFault.TheVariants.{NoRealm, Lo
 use Rattle.krb_wire.specs.declared.atom.Atom.{Atom}
 use Rattle.krb_wire.specs.declared.atom.Atom.TheVariants.{Byte, Slash, At, Lone}
 use Rattle.krb_wire.specs.Spelling.{Parts}
-use Rattle.krb_wire.specs.Atoms.{atoms, before_at, behind_at}
-use Rattle.krb_wire.specs.NameOf.{component_fault, realm_fault, leftmost, faults_of, realm_of, components_of, name_or_fault, name_of}
+use Rattle.krb_wire.specs.Atoms.{atoms, before_at, after_at}
+use Rattle.krb_wire.specs.NameOf.{component_fault, realm_fault, first_fault, faults_of, realm_of, components_of, name_or_fault, name_of}
 
 -- a fault, if there is one, other than that memory ran out
 abbrev IsOfText : Option NameFault → Type 0
@@ -31,15 +31,15 @@ realm_is_of_text Slash = tt
 realm_is_of_text At = tt
 realm_is_of_text Lone = tt
 
-leftmost-cons : (o : Option NameFault) (rest others : List NameFault) → IsOfText o → IsOfText (leftmost (rest ++ others)) → IsOfText (leftmost (cons_option o rest ++ others))
-leftmost-cons None rest others o h = h
-leftmost-cons (Some fault) rest others o h = o
+first_fault-cons : (o : Option NameFault) (rest others : List NameFault) → IsOfText o → IsOfText (first_fault (rest ++ others)) → IsOfText (first_fault (cons_option o rest ++ others))
+first_fault-cons None rest others o h = h
+first_fault-cons (Some fault) rest others o h = o
 
 -- the first of what is wrong with some atoms, or of what comes after them
-leftmost-filter_map : (f : Atom → Option NameFault) → ((a : Atom) → IsOfText (f a)) → (as' : List Atom) (others : List NameFault) → IsOfText (leftmost others)
-    → IsOfText (leftmost (filter_map f as' ++ others))
-leftmost-filter_map f each [] others h = h
-leftmost-filter_map f each (a ∷ as') others h = leftmost-cons (f a) (filter_map f as') others (each a) (leftmost-filter_map f each as' others h)
+first_fault-filter_map : (f : Atom → Option NameFault) → ((a : Atom) → IsOfText (f a)) → (as' : List Atom) (others : List NameFault) → IsOfText (first_fault others)
+    → IsOfText (first_fault (filter_map f as' ++ others))
+first_fault-filter_map f each [] others h = h
+first_fault-filter_map f each (a ∷ as') others h = first_fault-cons (f a) (filter_map f as') others (each a) (first_fault-filter_map f each as' others h)
 
 abbrev fault_or : Result Parts NameFault → Option NameFault
 fault_or (Ok name) = None
@@ -50,15 +50,15 @@ name_or_fault-is_of_text (Some fault) realm components h = h
 name_or_fault-is_of_text None None components h = tt
 name_or_fault-is_of_text None (Some realm) components h = tt
 
-faults-is_of_text : (text : List Atom) → IsOfText (leftmost (faults_of text))
+faults-is_of_text : (text : List Atom) → IsOfText (first_fault (faults_of text))
 faults-is_of_text text =
-    let behind = unwrap_or (behind_at text) [] in
-    let realm = subst (λ l. IsOfText (leftmost l)) (append-nil (filter_map realm_fault behind)) (leftmost-filter_map realm_fault realm_is_of_text behind [] tt) in
-    leftmost-filter_map component_fault component_is_of_text (before_at text) (filter_map realm_fault behind) realm
+    let behind = unwrap_or (after_at text) [] in
+    let realm = subst (λ l. IsOfText (first_fault l)) (append-nil (filter_map realm_fault behind)) (first_fault-filter_map realm_fault realm_is_of_text behind [] tt) in
+    first_fault-filter_map component_fault component_is_of_text (before_at text) (filter_map realm_fault behind) realm
 
 -- where memory ran out the text has a name
 pub ran_out_at_a_name : (text : List ℕ) (realm : Option (List ℕ)) (fault : NameFault) → fault ≡ NoMemory → (name_of text realm ≡ Err fault) ⊎ ((fault ≡ NoMemory) × IsOk (name_of text realm)) → IsOk (name_of text realm)
 ran_out_at_a_name text realm fault is (inl e) =
-    let at_fault = name_or_fault-is_of_text (leftmost (faults_of (atoms text))) (realm_of (atoms text) realm) (components_of (atoms text)) (faults-is_of_text (atoms text)) in
+    let at_fault = name_or_fault-is_of_text (first_fault (faults_of (atoms text))) (realm_of (atoms text) realm) (components_of (atoms text)) (faults-is_of_text (atoms text)) in
     absurd (subst IsOfText (ap fault_or e ∙ ap Some is) at_fault)
 ran_out_at_a_name text realm fault is (inr h) = h.1

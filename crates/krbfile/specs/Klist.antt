@@ -1,9 +1,9 @@
 -- What becomes of a file, and what klist prints.
-use Rattle.std.specs.Prelude.{ℕ, List, [], if◌then◌else◌, is_some, Option, Result, Ok, Err, codes}
+use Rattle.std.specs.Prelude.{ℕ, List, [], ◌++◌, if◌then◌else◌, is_some, Option, Result, Ok, Err, codes, decimal}
 use Rattle.krb_wire.specs.declared.format.Order.{Order}
 use Rattle.krb_walk.specs.Store.{fault_of}
 use Rattle.krb_keytab.specs.declared.open.KtOpenFault.{KtOpenFault}
-use Rattle.krb_keytab.specs.declared.open.KtOpenFault.TheVariants as refusal
+use Rattle.krb_keytab.specs.Opening.{open_fault_number}
 use Rattle.krb_keytab.specs.Store.{State, opening, store_of}
 use Rattle.krb_text.specs.declared.columns.KtColumns.{KtColumns}
 use Rattle.krb_text.specs.declared.files.LoadFault.{LoadFault}
@@ -36,9 +36,7 @@ load_status load.NoMemory = 4
 
 -- what is said of a file that is no keytab
 abbrev pub open_message : List ℕ → KtOpenFault → List ℕ
-open_message file refusal.TooShort = file_message file (codes "not a keytab (1)")
-open_message file refusal.BadVersion = file_message file (codes "not a keytab (2)")
-open_message file refusal.TooLarge = file_message file (codes "not a keytab (3)")
+open_message file fault = file_message file (codes "not a keytab (" ++ decimal (open_fault_number fault) ++ codes ")")
 
 -- an image was opened, and something is done with the keytab, or it was not
 abbrev pub opening_run : (State → Run) → List ℕ → Result State KtOpenFault → Run

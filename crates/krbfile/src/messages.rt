@@ -65,11 +65,18 @@ pub fn complain_of<E: Write>(err: &mut Watched<E>, file: &str, what: &str)
     say(err, &["krbfile: ", file, ": ", what, "\n"]);
 }
 
-/// Says something of a file that ends in a number. A failure there is passed over.
-pub fn complain_number_of<E: Write>(err: &mut Watched<E>, file: &str, what: &str, number: u32)
-    ensures { Says err.old err.new (file_message file.now (what.now ++ decimal number)) }
+/// Says something of a file that has a number in it. A failure there is passed over.
+pub fn complain_number_of<'a, E: Write>(
+    err: &mut Watched<E>,
+    file: &'a str,
+    before: &'a str,
+    number: u32,
+    after: &'a str,
+)
+    ensures { Says err.old err.new
+        (file_message file.now (before.now ++ decimal number ++ after.now)) }
 {
     let mut buffer = Buffer::new();
     let digits = buffer.format(number);
-    say(err, &["krbfile: ", file, ": ", what, digits, "\n"]);
+    say(err, &["krbfile: ", file, ": ", before, digits, after, "\n"]);
 }

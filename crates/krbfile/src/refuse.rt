@@ -44,16 +44,12 @@ pub fn refuse_load<E: Write>(file: &str, fault: LoadFault, err: &mut Watched<E>)
 pub fn refuse_image<E: Write>(file: &str, fault: KtOpenFault, err: &mut Watched<E>)
     ensures { Says err.old err.new (open_message file.now fault) }
 {
-    match fault {
-        KtOpenFault::TooShort => complain_of(err, file, "not a keytab (1)"),
-        KtOpenFault::BadVersion => complain_of(err, file, "not a keytab (2)"),
-        KtOpenFault::TooLarge => complain_of(err, file, "not a keytab (3)"),
-    }
+    complain_number_of(err, file, "not a keytab (", fault.number(), ")");
 }
 
 /// Says why a keytab refused.
 pub fn refuse_code<E: Write>(file: &str, code: Code, err: &mut Watched<E>)
     ensures { Says err.old err.new (refused_message file.now code) }
 {
-    complain_number_of(err, file, "refused ", code.number());
+    complain_number_of(err, file, "refused ", code.number(), "");
 }

@@ -1,0 +1,53 @@
+//! What README shows, line by line: `tests/readme.py` compares the two.
+
+use super::TWO;
+use super::made::b;
+use crate::{Keytab, NewEntry};
+use krb_walk::{Event, Session};
+use krb_wire::{Limits, Order, parse_name};
+use std::alloc::Global;
+use std::test::Fail;
+
+// The place and the version of the entry that is looked up.
+fn look_up(alloc: Global, image: Vec<u8>) -> Result<(u32, u32), Fail> {
+    let opened = Keytab::open(image, Order::Little, Limits::usual());
+    let keytab = opened.map_err(|refused| refused.why)?;
+    let name = parse_name(alloc, b"host/a@R", None)?;
+    let (place, entry) = keytab.find(&name, 0, 17)?;
+    // entry.principal(), entry.kvno(), entry.enctype(), entry.timestamp(), entry.key()
+    Ok((place, entry.kvno()))
+}
+
+// The image after an entry was removed and another added behind a walk.
+fn edit(alloc: Global, keytab: Keytab<Global>, entry: NewEntry<Global>) -> Result<Vec<u8>, Fail> {
+    let mut session = Session::new(alloc, keytab);
+    let mut replies = Vec::new(alloc);
+    let events = [
+        Event::Start,
+        Event::Step(0),
+        Event::Cut(2),
+        Event::Put(entry),
+        Event::Step(0),
+        Event::Rewrite,
+        Event::Step(0),
+    ];
+    session.run(&events, &mut replies)?;
+    // Started { walk: 0, next: 2 }, Gave { walk: 0, place: 2, next: 53, bytes }, Gone(2), Placed(2),
+    // Gave { walk: 0, place: 53, next: 98, bytes }: what was put where the walk had passed is not given
+    // Rewritten(92), Ended { walk: 0, next: 92 }
+    let image = session.into_store().into_image();
+    Ok(image)
+}
+
+#[test]
+fn does_what_it_says(rt: HostRuntime) -> Result<(), Fail> {
+    let alloc = rt.alloc();
+    assert!(rt; look_up(alloc, Vec::from_slice(alloc, TWO)?)? == (2, 3));
+    let Ok(keytab) = super::opened(alloc, TWO, Order::Little)? else {
+        return Err(Fail::from("refused"));
+    };
+    let image = edit(alloc, keytab, b(alloc)?)?;
+    assert_eq!(rt; image.len(), 92);
+    assert!(rt; image.ends_with(&TWO[53..]));
+    Ok(())
+}
