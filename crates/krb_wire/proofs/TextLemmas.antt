@@ -1,7 +1,8 @@
 -- How the text of a name grows, component by component.
 use Rattle.std.proofs.Common.{◌≡◌, ℕ, ◌+◌, ◌≤◌, List, [], ◌∷◌, ◌++◌, Bool, true, false, length, refl, sym, ap, ◌∙◌, append_assoc, append-nil, length-append, arith}
 use Rattle.krb_wire.specs.Quote.{quote}
-use Rattle.krb_wire.specs.Names.{joined_components, separator, Grew}
+use Rattle.krb_wire.specs.Names.{joined_components}
+use Rattle.krb_wire.specs.Text.{separator, Grew}
 
 -- components of which the first has a `/` before it, or has none
 abbrev pub joined_from : Bool → List (List ℕ) → List ℕ

@@ -1,5 +1,5 @@
 -- Names as text.
-use Rattle.std.specs.Prelude.{◌≡◌, ◌<◌, ℕ, ◌+◌, List, [], ◌∷◌, ◌++◌, if◌then◌else◌, Bool, map, length, Vec}
+use Rattle.std.specs.Prelude.{◌<◌, ℕ, ◌+◌, List, ◌∷◌, ◌++◌, map, length, Vec}
 use Rattle.std.specs.List.{join_with_byte}
 use Rattle.std.specs.Vec.{vec_len, vec_capacity}
 use Rattle.krb_wire.specs.Spelling.{Parts}
@@ -12,15 +12,6 @@ joined_components components = join_with_byte 47 (map quote components)
 -- the text of a name: its components joined by `/`, an `@`, and its realm
 abbrev pub name_text : Parts → List ℕ
 name_text p = joined_components p.components ++ (64 ∷ quote p.realm)
-
--- what stands before a component: a `/`, but nothing before the first
-abbrev pub separator : Bool → List ℕ
-separator first = if first then [] else 47 ∷ []
-
--- bytes were appended
-pub record Grew (old new : List ℕ) : Type 0 where
-  pub more : List ℕ
-  pub parts : new ≡ old ++ more
 
 -- the text did not fit the room that was there
 abbrev pub HadNoRoom : {A : Type 0} → Vec ℕ A → List ℕ → Type 0

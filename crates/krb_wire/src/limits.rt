@@ -4,6 +4,12 @@ ghost use Rattle.std.specs.Prelude.{◌≡◌, ◌≤◌, ◌↔◌, ℕ, IsSome
 
 use std::marker::Model;
 
+const LEAST: u32 = 2;
+
+const MOST: u32 = 1 << 30;
+
+const USUAL: u32 = 1 << 24;
+
 /// The greatest length of an image, in bytes: at least 2 and at most 1,073,741,824.
 #[derive(Clone, Copy, Debug)]
 pub struct Limits {
@@ -26,7 +32,7 @@ impl Limits {
         ensures range { IsSome result ↔ ((2 ≤ image) × (image ≤ 1073741824)) }
         ensures value { IfSome result (λ l. l ≡ image) }
     {
-        if image < 2 || image > 1_073_741_824 {
+        if image < LEAST || image > MOST {
             return None;
         }
         Some(Limits { image })
@@ -36,7 +42,7 @@ impl Limits {
     pub fn usual() -> Limits
         ensures { result ≡ 16777216 }
     {
-        Limits { image: 16_777_216 }
+        Limits { image: USUAL }
     }
 
     /// The greatest length.

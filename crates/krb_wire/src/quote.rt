@@ -3,7 +3,8 @@
 ghost use Rattle.std.specs.Prelude.{◌≡◌, ◌<◌, ◌≤◌, ◌+◌, ◌++◌, IsTrue, OnOk, OnErr, length, take, vec_capacity};
 ghost use Rattle.std.specs.List.{All};
 ghost use Rattle.krb_wire.specs.Quote.{quoted_byte, IsPlain, quote};
-ghost use Rattle.krb_wire.specs.Names.{Grew, HadNoRoom};
+ghost use Rattle.krb_wire.specs.Names.{HadNoRoom};
+ghost use Rattle.krb_wire.specs.Text.{Grew};
 
 use std::alloc::{AllocError, Allocator};
 

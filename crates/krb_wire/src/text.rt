@@ -2,7 +2,8 @@
 
 ghost use Rattle.std.specs.Prelude.{◌≡◌, ◌≤◌, ◌++◌, OnOk, OnErr, vec_capacity};
 ghost use Rattle.krb_wire.specs.Quote.{quote};
-ghost use Rattle.krb_wire.specs.Names.{separator, joined_components, name_text, Grew, HadNoRoom};
+ghost use Rattle.krb_wire.specs.Names.{joined_components, name_text, HadNoRoom};
+ghost use Rattle.krb_wire.specs.Text.{separator, Grew};
 
 use crate::memory::NoMemory;
 use crate::name::Name;

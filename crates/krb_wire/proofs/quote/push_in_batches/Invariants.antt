@@ -1,7 +1,7 @@
 use Rattle.std.proofs.Common.{◌≡◌, ◌≤◌, ◌++◌, length}
 use Rattle.std.specs.Vec.{vec_capacity}
 use Rattle.krb_wire.specs.Quote.{quote}
-use Rattle.krb_wire.specs.Names.{Grew}
+use Rattle.krb_wire.specs.Text.{Grew}
 use Rattle.krb_wire.proofs.quote.push_in_batches.Given as goal
 
 abbrev pub invariant-loop-rest : goal.invariant-loop-rest

@@ -1,7 +1,7 @@
 use Rattle.std.proofs.Common.{◌++◌, List, ℕ, [], sym, ap, ◌∙◌, append-nil, arith}
 use Rattle.std.proofs.lemmas.Result.{err_from_is_err_and}
 use Rattle.krb_wire.specs.Quote.{quote}
-use Rattle.krb_wire.specs.Names.{separator}
+use Rattle.krb_wire.specs.Text.{separator}
 use Rattle.krb_wire.proofs.TextLemmas.{joined_from, joined_is, joined_step, joined_room, Grew-then}
 use Rattle.krb_wire.proofs.text.push_components.Goals as goal
 

@@ -1,6 +1,7 @@
 use Rattle.std.proofs.Common.{◌≡◌, ◌≤◌, ◌++◌}
 use Rattle.std.specs.Vec.{vec_capacity}
-use Rattle.krb_wire.specs.Names.{joined_components, Grew}
+use Rattle.krb_wire.specs.Names.{joined_components}
+use Rattle.krb_wire.specs.Text.{Grew}
 use Rattle.krb_wire.proofs.TextLemmas.{joined_from}
 use Rattle.krb_wire.proofs.text.push_components.Given as goal
 
