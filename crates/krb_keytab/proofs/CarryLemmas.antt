@@ -1,43 +1,26 @@
 -- Where the places of a keytab are carried that is written anew.
-use Rattle.std.proofs.Common.{◌≡◌, ◌≢◌, ℕ, suc, ◌+◌, ◌^◌, ◌<◌, ◌≤◌, Bool, true, false, cond, List, [], ◌∷◌, ◌++◌, length, map, drop, Option, Some, None, Ok, inl, inr, refl, sym, ap, subst, ◌∙◌, append_assoc, length-append, arith}
-use Rattle.std.specs.Prelude.{nat_le, nat_lt, is_some, slice_index, ◌==◌}
-use Rattle.std.specs.Int.{w32}
-use Rattle.std.specs.List.{filter_map, flat_map, cons_option, AllByRecursion}
-use Rattle.std.proofs.lemmas.Bool.{le-ltb, cases_lt}
+use Rattle.std.proofs.Common.{◌≡◌, ◌≢◌, ℕ, ◌+◌, ◌^◌, ◌<◌, ◌≤◌, Bool, true, false, cond, List, [], ◌∷◌, length, map, drop, inl, inr, refl, sym, ap, subst, ◌∙◌, arith}
+use Rattle.std.specs.Prelude.{nat_le}
+use Rattle.std.specs.List.{AllByRecursion}
+use Rattle.std.proofs.lemmas.Bool.{cases_lt}
 use Rattle.std.proofs.lemmas.Bool.Decides.{nat_tests}
-use Rattle.std.proofs.lemmas.List.{append-nil, take_at, drop_at}
-use Rattle.std.proofs.lemmas.List.Concat.{flat_map-cons}
-use Rattle.krb_wire.specs.declared.format.Order.{Order}
-use Rattle.krb_wire.specs.declared.format.Order.TheVariants.{Big}
 use Rattle.krb_wire.specs.declared.format.KtFormat.{KtFormat}
-use Rattle.krb_wire.specs.declared.format.KtFormat.TheVariants.{V1, V2}
-use Rattle.krb_wire.specs.Spelling.{order_of, digits, HasNameType}
-use Rattle.krb_wire.specs.Reading.{number_at}
-use Rattle.krb_wire.proofs.Fields.{IsBytes, IsBytes-drop, IsBytes-take, is_some_has, wide32, number_takes}
-use Rattle.krb_walk.specs.Store.{Cell as StoreCell, IsPlace, end_from, end_of, fault_of}
-use Rattle.krb_walk.specs.Ranks.{nth_or, carry, Rewrites}
-use Rattle.krb_walk.proofs.Stops.{records_of}
+use Rattle.krb_wire.specs.declared.format.KtFormat.TheVariants.{V2}
+use Rattle.krb_wire.proofs.Fields.{is_some_has}
+use Rattle.krb_walk.specs.Store.{IsPlace, end_from}
+use Rattle.krb_walk.specs.Ranks.{nth_or, carry}
 use Rattle.krb_walk.proofs.Lives.{lives}
 use Rattle.krb_walk.proofs.Places.{place_in}
 use Rattle.krb_walk.proofs.Carries.{lives_rise, below, below_none, below_some}
-use Rattle.krb_keytab.specs.Entry.{EntryParts, entry_at, front, entry_of, Spells, version_by}
-use Rattle.krb_keytab.specs.Cells.{Cell, Live, Free, Bare, Contents, bytes_of, length_field, cell, end_bytes, contents, IsCell, IsSound}
-use Rattle.krb_keytab.specs.Questions.{size, is_place, kind_of, end_place}
-use Rattle.krb_keytab.specs.Store.{State, IsImage, placed, store_of, image_of, entries}
-use Rattle.krb_keytab.specs.Written.{written, fits, IsEntry}
-use Rattle.krb_keytab.specs.Rewrite.{new_record, rewrite_of, rewrite_result}
+use Rattle.krb_keytab.specs.Entry.{EntryParts, entry_at}
+use Rattle.krb_keytab.specs.Cells.{Cell, Live, Free, Contents, contents, IsCell}
+use Rattle.krb_keytab.specs.Questions.{size, is_place, end_place}
+use Rattle.krb_keytab.specs.Store.{State, placed, store_of}
+use Rattle.krb_keytab.specs.Written.{written}
+use Rattle.krb_keytab.specs.Rewrite.{new_record, rewrite_of}
 use Rattle.krb_keytab.specs.Carry.{place_after, cells_after, new_place, AreGiven, HasGiven, GoesBy}
-use Rattle.krb_keytab.specs.declared.step.Ending.TheVariants as ending
-use Rattle.krb_keytab.specs.Known.{IsKnownEnd}
-use Rattle.krb_keytab.proofs.CellLemmas.{contents_again}
-use Rattle.krb_keytab.proofs.Turned.{contents_none}
-use Rattle.std.proofs.Math.ListN.{drop_of_length-le}
-use Rattle.krb_keytab.proofs.Cuts.{cell_len, far, end_place_is}
-use Rattle.krb_keytab.proofs.Entries.{entry_spelled, entry_again}
-use Rattle.krb_keytab.proofs.WrittenLemmas.{written_spells, written_len}
+use Rattle.krb_keytab.proofs.Cuts.{far}
 use Rattle.krb_keytab.proofs.Stores.{past, store_sound, is_place-store, end_place-store, held, place_held}
-use Rattle.krb_keytab.proofs.AnewLemmas.{fits_anew}
-use Rattle.krb_keytab.proofs.StoreChanges.{whole_of}
 use Rattle.krb_keytab.proofs.Rewrites.{anews, entries_of, entries_all, anews_live, anews_free, anews_none}
 
 -- ---- where a place is carried

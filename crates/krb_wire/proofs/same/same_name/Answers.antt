@@ -1,4 +1,4 @@
-use Rattle.std.proofs.Common.{rules, ◌≡◌, ◌∙◌, ℕ, List, sym}
+use Rattle.std.proofs.Common.{rules, ◌≡◌, ◌∙◌, sym}
 use Rattle.krb_wire.proofs.NamesTold.{same_name_is}
 use Rattle.krb_wire.proofs.same.same_name.Goals as goal
 

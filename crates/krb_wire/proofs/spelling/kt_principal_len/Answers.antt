@@ -1,4 +1,4 @@
-use Rattle.std.proofs.Common.{rules, ◌≡◌, ◌<◌, ◌^◌, ◌+◌, ◌++◌, ◌∙◌, ℕ, List, [], length, ap, sym, subst, length-append, arith}
+use Rattle.std.proofs.Common.{rules, ◌≡◌, ◌<◌, ◌^◌, ◌+◌, ◌++◌, ◌∙◌, length, ap, sym, subst, length-append, arith}
 use Rattle.std.specs.Int.{w16}
 use Rattle.std.specs.List.{flat_map, AllByRecursion}
 use Rattle.std.proofs.lemmas.List.Concat.{flat_map-cons}
@@ -10,10 +10,10 @@ use Rattle.krb_wire.proofs.spelling.kt_principal_len.Goals as goal
 pub returns-then-component-gt65535-clause-some : goal.returns-then-component-gt65535-clause-some
 returns-then-component-gt65535-clause-some g c =
     fits_not c.args.format (g.N.Name.parts c.args.name.now) (λ l.
-        let left = subst (AllByRecursion IsShort) c.in-Some.ensures.steps (c.loop-component.invariant.short.0 l.components) in
-        let short = left.0 in
-        let long = c.if-component-gt65535.true in
-        absurd (omega (arith, short, long)))
+    let left = subst (AllByRecursion IsShort) c.in-Some.ensures.steps (c.loop-component.invariant.short.0 l.components) in
+    let short = left.0 in
+    let long = c.if-component-gt65535.true in
+    absurd (omega (arith, short, long)))
 
 pub loop-component-preserved : goal.loop-component-preserved
 loop-component-preserved g c = record {
