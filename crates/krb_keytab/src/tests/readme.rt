@@ -1,7 +1,8 @@
 //! What README shows, line by line: `tests/readme.py` compares the two.
 
 use super::TWO;
-use super::made::b;
+use super::made::{b, joined};
+use super::sessions::B_BYTES;
 use crate::{Keytab, NewEntry};
 use krb_walk::{Event, Session};
 use krb_wire::{Limits, Order, parse_name};
@@ -47,7 +48,8 @@ fn does_what_it_says(rt: HostRuntime) -> Result<(), Fail> {
         return Err(Fail::from("refused"));
     };
     let image = edit(alloc, keytab, b(alloc)?)?;
-    assert_eq!(rt; image.len(), 92);
-    assert!(rt; image.ends_with(&TWO[53..]));
+    let record = joined(alloc, &[b"\0\0\0\x29", B_BYTES])?;
+    let expected = joined(alloc, &[b"\x05\x02", &record, &record])?;
+    assert!(rt; image.as_slice() == expected.as_slice());
     Ok(())
 }
