@@ -61,7 +61,7 @@ ran_one r old new e told ready says is lawful = ran_of r old new (e ∷ []) [] (
 pub ran_step : {S I : Type 0} (r : Rules S I) (old new : State S) (w : ℕ) → IsReady r old → new ≡ after {I = I} r old (Step w) → Ran {I = I} r old new (Step w ∷ []) [] (reply_to {I = I} r old (Step w) ∷ [])
 ran_step r old new w ready is = ran_one r old new (Step w) _ ready refl is (lawful_step r old w)
 
--- an event that is applied, or wants memory
+-- an event that is applied, or runs out of memory
 pub ran_applied : {S I A E : Type 0} (r : Rules S I) (old new : State S) (e : Event I) (result : Result (Reply A) E) → IsReady r old → IfOk result (λ x. said x ≡ reply_to r old e) → OnOk result (new ≡ after r old e) → OnOk result (IsLawful r (moment r old e)) → IfOk result (λ x. Ran r old new (e ∷ []) [] (said x ∷ []))
 ran_applied r old new e (Ok x) ready says is lawful = ran_one r old new e (said x) ready says is lawful
 ran_applied r old new e (Err want) ready says is lawful = tt

@@ -17,7 +17,7 @@ fn entry(alloc: Global, number: u32) -> Result<NewEntry<Global>, Fault>
     ensures key { IfOk result (λ e. length e.key ≡ 32) }
 {
     let name = format!(in alloc; "host/bench{number:05}.ad.test@AD.TEST")?;
-    // Such a text has a name, so memory was wanting if none is given.
+    // Such a text has a name, so memory ran out if none is given.
     let Ok(principal) = parse_name(alloc, name.as_bytes(), None) else {
         return Err(Fault::NoMemory);
     };

@@ -95,8 +95,8 @@ fn growths_of_an_edit(rt: HostRuntime) -> Result<(), Fail> {
         let image = joined(heap, &[HEAD, HOST])?;
         let mut replies = Vec::new(heap);
         heap.refuse(n);
-        let (image, wanting) = edited(heap, image, &events, &mut replies)?;
-        assert!(rt; wanting == heap.refused());
+        let (image, ran_out) = edited(heap, image, &events, &mut replies)?;
+        assert!(rt; ran_out == heap.refused());
         assert!(rt; image.as_slice() == want.as_slice());
         assert!(rt; told(&replies));
         Ok(())

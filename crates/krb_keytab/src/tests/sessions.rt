@@ -49,7 +49,7 @@ pub fn check<R: Abort + AllocGlobal>(
 ) -> Result<(), Fail> {
     for (event, expected) in turns {
         let Ok(reply) = session.apply(event) else {
-            return Err(Fail::from("want of memory"));
+            return Err(Fail::from("out of memory"));
         };
         assert!(rt; reply == *expected, "{reply:?}");
     }
