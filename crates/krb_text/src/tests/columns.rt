@@ -1,4 +1,4 @@
-use super::keytabs::{ALL, B, HEAD, HOST, listed, opened};
+use super::keytabs::{ALL, B, HEAD, listed, opened};
 use crate::KtColumns;
 use std::test::Fail;
 
@@ -7,19 +7,6 @@ const PLAIN: &str = "Keytab name: FILE:k\nKVNO Principal\n---- ---------\n";
 const TIMED: &str = "Keytab name: FILE:k\n\
 KVNO Timestamp            Principal\n\
 ---- -------------------- ---------\n";
-
-#[test]
-fn all_columns(rt: HostRuntime) -> Result<(), Fail> {
-    let keytab = opened(rt.alloc(), &[HEAD, HOST, B])?;
-    let want = "Keytab name: FILE:k\n\
-KVNO Timestamp            Principal\n\
----- -------------------- ---------\n   \
-3 2023-11-14T22:13:20Z host/a@R (aes128-cts-hmac-sha1-96) (0x000102030405060708090a0b0c0d0e0f)\n   \
-3 2023-11-14T22:13:20Z b@R (aes128-cts-hmac-sha1-96) (0x101112131415161718191a1b1c1d1e1f)\n";
-    let text = listed(rt.alloc(), "k", &keytab, ALL)?;
-    assert!(rt; text.as_slice() == want.as_bytes());
-    Ok(())
-}
 
 #[test]
 fn some_columns(rt: HostRuntime) -> Result<(), Fail> {
@@ -58,15 +45,6 @@ fn some_columns(rt: HostRuntime) -> Result<(), Fail> {
         let want = format!(in rt.alloc(); "{heading}{line}")?;
         assert!(rt; text.as_slice() == want.as_bytes(), "{line}");
     }
-    Ok(())
-}
-
-#[test]
-fn the_usual_columns_are_none(rt: HostRuntime) -> Result<(), Fail> {
-    let keytab = opened(rt.alloc(), &[HEAD, HOST, B])?;
-    let text = listed(rt.alloc(), "k", &keytab, KtColumns::default())?;
-    let want = format!(in rt.alloc(); "{PLAIN}   3 host/a@R\n   3 b@R\n")?;
-    assert!(rt; text.as_slice() == want.as_bytes());
     Ok(())
 }
 

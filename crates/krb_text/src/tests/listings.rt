@@ -1,4 +1,4 @@
-use super::keytabs::{ALL, B, HEAD, HOST, listed, opened};
+use super::keytabs::{ALL, HEAD, HOST, listed, opened};
 use crate::{KtColumns, Watched, list_keytab};
 use std::test::Fail;
 
@@ -23,44 +23,6 @@ KVNO Timestamp            Principal\n\
         let text = listed(rt.alloc(), name, &keytab, columns)?;
         assert!(rt; text.as_slice() == want.as_bytes(), "{name}");
     }
-    Ok(())
-}
-
-/// The line of a fault is the last, with columns too, and has none itself.
-#[test]
-fn a_fault_behind_the_records(rt: HostRuntime) -> Result<(), Fail> {
-    let keytab = opened(rt.alloc(), &[HEAD, HOST, b"\x80\0\0\0", B])?;
-    let columns = KtColumns {
-        times: true,
-        etypes: true,
-        keys: false,
-    };
-    let text = listed(rt.alloc(), "k", &keytab, columns)?;
-    let want = "Keytab name: FILE:k\n\
-KVNO Timestamp            Principal\n\
----- -------------------- ---------\n   \
-3 2023-11-14T22:13:20Z host/a@R (aes128-cts-hmac-sha1-96)\n\
-fault 2 at 53\n";
-    assert!(rt; text.as_slice() == want.as_bytes());
-    Ok(())
-}
-
-/// A name in quotes, and a hole that is passed.
-#[test]
-fn a_quoted_name_behind_a_hole(rt: HostRuntime) -> Result<(), Fail> {
-    let hole = b"\xff\xff\xff\xfd\0\0\0".as_slice();
-    let quoted =
-        b"\0\0\0\x1c\0\x01\0\x01R\0\x08a/b@c\\\n\0\0\0\0\x01\x65\x53\xf1\0\x03\0\x17\0\0".as_slice();
-    let keytab = opened(rt.alloc(), &[HEAD, hole, quoted])?;
-    let columns = KtColumns {
-        times: false,
-        etypes: true,
-        keys: true,
-    };
-    let text = listed(rt.alloc(), "k", &keytab, columns)?;
-    let want = "Keytab name: FILE:k\nKVNO Principal\n---- ---------\n   \
-3 a\\/b\\@c\\\\\\n\\0@R (arcfour-hmac) (0x)\n";
-    assert!(rt; text.as_slice() == want.as_bytes());
     Ok(())
 }
 

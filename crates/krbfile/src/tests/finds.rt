@@ -1,7 +1,6 @@
-use super::samples::{B, HEAD, HOST, LITTLE, Outcome, files_of, find, wanted};
+use super::samples::{B, HEAD, HOST, Outcome, files_of, find, wanted};
 use crate::ktfind::run_ktfind;
 use krb_text::Watched;
-use krb_wire::Order;
 use refusing::refuse_each;
 use std::process::Abort;
 use std::test::Fail;
@@ -32,12 +31,8 @@ fn check<R: Abort>(rt: &R, got: &Outcome, out: &str, err: &str, status: u8) {
 fn entries_that_are_found(rt: HostRuntime) -> Result<(), Fail> {
     for (kvno, enctype, name, line) in [
         (0, 0, "host/a@R", "found 53 kvno 5 etype 18 host/a@R\n"),
-        (0, 18, "host/a@R", "found 53 kvno 5 etype 18 host/a@R\n"),
         (0, 17, "host/a@R", "found 120 kvno 5 etype 17 host/a@R\n"),
-        (5, 0, "host/a@R", "found 53 kvno 5 etype 18 host/a@R\n"),
-        (5, 17, "host/a@R", "found 120 kvno 5 etype 17 host/a@R\n"),
         (3, 0, "host/a@R", "found 2 kvno 3 etype 17 host/a@R\n"),
-        (3, 17, "host/a@R", "found 2 kvno 3 etype 17 host/a@R\n"),
         (0, 0, "b@R", "found 171 kvno 3 etype 17 b@R\n"),
     ] {
         let mut files = files_of(rt.alloc(), &[HEAD, HOST, FIVE_18, FIVE_17, B])?;
@@ -58,100 +53,13 @@ fn entries_that_are_found(rt: HostRuntime) -> Result<(), Fail> {
 fn entries_that_are_not_there(rt: HostRuntime) -> Result<(), Fail> {
     for (kvno, enctype, name, message) in [
         (0, 23, "host/a@R", "krbfile: k: refused 9\n"),
-        (4, 23, "host/a@R", "krbfile: k: refused 9\n"),
-        (0, 0, "host/b@R", "krbfile: k: refused 9\n"),
-        (0, 0, "host@R", "krbfile: k: refused 9\n"),
-        (0, 0, "host/a/a@R", "krbfile: k: refused 9\n"),
-        (0, 0, "host/a@S", "krbfile: k: refused 9\n"),
-        (0, 0, "HOST/a@R", "krbfile: k: refused 9\n"),
         (4, 0, "host/a@R", "krbfile: k: refused 10\n"),
-        (3, 18, "host/a@R", "krbfile: k: refused 10\n"),
-        (261, 17, "host/a@R", "krbfile: k: refused 10\n"),
     ] {
         let mut files = files_of(rt.alloc(), &[HEAD, HOST, FIVE_18, FIVE_17])?;
         let options = wanted(rt.alloc(), kvno, enctype, name)?;
         check(
             &rt,
             &find(rt.alloc(), &options, "k", &mut files),
-            "",
-            message,
-            1,
-        );
-    }
-    Ok(())
-}
-
-/// A name without components is no name of one empty component.
-#[test]
-fn a_name_without_components(rt: HostRuntime) -> Result<(), Fail> {
-    let none = b"\0\0\0\x11\0\0\0\0\0\0\0\0\0\0\0\0\0\0\0\0\0";
-    let mut files = files_of(rt.alloc(), &[HEAD, none])?;
-    let options = wanted(rt.alloc(), 0, 0, "@")?;
-    let got = find(rt.alloc(), &options, "k", &mut files);
-    check(&rt, &got, "", "krbfile: k: refused 9\n", 1);
-    Ok(())
-}
-
-#[test]
-fn bytes_that_names_quote(rt: HostRuntime) -> Result<(), Fail> {
-    let quoted =
-        b"\0\0\0\x20\0\x01\0\x01R\0\x08a/b@c\\\n\0\0\0\0\x01\x65\x53\xf1\0\x03\0\x01\0\0\0\0\0\x03";
-    let name = "a\\/b\\@c\\\\\\n\\0@R";
-    let mut files = files_of(rt.alloc(), &[HEAD, quoted])?;
-    let options = wanted(rt.alloc(), 0, 0, name)?;
-    let line = format!(in rt.alloc(); "found 2 kvno 3 etype 1 {name}\n")?;
-    check(
-        &rt,
-        &find(rt.alloc(), &options, "k", &mut files),
-        line.as_str(),
-        "",
-        0,
-    );
-    Ok(())
-}
-
-/// A damaged keytab gives none of its entries.
-#[test]
-fn damaged_keytabs(rt: HostRuntime) -> Result<(), Fail> {
-    let cuts: [&[u8]; 3] = [b"\0\0", b"\x7f\xff\xff\xff", b"\0\0\0\x01\0"];
-    for cut in cuts {
-        for (kvno, name) in [(3, "host/a@R"), (4, "host/a@R"), (0, "b@R")] {
-            let mut files = files_of(rt.alloc(), &[HEAD, HOST, cut])?;
-            let options = wanted(rt.alloc(), kvno, 0, name)?;
-            let got = find(rt.alloc(), &options, "k", &mut files);
-            check(&rt, &got, "", "krbfile: k: refused 1\n", 1);
-        }
-    }
-    Ok(())
-}
-
-/// Names of version 1 have type 0: types are not looked at.
-#[test]
-fn version_1_in_both_orders(rt: HostRuntime) -> Result<(), Fail> {
-    let mut files = files_of(rt.alloc(), &[LITTLE])?;
-    let mut options = wanted(rt.alloc(), 0, 0, "host/a@R")?;
-    let got = find(rt.alloc(), &options, "k", &mut files);
-    check(&rt, &got, "found 2 kvno 3 etype 17 host/a@R\n", "", 0);
-    options.v1_order = Order::Big;
-    let got = find(rt.alloc(), &options, "k", &mut files);
-    check(&rt, &got, "", "krbfile: k: refused 1\n", 1);
-    Ok(())
-}
-
-#[test]
-fn files_that_are_no_keytabs(rt: HostRuntime) -> Result<(), Fail> {
-    let cases: [(&[u8], &str, &str); 4] = [
-        (HEAD, "no", "krbfile: no: no such file\n"),
-        (b"\x05", "k", "krbfile: k: not a keytab (1)\n"),
-        (b"\x05\x03", "k", "krbfile: k: not a keytab (2)\n"),
-        (HEAD, "k", "krbfile: k: refused 9\n"),
-    ];
-    for (image, file, message) in cases {
-        let mut files = files_of(rt.alloc(), &[image])?;
-        let options = wanted(rt.alloc(), 0, 0, "host/a@R")?;
-        check(
-            &rt,
-            &find(rt.alloc(), &options, file, &mut files),
             "",
             message,
             1,

@@ -89,49 +89,6 @@ fn damaged_keytabs(rt: HostRuntime) -> Result<(), Fail> {
 }
 
 #[test]
-fn bytes_that_names_quote(rt: HostRuntime) -> Result<(), Fail> {
-    let start = b"\0\0\0\x30\0\x01\0\x01R\0\x08a/b@c\\\n\0\0\0\0\x01\x65\x53\xf1\0\x03";
-    check(
-        &rt,
-        Order::Little,
-        &[Case {
-            image: &[HEAD, start, KEY, b"\0\0\0\x03"],
-            lines: "   3 a\\/b\\@c\\\\\\n\\0@R\n",
-            status: 0,
-        }],
-    )
-}
-
-/// Four bytes behind the key are the version, unless they are 0 or not there: then it is the byte.
-#[test]
-fn versions(rt: HostRuntime) -> Result<(), Fail> {
-    let seven = b"\0\x02\0\x01R\0\x04host\0\x01a\0\0\0\x01\x65\x53\xf1\0\x07";
-    check(
-        &rt,
-        Order::Little,
-        &[Case {
-            image: &[
-                HEAD,
-                b"\0\0\0\x2e",
-                seven,
-                KEY,
-                b"\0\0\0",
-                b"\0\0\0\x2f",
-                seven,
-                KEY,
-                b"\0\0\0\0",
-                b"\0\0\0\x2f",
-                seven,
-                KEY,
-                b"\0\0\x01\0",
-            ],
-            lines: "   7 host/a@R\n   7 host/a@R\n 256 host/a@R\n",
-            status: 0,
-        }],
-    )
-}
-
-#[test]
 fn version_1_in_both_orders(rt: HostRuntime) -> Result<(), Fail> {
     let big = b"\x05\x01\0\0\0\x2b\0\x03\0\x01R\0\x04host\0\x01a\x65\x53\xf1\0\x03";
     check(
