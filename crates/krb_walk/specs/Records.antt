@@ -52,6 +52,7 @@ rows_at_some (Some p) rows = rows_at p rows
 abbrev pub rows_here : RecordName → WalkEvent → List Row
 rows_here r x = rows_at_some (place_of r x) (rows_at_event x)
 
+-- the rows of a record along a track
 abbrev pub rows_of : RecordName → Track → List Row
 rows_of r t = flat_map (rows_here r) t
 
