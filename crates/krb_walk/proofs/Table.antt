@@ -82,4 +82,4 @@ rewrite_kept r old new (Ok done) table now count gives rewrites carries keeps ke
     let len : length front ≡ count = omega (arith, length-take count table, kept.few, kept.room) in
     subst (λ (l : List ℕ). IsKept r new l count) (sym carries) (carried_kept r old new front (drop count table) (map (carry (r.seen old) (r.seen new)) front) count rewrites refl len kept.few (ap length (take-append-drop count table) ∙ kept.room))
 rewrite_kept r old new (Err (ByCode code)) table now count gives rewrites carries keeps kept = subst (λ (l : List ℕ). IsKept r new l count) (sym keeps) (same_kept r old new table count gives.1 kept)
-rewrite_kept r old new (Err NoMemory) table now count gives rewrites carries keeps kept = subst (λ (l : List ℕ). IsKept r new l count) (sym keeps) (same_kept r old new table count gives kept)
+rewrite_kept r old new (Err NoMemory) table now count gives rewrites carries keeps kept = subst (λ (l : List ℕ). IsKept r new l count) (sym keeps) (same_kept r old new table count gives.1 kept)

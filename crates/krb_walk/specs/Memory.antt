@@ -1,5 +1,5 @@
 -- What takes no memory.
-use Rattle.std.specs.Prelude.{◌≡◌, ℕ, true, false, Result, Err}
+use Rattle.std.specs.Prelude.{◌≡◌, ℕ, true, false, Result, Err, IsErr}
 use Rattle.krb_walk.specs.declared.event.Event.{Event}
 use Rattle.krb_walk.specs.declared.event.Event.TheVariants.{Step, Put, Rewrite}
 use Rattle.krb_walk.specs.declared.refusal.Refusal.{Refusal}
@@ -13,9 +13,9 @@ abbrev pub HadMemory : Result ℕ Refusal → Type 0
 HadMemory (Err NoMemory) = ⊥
 HadMemory result = Unit {0}
 
--- an event that takes no memory: all but a step that gives a record, an addition whose store grows, and a rewrite
+-- an event that takes no memory: all but a step that gives a record, an addition whose store grows, and a rewrite that is not refused
 abbrev pub TakesNone : {S I : Type 0} → Rules S I → State S → Event I → Type 0
 TakesNone r s (Step w) = is_gave (reply_to r s (Step w)) ≡ false
 TakesNone r s (Put item) = r.takes_none s.store item ≡ true
-TakesNone r s Rewrite = ⊥
+TakesNone r s Rewrite = IsErr (r.rewrite s.store)
 TakesNone r s e = Unit {0}

@@ -1,5 +1,5 @@
 -- What a store gives for each change, where memory is there.
-use Rattle.std.specs.Prelude.{◌≡◌, ℕ, Bool, Result, Ok, Err}
+use Rattle.std.specs.Prelude.{◌≡◌, ℕ, Bool, Result, Ok, Err, IsOk}
 use Rattle.krb_walk.specs.declared.refusal.Code.{Code}
 use Rattle.krb_walk.specs.declared.refusal.Refusal.{Refusal}
 use Rattle.krb_walk.specs.declared.refusal.Refusal.TheVariants.{Code as ByCode, NoMemory}
@@ -25,8 +25,8 @@ abbrev pub CutGives : {S : Type 0} → Result S Code → S → Result (Unit {0})
 CutGives given old (Ok done) new = given ≡ Ok new
 CutGives given old (Err code) new = (given ≡ Err code) × (new ≡ old)
 
--- a rewrite answered as the rules have it; a failed allocation leaves the store
+-- a rewrite answered as the rules have it; memory is asked for only where nothing refuses, and a failed allocation leaves the store
 abbrev pub RewriteGives : {S : Type 0} → Result S Code → S → Result (Unit {0}) Refusal → S → Type 0
 RewriteGives given old (Ok done) new = given ≡ Ok new
 RewriteGives given old (Err (ByCode code)) new = (given ≡ Err code) × (new ≡ old)
-RewriteGives given old (Err NoMemory) new = new ≡ old
+RewriteGives given old (Err NoMemory) new = IsOk given × (new ≡ old)

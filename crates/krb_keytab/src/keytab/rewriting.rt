@@ -1,12 +1,12 @@
 //! Writing a keytab anew.
 
-ghost use Rattle.std.specs.Prelude.{◌≡◌, map, Ok, OnOk, OnErr, IfErr};
+ghost use Rattle.std.specs.Prelude.{◌≡◌, map, OnOk, OnErr};
 ghost use Rattle.std.specs.List.{AllByRecursion};
 ghost use Rattle.krb_walk.specs.Rules.{RewriteGives};
 ghost use Rattle.krb_walk.specs.Store.{IsPlace};
 ghost use Rattle.krb_walk.specs.Ranks.{carry, Rewrites};
 ghost use Rattle.krb_keytab.specs.Store.{store_of, entries};
-ghost use Rattle.krb_keytab.specs.Rewrite.{rewrite_of, rewrite_result};
+ghost use Rattle.krb_keytab.specs.Rewrite.{rewrite_result};
 
 use super::Keytab;
 use crate::anew::{anew_is_sound, image_anew, len_anew};
@@ -25,8 +25,6 @@ impl<A: Allocator + Copy> Keytab<A> {
     pub fn rewrite(&mut self, cursors: &mut [u32]) -> Result<(), Refusal>
         requires { AllByRecursion (IsPlace (store_of self.old)) cursors.old }
         ensures gives { RewriteGives (rewrite_result self.old) self.old result self.new }
-        // Memory is asked for only where nothing refuses.
-        ensures memory { IfErr result (λ e. e ≡ Refusal.NoMemory → rewrite_result self.old ≡ Ok (rewrite_of self.old)) }
         ensures rewrites { OnOk result (Rewrites (store_of self.old) (store_of self.new)) }
         ensures entries { OnOk result (entries self.new ≡ entries self.old) }
         ensures carries { OnOk result (cursors.new ≡ map (carry (store_of self.old) (store_of self.new)) cursors.old) }

@@ -159,6 +159,7 @@ impl<P: Placed, A: Allocator + Copy> Session<P, A> {
         ensures reply { IfOk result (λ r. said r ≡ reply_to P.rules self.old Rewrite) }
         ensures state { OnOk result (self.new ≡ after P.rules self.old Rewrite) }
         ensures lawful { OnOk result (IsLawful P.rules (moment P.rules self.old Rewrite)) }
+        ensures memory { TakesNone P.rules self.old Rewrite → IsOk result }
         ensures err { OnErr result (self.new ≡ self.old) }
     {
         match rewrite_with(&mut self.store, &mut self.cursors, self.count as usize) {
