@@ -27,8 +27,9 @@ fn step_at(format: KtFormat, image: &[u8], at: usize) -> Step
     next_of(format, tail(image, at))
 }
 
-/// Where the cells end. Each entry is read once.
-pub fn end_of_cells(format: KtFormat, image: &[u8]) -> CellsEnd
+// The same for a format that is known where this is inlined, so that the loop asks for it no more.
+#[inline(always)]
+fn end_of_cells_in(format: KtFormat, image: &[u8]) -> CellsEnd
     requires long { 2 ≤ length image.now }
     requires small { length image.now ≤ 2 ^ 30 }
     ensures { IsKnownEnd format image.now result }
@@ -40,6 +41,18 @@ pub fn end_of_cells(format: KtFormat, image: &[u8]) -> CellsEnd
             Step::Free(size) => at = at + 4 + size,
             Step::End(ending) => return CellsEnd { place: at, ending },
         }
+    }
+}
+
+/// Where the cells end. Each entry is read once.
+pub fn end_of_cells(format: KtFormat, image: &[u8]) -> CellsEnd
+    requires long { 2 ≤ length image.now }
+    requires small { length image.now ≤ 2 ^ 30 }
+    ensures { IsKnownEnd format image.now result }
+{
+    match format {
+        KtFormat::V2 => end_of_cells_in(KtFormat::V2, image),
+        KtFormat::V1(order) => end_of_cells_in(KtFormat::V1(order), image),
     }
 }
 

@@ -47,7 +47,11 @@ pub fn gather_right_in_4<A: Allocator>(
 {
     let mut text = [b' '; 11];
     let start = write_digits(number as u64, &mut text, 10);
-    gather(&text[start.min(6)..], gathered)
+    if start < 6 {
+        return gather(&text[start..], gathered);
+    }
+    // Few digits, as a rule: so many bytes are copied without a call.
+    gather(&text[6..], gathered)
 }
 
 /// Gathers a byte more.
@@ -63,6 +67,7 @@ pub fn gather_byte<A: Allocator>(byte: u8, gathered: &mut Vec<u8, A>) -> Result<
 }
 
 /// Gathers a name.
+#[inline(always)]
 pub fn gather_name<N: Name, A: Allocator>(
     name: &N,
     gathered: &mut Vec<u8, A>,

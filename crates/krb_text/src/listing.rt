@@ -15,6 +15,7 @@ use crate::output::{OutFault, put};
 use crate::watched::Watched;
 use krb_keytab::{Keytab, read_entry};
 use krb_walk::{Fault, Stop};
+use krb_wire::KtFormat;
 use std::alloc::Allocator;
 use std::io::Write;
 
@@ -55,9 +56,12 @@ fn gather_record<A: Allocator, B: Allocator>(
     ensures why { IfErr result (λ fault. fault ≡ OutFault.NoMemory) }
 {
     let bytes = keytab.bytes_at(place);
-    let Some(entry) = read_entry(keytab.format(), bytes) else {
-        unreachable!()
+    // In each arm the reader knows the format, and asks for it no more.
+    let read = match keytab.format() {
+        KtFormat::V2 => read_entry(KtFormat::V2, bytes),
+        KtFormat::V1(order) => read_entry(KtFormat::V1(order), bytes),
     };
+    let Some(entry) = read else { unreachable!() };
     gather_entry(columns, &entry, gathered)
 }
 

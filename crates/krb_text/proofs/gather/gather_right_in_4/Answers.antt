@@ -10,8 +10,15 @@ write_digits-start-requires g c =
     let fits = c.ranges.number in
     (length-decimal-le 10 c.args.number (omega arith) (omega (arith, fits)) (omega (arith, fits)), omega arith)
 
+pub returns-then-start-lt6-clause-ok : goal.returns-then-start-lt6-clause-ok
+returns-then-start-lt6-clause-ok g c =
+    let said = c.write_digits-start.ensures in
+    let start = c.write_digits-start.result in
+    let text = right_aligned _ (decimal c.args.number) start start said.start said.written said.before (omega arith) in
+    on_ok_weaker c.gather.result (λ e. e ∙ ap (λ (t : List ℕ). c.args.gathered.now.items ++ t) text) c.gather.ensures.ok
+
 pub returns-clause-ok : goal.returns-clause-ok
 returns-clause-ok g c =
     let said = c.write_digits-start.ensures in
-    let text = right_aligned _ (decimal c.args.number) c.write_digits-start.result c.min.result said.start said.written said.before c.min.ensures in
-    on_ok_weaker c.gather.result (λ e. e ∙ ap (λ (t : List ℕ). c.args.gathered.now.items ++ t) text) c.gather.ensures.ok
+    let text = right_aligned _ (decimal c.args.number) c.write_digits-start.result 6 said.start said.written said.before (omega arith) in
+    on_ok_weaker c.gather-2.result (λ e. e ∙ ap (λ (t : List ℕ). c.args.gathered.now.items ++ t) text) c.gather-2.ensures.ok

@@ -1,7 +1,7 @@
 use Rattle.std.proofs.Common.{◌≡◌, ◌≤◌, ◌-◌, length, drop}
 use Rattle.krb_keytab.specs.Cells.{contents}
 use Rattle.krb_keytab.specs.Questions.{end_place}
-use Rattle.krb_keytab.proofs.image.end_of_cells.Given as goal
+use Rattle.krb_keytab.proofs.image.end_of_cells_in.Given as goal
 
 abbrev pub invariant-cells : goal.invariant-cells
 invariant-cells l = record {
