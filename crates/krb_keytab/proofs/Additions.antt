@@ -2,7 +2,7 @@
 use Rattle.std.proofs.Common.{◌≡◌, ℕ, ◌+◌, ◌<◌, ◌≤◌, Bool, true, false, cond, ltb, List, [], ◌∷◌, ◌++◌, length, drop, Option, Some, None, Result, Ok, Err, refl, sym, ap, ◌∙◌, length-append, arith}
 use Rattle.std.specs.Prelude.{is_some, option_map, nat_le}
 use Rattle.std.specs.List.{flat_map}
-use Rattle.std.proofs.lemmas.Bool.{lt-ltb, le-ltb, lt-leb}
+use Rattle.std.proofs.lemmas.Bool.{lt-ltb, le-ltb, lt-leb, leb-true}
 use Rattle.std.proofs.lemmas.List.{length-replicate}
 use Rattle.krb_wire.specs.declared.format.KtFormat.{KtFormat}
 use Rattle.krb_wire.specs.Spelling.{order_of}
@@ -21,11 +21,11 @@ use Rattle.krb_keytab.specs.Cells.{Live, Contents, cell, end_bytes, contents, im
 use Rattle.krb_keytab.specs.Seen.{ends}
 use Rattle.krb_keytab.specs.Questions.{end_place, kind_of}
 use Rattle.krb_keytab.specs.Known.{IsKnownEnd, mark_len, len_with}
-use Rattle.krb_keytab.specs.Store.{State, image_of, store_of}
+use Rattle.krb_keytab.specs.Store.{State, InMemory, image_of, store_of}
 use Rattle.krb_keytab.specs.Written.{fits, written}
 use Rattle.krb_keytab.specs.Changes.{PlacedCell, first_hole, with_filled, with_last, end_after, appending, putting_into, putting_bytes, putting, is_refused, takes_none}
 use Rattle.krb_keytab.specs.Holes.{hole_of, hole_from}
-use Rattle.krb_keytab.specs.Appends.{AnswersAppend}
+use Rattle.krb_keytab.specs.Appends.{AnswersAppend, KeepsRoom}
 use Rattle.krb_keytab.proofs.Cuts.{end_place_is, end_place-append}
 use Rattle.krb_keytab.proofs.Stores.{held, end_held}
 use Rattle.krb_keytab.proofs.Appended.{zeros_after}
@@ -98,6 +98,11 @@ append_longer f limit bytes x k e n a spelled lt =
     let was : length (image_of k) ≡ length bytes = ap (λ (y : State). length (image_of y)) (sym a.is) ∙ ap length (sym spelled) in
     omega (arith, was, same_len f limit bytes x k e n a)
 
+pub append_no_longer : (f : KtFormat) (limit : ℕ) (bytes x : List ℕ) (k : State) (e : CellsEnd) (n : ℕ) → Appends f limit bytes x k e n → bytes ≡ image f (contents f (drop 2 bytes)) → length (image_of (with_last k x)) ≤ length (image_of k) → n ≤ length bytes
+append_no_longer f limit bytes x k e n a spelled le =
+    let was : length (image_of k) ≡ length bytes = ap (λ (y : State). length (image_of y)) (sym a.is) ∙ ap length (sym spelled) in
+    omega (arith, was, le, same_len f limit bytes x k e n a)
+
 -- ---- anywhere
 
 -- what is put where nothing is wrong and the entry fits
@@ -128,6 +133,17 @@ put_wants k e (Err (ByCode refused)) new is none h takes = tt
 put_wants k e (Err NoMemory) new is none h takes =
     let no = takes_some k e (ap is_refused (is ∙ h.0)) (ap is_some none) h.1 in
     absurd cc
+
+-- where it takes no memory and is put after the cells, the image becomes no longer
+no_longer : (k : State) (e : EntryParts) (place : ℕ) (new : State) → putting k e ≡ Ok (place, new) → first_hole 2 (length (written k.format e)) k.contents.cells ≡ None → takes_none k e ≡ true
+    → length (image_of (with_last k (written k.format e))) ≤ length (image_of k)
+no_longer k e place new is none takes = leb-true _ _ (rw (ap is_refused is, ap is_some none) at takes)
+
+pub put_keeps : (k : InMemory) (e : EntryParts) (result : Result ℕ Refusal) (new : InMemory) → putting k.state e ≡ appending k.state (written k.state.format e) → first_hole 2 (length (written k.state.format e)) k.state.contents.cells ≡ None
+    → AnswersAppend k.state (written k.state.format e) result new.state → KeepsRoom k (written k.state.format e) result new → takes_none k.state e ≡ true → new.room ≡ k.room
+put_keeps k e (Ok place) new is none h keeps takes = keeps (no_longer k.state e place new.state (is ∙ h) none takes)
+put_keeps k e (Err (ByCode refused)) new is none h keeps takes = keeps
+put_keeps k e (Err NoMemory) new is none h keeps takes = absurd (put_wants k.state e (Err NoMemory) new.state is none h takes)
 
 -- a hole, by its place
 into_hole : (k : State) (x : List ℕ) (h : Hole) (o : Option PlacedCell) → option_map hole_of o ≡ Some h → putting_into k x o ≡ Ok (h.place, with_filled k x h.place)

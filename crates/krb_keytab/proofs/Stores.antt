@@ -20,7 +20,7 @@ use Rattle.krb_keytab.specs.Cells.{Cell, Live, Free, End, Contents, contents, Is
 use Rattle.krb_keytab.specs.Seen.{ends, ending_kind, ending_fault}
 use Rattle.krb_keytab.specs.Known.{IsKnownEnd}
 use Rattle.krb_keytab.specs.Questions.{size, end_place, is_place, kind_of, stop_from, live_bytes, live_at}
-use Rattle.krb_keytab.specs.Store.{State, placed, store_of}
+use Rattle.krb_keytab.specs.Store.{State, InMemory, placed, store_of}
 use Rattle.krb_keytab.proofs.Cuts.{live_entry}
 
 -- four bytes of length and the bytes after it
@@ -108,6 +108,10 @@ store_sound f (Live b ∷ cs) sound = (omega arith, store_sound f cs sound.1)
 store_sound f (Free b ∷ cs) sound = (omega arith, store_sound f cs sound.1)
 
 -- ---- a keytab that is kept as an image
+
+-- the state is what the state of the fields is
+pub state_is : {a b : InMemory} → a ≡ b → a.state ≡ b.state
+state_is is = ap (λ (k : InMemory). k.state) is
 
 -- the keytab of an image
 abbrev pub held : KtFormat → ℕ → List ℕ → State

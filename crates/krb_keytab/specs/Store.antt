@@ -18,6 +18,11 @@ pub record State : Type 0 where
   pub limit : ℕ
   pub contents : Contents
 
+-- a keytab in memory: what it holds, and how many bytes there is room for before memory is asked for
+pub record InMemory : Type 0 where
+  pub state : State
+  pub room : ℕ
+
 -- the bytes that spell it
 abbrev pub image_of : State → List ℕ
 image_of k = image k.format k.contents

@@ -57,9 +57,9 @@ fn put_anew(entry: &EntryView<'_>, out: &mut [u8], at: usize) -> usize
 pub fn len_anew<A: Allocator>(keytab: &Keytab<A>, limit: usize) -> Option<usize>
     requires some { 2 ≤ limit }
     requires small { limit ≤ 2 ^ 30 }
-    ensures len { IfSome result (λ n. n ≡ length (image_of (rewrite_of keytab.now))) }
+    ensures len { IfSome result (λ n. n ≡ length (image_of (rewrite_of keytab.now.state))) }
     ensures within { IfSome result (λ n. n ≤ limit) }
-    ensures long { IfNone result (limit < length (image_of (rewrite_of keytab.now))) }
+    ensures long { IfNone result (limit < length (image_of (rewrite_of keytab.now.state))) }
 {
     let mut len: usize = 2;
     let mut place = keytab.first();
@@ -78,9 +78,9 @@ pub fn len_anew<A: Allocator>(keytab: &Keytab<A>, limit: usize) -> Option<usize>
 
 // Writes that image.
 fn spell_anew<A: Allocator>(keytab: &Keytab<A>, out: &mut [u8])
-    requires len { length out.old ≡ length (image_of (rewrite_of keytab.now)) }
+    requires len { length out.old ≡ length (image_of (rewrite_of keytab.now.state)) }
     requires small { length out.old ≤ 2 ^ 30 }
-    ensures { out.new ≡ image_of (rewrite_of keytab.now) }
+    ensures { out.new ≡ image_of (rewrite_of keytab.now.state) }
 {
     out[0] = 5;
     out[1] = 2;
@@ -97,19 +97,19 @@ fn spell_anew<A: Allocator>(keytab: &Keytab<A>, out: &mut [u8])
 
 // The same in a vector.
 fn spell_into<A: Allocator, B: Allocator>(keytab: &Keytab<A>, image: &mut Vec<u8, B>)
-    requires len { vec_len image.old ≡ length (image_of (rewrite_of keytab.now)) }
+    requires len { vec_len image.old ≡ length (image_of (rewrite_of keytab.now.state)) }
     requires small { vec_len image.old ≤ 2 ^ 30 }
-    ensures { image.new.items ≡ image_of (rewrite_of keytab.now) }
+    ensures { image.new.items ≡ image_of (rewrite_of keytab.now.state) }
 {
     spell_anew(keytab, image);
 }
 
 /// What is written anew is sound, and holds the same entries.
 pub fn anew_is_sound<A: Allocator>(keytab: &Keytab<A>)
-    requires { length (image_of (rewrite_of keytab.now)) ≤ 2 ^ 30 }
-    ensures was { IsSound keytab.now.format keytab.now.contents }
-    ensures sound { IsSound V2 (rewrite_of keytab.now).contents }
-    ensures entries { entries (rewrite_of keytab.now) ≡ entries keytab.now }
+    requires { length (image_of (rewrite_of keytab.now.state)) ≤ 2 ^ 30 }
+    ensures was { IsSound keytab.now.state.format keytab.now.state.contents }
+    ensures sound { IsSound V2 (rewrite_of keytab.now.state).contents }
+    ensures entries { entries (rewrite_of keytab.now.state) ≡ entries keytab.now.state }
 {
     bytes_fit(keytab.image());
 }
@@ -120,10 +120,10 @@ pub fn image_anew<A: Allocator, B: Allocator>(
     alloc: B,
     len: usize,
 ) -> Result<Vec<u8, B>, NoMemory>
-    requires len { len ≡ length (image_of (rewrite_of keytab.now)) }
+    requires len { len ≡ length (image_of (rewrite_of keytab.now.state)) }
     requires small { len ≤ 2 ^ 30 }
-    ensures spelled { IfOk result (λ v. v.items ≡ image_of (rewrite_of keytab.now)) }
-    ensures contents { IfOk result (λ v. contents V2 (drop 2 v.items) ≡ (rewrite_of keytab.now).contents) }
+    ensures spelled { IfOk result (λ v. v.items ≡ image_of (rewrite_of keytab.now.state)) }
+    ensures contents { IfOk result (λ v. contents V2 (drop 2 v.items) ≡ (rewrite_of keytab.now.state).contents) }
     ensures known { IfOk result (λ v. IsKnownEnd V2 v.items (record { place = len; ending = Bare })) }
 {
     anew_is_sound(keytab);

@@ -67,7 +67,7 @@ fn look_at_all<'a, N: Name, A: Allocator>(
     kvno: u32,
     enctype: u16,
 ) -> Looked<'a>
-    ensures { IsFoundAmong (N.parts name.now) kvno enctype (placed_entries keytab.entry.now)
+    ensures { IsFoundAmong (N.parts name.now) kvno enctype (placed_entries keytab.entry.now.state)
         result.named result.best }
 {
     let mut looked = Looked {
@@ -104,7 +104,7 @@ impl<A: Allocator> Keytab<A> {
         kvno: u32,
         enctype: u16,
     ) -> Result<(u32, EntryView<'_>), Code>
-        ensures { result ≡ look_up self.now (N.parts name.now) kvno enctype }
+        ensures { result ≡ look_up self.now.state (N.parts name.now) kvno enctype }
     {
         let Looked { named, best } = look_at_all(self, name, kvno, enctype);
         match best {
@@ -122,7 +122,7 @@ impl<A: Allocator> Keytab<A> {
         kvno: u32,
         enctype: u16,
     ) -> Result<(u32, EntryView<'_>), Code>
-        ensures { result ≡ finding self.now (N.parts name.now) kvno enctype }
+        ensures { result ≡ finding self.now.state (N.parts name.now) kvno enctype }
     {
         if self.fault().is_some() {
             return Err(Code::Damaged);

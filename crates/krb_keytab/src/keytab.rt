@@ -3,14 +3,14 @@
 mod changes;
 mod rewriting;
 
-ghost use Rattle.std.specs.Prelude.{◌≡◌, IsSome, IfOk, IfErr, IfSome, IfNone, Ok, Err, Some, None, drop, option_copied};
+ghost use Rattle.std.specs.Prelude.{◌≡◌, IsSome, IfOk, IfErr, IfSome, IfNone, Ok, Err, Some, None, drop, option_copied, vec_capacity};
 ghost use Rattle.krb_wire.specs.Reading.{Gives};
 ghost use Rattle.krb_walk.specs.Store.{end_of, fault_of, is_place, stop_at, live_bytes, IsPlace, IsSound as IsSoundStore};
 ghost use Rattle.krb_keytab.specs.Entry.{entry_at, Spells};
 ghost use Rattle.krb_keytab.specs.Cells.{contents, IsSound};
 ghost use Rattle.krb_keytab.specs.Known.{IsKnownEnd};
 ghost use Rattle.krb_keytab.specs.Laws.{AreBytes};
-ghost use Rattle.krb_keytab.specs.Store.{State, opening, image_of, store_of, entry_at_place, IsImage, Reopens, empty};
+ghost use Rattle.krb_keytab.specs.Store.{InMemory, opening, image_of, store_of, entry_at_place, IsImage, Reopens, empty};
 
 use crate::cells::bytes_fit;
 use crate::entry::{EntryView, read_entry};
@@ -23,8 +23,9 @@ use krb_wire::{KtFormat, Limits, NoMemory, Order};
 use std::alloc::Allocator;
 use std::marker::Model;
 
-/// A keytab: the bytes of its image, and where its cells end. Contracts see its format, its limit, and
-/// the one list of cells with what ends them that the image spells.
+/// A keytab: the bytes of its image, and where its cells end. Contracts see its state, which is its format,
+/// its limit, and the one list of cells with what ends them that the image spells; and beside it how many
+/// bytes it has room for. A call that takes no memory keeps the room.
 #[derive(Drop)]
 pub struct Keytab<A: Allocator> {
     image: Vec<u8, A>,
@@ -34,9 +35,12 @@ pub struct Keytab<A: Allocator> {
 }
 
 impl<A: Allocator> Model for Keytab<A> {
-    ghost Value = { State };
+    ghost Value = { InMemory };
 
-    ghost view = { λ k. record { format = k.format; limit = k.limit; contents = contents k.format (drop 2 k.image.items) } };
+    ghost view = { λ k. record {
+        state = record { format = k.format; limit = k.limit; contents = contents k.format (drop 2 k.image.items) };
+        room = vec_capacity k.image;
+    } };
 
     ghost invariant = { λ k. IsImage k.format k.limit k.image.items × IsKnownEnd k.format k.image.items k.end };
 }
@@ -44,7 +48,7 @@ impl<A: Allocator> Model for Keytab<A> {
 impl<A: Allocator> Keytab<A> {
     /// A keytab without entries.
     pub fn create(alloc: A, format: KtFormat, limits: Limits) -> Result<Keytab<A>, NoMemory>
-        ensures { IfOk result (λ k. k ≡ empty format limits) }
+        ensures { IfOk result (λ k. k.state ≡ empty format limits) }
     {
         let limit = limits.image();
         let Ok(image) = Vec::from_slice(alloc, &[5, version_of(format)]) else {
@@ -66,9 +70,10 @@ impl<A: Allocator> Keytab<A> {
         v1_order: Order,
         limits: Limits,
     ) -> Result<Keytab<A>, KtOpenRefused<A>>
-        ensures ok { IfOk result (λ k. opening v1_order limits image.items ≡ Ok k) }
+        ensures ok { IfOk result (λ k. opening v1_order limits image.items ≡ Ok k.state) }
         // The bytes are kept as they are.
-        ensures kept { IfOk result (λ k. image_of k ≡ image.items) }
+        ensures kept { IfOk result (λ k. image_of k.state ≡ image.items) }
+        ensures room { IfOk result (λ k. k.room ≡ vec_capacity image) }
         ensures err { IfErr result (λ e. (opening v1_order limits image.items ≡ Err e.why)
             × (e.image ≡ image)) }
     {
@@ -85,18 +90,18 @@ impl<A: Allocator> Keytab<A> {
 
     /// Its version, and of version 1 the order.
     pub fn format(&self) -> KtFormat
-        ensures { result ≡ self.now.format }
+        ensures { result ≡ self.now.state.format }
     {
         self.format
     }
 
     /// The bytes that spell it.
     pub fn image(&self) -> &[u8]
-        ensures spelled { result.now ≡ image_of self.now }
+        ensures spelled { result.now ≡ image_of self.now.state }
         ensures bytes { AreBytes result.now }
-        ensures sound { IsSound self.now.format self.now.contents }
+        ensures sound { IsSound self.now.state.format self.now.state.contents }
         // It is opened as this keytab again.
-        ensures reopens { Reopens self.now result.now }
+        ensures reopens { Reopens self.now.state result.now }
     {
         bytes_fit(&self.image);
         spelled_of(self.format, &self.image)
@@ -104,8 +109,9 @@ impl<A: Allocator> Keytab<A> {
 
     /// The bytes that spell it, in the memory that they were opened in.
     pub fn into_image(self) -> Vec<u8, A>
-        ensures spelled { result.items ≡ image_of self }
-        ensures reopens { Reopens self result.items }
+        ensures spelled { result.items ≡ image_of self.state }
+        ensures reopens { Reopens self.state result.items }
+        ensures room { vec_capacity result ≡ self.room }
     {
         let _ = spelled_of(self.format, &self.image);
         let Keytab {
@@ -119,8 +125,8 @@ impl<A: Allocator> Keytab<A> {
 
     /// The place of the first cell: 2, after the version bytes.
     pub fn first(&self) -> u32
-        ensures first { result ≡ (store_of self.now).first }
-        ensures sound { IsSoundStore (store_of self.now) }
+        ensures first { result ≡ (store_of self.now.state).first }
+        ensures sound { IsSoundStore (store_of self.now.state) }
     {
         let _ = self.image();
         2
@@ -128,38 +134,38 @@ impl<A: Allocator> Keytab<A> {
 
     /// The place after the last sound cell.
     pub fn end(&self) -> u32
-        ensures { result ≡ end_of (store_of self.now) }
+        ensures { result ≡ end_of (store_of self.now.state) }
     {
         self.end.place as u32
     }
 
     /// What is wrong after the last sound cell, if something is.
     pub fn fault(&self) -> Option<Fault>
-        ensures { result ≡ fault_of (store_of self.now) }
+        ensures { result ≡ fault_of (store_of self.now.state) }
     {
         self.end.ending.fault(self.end())
     }
 
     /// Is true of the place of each cell, live or free, and of `end()`. It looks from the front.
     pub fn is_place(&self, place: u32) -> bool
-        ensures { result ≡ is_place (store_of self.now) place }
+        ensures { result ≡ is_place (store_of self.now.state) place }
     {
         is_place_of(self.format, &self.image, self.end, place as usize)
     }
 
     /// The first live cell at or after a place, or what ends the cells. It looks from that place on.
     pub fn stop_at(&self, place: u32) -> Stop
-        requires { IsPlace (store_of self.now) place }
-        ensures { result ≡ stop_at (store_of self.now) place }
+        requires { IsPlace (store_of self.now.state) place }
+        ensures { result ≡ stop_at (store_of self.now.state) place }
     {
         stop_of(self.format, &self.image, self.end, place as usize)
     }
 
     /// The bytes of the record at a place, after its length: an entry, and what is after it.
     pub fn bytes_at(&self, place: u32) -> &[u8]
-        requires { IsSome (live_bytes (store_of self.now) place) }
-        ensures bytes { live_bytes (store_of self.now) place ≡ Some result.now }
-        ensures entry { IsSome (entry_at self.now.format result.now) }
+        requires { IsSome (live_bytes (store_of self.now.state) place) }
+        ensures bytes { live_bytes (store_of self.now.state) place ≡ Some result.now }
+        ensures entry { IsSome (entry_at self.now.state.format result.now) }
     {
         let _ = self.image();
         live_bytes_of(self.format, &self.image, self.end, place as usize)
@@ -167,7 +173,7 @@ impl<A: Allocator> Keytab<A> {
 
     // The bytes of the record at a place, if one stands there.
     fn record(&self, place: u32) -> Option<&[u8]>
-        ensures { option_copied result ≡ live_bytes (store_of self.now) place }
+        ensures { option_copied result ≡ live_bytes (store_of self.now.state) place }
     {
         live_of(self.format, &self.image, self.end, place as usize)
     }
@@ -175,10 +181,10 @@ impl<A: Allocator> Keytab<A> {
     /// The entry of the record at a place: none exactly where no live cell stands. It looks from the
     /// front; to go through all records, take `stop_at` and `bytes_at`.
     pub fn entry_at(&self, place: u32) -> Option<EntryView<'_>>
-        ensures none { IfNone result (live_bytes (store_of self.now) place ≡ None) }
-        ensures found { IfSome result (λ e. IfSome (live_bytes (store_of self.now) place)
-            (λ b. Spells self.now.format e b)) }
-        ensures exact { Gives (λ e. e) result (entry_at_place self.now place) }
+        ensures none { IfNone result (live_bytes (store_of self.now.state) place ≡ None) }
+        ensures found { IfSome result (λ e. IfSome (live_bytes (store_of self.now.state) place)
+            (λ b. Spells self.now.state.format e b)) }
+        ensures exact { Gives (λ e. e) result (entry_at_place self.now.state place) }
     {
         let _ = self.image();
         let bytes = self.record(place)?;

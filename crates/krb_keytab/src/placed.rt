@@ -6,9 +6,14 @@ use krb_walk::{Code, Fault, Placed, Refusal, Stop};
 use std::alloc::Allocator;
 
 impl<A: Allocator + Copy> Placed for Keytab<A> {
+    ghost use Rattle.krb_keytab.specs.Store.{State};
     ghost use Rattle.krb_keytab.specs.Walked.{keytab_rules};
 
     type Item = NewEntry<A>;
+
+    ghost State = { State };
+
+    ghost state_of = { λ k. k.state };
 
     ghost rules = { keytab_rules };
 

@@ -15,10 +15,11 @@ impl<A: Allocator> Keytab<A> {
     /// Removes the record that `find` gives for the same arguments, and answers its place. It refuses
     /// as `find` does.
     pub fn remove<N: Name>(&mut self, name: &N, kvno: u32, enctype: u16) -> Result<u32, Code>
-        ensures gives { AnswersRemove self.old (removing self.old (N.parts name.now) kvno enctype)
-            result self.new }
+        ensures gives { AnswersRemove self.old.state (removing self.old.state (N.parts name.now) kvno enctype)
+            result self.new.state }
         // No record stands there any more.
-        ensures gone { IfOk result (λ place. live_bytes (store_of self.new) place ≡ None) }
+        ensures gone { IfOk result (λ place. live_bytes (store_of self.new.state) place ≡ None) }
+        ensures room { self.new.room ≡ self.old.room }
     {
         let (place, _) = self.find(name, kvno, enctype)?;
         self.remove_at(place)?;

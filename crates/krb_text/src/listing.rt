@@ -50,9 +50,9 @@ fn gather_record<A: Allocator, B: Allocator>(
     place: u32,
     gathered: &mut Vec<u8, A>,
 ) -> Result<(), OutFault>
-    requires { IsSome (live_bytes (store_of keytab.now) place) }
+    requires { IsSome (live_bytes (store_of keytab.now.state) place) }
     ensures ok { OnOk result
-        (gathered.new.items ≡ gathered.old.items ++ line_at columns keytab.now place) }
+        (gathered.new.items ≡ gathered.old.items ++ line_at columns keytab.now.state place) }
     ensures why { IfErr result (λ fault. fault ≡ OutFault.NoMemory) }
 {
     let bytes = keytab.bytes_at(place);
@@ -74,9 +74,9 @@ fn list_records<A: Allocator, B: Allocator, W: Write>(
 ) -> Result<(), OutFault>
     requires { IsFalse out.old.failed }
     ensures ok { OnOk result (Passed out.old.contents out.new.contents
-        (gathered.old.items ++ entry_lines columns keytab.now) [] gathered.new.items) }
+        (gathered.old.items ++ entry_lines columns keytab.now.state) [] gathered.new.items) }
     ensures prefix { OnErr result (AppendsPrefix out.old.contents out.new.contents
-        (gathered.old.items ++ entry_lines columns keytab.now)) }
+        (gathered.old.items ++ entry_lines columns keytab.now.state)) }
     ensures failed { out.new.failed ≡ is_write_fault result }
 {
     let mut place = keytab.first();
@@ -117,9 +117,9 @@ pub fn list_keytab<A: Allocator, B: Allocator, W: Write>(
 ) -> Result<(), OutFault>
     requires { IsFalse out.old.failed }
     ensures ok { OnOk result (Appends out.old.contents out.new.contents
-        (list_text columns name.now keytab.now)) }
+        (list_text columns name.now keytab.now.state)) }
     ensures prefix { OnErr result (AppendsPrefix out.old.contents out.new.contents
-        (list_text columns name.now keytab.now)) }
+        (list_text columns name.now keytab.now.state)) }
     ensures failed { out.new.failed ≡ is_write_fault result }
 {
     let Ok(mut gathered) = Vec::with_capacity(alloc, 2 * FULL) else {

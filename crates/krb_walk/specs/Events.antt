@@ -16,6 +16,10 @@ pub record State (S : Type 0) : Type 0 where
   pub store : S
   pub cursors : List ℕ
 
+-- a session, where its store is in a state
+abbrev pub session_of : {S T : Type 0} → (S → T) → State S → State T
+session_of state s = record { store = state s.store; cursors = s.cursors }
+
 -- ---- Start and Resume: a new walk stands at a place; up to 1,024 walks stand
 
 -- the reply to Start, where p is the first place

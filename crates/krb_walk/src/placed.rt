@@ -18,52 +18,58 @@ pub trait Placed {
     /// What is added to it.
     type Item;
 
-    /// How it is seen as a store, and what its additions, removals and rewrites give.
-    ghost rules: { Rules Self Self.Item };
+    /// What of it changes: what rules speak of.
+    ghost State: { Type 0 };
+
+    /// The state that it is in.
+    ghost state_of: { Self → State };
+
+    /// How a state is seen as a store, and what additions, removals and rewrites give.
+    ghost rules: { Rules State Self.Item };
 
     fn first(&self) -> u32
-        ensures first { result ≡ (rules.seen self.now).first }
-        ensures sound { IsSound (rules.seen self.now) };
+        ensures first { result ≡ (rules.seen (state_of self.now)).first }
+        ensures sound { IsSound (rules.seen (state_of self.now)) };
 
     /// The end place of the cells before the fault, if there is one.
     fn end(&self) -> u32
-        ensures { result ≡ end_of (rules.seen self.now) };
+        ensures { result ≡ end_of (rules.seen (state_of self.now)) };
 
     /// Stands at `end()`.
     fn fault(&self) -> Option<Fault>
-        ensures { result ≡ fault_of (rules.seen self.now) };
+        ensures { result ≡ fault_of (rules.seen (state_of self.now)) };
 
     /// Whether a number is the place of a cell, live or free, or `end()`.
     fn is_place(&self, place: u32) -> bool
-        ensures { result ≡ is_place (rules.seen self.now) place };
+        ensures { result ≡ is_place (rules.seen (state_of self.now)) place };
 
     /// The first live cell at or after a place; where there is none, the fault, or else the end.
     fn stop_at(&self, place: u32) -> Stop
-        requires { IsPlace (rules.seen self.now) place }
-        ensures { result ≡ stop_at (rules.seen self.now) place };
+        requires { IsPlace (rules.seen (state_of self.now)) place }
+        ensures { result ≡ stop_at (rules.seen (state_of self.now)) place };
 
     /// The bytes of the live cell at a place.
     fn bytes_at(&self, place: u32) -> &[u8]
-        requires { IsSome (live_bytes (rules.seen self.now) place) }
-        ensures { live_bytes (rules.seen self.now) place ≡ Some result.now };
+        requires { IsSome (live_bytes (rules.seen (state_of self.now)) place) }
+        ensures { live_bytes (rules.seen (state_of self.now)) place ≡ Some result.now };
 
     /// Adds a record, and answers its place. One cell changes: a free one takes it, or it is appended.
     fn put(&mut self, item: &Self::Item) -> Result<u32, Refusal>
-        ensures gives { PutGives (rules.put self.old item.now) self.old result self.new }
-        ensures puts { IfOk result (Puts (rules.seen self.old) (rules.seen self.new)) }
-        ensures memory { rules.takes_none self.old item.now ≡ true → HadMemory result };
+        ensures gives { PutGives (rules.put (state_of self.old) item.now) (state_of self.old) result (state_of self.new) }
+        ensures puts { IfOk result (Puts (rules.seen (state_of self.old)) (rules.seen (state_of self.new))) }
+        ensures memory { rules.takes_none (state_of self.old) item.now ≡ true → HadMemory result };
 
     /// Frees the live cell at a place. Takes no memory.
     fn cut(&mut self, place: u32) -> Result<(), Code>
-        ensures gives { CutGives (rules.cut self.old place) self.old result self.new }
-        ensures cuts { OnOk result (Cuts (rules.seen self.old) (rules.seen self.new) place) };
+        ensures gives { CutGives (rules.cut (state_of self.old) place) (state_of self.old) result (state_of self.new) }
+        ensures cuts { OnOk result (Cuts (rules.seen (state_of self.old)) (rules.seen (state_of self.new)) place) };
 
     /// Writes the live cells anew, in order, without free cells. Each number in `cursors` is a place, and is
     /// carried: to the new place of the first live cell at or after it, or to the new end.
     fn rewrite(&mut self, cursors: &mut [u32]) -> Result<(), Refusal>
-        requires { AllByRecursion (IsPlace (rules.seen self.old)) cursors.old }
-        ensures gives { RewriteGives (rules.rewrite self.old) self.old result self.new }
-        ensures rewrites { OnOk result (Rewrites (rules.seen self.old) (rules.seen self.new)) }
-        ensures carries { OnOk result (cursors.new ≡ map (carry (rules.seen self.old) (rules.seen self.new)) cursors.old) }
+        requires { AllByRecursion (IsPlace (rules.seen (state_of self.old))) cursors.old }
+        ensures gives { RewriteGives (rules.rewrite (state_of self.old)) (state_of self.old) result (state_of self.new) }
+        ensures rewrites { OnOk result (Rewrites (rules.seen (state_of self.old)) (rules.seen (state_of self.new))) }
+        ensures carries { OnOk result (cursors.new ≡ map (carry (rules.seen (state_of self.old)) (rules.seen (state_of self.new))) cursors.old) }
         ensures keeps { OnErr result (cursors.new ≡ cursors.old) };
 }

@@ -3,7 +3,7 @@
 ghost use Rattle.std.specs.Prelude.{◌≡◌, ◌<◌, [], ◌∷◌, length, slice_get, slice_set};
 ghost use Rattle.krb_walk.specs.declared.event.Event.TheVariants.{Step};
 ghost use Rattle.krb_walk.specs.Store.{IsPlace, end_of, next_live, stop_at};
-ghost use Rattle.krb_walk.specs.Events.{State, after, reply_to, stop_cursor, step_result};
+ghost use Rattle.krb_walk.specs.Events.{State, session_of, after, reply_to, stop_cursor, step_result};
 ghost use Rattle.krb_walk.specs.History.{IsReady};
 ghost use Rattle.krb_walk.specs.Ran.{Ran};
 ghost use Rattle.krb_walk.specs.Kept.{place_after};
@@ -35,14 +35,14 @@ impl<P: Placed, A: Allocator + Copy> Model for Session<P, A> {
 
     ghost view = { λ s. record { store = s.store; cursors = take s.count s.cursors } };
 
-    ghost invariant = { λ s. IsKept P.rules s.store s.cursors s.count };
+    ghost invariant = { λ s. IsKept P.rules (P.state_of s.store) s.cursors s.count };
 }
 
 impl<P: Placed, A: Allocator + Copy> Session<P, A> {
     /// A session without walks. Takes no memory: `alloc` is kept for the bytes of records.
     pub fn new(alloc: A, store: P) -> Self
         ensures is { result ≡ record { store = store; cursors = [] } }
-        ensures ready { IsReady P.rules result }
+        ensures ready { IsReady P.rules (session_of P.state_of result) }
     {
         let _ = store.first();
         Session {
@@ -91,16 +91,16 @@ impl<P: Placed, A: Allocator + Copy> Session<P, A> {
 
     /// The event `Step` without the record's bytes: moves a walk on, and says where it stopped. It takes no memory.
     pub fn step(&mut self, walk: u32) -> Result<Stop, Code>
-        ensures stop { result ≡ step_result (P.rules.seen self.old.store) (slice_get self.old.cursors walk) }
-        ensures ran { Ran P.rules self.old self.new (Step walk ∷ []) [] (reply_to P.rules self.old (Step walk) ∷ []) }
+        ensures stop { result ≡ step_result (P.rules.seen (P.state_of self.old.store)) (slice_get self.old.cursors walk) }
+        ensures ran { Ran P.rules (session_of P.state_of self.old) (session_of P.state_of self.new) (Step walk ∷ []) [] (reply_to P.rules (session_of P.state_of self.old) (Step walk) ∷ []) }
     {
         self.move_on(walk)
     }
 
     fn move_on(&mut self, walk: u32) -> Result<Stop, Code>
-        ensures stop { result ≡ step_result (P.rules.seen self.old.store) (slice_get self.old.cursors walk) }
-        ensures state { self.new ≡ after P.rules self.old (Step walk) }
-        ensures ready { IsReady P.rules self.old }
+        ensures stop { result ≡ step_result (P.rules.seen (P.state_of self.old.store)) (slice_get self.old.cursors walk) }
+        ensures state { session_of P.state_of self.new ≡ after P.rules (session_of P.state_of self.old) (Step walk) }
+        ensures ready { IsReady P.rules (session_of P.state_of self.old) }
     {
         let Some(cursor) = self.cursor(walk) else {
             return Err(Code::NoSuchWalk);
@@ -112,7 +112,7 @@ impl<P: Placed, A: Allocator + Copy> Session<P, A> {
 
     fn go_to(&mut self, walk: u32, place: u32)
         requires stands { walk < length self.old.cursors }
-        requires at_place { IsPlace (P.rules.seen self.old.store) place }
+        requires at_place { IsPlace (P.rules.seen (P.state_of self.old.store)) place }
         ensures { self.new ≡ record { store = self.old.store; cursors = slice_set self.old.cursors walk place } }
     {
         self.cursors[walk as usize] = place;
@@ -121,10 +121,10 @@ impl<P: Placed, A: Allocator + Copy> Session<P, A> {
 
 /// Where a walk that stands at a place stops next, and the place that it then stands at.
 fn stop_from<P: Placed>(store: &P, cursor: u32) -> (Stop, u32)
-    requires { IsPlace (P.rules.seen store.now) cursor }
-    ensures stop { result.0 ≡ stop_at (P.rules.seen store.now) cursor }
-    ensures next { result.1 ≡ stop_cursor (end_of (P.rules.seen store.now)) (next_live (P.rules.seen store.now) cursor) }
-    ensures place { IsPlace (P.rules.seen store.now) result.1 }
+    requires { IsPlace (P.rules.seen (P.state_of store.now)) cursor }
+    ensures stop { result.0 ≡ stop_at (P.rules.seen (P.state_of store.now)) cursor }
+    ensures next { result.1 ≡ stop_cursor (end_of (P.rules.seen (P.state_of store.now))) (next_live (P.rules.seen (P.state_of store.now)) cursor) }
+    ensures place { IsPlace (P.rules.seen (P.state_of store.now)) result.1 }
 {
     let stop = store.stop_at(cursor);
     (stop, place_after(stop))

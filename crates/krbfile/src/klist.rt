@@ -24,7 +24,7 @@ fn list_opened<A: Allocator, B: Allocator, W: Write, E: Write>(
     err: &mut Watched<E>,
 ) -> u8
     requires { IsFalse out.old.failed }
-    ensures { EndsRun (listing_run columns file.now keytab.now)
+    ensures { EndsRun (listing_run columns file.now keytab.now.state)
         out.old out.new err.old err.new result }
 {
     match list_keytab(alloc, file, keytab, columns, out) {

@@ -49,7 +49,7 @@ fn find_opened<A: Allocator, B: Allocator, C: Allocator, W: Write, E: Write>(
     err: &mut Watched<E>,
 ) -> u8
     requires { IsFalse out.old.failed }
-    ensures { EndsRun (finding_run options.now file.now keytab.now)
+    ensures { EndsRun (finding_run options.now file.now keytab.now.state)
         out.old out.new err.old err.new result }
 {
     match keytab.find(&options.name, options.kvno, options.enctype) {

@@ -47,7 +47,7 @@ pub fn add_all<A: Allocator>(
 // The places of all records, in file order.
 fn records<A: Allocator>(alloc: Global, keytab: &Keytab<A>) -> Result<Vec<u32>, Fault>
     ensures { IfOk result (λ places.
-        places.items ≡ map (λ r. r.place) (records (store_of keytab.now))) }
+        places.items ≡ map (λ r. r.place) (records (store_of keytab.now.state))) }
 {
     let mut places = Vec::new(alloc);
     let mut place = keytab.first();
@@ -65,7 +65,7 @@ pub fn last_records<A: Allocator>(
     count: u32,
 ) -> Result<Vec<u32>, Fault>
     ensures { IfOk result (λ places.
-        places.items ≡ take count (reverse (map (λ r. r.place) (records (store_of keytab.now))))) }
+        places.items ≡ take count (reverse (map (λ r. r.place) (records (store_of keytab.now.state))))) }
 {
     let mut places = records(alloc, keytab)?;
     places.reverse();

@@ -9,9 +9,13 @@ use krb_walk::{Code, Fault, Placed, Refusal, Stop};
 use std::alloc::Allocator;
 
 impl<A: Allocator> Placed for Shelf<A> {
-    ghost use Rattle.shelf.specs.Shelf.{shelf_rules};
+    ghost use Rattle.shelf.specs.Shelf.{Contents, shelf_rules};
 
     type Item = [u8; 4];
+
+    ghost State = { Contents };
+
+    ghost state_of = { λ s. s };
 
     ghost rules = { shelf_rules };
 

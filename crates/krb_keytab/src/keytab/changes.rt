@@ -8,7 +8,7 @@ ghost use Rattle.krb_keytab.specs.Store.{store_of, entry_at_place};
 ghost use Rattle.krb_keytab.specs.Written.{read_back, IsEntry};
 ghost use Rattle.krb_keytab.specs.Changes.{cutting, putting, takes_none, with_filled, without};
 ghost use Rattle.krb_keytab.specs.Holes.{hole_from};
-ghost use Rattle.krb_keytab.specs.Appends.{AnswersAppend};
+ghost use Rattle.krb_keytab.specs.Appends.{AnswersAppend, KeepsRoom};
 
 use super::Keytab;
 use crate::append::{append_record, len_with};
@@ -24,8 +24,9 @@ use std::alloc::Allocator;
 impl<A: Allocator> Keytab<A> {
     // Makes the record at a place a hole.
     fn free(&mut self, place: u32)
-        requires { IsSome (live_bytes (store_of self.old) place) }
-        ensures { self.new ≡ without self.old place }
+        requires { IsSome (live_bytes (store_of self.old.state) place) }
+        ensures freed { self.new.state ≡ without self.old.state place }
+        ensures room { self.new.room ≡ self.old.room }
     {
         free_cell(self.format, &mut self.image, self.end, place as usize);
     }
@@ -33,9 +34,10 @@ impl<A: Allocator> Keytab<A> {
     /// Makes the record at a place a hole of its size, all zeros (MIT krb5, "Keytab file format"). A
     /// damaged keytab refuses.
     pub fn remove_at(&mut self, place: u32) -> Result<(), Code>
-        ensures gives { CutGives (cutting self.old place) self.old result self.new }
+        ensures gives { CutGives (cutting self.old.state place) self.old.state result self.new.state }
         // No record stands there any more.
-        ensures gone { OnOk result (live_bytes (store_of self.new) place ≡ None) }
+        ensures gone { OnOk result (live_bytes (store_of self.new.state) place ≡ None) }
+        ensures room { self.new.room ≡ self.old.room }
     {
         if self.fault().is_some() {
             return Err(Code::Damaged);
@@ -49,7 +51,7 @@ impl<A: Allocator> Keytab<A> {
 
     // The first hole of at least so many bytes.
     fn hole(&self, need: usize) -> Option<Hole>
-        ensures first { result ≡ hole_from 2 need self.now.contents.cells }
+        ensures first { result ≡ hole_from 2 need self.now.state.contents.cells }
         ensures within { IfSome result (λ h. h.place < 2 ^ 32) }
     {
         first_hole(self.format, &self.image, self.end, need)
@@ -57,18 +59,20 @@ impl<A: Allocator> Keytab<A> {
 
     // Puts a record into that hole.
     fn fill<N: Name>(&mut self, hole: Hole, form: &Form<'_, N>)
-        requires hole { hole_from 2 (length form.now.bytes) self.old.contents.cells ≡ Some hole }
-        requires format { form.now.format ≡ self.old.format }
-        ensures { self.new ≡ with_filled self.old form.now.bytes hole.place }
+        requires hole { hole_from 2 (length form.now.bytes) self.old.state.contents.cells ≡ Some hole }
+        requires format { form.now.format ≡ self.old.state.format }
+        ensures filled { self.new.state ≡ with_filled self.old.state form.now.bytes hole.place }
+        ensures room { self.new.room ≡ self.old.room }
     {
         fill_hole(&mut self.image, self.end, hole, form);
     }
 
     // Puts a record after the cells of a keytab that is whole.
     fn append<N: Name>(&mut self, form: &Form<'_, N>) -> Result<u32, Refusal>
-        requires whole { fault_of (store_of self.old) ≡ None }
-        requires format { form.now.format ≡ self.old.format }
-        ensures { AnswersAppend self.old form.now.bytes result self.new }
+        requires whole { fault_of (store_of self.old.state) ≡ None }
+        requires format { form.now.format ≡ self.old.state.format }
+        ensures appended { AnswersAppend self.old.state form.now.bytes result self.new.state }
+        ensures room { KeepsRoom self.old form.now.bytes result self.new }
     {
         let _ = spelled_of(self.format, &self.image);
         if len_with(self.end, form.len()) > self.limit as usize {
@@ -89,11 +93,12 @@ impl<A: Allocator> Keytab<A> {
     /// length, and then a limit that the image would pass. Memory is taken only where the image
     /// becomes longer than it was. What is our choice here and what is MIT's is in docs/FORMATS.md.
     pub fn add<B: Allocator>(&mut self, entry: &NewEntry<B>) -> Result<u32, Refusal>
-        ensures gives { PutGives (putting self.old entry.now) self.old result self.new }
-        ensures memory { takes_none self.old entry.now ≡ true → HadMemory result }
+        ensures gives { PutGives (putting self.old.state entry.now) self.old.state result self.new.state }
+        ensures memory { takes_none self.old.state entry.now ≡ true → HadMemory result }
+        ensures room { takes_none self.old.state entry.now ≡ true → self.new.room ≡ self.old.room }
         // It is read at the place that is answered; in version 1 with name type 0.
-        ensures read { IfOk result (λ place. entry_at_place self.new place
-            ≡ Some (read_back self.old.format entry.now)) }
+        ensures read { IfOk result (λ place. entry_at_place self.new.state place
+            ≡ Some (read_back self.old.state.format entry.now)) }
         ensures numbers { IsEntry entry.now }
     {
         let fields = entry.fields();

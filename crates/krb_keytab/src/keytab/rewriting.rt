@@ -23,12 +23,13 @@ impl<A: Allocator + Copy> Keytab<A> {
     /// the new place of the first record at or after it, or to the new end. A damaged keytab refuses, and
     /// then so does a limit that the new image would pass. Memory is taken once, for the new image.
     pub fn rewrite(&mut self, cursors: &mut [u32]) -> Result<(), Refusal>
-        requires { AllByRecursion (IsPlace (store_of self.old)) cursors.old }
-        ensures gives { RewriteGives (rewrite_result self.old) self.old result self.new }
-        ensures rewrites { OnOk result (Rewrites (store_of self.old) (store_of self.new)) }
-        ensures entries { OnOk result (entries self.new ≡ entries self.old) }
-        ensures carries { OnOk result (cursors.new ≡ map (carry (store_of self.old) (store_of self.new)) cursors.old) }
+        requires { AllByRecursion (IsPlace (store_of self.old.state)) cursors.old }
+        ensures gives { RewriteGives (rewrite_result self.old.state) self.old.state result self.new.state }
+        ensures rewrites { OnOk result (Rewrites (store_of self.old.state) (store_of self.new.state)) }
+        ensures entries { OnOk result (entries self.new.state ≡ entries self.old.state) }
+        ensures carries { OnOk result (cursors.new ≡ map (carry (store_of self.old.state) (store_of self.new.state)) cursors.old) }
         ensures keeps { OnErr result (cursors.new ≡ cursors.old) }
+        ensures room { OnErr result (self.new.room ≡ self.old.room) }
     {
         if self.fault().is_some() {
             return Err(Refusal::Code(Code::Damaged));

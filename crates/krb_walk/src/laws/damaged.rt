@@ -11,6 +11,6 @@ use crate::placed::Placed;
 
 /// A store with a fault refuses all additions, removals and rewrites, and stays as it is.
 pub fn damaged_stores_refuse_changes<P: Placed>()
-    ensures { (s : State P) (events : List (Event P.Item)) (kind : FaultKind) → IsRun P.rules s events
+    ensures { (s : State P.State) (events : List (Event P.Item)) (kind : FaultKind) → IsRun P.rules s events
         → (P.rules.seen s.store).fault ≡ Some kind → RefusesChanges P.rules s events }
 {}

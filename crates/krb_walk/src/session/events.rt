@@ -7,7 +7,7 @@ ghost use Rattle.std.specs.List.{AllByRecursion};
 ghost use Rattle.krb_walk.specs.Ranks.{carry, Rewrites};
 ghost use Rattle.krb_walk.specs.Rules.{RewriteGives};
 ghost use Rattle.krb_walk.specs.Said.{said, Started, is_gave};
-ghost use Rattle.krb_walk.specs.Events.{reply_to, after, stop_said};
+ghost use Rattle.krb_walk.specs.Events.{session_of, reply_to, after, stop_said};
 ghost use Rattle.krb_walk.specs.History.{IsLawful, IsReady, moment};
 ghost use Rattle.krb_walk.specs.Memory.{TakesNone};
 ghost use Rattle.krb_walk.specs.Ran.{Ran, RanSome};
@@ -26,9 +26,9 @@ const MOST_WALKS: u32 = 1024;
 impl<P: Placed, A: Allocator + Copy> Session<P, A> {
     /// Applies an event. Only the bytes of `Gave`, an addition whose store grows and a rewrite take memory.
     pub fn apply(&mut self, event: &Event<P::Item>) -> Result<Reply<A>, NoMemory>
-        ensures ran { IfOk result (λ r. Ran P.rules self.old self.new (event.now ∷ []) [] (said r ∷ [])) }
-        ensures memory { TakesNone P.rules self.old event.now → IsOk result }
-        ensures err { OnErr result (self.new ≡ self.old) }
+        ensures ran { IfOk result (λ r. Ran P.rules (session_of P.state_of self.old) (session_of P.state_of self.new) (event.now ∷ []) [] (said r ∷ [])) }
+        ensures memory { TakesNone P.rules (session_of P.state_of self.old) event.now → IsOk result }
+        ensures err { OnErr result (session_of P.state_of self.new ≡ session_of P.state_of self.old) }
     {
         self.answer(event)
     }
@@ -41,8 +41,8 @@ impl<P: Placed, A: Allocator + Copy> Session<P, A> {
         events: &[Event<P::Item>],
         replies: &mut Vec<Reply<A>, A>,
     ) -> Result<(), NoMemory>
-        ensures ok { OnOk result (Ran P.rules self.old self.new events.now (map said replies.old.items) (map said replies.new.items)) }
-        ensures err { OnErr result (RanSome P.rules self.old self.new events.now (map said replies.old.items) (map said replies.new.items)) }
+        ensures ok { OnOk result (Ran P.rules (session_of P.state_of self.old) (session_of P.state_of self.new) events.now (map said replies.old.items) (map said replies.new.items)) }
+        ensures err { OnErr result (RanSome P.rules (session_of P.state_of self.old) (session_of P.state_of self.new) events.now (map said replies.old.items) (map said replies.new.items)) }
     {
         let _ = &self.count;
         for event in events {
@@ -58,12 +58,12 @@ impl<P: Placed, A: Allocator + Copy> Session<P, A> {
     }
 
     fn answer(&mut self, event: &Event<P::Item>) -> Result<Reply<A>, NoMemory>
-        ensures reply { IfOk result (λ r. said r ≡ reply_to P.rules self.old event.now) }
-        ensures state { OnOk result (self.new ≡ after P.rules self.old event.now) }
-        ensures lawful { OnOk result (IsLawful P.rules (moment P.rules self.old event.now)) }
-        ensures ready { IsReady P.rules self.old }
-        ensures memory { TakesNone P.rules self.old event.now → IsOk result }
-        ensures err { OnErr result (self.new ≡ self.old) }
+        ensures reply { IfOk result (λ r. said r ≡ reply_to P.rules (session_of P.state_of self.old) event.now) }
+        ensures state { OnOk result (session_of P.state_of self.new ≡ after P.rules (session_of P.state_of self.old) event.now) }
+        ensures lawful { OnOk result (IsLawful P.rules (moment P.rules (session_of P.state_of self.old) event.now)) }
+        ensures ready { IsReady P.rules (session_of P.state_of self.old) }
+        ensures memory { TakesNone P.rules (session_of P.state_of self.old) event.now → IsOk result }
+        ensures err { OnErr result (session_of P.state_of self.new ≡ session_of P.state_of self.old) }
     {
         let _ = &self.count;
         match event {
@@ -79,7 +79,7 @@ impl<P: Placed, A: Allocator + Copy> Session<P, A> {
     /// A new walk from a place.
     fn begin(&mut self, place: u32) -> Reply<A>
         requires few { length self.old.cursors < 1024 }
-        requires at_place { IsPlace (P.rules.seen self.old.store) place }
+        requires at_place { IsPlace (P.rules.seen (P.state_of self.old.store)) place }
         ensures reply { said result ≡ Started (length self.old.cursors) place }
         ensures state { self.new ≡ record { store = self.old.store; cursors = self.old.cursors ++ place ∷ [] } }
     {
@@ -90,8 +90,8 @@ impl<P: Placed, A: Allocator + Copy> Session<P, A> {
     }
 
     fn start(&mut self) -> Reply<A>
-        ensures reply { said result ≡ reply_to P.rules self.old Start }
-        ensures state { self.new ≡ after P.rules self.old Start }
+        ensures reply { said result ≡ reply_to P.rules (session_of P.state_of self.old) Start }
+        ensures state { session_of P.state_of self.new ≡ after P.rules (session_of P.state_of self.old) Start }
     {
         if self.walks() >= MOST_WALKS {
             return Reply::Refused(Code::TooManyWalks);
@@ -101,8 +101,8 @@ impl<P: Placed, A: Allocator + Copy> Session<P, A> {
     }
 
     fn resume(&mut self, place: u32) -> Reply<A>
-        ensures reply { said result ≡ reply_to P.rules self.old (Resume place) }
-        ensures state { self.new ≡ after P.rules self.old (Resume place) }
+        ensures reply { said result ≡ reply_to P.rules (session_of P.state_of self.old) (Resume place) }
+        ensures state { session_of P.state_of self.new ≡ after P.rules (session_of P.state_of self.old) (Resume place) }
     {
         if self.walks() >= MOST_WALKS {
             return Reply::Refused(Code::TooManyWalks);
@@ -115,10 +115,10 @@ impl<P: Placed, A: Allocator + Copy> Session<P, A> {
 
     /// A step with the bytes of the record. They are copied before the cursor moves.
     fn give(&mut self, walk: u32) -> Result<Reply<A>, NoMemory>
-        ensures reply { IfOk result (λ r. said r ≡ reply_to P.rules self.old (Step walk)) }
-        ensures state { OnOk result (self.new ≡ after P.rules self.old (Step walk)) }
-        ensures memory { TakesNone P.rules self.old (Step walk) → IsOk result }
-        ensures err { OnErr result (self.new ≡ self.old) }
+        ensures reply { IfOk result (λ r. said r ≡ reply_to P.rules (session_of P.state_of self.old) (Step walk)) }
+        ensures state { OnOk result (session_of P.state_of self.new ≡ after P.rules (session_of P.state_of self.old) (Step walk)) }
+        ensures memory { TakesNone P.rules (session_of P.state_of self.old) (Step walk) → IsOk result }
+        ensures err { OnErr result (session_of P.state_of self.new ≡ session_of P.state_of self.old) }
     {
         let Some(cursor) = self.cursor(walk) else {
             return Ok(Reply::Refused(Code::NoSuchWalk));
@@ -130,11 +130,11 @@ impl<P: Placed, A: Allocator + Copy> Session<P, A> {
     }
 
     fn put(&mut self, item: &P::Item) -> Result<Reply<A>, NoMemory>
-        ensures reply { IfOk result (λ r. said r ≡ reply_to P.rules self.old (Put item.now)) }
-        ensures state { OnOk result (self.new ≡ after P.rules self.old (Put item.now)) }
-        ensures lawful { OnOk result (IsLawful P.rules (moment P.rules self.old (Put item.now))) }
-        ensures memory { TakesNone P.rules self.old (Put item.now) → IsOk result }
-        ensures err { OnErr result (self.new ≡ self.old) }
+        ensures reply { IfOk result (λ r. said r ≡ reply_to P.rules (session_of P.state_of self.old) (Put item.now)) }
+        ensures state { OnOk result (session_of P.state_of self.new ≡ after P.rules (session_of P.state_of self.old) (Put item.now)) }
+        ensures lawful { OnOk result (IsLawful P.rules (moment P.rules (session_of P.state_of self.old) (Put item.now))) }
+        ensures memory { TakesNone P.rules (session_of P.state_of self.old) (Put item.now) → IsOk result }
+        ensures err { OnErr result (session_of P.state_of self.new ≡ session_of P.state_of self.old) }
     {
         match self.store.put(item) {
             Ok(place) => Ok(Reply::Placed(place)),
@@ -144,9 +144,9 @@ impl<P: Placed, A: Allocator + Copy> Session<P, A> {
     }
 
     fn cut(&mut self, place: u32) -> Reply<A>
-        ensures reply { said result ≡ reply_to P.rules self.old (Cut place) }
-        ensures state { self.new ≡ after P.rules self.old (Cut place) }
-        ensures lawful { IsLawful P.rules (moment P.rules self.old (Cut place)) }
+        ensures reply { said result ≡ reply_to P.rules (session_of P.state_of self.old) (Cut place) }
+        ensures state { session_of P.state_of self.new ≡ after P.rules (session_of P.state_of self.old) (Cut place) }
+        ensures lawful { IsLawful P.rules (moment P.rules (session_of P.state_of self.old) (Cut place)) }
     {
         match self.store.cut(place) {
             Ok(()) => Reply::Gone(place),
@@ -156,11 +156,11 @@ impl<P: Placed, A: Allocator + Copy> Session<P, A> {
 
     /// All cursors are handed to the store, which carries them.
     fn rewrite(&mut self) -> Result<Reply<A>, NoMemory>
-        ensures reply { IfOk result (λ r. said r ≡ reply_to P.rules self.old Rewrite) }
-        ensures state { OnOk result (self.new ≡ after P.rules self.old Rewrite) }
-        ensures lawful { OnOk result (IsLawful P.rules (moment P.rules self.old Rewrite)) }
-        ensures memory { TakesNone P.rules self.old Rewrite → IsOk result }
-        ensures err { OnErr result (self.new ≡ self.old) }
+        ensures reply { IfOk result (λ r. said r ≡ reply_to P.rules (session_of P.state_of self.old) Rewrite) }
+        ensures state { OnOk result (session_of P.state_of self.new ≡ after P.rules (session_of P.state_of self.old) Rewrite) }
+        ensures lawful { OnOk result (IsLawful P.rules (moment P.rules (session_of P.state_of self.old) Rewrite)) }
+        ensures memory { TakesNone P.rules (session_of P.state_of self.old) Rewrite → IsOk result }
+        ensures err { OnErr result (session_of P.state_of self.new ≡ session_of P.state_of self.old) }
     {
         match rewrite_with(&mut self.store, &mut self.cursors, self.count as usize) {
             Ok(()) => Ok(Reply::Rewritten(self.store.end())),
@@ -173,10 +173,10 @@ impl<P: Placed, A: Allocator + Copy> Session<P, A> {
 /// Rewrites a store, and carries the first `count` cursors of a table.
 fn rewrite_with<P: Placed>(store: &mut P, table: &mut [u32], count: usize) -> Result<(), Refusal>
     requires few { count ≤ length table.old }
-    requires places { AllByRecursion (IsPlace (P.rules.seen store.old)) (take count table.old) }
-    ensures gives { RewriteGives (P.rules.rewrite store.old) store.old result store.new }
-    ensures rewrites { OnOk result (Rewrites (P.rules.seen store.old) (P.rules.seen store.new)) }
-    ensures carries { OnOk result (table.new ≡ map (carry (P.rules.seen store.old) (P.rules.seen store.new)) (take count table.old) ++ drop count table.old) }
+    requires places { AllByRecursion (IsPlace (P.rules.seen (P.state_of store.old))) (take count table.old) }
+    ensures gives { RewriteGives (P.rules.rewrite (P.state_of store.old)) (P.state_of store.old) result (P.state_of store.new) }
+    ensures rewrites { OnOk result (Rewrites (P.rules.seen (P.state_of store.old)) (P.rules.seen (P.state_of store.new))) }
+    ensures carries { OnOk result (table.new ≡ map (carry (P.rules.seen (P.state_of store.old)) (P.rules.seen (P.state_of store.new))) (take count table.old) ++ drop count table.old) }
     ensures keeps { OnErr result (table.new ≡ table.old) }
 {
     let (cursors, _) = table.split_at_mut(count);
@@ -200,9 +200,9 @@ fn tell<P: Placed, A: Allocator>(
     cursor: u32,
     stop: Stop,
 ) -> Result<Reply<A>, NoMemory>
-    requires { stop ≡ stop_at (P.rules.seen store.now) cursor }
-    ensures reply { IfOk result (λ r. said r ≡ stop_said (P.rules.seen store.now) walk (next_live (P.rules.seen store.now) cursor)) }
-    ensures memory { is_gave (stop_said (P.rules.seen store.now) walk (next_live (P.rules.seen store.now) cursor)) ≡ false → IsOk result }
+    requires { stop ≡ stop_at (P.rules.seen (P.state_of store.now)) cursor }
+    ensures reply { IfOk result (λ r. said r ≡ stop_said (P.rules.seen (P.state_of store.now)) walk (next_live (P.rules.seen (P.state_of store.now)) cursor)) }
+    ensures memory { is_gave (stop_said (P.rules.seen (P.state_of store.now)) walk (next_live (P.rules.seen (P.state_of store.now)) cursor)) ≡ false → IsOk result }
 {
     let _ = store.first();
     match stop {

@@ -3,7 +3,7 @@ use Rattle.krb_keytab.proofs.anew.anew_is_sound.Goals as goal
 
 pub returns : goal.returns
 returns g c =
-    let k = c.args.keytab.now in
+    let k = c.args.keytab.now.state in
     record {
       was = c.image.ensures.sound;
       sound = record { cells = new_sound k c.image.result.now c.image.ensures.sound c.image.ensures.spelled c.bytes_fit.ensures c.requires; end = tt };

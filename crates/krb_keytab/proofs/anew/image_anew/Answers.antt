@@ -5,10 +5,10 @@ use Rattle.krb_keytab.proofs.anew.image_anew.Goals as goal
 pub returns-clause-contents : goal.returns-clause-contents
 returns-clause-contents g c =
     let fits : IsBytes c.spell_into.new.image.items = rw c.deref.ensures.value at c.bytes_fit.ensures in
-    contents_anew c.args.keytab.now c.spell_into.new.image.items c.anew_is_sound.ensures.sound c.spell_into.ensures fits
+    contents_anew c.args.keytab.now.state c.spell_into.new.image.items c.anew_is_sound.ensures.sound c.spell_into.ensures fits
 
 pub returns-clause-known : goal.returns-clause-known
 returns-clause-known g c =
     let fits : IsBytes c.spell_into.new.image.items = rw c.deref.ensures.value at c.bytes_fit.ensures in
-    let is = contents_anew c.args.keytab.now c.spell_into.new.image.items c.anew_is_sound.ensures.sound c.spell_into.ensures fits in
-    known_anew c.args.keytab.now c.spell_into.new.image.items c.args.len is c.spell_into.ensures c.requires.len
+    let is = contents_anew c.args.keytab.now.state c.spell_into.new.image.items c.anew_is_sound.ensures.sound c.spell_into.ensures fits in
+    known_anew c.args.keytab.now.state c.spell_into.new.image.items c.args.len is c.spell_into.ensures c.requires.len

@@ -10,7 +10,7 @@ use Rattle.krb_keytab.proofs.anew.len_anew.Goals as goal
 
 pub records-init : goal.records-init
 records-init g c =
-    let k = c.args.keytab.now in
+    let k = c.args.keytab.now.state in
     let some = c.requires.some in
     record {
       place = rw c.first-place.ensures.first (walks_begin_with_all (store_of k)).place;
@@ -21,7 +21,7 @@ records-init g c =
 
 pub bytes_at-requires : goal.bytes_at-requires
 bytes_at-requires g c =
-    let stop = stopped (store_of c.args.keytab.now) c.records.place c.in-Live.at c.in-Live.next c.records.invariant.sound (sym c.in-Live.ensures) in
+    let stop = stopped (store_of c.args.keytab.now.state) c.records.place c.in-Live.at c.in-Live.next c.records.invariant.sound (sym c.in-Live.ensures) in
     subst (λ (o : Option (List ℕ)). IsSome o) (sym stop.live) refl
 
 pub len_of_record-len-requires : goal.len_of_record-len-requires
@@ -29,7 +29,7 @@ len_of_record-len-requires g c = fits_anew c.format.result c.in-Some.entry c.byt
 
 pub returns-then-len-limit-clause-long : goal.returns-then-len-limit-clause-long
 returns-then-len-limit-clause-long g c =
-    let k = c.args.keytab.now in
+    let k = c.args.keytab.now.state in
     let stop = stopped (store_of k) c.records.place c.in-Live.at c.in-Live.next c.records.invariant.sound (sym c.in-Live.ensures) in
     let read = entry_read k c.format.result c.bytes_at.result.now c.in-Some.entry c.format.ensures c.in-Some.ensures.exact in
     let more = rest_len k c.records.place c.in-Live.at c.in-Live.next c.bytes_at.result.now c.in-Some.entry stop c.bytes_at.ensures.bytes read in
@@ -40,14 +40,14 @@ returns-then-len-limit-clause-long g c =
 
 pub records-smaller : goal.records-smaller
 records-smaller g c =
-    let stop = stopped (store_of c.args.keytab.now) c.records.place c.in-Live.at c.in-Live.next c.records.invariant.sound (sym c.in-Live.ensures) in
+    let stop = stopped (store_of c.args.keytab.now.state) c.records.place c.in-Live.at c.in-Live.next c.records.invariant.sound (sym c.in-Live.ensures) in
     let ahead = stop.ahead in
     let within = stop.within in
     omega (arith, ahead, within)
 
 pub records-preserved : goal.records-preserved
 records-preserved g c =
-    let k = c.args.keytab.now in
+    let k = c.args.keytab.now.state in
     let stop = stopped (store_of k) c.records.place c.in-Live.at c.in-Live.next c.records.invariant.sound (sym c.in-Live.ensures) in
     let read = entry_read k c.format.result c.bytes_at.result.now c.in-Some.entry c.format.ensures c.in-Some.ensures.exact in
     let more = rest_len k c.records.place c.in-Live.at c.in-Live.next c.bytes_at.result.now c.in-Some.entry stop c.bytes_at.ensures.bytes read in
@@ -63,7 +63,7 @@ records-preserved g c =
 
 pub returns : goal.returns
 returns g c =
-    let k = c.args.keytab.now in
+    let k = c.args.keytab.now.state in
     let none = rest_none k c.records.place (ended (store_of k) c.records.place (λ at next e. c.in_default.not-Live at next (c.stop_at.ensures ∙ e))) in
     let so_far : c.records.len + length (rest k c.records.place) ≡ length (image_of (rewrite_of k)) = c.records.invariant.so_far in
     let within = c.records.invariant.within in

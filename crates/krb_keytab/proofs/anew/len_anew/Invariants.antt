@@ -7,11 +7,11 @@ use Rattle.krb_keytab.proofs.anew.len_anew.Given as goal
 
 abbrev pub invariant-records : goal.invariant-records
 invariant-records g l = record {
-  place : IsPlace (store_of l.keytab) l.place;
-  sound : IsSound (store_of l.keytab);
-  so_far : l.len + length (rest l.keytab l.place) ≡ length (image_of (rewrite_of l.keytab));
+  place : IsPlace (store_of l.keytab.state) l.place;
+  sound : IsSound (store_of l.keytab.state);
+  so_far : l.len + length (rest l.keytab.state l.place) ≡ length (image_of (rewrite_of l.keytab.state));
   within : l.len ≤ l.limit;
 }
 
 abbrev pub decreases-records : goal.decreases-records
-decreases-records g l = end_of (store_of l.keytab) - l.place
+decreases-records g l = end_of (store_of l.keytab.state) - l.place

@@ -12,7 +12,7 @@ use Rattle.krb_keytab.proofs.anew.spell_anew.Goals as goal
 
 pub records-init : goal.records-init
 records-init g c =
-    let k = c.args.keytab.now in
+    let k = c.args.keytab.now.state in
     let out = c.args.out.now in
     let first = c.first-place.ensures.first in
     let len : length out ≡ length (image_of (rewrite_of k)) = c.requires.len in
@@ -28,7 +28,7 @@ records-init g c =
 
 pub bytes_at-requires : goal.bytes_at-requires
 bytes_at-requires g c =
-    let stop = stopped (store_of c.args.keytab.now) c.records.place c.in-Live.at c.in-Live.next c.records.invariant.sound (sym c.in-Live.ensures) in
+    let stop = stopped (store_of c.args.keytab.now.state) c.records.place c.in-Live.at c.in-Live.next c.records.invariant.sound (sym c.in-Live.ensures) in
     subst (λ (o : Option (List ℕ)). IsSome o) (sym stop.live) refl
 
 pub put_anew-to-requires-clause-fits : goal.put_anew-to-requires-clause-fits
@@ -36,7 +36,7 @@ put_anew-to-requires-clause-fits g c = fits_anew c.format.result c.in-Some.entry
 
 pub put_anew-to-requires-clause-room : goal.put_anew-to-requires-clause-room
 put_anew-to-requires-clause-room g c =
-    let k = c.args.keytab.now in
+    let k = c.args.keytab.now.state in
     let stop = stopped (store_of k) c.records.place c.in-Live.at c.in-Live.next c.records.invariant.sound (sym c.in-Live.ensures) in
     let read = entry_read k c.format.result c.bytes_at.result.now c.in-Some.entry c.format.ensures c.in-Some.ensures.exact in
     let more = rest_len k c.records.place c.in-Live.at c.in-Live.next c.bytes_at.result.now c.in-Some.entry stop c.bytes_at.ensures.bytes read in
@@ -45,14 +45,14 @@ put_anew-to-requires-clause-room g c =
 
 pub records-smaller : goal.records-smaller
 records-smaller g c =
-    let stop = stopped (store_of c.args.keytab.now) c.records.place c.in-Live.at c.in-Live.next c.records.invariant.sound (sym c.in-Live.ensures) in
+    let stop = stopped (store_of c.args.keytab.now.state) c.records.place c.in-Live.at c.in-Live.next c.records.invariant.sound (sym c.in-Live.ensures) in
     let ahead = stop.ahead in
     let within = stop.within in
     omega (arith, ahead, within)
 
 pub records-preserved : goal.records-preserved
 records-preserved g c =
-    let k = c.args.keytab.now in
+    let k = c.args.keytab.now.state in
     let stop = stopped (store_of k) c.records.place c.in-Live.at c.in-Live.next c.records.invariant.sound (sym c.in-Live.ensures) in
     let read = entry_read k c.format.result c.bytes_at.result.now c.in-Some.entry c.format.ensures c.in-Some.ensures.exact in
     let cut = rest_stop k c.records.place c.in-Live.at c.in-Live.next c.bytes_at.result.now c.in-Some.entry stop c.bytes_at.ensures.bytes read in
@@ -69,6 +69,6 @@ records-preserved g c =
 
 pub returns : goal.returns
 returns g c =
-    let k = c.args.keytab.now in
+    let k = c.args.keytab.now.state in
     let none = rest_none k c.records.place (ended (store_of k) c.records.place (λ at next e. c.in_default.not-Live at next (c.stop_at.ensures ∙ e))) in
     spelled_all c.records.out (rest k c.records.place) (image_of (rewrite_of k)) c.records.to none c.records.invariant.written

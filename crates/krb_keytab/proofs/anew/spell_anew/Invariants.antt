@@ -8,11 +8,11 @@ use Rattle.krb_keytab.proofs.anew.spell_anew.Given as goal
 
 abbrev pub invariant-records : goal.invariant-records
 invariant-records g l = record {
-  place : IsPlace (store_of l.keytab) l.place;
-  sound : IsSound (store_of l.keytab);
-  room : l.to + length (rest l.keytab l.place) ≡ length l.out;
-  written : splice l.out l.to (l.to + length (rest l.keytab l.place)) (rest l.keytab l.place) ≡ image_of (rewrite_of l.keytab);
+  place : IsPlace (store_of l.keytab.state) l.place;
+  sound : IsSound (store_of l.keytab.state);
+  room : l.to + length (rest l.keytab.state l.place) ≡ length l.out;
+  written : splice l.out l.to (l.to + length (rest l.keytab.state l.place)) (rest l.keytab.state l.place) ≡ image_of (rewrite_of l.keytab.state);
 }
 
 abbrev pub decreases-records : goal.decreases-records
-decreases-records g l = end_of (store_of l.keytab) - l.place
+decreases-records g l = end_of (store_of l.keytab.state) - l.place

@@ -9,20 +9,20 @@ use Rattle.krb_text.proofs.listing.list_keytab.Goals as goal
 pub returns-in_err-list_records-clause-prefix : goal.returns-in_err-list_records-clause-prefix
 returns-in_err-list_records-clause-prefix g c =
     let p = err_from_is_err_and c.from_residual-in_err-list_records.result c.from_residual-in_err-list_records.ensures.1 in
-    let k = c.args.keytab.now in
+    let k = c.args.keytab.now.state in
     let first = c.in_ok-gather_heading.ensures.ok ∙ ap (λ (t : List ℕ). t ++ heading c.args.name.now c.args.columns.times) c.in-Ok.ensures.items in
     rw p.1 (prefix_of_three _ _ _ (heading c.args.name.now c.args.columns.times) (entry_lines c.args.columns k) (fault_line (fault_of (store_of k))) first c.in_err-list_records.ensures.prefix)
 
 pub returns-in_err-gather_fault-clause-prefix : goal.returns-in_err-gather_fault-clause-prefix
 returns-in_err-gather_fault-clause-prefix g c =
     let p = err_from_is_err_and c.from_residual-in_err-gather_fault.result c.from_residual-in_err-gather_fault.ensures.1 in
-    let k = c.args.keytab.now in
+    let k = c.args.keytab.now.state in
     let first = c.in_ok-gather_heading.ensures.ok ∙ ap (λ (t : List ℕ). t ++ heading c.args.name.now c.args.columns.times) c.in-Ok.ensures.items in
     rw p.1 (prefix_of_three _ _ _ (heading c.args.name.now c.args.columns.times) (entry_lines c.args.columns k) (fault_line (fault_of (store_of k))) first (passed_prefix _ _ _ [] _ c.in_ok-list_records.ensures.ok))
 
 pub returns-clause-ok : goal.returns-clause-ok
 returns-clause-ok g c =
-    let k = c.args.keytab.now in
+    let k = c.args.keytab.now.state in
     let first = c.in_ok-gather_heading.ensures.ok ∙ ap (λ (t : List ℕ). t ++ heading c.args.name.now c.args.columns.times) c.in-Ok.ensures.items in
     let last = rw c.fault.ensures at c.in_ok-gather_fault.ensures.ok in
     let passed = passed_three _ _ _ (heading c.args.name.now c.args.columns.times) (entry_lines c.args.columns k) (fault_line (fault_of (store_of k))) _ _ first c.in_ok-list_records.ensures.ok last in
@@ -30,7 +30,7 @@ returns-clause-ok g c =
 
 pub returns-clause-prefix : goal.returns-clause-prefix
 returns-clause-prefix g c =
-    let k = c.args.keytab.now in
+    let k = c.args.keytab.now.state in
     let first = c.in_ok-gather_heading.ensures.ok ∙ ap (λ (t : List ℕ). t ++ heading c.args.name.now c.args.columns.times) c.in-Ok.ensures.items in
     let last = rw c.fault.ensures at c.in_ok-gather_fault.ensures.ok in
     let passed = passed_three _ _ _ (heading c.args.name.now c.args.columns.times) (entry_lines c.args.columns k) (fault_line (fault_of (store_of k))) _ _ first c.in_ok-list_records.ensures.ok last in

@@ -9,7 +9,7 @@ use Rattle.krb_text.proofs.listing.list_records.Goals as goal
 
 pub records-init : goal.records-init
 records-init g c =
-    let k = c.args.keytab.now in
+    let k = c.args.keytab.now.state in
     let all : entry_lines c.args.columns k ≡ lines_from c.args.columns k c.first-place.result = sym (ap (lines_from c.args.columns k) c.first-place.ensures.first ∙ lines_first c.args.columns k) in
     record {
       place = rw c.first-place.ensures.first (walks_begin_with_all (store_of k)).place;
@@ -19,13 +19,13 @@ records-init g c =
     }
 
 pub gather_record-requires : goal.gather_record-requires
-gather_record-requires g c = (lines_stop c.args.columns c.args.keytab.now c.records.place c.in-Live.at c.in-Live.next c.records.invariant.sound (sym c.in-Live.ensures)).live
+gather_record-requires g c = (lines_stop c.args.columns c.args.keytab.now.state c.records.place c.in-Live.at c.in-Live.next c.records.invariant.sound (sym c.in-Live.ensures)).live
 
 -- what was sent when a write fails
 pub returns-in_err-send_if_full-clause-prefix : goal.returns-in_err-send_if_full-clause-prefix
 returns-in_err-send_if_full-clause-prefix g c =
     let p = err_from_is_err_and c.from_residual-in_err-send_if_full.result c.from_residual-in_err-send_if_full.ensures.1 in
-    let k = c.args.keytab.now in
+    let k = c.args.keytab.now.state in
     let stop = lines_stop c.args.columns k c.records.place c.in-Live.at c.in-Live.next c.records.invariant.sound (sym c.in-Live.ensures) in
     let lines = rw stop.lines at c.records.invariant.passed in
     let passed = passed_gather _ _ _ (line_at c.args.columns k c.in-Live.at) (lines_from c.args.columns k c.in-Live.next) c.records.gathered.items _ lines c.in_ok-gather_record.ensures.ok in
@@ -33,14 +33,14 @@ returns-in_err-send_if_full-clause-prefix g c =
 
 pub records-smaller : goal.records-smaller
 records-smaller g c =
-    let stop = lines_stop c.args.columns c.args.keytab.now c.records.place c.in-Live.at c.in-Live.next c.records.invariant.sound (sym c.in-Live.ensures) in
+    let stop = lines_stop c.args.columns c.args.keytab.now.state c.records.place c.in-Live.at c.in-Live.next c.records.invariant.sound (sym c.in-Live.ensures) in
     let ahead = stop.ahead in
     let within = stop.within in
     omega (arith, ahead, within)
 
 pub records-preserved : goal.records-preserved
 records-preserved g c =
-    let k = c.args.keytab.now in
+    let k = c.args.keytab.now.state in
     let stop = lines_stop c.args.columns k c.records.place c.in-Live.at c.in-Live.next c.records.invariant.sound (sym c.in-Live.ensures) in
     let lines = rw stop.lines at c.records.invariant.passed in
     let passed = passed_gather _ _ _ (line_at c.args.columns k c.in-Live.at) (lines_from c.args.columns k c.in-Live.next) c.records.gathered.items _ lines c.in_ok-gather_record.ensures.ok in
@@ -53,6 +53,6 @@ records-preserved g c =
 
 pub returns : goal.returns
 returns g c =
-    let k = c.args.keytab.now in
+    let k = c.args.keytab.now.state in
     let none = lines_end c.args.columns k c.records.place (λ at next e. c.in_default.not-Live at next (c.stop_at.ensures ∙ e)) in
     record { ok = rw none at c.records.invariant.passed; prefix = tt; failed = c.records.invariant.well }

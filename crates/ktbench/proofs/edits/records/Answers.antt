@@ -15,7 +15,7 @@ moved kept left all p e = append_assoc kept (p ∷ []) left ∙ e
 
 pub records-init : goal.records-init
 records-init g c =
-    let s = store_of c.args.keytab.now in
+    let s = store_of c.args.keytab.now.state in
     record {
       place = rw c.first-place.ensures.first (walks_begin_with_all s).place;
       sound = c.first-place.ensures.sound;
@@ -24,7 +24,7 @@ records-init g c =
 
 pub records-smaller : goal.records-smaller
 records-smaller g c =
-    let stop = stopped (store_of c.args.keytab.now) c.records.place c.in-Live.at c.in-Live.next c.records.invariant.sound (sym c.in-Live.ensures) in
+    let stop = stopped (store_of c.args.keytab.now.state) c.records.place c.in-Live.at c.in-Live.next c.records.invariant.sound (sym c.in-Live.ensures) in
     let ahead = stop.ahead in
     let within = stop.within in
     omega (arith, ahead, within)
@@ -32,7 +32,7 @@ records-smaller g c =
 -- the place that is kept comes first of those that were to come
 pub records-preserved : goal.records-preserved
 records-preserved g c =
-    let s = store_of c.args.keytab.now in
+    let s = store_of c.args.keytab.now.state in
     let stop = stopped s c.records.place c.in-Live.at c.in-Live.next c.records.invariant.sound (sym c.in-Live.ensures) in
     let left = places_of (records_from s c.in-Live.next) in
     let rest = ap (λ (rs : List Record). c.records.places.items ++ places_of rs) (sym stop.first) ∙ c.records.invariant.places in
@@ -44,6 +44,6 @@ records-preserved g c =
 
 pub returns : goal.returns
 returns g c =
-    let s = store_of c.args.keytab.now in
+    let s = store_of c.args.keytab.now.state in
     let none = ended s c.records.place (λ at next e. c.in_default.not-Live at next (c.stop_at.ensures ∙ e)) in
     sym (append-nil c.records.places.items) ∙ ap (λ (rs : List Record). c.records.places.items ++ places_of rs) (sym none) ∙ c.records.invariant.places

@@ -6,10 +6,10 @@ use Rattle.ktbench.proofs.edits.records.Given as goal
 
 abbrev pub invariant-records : goal.invariant-records
 invariant-records g l = record {
-  place : IsPlace (store_of l.keytab) l.place;
-  sound : IsSound (store_of l.keytab);
-  places : l.places.items ++ map (λ r. r.place) (records_from (store_of l.keytab) l.place) ≡ map (λ r. r.place) (records (store_of l.keytab));
+  place : IsPlace (store_of l.keytab.state) l.place;
+  sound : IsSound (store_of l.keytab.state);
+  places : l.places.items ++ map (λ r. r.place) (records_from (store_of l.keytab.state) l.place) ≡ map (λ r. r.place) (records (store_of l.keytab.state));
 }
 
 abbrev pub decreases-records : goal.decreases-records
-decreases-records g l = end_of (store_of l.keytab) - l.place
+decreases-records g l = end_of (store_of l.keytab.state) - l.place

@@ -5,15 +5,15 @@ use Rattle.krb_keytab.specs.Written.{FormParts, fits, written, IsEntry}
 use Rattle.krb_keytab.specs.Store.{State, store_of}
 use Rattle.krb_keytab.specs.Changes.{with_filled}
 use Rattle.krb_keytab.specs.Holes.{hole_from}
-use Rattle.krb_keytab.specs.Appends.{AnswersAppend}
-use Rattle.krb_keytab.proofs.Additions.{gives_put, put_wants, put_after_all, none_large, put_in_hole}
+use Rattle.krb_keytab.specs.Appends.{AnswersAppend, KeepsRoom}
+use Rattle.krb_keytab.proofs.Additions.{gives_put, put_wants, put_keeps, put_after_all, none_large, put_in_hole}
 use Rattle.krb_keytab.proofs.FoundAgain.{added_reads}
 use Rattle.krb_keytab.proofs.StoreChanges.{addition_read}
 use Rattle.krb_keytab.proofs.keytab.Keytab.add.Goals as goal
 
 pub returns-in_default-hole : goal.returns-in_default-hole
 returns-in_default-hole g c =
-    let k = c.args.self.now in
+    let k = c.args.self.now.state in
     let e = c.args.entry.now in
     let whole : is_some (fault_of (store_of k)) ≡ false = let a = c.fault.ensures in let b = c.is_some.ensures in let d = c.if-is_some.false in cc in
     let fit : fits k.format e ≡ true = sym (rw (c.fields-fields.ensures, c.format.ensures) at c.in-Some.ensures.fits) in
@@ -23,19 +23,21 @@ returns-in_default-hole g c =
     ap (λ (n : ℕ). hole_from 2 n k.contents.cells) (sym (c.len.ensures.len ∙ ap (λ (b : List ℕ). length b) bytes)) ∙ sym c.hole.ensures.first ∙ c.in_default-hole.is in
     let no_hole = none_large k (length (written k.format e)) none in
     let after = put_after_all k e whole fit no_hole in
-    let answer = subst (λ (b : List ℕ). AnswersAppend k b c.append.result c.append.new.self) bytes c.append.ensures in
+    let answer = subst (λ (b : List ℕ). AnswersAppend k b c.append.result c.append.new.self.state) bytes c.append.ensures.appended in
+    let keeps = subst (λ (b : List ℕ). KeepsRoom c.args.self.now b c.append.result c.append.new.self) bytes c.append.ensures.room in
     let is = subst IsEntry c.fields-fields.ensures c.numbers_fit.ensures in
-    let gives = gives_put k e c.append.result c.append.new.self after answer in
+    let gives = gives_put k e c.append.result c.append.new.self.state after answer in
     record {
       gives = gives;
-      memory = put_wants k e c.append.result c.append.new.self after no_hole answer;
-      read = addition_read k c.append.new.self e c.append.result is gives;
+      memory = put_wants k e c.append.result c.append.new.self.state after no_hole answer;
+      room = put_keeps c.args.self.now e c.append.result c.append.new.self after no_hole answer keeps;
+      read = addition_read k c.append.new.self.state e c.append.result is gives;
       numbers = is;
     }
 
 pub returns : goal.returns
 returns g c =
-    let k = c.args.self.now in
+    let k = c.args.self.now.state in
     let e = c.args.entry.now in
     let h = c.in-Some-hole.hole in
     let whole : is_some (fault_of (store_of k)) ≡ false = let a = c.fault.ensures in let b = c.is_some.ensures in let d = c.if-is_some.false in cc in
@@ -45,10 +47,11 @@ returns g c =
     let hole : hole_from 2 (length (written k.format e)) k.contents.cells ≡ Some h =
     ap (λ (n : ℕ). hole_from 2 n k.contents.cells) (sym (c.len.ensures.len ∙ ap (λ (b : List ℕ). length b) bytes)) ∙ sym c.in-Some-hole.ensures.first in
     let is = subst IsEntry c.fields-fields.ensures c.numbers_fit.ensures in
-    let gives = put_in_hole k e h whole fit hole ∙ ap (λ (b : List ℕ). Ok (h.place, with_filled k b h.place)) (sym bytes) ∙ ap (λ (y : State). Ok (h.place, y)) (sym c.fill.ensures) in
+    let gives = put_in_hole k e h whole fit hole ∙ ap (λ (b : List ℕ). Ok (h.place, with_filled k b h.place)) (sym bytes) ∙ ap (λ (y : State). Ok (h.place, y)) (sym c.fill.ensures.filled) in
     record {
       gives = gives;
       memory = λ takes. tt;
-      read = added_reads k e (h.place, c.fill.new.self) is gives;
+      room = λ takes. c.fill.ensures.room;
+      read = added_reads k e (h.place, c.fill.new.self.state) is gives;
       numbers = is;
     }

@@ -7,7 +7,7 @@ use Rattle.krb_keytab.proofs.keytab.Keytab.entry_at.Goals as goal
 
 pub returns-clause-none : goal.returns-clause-none
 returns-clause-none g c =
-    let k = c.args.self.now in
+    let k = c.args.self.now.state in
     let b = c.in_ok-bytes.bytes.now in
     let some = entry_held k c.args.place b c.image.ensures.sound (sym c.in_ok-bytes.ensures) in
     let is = c.format.ensures in

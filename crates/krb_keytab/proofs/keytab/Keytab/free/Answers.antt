@@ -1,9 +1,9 @@
 use Rattle.std.proofs.Common.{ℕ, List, Option, sym, subst}
 use Rattle.std.specs.Prelude.{IsSome}
-use Rattle.krb_keytab.proofs.Stores.{live_held}
+use Rattle.krb_keytab.proofs.Stores.{state_is, live_held}
 use Rattle.krb_keytab.proofs.keytab.Keytab.free.Goals as goal
 
 pub free_cell-requires-clause-live : goal.free_cell-requires-clause-live
 free_cell-requires-clause-live g c =
-    let same = live_held c.self.inside.format c.self.inside.limit c.self.inside.image.items c.deref_mut.result.now c.args.self.now c.args.place c.deref_mut.ensures.value c.self.view_is in
+    let same = live_held c.self.inside.format c.self.inside.limit c.self.inside.image.items c.deref_mut.result.now c.args.self.now.state c.args.place c.deref_mut.ensures.value (state_is c.self.view_is) in
     subst (λ (o : Option (List ℕ)). IsSome o) (sym same) c.requires

@@ -14,5 +14,5 @@ free-requires g c = subst (λ (o : Option (List ℕ)). IsSome o) c.record.ensure
 
 pub returns-clause-gone : goal.returns-clause-gone
 returns-clause-gone g c =
-    let gives : cutting c.args.self.now c.args.place ≡ Ok c.free.new.self = search rules in
-    removed_none c.args.self.now c.args.place c.free.new.self gives
+    let gives : cutting c.args.self.now.state c.args.place ≡ Ok c.free.new.self.state = search rules in
+    removed_none c.args.self.now.state c.args.place c.free.new.self.state gives

@@ -7,7 +7,7 @@ use Rattle.krb_walk.specs.Ranks.{Rewrites}
 use Rattle.krb_keytab.specs.declared.step.Ending.TheVariants as ending
 use Rattle.krb_keytab.specs.Known.{IsKnownEnd}
 use Rattle.krb_keytab.specs.Store.{State, store_of, entries}
-use Rattle.krb_keytab.proofs.Stores.{held}
+use Rattle.krb_keytab.proofs.Stores.{state_is, held}
 use Rattle.krb_keytab.proofs.CarryLemmas.{all_places, all_carried}
 use Rattle.krb_keytab.proofs.Rewrites.{held_anew, rewriting_done, rewrites_store, is_image, whole_kind}
 use Rattle.krb_keytab.proofs.keytab.Keytab.rewrite.Goals as goal
@@ -19,41 +19,41 @@ carry_cursors-requires-clause-new_known g c =
 pub carry_cursors-requires-clause-places : goal.carry_cursors-requires-clause-places
 carry_cursors-requires-clause-places g c =
     let i = c.self.inside in
-    all_places i.format i.limit i.image.items c.deref_mut.result.now c.args.self.now c.args.cursors.now c.deref_mut.ensures.value c.self.view_is c.requires
+    all_places i.format i.limit i.image.items c.deref_mut.result.now c.args.self.now.state c.args.cursors.now c.deref_mut.ensures.value (state_is c.self.view_is) c.requires
 
 pub invariant_of-self : goal.invariant_of-self
 invariant_of-self g c =
-    (is_image c.args.self.now c.in-Ok.image.items c.self.inside.limit c.in-Some.len c.in-Ok.ensures.spelled c.in-Some.ensures.len c.in-Some.ensures.within c.self.invariant.0.limit_fits, c.in-Ok.ensures.known)
+    (is_image c.args.self.now.state c.in-Ok.image.items c.self.inside.limit c.in-Some.len c.in-Ok.ensures.spelled c.in-Some.ensures.len c.in-Some.ensures.within c.self.invariant.0.limit_fits, c.in-Ok.ensures.known)
 
 pub returns-clause-gives : goal.returns-clause-gives
 returns-clause-gives g c =
     let i = c.self.inside in
-    let k = c.args.self.now in
+    let k = c.args.self.now.state in
     let whole : is_some (fault_of (store_of k)) ≡ false = let a = c.fault.ensures in let b = c.is_some.ensures in let d = c.if-is_some.false in cc in
-    let limit : k.limit ≡ i.limit = ap (λ (s : State). s.limit) (sym c.self.view_is) in
+    let limit : k.limit ≡ i.limit = ap (λ (s : State). s.limit) (sym (state_is c.self.view_is)) in
     let within : c.in-Some.len ≤ i.limit = c.in-Some.ensures.within in
     rewriting_done k c.in-Some.len whole c.in-Some.ensures.len (omega (arith, limit, within))
-    ∙ ap (λ (s : State). Ok s) (sym (held_anew i.format i.limit i.image.items c.in-Ok.image.items k c.self.view_is c.in-Ok.ensures.contents))
+    ∙ ap (λ (s : State). Ok s) (sym (held_anew i.format i.limit i.image.items c.in-Ok.image.items k (state_is c.self.view_is) c.in-Ok.ensures.contents))
 
 pub returns-clause-rewrites : goal.returns-clause-rewrites
 returns-clause-rewrites g c =
     let i = c.self.inside in
-    let k = c.args.self.now in
+    let k = c.args.self.now.state in
     let whole : is_some (fault_of (store_of k)) ≡ false = let a = c.fault.ensures in let b = c.is_some.ensures in let d = c.if-is_some.false in cc in
-    subst (λ (s : State). Rewrites (store_of k) (store_of s)) (sym (held_anew i.format i.limit i.image.items c.in-Ok.image.items k c.self.view_is c.in-Ok.ensures.contents))
+    subst (λ (s : State). Rewrites (store_of k) (store_of s)) (sym (held_anew i.format i.limit i.image.items c.in-Ok.image.items k (state_is c.self.view_is) c.in-Ok.ensures.contents))
     (rewrites_store k c.anew_is_sound.ensures.was c.anew_is_sound.ensures.sound (whole_kind k whole))
 
 pub returns-clause-entries : goal.returns-clause-entries
 returns-clause-entries g c =
     let i = c.self.inside in
-    let k = c.args.self.now in
-    ap entries (held_anew i.format i.limit i.image.items c.in-Ok.image.items k c.self.view_is c.in-Ok.ensures.contents) ∙ c.anew_is_sound.ensures.entries
+    let k = c.args.self.now.state in
+    ap entries (held_anew i.format i.limit i.image.items c.in-Ok.image.items k (state_is c.self.view_is) c.in-Ok.ensures.contents) ∙ c.anew_is_sound.ensures.entries
 
 pub returns-clause-carries : goal.returns-clause-carries
 returns-clause-carries g c =
     let i = c.self.inside in
-    let k = c.args.self.now in
-    let done = held_anew i.format i.limit i.image.items c.in-Ok.image.items k c.self.view_is c.in-Ok.ensures.contents in
+    let k = c.args.self.now.state in
+    let done = held_anew i.format i.limit i.image.items c.in-Ok.image.items k (state_is c.self.view_is) c.in-Ok.ensures.contents in
     let spelled = ap (λ (b : List ℕ). contents V2 (drop 2 b)) c.deref.ensures.value ∙ c.in-Ok.ensures.contents in
     c.carry_cursors.ensures
-    ∙ all_carried i.format i.limit i.image.items c.deref_mut.result.now c.deref.result.now k (held V2 i.limit c.in-Ok.image.items) c.args.cursors.now c.deref_mut.ensures.value c.self.view_is c.anew_is_sound.ensures.was.cells spelled done
+    ∙ all_carried i.format i.limit i.image.items c.deref_mut.result.now c.deref.result.now k (held V2 i.limit c.in-Ok.image.items) c.args.cursors.now c.deref_mut.ensures.value (state_is c.self.view_is) c.anew_is_sound.ensures.was.cells spelled done
