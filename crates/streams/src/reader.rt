@@ -63,6 +63,18 @@ impl<'a> FailingReader<'a> {
         self.failure = Failure::AfterBytes(count);
     }
 
+    /// Counts a failure, and lets no other come.
+    fn fail(&mut self)
+        ensures once { (calls count : ℕ) → Fails self.new calls count → ⊥ }
+        ensures failures { failures_of self.new ≡ min (failures_of self.old + 1) (2 ^ 64 - 1) }
+        ensures rest { self.new.rest ≡ self.old.rest }
+        ensures most { most_of self.new ≡ most_of self.old }
+        ensures calls { calls_of self.new ≡ calls_of self.old }
+    {
+        self.failure = Failure::Never;
+        self.failures = self.failures.saturating_add(1);
+    }
+
     /// The calls of `read`.
     pub fn calls(&self) -> u64
         ensures { result ≡ calls_of self.now }
@@ -101,8 +113,7 @@ impl Read for FailingReader<'_> {
     {
         self.calls = self.calls.saturating_add(1);
         if self.failure.is_due() {
-            self.failure = Failure::Never;
-            self.failures = self.failures.saturating_add(1);
+            self.fail();
             return Err(io::Error::from(ErrorKind::Other));
         }
         let room = buf.len().min(self.rest.len()).min(self.most);
