@@ -1,4 +1,4 @@
-ghost use Rattle.std.specs.Prelude.{◌≡◌, ◌↔◌, ℕ, ◌+◌, ◌-◌, ◌^◌, ◌<◌, min, length, Some, IsErr, OnOk, OnErr, IfOk, IfErr};
+ghost use Rattle.std.specs.Prelude.{◌≡◌, ◌↔◌, ℕ, ◌+◌, ◌-◌, ◌^◌, ◌<◌, ◌≤◌, min, length, take, drop, Some, IsErr, OnOk, OnErr, IfOk, IfErr};
 ghost use Rattle.std.specs.IoError.{error_kind};
 ghost use Rattle.std.specs.Io.{ReadsAtMost};
 ghost use Rattle.std.specs.Io.KnownBytes.{ReadConsumes};
@@ -90,6 +90,17 @@ impl<'a> FailingReader<'a> {
     }
 }
 
+// The first of these bytes, which are then no longer there.
+fn take_front<'a>(bytes: &mut &'a [u8], count: usize) -> &'a [u8]
+    requires { count ≤ length bytes.old.now }
+    ensures front { result.now ≡ take count bytes.old.now }
+    ensures rest { bytes.new.now ≡ drop count bytes.old.now }
+{
+    let (front, rest) = bytes.split_at(count);
+    *bytes = rest;
+    front
+}
+
 impl Read for FailingReader<'_> {
     ghost use Rattle.streams.specs.Reader.{calls_of, failures_of, most_of, Fails, count_given};
 
@@ -119,9 +130,7 @@ impl Read for FailingReader<'_> {
         let room = buf.len().min(self.rest.len()).min(self.most);
         let count = self.failure.most_before(room);
         self.failure = self.failure.after_call(count);
-        let (given, rest) = self.rest.split_at(count);
-        buf[..count].copy_from_slice(given);
-        self.rest = rest;
+        buf[..count].copy_from_slice(take_front(&mut self.rest, count));
         Ok(count)
     }
 }
