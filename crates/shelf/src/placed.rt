@@ -2,8 +2,8 @@
 
 use crate::shelf::Shelf;
 use crate::slots::{
-    FIRST, MOST_SLOTS, WIDTH, bytes_in, carry_places, drop_free, first_free, free_from, place_of,
-    slot_at,
+    FIRST, MOST_SLOTS, begins_slot, bytes_in, carry_places, drop_free, first_free, free_from,
+    place_of, slot_at,
 };
 use krb_walk::{Code, Fault, Placed, Refusal, Stop};
 use std::alloc::Allocator;
@@ -37,7 +37,7 @@ impl<A: Allocator> Placed for Shelf<A> {
     }
 
     fn is_place(&self, place: u32) -> bool {
-        FIRST <= place && place <= self.end() && place % WIDTH == 0
+        FIRST <= place && place <= self.end() && begins_slot(place)
     }
 
     fn stop_at(&self, place: u32) -> Stop {

@@ -1,6 +1,6 @@
 //! The slots of a shelf, as a slice.
 
-ghost use Rattle.std.specs.Prelude.{◌≡◌, ◌≤◌, length, position, is_none, is_some, option_copied, drop, map, take};
+ghost use Rattle.std.specs.Prelude.{◌≡◌, ◌==◌, ◌≤◌, ◌%◌, length, position, is_none, is_some, option_copied, drop, map, take};
 ghost use Rattle.std.specs.List.{AllByRecursion};
 ghost use Rattle.shelf.specs.Shelf.{IsSlotPlace, bytes_in, carried_place, full_slots, place_of, slot_at};
 
@@ -45,6 +45,13 @@ pub fn slot_at(place: u32) -> usize
     ensures { result ≡ slot_at place }
 {
     ((place - FIRST) / WIDTH) as usize
+}
+
+/// Whether a slot may begin at a place from the first on.
+pub fn begins_slot(place: u32) -> bool
+    ensures { result ≡ (place % 4 == 0) }
+{
+    place % WIDTH == 0
 }
 
 /// The bytes of the slot at a place, if one stands there and is not free.

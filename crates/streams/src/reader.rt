@@ -1,4 +1,4 @@
-ghost use Rattle.std.specs.Prelude.{◌≡◌, ◌↔◌, ℕ, ◌+◌, ◌-◌, ◌^◌, ◌<◌, min, length, Some, IsErr, OnOk, OnErr, IfOk, IfErr};
+ghost use Rattle.std.specs.Prelude.{◌≡◌, ◌↔◌, ℕ, ◌+◌, ◌-◌, ◌^◌, ◌<◌, ◌≤◌, min, length, take, drop, Some, IsErr, OnOk, OnErr, IfOk, IfErr};
 ghost use Rattle.std.specs.IoError.{error_kind};
 ghost use Rattle.std.specs.Io.{ReadsAtMost};
 ghost use Rattle.std.specs.Io.KnownBytes.{ReadConsumes};
@@ -63,6 +63,18 @@ impl<'a> FailingReader<'a> {
         self.failure = Failure::AfterBytes(count);
     }
 
+    /// Counts a failure, and lets no other come.
+    fn fail(&mut self)
+        ensures once { (calls count : ℕ) → Fails self.new calls count → ⊥ }
+        ensures failures { failures_of self.new ≡ min (failures_of self.old + 1) (2 ^ 64 - 1) }
+        ensures rest { self.new.rest ≡ self.old.rest }
+        ensures most { most_of self.new ≡ most_of self.old }
+        ensures calls { calls_of self.new ≡ calls_of self.old }
+    {
+        self.failure = Failure::Never;
+        self.failures = self.failures.saturating_add(1);
+    }
+
     /// The calls of `read`.
     pub fn calls(&self) -> u64
         ensures { result ≡ calls_of self.now }
@@ -76,6 +88,17 @@ impl<'a> FailingReader<'a> {
     {
         self.failures
     }
+}
+
+// The first of these bytes, which are then no longer there.
+fn take_front<'a>(bytes: &mut &'a [u8], count: usize) -> &'a [u8]
+    requires { count ≤ length bytes.old.now }
+    ensures front { result.now ≡ take count bytes.old.now }
+    ensures rest { bytes.new.now ≡ drop count bytes.old.now }
+{
+    let (front, rest) = bytes.split_at(count);
+    *bytes = rest;
+    front
 }
 
 impl Read for FailingReader<'_> {
@@ -101,16 +124,13 @@ impl Read for FailingReader<'_> {
     {
         self.calls = self.calls.saturating_add(1);
         if self.failure.is_due() {
-            self.failure = Failure::Never;
-            self.failures = self.failures.saturating_add(1);
+            self.fail();
             return Err(io::Error::from(ErrorKind::Other));
         }
         let room = buf.len().min(self.rest.len()).min(self.most);
         let count = self.failure.most_before(room);
         self.failure = self.failure.after_call(count);
-        let (given, rest) = self.rest.split_at(count);
-        buf[..count].copy_from_slice(given);
-        self.rest = rest;
+        buf[..count].copy_from_slice(take_front(&mut self.rest, count));
         Ok(count)
     }
 }

@@ -1,4 +1,4 @@
-ghost use Rattle.std.specs.Prelude.{◌≡◌, ◌≢◌, ◌⊎◌, ℕ, ◌+◌, ◌-◌, ◌^◌, ◌<◌, min, length, [], Some, IsOk, IsErr, OnOk, OnErr, IfOk, IfErr};
+ghost use Rattle.std.specs.Prelude.{◌≡◌, ◌≢◌, ◌↔◌, ◌⊎◌, ℕ, ◌+◌, ◌-◌, ◌^◌, ◌<◌, min, length, [], Some, IsOk, IsErr, OnOk, OnErr, IfOk, IfErr};
 ghost use Rattle.std.specs.IoError.{error_kind};
 ghost use Rattle.std.specs.Io.{WritesAtMost};
 ghost use Rattle.std.specs.Io.KnownBytes.{WriteAppends, Keeps};
@@ -11,6 +11,20 @@ use std::io::{self, ErrorKind, Write};
 pub enum WhenFull {
     Fails,
     TakesNothing,
+}
+
+impl WhenFull {
+    ghost use Rattle.streams.specs.declared.writer.WhenFull.TheVariants.{Fails};
+
+    fn answer(self) -> io::Result<usize>
+        ensures fails { IsErr result ↔ (self ≡ Fails) }
+        ensures nothing { IfOk result (λ count. count ≡ 0) }
+    {
+        match self {
+            WhenFull::Fails => Err(io::Error::from(ErrorKind::Other)),
+            WhenFull::TakesNothing => Ok(0),
+        }
+    }
 }
 
 /// Takes at most `most` bytes at a time and `room` bytes in all, and then fails, or takes nothing more.
@@ -93,10 +107,7 @@ impl<A: Allocator> Write for FailingWriter<A> {
         let count = buf.len().min(self.room).min(self.most);
         if count == 0 && !buf.is_empty() {
             self.failures = self.failures.saturating_add(1);
-            return match self.when_full {
-                WhenFull::Fails => Err(io::Error::from(ErrorKind::Other)),
-                WhenFull::TakesNothing => Ok(0),
-            };
+            return self.when_full.answer();
         }
         self.taken.extend_from_slice(&buf[..count])?;
         self.room -= count;

@@ -8,7 +8,7 @@ use Rattle.shelf.proofs.placed.ShelfPlaced.is_place.Goals.{then-place-ge-FIRST, 
 pub returns-then-place-end : goal.returns-then-place-end
 returns-then-place-end g c =
     elim c.if-place-ge-FIRST.branch [
-      | then-place-ge-FIRST w ↦ grind (arith, nat_tests, place_test c.args.self.now.slots c.args.place, w.end.ensures, w.value-is)
+      | then-place-ge-FIRST w ↦ grind (arith, nat_tests, place_test c.args.self.now.slots c.args.place, w.end.ensures, w.value-is, c.begins_slot.ensures)
       | else-place-ge-FIRST w ↦ absurd (false≢true (sym (lt-leb 8 c.args.place w.if-place-ge-FIRST.false) ∙ sym w.value-is ∙ c.if-place-end.true))
     ]
 
