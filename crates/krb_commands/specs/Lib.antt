@@ -1,0 +1,8 @@
+-- What the contracts of this crate say.
+pub mod Reader
+pub mod Messages
+pub mod Runs
+pub mod Klist
+pub mod Ktfind
+pub mod Options
+pub mod Actions
