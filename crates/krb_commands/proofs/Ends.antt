@@ -6,7 +6,6 @@ use Rattle.std.proofs.lemmas.Bool.{false≢true, true≢false}
 use Rattle.krb_wire.specs.declared.format.Order.{Order}
 use Rattle.krb_walk.specs.declared.refusal.Code.{Code}
 use Rattle.krb_keytab.specs.LookUp.{Placed}
-use Rattle.krb_keytab.specs.declared.open.KtOpenFault.{KtOpenFault}
 use Rattle.krb_keytab.specs.Store.{State}
 use Rattle.krb_text.specs.declared.files.LoadFault.{LoadFault}
 use Rattle.krb_text.specs.declared.files.LoadFault.TheVariants as load
@@ -14,7 +13,7 @@ use Rattle.krb_text.specs.Bytes.{Watch, AppendsPrefix}
 use Rattle.krb_text.specs.Files.{CountsFailure, loaded}
 use Rattle.krb_text.proofs.Prefixes.{AppendsPrefix-all, AppendsPrefix-none, Appends-nil}
 use Rattle.krb_commands.specs.Messages.{message}
-use Rattle.krb_commands.specs.Klist.{open_message, opening_run, load_run, load_message, load_status, most_bytes}
+use Rattle.krb_commands.specs.KeytabFile.{load_run, load_message, load_status, most_bytes}
 use Rattle.krb_commands.specs.Ktfind.{found_run, refused_message}
 use Rattle.krb_commands.specs.Runs.{Run, Says, EndsRun, EndsLoaded, FailsToRead}
 
@@ -53,14 +52,6 @@ EndsRun-failed due out out' err err' failed prefix says =
       failed = λ _. (refl, says);
       no_memory = λ is4. absurd (not4 is4);
     }
-
--- with an image that is no keytab
-pub EndsRun-refused : (then_ : State → Run) (file : List ℕ) (opened : Result State KtOpenFault) (fault : KtOpenFault) (out err err' : Watch) → opened ≡ Err fault
-    → IsFalse out.failed → Says err err' (open_message file fault) → EndsRun (opening_run then_ file opened) out out err err' 1
-EndsRun-refused then_ file opened fault out err err' refused well says =
-    let not4 : 1 ≢ 4 = search rules in
-    let due = EndsRun-done (opening_run then_ file (Err fault)) out out err err' 1 well not4 refl (Appends-nil out.contents) says in
-    subst (λ o. EndsRun (opening_run then_ file o) out out err err' 1) (sym refused) due
 
 -- with a file that was not loaded
 pub EndsRun-unloaded : (then_ : State → Run) (order : Order) (file : List ℕ) (fault : LoadFault) (out err err' : Watch)

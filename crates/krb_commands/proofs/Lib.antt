@@ -2,3 +2,4 @@ pub mod Reading
 pub mod Faults
 pub mod Pieces
 pub mod Ends
+pub mod KeytabFile

@@ -1,52 +1,16 @@
--- What becomes of a file, and what klist prints.
-use Rattle.std.specs.Prelude.{ℕ, List, [], ◌++◌, if◌then◌else◌, is_some, Option, Result, Ok, Err, codes, decimal}
-use Rattle.krb_wire.specs.declared.format.Order.{Order}
+-- What klist prints.
+use Rattle.std.specs.Prelude.{ℕ, List, [], if◌then◌else◌, is_some, Option, Result}
 use Rattle.krb_walk.specs.Store.{fault_of}
-use Rattle.krb_keytab.specs.declared.open.KtOpenFault.{KtOpenFault}
-use Rattle.krb_keytab.specs.Opening.{open_fault_number}
-use Rattle.krb_keytab.specs.Store.{State, opening, store_of}
+use Rattle.krb_keytab.specs.Store.{State, store_of}
 use Rattle.krb_text.specs.declared.columns.KtColumns.{KtColumns}
 use Rattle.krb_text.specs.declared.files.LoadFault.{LoadFault}
-use Rattle.krb_text.specs.declared.files.LoadFault.TheVariants as load
 use Rattle.krb_text.specs.Files.{loaded}
 use Rattle.krb_text.specs.Listing.{list_text}
 use Rattle.krb_commands.specs.declared.action.KlistOptions.{KlistOptions}
 use Rattle.krb_commands.specs.declared.action.ListKind.{ListKind}
 use Rattle.krb_commands.specs.declared.action.ListKind.TheVariants.{Keytab}
-use Rattle.krb_commands.specs.Messages.{message, file_message}
+use Rattle.krb_commands.specs.KeytabFile.{load_run, most_bytes}
 use Rattle.krb_commands.specs.Runs.{Run}
-
--- the most bytes that a file may have
-abbrev pub most_bytes : ℕ
-most_bytes = 16777216
-
--- what is said of a file that was not loaded
-abbrev pub load_message : List ℕ → LoadFault → List ℕ
-load_message file load.Missing = file_message file (codes "no such file")
-load_message file load.TooLarge = file_message file (codes "file too large")
-load_message file load.Failed = file_message file (codes "cannot read")
-load_message file load.NoMemory = message (codes "out of memory")
-
--- the status then
-abbrev pub load_status : LoadFault → ℕ
-load_status load.Missing = 1
-load_status load.TooLarge = 1
-load_status load.Failed = 3
-load_status load.NoMemory = 4
-
--- what is said of a file that is no keytab
-abbrev pub open_message : List ℕ → KtOpenFault → List ℕ
-open_message file fault = file_message file (codes "not a keytab (" ++ decimal (open_fault_number fault) ++ codes ")")
-
--- an image was opened, and something is done with the keytab, or it was not
-abbrev pub opening_run : (State → Run) → List ℕ → Result State KtOpenFault → Run
-opening_run then_ file (Ok keytab) = then_ keytab
-opening_run then_ file (Err fault) = record { out = []; err = open_message file fault; status = 1 }
-
--- a file was loaded, or not
-abbrev pub load_run : (State → Run) → Order → List ℕ → Result (List ℕ) LoadFault → Run
-load_run then_ order file (Ok image) = opening_run then_ file (opening order most_bytes image)
-load_run then_ order file (Err fault) = record { out = []; err = load_message file fault; status = load_status fault }
 
 -- a keytab is listed; the listing tells its fault, if there is one
 abbrev pub listing_run : KtColumns → List ℕ → State → Run

@@ -10,7 +10,7 @@ use Rattle.krb_text.specs.Files.{loaded}
 use Rattle.krb_text.specs.Found.{found_line}
 use Rattle.krb_commands.specs.declared.action.FindOptions.{FindOptions}
 use Rattle.krb_commands.specs.Messages.{file_message}
-use Rattle.krb_commands.specs.Klist.{load_run, most_bytes}
+use Rattle.krb_commands.specs.KeytabFile.{load_run, most_bytes}
 use Rattle.krb_commands.specs.Runs.{Run}
 
 -- what is said of a look-up that was refused

@@ -2,6 +2,7 @@
 pub mod Reader
 pub mod Messages
 pub mod Runs
+pub mod KeytabFile
 pub mod Klist
 pub mod Ktfind
 pub mod Options

@@ -2,6 +2,7 @@
 #![tactic(auto)]
 
 mod action;
+mod keytab_file;
 mod klist;
 mod ktfind;
 mod messages;
@@ -13,6 +14,7 @@ mod response;
 mod tests;
 
 pub use action::{Action, FindOptions, KlistOptions, ListKind, WordFault};
+pub use keytab_file::open_keytab;
 pub use klist::run_klist;
 pub use ktfind::run_ktfind;
 pub use options::{KlistWords, KtfindWords, klist_action, ktfind_action};

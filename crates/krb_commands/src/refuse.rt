@@ -2,7 +2,7 @@
 
 ghost use Rattle.std.specs.Prelude.{◌≡◌, ◌++◌, codes, decimal};
 ghost use Rattle.krb_walk.specs.Numbers.{code_number};
-ghost use Rattle.krb_commands.specs.Klist.{load_message, load_status, open_message};
+ghost use Rattle.krb_commands.specs.KeytabFile.{load_message, load_status, open_message};
 ghost use Rattle.krb_commands.specs.Ktfind.{refused_message};
 ghost use Rattle.krb_commands.specs.Runs.{Says};
 
@@ -11,9 +11,6 @@ use krb_keytab::KtOpenFault;
 use krb_text::{LoadFault, Watched};
 use krb_walk::Code;
 use std::io::Write;
-
-/// The most bytes that a file may have.
-pub const LIMIT: u32 = 16_777_216;
 
 /// Says why a file was not loaded, and answers the status for it.
 pub fn refuse_load<E: Write>(file: &str, fault: LoadFault, err: &mut Watched<E>) -> u8

@@ -2,7 +2,7 @@
 
 ghost use Rattle.std.specs.Prelude.{◌≡◌, ◌⊎◌, ℕ, List, IsFalse};
 ghost use Rattle.krb_commands.specs.Runs.{EndsRun, FailsToRead, HasCause, Says};
-ghost use Rattle.krb_commands.specs.Klist.{most_bytes};
+ghost use Rattle.krb_commands.specs.KeytabFile.{most_bytes};
 ghost use Rattle.krb_commands.specs.Actions.{EndsAction, EndsAsked, action_run, asked_run, help_run, word_message, word_status};
 
 use crate::action::{Action, WordFault};

@@ -4,7 +4,7 @@ ghost use Rattle.std.specs.Prelude.{Result, IsFalse};
 ghost use Rattle.krb_commands.specs.declared.action.Action.{Action};
 ghost use Rattle.krb_commands.specs.declared.action.WordFault.{WordFault};
 ghost use Rattle.krb_commands.specs.Runs.{HasCause};
-ghost use Rattle.krb_commands.specs.Klist.{most_bytes};
+ghost use Rattle.krb_commands.specs.KeytabFile.{most_bytes};
 ghost use Rattle.krb_commands.specs.Actions.{EndsAsked};
 
 use crate::words::parse_words;

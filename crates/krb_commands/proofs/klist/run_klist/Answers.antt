@@ -1,23 +1,21 @@
-use Rattle.std.proofs.Common.{ap}
-use Rattle.std.specs.Prelude.{Err}
-use Rattle.krb_commands.proofs.Ends.{EndsLoaded-ok, EndsLoaded-err, EndsRun-honest}
-use Rattle.krb_commands.specs.Klist.{columns_of, listing_run, most_bytes}
+use Rattle.std.proofs.Common.{ℕ, ◌≢◌, Bool, true, false, rules}
+use Rattle.std.specs.Prelude.{if◌then◌else◌, is_some}
+use Rattle.krb_walk.specs.Store.{fault_of}
+use Rattle.krb_keytab.specs.Store.{store_of}
+use Rattle.krb_commands.specs.Klist.{columns_of, listing_run}
+use Rattle.krb_commands.proofs.KeytabFile.{RunsOver-opened}
 use Rattle.krb_commands.proofs.klist.run_klist.Goals as goal
 
--- a file that was loaded
-pub returns-in-Ok-clause-loaded : goal.returns-in-Ok-clause-loaded
-returns-in-Ok-clause-loaded g c =
-    EndsLoaded-ok (λ answer. g.F.Files.answers c.args.files.now c.args.file.now most_bytes answer c.load.new.self) (listing_run (columns_of c.args.options.now.kind) c.args.file.now) c.args.options.now.v1_order c.args.file.now c.in-Ok.image.items (g.F.Files.failure_count c.args.files.now) (g.F.Files.failure_count c.load.new.self)
-    c.args.out.now c.list_image.new.out c.args.err.now c.list_image.new.err c.list_image.result c.in-Ok.ensures.answered c.list_image.ensures
+status_is_not_3 : (b : Bool) → ◌≢◌ {A = ℕ} (if b then 1 else 0) 3
+status_is_not_3 true = search rules
+status_is_not_3 false = search rules
 
--- one that was not, where what stands there is known
-pub returns-in-Err-clause-run : goal.returns-in-Err-clause-run
-returns-in-Err-clause-run g c = λ honest.
-    rw c.refuse_load.ensures.status (EndsRun-honest (listing_run (columns_of c.args.options.now.kind) c.args.file.now) c.args.options.now.v1_order c.args.file.now (g.F.Files.file c.args.files.now c.args.file.now) c.in-Err.fault (g.F.Files.failure_count c.args.files.now) (g.F.Files.failure_count c.load.new.self)
-    c.args.out.now c.args.err.now c.refuse_load.new.err (c.in-Err.ensures.err honest) (λ e. c.in-Err.ensures.failed (ap Err e)) c.requires c.refuse_load.ensures.err)
+-- a keytab was listed
+pub returns-in-Ok : goal.returns-in-Ok
+returns-in-Ok g c =
+    RunsOver-opened g.F.Files c.args.files.now c.open_keytab.new.files c.args.file.now c.args.options.now.v1_order (listing_run (columns_of c.args.options.now.kind) c.args.file.now) c.in-Ok.keytab
+    c.args.out.now c.list_opened.new.out c.args.err.now c.open_keytab.new.err c.list_opened.new.err c.list_opened.result c.in-Ok.ensures.ok (status_is_not_3 (is_some (fault_of (store_of c.in-Ok.keytab)))) (rw c.columns_of-columns.ensures at c.list_opened.ensures)
 
--- and where it is not
-pub returns-in-Err-clause-loaded : goal.returns-in-Err-clause-loaded
-returns-in-Err-clause-loaded g c =
-    rw c.refuse_load.ensures.status (EndsLoaded-err (λ answer. g.F.Files.answers c.args.files.now c.args.file.now most_bytes answer c.load.new.self) (listing_run (columns_of c.args.options.now.kind) c.args.file.now) c.args.options.now.v1_order c.args.file.now c.in-Err.fault (g.F.Files.failure_count c.args.files.now) (g.F.Files.failure_count c.load.new.self)
-    c.args.out.now c.args.err.now c.refuse_load.new.err c.in-Err.ensures.answered (λ e. c.in-Err.ensures.failed (ap Err e)) c.requires c.refuse_load.ensures.err)
+-- there was none
+pub returns-in-Err : goal.returns-in-Err
+returns-in-Err g c = c.in-Err.ensures.err (listing_run (columns_of c.args.options.now.kind) c.args.file.now) c.args.out.now c.requires

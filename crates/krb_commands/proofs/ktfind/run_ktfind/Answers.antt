@@ -1,24 +1,23 @@
-use Rattle.std.proofs.Common.{ap}
-use Rattle.std.specs.Prelude.{Err}
-use Rattle.krb_commands.proofs.Ends.{EndsLoaded-ok, EndsLoaded-err, EndsRun-honest}
-use Rattle.krb_commands.specs.Klist.{most_bytes}
-use Rattle.krb_commands.specs.Ktfind.{finding_run}
+use Rattle.std.proofs.Common.{ℕ, List, ◌≢◌, rules}
+use Rattle.std.specs.Prelude.{Result, Ok, Err}
+use Rattle.krb_wire.specs.Reading.{principal_parts}
+use Rattle.krb_walk.specs.declared.refusal.Code.{Code}
+use Rattle.krb_keytab.specs.LookUp.{Placed, finding}
+use Rattle.krb_commands.specs.Ktfind.{finding_run, found_run}
+use Rattle.krb_commands.proofs.KeytabFile.{RunsOver-opened}
 use Rattle.krb_commands.proofs.ktfind.run_ktfind.Goals as goal
 
--- a file that was loaded
-pub returns-in-Ok-clause-loaded : goal.returns-in-Ok-clause-loaded
-returns-in-Ok-clause-loaded g c =
-    EndsLoaded-ok (λ answer. g.F.Files.answers c.args.files.now c.args.file.now most_bytes answer c.load.new.self) (finding_run c.args.options.now c.args.file.now) c.args.options.now.v1_order c.args.file.now c.in-Ok.image.items (g.F.Files.failure_count c.args.files.now) (g.F.Files.failure_count c.load.new.self)
-    c.args.out.now c.find_image.new.out c.args.err.now c.find_image.new.err c.find_image.result c.in-Ok.ensures.answered c.find_image.ensures
+status_is_not_3 : (file : List ℕ) (found : Result Placed Code) → (found_run file found).status ≢ 3
+status_is_not_3 file (Ok x) = search rules
+status_is_not_3 file (Err code) = search rules
 
--- one that was not, where what stands there is known
-pub returns-in-Err-clause-run : goal.returns-in-Err-clause-run
-returns-in-Err-clause-run g c = λ honest.
-    rw c.refuse_load.ensures.status (EndsRun-honest (finding_run c.args.options.now c.args.file.now) c.args.options.now.v1_order c.args.file.now (g.F.Files.file c.args.files.now c.args.file.now) c.in-Err.fault (g.F.Files.failure_count c.args.files.now) (g.F.Files.failure_count c.load.new.self)
-    c.args.out.now c.args.err.now c.refuse_load.new.err (c.in-Err.ensures.err honest) (λ e. c.in-Err.ensures.failed (ap Err e)) c.requires c.refuse_load.ensures.err)
+-- a keytab was looked through
+pub returns-in-Ok : goal.returns-in-Ok
+returns-in-Ok g c =
+    let found = finding c.in-Ok.keytab (principal_parts c.args.options.now.name) c.args.options.now.kvno c.args.options.now.enctype in
+    RunsOver-opened g.F.Files c.args.files.now c.open_keytab.new.files c.args.file.now c.args.options.now.v1_order (finding_run c.args.options.now c.args.file.now) c.in-Ok.keytab
+    c.args.out.now c.find_opened.new.out c.args.err.now c.open_keytab.new.err c.find_opened.new.err c.find_opened.result c.in-Ok.ensures.ok (status_is_not_3 c.args.file.now found) c.find_opened.ensures
 
--- and where it is not
-pub returns-in-Err-clause-loaded : goal.returns-in-Err-clause-loaded
-returns-in-Err-clause-loaded g c =
-    rw c.refuse_load.ensures.status (EndsLoaded-err (λ answer. g.F.Files.answers c.args.files.now c.args.file.now most_bytes answer c.load.new.self) (finding_run c.args.options.now c.args.file.now) c.args.options.now.v1_order c.args.file.now c.in-Err.fault (g.F.Files.failure_count c.args.files.now) (g.F.Files.failure_count c.load.new.self)
-    c.args.out.now c.args.err.now c.refuse_load.new.err c.in-Err.ensures.answered (λ e. c.in-Err.ensures.failed (ap Err e)) c.requires c.refuse_load.ensures.err)
+-- there was none
+pub returns-in-Err : goal.returns-in-Err
+returns-in-Err g c = c.in-Err.ensures.err (finding_run c.args.options.now c.args.file.now) c.args.out.now c.requires
