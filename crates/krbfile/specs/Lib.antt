@@ -1,8 +1,2 @@
 -- What the contracts of this crate say.
-pub mod Load
-pub mod Messages
-pub mod Runs
-pub mod Klist
-pub mod Ktfind
-pub mod Options
-pub mod Actions
+pub mod Disk

@@ -2,9 +2,9 @@
 
 ghost use Rattle.std.specs.Prelude.{◌≡◌, ◌≤◌, ℕ, None};
 ghost use Rattle.krb_text.specs.Files.{CountsFailure};
-ghost use Rattle.krbfile.specs.Load.{AnswersFromDisk};
+ghost use Rattle.krbfile.specs.Disk.{AnswersFromDisk};
 
-use crate::load::load;
+use krb_commands::load;
 use krb_text::{Files, LoadFault};
 use std::alloc::Allocator;
 use std::marker::Model;

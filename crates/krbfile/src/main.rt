@@ -1,14 +1,7 @@
 //! Shows Kerberos keytabs.
 #![tactic(auto)]
 
-mod action;
 mod disk;
-mod klist;
-mod ktfind;
-mod load;
-mod messages;
-mod options;
-mod refuse;
 mod run;
 #[cfg(test)]
 mod tests;

@@ -1,12 +1,5 @@
-//! Runs over files in memory. Images and texts are spelled out by hand.
+//! What is found in the words of a command line, and a disk that fails.
 
-mod columns;
 mod disks;
-mod finds;
 mod lines;
-mod listings;
-mod loads;
 mod lookups;
-mod messages;
-mod outputs;
-mod samples;

@@ -1,9 +1,8 @@
 //! The words of a command line.
 
-use crate::action::{Action, WordFault};
-use crate::options::{KlistWords, KtfindWords, klist_action, ktfind_action};
 use clap::error::ErrorKind;
 use clap::{Arg, ArgAction, ArgMatches, Command, Error};
+use krb_commands::{Action, KlistWords, KtfindWords, WordFault, klist_action, ktfind_action};
 use std::alloc::{AllocError, Global};
 
 fn flag<'a>(alloc: Global, id: &'a str, letter: char, help: &'a str) -> Arg<'a> {

@@ -1,6 +1,5 @@
-use super::samples::options;
-use crate::action::{Action, KlistOptions, ListKind, WordFault};
 use crate::words::parse_words;
+use krb_commands::{Action, KlistOptions, ListKind, WordFault};
 use krb_text::KtColumns;
 use krb_wire::Order;
 use std::alloc::{AllocError, Global};
@@ -33,8 +32,12 @@ fn lines_that_list(rt: HostRuntime) -> Result<(), Fail> {
         ("krbfile klist -k -- -k", Order::Little, "-k"),
         ("krbfile klist -k ", Order::Little, ""),
     ] {
+        let want = KlistOptions {
+            kind: ListKind::Keytab(KtColumns::default()),
+            v1_order: order,
+        };
         let parsed = parsed(rt.alloc(), line)?;
-        assert!(rt; lists(&parsed, options(order), file), "at {line}");
+        assert!(rt; lists(&parsed, want, file), "at {line}");
     }
     Ok(())
 }

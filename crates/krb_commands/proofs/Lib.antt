@@ -1,0 +1,5 @@
+pub mod Reading
+pub mod Faults
+pub mod Pieces
+pub mod Ends
+pub mod KeytabFile

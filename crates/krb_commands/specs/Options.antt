@@ -1,0 +1,55 @@
+-- What the words of a command ask for.
+use Rattle.std.specs.Prelude.{◌≡◌, ◌⊎◌, List, ℕ, Bool, if◌then◌else◌, None, Some, IsSome, IsNone, Ok, IsOk, IsErr, string_bytes}
+use Rattle.krb_wire.specs.declared.format.Order.{Order}
+use Rattle.krb_wire.specs.declared.format.Order.TheVariants.{Big, Little}
+use Rattle.krb_wire.specs.NameOf.{name_of}
+use Rattle.krb_wire.specs.Reading.{principal_parts}
+use Rattle.krb_text.specs.Etype.{etype_in}
+use Rattle.krb_text.specs.Numbers.{number_in}
+use Rattle.krb_commands.specs.declared.action.Action.{Action}
+use Rattle.krb_commands.specs.declared.action.Action.TheVariants.{Klist, Ktfind, Help}
+use Rattle.krb_commands.specs.declared.action.FindOptions.{FindOptions}
+use Rattle.krb_commands.specs.declared.action.KlistOptions.{KlistOptions}
+use Rattle.krb_commands.specs.declared.action.ListKind.TheVariants.{Keytab}
+use Rattle.krb_commands.specs.declared.options.KlistWords.{KlistWords}
+use Rattle.krb_commands.specs.declared.options.KtfindWords.{KtfindWords}
+
+-- the order of a keytab of version 1
+abbrev pub order_of : Bool → Order
+order_of v1_big = if v1_big then Big else Little
+
+-- the options of a listing: each column by its own word
+abbrev pub list_options : KlistWords → KlistOptions
+list_options words = record {
+  kind = Keytab (record { times = words.times; etypes = words.etypes; keys = words.keys });
+  v1_order = order_of words.v1_big;
+}
+
+-- to list the file of that name so
+abbrev pub AsksToList : Action → KlistOptions → List ℕ → Type 0
+AsksToList (Klist options file) wanted name = (options ≡ wanted) × (string_bytes file ≡ name)
+AsksToList (Ktfind options file) wanted name = ⊥
+AsksToList (Help text) wanted name = ⊥
+
+-- each option is what its own word spells
+pub record Spells {A : Type 0} (words : KtfindWords) (options : FindOptions A) : Type 0 where
+  pub kvno : number_in 32 words.kvno.now ≡ Some options.kvno
+  pub enctype : etype_in words.etype.now ≡ Some options.enctype
+  pub name : name_of words.name.now None ≡ Ok (principal_parts options.name)
+  pub v1_order : options.v1_order ≡ order_of words.v1_big
+
+-- to look up what the words spell in the file that they name
+abbrev pub AsksToFind : KtfindWords → Action → Type 0
+AsksToFind words (Klist options file) = ⊥
+AsksToFind words (Ktfind options file) = Spells words options × (string_bytes file ≡ words.file.now)
+AsksToFind words (Help text) = ⊥
+
+-- the words spell a version, an encryption type and a name
+pub record IsReadable (words : KtfindWords) : Type 0 where
+  pub kvno : IsSome (number_in 32 words.kvno.now)
+  pub enctype : IsSome (etype_in words.etype.now)
+  pub name : IsOk (name_of words.name.now None)
+
+-- one of them does not
+abbrev pub IsUnreadable : KtfindWords → Type 0
+IsUnreadable words = IsNone (number_in 32 words.kvno.now) ⊎ (IsNone (etype_in words.etype.now) ⊎ IsErr (name_of words.name.now None))

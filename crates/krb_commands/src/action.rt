@@ -1,0 +1,63 @@
+//! What a command line asks for.
+
+ghost use Rattle.std.specs.Prelude.{◌≡◌};
+ghost use Rattle.krb_commands.specs.declared.action.WordFault.TheVariants.{NoMemory};
+
+use krb_text::KtColumns;
+use krb_wire::{Order, Principal};
+use std::alloc::{AllocError, Allocator, Global};
+use thiserror::Error;
+
+/// The kind of file that klist lists, and what it shows of it.
+#[derive(Clone, Copy, Debug, PartialEq, Eq)]
+pub enum ListKind {
+    Keytab(KtColumns),
+}
+
+/// The options of klist.
+#[derive(Clone, Copy, Debug, PartialEq, Eq)]
+pub struct KlistOptions {
+    pub kind: ListKind,
+    /// The order of a keytab of version 1.
+    pub v1_order: Order,
+}
+
+/// What ktfind looks for.
+#[derive(Drop)]
+pub struct FindOptions<A: Allocator> {
+    pub name: Principal<A>,
+    /// 0 asks for the highest.
+    pub kvno: u32,
+    /// 0 asks for any.
+    pub enctype: u16,
+    /// The order of a keytab of version 1.
+    pub v1_order: Order,
+}
+
+/// What a command line asks for.
+#[derive(Drop)]
+pub enum Action {
+    /// To list the file of that name.
+    Klist(KlistOptions, String),
+    /// To look up an entry in the file of that name.
+    Ktfind(FindOptions<Global>, String),
+    /// To show that help.
+    Help(String),
+}
+
+/// Why a command line was not read.
+#[derive(Clone, Copy, Debug, PartialEq, Eq, Error)]
+pub enum WordFault {
+    #[error("bad command line")]
+    BadLine,
+    #[error("out of memory")]
+    NoMemory,
+}
+
+impl From<AllocError> for WordFault {
+    ghost from_gives = { λ _ fault. fault ≡ NoMemory };
+
+    fn from(_error: AllocError) -> WordFault {
+        WordFault::NoMemory
+    }
+}

@@ -1,0 +1,22 @@
+//! The commands over files and outputs: what each prints, what is said where it fails, and the status.
+#![tactic(auto)]
+
+mod action;
+mod keytab_file;
+mod klist;
+mod ktfind;
+mod messages;
+mod options;
+mod reader;
+mod refuse;
+mod response;
+#[cfg(test)]
+mod tests;
+
+pub use action::{Action, FindOptions, KlistOptions, ListKind, WordFault};
+pub use keytab_file::open_keytab;
+pub use klist::run_klist;
+pub use ktfind::run_ktfind;
+pub use options::{KlistWords, KtfindWords, klist_action, ktfind_action};
+pub use reader::load;
+pub use response::respond;

@@ -1,0 +1,110 @@
+//! From the words of a command to what they ask for.
+
+ghost use Rattle.std.specs.Prelude.{◌≡◌, ◌↔◌, IsTrue, IsFalse, IsOk, IsErr, OnOk, IfOk, IsErrOf, None, Ok};
+ghost use Rattle.krb_wire.specs.NameOf.{name_of};
+ghost use Rattle.krb_wire.specs.Reading.{principal_parts};
+ghost use Rattle.krb_commands.specs.Options.{order_of, list_options, Spells, IsReadable, IsUnreadable, AsksToList, AsksToFind};
+
+use crate::action::{Action, FindOptions, KlistOptions, ListKind, WordFault};
+use krb_text::{KtColumns, etype_of, parse_u32};
+use krb_wire::{NameFault, Order, Principal, parse_name};
+use std::alloc::Global;
+
+/// What the words of klist say.
+#[derive(Clone, Copy)]
+pub struct KlistWords<'a> {
+    pub keytab: bool,
+    pub times: bool,
+    pub etypes: bool,
+    pub keys: bool,
+    pub v1_big: bool,
+    pub file: &'a str,
+}
+
+/// What the words of ktfind say.
+#[derive(Clone, Copy)]
+pub struct KtfindWords<'a> {
+    pub v1_big: bool,
+    pub file: &'a str,
+    pub kvno: &'a str,
+    pub etype: &'a str,
+    pub name: &'a str,
+}
+
+fn order_of(v1_big: bool) -> Order
+    ensures { result ≡ order_of v1_big }
+{
+    if v1_big { Order::Big } else { Order::Little }
+}
+
+fn list_options(words: &KlistWords<'_>) -> KlistOptions
+    ensures { result ≡ list_options words.now }
+{
+    let columns = KtColumns {
+        times: words.times,
+        etypes: words.etypes,
+        keys: words.keys,
+    };
+    KlistOptions {
+        kind: ListKind::Keytab(columns),
+        v1_order: order_of(words.v1_big),
+    }
+}
+
+/// What the words of klist ask for. They have to name the kind of file.
+pub fn klist_action(alloc: Global, words: &KlistWords<'_>) -> Result<Action, WordFault>
+    ensures ok { IfOk result (λ action. AsksToList action (list_options words.now) words.now.file.now) }
+    ensures named { OnOk result (IsTrue words.now.keytab) }
+    ensures unnamed { IsErrOf result WordFault.BadLine ↔ IsFalse words.now.keytab }
+{
+    if !words.keytab {
+        return Err(WordFault::BadLine);
+    }
+    let file = String::from_str(alloc, words.file)?;
+    Ok(Action::Klist(list_options(words), file))
+}
+
+// The name that a word spells, with its realm.
+fn name_of(alloc: Global, text: &str) -> Result<Principal<Global>, WordFault>
+    ensures ok { IfOk result (λ name. name_of text.now None ≡ Ok (principal_parts name)) }
+    ensures bad { IsErrOf result WordFault.BadLine → IsErr (name_of text.now None) }
+    ensures memory { IsErrOf result WordFault.NoMemory → IsOk (name_of text.now None) }
+{
+    match parse_name(alloc, text.as_bytes(), None) {
+        Ok(name) => Ok(name),
+        Err(NameFault::NoMemory) => Err(WordFault::NoMemory),
+        Err(_) => Err(WordFault::BadLine),
+    }
+}
+
+// What the words say, but for the file.
+fn find_options(alloc: Global, words: &KtfindWords<'_>) -> Result<FindOptions<Global>, WordFault>
+    ensures ok { IfOk result (Spells words.now) }
+    ensures bad { IsErrOf result WordFault.BadLine → IsUnreadable words.now }
+    ensures memory { IsErrOf result WordFault.NoMemory → IsReadable words.now }
+{
+    let Some(kvno) = parse_u32(words.kvno.as_bytes()) else {
+        return Err(WordFault::BadLine);
+    };
+    let Some(enctype) = etype_of(words.etype.as_bytes()) else {
+        return Err(WordFault::BadLine);
+    };
+    Ok(FindOptions {
+        name: name_of(alloc, words.name)?,
+        kvno,
+        enctype,
+        v1_order: order_of(words.v1_big),
+    })
+}
+
+/// What the words of ktfind ask for: a number, an encryption type and a name with its realm have to be
+/// spelled by them.
+pub fn ktfind_action(alloc: Global, words: &KtfindWords<'_>) -> Result<Action, WordFault>
+    ensures ok { IfOk result (AsksToFind words.now) }
+    ensures bad { IsErrOf result WordFault.BadLine → IsUnreadable words.now }
+    ensures memory { IsErrOf result WordFault.NoMemory → IsReadable words.now }
+{
+    let options = find_options(alloc, words)?;
+    let file = String::from_str(alloc, words.file)?;
+    Ok(Action::Ktfind(options, file))
+}

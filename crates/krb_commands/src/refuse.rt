@@ -1,0 +1,52 @@
+//! What is said of a file that is not used.
+
+ghost use Rattle.std.specs.Prelude.{◌≡◌, ◌++◌, codes, decimal};
+ghost use Rattle.krb_walk.specs.Numbers.{code_number};
+ghost use Rattle.krb_commands.specs.KeytabFile.{load_message, load_status, open_message};
+ghost use Rattle.krb_commands.specs.Ktfind.{refused_message};
+ghost use Rattle.krb_commands.specs.Runs.{Says};
+
+use crate::messages::{complain, complain_number_of, complain_of};
+use krb_keytab::KtOpenFault;
+use krb_text::{LoadFault, Watched};
+use krb_walk::Code;
+use std::io::Write;
+
+/// Says why a file was not loaded, and answers the status for it.
+pub fn refuse_load<E: Write>(file: &str, fault: LoadFault, err: &mut Watched<E>) -> u8
+    ensures status { result ≡ load_status fault }
+    ensures err { Says err.old err.new (load_message file.now fault) }
+{
+    match fault {
+        LoadFault::Missing => {
+            complain_of(err, file, "no such file");
+            1
+        }
+        LoadFault::TooLarge => {
+            complain_of(err, file, "file too large");
+            1
+        }
+        LoadFault::Failed => {
+            complain_of(err, file, "cannot read");
+            3
+        }
+        LoadFault::NoMemory => {
+            complain(err, "out of memory");
+            4
+        }
+    }
+}
+
+/// Says why an image was not opened.
+pub fn refuse_image<E: Write>(file: &str, fault: KtOpenFault, err: &mut Watched<E>)
+    ensures { Says err.old err.new (open_message file.now fault) }
+{
+    complain_number_of(err, file, "not a keytab (", fault.number(), ")");
+}
+
+/// Says why a keytab refused.
+pub fn refuse_code<E: Write>(file: &str, code: Code, err: &mut Watched<E>)
+    ensures { Says err.old err.new (refused_message file.now code) }
+{
+    complain_number_of(err, file, "refused ", code.number(), "");
+}

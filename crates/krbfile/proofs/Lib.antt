@@ -1,4 +1,0 @@
-pub mod Reading
-pub mod Faults
-pub mod Pieces
-pub mod Ends

@@ -1,0 +1,10 @@
+-- What a load of a file of a disk may answer.
+use Rattle.std.specs.Prelude.{◌≡◌, ℕ, ◌≤◌, List, length, Result, Err, IfOk}
+use Rattle.krb_text.specs.declared.files.LoadFault.{LoadFault}
+use Rattle.krb_text.specs.declared.files.LoadFault.TheVariants.{Failed}
+use Rattle.krb_text.specs.Files.{CountsFailure}
+
+-- a load from a disk gives at most so many bytes, and counts a failure
+pub record AnswersFromDisk (failures failures' limit : ℕ) (answer : Result (List ℕ) LoadFault) : Type 0 where
+  pub within : IfOk answer (λ bytes. length bytes ≤ limit)
+  pub counted : answer ≡ Err Failed → CountsFailure failures failures'
