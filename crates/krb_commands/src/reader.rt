@@ -1,20 +1,83 @@
 //! Bytes out of a reader.
 
-ghost use Rattle.std.specs.Prelude.{◌≢◌, ◌≡◌, ◌+◌, ◌<◌, ◌≤◌, length, OnOk, IfOk, IfErr, IfSome, IsErrOf, vec_len};
-ghost use Rattle.std.specs.Io.KnownBytes.{IsAtEnd};
+ghost use Rattle.std.specs.Prelude.{◌≢◌, ◌≡◌, ◌+◌, ◌<◌, ◌≤◌, ◌^◌, ◌++◌, ◌⊎◌, ℕ, List, length, take, drop, OnOk, OnErr, IfOk, IfErr, IfSome, IsErrOf, vec_len};
+ghost use Rattle.std.specs.Io.KnownBytes.{Consumes, IsAtEnd, Keeps};
 ghost use Rattle.krb_commands.specs.Reader.{ConsumesAtMost};
 
 use krb_text::LoadFault;
 use std::alloc::Allocator;
 use std::io::Read;
 
-const PIECE: usize = 32 * 1024;
+/// How many bytes one read asks for at most.
+const MOST_READ: usize = 128 * 1024;
 
-/// Reads to the end, if no more than `limit` bytes are left; one byte more is read at most.
+// One read into the bytes from a place on.
+fn read_into<R: Read>(reader: &mut R, bytes: &mut [u8], at: usize) -> Result<usize, LoadFault>
+    requires { at < length bytes.old }
+    ensures front { take at bytes.new ≡ take at bytes.old }
+    ensures within { IfOk result (λ count. at + count ≤ length bytes.new) }
+    ensures given { IfOk result (λ count. Consumes (R.remaining reader.old) (R.remaining reader.new)
+        (take count (drop at bytes.new))) }
+    ensures end { IfOk result (λ count. count ≡ 0 → IsAtEnd (R.remaining reader.new)) }
+    ensures err { OnErr result (Keeps (R.remaining reader.old) (R.remaining reader.new)) }
+    ensures why { IfErr result (λ fault. fault ≡ LoadFault.Failed) }
+{
+    match reader.read(&mut bytes[at..]) {
+        Ok(count) => Ok(count),
+        Err(_) => Err(LoadFault::Failed),
+    }
+}
+
+// Reads once, at most that many bytes, and appends what is given.
+fn append_read<A: Allocator, R: Read>(
+    bytes: &mut Vec<u8, A>,
+    reader: &mut R,
+    most: usize,
+) -> Result<usize, LoadFault>
+    requires { (0 < most) × (vec_len bytes.old + most < 2 ^ 33) }
+    ensures len { IfOk result (λ count. (vec_len bytes.new ≡ vec_len bytes.old + count) × (count ≤ most)) }
+    ensures given { OnOk result ((given : List ℕ) × (bytes.new.items ≡ bytes.old.items ++ given)
+        × Consumes (R.remaining reader.old) (R.remaining reader.new) given) }
+    ensures end { IfOk result (λ count. count ≡ 0 → IsAtEnd (R.remaining reader.new)) }
+    ensures err { OnErr result (Keeps (R.remaining reader.old) (R.remaining reader.new)) }
+    ensures why { IfErr result (λ fault. (fault ≡ LoadFault.Failed) ⊎ (fault ≡ LoadFault.NoMemory)) }
+{
+    let filled = bytes.len();
+    if bytes.resize(filled + most, 0).is_err() {
+        return Err(LoadFault::NoMemory);
+    }
+    let count = read_into(reader, bytes, filled)?;
+    bytes.truncate(filled + count);
+    Ok(count)
+}
+
+// How many bytes are read next: the room that is there is filled before more is taken.
+fn next_read<A: Allocator>(bytes: &Vec<u8, A>) -> usize
+    ensures { (0 < result) × (result ≤ 131072) }
+{
+    match bytes.capacity() - bytes.len() {
+        0 => MOST_READ,
+        spare => spare.min(MOST_READ),
+    }
+}
+
+// How much room is taken at once, with a byte for the read that finds the end.
+fn first_room(expected: u64, limit: u32) -> usize
+    ensures { result ≤ limit + 1 }
+{
+    match expected.min(u64::from(limit)) {
+        0 => 0,
+        count => count as usize + 1,
+    }
+}
+
+/// Reads to the end, if no more than `limit` bytes are left; one byte more is read at most. Room for
+/// `expected` bytes, but never for more than may be read, is taken at once.
 pub fn load<A: Allocator, R: Read>(
     alloc: A,
     reader: &mut R,
     limit: u32,
+    expected: u64,
 ) -> Result<Vec<u8, A>, LoadFault>
     ensures ok { IfOk result (λ bytes. IfSome (R.remaining reader.old) (λ left. bytes.items ≡ left)) }
     ensures within { IfOk result (λ bytes. vec_len bytes ≤ limit) }
@@ -25,22 +88,17 @@ pub fn load<A: Allocator, R: Read>(
     ensures taken { ConsumesAtMost (R.remaining reader.old) (R.remaining reader.new) (limit + 1) }
 {
     let most = limit as usize;
-    let mut bytes = Vec::new(alloc);
-    let mut piece = [0u8; PIECE];
+    let Ok(mut bytes) = Vec::with_capacity(alloc, first_room(expected, limit)) else {
+        return Err(LoadFault::NoMemory);
+    };
     loop {
-        let room = PIECE.min(most - bytes.len() + 1);
-        let count = match reader.read(&mut piece[..room]) {
-            Ok(count) => count,
-            Err(_) => return Err(LoadFault::Failed),
-        };
+        let room = next_read(&bytes).min(most - bytes.len() + 1);
+        let count = append_read(&mut bytes, reader, room)?;
         if count == 0 {
             return Ok(bytes);
         }
-        if count > most - bytes.len() {
+        if bytes.len() > most {
             return Err(LoadFault::TooLarge);
-        }
-        if bytes.extend_from_slice(&piece[..count]).is_err() {
-            return Err(LoadFault::NoMemory);
         }
     }
 }

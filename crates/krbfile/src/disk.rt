@@ -7,6 +7,7 @@ ghost use Rattle.krbfile.specs.Disk.{AnswersFromDisk};
 use krb_commands::load;
 use krb_text::{Files, LoadFault};
 use std::alloc::Allocator;
+use std::fs::OpenFile;
 use std::marker::Model;
 use std::{fs, io, rt};
 
@@ -39,6 +40,14 @@ impl<'a, R: rt::Files> DiskFiles<'a, R> {
     }
 }
 
+// How long a file says that it is, or 0.
+fn length_of<F: OpenFile>(file: &F) -> u64 {
+    match file.metadata() {
+        Ok(metadata) => metadata.len(),
+        Err(_) => 0,
+    }
+}
+
 impl<R: rt::Files> Files for DiskFiles<'_, R> {
     ghost file = { λ _ _. None };
 
@@ -58,7 +67,10 @@ impl<R: rt::Files> Files for DiskFiles<'_, R> {
             return Err(LoadFault::Failed);
         }
         let loaded = match fs::open(self.rt, name) {
-            Ok(mut file) => load(alloc, &mut file, limit),
+            Ok(mut file) => {
+                let expected = length_of(&file);
+                load(alloc, &mut file, limit, expected)
+            }
             Err(error) if error.kind() == io::ErrorKind::NotFound => Err(LoadFault::Missing),
             Err(_) => Err(LoadFault::Failed),
         };

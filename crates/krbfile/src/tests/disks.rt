@@ -10,8 +10,8 @@ use std::rt;
 use std::test::Fail;
 use streams::FailingReader;
 
-/// A disk with one file, `k`. It counts its calls, of which the first opens the file and the others
-/// read it, and fails at one of them.
+/// A disk with one file, `k`. It counts its calls, of which the first opens the file, the second tells
+/// its length and the others read it, and fails at one of them.
 #[derive(Drop)]
 struct Disk<'a> {
     bytes: &'a [u8],
@@ -23,6 +23,7 @@ struct Disk<'a> {
 #[derive(Drop)]
 struct Opened<'a> {
     reader: FailingReader<'a>,
+    tells_len: bool,
     calls: &'a Cell<u64>,
 }
 
@@ -61,7 +62,11 @@ impl Seek for Opened<'_> {
 
 impl OpenFile for Opened<'_> {
     fn metadata(&self) -> io::Result<Metadata> {
-        unsupported()
+        count(self.calls);
+        if !self.tells_len {
+            return unsupported();
+        }
+        Ok(Metadata::of_file(self.reader.rest.len() as u64))
     }
 
     fn set_len(&self, _size: u64) -> io::Result<()> {
@@ -91,9 +96,10 @@ impl<'a> rt::Files for Disk<'a> {
             return Err(io::Error::from(ErrorKind::NotFound));
         }
         let mut reader = FailingReader::new(self.bytes, usize::MAX);
-        reader.fail_at_call(self.failing.saturating_sub(1));
+        reader.fail_at_call(self.failing.saturating_sub(2));
         Ok(Opened {
             reader,
+            tells_len: self.failing != 2,
             calls: self.calls,
         })
     }
@@ -135,12 +141,12 @@ impl<'a> rt::Files for Disk<'a> {
     }
 }
 
-/// A load of 70,000 bytes opens the file and reads it four times, the last time at its end. Where one of
-/// these calls fails, none comes after it, and the failure is counted.
+/// A load of 70,000 bytes opens the file, asks how long it is, and reads it twice, the second time at its
+/// end. Where it is not opened or a read fails, no call comes after that, and the failure is counted.
 #[test]
 fn each_call_fails(rt: HostRuntime) -> Result<(), Fail> {
     let bytes = vec![in rt.alloc(); 7u8; 70_000]?;
-    for failing in 1..=5u64 {
+    for failing in [1u64, 3, 4] {
         let calls = Cell::new(0u64);
         let disk = Disk {
             bytes: &bytes,
@@ -159,7 +165,27 @@ fn each_call_fails(rt: HostRuntime) -> Result<(), Fail> {
     Ok(())
 }
 
-/// No other answer counts as a failure.
+/// A file that does not tell its length is read all the same.
+#[test]
+fn a_length_that_is_not_told(rt: HostRuntime) -> Result<(), Fail> {
+    let bytes = vec![in rt.alloc(); 7u8; 70_000]?;
+    for failing in [0u64, 2] {
+        let calls = Cell::new(0u64);
+        let disk = Disk {
+            bytes: &bytes,
+            failing,
+            calls: &calls,
+        };
+        let mut files = DiskFiles::new(&disk);
+        let loaded = files.load(rt.alloc(), "k", 70_000);
+        assert!(rt; loaded.is_ok_and(|all| all.as_slice() == bytes.as_slice()));
+        assert_eq!(rt; calls.get(), 4);
+        assert_eq!(rt; files.failures(), 0);
+    }
+    Ok(())
+}
+
+/// A file that is too large, and one that is missing, do not count as failures.
 #[test]
 fn no_call_fails(rt: HostRuntime) -> Result<(), Fail> {
     let bytes = vec![in rt.alloc(); 7u8; 70_000]?;
@@ -170,9 +196,6 @@ fn no_call_fails(rt: HostRuntime) -> Result<(), Fail> {
         calls: &calls,
     };
     let mut files = DiskFiles::new(&disk);
-    let loaded = files.load(rt.alloc(), "k", 70_000);
-    assert!(rt; loaded.is_ok_and(|all| all.as_slice() == bytes.as_slice()));
-    assert_eq!(rt; calls.get(), 5);
     assert!(rt; files.load(rt.alloc(), "k", 69_999) == Err(LoadFault::TooLarge));
     assert!(rt; files.load(rt.alloc(), "no", 70_000) == Err(LoadFault::Missing));
     assert_eq!(rt; files.failures(), 0);
