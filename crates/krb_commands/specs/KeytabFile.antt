@@ -66,6 +66,6 @@ module _ {F : Type 0} (trait : Ghosts F) (old new : F) where
     pub quiet : err' ≡ err
     pub files : KeepsFiles
 
-  -- there is none: why is said, and a run ends with that status, whatever was to be done with the keytab
+  -- a file without a keytab: why is said, and a run ends with that status, whatever was to be done with the keytab
   abbrev pub EndsUnopened : List ℕ → Order → Watch → Watch → ℕ → Type 0
   EndsUnopened file order err err' status = (then_ : State → Run) (out : Watch) → IsFalse out.failed → RunsOver file (load_run then_ order file) out out err err' status
