@@ -8,10 +8,9 @@ returns-clause-given g c =
     let filled = c.len-filled.result in
     let is : filled ≡ length c.args.bytes.now.items = let ok = c.args.bytes.now.ok.0 in let len = c.len-filled.ensures in omega (arith, ok, len) in
     let len : c.resize.new.self.len ≡ length read = let auto = c.read_into.auto.bytes in let was = c.deref_mut.ensures.len in omega (arith, auto, was) in
-    let front = c.read_into.ensures.front ∙ ap (take filled) c.deref_mut.ensures.value in
-    (
+    let front = c.read_into.ensures.front ∙ ap (take filled) c.deref_mut.ensures.value in (
       take c.in_ok-count.count (drop filled read),
       c.truncate.ensures.items ∙ ap (λ (xs : List ℕ). take (filled + c.in_ok-count.count) xs) (written_back c.resize.new.self.len read _ len)
-      ∙ read_after c.args.bytes.now.items _ c.resize.new.self.items read filled c.args.most c.in_ok-count.count _ is c.resize.ensures.items front,
+          ∙ read_after c.args.bytes.now.items _ c.resize.new.self.items read filled c.args.most c.in_ok-count.count _ is c.resize.ensures.items front,
       c.in_ok-count.ensures.given,
     )
