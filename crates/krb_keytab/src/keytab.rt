@@ -38,8 +38,8 @@ impl<A: Allocator> Model for Keytab<A> {
     ghost Value = { InMemory };
 
     ghost view = { λ k. record {
-        state = record { format = k.format; limit = k.limit; contents = contents k.format (drop 2 k.image.items) };
-        room = vec_capacity k.image;
+      state = record { format = k.format; limit = k.limit; contents = contents k.format (drop 2 k.image.items) };
+      room = vec_capacity k.image;
     } };
 
     ghost invariant = { λ k. IsImage k.format k.limit k.image.items × IsKnownEnd k.format k.image.items k.end };

@@ -47,6 +47,13 @@ pub enum Step {
     End(Ending),
 }
 
+// A fault ends the cells there.
+fn damaged(kind: FaultKind) -> Step
+    ensures { result ≡ Step.End (Ending.Damaged kind) }
+{
+    Step::End(Ending::Damaged(kind))
+}
+
 fn is_entry(format: KtFormat, bytes: &[u8]) -> bool
     ensures { result ≡ is_some (entry_at format bytes.now) }
 {
@@ -64,7 +71,7 @@ pub fn next_of(format: KtFormat, bytes: &[u8]) -> Step
         if bytes.is_empty() {
             return Step::End(Ending::Bare);
         }
-        return Step::End(Ending::Damaged(FaultKind::CutLength));
+        return damaged(FaultKind::CutLength);
     };
     if field == 0 {
         return Step::End(Ending::Mark);
@@ -72,16 +79,16 @@ pub fn next_of(format: KtFormat, bytes: &[u8]) -> Step
     if field < 0x8000_0000 {
         let size = field as usize;
         if rest.len() < size {
-            return Step::End(Ending::Damaged(FaultKind::Overrun));
+            return damaged(FaultKind::Overrun);
         }
         if is_entry(format, rest.split_at(size).0) {
             return Step::Live(size);
         }
-        return Step::End(Ending::Damaged(FaultKind::BadEntry));
+        return damaged(FaultKind::BadEntry);
     }
     let size = 0x1_0000_0000 - field as usize;
     if rest.len() < size {
-        return Step::End(Ending::Damaged(FaultKind::Overrun));
+        return damaged(FaultKind::Overrun);
     }
     Step::Free(size)
 }

@@ -1,6 +1,6 @@
 //! Numbers read from decimal digits.
 
-ghost use Rattle.std.specs.Prelude.{◌≡◌, MatchOption, false, true};
+ghost use Rattle.std.specs.Prelude.{◌≡◌, MatchOption, false, nat_le, true};
 ghost use Rattle.std.specs.Char.{is_ascii_digit};
 ghost use Rattle.std.specs.List.{list_all};
 ghost use Rattle.krb_text.specs.Numbers.{is_numeral, number_in};
@@ -11,10 +11,17 @@ fn are_digits(text: &[u8]) -> bool
     text.iter().all(u8::is_ascii_digit)
 }
 
+// Numbers of 32 bits have at most ten digits.
+fn are_few(count: usize) -> bool
+    ensures { result ≡ nat_le count 10 }
+{
+    count <= 10
+}
+
 fn is_numeral(text: &[u8]) -> bool
     ensures { result ≡ is_numeral text.now }
 {
-    !text.is_empty() && text.len() <= 10 && are_digits(text)
+    !text.is_empty() && are_few(text.len()) && are_digits(text)
 }
 
 fn numeral(text: &[u8]) -> Option<&str>
