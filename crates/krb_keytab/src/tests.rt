@@ -14,8 +14,8 @@ mod turns;
 mod walks;
 
 use crate::{EditRefused, Keytab, KtOpenFault, KtOpenRefused, edit_image};
-use krb_walk::{Event, FaultKind, Stop};
-use krb_wire::{KtFormat, Limits, Name, Order};
+use krb_walk::Event;
+use krb_wire::{Limits, Name, Order};
 use std::alloc::Global;
 use std::test::Fail;
 
@@ -32,32 +32,6 @@ fn opened(
     v1_order: Order,
 ) -> Result<Result<Keytab<Global>, KtOpenRefused<Global>>, Fail> {
     Ok(Keytab::open(Vec::from_slice(alloc, image)?, v1_order, Limits::usual()))
-}
-
-#[test]
-fn places_of_two_records(rt: HostRuntime) -> Result<(), Fail> {
-    let Ok(keytab) = opened(rt.alloc(), TWO, Order::Little)? else {
-        return Err(Fail::from("refused"));
-    };
-    assert!(rt; keytab.format() == KtFormat::V2);
-    assert_eq!(rt; (keytab.first(), keytab.end()), (2, 98));
-    assert!(rt; keytab.fault().is_none());
-    for place in 0..=102 {
-        let wanted = match place {
-            2 => Some(Stop::Live { place, next: 53 }),
-            53 => Some(Stop::Live { place, next: 98 }),
-            98 => Some(Stop::End { next: 98 }),
-            _ => None,
-        };
-        if keytab.is_place(place) {
-            assert!(rt; Some(keytab.stop_at(place)) == wanted, "{place}");
-        } else {
-            assert!(rt; wanted.is_none(), "{place}");
-        }
-    }
-    assert!(rt; keytab.image() == TWO.as_slice());
-    assert!(rt; keytab.into_image().as_slice() == TWO.as_slice());
-    Ok(())
 }
 
 #[test]

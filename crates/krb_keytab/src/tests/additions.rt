@@ -5,9 +5,7 @@ use super::records::{B, B_AND_ZEROS, B_BYTES, HEAD, HIGH_KEY, HOST, VERSION_1, V
 use super::turns::Told::{Ended, Gave, Gone, Placed, Refused, Started};
 use super::turns::Turn::{Cut, Put, Resume, Step};
 use super::turns::{PUT_B, PUT_HOST, Row, check, check_row};
-use crate::Keytab;
 use krb_walk::{Code, Refusal};
-use krb_wire::{KtFormat, Limits, Order};
 use std::test::Fail;
 
 /// A hole that is one byte too small for `b@R`.
@@ -94,72 +92,36 @@ fn where_records_are_put(rt: HostRuntime) -> Result<(), Fail> {
     check(&rt, ROWS)
 }
 
-/// Limits, and images that they leave room in or not.
-const LIMITED: &[(u32, Row<'static>)] = &[
-    (
-        98,
-        Row {
-            name: "a full keytab takes a record in the place of another alone",
-            before: &[HEAD, HOST, B],
-            turns: &[
-                (PUT_B, Refused(Code::Full)),
-                (Cut(2), Gone(2)),
-                (PUT_B, Placed(2)),
-            ],
-            after: &[HEAD, b"\0\0\0\x2f", B_AND_ZEROS, B],
-        },
-    ),
-    (
-        46,
-        Row {
-            name: "a record of one byte too many",
-            before: &[HEAD],
-            turns: &[(PUT_B, Refused(Code::Full))],
-            after: &[HEAD],
-        },
-    ),
-    (
-        47,
-        Row {
-            name: "a record that just fits",
-            before: &[HEAD],
-            turns: &[(PUT_B, Placed(2))],
-            after: &[HEAD, B],
-        },
-    ),
-    (
-        50,
-        Row {
-            name: "a record and an end mark of one byte too many",
-            before: &[HEAD, b"\0\0\0\0"],
-            turns: &[(PUT_B, Refused(Code::Full))],
-            after: &[HEAD, b"\0\0\0\0"],
-        },
-    ),
-    (
-        51,
-        Row {
-            name: "a record and an end mark that just fit",
-            before: &[HEAD, b"\0\0\0\0"],
-            turns: &[(PUT_B, Placed(2))],
-            after: &[HEAD, B, b"\0\0\0\0"],
-        },
-    ),
-];
+const FULL: Row<'static> = Row {
+    name: "a full keytab takes a record in the place of another alone",
+    before: &[HEAD, HOST, B],
+    turns: &[
+        (PUT_B, Refused(Code::Full)),
+        (Cut(2), Gone(2)),
+        (PUT_B, Placed(2)),
+    ],
+    after: &[HEAD, b"\0\0\0\x2f", B_AND_ZEROS, B],
+};
 
+/// A record that just fits the limit is no Full, with an end mark after it or without.
 #[test]
 fn additions_under_limits(rt: HostRuntime) -> Result<(), Fail> {
-    for (limit, row) in LIMITED {
-        check_row(&rt, *limit, row)?;
-    }
-    Ok(())
-}
-
-#[test]
-fn a_new_keytab_of_version_1(rt: HostRuntime) -> Result<(), Fail> {
-    match Keytab::create(rt.alloc(), KtFormat::V1(Order::Little), Limits::usual()) {
-        Ok(keytab) => assert!(rt; keytab.image() == b"\x05\x01".as_slice()),
-        Err(_) => return Err(Fail::from("no memory")),
+    check_row(&rt, 98, &FULL)?;
+    for (mark, limit) in [(b"".as_slice(), 47), (b"\0\0\0\0", 51)] {
+        let short = Row {
+            name: "a record of one byte too many",
+            before: &[HEAD, mark],
+            turns: &[(PUT_B, Refused(Code::Full))],
+            after: &[HEAD, mark],
+        };
+        check_row(&rt, limit - 1, &short)?;
+        let enough = Row {
+            name: "a record that just fits",
+            before: &[HEAD, mark],
+            turns: &[(PUT_B, Placed(2))],
+            after: &[HEAD, B, mark],
+        };
+        check_row(&rt, limit, &enough)?;
     }
     Ok(())
 }

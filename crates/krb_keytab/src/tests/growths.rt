@@ -7,23 +7,23 @@ use super::turns::Turn::{Cut, Rewrite, Start, Step};
 use super::turns::{PUT_B, PUT_HOST, Row, check_outcome, edited, events_of};
 use crate::{Keytab, NewEntry};
 use krb_walk::{Event, Refusal, Reply, Session};
-use krb_wire::{KtFormat, Limits};
+use krb_wire::{KtFormat, Limits, Order};
 use refusing::{Refusing, refuse_each};
 use std::alloc::{Allocator, Global};
 use std::process::Abort;
 use std::test::Fail;
 
-#[test]
-fn growths_of_a_new_keytab(rt: HostRuntime) -> Result<(), Fail> {
-    let requests = refuse_each(rt.alloc(), 100, |heap, n| {
-        heap.refuse(n);
-        match Keytab::create(heap, KtFormat::V2, Limits::usual()) {
-            Ok(keytab) => assert!(rt; !heap.refused() && keytab.image() == HEAD),
-            Err(_) => assert!(rt; heap.refused()),
-        }
-        Ok(())
-    })?;
-    assert!(rt; requests >= 1, "{requests}");
+fn create<R: Abort>(
+    rt: &R,
+    heap: &Refusing<Global>,
+    n: u64,
+    of: (KtFormat, &[u8]),
+) -> Result<(), Fail> {
+    heap.refuse(n);
+    match Keytab::create(heap, of.0, Limits::usual()) {
+        Ok(keytab) => assert!(rt; !heap.refused() && keytab.image() == of.1),
+        Err(_) => assert!(rt; heap.refused()),
+    }
     Ok(())
 }
 
@@ -44,13 +44,6 @@ fn copy<R: Abort + AllocGlobal>(rt: &R, heap: &Refusing<Global>, n: u64) -> Resu
     Ok(())
 }
 
-#[test]
-fn growths_of_a_copy(rt: HostRuntime) -> Result<(), Fail> {
-    let requests = refuse_each(rt.alloc(), 100, |heap, n| copy(&rt, heap, n))?;
-    assert!(rt; requests >= 5, "{requests}");
-    Ok(())
-}
-
 fn add<R: Abort + AllocGlobal>(rt: &R, heap: &Refusing<Global>, n: u64) -> Result<(), Fail> {
     let added = b(rt.alloc())?;
     let mut keytab = keytab_of(joined(heap, &[HEAD, HOST])?, USUAL)?;
@@ -62,13 +55,6 @@ fn add<R: Abort + AllocGlobal>(rt: &R, heap: &Refusing<Global>, n: u64) -> Resul
         assert_eq!(rt; keytab.add(&added), Ok(53));
     }
     assert!(rt; keytab.image() == joined(rt.alloc(), &[HEAD, HOST, B])?.as_slice());
-    Ok(())
-}
-
-#[test]
-fn growths_of_an_addition(rt: HostRuntime) -> Result<(), Fail> {
-    let requests = refuse_each(rt.alloc(), 100, |heap, n| add(&rt, heap, n))?;
-    assert!(rt; requests >= 1, "{requests}");
     Ok(())
 }
 
@@ -87,23 +73,14 @@ const EDIT: Row<'static> = Row {
 /// The image handed back is the one after the events that have a reply: the rest leads to the same image.
 fn edit<R: Abort + AllocGlobal>(rt: &R, heap: &Refusing<Global>, n: u64) -> Result<(), Fail> {
     let events = events_of(heap, EDIT.turns)?;
-    let mut image = joined(heap, EDIT.before)?;
+    let image = joined(heap, EDIT.before)?;
     let mut replies = Vec::new(heap);
     heap.refuse(n);
-    for attempt in 0..2 {
-        let rest = events.get(replies.len()..).ok_or("too many replies")?;
-        let (after, ran_out) = edited(image, USUAL, rest, &mut replies)?;
-        image = after;
-        assert!(rt; ran_out == (attempt == 0 && heap.refused()));
-    }
+    let (image, ran_out) = edited(image, USUAL, &events, &mut replies)?;
+    let rest = events.get(replies.len()..).ok_or("too many replies")?;
+    let (image, is_again) = edited(image, USUAL, rest, &mut replies)?;
+    assert!(rt; ran_out == heap.refused() && !is_again);
     check_outcome(rt, &EDIT, &replies, &image)
-}
-
-#[test]
-fn growths_of_an_edit(rt: HostRuntime) -> Result<(), Fail> {
-    let requests = refuse_each(rt.alloc(), 100, |heap, n| edit(&rt, heap, n))?;
-    assert!(rt; requests >= 2, "{requests}");
-    Ok(())
 }
 
 const WALK: Row<'static> = Row {
@@ -127,6 +104,20 @@ fn runs_out<A: Allocator + Copy>(
     session.run(events, replies).is_err()
 }
 
+/// Whether memory ran out in a run: then the rest of the events was run afterwards.
+fn walked<A: Allocator + Copy>(
+    session: &mut Session<Keytab<A>, A>,
+    events: &[Event<NewEntry<A>>],
+    replies: &mut Vec<Reply<A>, A>,
+) -> Result<bool, Fail> {
+    let ran_out = runs_out(session, events, replies);
+    let rest = events.get(replies.len()..).ok_or("too many replies")?;
+    if runs_out(session, rest, replies) {
+        return Err(Fail::from("refused again"));
+    }
+    Ok(ran_out)
+}
+
 /// The store and its walk are as after the events that have a reply: the replies together are the same.
 fn walk<R: Abort + AllocGlobal>(rt: &R, heap: &Refusing<Global>, n: u64) -> Result<(), Fail> {
     let events = events_of(heap, WALK.turns)?;
@@ -134,17 +125,21 @@ fn walk<R: Abort + AllocGlobal>(rt: &R, heap: &Refusing<Global>, n: u64) -> Resu
     let mut session = Session::new(heap, keytab);
     let mut replies = Vec::new(heap);
     heap.refuse(n);
-    for attempt in 0..2 {
-        let rest = events.get(replies.len()..).ok_or("too many replies")?;
-        let ran_out = runs_out(&mut session, rest, &mut replies);
-        assert!(rt; ran_out == (attempt == 0 && heap.refused()));
-    }
+    let ran_out = walked(&mut session, &events, &mut replies)?;
+    assert!(rt; ran_out == heap.refused());
     check_outcome(rt, &WALK, &replies, session.store().image())
 }
 
 #[test]
-fn growths_of_a_run_with_a_rewrite(rt: HostRuntime) -> Result<(), Fail> {
-    let requests = refuse_each(rt.alloc(), 100, |heap, n| walk(&rt, heap, n))?;
-    assert!(rt; requests >= 3, "{requests}");
+fn each_growth_is_refused_in_turn(rt: HostRuntime) -> Result<(), Fail> {
+    let heap = rt.alloc();
+    let first = (KtFormat::V1(Order::Little), b"\x05\x01".as_slice());
+    assert!(rt; refuse_each(heap, 100, |heap, n| create(&rt, heap, n, first))? >= 1);
+    let second = (KtFormat::V2, HEAD);
+    assert!(rt; refuse_each(heap, 100, |heap, n| create(&rt, heap, n, second))? >= 1);
+    assert!(rt; refuse_each(heap, 100, |heap, n| copy(&rt, heap, n))? >= 5);
+    assert!(rt; refuse_each(heap, 100, |heap, n| add(&rt, heap, n))? >= 1);
+    assert!(rt; refuse_each(heap, 100, |heap, n| edit(&rt, heap, n))? >= 2);
+    assert!(rt; refuse_each(heap, 100, |heap, n| walk(&rt, heap, n))? >= 3);
     Ok(())
 }

@@ -36,19 +36,11 @@ fn places_without_a_record(rt: HostRuntime) -> Result<(), Fail> {
     let heap = Refusing::new(rt.alloc());
     let hole = b"\xff\xff\xff\xfe\x01\x02".as_slice();
     let mut keytab = without_memory(&heap, &[HEAD, HOST, hole, B])?;
-    for (place, removed) in [
-        (0, Err(Code::NotLive)),
-        (1, Err(Code::NotLive)),
-        (3, Err(Code::NotLive)),
-        (53, Err(Code::NotLive)),
-        (54, Err(Code::NotLive)),
-        (104, Err(Code::NotLive)),
-        (u32::MAX, Err(Code::NotLive)),
-        (59, Ok(())),
-        (59, Err(Code::NotLive)),
-    ] {
-        assert_eq!(rt; keytab.remove_at(place), removed, "{place}");
+    for place in [0, 1, 3, 53, 54, 104, u32::MAX] {
+        assert_eq!(rt; keytab.remove_at(place), Err(Code::NotLive), "{place}");
     }
+    assert_eq!(rt; keytab.remove_at(59), Ok(()));
+    assert_eq!(rt; keytab.remove_at(59), Err(Code::NotLive));
     leaves(
         &rt,
         keytab,

@@ -7,6 +7,7 @@ use super::turns::Told::{Ended, Faulted, Gave, Gone, Placed, Refused, Started};
 use super::turns::Turn::{Cut, Resume, Start, Step};
 use super::turns::{PUT_B, PUT_C, Row, Told, Turn, check, check_row};
 use krb_walk::{Code, FaultKind};
+use std::process::Abort;
 use std::test::Fail;
 
 const ROWS: &[Row<'static>] = &[
@@ -149,22 +150,29 @@ fn end_of_front(len: usize) -> Told<'static> {
     }
 }
 
-/// Of a keytab cut off anywhere a walk gives the records that are whole, and then says what is wrong.
+/// Asserts so of the first so many bytes: a walk gives the records that are whole, then says what is wrong.
+fn check_front<R: Abort + AllocGlobal>(rt: &R, len: usize, front: &[u8]) -> Result<(), Fail> {
+    let start = (Start, Started(0, 2));
+    let host = (Step(0), Gave(0, 2, 53, HOST_BYTES));
+    let b = (Step(0), Gave(0, 53, 98, B_BYTES));
+    let end = (Step(0), end_of_front(len));
+    let name = "a keytab cut off";
+    match len {
+        98 => check_row(
+            rt,
+            USUAL,
+            &unchanged(name, &[front], &[start, host, b, end]),
+        ),
+        53..=97 => check_row(rt, USUAL, &unchanged(name, &[front], &[start, host, end])),
+        _ => check_row(rt, USUAL, &unchanged(name, &[front], &[start, end])),
+    }
+}
+
 #[test]
 fn a_keytab_cut_off_gives_its_whole_records(rt: HostRuntime) -> Result<(), Fail> {
     for len in 2..=98 {
-        let image = [TWO.get(..len).ok_or("no such front")?];
-        let start = (Start, Started(0, 2));
-        let host = (Step(0), Gave(0, 2, 53, HOST_BYTES));
-        let b = (Step(0), Gave(0, 53, 98, B_BYTES));
-        let end = (Step(0), end_of_front(len));
-        let (two, one, none) = ([start, host, b, end], [start, host, end], [start, end]);
-        let turns = match len {
-            98 => two.as_slice(),
-            53..=97 => &one,
-            _ => &none,
-        };
-        check_row(&rt, USUAL, &unchanged("a keytab cut off", &image, turns))?;
+        let front = TWO.get(..len).ok_or("no such front")?;
+        check_front(&rt, len, front)?;
     }
     Ok(())
 }
