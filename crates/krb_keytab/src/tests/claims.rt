@@ -55,18 +55,20 @@ fn a_length_cut_off(rt: HostRuntime) -> Result<(), Fail> {
 }
 
 /// Asserts that a keytab of the first so many bytes of an entry is whole from 43 bytes on.
-fn check_front<R: Abort + AllocGlobal>(rt: &R, n: u8, pieces: &[&[u8]]) -> Result<(), Fail> {
+fn check_front<R: Abort + AllocGlobal>(rt: &R, n: u8, front: &[u8]) -> Result<(), Fail> {
+    let length = [0, 0, 0, n];
+    let pieces = [HEAD, &length, front];
     if n < 43 {
-        return check(rt, NO_ENTRY, pieces);
+        return check(rt, NO_ENTRY, &pieces);
     }
     let heap = Refusing::new(rt.alloc());
-    let keytab = without_memory(&heap, pieces)?;
+    let keytab = without_memory(&heap, &pieces)?;
     assert!(rt;
         keytab.entry_at(2).is_some() && keytab.fault().is_none(),
         "{n}"
     );
     assert_eq!(rt; keytab.end(), n as u32 + 6, "{n}");
-    leaves(rt, keytab, pieces)
+    leaves(rt, keytab, &pieces)
 }
 
 /// 43 bytes are an entry, without a 32-bit version, and fewer are none.
@@ -74,7 +76,7 @@ fn check_front<R: Abort + AllocGlobal>(rt: &R, n: u8, pieces: &[&[u8]]) -> Resul
 fn an_entry_cut_off(rt: HostRuntime) -> Result<(), Fail> {
     for n in 1..48u8 {
         let front = HOST.get(4..n as usize + 4).ok_or("too long")?;
-        check_front(&rt, n, &[HEAD, &[0, 0, 0, n], front])?;
+        check_front(&rt, n, front)?;
     }
     Ok(())
 }

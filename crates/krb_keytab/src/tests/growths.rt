@@ -104,30 +104,32 @@ fn runs_out<A: Allocator + Copy>(
     session.run(events, replies).is_err()
 }
 
-/// Whether memory ran out in a run: then the rest of the events was run afterwards.
+/// The image after a session of these events, and whether memory ran out: then the rest of the events was
+/// run afterwards.
 fn walked<A: Allocator + Copy>(
-    session: &mut Session<Keytab<A>, A>,
+    alloc: A,
+    keytab: Keytab<A>,
     events: &[Event<NewEntry<A>>],
     replies: &mut Vec<Reply<A>, A>,
-) -> Result<bool, Fail> {
-    let ran_out = runs_out(session, events, replies);
+) -> Result<(Vec<u8, A>, bool), Fail> {
+    let mut session = Session::new(alloc, keytab);
+    let ran_out = runs_out(&mut session, events, replies);
     let rest = events.get(replies.len()..).ok_or("too many replies")?;
-    if runs_out(session, rest, replies) {
+    if runs_out(&mut session, rest, replies) {
         return Err(Fail::from("refused again"));
     }
-    Ok(ran_out)
+    Ok((session.into_store().into_image(), ran_out))
 }
 
 /// The store and its walk are as after the events that have a reply: the replies together are the same.
 fn walk<R: Abort + AllocGlobal>(rt: &R, heap: &Refusing<Global>, n: u64) -> Result<(), Fail> {
     let events = events_of(heap, WALK.turns)?;
     let keytab = keytab_of(joined(heap, WALK.before)?, USUAL)?;
-    let mut session = Session::new(heap, keytab);
     let mut replies = Vec::new(heap);
     heap.refuse(n);
-    let ran_out = walked(&mut session, &events, &mut replies)?;
+    let (image, ran_out) = walked(heap, keytab, &events, &mut replies)?;
     assert!(rt; ran_out == heap.refused());
-    check_outcome(rt, &WALK, &replies, session.store().image())
+    check_outcome(rt, &WALK, &replies, &image)
 }
 
 #[test]
