@@ -40,15 +40,17 @@ pub fn without_memory<'a>(
     keytab_of(image, USUAL)
 }
 
-/// Asserts that the keytab has become these pieces and made no request.
+/// Asserts that the keytab has become these pieces, made no request, and gives its memory back.
 pub fn leaves<R: Abort + AllocGlobal>(
     rt: &R,
     keytab: Keytab<&Refusing<Global>>,
     pieces: &[&[u8]],
 ) -> Result<(), Fail> {
     let image = keytab.into_image();
+    let heap = *image.allocator();
     assert!(rt; image.as_slice() == joined(rt.alloc(), pieces)?.as_slice());
-    assert_eq!(rt; image.allocator().requests(), 0);
+    drop(image);
+    assert_eq!(rt; (heap.requests(), heap.live_blocks()), (0, 0));
     Ok(())
 }
 
