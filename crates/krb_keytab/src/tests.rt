@@ -1,6 +1,5 @@
 mod additions;
 mod claims;
-mod edits;
 mod growths;
 mod look_up;
 mod made;
@@ -11,11 +10,12 @@ mod records;
 mod removals;
 mod rewrites;
 mod sessions;
+mod turns;
 mod walks;
 
-use crate::{Keytab, KtOpenFault, KtOpenRefused};
-use krb_walk::{FaultKind, Stop};
-use krb_wire::{KtFormat, Limits, Name, Order};
+use crate::{EditRefused, Keytab, KtOpenFault, KtOpenRefused, edit_image};
+use krb_walk::Event;
+use krb_wire::{Limits, Name, Order};
 use std::alloc::Global;
 use std::test::Fail;
 
@@ -35,43 +35,6 @@ fn opened(
 }
 
 #[test]
-fn places_of_two_records(rt: HostRuntime) -> Result<(), Fail> {
-    let Ok(keytab) = opened(rt.alloc(), TWO, Order::Little)? else {
-        return Err(Fail::from("refused"));
-    };
-    assert!(rt; keytab.format() == KtFormat::V2);
-    assert_eq!(rt; keytab.first(), 2);
-    assert_eq!(rt; keytab.end(), 98);
-    assert!(rt; keytab.fault().is_none());
-    for (place, is_one) in [
-        (0, false),
-        (2, true),
-        (3, false),
-        (53, true),
-        (54, false),
-        (98, true),
-        (102, false),
-    ] {
-        assert_eq!(rt; keytab.is_place(place), is_one, "{place}");
-    }
-    if keytab.is_place(53) {
-        assert!(rt;
-            keytab.stop_at(53)
-                == Stop::Live {
-                    place: 53,
-                    next: 98
-                }
-        );
-    }
-    if keytab.is_place(98) {
-        assert!(rt; keytab.stop_at(98) == Stop::End { next: 98 });
-    }
-    assert!(rt; keytab.image() == TWO.as_slice());
-    assert!(rt; keytab.into_image().as_slice() == TWO.as_slice());
-    Ok(())
-}
-
-#[test]
 fn entry_at_a_place(rt: HostRuntime) -> Result<(), Fail> {
     let Ok(keytab) = opened(rt.alloc(), TWO, Order::Little)? else {
         return Err(Fail::from("refused"));
@@ -87,43 +50,41 @@ fn entry_at_a_place(rt: HostRuntime) -> Result<(), Fail> {
     assert_eq!(rt; entry.principal().count(), 1);
     assert!(rt; entry.principal().component(0) == Some(b"b".as_slice()));
     assert!(rt; entry.principal().component(1).is_none());
-    assert!(rt; keytab.entry_at(54).is_none());
-    assert!(rt; keytab.entry_at(98).is_none());
+    assert!(rt; keytab.entry_at(54).is_none() && keytab.entry_at(98).is_none());
     Ok(())
 }
 
-#[test]
-fn what_stands_before_a_fault(rt: HostRuntime) -> Result<(), Fail> {
-    let Ok(keytab) = opened(rt.alloc(), &TWO[..97], Order::Little)? else {
-        return Err(Fail::from("refused"));
-    };
-    assert_eq!(rt; keytab.end(), 53);
-    let fault = keytab.fault().ok_or("no fault")?;
-    assert_eq!(rt; fault.place, 53);
-    assert!(rt; fault.kind == FaultKind::Overrun);
-    assert!(rt; keytab.entry_at(2).is_some());
-    assert!(rt; keytab.entry_at(53).is_none());
-    Ok(())
-}
-
+/// An image that is no keytab is handed back by `open` and by an edit.
 #[test]
 fn images_that_are_no_keytabs(rt: HostRuntime) -> Result<(), Fail> {
-    for (image, why) in [
-        (b"\x05".as_slice(), KtOpenFault::TooShort),
-        (b"\x05\x03".as_slice(), KtOpenFault::BadVersion),
-        (b"\x04\x02".as_slice(), KtOpenFault::BadVersion),
+    let small = Limits::of(2).ok_or("no limit of 2")?;
+    for (image, limits, why) in [
+        (b"".as_slice(), Limits::usual(), KtOpenFault::TooShort),
+        (b"\x05", Limits::usual(), KtOpenFault::TooShort),
+        (b"\x05\x03", Limits::usual(), KtOpenFault::BadVersion),
+        (b"\x04\x02", Limits::usual(), KtOpenFault::BadVersion),
+        (b"\x05\x02\0", small, KtOpenFault::TooLarge),
     ] {
-        let Err(refused) = opened(rt.alloc(), image, Order::Little)? else {
+        let bytes = Vec::from_slice(rt.alloc(), image)?;
+        let Err(refused) = Keytab::open(bytes, Order::Little, limits) else {
             return Err(Fail::from("opened"));
         };
-        assert!(rt; refused.why == why);
-        assert!(rt; refused.image.as_slice() == image);
+        assert!(rt; refused.why == why && refused.image.as_slice() == image);
+        let mut replies = Vec::new(rt.alloc());
+        match edit_image(
+            rt.alloc(),
+            refused.image,
+            Order::Little,
+            limits,
+            &[Event::Start],
+            &mut replies,
+        ) {
+            Err(EditRefused::NotAKeytab(refused)) => {
+                assert!(rt; refused.why == why && refused.image.as_slice() == image);
+            }
+            _ => return Err(Fail::from("edited")),
+        }
+        assert!(rt; replies.is_empty());
     }
-    let limits = Limits::of(2).ok_or("no limit of 2")?;
-    let three = Vec::from_slice(rt.alloc(), b"\x05\x02\0")?;
-    let Err(refused) = Keytab::open(three, Order::Little, limits) else {
-        return Err(Fail::from("opened"));
-    };
-    assert!(rt; refused.why == KtOpenFault::TooLarge);
     Ok(())
 }

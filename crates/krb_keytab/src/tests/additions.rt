@@ -1,149 +1,149 @@
-use super::made::{b, entry, host, joined, limited, opened};
-use super::records::{B, HEAD, HIGH_KEY, HOST, VERSION_1};
-use crate::Keytab;
+//! Where an addition puts its record, and what stands there then.
+
+use super::made::{USUAL, b, joined, keytab_of};
+use super::records::{B, B_AND_ZEROS, B_BYTES, HEAD, HIGH_KEY, HOST, VERSION_1, VERSION_1_BYTES};
+use super::turns::Told::{Ended, Gave, Gone, Placed, Refused, Started};
+use super::turns::Turn::{Cut, Put, Resume, Step};
+use super::turns::{PUT_B, PUT_HOST, Row, check, check_row};
 use krb_walk::{Code, Refusal};
-use krb_wire::{KtFormat, Limits, Name, Order};
 use std::test::Fail;
 
-/// Records of 98 bytes, and a limit of 98: a record more has room only in the place of another.
-#[test]
-fn a_full_keytab(rt: HostRuntime) -> Result<(), Fail> {
-    let alloc = rt.alloc();
-    let mut keytab = limited(alloc, &[HEAD, HOST, B], 98)?;
-    let added = b(alloc)?;
-    assert_eq!(rt; keytab.add(&added), Err(Refusal::Code(Code::Full)));
-    assert!(rt; keytab.image() == joined(alloc, &[HEAD, HOST, B])?.as_slice());
-    assert_eq!(rt; keytab.remove_at(2), Ok(()));
-    assert_eq!(rt; keytab.add(&added), Ok(2));
-    let want = joined(alloc, &[HEAD, b"\0\0\0\x2f", &B[4..], b"\0\0\0\0\0\0", B])?;
-    assert_eq!(rt; want.len(), 98);
-    assert!(rt; keytab.image() == want.as_slice());
-    Ok(())
-}
+/// A hole that is one byte too small for `b@R`.
+const SMALL: &[u8] = b"\xff\xff\xff\xd8a hole that is one byte too small for it";
 
-/// The first hole that is large enough takes the record, also where a later one would fit it better.
-#[test]
-fn the_first_hole(rt: HostRuntime) -> Result<(), Fail> {
-    let alloc = rt.alloc();
-    let zeros = [0u8; 47];
-    let better = joined(alloc, &[b"\xff\xff\xff\xd7", &zeros[..41]])?;
-    let mut keytab = opened(
-        alloc,
-        &[HEAD, b"\xff\xff\xff\xd1", &zeros, better.as_slice()],
-    )?;
-    let added = b(alloc)?;
-    assert_eq!(rt; keytab.add(&added), Ok(2));
-    let taken = joined(alloc, &[HEAD, b"\0\0\0\x2f", &B[4..], b"\0\0\0\0\0\0"])?;
-    assert!(rt;
-        keytab.image() == joined(alloc, &[taken.as_slice(), better.as_slice()])?.as_slice()
-    );
-    assert_eq!(rt; keytab.end(), 98);
-    Ok(())
-}
-
-/// A hole that is one byte too small is passed by, and one whose bytes are no zeros holds none of them
-/// after.
-#[test]
-fn holes_of_other_sizes(rt: HostRuntime) -> Result<(), Fail> {
-    let alloc = rt.alloc();
-    let small = b"\xff\xff\xff\xd8a hole that is one byte too small for it".as_slice();
-    let large = b"\xff\xff\xff\xd5a hole that is large enough, with old bytes".as_slice();
-    let mut keytab = opened(alloc, &[HEAD, small, large])?;
-    let added = b(alloc)?;
-    assert_eq!(rt; keytab.add(&added), Ok(46));
-    let want = joined(alloc, &[HEAD, small, b"\0\0\0\x2b", &B[4..], b"\0\0"])?;
-    assert!(rt; keytab.image() == want.as_slice());
-    Ok(())
-}
-
-/// What stood after an end mark is gone after an addition, however much it was.
-#[test]
-fn what_stands_behind_an_end_mark(rt: HostRuntime) -> Result<(), Fail> {
-    let alloc = rt.alloc();
-    let rest = [0xffu8; 50];
-    let added = b(alloc)?;
-    let want = joined(alloc, &[HEAD, HOST, B, b"\0\0\0\0"])?;
-    assert_eq!(rt; want.len(), 102);
-    for behind in [20usize, 50, 0] {
-        let mut keytab = opened(alloc, &[HEAD, HOST, b"\0\0\0\0", &rest[..behind]])?;
-        assert_eq!(rt; keytab.add(&added), Ok(53), "{behind}");
-        assert!(rt; keytab.image() == want.as_slice(), "{behind}");
-        assert_eq!(rt; keytab.end(), 98, "{behind}");
-    }
-    Ok(())
-}
-
-#[test]
-fn version_1_leaves_the_name_type_out(rt: HostRuntime) -> Result<(), Fail> {
-    let alloc = rt.alloc();
-    let format = KtFormat::V1(Order::Little);
-    let Ok(mut keytab) = Keytab::create(alloc, format, Limits::usual()) else {
-        return Err(Fail::from("no memory"));
-    };
-    assert!(rt; keytab.image() == b"\x05\x01".as_slice());
-    let added = host(alloc)?;
-    assert_eq!(rt; keytab.add(&added), Ok(2));
-    assert!(rt; keytab.image() == VERSION_1);
-    let read = keytab.entry_at(2).ok_or("no entry at 2")?;
-    assert_eq!(rt; read.principal().name_type(), 0);
-    assert!(rt; read.principal().component(0) == Some(b"host".as_slice()));
-    assert_eq!(rt; read.timestamp(), 1_700_000_000);
-    Ok(())
-}
+const ROWS: &[Row<'static>] = &[
+    Row {
+        name: "the first hole that is large enough, also where a later one would fit better",
+        before: &[
+            HEAD,
+            b"\xff\xff\xff\xd1",
+            &[0; 47],
+            b"\xff\xff\xff\xd7",
+            &[0; 41],
+        ],
+        turns: &[
+            (PUT_B, Placed(2)),
+            (Resume(98), Started(0, 98)),
+            (Step(0), Ended(0, 98)),
+        ],
+        after: &[
+            HEAD,
+            b"\0\0\0\x2f",
+            B_AND_ZEROS,
+            b"\xff\xff\xff\xd7",
+            &[0; 41],
+        ],
+    },
+    Row {
+        name: "a hole one byte too small is passed by, and old bytes become zeros",
+        before: &[
+            HEAD,
+            SMALL,
+            b"\xff\xff\xff\xd5a hole that is large enough, with old bytes",
+        ],
+        turns: &[(PUT_B, Placed(46))],
+        after: &[HEAD, SMALL, b"\0\0\0\x2b", B_BYTES, b"\0\0"],
+    },
+    Row {
+        name: "50 bytes after an end mark are gone",
+        before: &[HEAD, HOST, b"\0\0\0\0", &[0xff; 50]],
+        turns: &[
+            (PUT_B, Placed(53)),
+            (Resume(98), Started(0, 98)),
+            (Step(0), Ended(0, 98)),
+        ],
+        after: &[HEAD, HOST, B, b"\0\0\0\0"],
+    },
+    Row {
+        name: "an end mark with nothing after it is moved",
+        before: &[HEAD, HOST, b"\0\0\0\0"],
+        turns: &[
+            (PUT_B, Placed(53)),
+            (Resume(98), Started(0, 98)),
+            (Step(0), Ended(0, 98)),
+        ],
+        after: &[HEAD, HOST, B, b"\0\0\0\0"],
+    },
+    Row {
+        name: "version 1 leaves the name type out",
+        before: &[b"\x05\x01"],
+        turns: &[
+            (PUT_HOST, Placed(2)),
+            (Resume(2), Started(0, 2)),
+            (Step(0), Gave(0, 2, 49, VERSION_1_BYTES)),
+        ],
+        after: &[VERSION_1],
+    },
+    Row {
+        name: "the low byte of a version above 255 stands before the key, and all of it after",
+        before: &[HEAD],
+        turns: &[(Put(b"b@R", (300, 17, 1_700_000_000), HIGH_KEY), Placed(2))],
+        after: &[
+            HEAD,
+            b"\0\0\0\x29\0\x01\0\x01R\0\x01b\0\0\0\x01\x65\x53\xf1\0\x2c\0\x11\0\x10",
+            HIGH_KEY,
+            b"\0\0\x01\x2c",
+        ],
+    },
+];
 
 #[test]
-fn versions_above_255(rt: HostRuntime) -> Result<(), Fail> {
-    let alloc = rt.alloc();
-    let mut keytab = opened(alloc, &[HEAD])?;
-    let added = entry(alloc, b"b@R", 300, HIGH_KEY)?;
-    assert_eq!(rt; keytab.add(&added), Ok(2));
-    let want = joined(
-        alloc,
-        &[HEAD, &B[..20], b"\x2c", &B[21..41], b"\0\0\x01\x2c"],
-    )?;
-    assert!(rt; keytab.image() == want.as_slice());
-    let read = keytab.entry_at(2).ok_or("no entry at 2")?;
-    assert_eq!(rt; read.kvno(), 300);
-    Ok(())
+fn where_records_are_put(rt: HostRuntime) -> Result<(), Fail> {
+    check(&rt, ROWS)
 }
+
+const FULL: Row<'static> = Row {
+    name: "a full keytab takes a record in the place of another alone",
+    before: &[HEAD, HOST, B],
+    turns: &[
+        (PUT_B, Refused(Code::Full)),
+        (Cut(2), Gone(2)),
+        (PUT_B, Placed(2)),
+    ],
+    after: &[HEAD, b"\0\0\0\x2f", B_AND_ZEROS, B],
+};
 
 /// A record that just fits the limit is no Full, with an end mark after it or without.
 #[test]
-fn limits_that_just_fit(rt: HostRuntime) -> Result<(), Fail> {
-    let alloc = rt.alloc();
-    let added = b(alloc)?;
-    for (mark, len) in [(b"".as_slice(), 47), (b"\0\0\0\0".as_slice(), 51)] {
-        let mut short = limited(alloc, &[HEAD, mark], len - 1)?;
-        assert_eq!(rt; short.add(&added), Err(Refusal::Code(Code::Full)), "{len}");
-        assert!(rt;
-            short.image() == joined(alloc, &[HEAD, mark])?.as_slice(),
-            "{len}"
-        );
-        let mut enough = limited(alloc, &[HEAD, mark], len)?;
-        assert_eq!(rt; enough.add(&added), Ok(2), "{len}");
-        assert!(rt;
-            enough.image() == joined(alloc, &[HEAD, B, mark])?.as_slice(),
-            "{len}"
-        );
+fn additions_under_limits(rt: HostRuntime) -> Result<(), Fail> {
+    check_row(&rt, 98, &FULL)?;
+    for (mark, limit) in [(b"".as_slice(), 47), (b"\0\0\0\0", 51)] {
+        let short = Row {
+            name: "a record of one byte too many",
+            before: &[HEAD, mark],
+            turns: &[(PUT_B, Refused(Code::Full))],
+            after: &[HEAD, mark],
+        };
+        check_row(&rt, limit - 1, &short)?;
+        let enough = Row {
+            name: "a record that just fits",
+            before: &[HEAD, mark],
+            turns: &[(PUT_B, Placed(2))],
+            after: &[HEAD, B, mark],
+        };
+        check_row(&rt, limit, &enough)?;
     }
     Ok(())
 }
 
-/// A key of 65,535 bytes is written, and one of 65,536 is too long, also where nothing else would fit.
+/// A key of 65,535 bytes is written, and one of 65,536 is too long, also where nothing else would fit. What
+/// is wrong with the keytab comes first.
 #[test]
 fn keys_that_are_too_long(rt: HostRuntime) -> Result<(), Fail> {
-    let alloc = rt.alloc();
-    let mut long = host(alloc)?;
+    let mut long = b(rt.alloc())?;
     long.key.resize(65_535, 7)?;
-    let mut keytab = opened(alloc, &[HEAD])?;
-    assert_eq!(rt; keytab.add(&long), Ok(2));
-    let read = keytab.entry_at(2).ok_or("no entry at 2")?;
-    assert_eq!(rt; read.key().len(), 65_535);
-    long.key.push(7)?;
-    let mut small = limited(alloc, &[HEAD], 2)?;
-    assert_eq!(rt; small.add(&long), Err(Refusal::Code(Code::TooLong)));
-    let mut damaged = opened(alloc, &[HEAD, b"\0"])?;
-    assert_eq!(rt; damaged.add(&long), Err(Refusal::Code(Code::Damaged)));
-    assert!(rt; damaged.image() == b"\x05\x02\0".as_slice());
+    for (image, limit, placed) in [
+        (b"\x05\x02".as_slice(), USUAL, Ok(2)),
+        (b"\x05\x02", 2, Err(Refusal::Code(Code::TooLong))),
+        (b"\x05\x02\0", USUAL, Err(Refusal::Code(Code::Damaged))),
+    ] {
+        let mut keytab = keytab_of(joined(rt.alloc(), &[image])?, limit)?;
+        assert_eq!(rt; keytab.add(&long), placed);
+        match keytab.entry_at(2) {
+            Some(read) => assert_eq!(rt; read.key().len(), 65_535),
+            None => assert!(rt; keytab.image() == image),
+        }
+        long.key.resize(65_536, 7)?;
+    }
     Ok(())
 }

@@ -1,109 +1,147 @@
-use super::made::{b, host, joined, opened};
-use super::records::{B, HEAD, HOST, HOST_17, HOST_18};
-use crate::Keytab;
-use krb_walk::Refusal;
-use krb_wire::{KtFormat, Limits, parse_name};
-use refusing::refuse_each;
+//! Each growth refused in turn: what was not done is as it was, and is done the next time.
+
+use super::made::{USUAL, b, joined, keytab_of};
+use super::records::{B, HEAD, HOST, UNTYPED_BYTES, VERSION_1, VERSION_1_BYTES};
+use super::turns::Told::{Ended, Gave, Gone, Placed, Rewritten, Started};
+use super::turns::Turn::{Cut, Rewrite, Start, Step};
+use super::turns::{PUT_B, PUT_HOST, Row, check_outcome, edited, events_of};
+use crate::{Keytab, NewEntry};
+use krb_walk::{Event, Refusal, Reply, Session};
+use krb_wire::{KtFormat, Limits, Order};
+use refusing::{Refusing, refuse_each};
+use std::alloc::{Allocator, Global};
+use std::process::Abort;
 use std::test::Fail;
 
-#[test]
-fn growths_of_a_new_keytab(rt: HostRuntime) -> Result<(), Fail> {
-    let requests = refuse_each(rt.alloc(), 100, |heap, n| {
-        heap.refuse(n);
-        match Keytab::create(heap, KtFormat::V2, Limits::usual()) {
-            Ok(keytab) => assert!(rt; !heap.refused() && keytab.image() == HEAD),
-            Err(_) => assert!(rt; heap.refused()),
-        }
-        Ok(())
-    })?;
-    assert!(rt; requests >= 1, "{requests}");
-    Ok(())
-}
-
-#[test]
-fn growths_of_a_copy(rt: HostRuntime) -> Result<(), Fail> {
-    let keytab = opened(rt.alloc(), &[HEAD, HOST])?;
-    let mut copies = opened(rt.alloc(), &[HEAD])?;
-    let requests = refuse_each(rt.alloc(), 100, |heap, n| {
-        let entry = keytab.entry_at(2).ok_or("no entry at 2")?;
-        heap.refuse(n);
-        match entry.copy(heap) {
-            Ok(copy) => assert!(rt; !heap.refused() && copy.key.len() == 16),
-            Err(_) => assert!(rt; heap.refused()),
-        }
-        Ok(())
-    })?;
-    assert!(rt; requests >= 5, "{requests}");
-    let entry = keytab.entry_at(2).ok_or("no entry at 2")?;
-    let Ok(copy) = entry.copy(rt.alloc()) else {
-        return Err(Fail::from("no memory"));
-    };
-    assert_eq!(rt; copies.add(&copy), Ok(2));
-    assert!(rt; copies.image() == keytab.image());
-    Ok(())
-}
-
-/// Where a growth is refused, the keytab is as it was, and takes the entry the next time.
-#[test]
-fn growths_of_an_addition(rt: HostRuntime) -> Result<(), Fail> {
-    let added = b(rt.alloc())?;
-    let want = joined(rt.alloc(), &[HEAD, HOST, B])?;
-    let requests = refuse_each(rt.alloc(), 100, |heap, n| {
-        let mut keytab = opened(heap, &[HEAD, HOST])?;
-        heap.refuse(n);
-        let place = keytab.add(&added);
-        if heap.refused() {
-            assert_eq!(rt; place, Err(Refusal::NoMemory));
-            assert!(rt; keytab.image() == joined(rt.alloc(), &[HEAD, HOST])?.as_slice());
-            assert_eq!(rt; keytab.add(&added), Ok(53));
-        } else {
-            assert_eq!(rt; place, Ok(53));
-        }
-        assert!(rt; keytab.image() == want.as_slice());
-        Ok(())
-    })?;
-    assert!(rt; requests >= 1, "{requests}");
-    Ok(())
-}
-
-/// With every growth refused: a look-up, removals, and an addition into the hole that they leave.
-#[test]
-fn changes_that_take_no_memory(rt: HostRuntime) -> Result<(), Fail> {
-    let added = host(rt.alloc())?;
-    let Ok(name) = parse_name(rt.alloc(), b"host/a@R", None) else {
-        return Err(Fail::from("no name"));
-    };
-    let requests = refuse_each(rt.alloc(), 100, |heap, _| {
-        let mut keytab = opened(heap, &[HEAD, HOST, HOST_18, HOST_17])?;
-        heap.refuse_from(0);
-        assert_eq!(rt; keytab.find(&name, 0, 17).map(|found| found.0), Ok(120));
-        assert_eq!(rt; keytab.remove(&name, 0, 17), Ok(120));
-        assert_eq!(rt; keytab.remove_at(2), Ok(()));
-        assert_eq!(rt; keytab.add(&added), Ok(2));
-        assert_eq!(rt; heap.requests(), 0);
-        Ok(())
-    })?;
-    assert_eq!(rt; requests, 0);
-    Ok(())
-}
-
-/// With every growth refused: an addition over what stands after an end mark.
-#[test]
-fn an_addition_over_the_bytes_behind_an_end_mark(rt: HostRuntime) -> Result<(), Fail> {
-    let added = b(rt.alloc())?;
-    let rest = [0xffu8; 45];
-    for front in [[HEAD, b""], [HEAD, HOST]] {
-        let want = joined(rt.alloc(), &[front[0], front[1], B, b"\0\0\0\0"])?;
-        let requests = refuse_each(rt.alloc(), 100, |heap, _| {
-            let mut keytab = opened(heap, &[front[0], front[1], b"\0\0\0\0", &rest])?;
-            let place = keytab.end();
-            heap.refuse_from(0);
-            assert_eq!(rt; keytab.add(&added), Ok(place));
-            assert_eq!(rt; heap.requests(), 0);
-            assert!(rt; keytab.image() == want.as_slice());
-            Ok(())
-        })?;
-        assert_eq!(rt; requests, 0);
+fn create<R: Abort>(
+    rt: &R,
+    heap: &Refusing<Global>,
+    n: u64,
+    of: (KtFormat, &[u8]),
+) -> Result<(), Fail> {
+    heap.refuse(n);
+    match Keytab::create(heap, of.0, Limits::usual()) {
+        Ok(keytab) => assert!(rt; !heap.refused() && keytab.image() == of.1),
+        Err(_) => assert!(rt; heap.refused()),
     }
+    Ok(())
+}
+
+/// A copy of the entry at 2 is refused, or is added to a keytab that is then the same.
+fn copy<R: Abort + AllocGlobal>(rt: &R, heap: &Refusing<Global>, n: u64) -> Result<(), Fail> {
+    let keytab = keytab_of(joined(rt.alloc(), &[HEAD, HOST])?, USUAL)?;
+    let mut copies = keytab_of(joined(rt.alloc(), &[HEAD])?, USUAL)?;
+    let entry = keytab.entry_at(2).ok_or("no entry at 2")?;
+    heap.refuse(n);
+    match entry.copy(heap) {
+        Err(_) => assert!(rt; heap.refused()),
+        Ok(copy) => {
+            assert!(rt; !heap.refused());
+            assert_eq!(rt; copies.add(&copy), Ok(2));
+            assert!(rt; copies.image() == keytab.image());
+        }
+    }
+    Ok(())
+}
+
+fn add<R: Abort + AllocGlobal>(rt: &R, heap: &Refusing<Global>, n: u64) -> Result<(), Fail> {
+    let added = b(rt.alloc())?;
+    let mut keytab = keytab_of(joined(heap, &[HEAD, HOST])?, USUAL)?;
+    heap.refuse(n);
+    let is_refused = keytab.add(&added) == Err(Refusal::NoMemory);
+    assert!(rt; is_refused == heap.refused());
+    if is_refused {
+        assert!(rt; keytab.image() == joined(rt.alloc(), &[HEAD, HOST])?.as_slice());
+        assert_eq!(rt; keytab.add(&added), Ok(53));
+    }
+    assert!(rt; keytab.image() == joined(rt.alloc(), &[HEAD, HOST, B])?.as_slice());
+    Ok(())
+}
+
+const EDIT: Row<'static> = Row {
+    name: "additions and a removal",
+    before: &[HEAD, HOST],
+    turns: &[
+        (PUT_B, Placed(53)),
+        (Cut(2), Gone(2)),
+        (PUT_HOST, Placed(2)),
+        (PUT_B, Placed(98)),
+    ],
+    after: &[HEAD, HOST, B, B],
+};
+
+/// The image handed back is the one after the events that have a reply: the rest leads to the same image.
+fn edit<R: Abort + AllocGlobal>(rt: &R, heap: &Refusing<Global>, n: u64) -> Result<(), Fail> {
+    let events = events_of(heap, EDIT.turns)?;
+    let image = joined(heap, EDIT.before)?;
+    let mut replies = Vec::new(heap);
+    heap.refuse(n);
+    let (image, ran_out) = edited(image, USUAL, &events, &mut replies)?;
+    let rest = events.get(replies.len()..).ok_or("too many replies")?;
+    let (image, is_again) = edited(image, USUAL, rest, &mut replies)?;
+    assert!(rt; ran_out == heap.refused() && !is_again);
+    check_outcome(rt, &EDIT, &replies, &image)
+}
+
+const WALK: Row<'static> = Row {
+    name: "version 1 becomes version 2, with name type 0, in the middle of a walk",
+    before: &[VERSION_1],
+    turns: &[
+        (Start, Started(0, 2)),
+        (Step(0), Gave(0, 2, 49, VERSION_1_BYTES)),
+        (Rewrite, Rewritten(53)),
+        (Step(0), Ended(0, 53)),
+    ],
+    after: &[HEAD, b"\0\0\0\x2f", UNTYPED_BYTES],
+};
+
+/// Whether memory ran out in a run.
+fn runs_out<A: Allocator + Copy>(
+    session: &mut Session<Keytab<A>, A>,
+    events: &[Event<NewEntry<A>>],
+    replies: &mut Vec<Reply<A>, A>,
+) -> bool {
+    session.run(events, replies).is_err()
+}
+
+/// The image after a session of these events, and whether memory ran out: then the rest of the events was
+/// run afterwards.
+fn walked<A: Allocator + Copy>(
+    alloc: A,
+    keytab: Keytab<A>,
+    events: &[Event<NewEntry<A>>],
+    replies: &mut Vec<Reply<A>, A>,
+) -> Result<(Vec<u8, A>, bool), Fail> {
+    let mut session = Session::new(alloc, keytab);
+    let ran_out = runs_out(&mut session, events, replies);
+    let rest = events.get(replies.len()..).ok_or("too many replies")?;
+    if runs_out(&mut session, rest, replies) {
+        return Err(Fail::from("refused again"));
+    }
+    Ok((session.into_store().into_image(), ran_out))
+}
+
+/// The store and its walk are as after the events that have a reply: the replies together are the same.
+fn walk<R: Abort + AllocGlobal>(rt: &R, heap: &Refusing<Global>, n: u64) -> Result<(), Fail> {
+    let events = events_of(heap, WALK.turns)?;
+    let keytab = keytab_of(joined(heap, WALK.before)?, USUAL)?;
+    let mut replies = Vec::new(heap);
+    heap.refuse(n);
+    let (image, ran_out) = walked(heap, keytab, &events, &mut replies)?;
+    assert!(rt; ran_out == heap.refused());
+    check_outcome(rt, &WALK, &replies, &image)
+}
+
+#[test]
+fn each_growth_is_refused_in_turn(rt: HostRuntime) -> Result<(), Fail> {
+    let heap = rt.alloc();
+    let first = (KtFormat::V1(Order::Little), b"\x05\x01".as_slice());
+    assert!(rt; refuse_each(heap, 100, |heap, n| create(&rt, heap, n, first))? >= 1);
+    let second = (KtFormat::V2, HEAD);
+    assert!(rt; refuse_each(heap, 100, |heap, n| create(&rt, heap, n, second))? >= 1);
+    assert!(rt; refuse_each(heap, 100, |heap, n| copy(&rt, heap, n))? >= 5);
+    assert!(rt; refuse_each(heap, 100, |heap, n| add(&rt, heap, n))? >= 1);
+    assert!(rt; refuse_each(heap, 100, |heap, n| edit(&rt, heap, n))? >= 2);
+    assert!(rt; refuse_each(heap, 100, |heap, n| walk(&rt, heap, n))? >= 3);
     Ok(())
 }

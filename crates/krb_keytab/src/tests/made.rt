@@ -1,10 +1,16 @@
 //! Keytabs and entries that tests make.
 
-use super::records::{HIGH_KEY, LOW_KEY};
+use super::records::HIGH_KEY;
 use crate::{Keytab, NewEntry};
-use krb_wire::{Limits, Order, parse_name};
+use krb_walk::Code;
+use krb_wire::{Limits, Order, Principal, parse_name};
+use refusing::Refusing;
 use std::alloc::{Allocator, Global};
+use std::process::Abort;
 use std::test::Fail;
+
+/// The limit of images that is usual.
+pub const USUAL: u32 = 16_777_216;
 
 /// The pieces, one after the other.
 pub fn joined<A: Allocator + Copy>(alloc: A, pieces: &[&[u8]]) -> Result<Vec<u8, A>, Fail> {
@@ -15,44 +21,76 @@ pub fn joined<A: Allocator + Copy>(alloc: A, pieces: &[&[u8]]) -> Result<Vec<u8,
     Ok(bytes)
 }
 
-/// The keytab that the pieces are, with that limit.
-pub fn limited<A: Allocator + Copy>(
-    alloc: A,
-    pieces: &[&[u8]],
-    limit: u32,
-) -> Result<Keytab<A>, Fail> {
+/// The keytab that an image of at most `limit` bytes is.
+pub fn keytab_of<A: Allocator>(image: Vec<u8, A>, limit: u32) -> Result<Keytab<A>, Fail> {
     let limits = Limits::of(limit).ok_or("no such limit")?;
-    match Keytab::open(joined(alloc, pieces)?, Order::Little, limits) {
+    match Keytab::open(image, Order::Little, limits) {
         Ok(keytab) => Ok(keytab),
         Err(_) => Err(Fail::from("refused")),
     }
 }
 
-/// The keytab that the pieces are.
-pub fn opened<A: Allocator + Copy>(alloc: A, pieces: &[&[u8]]) -> Result<Keytab<A>, Fail> {
-    limited(alloc, pieces, 16_777_216)
+/// The keytab that the pieces are, with each request for memory refused from `open` on.
+pub fn without_memory<'a>(
+    heap: &'a Refusing<Global>,
+    pieces: &[&[u8]],
+) -> Result<Keytab<&'a Refusing<Global>>, Fail> {
+    let image = joined(heap, pieces)?;
+    heap.refuse_from(0);
+    keytab_of(image, USUAL)
 }
 
-/// An entry of enctype 17 at 1,700,000,000 seconds.
-pub fn entry(alloc: Global, name: &[u8], kvno: u32, key: &[u8]) -> Result<NewEntry<Global>, Fail> {
-    let Ok(principal) = parse_name(alloc, name, None) else {
-        return Err(Fail::from("no name"));
-    };
+/// Asserts that the keytab has become these pieces, made no request, and gives its memory back.
+pub fn leaves<R: Abort + AllocGlobal>(
+    rt: &R,
+    keytab: Keytab<&Refusing<Global>>,
+    pieces: &[&[u8]],
+) -> Result<(), Fail> {
+    let image = keytab.into_image();
+    let heap = *image.allocator();
+    assert!(rt; image.as_slice() == joined(rt.alloc(), pieces)?.as_slice());
+    drop(image);
+    assert_eq!(rt; (heap.requests(), heap.live_blocks()), (0, 0));
+    Ok(())
+}
+
+/// The name that a text is.
+pub fn name_of<A: Allocator + Copy>(alloc: A, text: &[u8]) -> Result<Principal<A>, Fail> {
+    match parse_name(alloc, text, None) {
+        Ok(name) => Ok(name),
+        Err(_) => Err(Fail::from("no name")),
+    }
+}
+
+/// An entry: its name, its version, enctype and time, and its key.
+pub fn entry_of<A: Allocator + Copy>(
+    alloc: A,
+    name: &[u8],
+    numbers: (u32, u16, u32),
+    key: &[u8],
+) -> Result<NewEntry<A>, Fail> {
     Ok(NewEntry {
-        principal,
-        timestamp: 1_700_000_000,
-        kvno,
-        enctype: 17,
+        principal: name_of(alloc, name)?,
+        timestamp: numbers.2,
+        kvno: numbers.0,
+        enctype: numbers.1,
         key: Vec::from_slice(alloc, key)?,
     })
 }
 
-/// The entry of the record `HOST`.
-pub fn host(alloc: Global) -> Result<NewEntry<Global>, Fail> {
-    entry(alloc, b"host/a@R", 3, LOW_KEY)
-}
-
 /// The entry of the record `B`.
 pub fn b(alloc: Global) -> Result<NewEntry<Global>, Fail> {
-    entry(alloc, b"b@R", 3, HIGH_KEY)
+    entry_of(alloc, b"b@R", (3, 17, 1_700_000_000), HIGH_KEY)
+}
+
+/// The place that a look-up finds.
+pub fn found<A: Allocator>(
+    keytab: &Keytab<A>,
+    name: &Principal<Global>,
+    asked: (u32, u16),
+) -> Result<u32, Code> {
+    match keytab.find(name, asked.0, asked.1) {
+        Ok((place, _)) => Ok(place),
+        Err(code) => Err(code),
+    }
 }

@@ -2,7 +2,7 @@
 //! length. The keys are those of a throw-away realm.
 
 /// Versions 2 and 3 of `hist/h@PEER.TEST`, at 2, 77, 136 and 211.
-pub const HIST_OLD: &[u8; 268] = b"\
+pub const HIST_OLD: &[u8] = b"\
     \0\0\0\x47\0\x02\0\x09PEER.TEST\0\x04hist\0\x01h\0\0\0\x01\x6b\x02\x93\xe3\x02\0\x12\0\x20\
     \x3a\x50\xb7\x9d\x14\x25\x46\xef\x5e\x03\x27\xe6\x11\xb1\x99\xbd\
     \x37\xd5\x83\x46\xca\x88\xea\x46\x98\x15\x38\xbc\x4e\x12\x2f\x8c\0\0\0\x02\
@@ -15,7 +15,7 @@ pub const HIST_OLD: &[u8; 268] = b"\
     \xe9\xad\x16\xea\xcf\x86\xfd\x69\x43\xf1\x0d\xbf\xb2\xb0\x77\x20\0\0\0\x03";
 
 /// Version 4 of `hist/h@PEER.TEST`, at 270 and 345.
-pub const HIST_NEW: &[u8; 134] = b"\
+pub const HIST_NEW: &[u8] = b"\
     \0\0\0\x47\0\x02\0\x09PEER.TEST\0\x04hist\0\x01h\0\0\0\x01\x6b\x02\x93\xe3\x04\0\x12\0\x20\
     \x24\xac\x37\x7a\xc1\xa3\xab\x0f\x97\x77\xee\x03\x6a\x5f\x64\x3f\
     \x10\xa3\x7b\x56\x04\x98\x1c\xd7\x61\xe1\x1e\xaa\xa1\xae\xca\x86\0\0\0\x04\
@@ -23,7 +23,7 @@ pub const HIST_NEW: &[u8; 134] = b"\
     \x9d\x95\xdf\x75\xc1\x33\x44\xaa\xff\x01\x4b\x64\x25\xe0\x38\x3f\0\0\0\x04";
 
 /// Two keys of `host/a.peer.test@PEER.TEST`, at 2 and 87.
-pub const HOST_KEYS: &[u8; 154] = b"\
+pub const HOST_KEYS: &[u8] = b"\
     \0\0\0\x51\0\x02\0\x09PEER.TEST\0\x04host\0\x0ba.peer.test\
     \0\0\0\x01\x6b\x02\x93\xe3\x03\0\x12\0\x20\
     \x43\x36\xea\xa0\x62\x29\x0d\x5d\xfb\x4b\xdc\xfd\x65\xa5\x67\x70\
@@ -33,7 +33,7 @@ pub const HOST_KEYS: &[u8; 154] = b"\
     \xa3\xcb\x14\xd4\x66\x0d\x37\xe7\xa1\x2b\xa9\x7d\x3d\x53\x05\x83\0\0\0\x03";
 
 /// Two keys of `HTTP/w.peer.test@PEER.TEST`, at 156 and 241.
-pub const HTTP_KEYS: &[u8; 154] = b"\
+pub const HTTP_KEYS: &[u8] = b"\
     \0\0\0\x51\0\x02\0\x09PEER.TEST\0\x04HTTP\0\x0bw.peer.test\
     \0\0\0\x01\x6b\x02\x93\xe3\x02\0\x12\0\x20\
     \xbf\x90\x21\x84\x59\xc4\xe2\x9d\x01\x35\x09\x3f\xb7\xc3\x30\x6e\
@@ -43,7 +43,7 @@ pub const HTTP_KEYS: &[u8; 154] = b"\
     \xed\xd3\x26\xc0\x27\x4a\x81\x69\xa2\x2c\xe8\x81\xce\x60\x88\xab\0\0\0\x02";
 
 /// Two keys of `b@PEER.TEST` in their place. Each is 16 bytes shorter than the record that stood there.
-pub const B_KEYS: &[u8; 154] = b"\
+pub const B_KEYS: &[u8] = b"\
     \0\0\0\x51\0\x01\0\x09PEER.TEST\0\x01b\0\0\0\x01\x6b\x02\x93\xe3\x02\0\x12\0\x20\
     \xae\xb4\x4e\x18\x33\xeb\x56\x8f\x56\x16\xf1\x1d\xac\x64\x47\x90\
     \x8b\x62\xe2\xa5\x45\x66\x97\x0f\x2f\xbb\xca\xb3\xf7\x4b\xb5\x5a\
@@ -53,28 +53,28 @@ pub const B_KEYS: &[u8; 154] = b"\
     \0\0\0\x02\0\0\0\0\0\0\0\0\0\0\0\0\0\0\0\0";
 
 /// A key of `host/a@R`, at 2.
-pub const KTUTIL_HOST: &[u8; 51] = b"\
+pub const KTUTIL_HOST: &[u8] = b"\
     \0\0\0\x2f\0\x02\0\x01R\0\x04host\0\x01a\0\0\0\x01\x6b\x02\x94\x36\x03\0\x11\0\x10\
     \0\x01\x02\x03\x04\x05\x06\x07\x08\x09\x0a\x0b\x0c\x0d\x0e\x0f\0\0\0\x03";
 
 /// A key of `b@R`, at 53.
-pub const LIBKRB5_B: &[u8; 45] = b"\
+pub const LIBKRB5_B: &[u8] = b"\
     \0\0\0\x29\0\x01\0\x01R\0\x01b\0\0\0\x01\x6b\x02\x94\x38\x03\0\x11\0\x10\
     \0\x01\x02\x03\x04\x05\x06\x07\x08\x09\x0a\x0b\x0c\x0d\x0e\x0f\0\0\0\x03";
 
 /// Version 1 of `test/test2@TEST.MIT.EDU`, at 2 and 53.
-pub const TEST_1: &[u8; 102] = b"\
+pub const TEST_1: &[u8] = b"\
     \0\0\0\x2f\0\x02\0\x0cTEST.MIT.EDU\0\x04test\0\x05test2\
     \0\0\0\x01\x6b\x02\x96\x6d\x01\0\x13\0\x01\x31\0\0\0\x01\
     \0\0\0\x2f\0\x02\0\x0cTEST.MIT.EDU\0\x04test\0\x05test2\
     \0\0\0\x01\x6b\x02\x96\x6d\x01\0\x14\0\x01\x31\0\0\0\x01";
 
 /// Version 2 of `test/test2@TEST.MIT.EDU`, at 104.
-pub const TEST_2: &[u8; 51] = b"\
+pub const TEST_2: &[u8] = b"\
     \0\0\0\x2f\0\x02\0\x0cTEST.MIT.EDU\0\x04test\0\x05test2\
     \0\0\0\x01\x6b\x02\x96\x6d\x02\0\x13\0\x01\x32\0\0\0\x02";
 
 /// A key of `host/a@R` of name type 3, at 2. Its version is followed by flags.
-pub const HEIMDAL_HOST: &[u8; 55] = b"\
+pub const HEIMDAL_HOST: &[u8] = b"\
     \0\0\0\x33\0\x02\0\x01R\0\x04host\0\x01a\0\0\0\x03\x6b\x02\x94\x95\x03\0\x11\0\x10\
     \0\x01\x02\x03\x04\x05\x06\x07\x08\x09\x0a\x0b\x0c\x0d\x0e\x0f\0\0\0\x03\0\0\0\0";

@@ -1,239 +1,178 @@
 //! Where walks over keytabs begin, end and go on.
 
 use super::TWO;
-use super::made::joined;
-use super::sessions::{B_BYTES, C_BYTES, HOST_BYTES, check, gave, put_b, put_c, session_over};
-use crate::{Keytab, KtOpenFault};
-use krb_walk::{Code, Event, Fault, FaultKind, Reply};
-use krb_wire::{Limits, Order};
-use std::alloc::Global;
+use super::made::USUAL;
+use super::records::{B, B_BYTES, C_BYTES, HEAD, HOST, HOST_BYTES};
+use super::turns::Told::{Ended, Faulted, Gave, Gone, Placed, Refused, Started};
+use super::turns::Turn::{Cut, Resume, Start, Step};
+use super::turns::{PUT_B, PUT_C, Row, Told, Turn, check, check_row};
+use krb_walk::{Code, FaultKind};
+use std::process::Abort;
 use std::test::Fail;
 
-/// A damaged keytab gives the records before its fault and then the fault, and nothing of it changes.
+const ROWS: &[Row<'static>] = &[
+    Row {
+        name: "a damaged keytab gives the records before its fault, then the fault, and stays",
+        before: &[HEAD, HOST, b"\0\0\0\x0a", &[0; 10], B],
+        turns: &[
+            (Start, Started(0, 2)),
+            (Step(0), Gave(0, 2, 53, HOST_BYTES)),
+            (Step(0), Faulted(0, 53, FaultKind::BadEntry)),
+            (Step(0), Faulted(0, 53, FaultKind::BadEntry)),
+            (PUT_B, Refused(Code::Damaged)),
+            (Resume(2), Started(1, 2)),
+            (Resume(53), Started(2, 53)),
+            (Resume(54), Refused(Code::NotAPlace)),
+            (Resume(67), Refused(Code::NotAPlace)),
+            (Resume(112), Refused(Code::NotAPlace)),
+            (Cut(2), Refused(Code::Damaged)),
+            (Turn::Rewrite, Refused(Code::Damaged)),
+            (Step(1), Gave(1, 2, 53, HOST_BYTES)),
+            (Step(2), Faulted(2, 53, FaultKind::BadEntry)),
+        ],
+        after: &[HEAD, HOST, b"\0\0\0\x0a", &[0; 10], B],
+    },
+    Row {
+        name: "a walk stops at an end mark, and goes on where an addition takes its place",
+        before: &[HEAD, HOST, b"\0\0\0\0", &[0xff; 20]],
+        turns: &[
+            (Start, Started(0, 2)),
+            (Step(0), Gave(0, 2, 53, HOST_BYTES)),
+            (Step(0), Ended(0, 53)),
+            (PUT_B, Placed(53)),
+            (Step(0), Gave(0, 53, 98, B_BYTES)),
+            (Step(0), Ended(0, 98)),
+        ],
+        after: &[HEAD, HOST, B, b"\0\0\0\0"],
+    },
+    Row {
+        name: "walks begin at places, and a removal keeps the places",
+        before: &[HEAD, HOST, B],
+        turns: &[
+            (Resume(53), Started(0, 53)),
+            (Resume(54), Refused(Code::NotAPlace)),
+            (Resume(98), Started(1, 98)),
+            (Step(1), Ended(1, 98)),
+            (Cut(2), Gone(2)),
+        ],
+        after: &[HEAD, b"\xff\xff\xff\xd1", &[0; 47], B],
+    },
+    Row {
+        name: "a place means the same in the image that was left, opened in a new session",
+        before: &[HEAD, b"\xff\xff\xff\xd1", &[0; 47], B],
+        turns: &[
+            (Step(0), Refused(Code::NoSuchWalk)),
+            (Resume(53), Started(0, 53)),
+            (Step(0), Gave(0, 53, 98, B_BYTES)),
+            (Start, Started(1, 2)),
+            (Step(1), Gave(1, 53, 98, B_BYTES)),
+        ],
+        after: &[HEAD, b"\xff\xff\xff\xd1", &[0; 47], B],
+    },
+    Row {
+        name: "a second run changes what the first left to be walked, and walks from there",
+        before: &[HEAD, HOST, B],
+        turns: &[
+            (Cut(53), Gone(53)),
+            (PUT_C, Placed(53)),
+            (Resume(53), Started(0, 53)),
+            (Step(0), Gave(0, 53, 98, C_BYTES)),
+            (Step(0), Ended(0, 98)),
+        ],
+        after: &[HEAD, HOST, b"\0\0\0\x29", C_BYTES],
+    },
+];
+
 #[test]
-fn a_damaged_keytab_gives_its_records_then_its_fault(rt: HostRuntime) -> Result<(), Fail> {
-    let alloc = rt.alloc();
-    let image = joined(
-        alloc,
-        &[
-            TWO.split_at(53).0,
-            b"\0\0\0\x0a\0\0\0\0\0\0\0\0\0\0",
-            b"\0\0\0\x29",
-            B_BYTES,
-        ],
-    )?;
-    assert_eq!(rt; image.len(), 112);
-    let fault = Fault {
-        place: 53,
-        kind: FaultKind::BadEntry,
-    };
-    let mut session = session_over(alloc, &image)?;
-    check(
-        &rt,
-        &mut session,
-        &[
-            (Event::Start, Reply::Started { walk: 0, next: 2 }),
-            (Event::Step(0), gave(alloc, 0, 2, 53, HOST_BYTES)?),
-            (Event::Step(0), Reply::Faulted { walk: 0, fault }),
-            (Event::Step(0), Reply::Faulted { walk: 0, fault }),
-            (put_b(alloc)?, Reply::Refused(Code::Damaged)),
-            (Event::Resume(2), Reply::Started { walk: 1, next: 2 }),
-            (Event::Resume(53), Reply::Started { walk: 2, next: 53 }),
-            (Event::Resume(54), Reply::Refused(Code::NotAPlace)),
-            (Event::Resume(67), Reply::Refused(Code::NotAPlace)),
-            (Event::Resume(112), Reply::Refused(Code::NotAPlace)),
-            (Event::Cut(2), Reply::Refused(Code::Damaged)),
-            (Event::Step(1), gave(alloc, 1, 2, 53, HOST_BYTES)?),
-            (Event::Step(2), Reply::Faulted { walk: 2, fault }),
-        ],
-    )?;
-    assert!(rt; session.store().image() == image.as_slice());
-    Ok(())
+fn where_walks_begin_and_end(rt: HostRuntime) -> Result<(), Fail> {
+    check(&rt, ROWS)
 }
 
-/// A walk stops at an end mark. An addition takes its place, with a new mark and nothing more after.
-#[test]
-fn an_addition_moves_the_end_mark(rt: HostRuntime) -> Result<(), Fail> {
-    let alloc = rt.alloc();
-    let one = TWO.split_at(53).0;
-    let image = joined(alloc, &[one, b"\0\0\0\0", &[0xff; 20]])?;
-    assert_eq!(rt; image.len(), 77);
-    let mut session = session_over(alloc, &image)?;
-    check(
-        &rt,
-        &mut session,
-        &[
-            (Event::Start, Reply::Started { walk: 0, next: 2 }),
-            (Event::Step(0), gave(alloc, 0, 2, 53, HOST_BYTES)?),
-            (Event::Step(0), Reply::Ended { walk: 0, next: 53 }),
-            (put_b(alloc)?, Reply::Placed(53)),
-            (Event::Step(0), gave(alloc, 0, 53, 98, B_BYTES)?),
-            (Event::Step(0), Reply::Ended { walk: 0, next: 98 }),
-        ],
-    )?;
-    let expected = joined(alloc, &[TWO.as_slice(), b"\0\0\0\0"])?;
-    assert!(rt; session.store().image() == expected.as_slice());
-    Ok(())
-}
-
-/// A place means the same in the image that a session leaves, opened again in a new session.
-#[test]
-fn a_walk_goes_on_over_the_image_opened_again(rt: HostRuntime) -> Result<(), Fail> {
-    let alloc = rt.alloc();
-    let mut session = session_over(alloc, TWO)?;
-    check(
-        &rt,
-        &mut session,
-        &[
-            (Event::Resume(53), Reply::Started { walk: 0, next: 53 }),
-            (Event::Resume(54), Reply::Refused(Code::NotAPlace)),
-            (Event::Resume(98), Reply::Started { walk: 1, next: 98 }),
-            (Event::Step(1), Reply::Ended { walk: 1, next: 98 }),
-            (Event::Cut(2), Reply::Gone(2)),
-        ],
-    )?;
-    let mut session = session_over(alloc, &session.into_store().into_image())?;
-    assert_eq!(rt; session.walks(), 0);
-    check(
-        &rt,
-        &mut session,
-        &[
-            (Event::Step(0), Reply::Refused(Code::NoSuchWalk)),
-            (Event::Resume(53), Reply::Started { walk: 0, next: 53 }),
-            (Event::Step(0), gave(alloc, 0, 53, 98, B_BYTES)?),
-            (Event::Start, Reply::Started { walk: 1, next: 2 }),
-            (Event::Step(1), gave(alloc, 1, 53, 98, B_BYTES)?),
-        ],
-    )
-}
-
-/// What one run leaves to be walked, a second one changes and walks from there.
-#[test]
-fn a_second_run_goes_on_where_the_first_stopped(rt: HostRuntime) -> Result<(), Fail> {
-    let alloc = rt.alloc();
-    let mut session = session_over(alloc, TWO)?;
-    check(
-        &rt,
-        &mut session,
-        &[
-            (Event::Start, Reply::Started { walk: 0, next: 2 }),
-            (Event::Step(0), gave(alloc, 0, 2, 53, HOST_BYTES)?),
-        ],
-    )?;
-    let mut session = session_over(alloc, &session.into_store().into_image())?;
-    check(
-        &rt,
-        &mut session,
-        &[
-            (Event::Cut(53), Reply::Gone(53)),
-            (put_c(alloc)?, Reply::Placed(53)),
-            (Event::Resume(53), Reply::Started { walk: 0, next: 53 }),
-            (Event::Step(0), gave(alloc, 0, 53, 98, C_BYTES)?),
-            (Event::Step(0), Reply::Ended { walk: 0, next: 98 }),
-        ],
-    )
+/// A row of an image that stays.
+fn unchanged<'a>(name: &'a str, image: &'a [&'a [u8]], turns: &'a [(Turn, Told<'a>)]) -> Row<'a> {
+    Row {
+        name,
+        before: image,
+        turns,
+        after: image,
+    }
 }
 
 /// A session holds 1,024 walks, and then refuses a new one wherever it is to begin.
 #[test]
 fn a_session_holds_1024_walks(rt: HostRuntime) -> Result<(), Fail> {
-    let alloc = rt.alloc();
-    let mut session = session_over(alloc, TWO)?;
-    check(
-        &rt,
-        &mut session,
-        &[
-            (Event::Step(9), Reply::Refused(Code::NoSuchWalk)),
-            (Event::Cut(3), Reply::Refused(Code::NotLive)),
-        ],
-    )?;
+    let mut turns = Vec::new(rt.alloc());
     for walk in 0..1024 {
-        check(
-            &rt,
-            &mut session,
-            &[(Event::Start, Reply::Started { walk, next: 2 })],
-        )?;
+        turns.push((Start, Started(walk, 2)))?;
     }
-    check(
-        &rt,
-        &mut session,
-        &[
-            (Event::Start, Reply::Refused(Code::TooManyWalks)),
-            (Event::Resume(53), Reply::Refused(Code::TooManyWalks)),
-            (Event::Resume(54), Reply::Refused(Code::TooManyWalks)),
-            (Event::Resume(u32::MAX), Reply::Refused(Code::TooManyWalks)),
-            (Event::Step(1023), gave(alloc, 1023, 2, 53, HOST_BYTES)?),
-            (Event::Step(1024), Reply::Refused(Code::NoSuchWalk)),
-        ],
-    )?;
-    assert_eq!(rt; session.walks(), 1024);
-    Ok(())
+    turns.extend_from_slice(&[
+        (Start, Refused(Code::TooManyWalks)),
+        (Resume(53), Refused(Code::TooManyWalks)),
+        (Resume(54), Refused(Code::TooManyWalks)),
+        (Resume(u32::MAX), Refused(Code::TooManyWalks)),
+        (Step(1023), Gave(1023, 2, 53, HOST_BYTES)),
+        (Step(1024), Refused(Code::NoSuchWalk)),
+        (Cut(3), Refused(Code::NotLive)),
+    ])?;
+    check_row(&rt, USUAL, &unchanged("1,024 walks", &[TWO], &turns))
 }
 
 /// A walk begins at the place of a record or at the end, and at no other number.
 #[test]
 fn walks_begin_at_places_alone(rt: HostRuntime) -> Result<(), Fail> {
-    let alloc = rt.alloc();
+    let mut turns = Vec::from_slice(
+        rt.alloc(),
+        &[
+            (Step(9), Refused(Code::NoSuchWalk)),
+            (Resume(u32::MAX), Refused(Code::NotAPlace)),
+        ],
+    )?;
     for place in 0..=200 {
-        let reply = match place {
-            2 => Reply::Started { walk: 0, next: 2 },
-            53 => Reply::Started { walk: 0, next: 53 },
-            98 => Reply::Started { walk: 0, next: 98 },
-            _ => Reply::Refused(Code::NotAPlace),
+        let told = match place {
+            2 => Started(0, 2),
+            53 => Started(1, 53),
+            98 => Started(2, 98),
+            _ => Refused(Code::NotAPlace),
         };
-        let mut session = session_over(alloc, TWO)?;
-        check(&rt, &mut session, &[(Event::Resume(place), reply)])?;
+        turns.push((Resume(place), told))?;
     }
-    let last = (
-        Event::Resume(4_294_967_295),
-        Reply::Refused(Code::NotAPlace),
-    );
-    check(&rt, &mut session_over(alloc, TWO)?, &[last])
+    check_row(&rt, USUAL, &unchanged("each number", &[TWO], &turns))
 }
 
 /// What ends a walk over the first so many bytes of the two records.
-fn end_of_front(len: usize) -> Reply<Global> {
-    let (place, kind) = match len {
-        2 => return Reply::Ended { walk: 0, next: 2 },
-        53 => return Reply::Ended { walk: 0, next: 53 },
-        98 => return Reply::Ended { walk: 0, next: 98 },
-        3..=5 => (2, FaultKind::CutLength),
-        54..=56 => (53, FaultKind::CutLength),
-        6..=52 => (2, FaultKind::Overrun),
-        _ => (53, FaultKind::Overrun),
-    };
-    Reply::Faulted {
-        walk: 0,
-        fault: Fault { place, kind },
+fn end_of_front(len: usize) -> Told<'static> {
+    match len {
+        2 | 53 | 98 => Ended(0, len as u32),
+        3..=5 => Faulted(0, 2, FaultKind::CutLength),
+        54..=56 => Faulted(0, 53, FaultKind::CutLength),
+        6..=52 => Faulted(0, 2, FaultKind::Overrun),
+        _ => Faulted(0, 53, FaultKind::Overrun),
     }
 }
 
-/// Of a keytab cut off anywhere a walk gives the records that are whole, and then says what is wrong.
+/// Asserts so of the first so many bytes: a walk gives the records that are whole, then says what is wrong.
+fn check_front<R: Abort + AllocGlobal>(rt: &R, len: usize, front: &[u8]) -> Result<(), Fail> {
+    let start = (Start, Started(0, 2));
+    let host = (Step(0), Gave(0, 2, 53, HOST_BYTES));
+    let b = (Step(0), Gave(0, 53, 98, B_BYTES));
+    let end = (Step(0), end_of_front(len));
+    let name = "a keytab cut off";
+    match len {
+        98 => check_row(
+            rt,
+            USUAL,
+            &unchanged(name, &[front], &[start, host, b, end]),
+        ),
+        53..=97 => check_row(rt, USUAL, &unchanged(name, &[front], &[start, host, end])),
+        _ => check_row(rt, USUAL, &unchanged(name, &[front], &[start, end])),
+    }
+}
+
 #[test]
 fn a_keytab_cut_off_gives_its_whole_records(rt: HostRuntime) -> Result<(), Fail> {
-    let alloc = rt.alloc();
-    for len in 0..=98 {
+    for len in 2..=98 {
         let front = TWO.get(..len).ok_or("no such front")?;
-        if len < 2 {
-            let image = Vec::from_slice(alloc, front)?;
-            let Err(refused) = Keytab::open(image, Order::Little, Limits::usual()) else {
-                return Err(Fail::from("opened"));
-            };
-            assert!(rt; refused.why == KtOpenFault::TooShort, "{len}");
-            continue;
-        }
-        let mut session = session_over(alloc, front)?;
-        let start = (Event::Start, Reply::Started { walk: 0, next: 2 });
-        check(&rt, &mut session, &[start])?;
-        if len >= 53 {
-            let first = (Event::Step(0), gave(alloc, 0, 2, 53, HOST_BYTES)?);
-            check(&rt, &mut session, &[first])?;
-        }
-        if len == 98 {
-            let second = (Event::Step(0), gave(alloc, 0, 53, 98, B_BYTES)?);
-            check(&rt, &mut session, &[second])?;
-        }
-        check(&rt, &mut session, &[(Event::Step(0), end_of_front(len))])?;
+        check_front(&rt, len, front)?;
     }
     Ok(())
 }
