@@ -96,7 +96,7 @@ def by_hand() -> list[Case]:
         case("an entry of zeros", "teK", zeros, b"   0 1970-01-01T00:00:00Z @ (etype 0) (0x)"),
         case("version 1, little-endian", "teK", little, host, b),
         case("version 1, big-endian", "teK", big, host, b, options=("--v1-big",)),
-        case("a hole and bytes behind an entry", "teK", two, host, b),
+        case("a hole and bytes after an entry", "teK", two, host, b),
         damaged("a bad entry", "teK", bad, host, b"fault 3 at 53"),
         damaged("a cut record", "t", TWO[:-1], b"   3 " + TIME + b"host/a@R", b"fault 2 at 53"),
         damaged("a cut length", "K", TWO + b"\0", HOST_LINE + HOST_KEY, B_LINE + B_KEY,

@@ -7,7 +7,7 @@ from columns import sample
 from harness import Case, Outcome, Report, check_case, differences, folder_of, message, run
 from images import TWO
 
-# A line is its words, behind the program's name.
+# A line is its words, after the program's name.
 Line = tuple[str | bytes, ...]
 
 # Lines that are refused, beside a file `k` that could be listed.

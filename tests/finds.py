@@ -183,13 +183,13 @@ def layouts() -> list[Case]:
     option = ("--v1-big",)
     # In version 1 host/a@R has 43 bytes, for it has no name type.
     there = shown(49, 3, 17, "b@R")
-    behind = keytab(record(HOST.spelled() + b"\xff" * 9), b)
+    after = keytab(record(HOST.spelled() + b"\xff" * 9), b)
     return [
-        find("an entry behind holes", hidden, "0 0 b@R", shown(105, 3, 17, "b@R")),
+        find("an entry after holes", hidden, "0 0 b@R", shown(105, 3, 17, "b@R")),
         find("an entry between holes", hidden, "0 0 host/a@R", shown(47, 3, 17, "host/a@R")),
-        find("an entry behind the end", ended, "0 0 b@R", NOT_FOUND),
+        find("an entry after the end", ended, "0 0 b@R", NOT_FOUND),
         find("an entry before the end", ended, "0 0 host/a@R", shown(2, 3, 17, "host/a@R")),
-        find("an entry behind unused bytes", behind, "0 0 b@R", shown(62, 3, 17, "b@R")),
+        find("an entry after unused bytes", after, "0 0 b@R", shown(62, 3, 17, "b@R")),
         find("version 1, little-endian", little, "0 0 b@R", there),
         find("version 1, big-endian", big, "0 0 b@R", there, option),
         find("version 1, big-endian, read as little", big, "0 0 b@R", DAMAGED),

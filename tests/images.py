@@ -62,12 +62,12 @@ def counted(data: bytes, order: str = BIG) -> bytes:
 
 
 def record(data: bytes, order: str = BIG) -> bytes:
-    """A record of those bytes behind its length."""
+    """A record of those bytes after its length."""
     return len(data).to_bytes(4, order, signed=True) + data
 
 
 def hole(data: bytes, order: str = BIG) -> bytes:
-    """A hole of those bytes behind its length, which is negative."""
+    """A hole of those bytes after its length, which is negative."""
     return (-len(data)).to_bytes(4, order, signed=True) + data
 
 

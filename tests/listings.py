@@ -39,26 +39,26 @@ def plain() -> list[Case]:
         case("no entry", keytab()),
         case("an empty key", entries(Entry(key=b"")), HOST_LINE),
         case("2000 entries", entries(*many), *(b"%4d svc/%d@R" % (i, i) for i in numbers)),
-        case("zeros behind an entry without a 32-bit version", keytab(padded), HOST_LINE),
-        case("bytes behind the 32-bit version", keytab(record(B.spelled() + b"\xff" * 7)), B_LINE),
+        case("zeros after an entry without a 32-bit version", keytab(padded), HOST_LINE),
+        case("bytes after the 32-bit version", keytab(record(B.spelled() + b"\xff" * 7)), B_LINE),
     ]
 
 
 def versions() -> list[Case]:
     """The 8-bit version counts, but where a 32-bit one follows the key and is not 0."""
 
-    def of(name: str, version8: int, behind: str, shown: bytes) -> Case:
-        entry = Entry(version8=version8, version32=None).spelled() + bytes.fromhex(behind)
+    def of(name: str, version8: int, after: str, shown: bytes) -> Case:
+        entry = Entry(version8=version8, version32=None).spelled() + bytes.fromhex(after)
         return case(f"version {name}", keytab(record(entry)), shown + b" host/a@R")
 
     return [
         of("in 8 bits alone", 7, "", b"   7"),
-        of("in 8 bits, with three bytes behind the key", 7, "000001", b"   7"),
+        of("in 8 bits, with three bytes after the key", 7, "000001", b"   7"),
         of("in 32 bits that is 0", 7, "00000000", b"   7"),
-        of("in 32 bits that is 0, with a number behind it", 7, "00000000 00000005", b"   7"),
+        of("in 32 bits that is 0, with a number after it", 7, "00000000 00000005", b"   7"),
         of("in 32 bits that is 256", 0, "00000100", b" 256"),
         of("in 32 bits with other low bits than the 8-bit one", 7, "00000009", b"   9"),
-        of("in 32 bits with a number behind it", 7, "00000009 00000005", b"   9"),
+        of("in 32 bits with a number after it", 7, "00000009 00000005", b"   9"),
         of("0", 0, "", b"   0"),
         of("255", 255, "", b" 255"),
         of("of four digits", 15, "0000270f", b"9999"),
@@ -112,8 +112,8 @@ def holes() -> list[Case]:
         case("a hole that holds an entry", keytab(hole(HOST.spelled()), B_RECORD), B_LINE),
         case("a hole at the end", keytab(B_RECORD, hole(b"\xff" * 5)), B_LINE),
         case("nothing but holes", keytab(hole(b"x"), hole(bytes(300)))),
-        case("a length 0 with junk behind it", keytab(HOST_RECORD, END, b"\xff" * 20), HOST_LINE),
-        case("a length 0 with an entry behind it", keytab(HOST_RECORD, END, B_RECORD), HOST_LINE),
+        case("a length 0 with junk after it", keytab(HOST_RECORD, END, b"\xff" * 20), HOST_LINE),
+        case("a length 0 with an entry after it", keytab(HOST_RECORD, END, B_RECORD), HOST_LINE),
         case("a length 0 at once", keytab(END)),
     ]
 
@@ -121,7 +121,7 @@ def holes() -> list[Case]:
 def bad_entries() -> list[Case]:
     """Records that begin with no entry: fault 3. What stands before them is listed."""
     zeros = record(bytes(10))
-    behind_hole = keytab(HOST_RECORD, hole(bytes(10)), record(b"x"))
+    after_hole = keytab(HOST_RECORD, hole(bytes(10)), record(b"x"))
     cut_in_key = record(Entry(version32=None).spelled()[:-1])
     return [
         damaged(
@@ -131,7 +131,7 @@ def bad_entries() -> list[Case]:
             b"fault 3 at 53",
         ),
         damaged("a bad entry at once", keytab(zeros, B_RECORD), b"fault 3 at 2"),
-        damaged("a bad entry behind a hole", behind_hole, HOST_LINE, b"fault 3 at 67"),
+        damaged("a bad entry after a hole", after_hole, HOST_LINE, b"fault 3 at 67"),
         damaged("a record that ends in its key", keytab(cut_in_key, END), b"fault 3 at 2"),
         damaged("too many components counted", entries(Entry(count=65_535)), b"fault 3 at 2"),
     ]
@@ -140,19 +140,19 @@ def bad_entries() -> list[Case]:
 def bad_lengths() -> list[Case]:
     """Lengths that run past the end, fault 2, or are cut, fault 1."""
 
-    def behind_host(name: str, behind: bytes, fault: bytes) -> Case:
-        return damaged(name, keytab(HOST_RECORD, behind), HOST_LINE, fault)
+    def after_host(name: str, after: bytes, fault: bytes) -> Case:
+        return damaged(name, keytab(HOST_RECORD, after), HOST_LINE, fault)
 
     cut_hole = hole(bytes(5))[:-1]
     return [
-        behind_host("a record cut by a byte", B_RECORD[:-1], b"fault 2 at 53"),
-        behind_host("a record of the greatest length", b"\x7f\xff\xff\xff", b"fault 2 at 53"),
-        behind_host("a hole of the greatest length", b"\x80\0\0\0" + B_RECORD, b"fault 2 at 53"),
-        behind_host("a hole cut by a byte", cut_hole, b"fault 2 at 53"),
-        behind_host("a length with nothing behind it", b"\0\0\0\1", b"fault 2 at 53"),
-        behind_host("a length of one byte", b"\0", b"fault 1 at 53"),
-        behind_host("a length of two bytes", b"\0\0", b"fault 1 at 53"),
-        behind_host("a length of three bytes", b"\xff\xff\xff", b"fault 1 at 53"),
+        after_host("a record cut by a byte", B_RECORD[:-1], b"fault 2 at 53"),
+        after_host("a record of the greatest length", b"\x7f\xff\xff\xff", b"fault 2 at 53"),
+        after_host("a hole of the greatest length", b"\x80\0\0\0" + B_RECORD, b"fault 2 at 53"),
+        after_host("a hole cut by a byte", cut_hole, b"fault 2 at 53"),
+        after_host("a length with nothing after it", b"\0\0\0\1", b"fault 2 at 53"),
+        after_host("a length of one byte", b"\0", b"fault 1 at 53"),
+        after_host("a length of two bytes", b"\0\0", b"fault 1 at 53"),
+        after_host("a length of three bytes", b"\xff\xff\xff", b"fault 1 at 53"),
         damaged("a length of three bytes at once", keytab(b"\0\0\0"), b"fault 1 at 2"),
     ]
 

@@ -10,7 +10,7 @@ from harness import SECONDS, Outcome, Report, folder_of, message, run
 from images import TWO, Entry, entries
 from listings import B_LINE, HOST_LINE, listed
 
-# A line is its words, behind the program's name.
+# A line is its words, after the program's name.
 Line = tuple[str, ...]
 
 KLIST = ("klist", "-k", "k")
@@ -84,16 +84,21 @@ def check_each_byte(report: Report, program: str) -> None:
         report.compare("room for each byte", Outcome(0, TEXT), limited(program, folder, len(TEXT)))
 
 
-def closed_pipe(program: str, folder: str, taken: int, action: signal.Handlers) -> Outcome:
-    """A run into a pipe whose reader closes it after so many bytes, and what SIGPIPE then does."""
-    with subprocess.Popen(
+def piped(program: str, folder: str, **more: object) -> subprocess.Popen[bytes]:
+    """A run whose outputs are pipes."""
+    return subprocess.Popen(
         [program, *KLIST],
         cwd=folder,
         stdin=subprocess.DEVNULL,
         stdout=subprocess.PIPE,
         stderr=subprocess.PIPE,
-        preexec_fn=lambda: signal.signal(signal.SIGPIPE, action),
-    ) as started:
+        **more,
+    )
+
+
+def closed_pipe(program: str, folder: str, taken: int, action: signal.Handlers) -> Outcome:
+    """A run into a pipe whose reader closes it after so many bytes, and what SIGPIPE then does."""
+    with piped(program, folder, preexec_fn=lambda: signal.signal(signal.SIGPIPE, action)) as started:
         out = started.stdout.read(taken)
         started.stdout.close()
         err = started.stderr.read()
@@ -113,14 +118,7 @@ def check_closed_pipe(report: Report, program: str) -> None:
 def check_slow_pipe(report: Report, program: str) -> None:
     """A reader that takes one byte at a time gets the whole text."""
     with folder_of({"k": TWO}) as folder:
-        with subprocess.Popen(
-            [program, *KLIST],
-            cwd=folder,
-            stdin=subprocess.DEVNULL,
-            stdout=subprocess.PIPE,
-            stderr=subprocess.PIPE,
-            bufsize=0,
-        ) as started:
+        with piped(program, folder, bufsize=0) as started:
             out = b"".join(iter(lambda: started.stdout.read(1), b""))
             err = started.stderr.read()
             got = Outcome(started.wait(SECONDS), out, err)

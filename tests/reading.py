@@ -74,7 +74,7 @@ class Fields:
         return int.from_bytes(self.take(width), self.order)
 
     def counted(self) -> bytes:
-        """The next data behind its 16-bit length."""
+        """The next data after its 16-bit length."""
         return self.take(self.number(2))
 
 
