@@ -23,7 +23,7 @@ def data(value):
 
 
 def record(realm, components, version, enctype, key):
-    """A record with its length: the entry and its 32-bit version, nothing behind it."""
+    """A record with its length: the entry and its 32-bit version, nothing after it."""
     name = struct.pack(">H", len(components)) + data(realm)
     name += b"".join(map(data, components)) + struct.pack(">I", 1)
     rest = struct.pack(">IBH", 1_700_000_000, version % 256, enctype)
@@ -83,14 +83,13 @@ def empty(entries):
 
 GROUPS = [
     # name, unit, maker, sizes, sizes of a quick run
-    ("services", "entries", services, (1_000, 10_000, 100_000, 200_000), (1_000, 10_000)),
-    (COLUMNS, "entries", services, (1_000, 10_000, 100_000, 200_000), (1_000, 10_000)),
-    ("many components", "components", components,
-     (16_383, 32_767, 65_535, 655_350, 3_276_750), (4_095, 65_535)),
-    ("one-byte holes", "holes", holes, (250_000, 500_000, 1_000_000, 3_000_000), (10_000, 100_000)),
-    ("quoted names", "entries", quoted, (33, 133, 550), (5, 33)),
-    ("empty entries", "entries", empty, (50_000, 200_000, 798_000), (1_000, 10_000)),
-    (FINDS, "entries", services, (1_000, 10_000, 100_000, 200_000), (1_000, 10_000)),
+    ("services", "entries", services, (1_000, 100_000, 200_000), (1_000, 10_000)),
+    (COLUMNS, "entries", services, (1_000, 100_000, 200_000), (1_000, 10_000)),
+    ("many components", "components", components, (32_767, 3_276_750), (4_095, 65_535)),
+    ("one-byte holes", "holes", holes, (250_000, 3_000_000), (10_000, 100_000)),
+    ("quoted names", "entries", quoted, (33, 550), (5, 33)),
+    ("empty entries", "entries", empty, (50_000, 798_000), (1_000, 10_000)),
+    (FINDS, "entries", services, (1_000, 100_000, 200_000), (1_000, 10_000)),
 ]
 
 

@@ -20,35 +20,22 @@ def name_of(row):
 
 
 def beside(row, ours, theirs):
-    """A row of a table of times and instructions: one side beside the other."""
+    """A row of a table: one side beside the other, and how ours grows with the file."""
     return [
         name_of(row), f"{row.bytes:,}",
         f"{ours.wall_ms():.1f}", f"{theirs.wall_ms():.1f}",
-        ratio(ours.wall_ms(), theirs.wall_ms()),
         f"{ours.cpu_ms():.1f}", f"{theirs.cpu_ms():.1f}", ratio(ours.cpu_ms(), theirs.cpu_ms()),
         ratio(ours.instructions, MEGA, "{:,.1f}"), ratio(theirs.instructions, MEGA, "{:,.1f}"),
         ratio(ours.instructions, theirs.instructions),
-    ]
-
-
-def growth(row, ours, theirs):
-    """A row of a table of growth: how the first side grows with the file."""
-    return [
-        name_of(row), f"{row.bytes:,}", ratio(ours.instructions, row.bytes, "{:.1f}"),
-        ratio(ours.memory, row.bytes, "{:.2f}"),
-        ratio(ours.memory, MEGA, "{:.1f}"), ratio(theirs.memory, MEGA, "{:.1f}"),
+        ratio(ours.instructions, row.bytes, "{:.1f}"), ratio(ours.memory, row.bytes, "{:.2f}"),
         f"{ours.lines:,}", f"{theirs.lines:,}",
     ]
 
 
 def beside_heading(other):
-    return ["file", "bytes", "ms", f"{other} ms", f"ms / {other}'s", "cpu ms", f"{other} cpu ms",
-            f"cpu / {other}'s", "instr M", f"{other} instr M", f"instr / {other}'s"]
-
-
-def growth_heading(other):
-    return ["file", "bytes", "instr / byte", "peak / bytes", "peak MB", f"{other} peak MB", "lines",
-            f"{other} lines"]
+    return ["file", "bytes", "ms", f"{other} ms", "cpu ms", f"{other} cpu ms", f"cpu / {other}'s",
+            "instr M", f"{other} instr M", f"instr / {other}'s", "instr / byte", "peak / bytes",
+            "lines", f"{other} lines"]
 
 
 def table(heading, cells, rows):
@@ -63,10 +50,9 @@ def table(heading, cells, rows):
     return "\n".join(lines)
 
 
-def both_tables(other, rows):
-    """The table of times and instructions beside that other side, and the table of growth."""
-    return "\n\n".join([table(beside_heading(other), beside, rows),
-                        table(growth_heading(other), growth, rows)])
+def compared(other, rows):
+    """The table beside that other side."""
+    return table(beside_heading(other), beside, rows)
 
 
 def processor():
