@@ -16,7 +16,7 @@ use Rattle.krb_keytab.specs.Written.{fits, written, read_back, IsEntry}
 use Rattle.krb_keytab.specs.Changes.{PlacedCell, freed, padded, filled, first_hole, without, with_filled, with_last, appending, putting_into, putting_bytes, putting, cutting}
 use Rattle.krb_keytab.proofs.CellLemmas.{chosen}
 use Rattle.krb_keytab.proofs.Cuts.{live_behind}
-use Rattle.krb_keytab.proofs.Entries.{entry_again}
+use Rattle.krb_keytab.proofs.EntryLemmas.{entry_again}
 use Rattle.krb_keytab.proofs.Stores.{end_place-store, live_at-store}
 use Rattle.krb_keytab.proofs.Replaced.{StandsAt, live_stands, hole_stands, turned}
 use Rattle.krb_keytab.proofs.Removals.{holds}

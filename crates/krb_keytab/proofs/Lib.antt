@@ -1,10 +1,11 @@
 pub mod Splices
-pub mod Entries
+pub mod EntryLemmas
 pub mod CellLemmas
 pub mod Steps
 pub mod Cuts
 pub mod KnownLemmas
 pub mod Stores
+pub mod Listed
 pub mod Replaced
 pub mod Turned
 pub mod Appended

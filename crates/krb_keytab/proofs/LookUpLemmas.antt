@@ -1,22 +1,14 @@
 -- Looking at one entry after the other finds what look-up gives.
 use Rattle.std.proofs.Common.{◌≡◌, ℕ, ◌<◌, ◌≤◌, Bool, true, false, cond, ltb, List, [], ◌∷◌, ◌++◌, Option, Some, None, Ok, refl, sym, ap, subst, ◌∙◌, arith, inl, inr}
 use Rattle.std.specs.Prelude.{◌&&◌, ◌||◌, ◌==◌, max, filter, find}
-use Rattle.std.specs.Prelude.{option_map}
-use Rattle.std.specs.List.{filter_map, cons_option}
 use Rattle.std.proofs.lemmas.List.{append-nil}
 use Rattle.std.proofs.lemmas.List.Elements.{filter-append}
 use Rattle.std.proofs.lemmas.Bool.{cases_lt, lt-ltb, le-ltb, eq-eqb, ne_eqb}
 use Rattle.std.proofs.lemmas.Bool.Decides.{eqb_tells}
 use Rattle.krb_wire.specs.Spelling.{Parts}
-use Rattle.krb_wire.proofs.Fields.{some_is}
-use Rattle.krb_walk.specs.Store.{live_bytes}
-use Rattle.krb_walk.specs.Stops.{records_from}
-use Rattle.krb_walk.proofs.Stops.{Stopped, walks_begin_with_all}
-use Rattle.krb_keytab.specs.Entry.{EntryParts, entry_at}
-use Rattle.krb_keytab.specs.Store.{State, store_of}
 use Rattle.krb_wire.specs.SameName.{have_same_name}
 use Rattle.krb_keytab.specs.Looked.{answer, IsFoundAmong}
-use Rattle.krb_keytab.specs.LookUp.{Placed, is_asked, greatest, version_asked, found, look_up_in, placed_entry, placed_entries}
+use Rattle.krb_keytab.specs.LookUp.{Placed, is_asked, greatest, version_asked, found, look_up_in}
 
 -- ---- one entry after the other
 
@@ -167,33 +159,6 @@ not_asked n v t xs x named best other so_far =
 pub asked : (n : Parts) (v t : ℕ) (xs : List Placed) (x : Placed) (better : Bool) (best : Option Placed) → is_asked n t x ≡ true → look_up_in v (filter (is_asked n t) xs ++ x ∷ []) ≡ cond better (Ok x) (answer true best)
     → IsFoundAmong n v t (xs ++ x ∷ []) true (cond better (Some x) best)
 asked n v t xs x better best is next = answer_cond better x best ∙ sym next ∙ ap (look_up_in v) (sym (filter-asked n t xs x true is))
-
--- ---- entries from a place on
-
-abbrev pub placed_from : State → ℕ → List Placed
-placed_from k p = filter_map (placed_entry k) (records_from (store_of k) p)
-
--- the entries before a place were looked at
-pub record SoFar (k : State) (n : Parts) (v t place : ℕ) (named : Bool) (best : Option Placed) : Type 0 where
-  pub seen : List Placed
-  pub found : IsFoundAmong n v t seen named best
-  pub all : seen ++ placed_from k place ≡ placed_entries k
-
-pub none_left : (k : State) (n : Parts) (v t place : ℕ) (named : Bool) (best : Option Placed) → placed_from k place ≡ [] → SoFar k n v t place named best → IsFoundAmong n v t (placed_entries k) named best
-none_left k n v t place named best none s =
-    let all : s.seen ≡ placed_entries k = sym (append-nil s.seen) ∙ ap (λ (xs : List Placed). s.seen ++ xs) (sym none) ∙ s.all in
-    subst (λ (xs : List Placed). IsFoundAmong n v t xs named best) all s.found
-
--- the entries from a stop on: the one there, and those from the next place on
-pub placed_stop : (k : State) (p at next : ℕ) (b : List ℕ) (e : EntryParts) → Stopped (store_of k) p at next → live_bytes (store_of k) at ≡ Some b → entry_at k.format b ≡ Some e → placed_from k p ≡ (at, e) ∷ placed_from k next
-placed_stop k p at next b e stop live is =
-    let same : stop.bytes ≡ b = some_is stop.bytes b (sym stop.live ∙ live) in
-    let entry : entry_at k.format stop.bytes ≡ Some e = ap (entry_at k.format) same ∙ is in
-    ap (filter_map (placed_entry k)) stop.first ∙ ap (λ (o : Option EntryParts). cons_option (option_map (λ x. (at, x)) o) (placed_from k next)) entry
-
--- from the first place on there are all
-pub placed_first : (k : State) → placed_from k 2 ≡ placed_entries k
-placed_first k = ap (filter_map (placed_entry k)) (walks_begin_with_all (store_of k)).all
 
 -- an entry with the enctype is asked for exactly where it has the name
 pub asked_by_name : (n : Parts) (t : ℕ) (x : Placed) (has same : Bool) → has ≡ true → has ≡ (t == 0 || x.1.enctype == t) → same ≡ have_same_name n x.1.principal → same ≡ is_asked n t x

@@ -29,7 +29,7 @@ use Rattle.krb_keytab.proofs.CellLemmas.{contents_again}
 use Rattle.krb_keytab.proofs.Turned.{contents_none}
 use Rattle.std.proofs.Math.ListN.{drop_of_length-le}
 use Rattle.krb_keytab.proofs.Cuts.{cell_len, end_place_is}
-use Rattle.krb_keytab.proofs.Entries.{entry_spelled, entry_again}
+use Rattle.krb_keytab.proofs.EntryLemmas.{entry_spelled, entry_again}
 use Rattle.krb_keytab.proofs.WrittenLemmas.{written_spells, written_len}
 use Rattle.krb_keytab.proofs.Stores.{store_sound, held}
 use Rattle.krb_keytab.proofs.AnewLemmas.{fits_anew}

@@ -4,6 +4,7 @@ pub mod Cells
 pub mod Questions
 pub mod Store
 pub mod LookUp
+pub mod Listed
 pub mod Written
 pub mod Changes
 pub mod Answers

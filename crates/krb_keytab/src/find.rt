@@ -4,9 +4,9 @@ ghost use Rattle.std.specs.Prelude.{◌≡◌, ◌==◌, ◌||◌, ◌∷◌, �
 ghost use Rattle.krb_keytab.specs.LookUp.{Placed, is_asked, placed_entries, look_up_in, look_up, finding};
 ghost use Rattle.krb_keytab.specs.Looked.{answer, IsFoundAmong};
 
-use crate::entry::{EntryView, read_entry};
+use crate::entry::EntryView;
 use crate::keytab::Keytab;
-use krb_walk::{Code, Stop};
+use krb_walk::Code;
 use krb_wire::{Name, same_name};
 use std::alloc::Allocator;
 
@@ -74,13 +74,8 @@ fn look_at_all<'a, N: Name, A: Allocator>(
         named: false,
         best: None,
     };
-    let mut place = keytab.first();
-    'records: while let Stop::Live { place: at, next } = keytab.stop_at(place) {
-        let Some(entry) = read_entry(keytab.format(), keytab.bytes_at(at)) else {
-            unreachable!()
-        };
-        looked.look(name, kvno, enctype, at, entry);
-        place = next;
+    for (place, entry) in keytab.entries() {
+        looked.look(name, kvno, enctype, place, entry);
     }
     looked
 }

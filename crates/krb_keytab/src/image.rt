@@ -121,7 +121,8 @@ pub fn stop_of(format: KtFormat, image: &[u8], end: CellsEnd, place: usize) -> S
     }
 }
 
-fn part(image: &[u8], from: usize, size: usize) -> &[u8]
+/// So many bytes from a place on.
+pub fn part(image: &[u8], from: usize, size: usize) -> &[u8]
     requires { from + size ≤ length image.now }
     ensures { result.now ≡ take size (drop from image.now) }
 {

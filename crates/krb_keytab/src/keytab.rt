@@ -10,9 +10,11 @@ ghost use Rattle.krb_keytab.specs.Entry.{entry_at, Spells};
 ghost use Rattle.krb_keytab.specs.Cells.{contents, IsSound};
 ghost use Rattle.krb_keytab.specs.Known.{IsKnownEnd};
 ghost use Rattle.krb_keytab.specs.Laws.{AreBytes};
+ghost use Rattle.krb_keytab.specs.LookUp.{placed_entries};
 ghost use Rattle.krb_keytab.specs.Store.{InMemory, opening, image_of, store_of, entry_at_place, IsImage, Reopens, empty};
 
 use crate::cells::bytes_fit;
+use crate::entries::Entries;
 use crate::entry::{EntryView, read_entry};
 use crate::image::{
     CellsEnd, end_of_cells, is_place_of, live_bytes_of, live_of, spelled_of, stop_of,
@@ -169,6 +171,13 @@ impl<A: Allocator> Keytab<A> {
     {
         let _ = self.image();
         live_bytes_of(self.format, &self.image, self.end, place as usize)
+    }
+
+    /// The entries with the places of their records, in file order, up to the end or the fault.
+    pub fn entries(&self) -> Entries<'_>
+        ensures { result ≡ placed_entries self.now.state }
+    {
+        Entries::of(self.format, &self.image, self.end)
     }
 
     // The bytes of the record at a place, if one stands there.

@@ -6,6 +6,7 @@ mod append;
 mod carry;
 mod cells;
 mod edit;
+mod entries;
 mod entry;
 mod fields;
 mod find;
@@ -24,6 +25,7 @@ mod tests;
 mod turn;
 
 pub use edit::{EditRefused, edit_image};
+pub use entries::Entries;
 pub use entry::{EntryView, read_entry};
 pub use keytab::Keytab;
 pub use laws::{changes_are_seen, one_reading, written_is_read_back};
