@@ -3,3 +3,4 @@ pub mod Faults
 pub mod Pieces
 pub mod Ends
 pub mod KeytabFile
+pub mod EditLemmas

@@ -6,6 +6,8 @@ use Rattle.krb_keytab.specs.Opening.{open_fault_number}
 use Rattle.krb_keytab.specs.Store.{State, opening}
 use Rattle.krb_text.specs.declared.files.LoadFault.{LoadFault}
 use Rattle.krb_text.specs.declared.files.LoadFault.TheVariants as load
+use Rattle.krb_text.specs.declared.files.SaveFault.{SaveFault}
+use Rattle.krb_text.specs.declared.files.SaveFault.TheVariants as save
 use Rattle.krb_text.specs.declared.files.Files.{Ghosts}
 use Rattle.krb_text.specs.Bytes.{Watch}
 use Rattle.krb_text.specs.Files.{SameFiles, loaded}
@@ -34,15 +36,33 @@ load_status load.NoMemory = 4
 abbrev pub open_message : List ℕ → KtOpenFault → List ℕ
 open_message file fault = file_message file (codes "not a keytab (" ++ decimal (open_fault_number fault) ++ codes ")")
 
+-- a run that ends with an image that is no keytab
+abbrev pub open_fault_run : List ℕ → KtOpenFault → Run
+open_fault_run file fault = record { out = []; err = open_message file fault; status = 1 }
+
+-- a run that ends with a file that was not loaded
+abbrev pub load_fault_run : List ℕ → LoadFault → Run
+load_fault_run file fault = record { out = []; err = load_message file fault; status = load_status fault }
+
 -- an image was opened, and something is done with the keytab, or it was not
 abbrev pub opening_run : (State → Run) → List ℕ → Result State KtOpenFault → Run
 opening_run then_ file (Ok keytab) = then_ keytab
-opening_run then_ file (Err fault) = record { out = []; err = open_message file fault; status = 1 }
+opening_run then_ file (Err fault) = open_fault_run file fault
 
 -- a file was loaded, or not
 abbrev pub load_run : (State → Run) → Order → List ℕ → Result (List ℕ) LoadFault → Run
 load_run then_ order file (Ok image) = opening_run then_ file (opening order most_bytes image)
-load_run then_ order file (Err fault) = record { out = []; err = load_message file fault; status = load_status fault }
+load_run then_ order file (Err fault) = load_fault_run file fault
+
+-- a run that ends with a file that was not saved
+abbrev pub save_fault_run : List ℕ → SaveFault → Run
+save_fault_run file save.Failed = record { out = []; err = file_message file (codes "cannot write"); status = 3 }
+save_fault_run file save.NoMemory = record { out = []; err = message (codes "out of memory"); status = 4 }
+
+-- a file was saved, and then a run ends as it is due, or it was not
+abbrev pub saved_run : List ℕ → Run → Result (Unit {0}) SaveFault → Run
+saved_run file due (Ok done) = due
+saved_run file due (Err fault) = save_fault_run file fault
 
 module _ {F : Type 0} (trait : Ghosts F) (old new : F) where
   -- the files are honest as before, and the same

@@ -3,7 +3,10 @@ pub mod Reader
 pub mod Messages
 pub mod Runs
 pub mod KeytabFile
+pub mod Input
 pub mod Klist
 pub mod Ktfind
+pub mod Ktedit
+pub mod Edits
 pub mod Options
 pub mod Actions

@@ -25,6 +25,12 @@ pub record EndsRun (due : Run) (out out' err err' : Watch) (status : ℕ) : Type
   pub failed : IsTrue out'.failed → (status ≡ 3) × Says err err' (message (codes "cannot write output"))
   pub no_memory : status ≡ 4 → IsFalse out'.failed × Says err err' (message (codes "out of memory"))
 
+-- memory ran out, and nothing is out
+pub record RunsOut (out out' err err' : Watch) (status : ℕ) : Type 0 where
+  pub ends : status ≡ 4
+  pub kept : out' ≡ out
+  pub said : Says err err' (message (codes "out of memory"))
+
 -- a file could not be read: the failure was counted, nothing is out, and the message says so
 pub record FailsToRead (file : List ℕ) (failures failures' : ℕ) (out out' err err' : Watch) (status : ℕ) : Type 0 where
   pub counted : CountsFailure failures failures'

@@ -10,8 +10,8 @@ use krb_wire::{Limits, Order};
 use std::alloc::Allocator;
 use std::io::Write;
 
-// The most bytes that a file may have.
-const LIMIT: u32 = 16_777_216;
+/// The most bytes that a file may have.
+pub const MOST_BYTES: u32 = 16_777_216;
 
 /// Loads and opens the keytab of that name. Where there is none, says why on `err`, and answers the
 /// status; a failure of `err` changes nothing else.
@@ -27,7 +27,7 @@ pub fn open_keytab<A: Allocator, F: Files, E: Write>(
     ensures err { IfErr result (λ status. EndsUnopened F.Files files.old files.new
         file.now v1_order err.old err.new status) }
 {
-    match files.load(alloc, file, LIMIT) {
+    match files.load(alloc, file, MOST_BYTES) {
         Ok(image) => match Keytab::open(image, v1_order, Limits::usual()) {
             Ok(keytab) => Ok(keytab),
             Err(refused) => {

@@ -2,8 +2,10 @@
 #![tactic(auto)]
 
 mod action;
+mod input;
 mod keytab_file;
 mod klist;
+mod ktedit;
 mod ktfind;
 mod messages;
 mod options;
@@ -16,6 +18,7 @@ mod tests;
 pub use action::{Action, FindOptions, KlistOptions, ListKind, WordFault};
 pub use keytab_file::open_keytab;
 pub use klist::run_klist;
+pub use ktedit::run_ktedit;
 pub use ktfind::run_ktfind;
 pub use options::{KlistWords, KtfindWords, klist_action, ktfind_action};
 pub use reader::load;

@@ -4,7 +4,7 @@ ghost use Rattle.std.specs.Prelude.{◌++◌, decimal, OnOk, OnErr, IsTrue};
 ghost use Rattle.std.specs.List.{flat_map};
 ghost use Rattle.krb_text.specs.Bytes.{AppendsPrefix};
 ghost use Rattle.krb_text.specs.Gathered.{Sent};
-ghost use Rattle.krb_commands.specs.Messages.{message, file_message};
+ghost use Rattle.krb_commands.specs.Messages.{message, file_message, line_message};
 ghost use Rattle.krb_commands.specs.Runs.{Says};
 
 use arrayvec::ArrayString;
@@ -79,4 +79,15 @@ pub fn complain_number_of<'a, E: Write>(
     let mut buffer = Buffer::new();
     let digits = buffer.format(number);
     say(err, &["krbfile: ", file, ": ", before, digits, after, "\n"]);
+}
+
+/// Says something of a line of the input that has a number in it. A failure there is passed over.
+pub fn complain_of_line<E: Write>(err: &mut Watched<E>, line: u64, what: &str, number: u32)
+    ensures { Says err.old err.new (line_message line what.now number) }
+{
+    let mut line_buffer = Buffer::new();
+    let mut buffer = Buffer::new();
+    let line_digits = line_buffer.format(line);
+    let digits = buffer.format(number);
+    say(err, &["krbfile: line ", line_digits, ": ", what, digits, "\n"]);
 }

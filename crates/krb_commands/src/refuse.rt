@@ -2,13 +2,13 @@
 
 ghost use Rattle.std.specs.Prelude.{◌≡◌, ◌++◌, codes, decimal};
 ghost use Rattle.krb_walk.specs.Numbers.{code_number};
-ghost use Rattle.krb_commands.specs.KeytabFile.{load_message, load_status, open_message};
+ghost use Rattle.krb_commands.specs.KeytabFile.{load_message, load_status, open_message, save_fault_run};
 ghost use Rattle.krb_commands.specs.Ktfind.{refused_message};
 ghost use Rattle.krb_commands.specs.Runs.{Says};
 
 use crate::messages::{complain, complain_number_of, complain_of};
 use krb_keytab::KtOpenFault;
-use krb_text::{LoadFault, Watched};
+use krb_text::{LoadFault, SaveFault, Watched};
 use krb_walk::Code;
 use std::io::Write;
 
@@ -31,6 +31,23 @@ pub fn refuse_load<E: Write>(file: &str, fault: LoadFault, err: &mut Watched<E>)
             3
         }
         LoadFault::NoMemory => {
+            complain(err, "out of memory");
+            4
+        }
+    }
+}
+
+/// Says why a file was not saved, and answers the status for it.
+pub fn refuse_save<E: Write>(file: &str, fault: SaveFault, err: &mut Watched<E>) -> u8
+    ensures status { result ≡ (save_fault_run file.now fault).status }
+    ensures err { Says err.old err.new (save_fault_run file.now fault).err }
+{
+    match fault {
+        SaveFault::Failed => {
+            complain_of(err, file, "cannot write");
+            3
+        }
+        SaveFault::NoMemory => {
             complain(err, "out of memory");
             4
         }

@@ -1,0 +1,237 @@
+-- What an edit prints, and how it ends.
+use Rattle.std.proofs.Common.{◌≡◌, ◌≢◌, ℕ, ◌<◌, Bool, true, false, List, [], ◌∷◌, ◌++◌, map, ◌⊎◌, inl, inr, refl, sym, ap, subst, ◌∙◌, rules, arith}
+use Rattle.std.specs.Prelude.{if◌then◌else◌, ◌+◌, cond, ◌&&◌, ◌||◌, is_some, nat_lt, length, slice_get, codes, IsFalse, Option, None, Some, Result, Ok, Err, is_ok, IfSome}
+use Rattle.std.specs.List.{flat_map, list_any}
+use Rattle.std.specs.Io.KnownBytes.{Appends}
+use Rattle.std.proofs.lemmas.Bool.{false≢true, true≢false}
+use Rattle.krb_wire.specs.declared.format.Order.{Order}
+use Rattle.krb_wire.specs.declared.format.KtFormat.{KtFormat}
+use Rattle.krb_walk.specs.declared.event.Event.{Event}
+use Rattle.krb_walk.specs.declared.event.Event.TheVariants.{Start, Resume, Step, Put, Cut, Rewrite}
+use Rattle.krb_walk.specs.declared.fault.FaultKind.{FaultKind}
+use Rattle.krb_walk.specs.declared.refusal.Code.{Code}
+use Rattle.krb_walk.specs.declared.refusal.Code.TheVariants as code
+use Rattle.krb_walk.specs.Store.{Store, Record, end_of, fault_of, is_place, live_bytes, next_live}
+use Rattle.krb_walk.specs.Said.{Said, Started, Refused}
+use Rattle.krb_walk.specs.Events.{State as Session, reply_to, after, store_after, step_said, stop_said, end_said, put_said, put_store, cut_said, cut_store, rewrite_said}
+use Rattle.krb_walk.specs.History.{history, replies, state_after}
+use Rattle.krb_walk.specs.Ran.{Ran}
+use Rattle.krb_keytab.specs.Changes.{PlacedCell, cutting, putting, putting_bytes, putting_into, first_hole, without, with_last}
+use Rattle.krb_keytab.specs.Edited.{new_session}
+use Rattle.krb_keytab.specs.Entry.{EntryParts}
+use Rattle.krb_keytab.specs.Rewrite.{rewrite_of, rewrite_result}
+use Rattle.krb_keytab.specs.Store.{State, image_of, store_of}
+use Rattle.krb_keytab.specs.Walked.{keytab_rules}
+use Rattle.krb_keytab.specs.Written.{fits, written}
+use Rattle.krb_text.specs.declared.files.Files.{Ghosts}
+use Rattle.krb_text.specs.declared.files.LoadFault.{LoadFault}
+use Rattle.krb_text.specs.declared.files.LoadFault.TheVariants as load
+use Rattle.krb_text.specs.declared.files.SaveFault.{SaveFault}
+use Rattle.krb_text.specs.declared.files.SaveFault.TheVariants as save
+use Rattle.krb_text.specs.Bytes.{Watch}
+use Rattle.krb_text.specs.Reply.{reply_text, reply_texts, format_after}
+use Rattle.krb_text.proofs.Prefixes.{AppendsPrefix-none, Appends-nil}
+use Rattle.krb_commands.specs.declared.ktedit.Edited.{Edited}
+use Rattle.krb_commands.specs.Edits.{IsEdited, OpensToEdit, EndsUnedited, SaysWhy}
+use Rattle.krb_commands.specs.KeytabFile.{most_bytes, load_fault_run, save_fault_run}
+use Rattle.krb_commands.specs.Input.{GivesInput, input_run}
+use Rattle.krb_commands.specs.Ktedit.{moments, is_change, is_trouble, keytab_loaded, edit_keytab, RunsFairly, RunsOutFirst, SavesDue, SavesFile, EditsFile}
+use Rattle.krb_commands.specs.Messages.{message}
+use Rattle.krb_commands.specs.Reader.{ConsumesAtMost}
+use Rattle.krb_commands.specs.Runs.{Run, Says, EndsRun}
+
+-- ---- the format after an event
+
+-- an addition keeps the format
+abbrev KeepsFormat : State → Result (ℕ × State) Code → Type 0
+KeepsFormat k (Ok given) = given.1.format ≡ k.format
+KeepsFormat k (Err refused) = Unit {0}
+
+if_keeps : (k : State) (b : Bool) (x y : Result (ℕ × State) Code) → KeepsFormat k x → KeepsFormat k y → KeepsFormat k (if b then x else y)
+if_keeps k true x y hx hy = hx
+if_keeps k false x y hx hy = hy
+
+into_keeps : (k : State) (bytes : List ℕ) (hole : Option PlacedCell) → KeepsFormat k (putting_into k bytes hole)
+into_keeps k bytes (Some hole) = refl
+into_keeps k bytes None = if_keeps k (nat_lt k.limit (length (image_of (with_last k bytes)))) (Err code.Full) (Ok (end_of (store_of k), with_last k bytes)) tt refl
+
+put_keeps : (k : State) (e : EntryParts) → KeepsFormat k (putting k e)
+put_keeps k e =
+    if_keeps k (is_some (fault_of (store_of k))) (Err code.Damaged) (if fits k.format e then putting_bytes k (written k.format e) else Err code.TooLong) tt
+      (if_keeps k (fits k.format e) (putting_bytes k (written k.format e)) (Err code.TooLong) (into_keeps k (written k.format e) (first_hole 2 (length (written k.format e)) k.contents.cells)) tt)
+
+-- the format that a reply leaves is that of the keytab after its event
+of_put : (k : State) (given : Result (ℕ × State) Code) → KeepsFormat k given → (put_store k given).format ≡ format_after k.format (put_said given)
+of_put k (Ok given) keeps = keeps
+of_put k (Err refused) keeps = refl
+
+of_cond : (f : KtFormat) (b : Bool) (x y : Said) → format_after f x ≡ f → format_after f y ≡ f → f ≡ format_after f (cond b x y)
+of_cond f true x y hx hy = sym hx
+of_cond f false x y hx hy = sym hy
+
+of_resume : (f : KtFormat) (a b : Bool) (x y z : Said) → format_after f x ≡ f → format_after f y ≡ f → format_after f z ≡ f → f ≡ format_after f (cond a (cond b x y) z)
+of_resume f true b x y z hx hy hz = of_cond f b x y hx hy
+of_resume f false b x y z hx hy hz = sym hz
+
+of_end : (f : KtFormat) (w end : ℕ) (fault : Option FaultKind) → f ≡ format_after f (end_said w end fault)
+of_end f w end None = refl
+of_end f w end (Some kind) = refl
+
+of_stop : (f : KtFormat) (s : Store) (w : ℕ) (next : Option Record) → f ≡ format_after f (stop_said s w next)
+of_stop f s w (Some r) = refl
+of_stop f s w None = of_end f w (end_of s) s.fault
+
+of_step : (f : KtFormat) (s : Store) (w : ℕ) (cursor : Option ℕ) → f ≡ format_after f (step_said s w cursor)
+of_step f s w None = refl
+of_step f s w (Some c) = of_stop f s w (next_live s c)
+
+of_cut_if : (k : State) (p : ℕ) (a b : Bool) (r s : Code) → (cut_store k (if a then Err r else (if b then Ok (without k p) else Err s))).format
+    ≡ format_after k.format (cut_said p (if a then Err r else (if b then Ok (without k p) else Err s)))
+of_cut_if k p true b r s = refl
+of_cut_if k p false true r s = refl
+of_cut_if k p false false r s = refl
+
+of_rewrite_if : (k : State) (a b : Bool) (r s : Code) → (cut_store k (if a then Err r else (if b then Err s else Ok (rewrite_of k)))).format
+    ≡ format_after k.format (rewrite_said store_of (if a then Err r else (if b then Err s else Ok (rewrite_of k))))
+of_rewrite_if k true b r s = refl
+of_rewrite_if k false true r s = refl
+of_rewrite_if k false false r s = refl
+
+format_of_event : (s : Session State) (e : Event EntryParts) → (store_after keytab_rules s e).format ≡ format_after s.store.format (reply_to keytab_rules s e)
+format_of_event s Start = of_cond s.store.format (nat_lt (length s.cursors) 1024) (Started (length s.cursors) 2) (Refused code.TooManyWalks) refl refl
+format_of_event s (Resume p) = of_resume s.store.format (nat_lt (length s.cursors) 1024) (is_place (store_of s.store) p) (Started (length s.cursors) p) (Refused code.NotAPlace) (Refused code.TooManyWalks) refl refl refl
+format_of_event s (Step w) = of_step s.store.format (store_of s.store) w (slice_get s.cursors w)
+format_of_event s (Put e) = of_put s.store (putting s.store e) (put_keeps s.store e)
+format_of_event s (Cut p) = of_cut_if s.store p (is_some (fault_of (store_of s.store))) (is_some (live_bytes (store_of s.store) p)) code.Damaged code.NotLive
+format_of_event s Rewrite = of_rewrite_if s.store (is_some (fault_of (store_of s.store))) (nat_lt s.store.limit (length (image_of (rewrite_of s.store)))) code.Damaged code.Full
+
+-- the lines of replies, each in the format that the keytab then had
+lines_of : (s : Session State) (events : List (Event EntryParts))
+    → flat_map (λ m. reply_text m.before.store.format m.reply) (history keytab_rules s events) ≡ reply_texts s.store.format (replies (history keytab_rules s events))
+lines_of s [] = refl
+lines_of s (e ∷ es) =
+    let next = after keytab_rules s e in
+    ap (λ (t : List ℕ). reply_text s.store.format (reply_to keytab_rules s e) ++ t)
+      (lines_of next es ∙ ap (λ (f : KtFormat). reply_texts f (replies (history keytab_rules next es))) (format_of_event s e))
+
+-- ---- what was made of a keytab
+
+pub any_said : {A B : Type 0} (f : A → B) (test : B → Bool) (xs : List A) → list_any (λ x. test (f x)) xs ≡ list_any test (map f xs)
+any_said f test [] = refl
+any_said f test (x ∷ xs) = ap (λ (b : Bool). test (f x) || b) (any_said f test xs)
+
+pub IsEdited-by : {A : Type 0} (keytab : State) (events : List (Event EntryParts)) (old new : Session State) (told : List Said) (e : Edited A)
+    → old ≡ new_session keytab → Ran keytab_rules old new events [] told → e.image.items ≡ image_of new.store → e.text.items ≡ reply_texts keytab.format told
+    → e.is_changed ≡ list_any is_change told → e.status ≡ (if list_any is_trouble told then 1 else 0) → IsEdited keytab events e
+IsEdited-by keytab events old new told e begins ran image text changed status =
+    let from_new : Ran keytab_rules (new_session keytab) new events [] told = subst (λ (s : Session State). Ran keytab_rules s new events [] told) begins ran in
+    let told_is : told ≡ replies (moments keytab events) = from_new.replies_are in
+    let new_is : new ≡ state_after keytab_rules (new_session keytab) events = from_new.state in
+    record {
+      ran = subst (λ (t : List Said). Ran keytab_rules (new_session keytab) (state_after keytab_rules (new_session keytab) events) events [] t) told_is
+        (subst (λ (s : Session State). Ran keytab_rules (new_session keytab) s events [] told) new_is from_new);
+      image = image ∙ ap (λ (s : Session State). image_of s.store) new_is;
+      text = text ∙ ap (reply_texts keytab.format) told_is ∙ sym (lines_of (new_session keytab) events);
+      is_changed = changed ∙ ap (list_any is_change) told_is;
+      status = status ∙ ap (λ (t : List Said). if list_any is_trouble t then 1 else 0) told_is;
+    }
+
+one_at_most : (b : Bool) → ◌<◌ (if b then 1 else 0) 3
+one_at_most true = omega arith
+one_at_most false = omega arith
+
+-- its status is that of no failure
+pub IsEdited-low : {A : Type 0} (keytab : State) (events : List (Event EntryParts)) (e : Edited A) → IsEdited keytab events e → e.status < 3
+IsEdited-low keytab events e is = subst (λ (n : ℕ). n < 3) (sym is.status) (one_at_most (list_any is_trouble (replies (moments keytab events))))
+
+-- ---- how a run ends that prints nothing
+
+-- a message was said, and nothing was printed
+pub EndsRun-said : (due : Run) (out err err' : Watch) (status : ℕ) → IsFalse out.failed → due.out ≡ [] → status ≡ due.status → Says err err' due.err
+    → (due.status ≡ 4 → due.err ≡ message (codes "out of memory")) → EndsRun due out out err err' status
+EndsRun-said due out err err' status well nothing same says memory = record {
+  done = λ _ _. (same, subst (λ (text : List ℕ). Appends out.contents out.contents text) (sym nothing) (Appends-nil out.contents), says);
+  prefix = AppendsPrefix-none out.contents due.out;
+  failed = λ failed. absurd (false≢true (sym well ∙ failed));
+  no_memory = λ is4. (well, subst (Says err err') (memory (sym same ∙ is4)) says);
+}
+
+-- why a run ends there is said, and memory is missed where its status says so
+abbrev IsTold : Run → Type 0
+IsTold due = (due.out ≡ []) × (due.status ≡ 4 → due.err ≡ message (codes "out of memory"))
+
+pub unloaded_is_told : (file : List ℕ) (fault : LoadFault) → IsTold (load_fault_run file fault)
+unloaded_is_told file load.Missing = let no : 1 ≢ 4 = search rules in (refl, λ e. absurd (no e))
+unloaded_is_told file load.TooLarge = let no : 1 ≢ 4 = search rules in (refl, λ e. absurd (no e))
+unloaded_is_told file load.Failed = let no : 3 ≢ 4 = search rules in (refl, λ e. absurd (no e))
+unloaded_is_told file load.NoMemory = (refl, λ e. refl)
+
+unsaved_is_told : (file : List ℕ) (fault : SaveFault) → IsTold (save_fault_run file fault)
+unsaved_is_told file save.Failed = let no : 3 ≢ 4 = search rules in (refl, λ e. absurd (no e))
+unsaved_is_told file save.NoMemory = (refl, λ e. refl)
+
+pub unread_is_told : (fault : LoadFault) → IsTold (input_run fault)
+unread_is_told load.Missing = let no : 3 ≢ 4 = search rules in (refl, λ e. absurd (no e))
+unread_is_told load.TooLarge = let no : 1 ≢ 4 = search rules in (refl, λ e. absurd (no e))
+unread_is_told load.Failed = let no : 3 ≢ 4 = search rules in (refl, λ e. absurd (no e))
+unread_is_told load.NoMemory = (refl, λ e. refl)
+
+-- ---- what a reader gave
+
+abbrev fault_in : Result (List ℕ) LoadFault → LoadFault
+fault_in (Ok bytes) = load.Missing
+fault_in (Err fault) = fault
+
+pub GivesInput-ok : (given given' : Option (List ℕ)) (bytes : List ℕ) → IfSome given (λ left. bytes ≡ left) → ConsumesAtMost given given' (most_bytes + 1) → GivesInput given given' (Ok bytes)
+GivesInput-ok given given' bytes all taken = record { all = all; too_large = λ e. absurd (true≢false (ap is_ok e)); never = tt; taken = taken }
+
+pub GivesInput-err : (given given' : Option (List ℕ)) (fault : LoadFault) → (fault ≡ load.TooLarge → IfSome given (λ left. most_bytes < length left)) → fault ≢ load.Missing
+    → ConsumesAtMost given given' (most_bytes + 1) → GivesInput given given' (Err fault)
+GivesInput-err given given' fault too_large never taken = record { all = tt; too_large = λ e. too_large (ap fault_in e); never = never; taken = taken }
+
+-- ---- the steps of an edit
+
+module _ {F : Type 0} (trait : Ghosts F) (file : List ℕ) (out err : Watch) (well : IsFalse out.failed) where
+  -- a file was not saved
+  pub SavesFile-not : (bytes : List ℕ) (due : Run) (old new : F) (err' : Watch) (status : ℕ) (fault : SaveFault) → trait.saves old file bytes (Err fault) new
+      → status ≡ (save_fault_run file fault).status → Says err err' (save_fault_run file fault).err → SavesFile trait file out out err err' status bytes due old new
+  SavesFile-not bytes due old new err' status fault answered same says =
+      let told = unsaved_is_told file fault in
+      record {
+        saved = Err fault;
+        answered = answered;
+        ends = EndsRun-said (save_fault_run file fault) out err err' status well told.0 same says told.1;
+        spared = λ ok. absurd (false≢true ok);
+      }
+
+  -- there was no keytab to edit
+  without_keytab : (events : List (Event EntryParts)) (new : F) (err' : Watch) (status : ℕ) (old : F) (order : Order) (opened : Result State Run) → SaysWhy trait file order old new err err' opened status
+      → RunsFairly events opened × SavesDue trait file out out err err' status (edit_keytab events opened).saved (edit_keytab events opened).run new new
+  without_keytab events new err' status old order (Ok keytab) why = absurd why
+  without_keytab events new err' status old order (Err due) why = (tt, (refl, EndsRun-said due out err err' status well why.0 why.1 why.2 why.3))
+
+  why_not : (events : List (Event EntryParts)) (new : F) (err' : Watch) (status : ℕ) (old : F) (order : Order) (opened : Result State Run)
+      → ((status ≡ 4) × Says err err' (message (codes "out of memory"))) ⊎ SaysWhy trait file order old new err err' opened status
+      → RunsOutFirst trait file out out err err' status new new
+        ⊎ (RunsFairly events opened × SavesDue trait file out out err err' status (edit_keytab events opened).saved (edit_keytab events opened).run new new)
+  why_not events new err' status old order opened (inl memory) = inl (refl, record { ends = memory.0; kept = refl; said = memory.1 })
+  why_not events new err' status old order opened (inr why) = inr (without_keytab events new err' status old order opened why)
+
+  pub EditsFile-without : (order : Order) (events : List (Event EntryParts)) (old new : F) (err' : Watch) (status : ℕ) → EndsUnedited trait file order old new err err' status
+      → EditsFile trait file out out err err' status order events old new
+  EditsFile-without order events old new err' status u = record {
+    answer = u.answer;
+    files = new;
+    answered = u.answered;
+    ends = why_not events new err' status old order (keytab_loaded order file u.answer) u.why;
+  }
+
+  -- memory ran out over a keytab
+  pub EditsFile-memory : (order : Order) (events : List (Event EntryParts)) (old new : F) (err1 err' : Watch) (keytab : State) → OpensToEdit trait file order old new err err1 keytab
+      → Says err1 err' (message (codes "out of memory")) → EditsFile trait file out out err err' 4 order events old new
+  EditsFile-memory order events old new err1 err' keytab opens says = record {
+    answer = opens.answer;
+    files = new;
+    answered = opens.answered;
+    ends = inl (refl, record { ends = refl; kept = refl; said = subst (λ (e : Watch). Says e err' (message (codes "out of memory"))) opens.quiet says });
+  }

@@ -1,0 +1,23 @@
+use Rattle.std.proofs.Common.{◌≡◌, map, ap, ◌∙◌}
+use Rattle.std.specs.Prelude.{if◌then◌else◌}
+use Rattle.krb_walk.specs.Said.{said}
+use Rattle.krb_walk.specs.Events.{session_of}
+use Rattle.krb_keytab.specs.Store.{InMemory, image_of}
+use Rattle.krb_text.specs.Reply.{reply_texts}
+use Rattle.krb_commands.specs.Ktedit.{is_change, is_trouble}
+use Rattle.krb_commands.proofs.EditLemmas.{any_said, IsEdited-by}
+use Rattle.krb_commands.proofs.ktedit.edit.Goals as goal
+
+-- what the session did, and what was told of it
+pub returns : goal.returns
+returns g c =
+    let told = map said c.run.new.replies.items in
+    let ran = rw c.new-replies.ensures.items at c.in_ok-run.ensures.ok in
+    let text = rw (c.new-text.ensures.items, c.format-format.ensures, c.deref.ensures.value) at c.in_ok-reply_lines.ensures.ok in
+    let changed = rw (c.deref-2.ensures.value, any_said said is_change c.run.new.replies.items) at c.are_changes.ensures in
+    let trouble = rw (c.deref-3.ensures.value, any_said said is_trouble c.run.new.replies.items) at c.are_trouble.ensures in
+    IsEdited-by c.args.keytab.state c.args.events.now (session_of (λ (k : InMemory). k.state) c.new-session.result) (session_of (λ (k : InMemory). k.state) c.run.new.self) told
+      (record { image = c.into_image.result; text = c.reply_lines.new.out; is_changed = c.are_changes.result; status = c.status_of.result })
+      (ap (session_of (λ (k : InMemory). k.state)) c.new-session.ensures.is) ran
+      (c.into_image.ensures.spelled ∙ ap (λ (k : InMemory). image_of k.state) c.into_store.ensures)
+      text changed (rw trouble at c.status_of.ensures)

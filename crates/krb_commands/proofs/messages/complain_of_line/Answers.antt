@@ -1,0 +1,5 @@
+use Rattle.krb_commands.proofs.messages.complain_of_line.Goals as goal
+
+-- the texts one after the other
+pub returns : goal.returns
+returns g c = rw (c.format-line_digits.ensures.text, c.format-digits.ensures.text) at c.say.ensures

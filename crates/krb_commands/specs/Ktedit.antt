@@ -1,0 +1,159 @@
+-- What ktedit does.
+use Rattle.std.specs.Prelude.{◌≡◌, ◌≢◌, ◌⊎◌, ℕ, Bool, true, false, List, [], ◌++◌, if◌then◌else◌, codes, decimal, Option, None, Some, Result, Ok, Err, IsOk}
+use Rattle.std.specs.List.{flat_map, list_any}
+use Rattle.krb_wire.specs.declared.format.Order.{Order}
+use Rattle.krb_wire.specs.declared.format.KtFormat.TheVariants.{V2}
+use Rattle.krb_walk.specs.declared.event.Event.{Event}
+use Rattle.krb_walk.specs.Said.{Said, Placed, Gone, Rewritten, Refused, Faulted}
+use Rattle.krb_walk.specs.History.{Moment, history, replies, state_after}
+use Rattle.krb_walk.specs.Ran.{Ran}
+use Rattle.krb_keytab.specs.declared.open.KtOpenFault.{KtOpenFault}
+use Rattle.krb_keytab.specs.Edited.{new_session}
+use Rattle.krb_keytab.specs.Entry.{EntryParts}
+use Rattle.krb_keytab.specs.Store.{State, empty, image_of, opening}
+use Rattle.krb_keytab.specs.Walked.{keytab_rules}
+use Rattle.krb_text.specs.declared.files.Files.{Ghosts}
+use Rattle.krb_text.specs.declared.files.LoadFault.{LoadFault}
+use Rattle.krb_text.specs.declared.files.LoadFault.TheVariants as load
+use Rattle.krb_text.specs.declared.files.SaveFault.{SaveFault}
+use Rattle.krb_text.specs.declared.line_fault.LineFault.{LineFault}
+use Rattle.krb_text.specs.Bytes.{Watch}
+use Rattle.krb_text.specs.Files.{FileMap, SameFiles, SetsFile, CountsFailure, loaded}
+use Rattle.krb_text.specs.Reply.{reply_text}
+use Rattle.krb_text.specs.Script.{ScriptFault, script}
+use Rattle.krb_commands.specs.Input.{GivesInput, input_run, line_run}
+use Rattle.krb_commands.specs.KeytabFile.{most_bytes, load_fault_run, open_fault_run, saved_run}
+use Rattle.krb_commands.specs.Runs.{Run, EndsRun, RunsOut}
+
+-- a reply that tells of a change of the keytab
+abbrev pub is_change : Said → Bool
+is_change (Placed place) = true
+is_change (Gone place) = true
+is_change (Rewritten end) = true
+is_change said = false
+
+-- a reply that tells of a refusal or of a fault
+abbrev pub is_trouble : Said → Bool
+is_trouble (Refused code) = true
+is_trouble (Faulted walk fault) = true
+is_trouble said = false
+
+module _ (keytab : State) (events : List (Event EntryParts)) where
+  -- the events, each with its reply, over the keytab in a new session
+  abbrev pub moments : List (Moment State EntryParts)
+  moments = history keytab_rules (new_session keytab) events
+
+  -- the keytab after them
+  abbrev pub keytab_after : State
+  keytab_after = (state_after keytab_rules (new_session keytab) events).store
+
+  -- some event changed the keytab
+  abbrev pub is_changed : Bool
+  is_changed = list_any is_change (replies moments)
+
+  -- the lines of the replies, each in the format that the keytab then had
+  abbrev pub reply_lines : List ℕ
+  reply_lines = flat_map (λ m. reply_text m.before.store.format m.reply) moments
+
+  -- what is printed in the end; the status tells of trouble
+  abbrev pub edit_run : Run
+  edit_run = record {
+    out = reply_lines;
+    err = [];
+    status = if list_any is_trouble (replies moments) then 1 else 0;
+  }
+
+-- the keytab that an image is, or how the run ends without one
+abbrev pub keytab_opened : List ℕ → Result State KtOpenFault → Result State Run
+keytab_opened file (Ok keytab) = Ok keytab
+keytab_opened file (Err fault) = Err (open_fault_run file fault)
+
+-- the keytab of what a load answered: a missing file begins as an empty keytab of version 2
+abbrev pub keytab_loaded : Order → List ℕ → Result (List ℕ) LoadFault → Result State Run
+keytab_loaded order file (Ok image) = keytab_opened file (opening order most_bytes image)
+keytab_loaded order file (Err load.Missing) = Ok (empty V2 most_bytes)
+keytab_loaded order file (Err fault) = Err (load_fault_run file fault)
+
+-- ---- what is due
+
+-- what is saved under the file's name, if something is, and how the run ends then
+pub record Edit : Type 0 where
+  pub saved : Option (List ℕ)
+  pub run : Run
+
+-- nothing is saved
+abbrev pub no_edit : Run → Edit
+no_edit run = record { saved = None; run = run }
+
+-- events over a keytab, or none over none: a keytab that was changed is saved
+abbrev pub edit_keytab : List (Event EntryParts) → Result State Run → Edit
+edit_keytab events (Ok keytab) = record {
+  saved = if is_changed keytab events then Some (image_of (keytab_after keytab events)) else None;
+  run = edit_run keytab events;
+}
+edit_keytab events (Err run) = no_edit run
+
+module _ (order : Order) (file : List ℕ) (answer : Result (List ℕ) LoadFault) where
+  -- the events of a script over what a load of the file answered, or its first fault
+  abbrev pub edit_script : Result (List (Event EntryParts)) ScriptFault → Edit
+  edit_script (Ok events) = edit_keytab events (keytab_loaded order file answer)
+  edit_script (Err fault) = no_edit (line_run fault.line fault.kind)
+
+  -- the script that was given, or why none was
+  abbrev pub edit_input : Result (List ℕ) LoadFault → Edit
+  edit_input (Ok text) = edit_script (script text)
+  edit_input (Err fault) = no_edit (input_run fault)
+
+-- ---- what is done
+
+-- events were run over a keytab: every walk is given what is due to it
+abbrev pub RunsFairly : List (Event EntryParts) → Result State Run → Type 0
+RunsFairly events (Ok keytab) = Ran keytab_rules (new_session keytab) (state_after keytab_rules (new_session keytab) events) events [] (replies (moments keytab events))
+RunsFairly events (Err run) = Unit {0}
+
+module _ {F : Type 0} (trait : Ghosts F) (file : List ℕ) (out out' err err' : Watch) (status : ℕ) where
+  -- nothing is saved, and the run ends so
+  abbrev pub LeavesFiles : Run → F → F → Type 0
+  LeavesFiles due old new = (new ≡ old) × EndsRun due out out' err err' status
+
+  -- bytes are saved under the file's name, and then the run ends so; or they are not, and it says so
+  pub record SavesFile (bytes : List ℕ) (due : Run) (old new : F) : Type 0 where
+    pub saved : Result (Unit {0}) SaveFault
+    pub answered : trait.saves old file bytes saved new
+    pub ends : EndsRun (saved_run file due saved) out out' err err' status
+    -- once they are saved no memory is needed
+    pub spared : IsOk saved → status ≢ 4
+
+  -- what is due is saved, if something is, and the run ends so
+  abbrev pub SavesDue : Option (List ℕ) → Run → F → F → Type 0
+  SavesDue None due old new = LeavesFiles due old new
+  SavesDue (Some bytes) due old new = SavesFile bytes due old new
+
+  -- memory ran out before anything was saved
+  abbrev pub RunsOutFirst : F → F → Type 0
+  RunsOutFirst old new = (new ≡ old) × RunsOut out out' err err' status
+
+  -- the file is loaded, and what that answers decides the rest
+  pub record EditsFile (order : Order) (events : List (Event EntryParts)) (old new : F) : Type 0 where
+    pub answer : Result (List ℕ) LoadFault
+    pub files : F
+    pub answered : trait.answers old file most_bytes answer files
+    pub ends : RunsOutFirst files new
+        ⊎ (RunsFairly events (keytab_loaded order file answer)
+          × SavesDue (edit_keytab events (keytab_loaded order file answer)).saved (edit_keytab events (keytab_loaded order file answer)).run files new)
+
+  -- the script's events are run, or its first fault is told
+  abbrev pub EndsScript : Order → F → F → Result (List (Event EntryParts)) ScriptFault → Type 0
+  EndsScript order old new (Ok events) = EditsFile order events old new
+  EndsScript order old new (Err fault) = LeavesFiles (line_run fault.line fault.kind) old new
+
+  -- a script was given, or why none was
+  abbrev pub EndsInput : Order → F → F → Result (List ℕ) LoadFault → Type 0
+  EndsInput order old new (Ok text) = RunsOutFirst old new ⊎ EndsScript order old new (script text)
+  EndsInput order old new (Err fault) = LeavesFiles (input_run fault) old new
+
+  -- a run of ktedit: what the reader gives as a script, and what the files answer, decide it
+  pub record RunsEdit (order : Order) (given given' : Option (List ℕ)) (old new : F) : Type 0 where
+    pub input : Result (List ℕ) LoadFault
+    pub read : GivesInput given given' input
+    pub ends : EndsInput order old new input
