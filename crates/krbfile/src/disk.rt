@@ -1,11 +1,11 @@
 //! The files of a disk.
 
-ghost use Rattle.std.specs.Prelude.{◌≡◌, ◌≤◌, ℕ, None};
+ghost use Rattle.std.specs.Prelude.{◌≡◌, ◌≤◌, ℕ, None, Err};
 ghost use Rattle.krb_text.specs.Files.{CountsFailure};
 ghost use Rattle.krbfile.specs.Disk.{AnswersFromDisk};
 
 use krb_commands::load;
-use krb_text::{Files, LoadFault};
+use krb_text::{Files, LoadFault, SaveFault};
 use std::alloc::Allocator;
 use std::fs::OpenFile;
 use std::marker::Model;
@@ -57,6 +57,8 @@ impl<R: rt::Files> Files for DiskFiles<'_, R> {
 
     ghost answers = { λ old _ limit answer new. AnswersFromDisk old new limit answer };
 
+    ghost saves = { λ old _ _ answer new. (answer ≡ Err SaveFault.Failed) × CountsFailure old new };
+
     fn load<A: Allocator>(
         &mut self,
         alloc: A,
@@ -78,6 +80,12 @@ impl<R: rt::Files> Files for DiskFiles<'_, R> {
             self.count_failure();
         }
         loaded
+    }
+
+    // No file is written yet.
+    fn save(&mut self, _name: &str, _bytes: &[u8]) -> Result<(), SaveFault> {
+        self.count_failure();
+        Err(SaveFault::Failed)
     }
 
     fn failures(&self) -> u64 {
