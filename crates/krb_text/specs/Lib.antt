@@ -10,5 +10,6 @@ pub mod Key
 pub mod Word
 pub mod Time
 pub mod Calendar
+pub mod Line
 pub mod Listing
 pub mod Found

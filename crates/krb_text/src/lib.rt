@@ -4,6 +4,7 @@
 mod append;
 mod columns;
 mod etype;
+mod fields;
 mod files;
 mod find_line;
 mod gather;
