@@ -6,5 +6,7 @@ pub mod Aligned
 pub mod Found
 pub mod Etypes
 pub mod Numerals
+pub mod Digits
+pub mod NameFaults
 pub mod Days
 pub mod Numbering

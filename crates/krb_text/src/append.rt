@@ -1,8 +1,10 @@
-//! Bytes behind others.
+//! Bytes and numbers behind others.
 
-ghost use Rattle.std.specs.Prelude.{◌≡◌, ◌++◌, ◌≤◌, OnOk, OnErr, vec_capacity};
+ghost use Rattle.std.specs.Prelude.{◌≡◌, ◌++◌, ◌∷◌, [], ◌≤◌, decimal, OnOk, OnErr, vec_capacity};
 ghost use Rattle.krb_wire.specs.Names.{HadNoRoom};
+ghost use Rattle.krb_text.specs.Line.{right_in_4};
 
+use itoa::{Buffer, write_digits};
 use krb_wire::NoMemory;
 use std::alloc::Allocator;
 
@@ -17,4 +19,39 @@ pub fn append<A: Allocator>(bytes: &[u8], out: &mut Vec<u8, A>) -> Result<(), No
         Ok(()) => Ok(()),
         Err(_) => Err(NoMemory),
     }
+}
+
+/// Appends a byte.
+pub fn append_byte<A: Allocator>(byte: u8, out: &mut Vec<u8, A>) -> Result<(), NoMemory>
+    ensures ok { OnOk result (out.new.items ≡ out.old.items ++ byte ∷ []) }
+    ensures err { OnErr result (out.new.items ≡ out.old.items) }
+{
+    match out.push(byte) {
+        Ok(()) => Ok(()),
+        Err(_) => Err(NoMemory),
+    }
+}
+
+/// Appends a number in decimal.
+pub fn append_number<A: Allocator>(number: u32, out: &mut Vec<u8, A>) -> Result<(), NoMemory>
+    ensures ok { OnOk result (out.new.items ≡ out.old.items ++ decimal number) }
+    ensures err { OnErr result (out.new.items ≡ out.old.items) }
+{
+    let mut buffer = Buffer::new();
+    append(buffer.format(number).as_bytes(), out)
+}
+
+/// Appends a number in decimal, right in four places, and a space.
+pub fn append_right_in_4<A: Allocator>(number: u64, out: &mut Vec<u8, A>) -> Result<(), NoMemory>
+    ensures ok { OnOk result
+        (out.new.items ≡ out.old.items ++ (right_in_4 number ++ 32 ∷ [])) }
+    ensures err { OnErr result (out.new.items ≡ out.old.items) }
+{
+    let mut text = [b' '; 21];
+    let start = write_digits(number, &mut text, 20);
+    if start < 16 {
+        return append(&text[start..], out);
+    }
+    // Few digits, as a rule: so many bytes are copied without a call.
+    append(&text[16..], out)
 }

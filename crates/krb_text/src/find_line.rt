@@ -1,55 +1,25 @@
 //! The line of an entry that was looked up.
 
 ghost use Rattle.std.specs.Prelude.{◌≡◌, ◌++◌, OnOk, IfOk};
-ghost use Rattle.krb_text.specs.Found.{place_part, entry_part, found_line};
+ghost use Rattle.krb_text.specs.Found.{found_line};
 
-use crate::gather::{gather, gather_byte, gather_name, gather_number};
-use crate::output::OutFault;
+use crate::append::{append, append_number};
+use crate::fields::view_fields;
+use crate::line::append_tail;
 use krb_keytab::EntryView;
-use krb_wire::{Name, NoMemory};
+use krb_wire::NoMemory;
 use std::alloc::Allocator;
 
-// Where it was found, and its version.
-fn gather_place<A: Allocator>(
-    place: u32,
-    version: u32,
-    gathered: &mut Vec<u8, A>,
-) -> Result<(), OutFault>
-    ensures { OnOk result
-        (gathered.new.items ≡ gathered.old.items ++ place_part place version) }
-{
-    gather(b"found ", gathered)?;
-    gather_number(place, gathered)?;
-    gather(b" kvno ", gathered)?;
-    gather_number(version, gathered)
-}
-
-// The number of its encryption type, and its name.
-fn gather_entry<N: Name, A: Allocator>(
-    etype: u16,
-    name: &N,
-    gathered: &mut Vec<u8, A>,
-) -> Result<(), OutFault>
-    ensures { OnOk result
-        (gathered.new.items ≡ gathered.old.items ++ entry_part etype (N.parts name.now)) }
-{
-    gather(b" etype ", gathered)?;
-    gather_number(etype as u32, gathered)?;
-    gather_byte(b' ', gathered)?;
-    gather_name(name, gathered)?;
-    gather_byte(b'\n', gathered)
-}
-
-fn gather_found<A: Allocator>(
+fn append_found<A: Allocator>(
     place: u32,
     entry: &EntryView<'_>,
-    gathered: &mut Vec<u8, A>,
-) -> Result<(), OutFault>
-    ensures { OnOk result
-        (gathered.new.items ≡ gathered.old.items ++ found_line (place, entry.now)) }
+    out: &mut Vec<u8, A>,
+) -> Result<(), NoMemory>
+    ensures { OnOk result (out.new.items ≡ out.old.items ++ found_line (place, entry.now)) }
 {
-    gather_place(place, entry.kvno(), gathered)?;
-    gather_entry(entry.enctype(), entry.principal(), gathered)
+    append(b"found ", out)?;
+    append_number(place, out)?;
+    append_tail(&view_fields(entry), out)
 }
 
 /// Makes the line of an entry that was found at a place.
@@ -61,8 +31,6 @@ pub fn found_text<A: Allocator>(
     ensures { IfOk result (λ line. line.items ≡ found_line (place, entry.now)) }
 {
     let mut line = Vec::new(alloc);
-    match gather_found(place, entry, &mut line) {
-        Ok(()) => Ok(line),
-        Err(_) => Err(NoMemory),
-    }
+    append_found(place, entry, &mut line)?;
+    Ok(line)
 }

@@ -1,9 +1,16 @@
 //! Keys as hexadecimal text.
 
-ghost use Rattle.std.specs.Prelude.{◌≡◌, ◌+◌, ◌*◌, ◌^◌, ◌++◌, ◌≤◌, OnOk, OnErr, MatchOption, length, vec_capacity};
+ghost use Rattle.std.specs.Prelude.{◌≡◌, ◌+◌, ◌*◌, ◌^◌, ◌++◌, ◌≤◌, OnOk, OnErr, MatchOption, is_ok, is_some, length, vec_capacity};
+ghost use Rattle.std.specs.Char.{is_ascii_hexdigit};
+ghost use Rattle.std.specs.List.{list_all};
+ghost use Rattle.hex.specs.Hex.{decode_of};
 ghost use Rattle.krb_wire.specs.Names.{HadNoRoom};
-ghost use Rattle.krb_text.specs.Key.{key_text_of};
+ghost use Rattle.krb_text.specs.Key.{key_text_of, key_in, is_key_size};
+ghost use Rattle.krb_text.specs.LineFault.{Reads};
+ghost use Rattle.krb_text.specs.Word.{key_word};
 
+use crate::etype::key_size;
+use crate::line_fault::{LineFault, LineRefusal};
 use krb_wire::NoMemory;
 use std::alloc::Allocator;
 
@@ -42,6 +49,54 @@ pub fn key_text<A: Allocator>(key: &[u8], out: &mut Vec<u8, A>) -> Result<(), No
     };
     fill_text(key, &mut out[start..]);
     Ok(())
+}
+
+// Whether keys of an encryption type may have so many bytes.
+fn is_key_size(etype: u16, size: usize) -> bool
+    ensures { result ≡ is_key_size etype size }
+{
+    match key_size(etype) {
+        Some(right) => size == right,
+        None => true,
+    }
+}
+
+fn are_hex_digits(text: &[u8]) -> bool
+    ensures { result ≡ list_all is_ascii_hexdigit text.now }
+{
+    text.iter().all(u8::is_ascii_hexdigit)
+}
+
+// Whether a text spells bytes in hexadecimal.
+fn is_hexadecimal(text: &[u8]) -> bool
+    ensures { result ≡ is_ok (decode_of text.now) }
+{
+    text.len() % 2 == 0 && are_hex_digits(text)
+}
+
+// Whether a text spells a key of an encryption type.
+fn is_key(etype: u16, digits: &[u8]) -> bool
+    ensures { result ≡ is_some (key_in etype digits.now) }
+{
+    is_hexadecimal(digits) && is_key_size(etype, digits.len() / 2)
+}
+
+/// The key that hexadecimal digits in either case spell, two for each byte. Where the table has the
+/// encryption type, the key has its size.
+pub fn parse_key<A: Allocator>(
+    alloc: A,
+    etype: u16,
+    digits: &[u8],
+) -> Result<Vec<u8, A>, LineRefusal>
+    ensures { Reads (λ key. key.items) (key_word etype digits.now) result }
+{
+    if !is_key(etype, digits) {
+        return Err(LineRefusal::Fault(LineFault::BadKey));
+    }
+    match hex::decode(alloc, digits) {
+        Ok(key) => Ok(key),
+        Err(_) => Err(LineRefusal::NoMemory),
+    }
 }
 
 #[cfg(test)]

@@ -1,84 +1,112 @@
-//! The line of an entry.
+//! Lines of entries and of faults. Where an allocation failed, some of a line may stand there.
 
-ghost use Rattle.std.specs.Prelude.{◌≡◌, ◌++◌, OnOk, IfErr};
-ghost use Rattle.krb_text.specs.Listing.{entry_line, time_column, etype_column, key_column};
+ghost use Rattle.std.specs.Prelude.{◌≡◌, ◌++◌, OnOk, OnErr};
+ghost use Rattle.krb_wire.specs.Text.{Grew};
+ghost use Rattle.krb_text.specs.Line.{entry_line, time_column, etype_column, key_column, entry_tail, fault_text};
 
+use crate::append::{append, append_byte, append_number, append_right_in_4};
 use crate::columns::KtColumns;
 use crate::etype::etype_text;
-use crate::gather::{gather, gather_byte, gather_name, gather_right_in_4};
+use crate::fields::Fields;
 use crate::key::key_text;
-use crate::output::OutFault;
 use crate::time::time_text;
-use krb_keytab::EntryView;
+use krb_walk::Fault;
+use krb_wire::{Name, NoMemory, write_name};
 use std::alloc::Allocator;
 
 // The time and a space, if times are shown.
-fn gather_time<A: Allocator>(
+fn append_time<A: Allocator>(
     is_shown: bool,
     seconds: u32,
-    gathered: &mut Vec<u8, A>,
-) -> Result<(), OutFault>
-    ensures ok { OnOk result
-        (gathered.new.items ≡ gathered.old.items ++ time_column is_shown seconds) }
-    ensures why { IfErr result (λ fault. fault ≡ OutFault.NoMemory) }
+    out: &mut Vec<u8, A>,
+) -> Result<(), NoMemory>
+    ensures ok { OnOk result (out.new.items ≡ out.old.items ++ time_column is_shown seconds) }
+    ensures err { OnErr result (Grew out.old.items out.new.items) }
 {
     if !is_shown {
         return Ok(());
     }
-    time_text(seconds, gathered)?;
-    gather_byte(b' ', gathered)
+    time_text(seconds, out)?;
+    append_byte(b' ', out)
 }
 
 // The encryption type in parentheses, if those are shown.
-fn gather_etype<A: Allocator>(
+fn append_etype<A: Allocator>(
     is_shown: bool,
     etype: u16,
-    gathered: &mut Vec<u8, A>,
-) -> Result<(), OutFault>
-    ensures ok { OnOk result
-        (gathered.new.items ≡ gathered.old.items ++ etype_column is_shown etype) }
-    ensures why { IfErr result (λ fault. fault ≡ OutFault.NoMemory) }
+    out: &mut Vec<u8, A>,
+) -> Result<(), NoMemory>
+    ensures ok { OnOk result (out.new.items ≡ out.old.items ++ etype_column is_shown etype) }
+    ensures err { OnErr result (Grew out.old.items out.new.items) }
 {
     if !is_shown {
         return Ok(());
     }
-    gather(b" (", gathered)?;
-    etype_text(etype, gathered)?;
-    gather_byte(b')', gathered)
+    append(b" (", out)?;
+    etype_text(etype, out)?;
+    append_byte(b')', out)
 }
 
 // The key in parentheses, if keys are shown.
-fn gather_key<A: Allocator>(
+fn append_key<A: Allocator>(
     is_shown: bool,
     key: &[u8],
-    gathered: &mut Vec<u8, A>,
-) -> Result<(), OutFault>
-    ensures ok { OnOk result
-        (gathered.new.items ≡ gathered.old.items ++ key_column is_shown key.now) }
-    ensures why { IfErr result (λ fault. fault ≡ OutFault.NoMemory) }
+    out: &mut Vec<u8, A>,
+) -> Result<(), NoMemory>
+    ensures ok { OnOk result (out.new.items ≡ out.old.items ++ key_column is_shown key.now) }
+    ensures err { OnErr result (Grew out.old.items out.new.items) }
 {
     if !is_shown {
         return Ok(());
     }
-    gather(b" (", gathered)?;
-    key_text(key, gathered)?;
-    gather_byte(b')', gathered)
+    append(b" (", out)?;
+    key_text(key, out)?;
+    append_byte(b')', out)
 }
 
-/// Gathers the line of an entry.
-pub fn gather_entry<A: Allocator>(
+/// Appends the line of an entry in a listing.
+pub fn append_entry<N: Name, A: Allocator>(
     columns: KtColumns,
-    entry: &EntryView<'_>,
-    gathered: &mut Vec<u8, A>,
-) -> Result<(), OutFault>
-    ensures ok { OnOk result
-        (gathered.new.items ≡ gathered.old.items ++ entry_line columns entry.now) }
-    ensures why { IfErr result (λ fault. fault ≡ OutFault.NoMemory) }
+    entry: &Fields<'_, N>,
+    out: &mut Vec<u8, A>,
+) -> Result<(), NoMemory>
+    ensures ok { OnOk result (out.new.items ≡ out.old.items ++ entry_line columns entry.now) }
+    ensures err { OnErr result (Grew out.old.items out.new.items) }
 {
-    gather_right_in_4(entry.kvno(), gathered)?;
-    gather_time(columns.times, entry.timestamp(), gathered)?;
-    gather_name(entry.principal(), gathered)?;
-    gather_etype(columns.etypes, entry.enctype(), gathered)?;
-    gather_key(columns.keys, entry.key(), gathered)?;
-    gather_byte(b'\n', gathered)
+    append_right_in_4(entry.kvno as u64, out)?;
+    append_time(columns.times, entry.timestamp, out)?;
+    write_name(entry.principal, out)?;
+    append_etype(columns.etypes, entry.enctype, out)?;
+    append_key(columns.keys, entry.key, out)?;
+    append_byte(b'\n', out)
+}
+
+/// Appends the end of the line of a found entry: its version, the number of its encryption type and its
+/// name.
+pub fn append_tail<N: Name, A: Allocator>(
+    entry: &Fields<'_, N>,
+    out: &mut Vec<u8, A>,
+) -> Result<(), NoMemory>
+    ensures ok { OnOk result (out.new.items ≡ out.old.items ++ entry_tail entry.now) }
+    ensures err { OnErr result (Grew out.old.items out.new.items) }
+{
+    append(b" kvno ", out)?;
+    append_number(entry.kvno, out)?;
+    append(b" etype ", out)?;
+    append_number(entry.enctype as u32, out)?;
+    append_byte(b' ', out)?;
+    write_name(entry.principal, out)?;
+    append_byte(b'\n', out)
+}
+
+/// Appends the kind of a fault and its place, and ends the line.
+pub fn append_fault<A: Allocator>(fault: Fault, out: &mut Vec<u8, A>) -> Result<(), NoMemory>
+    ensures ok { OnOk result (out.new.items ≡ out.old.items ++ fault_text fault) }
+    ensures err { OnErr result (Grew out.old.items out.new.items) }
+{
+    append(b"fault ", out)?;
+    append_number(fault.kind.number(), out)?;
+    append(b" at ", out)?;
+    append_number(fault.place, out)?;
+    append_byte(b'\n', out)
 }

@@ -1,0 +1,36 @@
+use Rattle.std.proofs.Common.{◌++◌, List, ℕ, sym, ap, ◌∙◌}
+use Rattle.std.proofs.lemmas.Result.{err_from_is_err_and}
+use Rattle.krb_text.proofs.Passing.{passed_none, passed_gather, passed_send, passed_prefix, passed_fail}
+use Rattle.krb_text.proofs.Lines.{lines_of, all_lines}
+use Rattle.krb_text.specs.Line.{entry_line}
+use Rattle.krb_text.proofs.listing.list_entries.Goals as goal
+
+pub entries-init : goal.entries-init
+entries-init g c =
+    let all = sym (ap (lines_of c.args.columns) (c.into_iter-entry-iterator.ensures.into_iter_gives ∙ c.entries-entry-items.ensures) ∙ all_lines c.args.columns c.args.keytab.now.state) in
+    record {
+      well = c.requires;
+      passed = passed_none _ _ (lines_of c.args.columns c.into_iter-entry-iterator.result) c.args.gathered.now.items (ap (λ (t : List ℕ). c.args.gathered.now.items ++ t) all);
+    }
+
+pub returns-in_err-append_entry-clause-prefix : goal.returns-in_err-append_entry-clause-prefix
+returns-in_err-append_entry-clause-prefix g c =
+    let p = err_from_is_err_and c.from_residual.result c.from_residual.ensures.1 in
+    rw p.1 (passed_prefix _ _ _ _ _ c.entries.invariant.passed)
+
+-- what was sent when a write fails
+pub returns-in_err-send_if_full-clause-prefix : goal.returns-in_err-send_if_full-clause-prefix
+returns-in_err-send_if_full-clause-prefix g c =
+    let p = err_from_is_err_and c.from_residual-in_err-send_if_full.result c.from_residual-in_err-send_if_full.ensures.1 in
+    let lines = rw (ap (lines_of c.args.columns) c.in-Some.ensures.steps) at c.entries.invariant.passed in
+    let passed = passed_gather _ _ _ (entry_line c.args.columns c.in-Some.entry) (lines_of c.args.columns c.next.new.self) c.entries.gathered.items _ lines (rw c.view_fields.ensures at c.in_ok-append_entry.ensures.ok) in
+    rw p.1 (passed_fail _ _ _ _ _ _ passed c.in_err-send_if_full.ensures.prefix)
+
+pub entries-preserved : goal.entries-preserved
+entries-preserved g c =
+    let lines = rw (ap (lines_of c.args.columns) c.in-Some.ensures.steps) at c.entries.invariant.passed in
+    let passed = passed_gather _ _ _ (entry_line c.args.columns c.in-Some.entry) (lines_of c.args.columns c.next.new.self) c.entries.gathered.items _ lines (rw c.view_fields.ensures at c.in_ok-append_entry.ensures.ok) in
+    record {
+      well = c.in_ok-send_if_full.ensures.failed;
+      passed = passed_send _ _ _ _ _ _ _ passed c.in_ok-send_if_full.ensures.ok;
+    }

@@ -1,0 +1,12 @@
+use Rattle.std.proofs.Common.{◌++◌}
+use Rattle.std.specs.Prelude.{IsFalse}
+use Rattle.krb_text.specs.Gathered.{Passed}
+use Rattle.krb_text.specs.Listing.{entry_lines}
+use Rattle.krb_text.proofs.Lines.{lines_of}
+use Rattle.krb_text.proofs.listing.list_entries.Given as goal
+
+abbrev pub invariant-entries : goal.invariant-entries
+invariant-entries g l = record {
+  well : IsFalse l.out.failed;
+  passed : Passed l.fn.out.contents l.out.contents (l.fn.gathered.items ++ entry_lines l.columns l.keytab.state) (lines_of l.columns l.entry-iterator) l.gathered.items;
+}

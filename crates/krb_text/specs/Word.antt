@@ -1,0 +1,26 @@
+-- The words of a line.
+use Rattle.std.specs.Prelude.{ℕ, List, None, ok_or, Result}
+use Rattle.std.specs.Result.{result_ok}
+use Rattle.krb_wire.specs.Spelling.{Parts}
+use Rattle.krb_wire.specs.NameOf.{name_of}
+use Rattle.krb_text.specs.declared.line_fault.LineFault.{LineFault}
+use Rattle.krb_text.specs.declared.line_fault.LineFault.TheVariants.{BadNumber, BadEtype, BadKey, BadName}
+use Rattle.krb_text.specs.Numbers.{number_in}
+use Rattle.krb_text.specs.Etype.{etype_in}
+use Rattle.krb_text.specs.Key.{key_in}
+
+-- the number of 32 bits that a word is
+abbrev pub number_word : List ℕ → Result ℕ LineFault
+number_word word = ok_or (number_in 32 word) BadNumber
+
+-- the encryption type that a word is
+abbrev pub etype_word : List ℕ → Result ℕ LineFault
+etype_word word = ok_or (etype_in word) BadEtype
+
+-- the key of an encryption type that a word is
+abbrev pub key_word : ℕ → List ℕ → Result (List ℕ) LineFault
+key_word etype word = ok_or (key_in etype word) BadKey
+
+-- the name that a word is, which has a realm of its own
+abbrev pub name_word : List ℕ → Result Parts LineFault
+name_word word = ok_or (result_ok (name_of word None)) BadName
