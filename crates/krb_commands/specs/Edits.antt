@@ -9,11 +9,9 @@ use Rattle.krb_keytab.specs.Entry.{EntryParts}
 use Rattle.krb_keytab.specs.Store.{State, image_of}
 use Rattle.krb_keytab.specs.Walked.{keytab_rules}
 use Rattle.krb_text.specs.declared.files.Files.{Ghosts}
-use Rattle.krb_text.specs.declared.files.LoadFault.{LoadFault}
 use Rattle.krb_text.specs.Bytes.{Watch}
 use Rattle.krb_commands.specs.declared.ktedit.Edited.{Edited}
-use Rattle.krb_commands.specs.KeytabFile.{most_bytes}
-use Rattle.krb_commands.specs.Ktedit.{moments, keytab_after, is_changed, reply_lines, edit_run, keytab_loaded}
+use Rattle.krb_commands.specs.Ktedit.{moments, keytab_after, is_changed, reply_lines, edit_run, keytab_loaded, Loads}
 use Rattle.krb_commands.specs.Messages.{message}
 use Rattle.krb_commands.specs.Runs.{Run, Says}
 
@@ -36,9 +34,8 @@ pub record IsEdited {A : Type 0} (keytab : State) (events : List (Event EntryPar
 module _ {F : Type 0} (trait : Ghosts F) (file : List ℕ) (order : Order) (old new : F) (err err' : Watch) where
   -- the keytab of a file was loaded, and nothing is said
   pub record OpensToEdit (keytab : State) : Type 0 where
-    pub answer : Result (List ℕ) LoadFault
-    pub answered : trait.answers old file most_bytes answer new
-    pub opened : keytab_loaded order file answer ≡ Ok keytab
+    pub loads : Loads trait file old new
+    pub opened : keytab_loaded order file loads.answer ≡ Ok keytab
     pub quiet : err' ≡ err
 
   -- why there is none is said
@@ -48,6 +45,5 @@ module _ {F : Type 0} (trait : Ghosts F) (file : List ℕ) (order : Order) (old 
 
   -- none was, and why is said; or memory ran out
   pub record EndsUnedited (status : ℕ) : Type 0 where
-    pub answer : Result (List ℕ) LoadFault
-    pub answered : trait.answers old file most_bytes answer new
-    pub why : ((status ≡ 4) × Says err err' (message (codes "out of memory"))) ⊎ SaysWhy (keytab_loaded order file answer) status
+    pub loads : Loads trait file old new
+    pub why : ((status ≡ 4) × Says err err' (message (codes "out of memory"))) ⊎ SaysWhy (keytab_loaded order file loads.answer) status

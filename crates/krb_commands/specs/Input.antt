@@ -3,7 +3,7 @@ use Rattle.std.specs.Prelude.{◌≡◌, ◌≢◌, ℕ, ◌+◌, ◌<◌, List,
 use Rattle.krb_text.specs.declared.files.LoadFault.{LoadFault}
 use Rattle.krb_text.specs.declared.files.LoadFault.TheVariants.{Missing, TooLarge, Failed, NoMemory}
 use Rattle.krb_text.specs.declared.line_fault.LineFault.{LineFault}
-use Rattle.krb_text.specs.LineFaults.{line_fault_number}
+use Rattle.krb_text.specs.LineFault.{line_fault_number}
 use Rattle.krb_commands.specs.KeytabFile.{most_bytes}
 use Rattle.krb_commands.specs.Messages.{message, line_message}
 use Rattle.krb_commands.specs.Reader.{ConsumesAtMost}

@@ -1,5 +1,5 @@
 -- What ktedit does.
-use Rattle.std.specs.Prelude.{◌≡◌, ◌≢◌, ◌⊎◌, ℕ, Bool, true, false, List, [], ◌++◌, if◌then◌else◌, codes, decimal, Option, None, Some, Result, Ok, Err, IsOk}
+use Rattle.std.specs.Prelude.{◌≡◌, ◌≢◌, ◌≤◌, ◌⊎◌, ℕ, Bool, true, false, List, [], ◌++◌, if◌then◌else◌, codes, decimal, Option, None, Some, Result, Ok, Err, IsOk}
 use Rattle.std.specs.List.{flat_map, list_any}
 use Rattle.krb_wire.specs.declared.format.Order.{Order}
 use Rattle.krb_wire.specs.declared.format.KtFormat.TheVariants.{V2}
@@ -16,14 +16,14 @@ use Rattle.krb_text.specs.declared.files.Files.{Ghosts}
 use Rattle.krb_text.specs.declared.files.LoadFault.{LoadFault}
 use Rattle.krb_text.specs.declared.files.LoadFault.TheVariants as load
 use Rattle.krb_text.specs.declared.files.SaveFault.{SaveFault}
-use Rattle.krb_text.specs.declared.line_fault.LineFault.{LineFault}
+use Rattle.krb_text.specs.declared.files.SaveFault.TheVariants as save
 use Rattle.krb_text.specs.Bytes.{Watch}
 use Rattle.krb_text.specs.Files.{FileMap, SameFiles, SetsFile, CountsFailure, loaded}
 use Rattle.krb_text.specs.Reply.{reply_text}
 use Rattle.krb_text.specs.Script.{ScriptFault, script}
 use Rattle.krb_commands.specs.Input.{GivesInput, input_run, line_run}
-use Rattle.krb_commands.specs.KeytabFile.{most_bytes, load_fault_run, open_fault_run, saved_run}
-use Rattle.krb_commands.specs.Runs.{Run, EndsRun, RunsOut}
+use Rattle.krb_commands.specs.KeytabFile.{most_bytes, load_fault_run, open_fault_run, save_fault_run, saved_run}
+use Rattle.krb_commands.specs.Runs.{Run, EndsRun, RunsOut, memory_run}
 
 -- a reply that tells of a change of the keytab
 abbrev pub is_change : Said → Bool
@@ -106,10 +106,30 @@ module _ (order : Order) (file : List ℕ) (answer : Result (List ℕ) LoadFault
 
 -- ---- what is done
 
+-- what stands under each name after a save of bytes under one
+abbrev pub FileAfter : List ℕ → FileMap → FileMap → List ℕ → Result (Unit {0}) SaveFault → Type 0
+FileAfter file old new bytes (Ok done) = SetsFile old file bytes new
+FileAfter file old new bytes (Err fault) = SameFiles old new
+
 -- events were run over a keytab: every walk is given what is due to it
 abbrev pub RunsFairly : List (Event EntryParts) → Result State Run → Type 0
 RunsFairly events (Ok keytab) = Ran keytab_rules (new_session keytab) (state_after keytab_rules (new_session keytab) events) events [] (replies (moments keytab events))
 RunsFairly events (Err run) = Unit {0}
+
+module _ {F : Type 0} (trait : Ghosts F) (file : List ℕ) (old new : F) where
+  -- what a load of honest files answers and leaves: what stands there, unless the call failed or memory ran out
+  pub record LoadsHonestly (answer : Result (List ℕ) LoadFault) : Type 0 where
+    pub honest : trait.is_honest new
+    pub same : SameFiles (trait.file old) (trait.file new)
+    pub answer_is : (answer ≡ Err load.Failed) ⊎ (answer ≡ Err load.NoMemory) ⊎ (answer ≡ loaded (trait.file old file) most_bytes)
+
+  -- a load of the file answered
+  pub record Loads : Type 0 where
+    pub answer : Result (List ℕ) LoadFault
+    pub answered : trait.answers old file most_bytes answer new
+    pub stands : trait.is_honest old → LoadsHonestly answer
+    pub counted : answer ≡ Err load.Failed → CountsFailure (trait.failure_count old) (trait.failure_count new)
+    pub count : trait.failure_count old ≤ trait.failure_count new
 
 module _ {F : Type 0} (trait : Ghosts F) (file : List ℕ) (out out' err err' : Watch) (status : ℕ) where
   -- nothing is saved, and the run ends so
@@ -120,6 +140,9 @@ module _ {F : Type 0} (trait : Ghosts F) (file : List ℕ) (out out' err err' : 
   pub record SavesFile (bytes : List ℕ) (due : Run) (old new : F) : Type 0 where
     pub saved : Result (Unit {0}) SaveFault
     pub answered : trait.saves old file bytes saved new
+    pub stands : trait.is_honest old → trait.is_honest new × FileAfter file (trait.file old) (trait.file new) bytes saved
+    pub counted : saved ≡ Err save.Failed → CountsFailure (trait.failure_count old) (trait.failure_count new)
+    pub count : trait.failure_count old ≤ trait.failure_count new
     pub ends : EndsRun (saved_run file due saved) out out' err err' status
     -- once they are saved no memory is needed
     pub spared : IsOk saved → status ≢ 4
@@ -135,12 +158,11 @@ module _ {F : Type 0} (trait : Ghosts F) (file : List ℕ) (out out' err err' : 
 
   -- the file is loaded, and what that answers decides the rest
   pub record EditsFile (order : Order) (events : List (Event EntryParts)) (old new : F) : Type 0 where
-    pub answer : Result (List ℕ) LoadFault
     pub files : F
-    pub answered : trait.answers old file most_bytes answer files
+    pub loads : Loads trait file old files
     pub ends : RunsOutFirst files new
-        ⊎ (RunsFairly events (keytab_loaded order file answer)
-          × SavesDue (edit_keytab events (keytab_loaded order file answer)).saved (edit_keytab events (keytab_loaded order file answer)).run files new)
+        ⊎ (RunsFairly events (keytab_loaded order file loads.answer)
+          × SavesDue (edit_keytab events (keytab_loaded order file loads.answer)).saved (edit_keytab events (keytab_loaded order file loads.answer)).run files new)
 
   -- the script's events are run, or its first fault is told
   abbrev pub EndsScript : Order → F → F → Result (List (Event EntryParts)) ScriptFault → Type 0
@@ -152,8 +174,27 @@ module _ {F : Type 0} (trait : Ghosts F) (file : List ℕ) (out out' err err' : 
   EndsInput order old new (Ok text) = RunsOutFirst old new ⊎ EndsScript order old new (script text)
   EndsInput order old new (Err fault) = LeavesFiles (input_run fault) old new
 
+  -- the files after what is due was saved, if something is
+  abbrev pub FilesAfter : Option (List ℕ) → F → F → Type 0
+  FilesAfter None old new = SameFiles (trait.file old) (trait.file new)
+  FilesAfter (Some bytes) old new = SetsFile (trait.file old) file bytes (trait.file new)
+
+  -- a call failed, which was counted; the files are the same, and it says so
+  pub record FailsOverFile (old new : F) : Type 0 where
+    pub counted : CountsFailure (trait.failure_count old) (trait.failure_count new)
+    pub same : SameFiles (trait.file old) (trait.file new)
+    pub ends : EndsRun (load_fault_run file load.Failed) out out' err err' status ⊎ EndsRun (save_fault_run file save.Failed) out out' err err' status
+
+  -- over honest files all is as due, unless a call failed or memory ran out: then the files are the same
+  abbrev pub EndsHonestly : Edit → F → F → Type 0
+  EndsHonestly due old new =
+      (SameFiles (trait.file old) (trait.file new) × EndsRun memory_run out out' err err' status)
+      ⊎ FailsOverFile old new
+      ⊎ (FilesAfter due.saved old new × EndsRun due.run out out' err err' status)
+
   -- a run of ktedit: what the reader gives as a script, and what the files answer, decide it
   pub record RunsEdit (order : Order) (given given' : Option (List ℕ)) (old new : F) : Type 0 where
     pub input : Result (List ℕ) LoadFault
     pub read : GivesInput given given' input
     pub ends : EndsInput order old new input
+    pub honest : trait.is_honest old → EndsHonestly (edit_input order file (loaded (trait.file old file) most_bytes) input) old new

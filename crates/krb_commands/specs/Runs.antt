@@ -1,5 +1,5 @@
 -- What a run of the program leaves.
-use Rattle.std.specs.Prelude.{◌≡◌, ◌≢◌, ℕ, List, codes, IsTrue, IsFalse, Result, Err}
+use Rattle.std.specs.Prelude.{◌≡◌, ◌≢◌, ℕ, List, [], codes, IsTrue, IsFalse, Result, Err}
 use Rattle.std.specs.Io.KnownBytes.{Appends}
 use Rattle.krb_text.specs.Bytes.{Watch, AppendsPrefix}
 use Rattle.krb_text.specs.Files.{CountsFailure}
@@ -30,6 +30,10 @@ pub record RunsOut (out out' err err' : Watch) (status : ℕ) : Type 0 where
   pub ends : status ≡ 4
   pub kept : out' ≡ out
   pub said : Says err err' (message (codes "out of memory"))
+
+-- a run that ends since memory ran out
+abbrev pub memory_run : Run
+memory_run = record { out = []; err = message (codes "out of memory"); status = 4 }
 
 -- a file could not be read: the failure was counted, nothing is out, and the message says so
 pub record FailsToRead (file : List ℕ) (failures failures' : ℕ) (out out' err err' : Watch) (status : ℕ) : Type 0 where
