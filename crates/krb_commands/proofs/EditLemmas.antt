@@ -1,6 +1,6 @@
 -- What an edit prints, and how it ends.
 use Rattle.std.proofs.Common.{◌≡◌, ◌≢◌, ℕ, ◌<◌, Bool, true, false, List, [], ◌∷◌, ◌++◌, map, ◌⊎◌, inl, inr, refl, sym, ap, subst, ◌∙◌, rules, arith}
-use Rattle.std.specs.Prelude.{if◌then◌else◌, ◌+◌, ◌-◌, ◌^◌, ◌≤◌, cond, ◌&&◌, ◌||◌, is_some, nat_lt, length, slice_get, codes, IsFalse, Option, None, Some, Result, Ok, Err, is_ok, IfOk, IfSome}
+use Rattle.std.specs.Prelude.{if◌then◌else◌, ◌+◌, ◌-◌, ◌^◌, ◌≤◌, cond, ◌||◌, is_some, nat_lt, length, slice_get, codes, IsFalse, Option, None, Some, Result, Ok, Err, is_ok, IfOk, IfSome}
 use Rattle.std.specs.List.{flat_map, list_any}
 use Rattle.std.specs.Io.KnownBytes.{Appends}
 use Rattle.std.proofs.lemmas.Bool.{false≢true, true≢false}
@@ -17,10 +17,10 @@ use Rattle.krb_walk.specs.Said.{Said, Started, Refused}
 use Rattle.krb_walk.specs.Events.{State as Session, reply_to, after, store_after, step_said, stop_said, end_said, put_said, put_store, cut_said, cut_store, rewrite_said}
 use Rattle.krb_walk.specs.History.{history, replies, state_after}
 use Rattle.krb_walk.specs.Ran.{Ran}
-use Rattle.krb_keytab.specs.Changes.{PlacedCell, cutting, putting, putting_bytes, putting_into, first_hole, without, with_last}
+use Rattle.krb_keytab.specs.Changes.{PlacedCell, putting, putting_bytes, putting_into, first_hole, without, with_last}
 use Rattle.krb_keytab.specs.Edited.{new_session}
 use Rattle.krb_keytab.specs.Entry.{EntryParts}
-use Rattle.krb_keytab.specs.Rewrite.{rewrite_of, rewrite_result}
+use Rattle.krb_keytab.specs.Rewrite.{rewrite_of}
 use Rattle.krb_keytab.specs.Store.{State, image_of, store_of}
 use Rattle.krb_keytab.specs.Walked.{keytab_rules}
 use Rattle.krb_keytab.specs.Written.{fits, written}
@@ -29,15 +29,18 @@ use Rattle.krb_text.specs.declared.files.LoadFault.{LoadFault}
 use Rattle.krb_text.specs.declared.files.LoadFault.TheVariants as load
 use Rattle.krb_text.specs.declared.files.SaveFault.{SaveFault}
 use Rattle.krb_text.specs.declared.files.SaveFault.TheVariants as save
+use Rattle.krb_text.specs.declared.script.ScriptRefusal.{ScriptRefusal}
+use Rattle.krb_text.specs.declared.script.ScriptRefusal.TheVariants as refusal
+use Rattle.krb_text.specs.declared.script.ScriptRefusal.TheVariants.{Fault}
 use Rattle.krb_text.specs.Bytes.{Watch}
 use Rattle.krb_text.specs.Files.{SameFiles, SetsFile, CountsFailure, loaded}
-use Rattle.krb_text.specs.Script.{ScriptFault, script}
+use Rattle.krb_text.specs.Script.{ScriptFault, RefusesScript, script}
 use Rattle.krb_text.specs.Reply.{reply_text, reply_texts, format_after}
 use Rattle.krb_text.proofs.Prefixes.{AppendsPrefix-none, Appends-nil}
 use Rattle.krb_commands.specs.declared.ktedit.Edited.{Edited}
 use Rattle.krb_commands.specs.Edits.{saved_of, run_of, IsEdited, OpensToEdit, EndsUnedited, SaysWhy}
 use Rattle.krb_commands.specs.KeytabFile.{most_bytes, load_message, load_status, load_fault_run, save_fault_run, saved_run}
-use Rattle.krb_commands.specs.Input.{GivesInput, input_run, line_run}
+use Rattle.krb_commands.specs.Input.{GivesInput, input_run, line_run, refusal_run}
 use Rattle.krb_commands.specs.Ktedit.{moments, is_change, is_changed, is_trouble, reply_lines, edit_run, keytab_loaded, edit_keytab, RunsFairly, Edit, no_edit, edit_script, edit_input, FileAfter, Loads, LoadsHonestly, RunsOutFirst, LeavesFiles, SavesDue, SavesFile, EditsFile, EndsScript, EndsInput, EndsHonestly, RunsEdit}
 use Rattle.krb_commands.specs.Messages.{message}
 use Rattle.krb_commands.specs.Reader.{ConsumesAtMost}
@@ -388,6 +391,16 @@ module _ {F : Type 0} (trait : Ghosts F) (file : List ℕ) (out out' err err' : 
   input_honestly order (Ok text) old new honest (inl ran_out) = memory_honestly (edit_script order file (loaded (trait.file old file) most_bytes) (script text)) old old new (λ name. refl) ran_out
   input_honestly order (Ok text) old new honest (inr ends) = script_honestly order (script text) old new honest ends
   input_honestly order (Err fault) old new honest left = left_honestly (input_run fault) old old new (λ name. refl) left
+
+  -- the script gives no events
+  pub refused : (order : Order) (given : Result (List (Event EntryParts)) ScriptFault) (refusal : ScriptRefusal) (files : F) → out' ≡ out → RefusesScript given refusal → status ≡ (refusal_run refusal).status
+      → Says err err' (refusal_run refusal).err → RunsOutFirst trait file out out' err err' status files files ⊎ EndsScript trait file out out' err err' status order files files given
+  refused order given (Fault line kind) files kept is same says =
+      let no : 1 ≢ 4 = search rules in
+      let ends = EndsRun-said (line_run line kind) out err err' status well refl same says (λ e. absurd (no e)) in
+      inr (subst (λ (g : Result (List (Event EntryParts)) ScriptFault). EndsScript trait file out out' err err' status order files files g) (sym is)
+        (refl, subst (λ (o : Watch). EndsRun (line_run line kind) out o err err' status) (sym kept) ends))
+  refused order given refusal.NoMemory files kept is same says = inl (refl, record { ends = same; kept = kept; said = says })
 
   -- a run over what a reader gave
   pub RunsEdit-by : (order : Order) (given given' : Option (List ℕ)) (old new : F) (input : Result (List ℕ) LoadFault) → GivesInput given given' input

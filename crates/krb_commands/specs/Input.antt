@@ -3,11 +3,14 @@ use Rattle.std.specs.Prelude.{◌≡◌, ◌≢◌, ℕ, ◌+◌, ◌<◌, List,
 use Rattle.krb_text.specs.declared.files.LoadFault.{LoadFault}
 use Rattle.krb_text.specs.declared.files.LoadFault.TheVariants.{Missing, TooLarge, Failed, NoMemory}
 use Rattle.krb_text.specs.declared.line_fault.LineFault.{LineFault}
+use Rattle.krb_text.specs.declared.script.ScriptRefusal.{ScriptRefusal}
+use Rattle.krb_text.specs.declared.script.ScriptRefusal.TheVariants as refusal
+use Rattle.krb_text.specs.declared.script.ScriptRefusal.TheVariants.{Fault}
 use Rattle.krb_text.specs.LineFault.{line_fault_number}
 use Rattle.krb_commands.specs.KeytabFile.{most_bytes}
 use Rattle.krb_commands.specs.Messages.{message, line_message}
 use Rattle.krb_commands.specs.Reader.{ConsumesAtMost}
-use Rattle.krb_commands.specs.Runs.{Run}
+use Rattle.krb_commands.specs.Runs.{Run, memory_run}
 
 -- a reader gave all that it had left, or more than may be read, or it failed, or memory ran out
 pub record GivesInput (given given' : Option (List ℕ)) (input : Result (List ℕ) LoadFault) : Type 0 where
@@ -21,8 +24,13 @@ abbrev pub input_run : LoadFault → Run
 input_run Missing = record { out = []; err = message (codes "cannot read input"); status = 3 }
 input_run TooLarge = record { out = []; err = message (codes "input too large"); status = 1 }
 input_run Failed = record { out = []; err = message (codes "cannot read input"); status = 3 }
-input_run NoMemory = record { out = []; err = message (codes "out of memory"); status = 4 }
+input_run NoMemory = memory_run
 
 -- a run that ends with a faulty line
 abbrev pub line_run : ℕ → LineFault → Run
 line_run line fault = record { out = []; err = line_message line (codes "fault ") (line_fault_number fault); status = 1 }
+
+-- a run that ends with a script that gives no events
+abbrev pub refusal_run : ScriptRefusal → Run
+refusal_run (Fault line fault) = line_run line fault
+refusal_run refusal.NoMemory = memory_run

@@ -1,15 +1,14 @@
 -- What klist prints.
-use Rattle.std.specs.Prelude.{ℕ, List, [], if◌then◌else◌, is_some, Option, Result}
+use Rattle.std.specs.Prelude.{ℕ, List, [], if◌then◌else◌, is_some, Result}
 use Rattle.krb_walk.specs.Store.{fault_of}
 use Rattle.krb_keytab.specs.Store.{State, store_of}
 use Rattle.krb_text.specs.declared.columns.KtColumns.{KtColumns}
 use Rattle.krb_text.specs.declared.files.LoadFault.{LoadFault}
-use Rattle.krb_text.specs.Files.{loaded}
 use Rattle.krb_text.specs.Listing.{list_text}
 use Rattle.krb_commands.specs.declared.action.KlistOptions.{KlistOptions}
 use Rattle.krb_commands.specs.declared.action.ListKind.{ListKind}
 use Rattle.krb_commands.specs.declared.action.ListKind.TheVariants.{Keytab}
-use Rattle.krb_commands.specs.KeytabFile.{load_run, most_bytes}
+use Rattle.krb_commands.specs.KeytabFile.{load_run}
 use Rattle.krb_commands.specs.Runs.{Run}
 
 -- a keytab is listed; the listing tells its fault, if there is one
@@ -27,7 +26,3 @@ columns_of (Keytab columns) = columns
 -- the listing of what was loaded under a name
 abbrev pub listing_loaded : KlistOptions → List ℕ → Result (List ℕ) LoadFault → Run
 listing_loaded options file = load_run (listing_run (columns_of options.kind) file) options.v1_order file
-
--- the listing of what stands under a name
-abbrev pub klist_run : KlistOptions → List ℕ → Option (List ℕ) → Run
-klist_run options file content = listing_loaded options file (loaded content most_bytes)

@@ -1,5 +1,5 @@
 -- What ktedit does.
-use Rattle.std.specs.Prelude.{◌≡◌, ◌≢◌, ◌≤◌, ◌⊎◌, ℕ, Bool, true, false, List, [], ◌++◌, if◌then◌else◌, codes, decimal, Option, None, Some, Result, Ok, Err, IsOk}
+use Rattle.std.specs.Prelude.{◌≡◌, ◌≢◌, ◌≤◌, ◌⊎◌, ℕ, Bool, true, false, List, [], if◌then◌else◌, Option, None, Some, Result, Ok, Err, IsOk}
 use Rattle.std.specs.List.{flat_map, list_any}
 use Rattle.krb_wire.specs.declared.format.Order.{Order}
 use Rattle.krb_wire.specs.declared.format.KtFormat.TheVariants.{V2}

@@ -1,16 +1,15 @@
 -- What ktfind prints.
-use Rattle.std.specs.Prelude.{ℕ, List, [], ◌++◌, Option, Result, Ok, Err, codes, decimal}
+use Rattle.std.specs.Prelude.{ℕ, List, [], ◌++◌, Result, Ok, Err, codes, decimal}
 use Rattle.krb_wire.specs.Reading.{principal_parts}
 use Rattle.krb_walk.specs.declared.refusal.Code.{Code}
 use Rattle.krb_walk.specs.Numbers.{code_number}
 use Rattle.krb_keytab.specs.LookUp.{Placed, finding}
 use Rattle.krb_keytab.specs.Store.{State}
 use Rattle.krb_text.specs.declared.files.LoadFault.{LoadFault}
-use Rattle.krb_text.specs.Files.{loaded}
 use Rattle.krb_text.specs.Found.{found_line}
 use Rattle.krb_commands.specs.declared.action.FindOptions.{FindOptions}
 use Rattle.krb_commands.specs.Messages.{file_message}
-use Rattle.krb_commands.specs.KeytabFile.{load_run, most_bytes}
+use Rattle.krb_commands.specs.KeytabFile.{load_run}
 use Rattle.krb_commands.specs.Runs.{Run}
 
 -- what is said of a look-up that was refused
@@ -29,7 +28,3 @@ finding_run options file keytab = found_run file (finding keytab (principal_part
 -- the look-up in what was loaded under a name
 abbrev pub finding_loaded : {A : Type 0} → FindOptions A → List ℕ → Result (List ℕ) LoadFault → Run
 finding_loaded options file = load_run (finding_run options file) options.v1_order file
-
--- the look-up in what stands under a name
-abbrev pub ktfind_run : {A : Type 0} → FindOptions A → List ℕ → Option (List ℕ) → Run
-ktfind_run options file content = finding_loaded options file (loaded content most_bytes)

@@ -7,7 +7,7 @@ use Rattle.krb_wire.specs.Reading.{principal_parts}
 use Rattle.krb_text.specs.Etype.{etype_in}
 use Rattle.krb_text.specs.Numbers.{number_in}
 use Rattle.krb_commands.specs.declared.action.Action.{Action}
-use Rattle.krb_commands.specs.declared.action.Action.TheVariants.{Klist, Ktfind, Help}
+use Rattle.krb_commands.specs.declared.action.Action.TheVariants.{Klist, Ktedit, Ktfind}
 use Rattle.krb_commands.specs.declared.action.FindOptions.{FindOptions}
 use Rattle.krb_commands.specs.declared.action.KlistOptions.{KlistOptions}
 use Rattle.krb_commands.specs.declared.action.ListKind.TheVariants.{Keytab}
@@ -28,8 +28,12 @@ list_options words = record {
 -- to list the file of that name so
 abbrev pub AsksToList : Action → KlistOptions → List ℕ → Type 0
 AsksToList (Klist options file) wanted name = (options ≡ wanted) × (string_bytes file ≡ name)
-AsksToList (Ktfind options file) wanted name = ⊥
-AsksToList (Help text) wanted name = ⊥
+AsksToList action wanted name = ⊥
+
+-- to edit the file of that name
+abbrev pub AsksToEdit : Action → Order → List ℕ → Type 0
+AsksToEdit (Ktedit order file) wanted name = (order ≡ wanted) × (string_bytes file ≡ name)
+AsksToEdit action wanted name = ⊥
 
 -- each option is what its own word spells
 pub record Spells {A : Type 0} (words : KtfindWords) (options : FindOptions A) : Type 0 where
@@ -40,9 +44,8 @@ pub record Spells {A : Type 0} (words : KtfindWords) (options : FindOptions A) :
 
 -- to look up what the words spell in the file that they name
 abbrev pub AsksToFind : KtfindWords → Action → Type 0
-AsksToFind words (Klist options file) = ⊥
 AsksToFind words (Ktfind options file) = Spells words options × (string_bytes file ≡ words.file.now)
-AsksToFind words (Help text) = ⊥
+AsksToFind words action = ⊥
 
 -- the words spell a version, an encryption type and a name
 pub record IsReadable (words : KtfindWords) : Type 0 where

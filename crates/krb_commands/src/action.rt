@@ -41,6 +41,8 @@ pub enum Action {
     Klist(KlistOptions, String),
     /// To look up an entry in the file of that name.
     Ktfind(FindOptions<Global>, String),
+    /// To edit the file of that name by a script; version 1 has that order.
+    Ktedit(Order, String),
     /// To show that help.
     Help(String),
 }

@@ -1,11 +1,11 @@
 //! What comes from the standard input.
 
 ghost use Rattle.std.specs.Prelude.{◌≡◌};
-ghost use Rattle.krb_commands.specs.Input.{input_run, line_run};
+ghost use Rattle.krb_commands.specs.Input.{input_run, line_run, refusal_run};
 ghost use Rattle.krb_commands.specs.Runs.{Says};
 
 use crate::messages::{complain, complain_of_line};
-use krb_text::{LineFault, LoadFault, Watched};
+use krb_text::{LineFault, LoadFault, ScriptRefusal, Watched};
 use std::io::Write;
 
 /// The most bytes that are read from the standard input.
@@ -39,4 +39,18 @@ pub fn refuse_line<E: Write>(line: u64, fault: LineFault, err: &mut Watched<E>) 
 {
     complain_of_line(err, line, "fault ", fault.number());
     1
+}
+
+/// Says why a script gives no events, and answers the status for it.
+pub fn refuse_script<E: Write>(refusal: ScriptRefusal, err: &mut Watched<E>) -> u8
+    ensures status { result ≡ (refusal_run refusal).status }
+    ensures err { Says err.old err.new (refusal_run refusal).err }
+{
+    match refusal {
+        ScriptRefusal::Fault { line, kind } => refuse_line(line, kind, err),
+        ScriptRefusal::NoMemory => {
+            complain(err, "out of memory");
+            4
+        }
+    }
 }

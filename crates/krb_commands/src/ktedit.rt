@@ -11,13 +11,13 @@ ghost use Rattle.krb_commands.specs.Ktedit.{is_change, is_trouble, SavesDue, Edi
 ghost use Rattle.krb_commands.specs.Messages.{message};
 ghost use Rattle.krb_commands.specs.Runs.{EndsRun, Says};
 
-use crate::input::{MOST_INPUT, refuse_input, refuse_line};
+use crate::input::{MOST_INPUT, refuse_input, refuse_script};
 use crate::keytab_file::MOST_BYTES;
 use crate::messages::complain;
 use crate::reader::load;
 use crate::refuse::{refuse_image, refuse_load, refuse_save};
 use krb_keytab::{Keytab, NewEntry};
-use krb_text::{Files, LoadFault, ScriptRefusal, Watched, parse_script, put, reply_lines};
+use krb_text::{Files, LoadFault, Watched, parse_script, put, reply_lines};
 use krb_walk::{Event, Reply, Session};
 use krb_wire::{KtFormat, Limits, NoMemory, Order};
 use std::alloc::Allocator;
@@ -228,10 +228,6 @@ pub fn run_ktedit<A: Allocator + Copy, F: Files, R: Read, W: Write, E: Write>(
     };
     match parse_script(alloc, &text) {
         Ok(events) => edit_file(alloc, v1_order, file, files, &events, out, err),
-        Err(ScriptRefusal::Fault { line, kind }) => refuse_line(line, kind, err),
-        Err(ScriptRefusal::NoMemory) => {
-            complain(err, "out of memory");
-            4
-        }
+        Err(refusal) => refuse_script(refusal, err),
     }
 }

@@ -21,7 +21,9 @@ pub use keytab_file::open_keytab;
 pub use klist::run_klist;
 pub use ktedit::run_ktedit;
 pub use ktfind::run_ktfind;
-pub use options::{KlistWords, KtfindWords, klist_action, ktfind_action};
+pub use options::{
+    KlistWords, KteditWords, KtfindWords, klist_action, ktedit_action, ktfind_action,
+};
 pub use reader::load;
 pub use response::respond;
 pub use writer::save;

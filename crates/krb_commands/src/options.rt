@@ -1,9 +1,9 @@
 //! From the words of a command to what they ask for.
 
-ghost use Rattle.std.specs.Prelude.{◌≡◌, ◌↔◌, IsTrue, IsFalse, IsOk, IsErr, OnOk, IfOk, IsErrOf, None, Ok};
+ghost use Rattle.std.specs.Prelude.{◌≡◌, ◌↔◌, IsTrue, IsFalse, IsOk, IsErr, OnOk, IfOk, IfErr, IsErrOf, None, Ok};
 ghost use Rattle.krb_wire.specs.NameOf.{name_of};
 ghost use Rattle.krb_wire.specs.Reading.{principal_parts};
-ghost use Rattle.krb_commands.specs.Options.{order_of, list_options, Spells, IsReadable, IsUnreadable, AsksToList, AsksToFind};
+ghost use Rattle.krb_commands.specs.Options.{order_of, list_options, Spells, IsReadable, IsUnreadable, AsksToList, AsksToEdit, AsksToFind};
 
 use crate::action::{Action, FindOptions, KlistOptions, ListKind, WordFault};
 use krb_text::{KtColumns, etype_of, parse_u32};
@@ -17,6 +17,13 @@ pub struct KlistWords<'a> {
     pub times: bool,
     pub etypes: bool,
     pub keys: bool,
+    pub v1_big: bool,
+    pub file: &'a str,
+}
+
+/// What the words of ktedit say.
+#[derive(Clone, Copy)]
+pub struct KteditWords<'a> {
     pub v1_big: bool,
     pub file: &'a str,
 }
@@ -62,6 +69,15 @@ pub fn klist_action(alloc: Global, words: &KlistWords<'_>) -> Result<Action, Wor
     }
     let file = String::from_str(alloc, words.file)?;
     Ok(Action::Klist(list_options(words), file))
+}
+
+/// What the words of ktedit ask for.
+pub fn ktedit_action(alloc: Global, words: &KteditWords<'_>) -> Result<Action, WordFault>
+    ensures ok { IfOk result (λ action. AsksToEdit action (order_of words.now.v1_big) words.now.file.now) }
+    ensures memory { IfErr result (λ fault. fault ≡ WordFault.NoMemory) }
+{
+    let file = String::from_str(alloc, words.file)?;
+    Ok(Action::Ktedit(order_of(words.v1_big), file))
 }
 
 // The name that a word spells, with its realm.

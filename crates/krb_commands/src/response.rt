@@ -1,17 +1,17 @@
 //! From what was asked for to the status.
 
-ghost use Rattle.std.specs.Prelude.{◌≡◌, ◌⊎◌, ℕ, List, IsFalse};
-ghost use Rattle.krb_commands.specs.Runs.{EndsRun, FailsToRead, HasCause, Says};
-ghost use Rattle.krb_commands.specs.KeytabFile.{most_bytes};
-ghost use Rattle.krb_commands.specs.Actions.{EndsAction, EndsAsked, action_run, asked_run, help_run, word_message, word_status};
+ghost use Rattle.std.specs.Prelude.{◌≡◌, IsFalse};
+ghost use Rattle.krb_commands.specs.Actions.{EndsAction, EndsAsked, help_run, word_message, word_status};
+ghost use Rattle.krb_commands.specs.Runs.{EndsRun, Says};
 
 use crate::action::{Action, WordFault};
 use crate::klist::run_klist;
+use crate::ktedit::run_ktedit;
 use crate::ktfind::run_ktfind;
 use crate::messages::complain;
 use krb_text::{Files, Watched, put};
 use std::alloc::Allocator;
-use std::io::Write;
+use std::io::{Read, Write};
 
 // Says why a command line was not read, and answers the status for it.
 fn refuse_words<E: Write>(fault: WordFault, err: &mut Watched<E>) -> u8
@@ -33,8 +33,7 @@ fn refuse_words<E: Write>(fault: WordFault, err: &mut Watched<E>) -> u8
 // Shows help that was asked for.
 fn show_help<W: Write, E: Write>(text: &str, out: &mut Watched<W>, err: &mut Watched<E>) -> u8
     requires { IsFalse out.old.failed }
-    ensures { EndsRun (help_run text.now)
-        out.old out.new err.old err.new result }
+    ensures { EndsRun (help_run text.now) out.old out.new err.old err.new result }
 {
     if put(out, text.as_bytes()).is_err() {
         complain(err, "cannot write output");
@@ -44,49 +43,44 @@ fn show_help<W: Write, E: Write>(text: &str, out: &mut Watched<W>, err: &mut Wat
 }
 
 // Does what a command line asks for, and answers the status.
-fn act<A: Allocator + Copy, F: Files, W: Write, E: Write>(
+fn act<A: Allocator + Copy, F: Files, R: Read, W: Write, E: Write>(
     alloc: A,
     action: &Action,
     files: &mut F,
+    input: &mut R,
     out: &mut Watched<W>,
     err: &mut Watched<E>,
 ) -> u8
     requires { IsFalse out.old.failed }
-    ensures run { F.is_honest files.old → ((file : List ℕ) × FailsToRead file
-        (F.failure_count files.old) (F.failure_count files.new) out.old out.new err.old err.new result)
-        ⊎ EndsRun (action_run action.now (F.file files.old)) out.old out.new err.old err.new result }
-    ensures action { EndsAction action.now (λ file answer. F.answers files.old file most_bytes answer files.new)
-        (F.failure_count files.old) (F.failure_count files.new) out.old out.new err.old err.new result }
-    ensures cause { HasCause (F.failure_count files.old) (F.failure_count files.new)
-        out.new err.old err.new result }
+    ensures { EndsAction F.Files (R.remaining input.old) (R.remaining input.new) files.old files.new
+        out.old out.new err.old err.new result action.now }
 {
     match action {
         Action::Klist(options, file) => run_klist(alloc, options, file.as_str(), files, out, err),
         Action::Ktfind(options, file) => run_ktfind(alloc, options, file.as_str(), files, out, err),
+        Action::Ktedit(v1_order, file) => {
+            run_ktedit(alloc, *v1_order, file.as_str(), files, input, out, err)
+        }
         Action::Help(text) => show_help(text.as_str(), out, err),
     }
 }
 
-/// Does what was asked for, or says why the command line was not read, and answers the status. What goes
-/// wrong is said on `err`; a failure of `err` changes nothing else.
-pub fn respond<A: Allocator + Copy, F: Files, W: Write, E: Write>(
+/// Does what was asked for, or says why the command line was not read, and answers the status. Scripts
+/// come from `input`. What goes wrong is said on `err`; a failure of `err` changes nothing else.
+pub fn respond<A: Allocator + Copy, F: Files, R: Read, W: Write, E: Write>(
     alloc: A,
     asked: &Result<Action, WordFault>,
     files: &mut F,
+    input: &mut R,
     out: &mut Watched<W>,
     err: &mut Watched<E>,
 ) -> u8
     requires { IsFalse out.old.failed }
-    ensures run { F.is_honest files.old → ((file : List ℕ) × FailsToRead file
-        (F.failure_count files.old) (F.failure_count files.new) out.old out.new err.old err.new result)
-        ⊎ EndsRun (asked_run asked.now (F.file files.old)) out.old out.new err.old err.new result }
-    ensures asked { EndsAsked asked.now (λ file answer. F.answers files.old file most_bytes answer files.new)
-        (F.failure_count files.old) (F.failure_count files.new) out.old out.new err.old err.new result }
-    ensures cause { HasCause (F.failure_count files.old) (F.failure_count files.new)
-        out.new err.old err.new result }
+    ensures { EndsAsked F.Files (R.remaining input.old) (R.remaining input.new) files.old files.new
+        out.old out.new err.old err.new result asked.now }
 {
     match asked {
-        Ok(action) => act(alloc, action, files, out, err),
+        Ok(action) => act(alloc, action, files, input, out, err),
         Err(fault) => refuse_words(*fault, err),
     }
 }

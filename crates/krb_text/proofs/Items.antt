@@ -1,12 +1,12 @@
 -- Lists from an index on, and the texts of their elements.
-use Rattle.std.proofs.Common.{◌≡◌, ℕ, suc, ◌+◌, ◌<◌, List, [], ◌∷◌, ◌++◌, length, get_or, drop, sym, ap, ◌∙◌, append_assoc, append-nil, drop-cons, add-one, subst}
+use Rattle.std.proofs.Common.{◌≡◌, ℕ, suc, ◌+◌, ◌<◌, List, [], ◌∷◌, ◌++◌, length, get_or, drop, sym, ap, ◌∙◌, append_assoc, append-nil, drop-cons, add-one}
 use Rattle.krb_wire.specs.declared.format.KtFormat.{KtFormat}
 use Rattle.krb_wire.specs.Text.{Grew}
 use Rattle.krb_walk.specs.Said.{Said}
 use Rattle.krb_keytab.specs.Entry.{EntryParts}
 use Rattle.krb_text.specs.declared.columns.KtColumns.{KtColumns}
 use Rattle.krb_text.specs.Slots.{slot_line, slot_lines}
-use Rattle.krb_text.specs.Reply.{reply_text, reply_texts, format_after, AllReadable, IsReadable}
+use Rattle.krb_text.specs.Reply.{reply_text, reply_texts, format_after}
 
 -- the element at an index, and those after it
 pub drop_item : {X : Type 0} (xs : List X) (i : ℕ) (x : X) → i < length xs → x ≡ get_or xs i x → drop i xs ≡ x ∷ drop (i + 1) xs
@@ -21,10 +21,6 @@ slots_step columns whole out more n rest e others is next written =
 pub replies_step : (f : KtFormat) (whole out more : List ℕ) (rest : List Said) (r : Said) (others : List Said) → whole ≡ out ++ reply_texts f rest → rest ≡ r ∷ others → more ≡ out ++ reply_text f r → whole ≡ more ++ reply_texts (format_after f r) others
 replies_step f whole out more rest r others is next written =
     is ∙ ap (λ (rs : List Said). out ++ reply_texts f rs) next ∙ sym (append_assoc out (reply_text f r) (reply_texts (format_after f r) others)) ∙ ap (λ (t : List ℕ). t ++ reply_texts (format_after f r) others) (sym written)
-
--- the next reply is readable, and those after it
-pub readable_step : (f : KtFormat) (rest : List Said) (r : Said) (others : List Said) → AllReadable f rest → rest ≡ r ∷ others → IsReadable f r × AllReadable (format_after f r) others
-readable_step f rest r others all next = let Q : List Said → Type 0 = AllReadable f in subst Q next all
 
 -- nothing was appended
 pub Grew-none : (a : List ℕ) → Grew a a

@@ -1,5 +1,5 @@
 -- The lines of replies.
-use Rattle.std.specs.Prelude.{ℕ, List, [], ◌∷◌, ◌++◌, decimal, codes, Option, None, Some, IsSome}
+use Rattle.std.specs.Prelude.{ℕ, List, [], ◌∷◌, ◌++◌, decimal, codes, Option, None, Some}
 use Rattle.krb_wire.specs.declared.format.KtFormat.{KtFormat}
 use Rattle.krb_wire.specs.declared.format.KtFormat.TheVariants.{V2}
 use Rattle.krb_walk.specs.Numbers.{code_number}
@@ -15,9 +15,9 @@ walk_line walk rest = codes "walk " ++ (decimal walk ++ rest)
 abbrev pub number_line : List ℕ → ℕ → List ℕ
 number_line label n = label ++ (decimal n ++ codes "\n")
 
--- the end of the line of a record that holds the entry
+-- the end of the line of a record that holds the entry; where it held none, the line would end there
 abbrev pub given_tail : Option EntryParts → List ℕ
-given_tail None = []
+given_tail None = codes "\n"
 given_tail (Some e) = entry_tail e
 
 -- the line of a reply, where a record's bytes are read in the format
@@ -32,11 +32,6 @@ reply_text f (Gone place) = number_line (codes "gone ") place
 reply_text f (Rewritten end) = number_line (codes "rewritten ") end
 reply_text f (Refused code) = number_line (codes "refused ") (code_number code)
 
--- the bytes that the reply gives, if any, spell an entry in the format
-abbrev pub IsReadable : KtFormat → Said → Type 0
-IsReadable f (Gave w place next bytes) = IsSome (entry_at f bytes)
-IsReadable f said = Unit {0}
-
 -- the format after a reply: a rewrite makes it version 2
 abbrev pub format_after : KtFormat → Said → KtFormat
 format_after f (Rewritten end) = V2
@@ -46,8 +41,3 @@ format_after f said = f
 abbrev pub reply_texts : KtFormat → List Said → List ℕ
 reply_texts f [] = []
 reply_texts f (reply ∷ replies) = reply_text f reply ++ reply_texts (format_after f reply) replies
-
--- the bytes that each gives spell an entry in the format of its time
-abbrev pub AllReadable : KtFormat → List Said → Type 0
-AllReadable f [] = Unit {0}
-AllReadable f (reply ∷ replies) = IsReadable f reply × AllReadable (format_after f reply) replies

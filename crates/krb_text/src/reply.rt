@@ -1,11 +1,11 @@
 //! The lines of replies.
 
-ghost use Rattle.std.specs.Prelude.{◌≡◌, ◌++◌, decimal, codes, map, IsSome, OnOk, OnErr};
+ghost use Rattle.std.specs.Prelude.{◌≡◌, ◌++◌, decimal, codes, map, OnOk, OnErr};
 ghost use Rattle.krb_wire.specs.Text.{Grew};
 ghost use Rattle.krb_walk.specs.Said.{said};
 ghost use Rattle.krb_keytab.specs.Entry.{entry_at};
 ghost use Rattle.krb_text.specs.Line.{fault_text};
-ghost use Rattle.krb_text.specs.Reply.{walk_line, number_line, given_tail, reply_text, reply_texts, format_after, IsReadable, AllReadable};
+ghost use Rattle.krb_text.specs.Reply.{walk_line, number_line, given_tail, reply_text, reply_texts, format_after};
 
 use crate::append::{append, append_byte, append_number};
 use crate::fields::view_fields;
@@ -73,15 +73,14 @@ fn append_given<A: Allocator>(
     bytes: &[u8],
     out: &mut Vec<u8, A>,
 ) -> Result<(), NoMemory>
-    requires { IsSome (entry_at format bytes.now) }
     ensures ok { OnOk result
         (out.new.items ≡ out.old.items ++ given_tail (entry_at format bytes.now)) }
     ensures err { OnErr result (Grew out.old.items out.new.items) }
 {
-    let Some(entry) = read_entry(format, bytes) else {
-        unreachable!()
-    };
-    append_tail(&view_fields(&entry), out)
+    match read_entry(format, bytes) {
+        Some(entry) => append_tail(&view_fields(&entry), out),
+        None => append_byte(b'\n', out),
+    }
 }
 
 // The record that a walk was given.
@@ -93,7 +92,6 @@ fn append_gave<A: Allocator>(
     bytes: &[u8],
     out: &mut Vec<u8, A>,
 ) -> Result<(), NoMemory>
-    requires { IsSome (entry_at format bytes.now) }
     ensures ok { OnOk result (out.new.items ≡ out.old.items
         ++ walk_line walk (codes " gave " ++ (decimal place ++ (codes " next "
         ++ (decimal next ++ given_tail (entry_at format bytes.now)))))) }
@@ -112,7 +110,6 @@ fn append_reply<A: Allocator, B: Allocator>(
     reply: &Reply<B>,
     out: &mut Vec<u8, A>,
 ) -> Result<(), NoMemory>
-    requires { IsReadable format (said reply.now) }
     ensures ok { OnOk result
         (out.new.items ≡ out.old.items ++ reply_text format (said reply.now)) }
     ensures err { OnErr result (Grew out.old.items out.new.items) }
@@ -149,7 +146,6 @@ fn append_replies<A: Allocator, B: Allocator>(
     replies: &[Reply<B>],
     out: &mut Vec<u8, A>,
 ) -> Result<(), NoMemory>
-    requires { AllReadable format (map said replies.now) }
     ensures ok { OnOk result
         (out.new.items ≡ out.old.items ++ reply_texts format (map said replies.now)) }
     ensures err { OnErr result (Grew out.old.items out.new.items) }
@@ -168,7 +164,6 @@ pub fn reply_line<A: Allocator, B: Allocator>(
     reply: &Reply<B>,
     out: &mut Vec<u8, A>,
 ) -> Result<(), NoMemory>
-    requires { IsReadable format (said reply.now) }
     ensures ok { OnOk result
         (out.new.items ≡ out.old.items ++ reply_text format (said reply.now)) }
     ensures err { OnErr result (out.new.items ≡ out.old.items) }
@@ -189,7 +184,6 @@ pub fn reply_lines<A: Allocator, B: Allocator>(
     replies: &[Reply<B>],
     out: &mut Vec<u8, A>,
 ) -> Result<(), NoMemory>
-    requires { AllReadable format (map said replies.now) }
     ensures ok { OnOk result
         (out.new.items ≡ out.old.items ++ reply_texts format (map said replies.now)) }
     ensures err { OnErr result (out.new.items ≡ out.old.items) }

@@ -1,4 +1,4 @@
-//! Shows Kerberos keytabs.
+//! Shows and edits Kerberos keytabs.
 #![tactic(auto)]
 
 mod disk;
@@ -13,7 +13,8 @@ use std::process::ExitCode;
 
 fn main(rt: HostRuntime) -> ExitCode {
     let mut files = DiskFiles::new(&rt);
+    let mut input = rt.stdin();
     let mut out = Watched::new(rt.stdout());
     let mut err = Watched::new(rt.stderr());
-    ExitCode::from(run::run(&rt, &mut files, &mut out, &mut err))
+    ExitCode::from(run::run(&rt, &mut files, &mut input, &mut out, &mut err))
 }

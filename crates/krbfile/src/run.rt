@@ -3,14 +3,12 @@
 ghost use Rattle.std.specs.Prelude.{Result, IsFalse};
 ghost use Rattle.krb_commands.specs.declared.action.Action.{Action};
 ghost use Rattle.krb_commands.specs.declared.action.WordFault.{WordFault};
-ghost use Rattle.krb_commands.specs.Runs.{HasCause};
-ghost use Rattle.krb_commands.specs.KeytabFile.{most_bytes};
 ghost use Rattle.krb_commands.specs.Actions.{EndsAsked};
 
 use crate::words::parse_words;
 use krb_commands::{Action, WordFault, respond};
 use krb_text::{Files, Watched};
-use std::io::Write;
+use std::io::{Read, Write};
 use std::{env, io, rt};
 
 // The words of the command line. One that is not text makes a bad line.
@@ -28,20 +26,19 @@ fn asked<R: rt::Env + AllocGlobal>(rt: &R) -> Result<Action, WordFault> {
 }
 
 /// Does what the words of the command line ask for, and answers the status.
-pub fn run<R: rt::Env + AllocGlobal, F: Files, W: Write, E: Write>(
-    rt: &R,
+pub fn run<H: rt::Env + AllocGlobal, F: Files, R: Read, W: Write, E: Write>(
+    rt: &H,
     files: &mut F,
+    input: &mut R,
     out: &mut Watched<W>,
     err: &mut Watched<E>,
 ) -> u8
     requires { IsFalse out.old.failed }
 
     // Something was asked for, or the line was not read, and that decides the run.
-    ensures asked { (asked : Result Action WordFault)
-        × EndsAsked asked (λ file answer. F.answers files.old file most_bytes answer files.new)
-        (F.failure_count files.old) (F.failure_count files.new) out.old out.new err.old err.new result }
-    ensures cause { HasCause (F.failure_count files.old) (F.failure_count files.new)
-        out.new err.old err.new result }
+    ensures { (asked : Result Action WordFault)
+        × EndsAsked F.Files (R.remaining input.old) (R.remaining input.new) files.old files.new
+        out.old out.new err.old err.new result asked }
 {
-    respond(rt.alloc(), &asked(rt), files, out, err)
+    respond(rt.alloc(), &asked(rt), files, input, out, err)
 }

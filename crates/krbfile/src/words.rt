@@ -2,8 +2,20 @@
 
 use clap::error::ErrorKind;
 use clap::{Arg, ArgAction, ArgMatches, Command, Error};
-use krb_commands::{Action, KlistWords, KtfindWords, WordFault, klist_action, ktfind_action};
+use krb_commands::{
+    Action, KlistWords, KteditWords, KtfindWords, WordFault, klist_action, ktedit_action, ktfind_action,
+};
 use std::alloc::{AllocError, Global};
+
+/// The lines of a script.
+const SCRIPT: &str = "\
+Lines of the script, of which empty ones and those that begin with # ask for nothing:
+  start                         A new walk, from the first record
+  resume PLACE                  A new walk, from that place
+  step WALK                     The next record of that walk
+  add KVNO ETYPE TIME KEY NAME  An addition; KEY is hexadecimal, or - for none
+  cut PLACE                     The removal of the record at that place
+  rewrite                       The keytab is written anew, without holes";
 
 fn flag<'a>(alloc: Global, id: &'a str, letter: char, help: &'a str) -> Arg<'a> {
     Arg::new(alloc, id)
@@ -39,6 +51,16 @@ fn klist_command<'a>(alloc: Global) -> Result<Command<'a>, AllocError> {
         .arg(word(alloc, "file", "FILE", "The file to list"))
 }
 
+fn ktedit_command<'a>(alloc: Global) -> Result<Command<'a>, AllocError> {
+    Command::new(alloc, "ktedit")
+        .about("Edits a keytab by a script from the standard input")
+        .override_usage("krbfile ktedit [--v1-big] FILE < SCRIPT")
+        .after_help(SCRIPT)
+        .args_override_self(true)
+        .arg(v1_big(alloc))?
+        .arg(word(alloc, "file", "FILE", "The file to edit, made where it is missing"))
+}
+
 fn ktfind_command<'a>(alloc: Global) -> Result<Command<'a>, AllocError> {
     Command::new(alloc, "ktfind")
         .about("Finds an entry in a keytab")
@@ -58,9 +80,10 @@ fn ktfind_command<'a>(alloc: Global) -> Result<Command<'a>, AllocError> {
 
 fn krbfile_command<'a>(alloc: Global) -> Result<Command<'a>, AllocError> {
     Command::new(alloc, "krbfile")
-        .about("Reads Kerberos keytabs")
+        .about("Reads and edits Kerberos keytabs")
         .subcommand_required(true)
         .subcommand(klist_command(alloc)?)?
+        .subcommand(ktedit_command(alloc)?)?
         .subcommand(ktfind_command(alloc)?)
 }
 
@@ -71,6 +94,14 @@ fn klist_words<'a>(matches: &ArgMatches<'a>) -> Option<KlistWords<'a>> {
         times: matches.get_flag("times"),
         etypes: matches.get_flag("etypes"),
         keys: matches.get_flag("keys"),
+        v1_big: matches.get_flag("v1-big"),
+        file: matches.get_str("file")?,
+    })
+}
+
+// The words of ktedit that were found.
+fn ktedit_words<'a>(matches: &ArgMatches<'a>) -> Option<KteditWords<'a>> {
+    Some(KteditWords {
         v1_big: matches.get_flag("v1-big"),
         file: matches.get_str("file")?,
     })
@@ -92,6 +123,9 @@ fn command_action(alloc: Global, matches: &ArgMatches) -> Result<Action, WordFau
     match matches.subcommand() {
         Some(("klist", found)) => {
             klist_action(alloc, &klist_words(found).ok_or(WordFault::BadLine)?)
+        }
+        Some(("ktedit", found)) => {
+            ktedit_action(alloc, &ktedit_words(found).ok_or(WordFault::BadLine)?)
         }
         Some(("ktfind", found)) => {
             ktfind_action(alloc, &ktfind_words(found).ok_or(WordFault::BadLine)?)

@@ -14,11 +14,13 @@ fn check<R: Abort + AllocGlobal>(
 ) -> Result<(), Fail> {
     let alloc = rt.alloc();
     let mut files = files_of(alloc, &[HEAD, HOST])?;
+    let mut input = b"cut 2\n".as_slice();
     let (mut out, mut err) = (Vec::new(alloc), Vec::new(alloc));
     let status = respond(
         alloc,
         asked,
         &mut files,
+        &mut input,
         &mut Watched::new(&mut out),
         &mut Watched::new(&mut err),
     );
@@ -37,8 +39,9 @@ fn each_response(rt: HostRuntime) -> Result<(), Fail> {
     let list = Ok(Action::Klist(options(Order::Little), file.clone()?));
     check(&rt, &list, (listed, "", 0))?;
     let found = "found 2 kvno 3 etype 17 host/a@R\n";
-    let find = Ok(Action::Ktfind(wanted(alloc, 0, 0, "host/a@R")?, file));
+    let find = Ok(Action::Ktfind(wanted(alloc, 0, 0, "host/a@R")?, file.clone()?));
     check(&rt, &find, (found, "", 0))?;
+    check(&rt, &Ok(Action::Ktedit(Order::Little, file)), ("gone 2\n", "", 0))?;
     let help = Ok(Action::Help(String::from_str(alloc, "help\n")?));
     check(&rt, &help, ("help\n", "", 0))?;
     let bad = "krbfile: bad command line\n";

@@ -70,6 +70,20 @@ fn lines_that_list_with_columns(rt: HostRuntime) -> Result<(), Fail> {
 }
 
 #[test]
+fn lines_that_edit(rt: HostRuntime) -> Result<(), Fail> {
+    for (line, order) in [
+        ("krbfile ktedit k", Order::Little),
+        ("krbfile ktedit k --v1-big", Order::Big),
+    ] {
+        let Ok(Action::Ktedit(asked, file)) = parsed(rt.alloc(), line)? else {
+            return Err(Fail::from("no edit"));
+        };
+        assert!(rt; asked == order && file.as_str() == "k", "at {line}");
+    }
+    Ok(())
+}
+
+#[test]
 fn lines_that_are_refused(rt: HostRuntime) -> Result<(), Fail> {
     for line in [
         "krbfile",
@@ -86,6 +100,9 @@ fn lines_that_are_refused(rt: HostRuntime) -> Result<(), Fail> {
         "krbfile klist -k k x",
         "krbfile klist -k -x k",
         "krbfile klist -k -T k",
+        "krbfile ktedit",
+        "krbfile ktedit k script",
+        "krbfile ktedit -k k",
     ] {
         let fault = parsed(rt.alloc(), line)?.err();
         assert!(rt; fault == Some(WordFault::BadLine), "at {line}");
@@ -95,8 +112,10 @@ fn lines_that_are_refused(rt: HostRuntime) -> Result<(), Fail> {
 
 #[test]
 fn help(rt: HostRuntime) -> Result<(), Fail> {
-    let program = "Reads Kerberos keytabs\n";
+    let program = "Reads and edits Kerberos keytabs\n";
     let klist = "Lists a keytab\n\nUsage: krbfile klist -k [-t] [-K] [-e] [--v1-big] FILE\n";
+    let ktedit = "Edits a keytab by a script from the standard input\n\n\
+Usage: krbfile ktedit [--v1-big] FILE < SCRIPT\n";
     let ktfind =
         "Finds an entry in a keytab\n\nUsage: krbfile ktfind [--v1-big] FILE KVNO ETYPE NAME\n";
     for (line, start) in [
@@ -106,6 +125,8 @@ fn help(rt: HostRuntime) -> Result<(), Fail> {
         ("krbfile help klist", klist),
         ("krbfile klist --help", klist),
         ("krbfile klist -kh k", klist),
+        ("krbfile help ktedit", ktedit),
+        ("krbfile ktedit --help", ktedit),
         ("krbfile help ktfind", ktfind),
         ("krbfile ktfind --help", ktfind),
         ("krbfile ktfind k x -h", ktfind),

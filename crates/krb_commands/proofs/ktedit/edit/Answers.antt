@@ -1,9 +1,7 @@
-use Rattle.std.proofs.Common.{◌≡◌, map, ap, ◌∙◌}
-use Rattle.std.specs.Prelude.{if◌then◌else◌}
+use Rattle.std.proofs.Common.{map, ap, ◌∙◌}
 use Rattle.krb_walk.specs.Said.{said}
 use Rattle.krb_walk.specs.Events.{session_of}
 use Rattle.krb_keytab.specs.Store.{InMemory, image_of}
-use Rattle.krb_text.specs.Reply.{reply_texts}
 use Rattle.krb_commands.specs.Ktedit.{is_change, is_trouble}
 use Rattle.krb_commands.proofs.EditLemmas.{any_said, IsEdited-by}
 use Rattle.krb_commands.proofs.ktedit.edit.Goals as goal

@@ -1,8 +1,8 @@
-use Rattle.std.proofs.Common.{◌≡◌, ◌≢◌, refl, ap, inl, inr, rules}
+use Rattle.std.proofs.Common.{◌≡◌, refl, ap, inr}
 use Rattle.std.specs.Prelude.{Ok, Err}
 use Rattle.krb_text.specs.Script.{script}
-use Rattle.krb_commands.specs.Input.{input_run, line_run}
-use Rattle.krb_commands.proofs.EditLemmas.{EndsRun-said, GivesInput-err, GivesInput-ok, RunsEdit-by, unread_is_told}
+use Rattle.krb_commands.specs.Input.{input_run}
+use Rattle.krb_commands.proofs.EditLemmas.{EndsRun-said, GivesInput-err, GivesInput-ok, RunsEdit-by, refused, unread_is_told}
 use Rattle.krb_commands.proofs.ktedit.run_ktedit.Goals as goal
 
 -- no script was given
@@ -22,17 +22,10 @@ returns-in-Ok-parse_script g c =
       (Ok c.in-Ok.text.items) (GivesInput-ok (g.R.Read.remaining c.args.script.now) (g.R.Read.remaining c.load.new.reader) c.in-Ok.text.items c.in-Ok.ensures.ok c.in-Ok.ensures.taken)
       (inr (rw parsed edits))
 
--- it has a faulty line
-pub returns-in-Err-Fault : goal.returns-in-Err-Fault
-returns-in-Err-Fault g c =
-    let parsed : script c.in-Ok.text.items ≡ Err (record { line = c.in-Err-Fault.line; kind = c.in-Err-Fault.kind }) = rw c.deref.ensures.value at c.in-Err-Fault.ensures.err in
-    let no : 1 ≢ 4 = search rules in
-    RunsEdit-by g.F.Files c.args.file.now c.args.out.now c.args.out.now c.args.err.now c.refuse_line.new.err c.refuse_line.result c.requires c.args.v1_order (g.R.Read.remaining c.args.script.now) (g.R.Read.remaining c.load.new.reader) c.args.files.now c.args.files.now
-      (Ok c.in-Ok.text.items) (GivesInput-ok (g.R.Read.remaining c.args.script.now) (g.R.Read.remaining c.load.new.reader) c.in-Ok.text.items c.in-Ok.ensures.ok c.in-Ok.ensures.taken)
-      (inr (rw parsed (refl, EndsRun-said (line_run c.in-Err-Fault.line c.in-Err-Fault.kind) c.args.out.now c.args.err.now c.refuse_line.new.err c.refuse_line.result c.requires refl c.refuse_line.ensures.status c.refuse_line.ensures.err (λ e. absurd (no e)))))
-
--- memory ran out
+-- it gives none
 pub returns : goal.returns
-returns g c = RunsEdit-by g.F.Files c.args.file.now c.args.out.now c.args.out.now c.args.err.now c.complain.new.err 4 c.requires c.args.v1_order (g.R.Read.remaining c.args.script.now) (g.R.Read.remaining c.load.new.reader) c.args.files.now c.args.files.now
+returns g c =
+    RunsEdit-by g.F.Files c.args.file.now c.args.out.now c.args.out.now c.args.err.now c.refuse_script.new.err c.refuse_script.result c.requires c.args.v1_order (g.R.Read.remaining c.args.script.now) (g.R.Read.remaining c.load.new.reader) c.args.files.now c.args.files.now
       (Ok c.in-Ok.text.items) (GivesInput-ok (g.R.Read.remaining c.args.script.now) (g.R.Read.remaining c.load.new.reader) c.in-Ok.text.items c.in-Ok.ensures.ok c.in-Ok.ensures.taken)
-      (inl (refl, record { ends = refl; kept = refl; said = c.complain.ensures }))
+      (refused g.F.Files c.args.file.now c.args.out.now c.args.out.now c.args.err.now c.refuse_script.new.err c.refuse_script.result c.requires c.args.v1_order (script c.in-Ok.text.items) c.in-Err-parse_script.refusal c.args.files.now
+        refl (rw c.deref.ensures.value at c.in-Err-parse_script.ensures.err) c.refuse_script.ensures.status c.refuse_script.ensures.err)
