@@ -19,7 +19,8 @@ from harness import Case, Outcome, Report, check_case
 # here alone: a pattern that says more takes in more of the cases.
 KNOWN = re.compile(
     r"klist(?=.* -[tKe]*k)( (-[ktKe]+|--v1-big|[^ -][^ ]*))+"  # options before and after the file
-    r"|ktfind .*"
+    r"|(ktfind|ktedit) .*"
+    r"|ktutil( .*)?"
 )
 
 
