@@ -220,7 +220,8 @@ def writes() -> list[Case]:
     copy = ["rkt j", "wkt k"]
     return [
         lines("a new file", copy, [], files=two, after={"k": TWO}),
-        lines("an old file", copy, [], files={"k": one, **two}, after={"k": entries(HOST, HOST, B)}),
+        lines("an old file", copy, [], files={"k": one, **two},
+              after={"k": entries(HOST, HOST, B)}),
         lines("holes that are filled", copy, [], files={"k": holes, **two}, after={"k": filled}),
         lines("the file that was read", ["write_kt k", "rkt k", "wkt k"], [],
               files={"k": one}, after={"k": entries(HOST, HOST)}),

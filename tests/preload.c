@@ -1,15 +1,18 @@
 /* A preloaded library that lets chosen calls of a program fail.
  *
- *   PRELOAD_COUNTS=F   a file that gets the counts below, each a 64-bit number
- *   REFUSE=N           the Nth request for memory is refused
- *   REFUSE_LASTS=1     each request after it is refused too
- *   FAIL_READ=N        the Nth read fails
- *   FAIL_WRITE=N       the Nth write to the output fails
- *   ZERO_WRITE=N       the Nth write to the output takes no byte
- *   MOST=N             each read and each write moves at most N bytes
+ *   PRELOAD_FAILURES=F   a file that gets the number of calls that were not granted, in 64 bits
+ *   REFUSE=N             the Nth request for memory is refused
+ *   REFUSE_LASTS=1       each request after it is refused too
+ *   FAIL_INPUT=N         the Nth read from the standard input fails
+ *   FAIL_READ=N          the Nth read from a file fails
+ *   FAIL_WRITE=N         the Nth write to the standard output fails
+ *   ZERO_WRITE=N         the Nth write to the standard output takes no byte
+ *   FAIL_SAVE=N          the Nth write to a file fails
+ *   ZERO_SAVE=N          the Nth write to a file takes no byte
+ *   MOST=N               each read and each write moves at most N bytes
  *
  * Only calls from the start of main on count, and of malloc, calloc and realloc only those by the
- * program's own code. The counts stand in a shared mapping, so they outlive the program however it
+ * program's own code. The number stands in a shared mapping, so it outlives the program however it
  * ends. The program sees none of these variables.
  */
 #define _GNU_SOURCE
@@ -27,17 +30,17 @@ extern void *__libc_malloc(size_t);
 extern void *__libc_calloc(size_t, size_t);
 extern void *__libc_realloc(void *, size_t);
 
-struct counts {
-    uint64_t requests;
-    uint64_t reads;
-    uint64_t writes;
-    /* The calls of the three kinds that were not granted. */
-    uint64_t failures;
+/* A kind of calls: how many were made, and which of them is not granted. */
+struct calls {
+    uint64_t made;
+    uint64_t fail;
+    uint64_t take_none;
 };
 
-static struct counts unshared;
-static struct counts *counts = &unshared;
-static uint64_t refuse, refuse_lasts, fail_read, fail_write, zero_write, most;
+static struct calls requests, inputs, reads, writes, saves;
+static uint64_t refuse_lasts, most;
+static uint64_t unshared;
+static uint64_t *failures = &unshared;
 static int in_main;
 static uintptr_t program_start, program_end;
 
@@ -66,10 +69,11 @@ static int refuses(void *caller)
     uintptr_t at = (uintptr_t)caller;
     if (!in_main || at < program_start || at >= program_end)
         return 0;
-    counts->requests++;
-    if (refuse == 0 || counts->requests < refuse || (counts->requests > refuse && !refuse_lasts))
+    requests.made++;
+    if (requests.fail == 0 || requests.made < requests.fail ||
+        (requests.made > requests.fail && !refuse_lasts))
         return 0;
-    counts->failures++;
+    ++*failures;
     errno = ENOMEM;
     return 1;
 }
@@ -89,12 +93,16 @@ void *realloc(void *old, size_t size)
     return refuses(__builtin_return_address(0)) ? NULL : __libc_realloc(old, size);
 }
 
-/* A call that fails as on a broken device. */
-static ssize_t fails(void)
+/* Counts a call, and says whether it is granted; if not, what it answers instead. */
+static int grants(struct calls *calls, ssize_t *answer)
 {
-    counts->failures++;
+    calls->made++;
+    if (calls->made != calls->fail && calls->made != calls->take_none)
+        return 1;
+    ++*failures;
     errno = EIO;
-    return -1;
+    *answer = calls->made == calls->fail ? -1 : 0;
+    return 0;
 }
 
 static size_t at_most(size_t size)
@@ -104,22 +112,17 @@ static size_t at_most(size_t size)
 
 ssize_t read(int fd, void *bytes, size_t size)
 {
-    if (in_main && ++counts->reads == fail_read)
-        return fails();
+    ssize_t answer;
+    if (in_main && !grants(fd == STDIN_FILENO ? &inputs : &reads, &answer))
+        return answer;
     return syscall(SYS_read, fd, bytes, at_most(size));
 }
 
 ssize_t write(int fd, const void *bytes, size_t size)
 {
-    if (in_main && fd == STDOUT_FILENO) {
-        counts->writes++;
-        if (counts->writes == fail_write)
-            return fails();
-        if (counts->writes == zero_write) {
-            counts->failures++;
-            return 0;
-        }
-    }
+    ssize_t answer;
+    if (in_main && fd != STDERR_FILENO && !grants(fd == STDOUT_FILENO ? &writes : &saves, &answer))
+        return answer;
     return syscall(SYS_write, fd, bytes, at_most(size));
 }
 
@@ -132,17 +135,17 @@ static uint64_t taken(const char *name)
     return value;
 }
 
-/* Lets the counts stand in that file. */
-static void share_counts(const char *file)
+/* Lets the number of failures stand in that file. */
+static void share_failures(const char *file)
 {
     int fd = open(file, O_RDWR | O_CREAT | O_CLOEXEC, 0600);
-    if (fd < 0 || ftruncate(fd, sizeof *counts) != 0)
+    if (fd < 0 || ftruncate(fd, sizeof *failures) != 0)
         _exit(125);
-    void *page = mmap(NULL, sizeof *counts, PROT_READ | PROT_WRITE, MAP_SHARED, fd, 0);
+    void *page = mmap(NULL, sizeof *failures, PROT_READ | PROT_WRITE, MAP_SHARED, fd, 0);
     if (page == MAP_FAILED)
         _exit(125);
     close(fd);
-    counts = page;
+    failures = page;
 }
 
 typedef int main_function(int, char **, char **);
@@ -155,17 +158,20 @@ static main_function *program_main;
 /* The program's main, with its calls counted. */
 static int counted_main(int argc, char **argv, char **envp)
 {
-    const char *file = getenv("PRELOAD_COUNTS");
+    const char *file = getenv("PRELOAD_FAILURES");
     dl_iterate_phdr(find_program, NULL);
     if (file)
-        share_counts(file);
-    unsetenv("PRELOAD_COUNTS");
+        share_failures(file);
+    unsetenv("PRELOAD_FAILURES");
     unsetenv("LD_PRELOAD");
-    refuse = taken("REFUSE");
+    requests.fail = taken("REFUSE");
     refuse_lasts = taken("REFUSE_LASTS");
-    fail_read = taken("FAIL_READ");
-    fail_write = taken("FAIL_WRITE");
-    zero_write = taken("ZERO_WRITE");
+    inputs.fail = taken("FAIL_INPUT");
+    reads.fail = taken("FAIL_READ");
+    writes.fail = taken("FAIL_WRITE");
+    writes.take_none = taken("ZERO_WRITE");
+    saves.fail = taken("FAIL_SAVE");
+    saves.take_none = taken("ZERO_SAVE");
     most = taken("MOST");
     in_main = 1;
     int status = program_main(argc, argv, envp);

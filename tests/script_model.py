@@ -182,7 +182,9 @@ class Session:
         return b"rewritten %d" % end
 
 
-def edited(image: bytes | None, script: bytes, v1_big: bool = False) -> tuple[Outcome, bytes | None]:
+def edited(
+    image: bytes | None, script: bytes, v1_big: bool = False
+) -> tuple[Outcome, bytes | None]:
     """What `ktedit k` answers to a script, and the file `k` after it; None is no file."""
     events = events_in(script)
     if isinstance(events, Outcome):

@@ -1,0 +1,178 @@
+"""ktedit and ktutil where inputs, outputs, files and requests for memory fail."""
+from __future__ import annotations
+
+import os
+import subprocess
+
+from edits import GAVE_B, GAVE_HOST, text
+from failing_calls import check_calls, check_memory, check_single_bytes
+from harness import Outcome, Report, differences, files_in, folder_of, message, run
+from images import B, HOST, TWO, entries, hole, keytab
+from ktutil_lines import ADDENT, HEADING, KEY, NO_SLOTS
+from ktutil_model import handled
+from listings import B_RECORD
+from preload import WHOLE, Counted, Line, Preloaded, other_files, preloaded, with_prefix
+
+# A script that walks, changes `k` and walks on, its replies, and the file it leaves.
+SCRIPT = Line(("ktedit", "k"), text(["start", "step 0", "cut 2", "step 0", "step 0"]))
+REPLIES = text(["walk 0 at 2", GAVE_HOST, "gone 2", GAVE_B, "walk 0 end 98"])
+EDITED = keytab(hole(bytes(47)), B_RECORD)
+
+# Scripts that make a file, and that make a small one from `k`.
+NEW = Line(("ktedit", "n"), b"add 3 17 0 " + KEY.encode() + b" host/a@R\nadd 3 1 0 - b@R\nstart\n")
+ANEW = Line(("ktedit", "k"), b"start\ncut 2\nrewrite\nstep 0\n")
+
+# An input that reads `j`, writes `k`, and lists before and after it.
+INPUT = Line(("ktutil",), text(["rkt j", "l", "wkt k", "l -k", "l"]))
+WRITTEN = entries(HOST, B, HOST)
+LISTED = text([
+    *HEADING, "   1    3 host/a@R",
+    *HEADING, "   1    3 host/a@R (0x000102030405060708090a0b0c0d0e0f)",
+    *HEADING, "   1    3 host/a@R",
+])
+NOTHING_LISTED = NO_SLOTS * 3
+
+# An input that adds an entry and does not write it, as its time is not known.
+ADDED = Line(("ktutil",), text([ADDENT, KEY, ADDENT, KEY, "l -e", "delent 1", "l", "clear", "q"]))
+
+FILES = {"k": TWO, "j": entries(HOST)}
+AFTER_SCRIPT = {**FILES, "k": EDITED}
+AFTER_INPUT = {**FILES, "k": WRITTEN}
+
+# Lines that change nothing, and one that says what is wrong with it.
+WALK = Line(("ktedit", "k"), b"start\nstep 0\n")
+LIST = Line(("ktutil",), b"l\nl\n")
+FAULTY = [Line(("ktedit", "k"), b"frob\n"), Line(("ktutil",), b"frob\n")]
+
+NO_OUTPUT = message(3, "cannot write output")
+NO_INPUT = message(3, "cannot read input")
+
+
+def check_line(
+    report: Report, program: str, name: str, line: Line, wanted: Outcome, after: dict, **options
+) -> None:
+    """A run with an odd stream, and the files after it."""
+    with folder_of(FILES) as folder:
+        got = run(program, line.words, folder, line.stdin, **options)
+        found = differences(wanted, got)
+        if files_in(folder) != after:
+            found.append("the files are not as wanted")
+    report.check(f"{name}: {line}", found)
+
+
+def check_lost_outputs(report: Report, program: str) -> None:
+    """Outputs on a full device, and closed. What was changed before is saved."""
+    quiet = [Line(("ktedit", "k"), b"# none\n"), Line(("ktutil",), b"rkt j\ndelent 1\n")]
+    wanted = [(SCRIPT, NO_OUTPUT, AFTER_SCRIPT), (WALK, NO_OUTPUT, FILES), (LIST, NO_OUTPUT, FILES)]
+    wanted += [(INPUT, NO_OUTPUT, FILES), *((line, Outcome(0), FILES) for line in quiet)]
+    with open("/dev/full", "wb") as full:
+        for line, outcome, after in wanted:
+            check_line(report, program, "full output", line, outcome, after, stdout=full)
+            check_line(report, program, "closed output", line, outcome, after, stdout=None,
+                       preexec_fn=lambda: os.close(1))
+        for line in FAULTY:
+            check_line(report, program, "full error output", line, Outcome(1), FILES, stderr=full)
+            check_line(report, program, "closed error output", line, Outcome(1), FILES,
+                       stderr=None, preexec_fn=lambda: os.close(2))
+
+
+def check_lost_inputs(report: Report, program: str) -> None:
+    """An input that is a folder, or closed."""
+    for line in (SCRIPT, INPUT):
+        with folder_of(FILES) as folder:
+            for name, close in (("a folder", None), ("closed", lambda: os.close(0))):
+                opened = os.open(folder, os.O_RDONLY)
+                done = subprocess.run([program, *line.words], cwd=folder, stdin=opened, check=False,
+                                      capture_output=True, preexec_fn=close)
+                os.close(opened)
+                got = Outcome(done.returncode, done.stdout, done.stderr)
+                report.compare(f"input that is {name}: {line}", NO_INPUT, got)
+
+
+def faults_without_memory(nth: int, whole: Counted, got: Counted) -> list[str]:
+    """It is said, and a file is as before or as after the whole; replies come only after a save."""
+    found = with_prefix(message(4, "out of memory"), whole, got)
+    return found + other_files(got, FILES, whole.files)
+
+
+def is_one_of(*wanted: tuple[Outcome, dict[str, bytes]]):
+    """A run that is one of those, with the files after it."""
+
+    def faults(nth: int, whole: Counted, got: Counted) -> list[str]:
+        if (got.outcome, got.files) in wanted:
+            return []
+        return differences(wanted[0][0], got.outcome) + other_files(got, wanted[0][1])
+
+    return faults
+
+
+def faults_of_input(nth: int, whole: Counted, got: Counted) -> list[str]:
+    """An input cut after nth - 1 bytes: its whole lines are handled."""
+    wanted = handled(FILES, INPUT.stdin[: nth - 1], 0, is_cut=True)
+    return is_one_of(wanted)(nth, whole, got)
+
+
+def faults_of_output(*files: dict[str, bytes]):
+    """A prefix is printed, and the files are one of those."""
+
+    def faults(nth: int, whole: Counted, got: Counted) -> list[str]:
+        return with_prefix(NO_OUTPUT, whole, got) + other_files(got, *files)
+
+    return faults
+
+
+def check_script(report: Report, program: Preloaded) -> None:
+    """The reads and writes of ktedit."""
+    no_read, no_save = message(3, "k: cannot read"), message(3, "k: cannot write")
+    for most in (WHOLE, 10):
+        of = {
+            "FAIL_INPUT": is_one_of((NO_INPUT, FILES)),
+            "FAIL_READ": is_one_of((no_read, FILES)),
+            "FAIL_SAVE": is_one_of((no_save, FILES)),
+            "ZERO_SAVE": is_one_of((no_save, FILES)),
+            "FAIL_WRITE": faults_of_output(AFTER_SCRIPT),
+            "ZERO_WRITE": faults_of_output(AFTER_SCRIPT),
+        }
+        for setting, faults in of.items():
+            check_calls(report, program, SCRIPT, setting, most, faults)
+
+
+def check_input(report: Report, program: Preloaded) -> None:
+    """The reads and writes of ktutil: it goes on after a file that failed."""
+    no_read = (Outcome(3, NOTHING_LISTED, b"krbfile: j: cannot read\n"), FILES)
+    no_read_back = (Outcome(3, LISTED, b"krbfile: k: cannot read\n"), FILES)
+    no_save = (Outcome(3, LISTED, b"krbfile: k: cannot write\n"), FILES)
+    check_calls(report, program, INPUT, "FAIL_INPUT", 1, faults_of_input)
+    for most in (WHOLE, 10):
+        of = {
+            "FAIL_READ": is_one_of(no_read, no_read_back),
+            "FAIL_SAVE": is_one_of(no_save),
+            "ZERO_SAVE": is_one_of(no_save),
+            "FAIL_WRITE": faults_of_output(FILES, AFTER_INPUT),
+            "ZERO_WRITE": faults_of_output(FILES, AFTER_INPUT),
+        }
+        for setting, faults in of.items():
+            check_calls(report, program, INPUT, setting, most, faults)
+
+
+def check_whole(report: Report, program: Preloaded) -> None:
+    """Where nothing fails."""
+    for line, *wanted in ((SCRIPT, Outcome(0, REPLIES), AFTER_SCRIPT),
+                          (INPUT, Outcome(0, LISTED), AFTER_INPUT)):
+        got = program.run(line)
+        report.check(f"no call fails: {line}", is_one_of(tuple(wanted))(0, got, got))
+
+
+def check(report: Report, program: str) -> None:
+    """Runs all of this topic."""
+    check_lost_outputs(report, program)
+    check_lost_inputs(report, program)
+    with preloaded(report, program, "failing calls of ktedit and ktutil", FILES) as under:
+        if under is None:
+            return
+        check_whole(report, under)
+        lines = [SCRIPT, NEW, ANEW, *FAULTY, INPUT, ADDED]
+        check_memory(report, under, lines, faults_without_memory)
+        check_script(report, under)
+        check_input(report, under)
+        check_single_bytes(report, under, lines)
