@@ -6,11 +6,12 @@ import subprocess
 
 from edits import GAVE_B, GAVE_HOST, text
 from failing_calls import check_calls, check_memory, check_single_bytes
-from harness import Outcome, Report, differences, files_in, folder_of, message, run
+from harness import Case, Outcome, Report, differences, folder_of, message
 from images import B, HOST, TWO, entries, hole, keytab
 from ktutil_lines import ADDENT, HEADING, KEY, NO_SLOTS
 from ktutil_model import handled
 from listings import B_RECORD
+from outputs import check_lost
 from preload import WHOLE, Counted, Line, Preloaded, other_files, preloaded, with_prefix
 
 # A script that walks, changes `k` and walks on, its replies, and the file it leaves.
@@ -48,32 +49,20 @@ NO_OUTPUT = message(3, "cannot write output")
 NO_INPUT = message(3, "cannot read input")
 
 
-def check_line(
-    report: Report, program: str, name: str, line: Line, wanted: Outcome, after: dict, **options
-) -> None:
-    """A run with an odd stream, and the files after it."""
-    with folder_of(FILES) as folder:
-        got = run(program, line.words, folder, line.stdin, **options)
-        found = differences(wanted, got)
-        if files_in(folder) != after:
-            found.append("the files are not as wanted")
-    report.check(f"{name}: {line}", found)
+def case(line: Line, wanted: Outcome, after: dict[str, bytes] = FILES) -> Case:
+    """A line over the files."""
+    return Case("", line.words, wanted, FILES, after, line.stdin)
 
 
 def check_lost_outputs(report: Report, program: str) -> None:
     """Outputs on a full device, and closed. What was changed before is saved."""
     quiet = [Line(("ktedit", "k"), b"# none\n"), Line(("ktutil",), b"rkt j\ndelent 1\n")]
-    wanted = [(SCRIPT, NO_OUTPUT, AFTER_SCRIPT), (WALK, NO_OUTPUT, FILES), (LIST, NO_OUTPUT, FILES)]
-    wanted += [(INPUT, NO_OUTPUT, FILES), *((line, Outcome(0), FILES) for line in quiet)]
-    with open("/dev/full", "wb") as full:
-        for line, outcome, after in wanted:
-            check_line(report, program, "full output", line, outcome, after, stdout=full)
-            check_line(report, program, "closed output", line, outcome, after, stdout=None,
-                       preexec_fn=lambda: os.close(1))
-        for line in FAULTY:
-            check_line(report, program, "full error output", line, Outcome(1), FILES, stderr=full)
-            check_line(report, program, "closed error output", line, Outcome(1), FILES,
-                       stderr=None, preexec_fn=lambda: os.close(2))
+    check_lost(report, program, "stdout", [
+        case(SCRIPT, NO_OUTPUT, AFTER_SCRIPT),
+        *(case(line, NO_OUTPUT) for line in (WALK, LIST, INPUT)),
+        *(case(line, Outcome(0)) for line in quiet),
+    ])
+    check_lost(report, program, "stderr", [case(line, Outcome(1)) for line in FAULTY])
 
 
 def check_lost_inputs(report: Report, program: str) -> None:

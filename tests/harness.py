@@ -111,10 +111,10 @@ def run(program: str, words, folder: str, stdin: bytes = b"", **options) -> Outc
     return Outcome(done.returncode, done.stdout or b"", done.stderr or b"")
 
 
-def run_case(program: str, case: Case) -> tuple[Outcome, dict[str, bytes]]:
+def run_case(program: str, case: Case, **options) -> tuple[Outcome, dict[str, bytes]]:
     """Runs a case in a folder of its own; the files that lie there afterwards."""
     with folder_of(case.files) as folder:
-        return run(program, case.words, folder, case.stdin), files_in(folder)
+        return run(program, case.words, folder, case.stdin, **options), files_in(folder)
 
 
 def faults_of(case: Case, got: Outcome, after: dict[str, bytes]) -> list[str]:
