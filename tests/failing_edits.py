@@ -144,6 +144,23 @@ def check_input(report: Report, program: Preloaded) -> None:
             check_calls(report, program, INPUT, setting, most, faults)
 
 
+def check_clock(report: Report, program: Preloaded) -> None:
+    """The time of a new entry is that of the clock, or 0 where it does not fit 32 bits."""
+    line = Line(("ktutil",), text([ADDENT, KEY, "l -t"]))
+    heading = "slot KVNO Timestamp            Principal\n---- ---- -------------------- ---------\n"
+    known = [
+        ({"CLOCK": 1_700_000_000}, "2023-11-14T22:13:20Z"),
+        ({"CLOCK": 2**32 - 1}, "2106-02-07T06:28:15Z"),
+        ({"CLOCK": 2**32}, "1970-01-01T00:00:00Z"),
+        ({"CLOCK": 2**64 - 1}, "1970-01-01T00:00:00Z"),
+        ({"FAIL_CLOCK": 1}, "1970-01-01T00:00:00Z"),
+    ]
+    for setting, time in known:
+        got = program.run(line, **setting)
+        wanted = Outcome(0, f"{heading}   1    3 {time} host/a@R\n".encode())
+        report.compare(f"the clock with {setting}", wanted, got.outcome)
+
+
 def check_whole(report: Report, program: Preloaded) -> None:
     """Where nothing fails."""
     for line, *wanted in ((SCRIPT, Outcome(0, REPLIES), AFTER_SCRIPT),
@@ -164,4 +181,5 @@ def check(report: Report, program: str) -> None:
         check_memory(report, under, lines, faults_without_memory)
         check_script(report, under)
         check_input(report, under)
+        check_clock(report, under)
         check_single_bytes(report, under, lines)

@@ -10,6 +10,8 @@
  *   FAIL_SAVE=N          the Nth write to a file fails
  *   ZERO_SAVE=N          the Nth write to a file takes no byte
  *   MOST=N               each read and each write moves at most N bytes
+ *   CLOCK=N              the clock has N seconds since 1970, as a signed 64-bit number
+ *   FAIL_CLOCK=1         the clock cannot be read
  *
  * Only calls from the start of main on count, and of malloc, calloc and realloc only those by the
  * program's own code. The number stands in a shared mapping, so it outlives the program however it
@@ -24,6 +26,7 @@
 #include <stdlib.h>
 #include <sys/mman.h>
 #include <sys/syscall.h>
+#include <time.h>
 #include <unistd.h>
 
 extern void *__libc_malloc(size_t);
@@ -38,7 +41,7 @@ struct calls {
 };
 
 static struct calls requests, inputs, reads, writes, saves;
-static uint64_t refuse_lasts, most;
+static uint64_t refuse_lasts, most, clock_seconds, fail_clock;
 static uint64_t unshared;
 static uint64_t *failures = &unshared;
 static int in_main;
@@ -126,6 +129,17 @@ ssize_t write(int fd, const void *bytes, size_t size)
     return syscall(SYS_write, fd, bytes, at_most(size));
 }
 
+int clock_gettime(clockid_t clock, struct timespec *time)
+{
+    if (!in_main || clock != CLOCK_REALTIME || (clock_seconds == 0 && !fail_clock))
+        return (int)syscall(SYS_clock_gettime, clock, time);
+    ++*failures;
+    errno = EINVAL;
+    time->tv_sec = (time_t)clock_seconds;
+    time->tv_nsec = 999999999;
+    return fail_clock ? -1 : 0;
+}
+
 /* Takes a number out of the environment; 0 where it is not there. */
 static uint64_t taken(const char *name)
 {
@@ -173,6 +187,8 @@ static int counted_main(int argc, char **argv, char **envp)
     saves.fail = taken("FAIL_SAVE");
     saves.take_none = taken("ZERO_SAVE");
     most = taken("MOST");
+    clock_seconds = taken("CLOCK");
+    fail_clock = taken("FAIL_CLOCK");
     in_main = 1;
     int status = program_main(argc, argv, envp);
     in_main = 0;
