@@ -147,6 +147,14 @@ def changes() -> list[Case]:
     ]
 
 
+def full_of_version_one() -> bytes:
+    """A keytab of version 1 as large as one may be, in which no entry has a 32-bit version."""
+    front = entries(*[Entry(key=bytes(65_535), version32=None)] * 255, version=1, order=LITTLE)
+    bare = len(Entry(key=b"", version32=None).spelled(1, LITTLE))
+    last = Entry(key=bytes(LIMIT - len(front) - 4 - bare), version32=None)
+    return front + record(last.spelled(1, LITTLE), LITTLE)
+
+
 def rewrites() -> list[Case]:
     """All records anew, and the walks carried along."""
     marked = keytab(HOST_RECORD, END, b"\xff" * 20)
@@ -173,6 +181,8 @@ def rewrites() -> list[Case]:
         edit("nothing but holes", keytab(hole(bytes(9))), ["resume 15", "rewrite", "step 0"],
              ["walk 0 at 15", "rewritten 2", "walk 0 end 2"], keytab()),
         edit("no file", None, ["rewrite"], ["rewritten 2"], keytab()),
+        edit("too long in version 2", full_of_version_one(), ["resume 2", "rewrite", "resume 2"],
+             refused("walk 0 at 2", "refused 3", "walk 1 at 2")),
     ]
 
 
