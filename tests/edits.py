@@ -50,6 +50,17 @@ def refused(*replies: str) -> Outcome:
     return Outcome(1, text(list(replies)))
 
 
+def each_number(name: str, image: bytes, places: tuple[int, ...]) -> Case:
+    """A walk from each number: those that are places, and no other, begin one."""
+    numbers = [*range(201), 2**31, 2**32 - 1]
+    replies = [
+        f"walk {places.index(number)} at {number}" if number in places else "refused 4"
+        for number in numbers
+    ]
+    return edit(f"each number, {name}", image, [f"resume {number}" for number in numbers],
+                refused(*replies))
+
+
 def walks() -> list[Case]:
     """Walks over a keytab that nothing changes."""
     end = "walk 0 end 98"
@@ -66,8 +77,9 @@ def walks() -> list[Case]:
              ["resume 53", "resume 98", "step 0", "step 1", "step 0"], resumed),
         edit("no such walk", TWO, ["step 9", "start", "step 1"],
              refused("refused 6", "walk 0 at 2", "refused 6")),
-        edit("no such place", TWO, ["resume 0", "resume 3", "resume 52", "resume 99"],
-             refused(*["refused 4"] * 4)),
+        each_number("a whole keytab", TWO, (2, 53, 98)),
+        each_number("a damaged keytab", DAMAGED, (2, 53)),
+        each_number("an end mark", keytab(B_RECORD, END, HOST_RECORD), (2, 47)),
         edit("as many walks as there may be", TWO,
              ["start"] * 1025 + ["resume 98", "resume 3", "step 1023"],
              refused(*starts, *["refused 7"] * 3, GAVE_HOST.replace("walk 0", "walk 1023"))),

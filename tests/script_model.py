@@ -5,14 +5,7 @@ import re
 
 from columns import NAMES
 from harness import Outcome, message
-from keytab_model import (
-    LIMIT,
-    NO_SUCH_WALK,
-    NOT_A_PLACE,
-    TOO_MANY_WALKS,
-    Keytab,
-    Refused,
-)
+from keytab_model import LIMIT, NO_SUCH_WALK, NOT_A_PLACE, TOO_MANY_WALKS, Keytab, Refused
 from reading import KeytabEntry, no_keytab
 
 # Faults of a line.
@@ -30,7 +23,7 @@ PART = rb"(?:[^\\/@]|\\.)*"
 # What the byte after a backslash stands for, where not for itself.
 QUOTED = {b"\\n": b"\n", b"\\t": b"\t", b"\\b": b"\b", b"\\0": b"\0"}
 
-# An event is its word and what follows it; a file's events are run in order.
+# An event is its word and what follows it.
 Event = tuple
 
 
