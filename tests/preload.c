@@ -1,6 +1,6 @@
 /* A preloaded library that lets chosen calls of a program fail.
  *
- *   PRELOAD_FAILURES=F   a file that gets the number of calls that were not granted, in 64 bits
+ *   PRELOAD_COUNTS=F     a file that gets the counts below, each a 64-bit number
  *   REFUSE=N             the Nth request for memory is refused
  *   REFUSE_LASTS=1       each request after it is refused too
  *   FAIL_INPUT=N         the Nth read from the standard input fails
@@ -14,7 +14,7 @@
  *   FAIL_CLOCK=1         the clock cannot be read
  *
  * Only calls from the start of main on count, and of malloc, calloc and realloc only those by the
- * program's own code. The number stands in a shared mapping, so it outlives the program however it
+ * program's own code. The counts stand in a shared mapping, so they outlive the program however it
  * ends. The program sees none of these variables.
  */
 #define _GNU_SOURCE
@@ -42,8 +42,16 @@ struct calls {
 
 static struct calls requests, inputs, reads, writes, saves;
 static uint64_t refuse_lasts, most, clock_seconds, fail_clock;
-static uint64_t unshared;
-static uint64_t *failures = &unshared;
+struct counts {
+    uint64_t requests;
+    uint64_t reads;
+    uint64_t writes;
+    /* The calls that were not granted. */
+    uint64_t failures;
+};
+
+static struct counts unshared;
+static struct counts *counts = &unshared;
 static int in_main;
 static uintptr_t program_start, program_end;
 
@@ -72,11 +80,12 @@ static int refuses(void *caller)
     uintptr_t at = (uintptr_t)caller;
     if (!in_main || at < program_start || at >= program_end)
         return 0;
+    counts->requests++;
     requests.made++;
     if (requests.fail == 0 || requests.made < requests.fail ||
         (requests.made > requests.fail && !refuse_lasts))
         return 0;
-    ++*failures;
+    counts->failures++;
     errno = ENOMEM;
     return 1;
 }
@@ -102,7 +111,7 @@ static int grants(struct calls *calls, ssize_t *answer)
     calls->made++;
     if (calls->made != calls->fail && calls->made != calls->take_none)
         return 1;
-    ++*failures;
+    counts->failures++;
     errno = EIO;
     *answer = calls->made == calls->fail ? -1 : 0;
     return 0;
@@ -116,6 +125,7 @@ static size_t at_most(size_t size)
 ssize_t read(int fd, void *bytes, size_t size)
 {
     ssize_t answer;
+    counts->reads += in_main;
     if (in_main && !grants(fd == STDIN_FILENO ? &inputs : &reads, &answer))
         return answer;
     return syscall(SYS_read, fd, bytes, at_most(size));
@@ -124,6 +134,7 @@ ssize_t read(int fd, void *bytes, size_t size)
 ssize_t write(int fd, const void *bytes, size_t size)
 {
     ssize_t answer;
+    counts->writes += in_main;
     if (in_main && fd != STDERR_FILENO && !grants(fd == STDOUT_FILENO ? &writes : &saves, &answer))
         return answer;
     return syscall(SYS_write, fd, bytes, at_most(size));
@@ -133,7 +144,7 @@ int clock_gettime(clockid_t clock, struct timespec *time)
 {
     if (!in_main || clock != CLOCK_REALTIME || (clock_seconds == 0 && !fail_clock))
         return (int)syscall(SYS_clock_gettime, clock, time);
-    ++*failures;
+    counts->failures++;
     errno = EINVAL;
     time->tv_sec = (time_t)clock_seconds;
     time->tv_nsec = 999999999;
@@ -149,17 +160,17 @@ static uint64_t taken(const char *name)
     return value;
 }
 
-/* Lets the number of failures stand in that file. */
-static void share_failures(const char *file)
+/* Lets the counts stand in that file. */
+static void share_counts(const char *file)
 {
     int fd = open(file, O_RDWR | O_CREAT | O_CLOEXEC, 0600);
-    if (fd < 0 || ftruncate(fd, sizeof *failures) != 0)
+    if (fd < 0 || ftruncate(fd, sizeof *counts) != 0)
         _exit(125);
-    void *page = mmap(NULL, sizeof *failures, PROT_READ | PROT_WRITE, MAP_SHARED, fd, 0);
+    void *page = mmap(NULL, sizeof *counts, PROT_READ | PROT_WRITE, MAP_SHARED, fd, 0);
     if (page == MAP_FAILED)
         _exit(125);
     close(fd);
-    failures = page;
+    counts = page;
 }
 
 typedef int main_function(int, char **, char **);
@@ -172,11 +183,11 @@ static main_function *program_main;
 /* The program's main, with its calls counted. */
 static int counted_main(int argc, char **argv, char **envp)
 {
-    const char *file = getenv("PRELOAD_FAILURES");
+    const char *file = getenv("PRELOAD_COUNTS");
     dl_iterate_phdr(find_program, NULL);
     if (file)
-        share_failures(file);
-    unsetenv("PRELOAD_FAILURES");
+        share_counts(file);
+    unsetenv("PRELOAD_COUNTS");
     unsetenv("LD_PRELOAD");
     requests.fail = taken("REFUSE");
     refuse_lasts = taken("REFUSE_LASTS");

@@ -57,14 +57,15 @@ class Preloaded:
     def run(self, line: Line, **settings: int) -> Counted | None:
         """One run with the settings that preload.c tells of; None where it was not loaded."""
         with tempfile.TemporaryDirectory() as top, folder_of(self.files) as folder:
-            failures = os.path.join(top, "failures")
-            env = {"LD_PRELOAD": self.library, "PRELOAD_FAILURES": failures}
+            counts = os.path.join(top, "counts")
+            env = {"LD_PRELOAD": self.library, "PRELOAD_COUNTS": counts}
             env.update((name, str(value)) for name, value in settings.items())
             outcome = run(self.program, line.words, folder, line.stdin, env=env)
-            if not os.path.exists(failures):
+            if not os.path.exists(counts):
                 return None
-            with open(failures, "rb") as file:
-                return Counted(outcome, files_in(folder), *struct.unpack("=Q", file.read(8)))
+            with open(counts, "rb") as file:
+                _, _, _, failures = struct.unpack("=4Q", file.read(32))
+            return Counted(outcome, files_in(folder), failures)
 
     def sweep(
         self,
