@@ -12,6 +12,7 @@ mod refuse;
 mod response;
 #[cfg(test)]
 mod tests;
+mod writer;
 
 pub use action::{Action, FindOptions, KlistOptions, ListKind, WordFault};
 pub use keytab_file::open_keytab;
@@ -20,3 +21,4 @@ pub use ktfind::run_ktfind;
 pub use options::{KlistWords, KtfindWords, klist_action, ktfind_action};
 pub use reader::load;
 pub use response::respond;
+pub use writer::save;

@@ -8,4 +8,5 @@ mod messages;
 mod outputs;
 mod responses;
 mod samples;
+mod saves;
 mod words;

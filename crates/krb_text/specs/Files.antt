@@ -1,5 +1,5 @@
 -- Files as a map from names to bytes.
-use Rattle.std.specs.Prelude.{◌≡◌, ◌⊎◌, ℕ, ◌-◌, ◌^◌, ◌<◌, List, length, if◌then◌else◌, nat_lt, Option, None, Some, Result, Ok, Err, Vec}
+use Rattle.std.specs.Prelude.{◌≡◌, ◌≢◌, ◌⊎◌, ℕ, ◌-◌, ◌^◌, ◌<◌, List, length, if◌then◌else◌, nat_lt, Option, None, Some, Result, Ok, Err, Vec}
 use Rattle.krb_text.specs.declared.files.LoadFault.{LoadFault}
 use Rattle.krb_text.specs.declared.files.LoadFault.TheVariants.{Missing, TooLarge}
 
@@ -10,6 +10,11 @@ FileMap = List ℕ → Option (List ℕ)
 -- the same files
 abbrev pub SameFiles : FileMap → FileMap → Type 0
 SameFiles old new = (name : List ℕ) → new name ≡ old name
+
+-- a file was set: the name has these bytes, and every other name what it had
+pub record SetsFile (old : FileMap) (name bytes : List ℕ) (new : FileMap) : Type 0 where
+  pub this : new name ≡ Some bytes
+  pub others : (other : List ℕ) → other ≢ name → new other ≡ old other
 
 -- the count of failures rose, or it can rise no further
 abbrev pub CountsFailure : ℕ → ℕ → Type 0

@@ -1,7 +1,7 @@
 //! Files by name.
 
-ghost use Rattle.std.specs.Prelude.{◌≡◌, ◌≤◌, ◌⊎◌, ℕ, ◌-◌, ◌^◌, List, Result, Ok, Err, IfOk, IfErr, IsErrOf};
-ghost use Rattle.krb_text.specs.Files.{FileMap, SameFiles, CountsFailure, answer_of, loaded};
+ghost use Rattle.std.specs.Prelude.{◌≡◌, ◌≤◌, ◌⊎◌, ℕ, ◌-◌, ◌^◌, List, Result, Ok, Err, OnOk, OnErr, IfOk, IfErr, IsErrOf};
+ghost use Rattle.krb_text.specs.Files.{FileMap, SameFiles, SetsFile, CountsFailure, answer_of, loaded};
 
 use std::alloc::Allocator;
 use thiserror::Error;
@@ -19,14 +19,24 @@ pub enum LoadFault {
     NoMemory,
 }
 
+/// Why a file was not saved.
+#[derive(Clone, Copy, Debug, PartialEq, Eq, Error)]
+pub enum SaveFault {
+    #[error("cannot write")]
+    Failed,
+    #[error("out of memory")]
+    NoMemory,
+}
+
 /// Files by name. What is said of their bytes holds while the files are honest.
 pub trait Files {
     ghost use Rattle.krb_text.specs.declared.files.LoadFault.{LoadFault};
+    ghost use Rattle.krb_text.specs.declared.files.SaveFault.{SaveFault};
 
     /// What stands under each name.
     ghost file: { Self → FileMap };
 
-    /// Whether the calls read what stands there.
+    /// Whether the calls read what stands there, and write what they are given.
     ghost is_honest: { Self → Type 0 };
 
     /// How many calls failed, as far as a u64 counts.
@@ -35,6 +45,9 @@ pub trait Files {
     /// What a load of that name and limit may answer, and what it leaves. Honest or not, no answer
     /// comes from elsewhere.
     ghost answers: { Self → List ℕ → ℕ → Result (List ℕ) LoadFault → Self → Type 0 };
+
+    /// What a save of these bytes under that name may answer, and what it leaves, honest or not.
+    ghost saves: { Self → List ℕ → List ℕ → Result (Unit {0}) SaveFault → Self → Type 0 };
 
     /// The bytes of a file, if they are at most `limit`.
     fn load<A: Allocator>(
@@ -58,6 +71,20 @@ pub trait Files {
             → CountsFailure (failure_count self.old) (failure_count self.new) }
         ensures count { failure_count self.old ≤ failure_count self.new }
         ensures spent { failure_count self.old ≡ 2 ^ 64 - 1 → IsErrOf result LoadFault.Failed };
+
+    /// Puts the bytes under the name, in place of what stands there.
+    fn save(&mut self, name: &str, bytes: &[u8]) -> Result<(), SaveFault>
+        ensures honest { is_honest self.old → is_honest self.new }
+        ensures ok { is_honest self.old
+            → OnOk result (SetsFile (file self.old) name.now bytes.now (file self.new)) }
+        ensures err { is_honest self.old → OnErr result (SameFiles (file self.old) (file self.new)) }
+        ensures saved { saves self.old name.now bytes.now result self.new }
+
+        // As for `load`.
+        ensures failed { IsErrOf result SaveFault.Failed
+            → CountsFailure (failure_count self.old) (failure_count self.new) }
+        ensures count { failure_count self.old ≤ failure_count self.new }
+        ensures spent { failure_count self.old ≡ 2 ^ 64 - 1 → IsErrOf result SaveFault.Failed };
 
     /// How many calls failed, as far as a u64 counts.
     fn failures(&self) -> u64

@@ -20,7 +20,7 @@ mod watched;
 
 pub use columns::KtColumns;
 pub use etype::{etype_of, etype_text, key_size};
-pub use files::{Files, LoadFault};
+pub use files::{Files, LoadFault, SaveFault};
 pub use find_line::found_text;
 pub use key::key_text;
 pub use listing::list_keytab;

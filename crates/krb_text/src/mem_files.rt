@@ -1,12 +1,12 @@
 //! Files in memory.
 
-ghost use Rattle.std.specs.Prelude.{◌≡◌, ◌⊎◌, ◌↔◌, Ok, IfOk, IfErr, IsErrOf, IsTrue, map, option_map, option_copied, find, string_bytes};
+ghost use Rattle.std.specs.Prelude.{◌≡◌, ◌⊎◌, ◌↔◌, Ok, IfOk, IfErr, IsErrOf, IsTrue, OnOk, OnErr, option_map, option_copied, find, position, string_bytes};
 ghost use Rattle.std.specs.Str.{bytes_eq};
-ghost use Rattle.krb_text.specs.Files.{loaded};
-ghost use Rattle.krb_text.specs.MemFiles.{Memory, AnswersOf, FaultOf, file_in, failing_next, after_call};
+ghost use Rattle.krb_text.specs.Files.{SetsFile, loaded};
+ghost use Rattle.krb_text.specs.MemFiles.{Memory, pairs_of, AnswersOf, SavesOf, FaultOf, file_in, with_file, failing_next, after_call};
 
-use crate::files::{Files, LoadFault};
-use std::alloc::Allocator;
+use crate::files::{Files, LoadFault, SaveFault};
+use std::alloc::{AllocError, Allocator};
 use std::marker::Model;
 
 /// Files in memory. They can be told to fail at a call to come.
@@ -22,7 +22,7 @@ impl<A: Allocator> Model for MemFiles<A> {
     ghost Value = { Memory };
 
     ghost view = { λ m. record {
-      files = map (λ f. (string_bytes f.0, f.1.items)) m.files.items;
+      files = pairs_of m.files.items;
       failing = m.failing;
       failures = m.failures;
     } };
@@ -31,7 +31,7 @@ impl<A: Allocator> Model for MemFiles<A> {
 impl<A: Allocator> MemFiles<A> {
     /// Of two files with one name the first counts.
     pub fn of(alloc: A, files: Vec<(String<A>, Vec<u8, A>), A>) -> MemFiles<A>
-        ensures files { result.files ≡ map (λ f. (string_bytes f.0, f.1.items)) files.items }
+        ensures files { result.files ≡ pairs_of files.items }
         ensures failing { result.failing ≡ 0 }
         ensures failures { result.failures ≡ 0 }
     {
@@ -50,7 +50,7 @@ impl<A: Allocator> MemFiles<A> {
         first_named(&self.files, name).map(|file| file.1.as_slice())
     }
 
-    /// Lets the n-th load from now fail, counted from 1, and no other; none where n is 0.
+    /// Lets the n-th load or save from now fail, counted from 1, and no other; none where n is 0.
     pub fn fail_at(&mut self, n: u64)
         ensures { self.new ≡ record self.old { failing = n } }
     {
@@ -105,7 +105,36 @@ fn copy_within<A: Allocator>(
     Vec::from_slice(alloc, bytes).map_err(|_| LoadFault::NoMemory)
 }
 
-impl<A: Allocator> Files for MemFiles<A> {
+// Where the first file of that name stands.
+fn place_of<A: Allocator>(files: &[(String<A>, Vec<u8, A>)], name: &str) -> Option<usize>
+    ensures { result
+        ≡ position (λ file. bytes_eq (string_bytes file.0) name.now) files.entry.now }
+{
+    files.iter().position(|file| file.0.as_str() == name)
+}
+
+// Puts the bytes under the name: into the first file of that name, or else into one more.
+fn set_file<A: Allocator + Copy>(
+    alloc: A,
+    files: &mut Vec<(String<A>, Vec<u8, A>), A>,
+    name: &str,
+    bytes: &[u8],
+) -> Result<(), AllocError>
+    ensures ok { OnOk result (pairs_of files.new.items
+        ≡ with_file (pairs_of files.old.items) name.now bytes.now) }
+    ensures sets { OnOk result (SetsFile (file_in (pairs_of files.old.items))
+        name.now bytes.now (file_in (pairs_of files.new.items))) }
+    ensures err { OnErr result (pairs_of files.new.items ≡ pairs_of files.old.items) }
+{
+    let copy = Vec::from_slice(alloc, bytes)?;
+    match place_of(files, name) {
+        Some(place) => files[place].1 = copy,
+        None => files.push((String::from_str(alloc, name)?, copy))?,
+    }
+    Ok(())
+}
+
+impl<A: Allocator + Copy> Files for MemFiles<A> {
     ghost file = { λ m. file_in m.files };
 
     ghost is_honest = { λ _. Unit {0} };
@@ -115,6 +144,9 @@ impl<A: Allocator> Files for MemFiles<A> {
     ghost answers = { λ m name limit answer after.
         AnswersOf (failing_next m) (loaded (file_in m.files name) limit) answer
         × (after ≡ after_call m) };
+
+    ghost saves = { λ m name bytes answer after.
+        SavesOf (failing_next m) (after_call m) name bytes answer after };
 
     fn load<B: Allocator>(
         &mut self,
@@ -135,6 +167,23 @@ impl<A: Allocator> Files for MemFiles<A> {
         copy_within(alloc, self.get(name), limit)
     }
 
+    fn save(&mut self, name: &str, bytes: &[u8]) -> Result<(), SaveFault>
+        ensures state { SavesOf (failing_next self.old) (after_call self.old)
+            name.now bytes.now result self.new }
+        ensures failed { IsErrOf result SaveFault.Failed ↔ IsTrue (failing_next self.old) }
+        ensures ok { OnOk result
+            (SetsFile (file_in self.old.files) name.now bytes.now (file_in self.new.files)) }
+        ensures err { OnErr result (self.new.files ≡ self.old.files) }
+    {
+        if self.fails() {
+            return Err(SaveFault::Failed);
+        }
+        match set_file(self.alloc, &mut self.files, name, bytes) {
+            Ok(()) => Ok(()),
+            Err(_) => Err(SaveFault::NoMemory),
+        }
+    }
+
     fn failures(&self) -> u64 {
         self.failures
     }
@@ -143,11 +192,11 @@ impl<A: Allocator> Files for MemFiles<A> {
 #[cfg(test)]
 mod tests {
     use super::*;
-    use std::alloc::{AllocError, Global};
+    use refusing::refuse_each;
     use std::test::Fail;
 
     /// Three files, two of them with one name.
-    fn three(alloc: Global) -> Result<MemFiles<Global>, AllocError> {
+    fn three<A: Allocator + Copy>(alloc: A) -> Result<MemFiles<A>, AllocError> {
         let mut files = Vec::new(alloc);
         for (name, bytes) in [("k", "one"), ("k", "two"), ("other", "")] {
             let bytes = Vec::from_slice(alloc, bytes.as_bytes())?;
@@ -174,13 +223,43 @@ mod tests {
     }
 
     #[test]
-    fn fails_at_the_chosen_load_alone(rt: HostRuntime) -> Result<(), Fail> {
-        let mut files = three(rt.alloc())?;
-        files.fail_at(2);
-        for want in [true, false, true] {
-            assert_eq!(rt; files.load(rt.alloc(), "other", 0).is_ok(), want);
+    fn fails_at_the_chosen_call_alone(rt: HostRuntime) -> Result<(), Fail> {
+        for n in 1..=4 {
+            let mut files = three(rt.alloc())?;
+            files.fail_at(n);
+            let calls = [
+                files.load(rt.alloc(), "k", 9).is_ok(),
+                files.save("k", b"new").is_ok(),
+                files.save("more", b"m").is_ok(),
+                files.load(rt.alloc(), "more", 9).is_ok(),
+            ];
+            for (call, is_ok) in (1..).zip(calls) {
+                assert_eq!(rt; is_ok, call != n && (call, n) != (4, 3), "{call} {n}");
+            }
         }
-        assert_eq!(rt; files.failures(), 1);
+        Ok(())
+    }
+
+    /// Where memory is refused, the files are as they were.
+    #[test]
+    fn saves_or_is_out_of_memory(rt: HostRuntime) -> Result<(), Fail> {
+        for (name, had) in [("k", Some(b"one".as_slice())), ("more", None)] {
+            let requests = refuse_each(rt.alloc(), 100, |heap, n| {
+                let mut files = three(heap)?;
+                heap.refuse(n);
+                let saved = files.save(name, b"new");
+                let want = if heap.refused() {
+                    assert!(rt; saved == Err(SaveFault::NoMemory));
+                    had
+                } else {
+                    assert!(rt; saved.is_ok());
+                    Some(b"new".as_slice())
+                };
+                assert!(rt; files.get(name) == want, "{name}");
+                Ok(())
+            })?;
+            assert!(rt; requests >= 1, "{requests}");
+        }
         Ok(())
     }
 }

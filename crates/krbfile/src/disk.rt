@@ -2,10 +2,17 @@
 
 ghost use Rattle.std.specs.Prelude.{◌≡◌, ◌≤◌, ℕ, None};
 ghost use Rattle.krb_text.specs.Files.{CountsFailure};
-ghost use Rattle.krbfile.specs.Disk.{AnswersFromDisk};
+ghost use Rattle.krbfile.specs.Disk.{AnswersFromDisk, SavesToDisk};
+
+mod mode;
+mod owner;
+mod save;
+mod target;
 
 use krb_commands::load;
-use krb_text::{Files, LoadFault};
+use krb_text::{Files, LoadFault, SaveFault};
+pub use owner::SetOwner;
+use save::save_file;
 use std::alloc::Allocator;
 use std::fs::OpenFile;
 use std::marker::Model;
@@ -48,7 +55,10 @@ fn length_of<F: OpenFile>(file: &F) -> u64 {
     }
 }
 
-impl<R: rt::Files> Files for DiskFiles<'_, R> {
+impl<R: rt::Files + Alloc> Files for DiskFiles<'_, R>
+where
+    R::File: SetOwner,
+{
     ghost file = { λ _ _. None };
 
     ghost is_honest = { λ _. ⊥ };
@@ -56,6 +66,8 @@ impl<R: rt::Files> Files for DiskFiles<'_, R> {
     ghost failure_count = { λ failures. failures };
 
     ghost answers = { λ old _ limit answer new. AnswersFromDisk old new limit answer };
+
+    ghost saves = { λ old _ _ answer new. SavesToDisk old new answer };
 
     fn load<A: Allocator>(
         &mut self,
@@ -78,6 +90,20 @@ impl<R: rt::Files> Files for DiskFiles<'_, R> {
             self.count_failure();
         }
         loaded
+    }
+
+    fn save(&mut self, name: &str, bytes: &[u8]) -> Result<(), SaveFault> {
+        if self.failures == u64::MAX {
+            return Err(SaveFault::Failed);
+        }
+        match save_file(self.rt, name, bytes) {
+            Ok(()) => Ok(()),
+            Err(error) if error.kind() == io::ErrorKind::OutOfMemory => Err(SaveFault::NoMemory),
+            Err(_) => {
+                self.count_failure();
+                Err(SaveFault::Failed)
+            }
+        }
     }
 
     fn failures(&self) -> u64 {

@@ -1,6 +1,8 @@
 ghost use Rattle.std.specs.Prelude.{IsErr};
 
-use crate::disk::DiskFiles;
+mod saves;
+
+use crate::disk::{DiskFiles, SetOwner};
 use krb_text::{Files, LoadFault};
 use std::alloc::Allocator;
 use std::cell::Cell;
@@ -82,6 +84,12 @@ impl OpenFile for Opened<'_> {
     }
 }
 
+impl SetOwner for Opened<'_> {
+    fn set_owner(&self, _owner: Option<u32>, _group: Option<u32>) -> io::Result<()> {
+        unsupported()
+    }
+}
+
 impl<'a> rt::Files for Disk<'a> {
     type File = Opened<'a>;
 
@@ -153,6 +161,7 @@ fn each_call_fails(rt: HostRuntime) -> Result<(), Fail> {
             failing,
             calls: &calls,
         };
+        let disk = (disk, rt.alloc());
         let mut files = DiskFiles::new(&disk);
         for nth in 1..=2u64 {
             calls.set(0);
@@ -176,6 +185,7 @@ fn a_length_that_is_not_told(rt: HostRuntime) -> Result<(), Fail> {
             failing,
             calls: &calls,
         };
+        let disk = (disk, rt.alloc());
         let mut files = DiskFiles::new(&disk);
         let loaded = files.load(rt.alloc(), "k", 70_000);
         assert!(rt; loaded.is_ok_and(|all| all.as_slice() == bytes.as_slice()));
@@ -195,6 +205,7 @@ fn no_call_fails(rt: HostRuntime) -> Result<(), Fail> {
         failing: 0,
         calls: &calls,
     };
+    let disk = (disk, rt.alloc());
     let mut files = DiskFiles::new(&disk);
     assert!(rt; files.load(rt.alloc(), "k", 69_999) == Err(LoadFault::TooLarge));
     assert!(rt; files.load(rt.alloc(), "no", 70_000) == Err(LoadFault::Missing));

@@ -1,0 +1,285 @@
+"""What a save leaves on the disk: the new file's mode, owner and group, links, and nothing else."""
+from __future__ import annotations
+
+import os
+import stat
+from collections.abc import Callable
+from dataclasses import dataclass
+
+from harness import Outcome, Report, differences, folder_of, message, run
+from images import HOST, entries, keytab
+
+# The script of each run, and the file before and after it.
+SCRIPT = b"add 3 17 1700000000 000102030405060708090a0b0c0d0e0f host/a@R\n"
+OLD = keytab()
+NEW = entries(HOST)
+SAVED = Outcome(0, b"placed 2\n")
+UNSAVED = message(3, "k: cannot write")
+UNREAD = message(3, "k: cannot read")
+
+# A user who is not root, and a group that user may be in.
+USER = 65_534
+GROUP = 54_321
+
+# Modes of files that are replaced by their owner.
+MODES = (0o400, 0o600, 0o640, 0o664, 0o604, 0o6755)
+
+Place = Callable[[str], None]
+
+
+def edit(program: str, folder: str, name: str = "k", **options: object) -> Outcome:
+    """One run that adds an entry to the file of that name."""
+    return run(program, ("ktedit", name), folder, SCRIPT, **options)
+
+
+def as_user(groups: tuple[int, ...] = ()) -> dict[str, object]:
+    """The options of a run by a user who is not root, in these groups beside the user's own."""
+    return {"user": USER, "group": USER, "extra_groups": list(groups)}
+
+
+def as_another(program: str) -> dict[str, object] | None:
+    """The options of a run by who is not root; None where that user may not start the program."""
+    if os.geteuid() != 0:
+        return {}
+    try:
+        run(program, ("--help",), "/", **as_user())
+    except PermissionError:
+        return None
+    return as_user()
+
+
+def write(path: str, data: bytes, mode: int = 0o600) -> None:
+    """Makes a file of that mode."""
+    with open(path, "wb") as file:
+        file.write(data)
+    os.chmod(path, mode)
+
+
+def tree(folder: str) -> dict[str, object]:
+    """What is below a folder, by path: bytes of files, texts of links, and the kind of all else."""
+    found: dict[str, object] = {}
+    for at, folders, files in os.walk(folder):
+        for name in (*folders, *files):
+            path = os.path.join(at, name)
+            mode = os.lstat(path).st_mode
+            where = os.path.relpath(path, folder)
+            if stat.S_ISLNK(mode):
+                found[where] = os.readlink(path)
+            elif stat.S_ISREG(mode):
+                with open(path, "rb") as file:
+                    found[where] = file.read()
+            else:
+                found[where] = stat.filemode(mode)[0]
+    return found
+
+
+def tree_faults(wanted: dict[str, object], folder: str) -> list[str]:
+    """What below a folder is not as wanted."""
+    got = tree(folder)
+    names = sorted(set(wanted) | set(got))
+    return [f"{name} is {got.get(name)!r}" for name in names if got.get(name) != wanted.get(name)]
+
+
+@dataclass(frozen=True)
+class Owned:
+    """A file's mode, owner and group."""
+
+    mode: int
+    owner: int
+    group: int
+
+
+def owned(path: str) -> Owned:
+    """Those of a file."""
+    found = os.stat(path)
+    return Owned(stat.S_IMODE(found.st_mode), found.st_uid, found.st_gid)
+
+
+def check_owned(report: Report, name: str, program: str, old: Owned, new: Owned, **options) -> None:
+    """A save over a file of that mode, owner and group, in a folder of whoever makes the run."""
+    with folder_of({}) as folder:
+        path = os.path.join(folder, "k")
+        write(path, OLD)
+        os.chown(folder, options.get("user", -1), options.get("group", -1))
+        os.chown(path, old.owner, old.group)
+        os.chmod(path, old.mode)
+        faults = differences(SAVED, edit(program, folder, **options))
+        if owned(path) != new:
+            faults.append(f"{owned(path)}, not {new}")
+        faults += tree_faults({"k": NEW}, folder)
+    report.check(f"{name}, mode {old.mode:o}", faults)
+
+
+def check_new_files(report: Report, program: str) -> None:
+    """A file that was not there is its owner's alone, whatever the umask."""
+    for umask in (0, 0o022, 0o077, 0o777):
+        with folder_of({}) as folder:
+            faults = differences(SAVED, edit(program, folder, umask=umask))
+            faults += tree_faults({"k": NEW}, folder)
+            mode = owned(os.path.join(folder, "k")).mode
+            if mode != 0o600:
+                faults.append(f"mode {mode:o}")
+        report.check(f"a new file under the umask {umask:o}", faults)
+
+
+def check_own_files(report: Report, program: str) -> None:
+    """Who owns a file, and is in its group, saves it with its mode."""
+    for mode in MODES:
+        here = Owned(mode, os.geteuid(), os.getegid())
+        check_owned(report, "an own file", program, here, here, umask=0o077)
+
+
+def check_others_files(report: Report, program: str) -> None:
+    """Root keeps owner and group; who cannot gives no user more than the old file did."""
+    if os.geteuid() != 0 or as_another(program) is None:
+        report.skip("files of others", "none but root may make them, or start the program")
+        return
+    for mode in MODES:
+        theirs = Owned(mode, USER, GROUP)
+        check_owned(report, "a user's file saved by root", program, theirs, theirs)
+        inside = as_user((GROUP,))
+        check_owned(report, "a user's file in one of its groups", program, theirs, theirs, **inside)
+    # What stays where the owner is lost, the group, or both.
+    for old, new in ((0o6664, 0o664), (0o264, 0o220), (0o666, 0o666), (0o474, 0o444)):
+        after = Owned(new, USER, GROUP)
+        old_file = Owned(old, 0, GROUP)
+        check_owned(report, "the owner is lost", program, old_file, after, **as_user((GROUP,)))
+    for old, new in ((0o6664, 0o604), (0o604, 0o600), (0o647, 0o604), (0o775, 0o705)):
+        after = Owned(new, USER, USER)
+        check_owned(report, "the group is lost", program, Owned(old, USER, 0), after, **as_user())
+    for old, new in ((0o644, 0o604), (0o6777, 0o707), (0o657, 0o604), (0o464, 0o404)):
+        after = Owned(new, USER, USER)
+        check_owned(report, "both are lost", program, Owned(old, 0, 0), after, **as_user())
+
+
+def links_to(*links: tuple[str, str], data: bytes | None = OLD, target: str = "t/k") -> Place:
+    """Two folders, links of these names and texts, and a file unless there are no bytes."""
+
+    def place(folder: str) -> None:
+        for below in ("t", "u"):
+            os.mkdir(os.path.join(folder, below))
+        for name, text in links:
+            os.symlink(text.replace("FOLDER", folder), os.path.join(folder, name))
+        if data is not None:
+            write(os.path.join(folder, target), data)
+
+    return place
+
+
+def check_links(report: Report, program: str) -> None:
+    """The file at the end of links is replaced or made, and each link stays."""
+    chain = (("k", "u/a"), ("u/a", "../u/b"), ("u/b", "FOLDER/t/k"))
+    cases = [
+        ("a relative link", links_to(("k", "t/k"))),
+        ("a link through a parent folder", links_to(("k", "u/../t/k"))),
+        ("an absolute link", links_to(("k", "FOLDER/t/k"))),
+        ("a chain of links", links_to(*chain)),
+        ("a link through a link to a folder", links_to(("d", "t"), ("k", "d/k"))),
+        ("a link that dangles", links_to(("k", "t/k"), data=None)),
+        ("a chain that dangles", links_to(*chain, data=None)),
+    ]
+    for name, place in cases:
+        with folder_of({}) as folder:
+            place(folder)
+            wanted = {**tree(folder), "t/k": NEW}
+            faults = differences(SAVED, edit(program, folder))
+            report.check(f"save over {name}", faults + tree_faults(wanted, folder))
+
+
+def check_broken_links(report: Report, program: str) -> None:
+    """Links that lead to no place for a file."""
+    cases = [
+        ("a link into no folder", links_to(("k", "no/k")), UNSAVED),
+        ("a link to no folder", links_to(("k", "no/"), data=None), UNSAVED),
+        ("a link in a circle", links_to(("k", "u/k"), ("u/k", "../k")), UNREAD),
+    ]
+    for name, place, outcome in cases:
+        with folder_of({}) as folder:
+            place(folder)
+            wanted = tree(folder)
+            faults = differences(outcome, edit(program, folder))
+            report.check(f"save over {name}", faults + tree_faults(wanted, folder))
+
+
+def check_remains(report: Report, program: str) -> None:
+    """What stands under the name of the new file is removed and not opened, but for a folder."""
+
+    def linked(folder: str) -> None:
+        os.link(os.path.join(folder, "other"), os.path.join(folder, "k.new"))
+
+    def pointing(text: str) -> Place:
+        return lambda folder: os.symlink(text, os.path.join(folder, "k.new"))
+
+    def locked(folder: str) -> None:
+        write(os.path.join(folder, "k.new"), b"", 0)
+
+    def filled(folder: str) -> None:
+        os.mkdir(os.path.join(folder, "k.new"))
+        write(os.path.join(folder, "k.new", "other"), b"other")
+
+    cases = [
+        ("a file", lambda folder: write(os.path.join(folder, "k.new"), b"x" * 999, 0o666), SAVED),
+        ("a file that is locked", locked, SAVED),
+        ("another file's name", linked, SAVED),
+        ("a link to another file", pointing("other"), SAVED),
+        ("a link that dangles", pointing("no"), SAVED),
+        ("a link to itself", pointing("k.new"), SAVED),
+        ("a pipe", lambda folder: os.mkfifo(os.path.join(folder, "k.new")), SAVED),
+        ("an empty folder", lambda folder: os.mkdir(os.path.join(folder, "k.new")), UNSAVED),
+        ("a folder", filled, UNSAVED),
+    ]
+    for name, place, outcome in cases:
+        with folder_of({"k": OLD, "other": b"other"}) as folder:
+            place(folder)
+            wanted = {"k": NEW, "other": b"other"} if outcome == SAVED else tree(folder)
+            faults = differences(outcome, edit(program, folder))
+            report.check(f"{name} in the new file's place", faults + tree_faults(wanted, folder))
+
+
+def check_places(report: Report, program: str) -> None:
+    """Names under which no file can be saved, and the longest that can be."""
+    longest = "x" * 251
+    cases = [
+        ("k", SAVED),
+        ("./k", SAVED),
+        (longest, SAVED),
+        (longest + "x", message(3, f"{longest}x: cannot write")),
+        ("no/k", message(3, "no/k: cannot write")),
+        ("", message(3, ": cannot write")),
+    ]
+    for name, outcome in cases:
+        with folder_of({".new": b"other"}) as folder:
+            wanted = {".new": b"other"}
+            if outcome == SAVED:
+                wanted[os.path.normpath(name)] = NEW
+            faults = differences(outcome, edit(program, folder, name))
+            report.check(f"save as {name[:20]!r}", faults + tree_faults(wanted, folder))
+
+
+def check_locked_folder(report: Report, program: str) -> None:
+    """A folder in which no file may be made. Root may in each, so another runs the program."""
+    options = as_another(program)
+    if options is None:
+        report.skip("a locked folder", "none but root may start the program")
+        return
+    for files in ({"k": OLD}, {}):
+        with folder_of(files) as folder:
+            for name in files:
+                os.chmod(os.path.join(folder, name), 0o666)
+            os.chmod(folder, 0o555)
+            faults = differences(UNSAVED, edit(program, folder, **options))
+            faults += tree_faults(dict(files), folder)
+            os.chmod(folder, 0o755)
+        report.check(f"a folder that is locked, with {len(files)} files", faults)
+
+
+def check(report: Report, program: str) -> None:
+    """Runs all of this topic."""
+    check_new_files(report, program)
+    check_own_files(report, program)
+    check_others_files(report, program)
+    check_links(report, program)
+    check_broken_links(report, program)
+    check_remains(report, program)
+    check_places(report, program)
+    check_locked_folder(report, program)
