@@ -1,7 +1,7 @@
 # make            proves and builds the program, crates/krbfile/out/krbfile
 # make run        the same, and lists the sample keytab
 # make test       proves every crate from nothing, runs all tests, and then the built program's
-# make install    puts the program into PREFIX/bin
+# make install    puts the program into PREFIX/bin, and its manual page into PREFIX/share/man/man1
 
 PREFIX ?= /usr/local
 PROGRAM = crates/krbfile/out/krbfile
@@ -22,3 +22,5 @@ test:
 install: all
 	install -d $(DESTDIR)$(PREFIX)/bin
 	install -m 755 $(PROGRAM) $(DESTDIR)$(PREFIX)/bin/krbfile
+	install -d $(DESTDIR)$(PREFIX)/share/man/man1
+	install -m 644 docs/krbfile.1 $(DESTDIR)$(PREFIX)/share/man/man1/krbfile.1

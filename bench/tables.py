@@ -1,12 +1,9 @@
 """The Markdown tables of the benchmark, and what its last lines say of the machine."""
 
-import os
-import platform
 import statistics
-import time
-from pathlib import Path
 
 import keytabs
+import processes
 
 MEGA = 1_000_000
 
@@ -38,28 +35,22 @@ def beside_heading(other):
             "lines", f"{other} lines"]
 
 
-def table(heading, cells, rows):
+def table(heading, groups_and_cells):
     """Markdown, with a line of its own for each group."""
     lines = ["| " + " | ".join(heading) + " |", "|---" + "|---:" * (len(heading) - 1) + "|"]
     group = None
-    for row in rows:
-        if row.group != group:
-            group = row.group
+    for of, cells in groups_and_cells:
+        if of != group:
+            group = of
             lines.append(f"| **{group}** |" + " |" * (len(heading) - 1))
-        lines.append("| " + " | ".join(cells(row, *row.costs.values())) + " |")
+        lines.append("| " + " | ".join(cells) + " |")
     return "\n".join(lines)
 
 
 def compared(other, rows):
     """The table beside that other side."""
-    return table(beside_heading(other), beside, rows)
-
-
-def processor():
-    for line in Path("/proc/cpuinfo").read_text().splitlines():
-        if line.startswith("model name"):
-            return line.split(":", 1)[1].strip()
-    return platform.machine()
+    cells = ((row.group, beside(row, *row.costs.values())) for row in rows)
+    return table(beside_heading(other), cells)
 
 
 def machine(rows, runs, version, before):
@@ -67,13 +58,9 @@ def machine(rows, runs, version, before):
     costs = [cost for row in rows for cost in row.costs.values()]
     spreads = sorted(cost.spread() for cost in costs)
     longer = max((cost.spread() for cost in costs if cost.wall_ms() >= 10), default=0)
-    load = " ".join(f"{value:.1f}" for value in os.getloadavg())
     middle, worst = statistics.median(spreads), spreads[-1]
     return "\n".join([
-        f"- {time.strftime('%Y-%m-%d')}, {processor()}, {os.cpu_count()} processors, "
-        f"Linux {platform.release()}",
-        f"- load before {' '.join(f'{value:.1f}' for value in before)}, after {load} "
-        "(over 1, 5 and 15 minutes)",
+        *processes.machine(before),
         f"- medians of {runs} runs of each side; (longest - shortest) / median: "
         f"{middle:.0%} in the middle case, {worst:.0%} in the worst, "
         f"{longer:.0%} in the worst of those from 10 ms",

@@ -15,11 +15,12 @@ import re
 
 from harness import Case, Outcome, Report, check_case
 
-# The lines that the program knows, as words with a space between. What the program learns is followed
-# here alone: a pattern that says more takes in more of the cases.
+# The lines that the program knows, as words with a space between. What the program learns is
+# followed here alone: a pattern that says more takes in more of the cases.
 KNOWN = re.compile(
     r"klist(?=.* -[tKe]*k)( (-[ktKe]+|--v1-big|[^ -][^ ]*))+"  # options before and after the file
-    r"|ktfind .*"
+    r"|(ktfind|ktedit) .*"
+    r"|ktutil( .*)?"
 )
 
 

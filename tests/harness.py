@@ -4,6 +4,8 @@ from __future__ import annotations
 import os
 import subprocess
 import tempfile
+import time
+from collections.abc import Callable
 from contextlib import contextmanager
 from dataclasses import dataclass, field
 
@@ -109,16 +111,34 @@ def run(program: str, words, folder: str, stdin: bytes = b"", **options) -> Outc
     return Outcome(done.returncode, done.stdout or b"", done.stderr or b"")
 
 
+def run_case(program: str, case: Case, **options) -> tuple[Outcome, dict[str, bytes]]:
+    """Runs a case in a folder of its own; the files that lie there afterwards."""
+    with folder_of(case.files) as folder:
+        return run(program, case.words, folder, case.stdin, **options), files_in(folder)
+
+
+def faults_of(case: Case, got: Outcome, after: dict[str, bytes]) -> list[str]:
+    """What is wrong with a run of a case, and with the files afterwards."""
+    found = differences(case.wanted, got)
+    wanted = case.files if case.files_after is None else case.files_after
+    for name in sorted(set(after) | set(wanted)):
+        if after.get(name) != wanted.get(name):
+            found.append(f"file {name} is not as it should be")
+    return found
+
+
 def check_case(report: Report, program: str, case: Case) -> None:
-    """Runs a case and reports it, with each file that lies there afterwards."""
+    """Runs a case and reports it."""
     try:
-        with folder_of(case.files) as folder:
-            found = differences(case.wanted, run(program, case.words, folder, case.stdin))
-            after = files_in(folder)
-            wanted = case.files if case.files_after is None else case.files_after
-            for name in sorted(set(after) | set(wanted)):
-                if after.get(name) != wanted.get(name):
-                    found.append(f"file {name} is not as it should be")
+        found = faults_of(case, *run_case(program, case))
     except subprocess.TimeoutExpired:
         found = [f"no end in {SECONDS} seconds"]
     report.check(case.name, found)
+
+
+def faults_by_clock(program: str, case_at: Callable[[int], Case]) -> list[str]:
+    """What is wrong with a run that hangs on the clock: the program took its time while it ran."""
+    before = int(time.time())
+    got = run_case(program, case_at(before))
+    tried = [faults_of(case_at(now), *got) for now in range(before, int(time.time()) + 1)]
+    return min(tried, key=len)

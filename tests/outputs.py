@@ -6,12 +6,9 @@ import resource
 import signal
 import subprocess
 
-from harness import SECONDS, Outcome, Report, folder_of, message, run
+from harness import SECONDS, Case, Outcome, Report, faults_of, folder_of, message, run, run_case
 from images import TWO, Entry, entries
 from listings import B_LINE, HOST_LINE, listed
-
-# A line is its words, after the program's name.
-Line = tuple[str, ...]
 
 KLIST = ("klist", "-k", "k")
 KTFIND = ("ktfind", "k", "0", "0", "b@R")
@@ -24,28 +21,25 @@ LONG_IMAGE = entries(*[Entry((LONG_NAME,))] * 300)
 LONG_TEXT = listed(*[b"   3 " + LONG_NAME + b"@R"] * 300)
 
 
-def check_lost(
-    report: Report, program: str, folder: str, stream: str, wanted: list[tuple[Line, Outcome]]
-) -> None:
-    """Runs each line with that output on a full device, and then with it closed."""
+def check_lost(report: Report, program: str, stream: str, cases: list[Case]) -> None:
+    """Runs each case with that output on a full device, and then with it closed."""
     number = {"stdout": 1, "stderr": 2}[stream]
     with open("/dev/full", "wb") as full:
-        for words, outcome in wanted:
-            line = " ".join(words)
-            got = run(program, words, folder, **{stream: full})
-            report.compare(f"full {stream}: {line}", outcome, got)
-            closed = {stream: None, "preexec_fn": lambda: os.close(number)}
-            got = run(program, words, folder, **closed)
-            report.compare(f"closed {stream}: {line}", outcome, got)
+        lost = {"full": {stream: full},
+                "closed": {stream: None, "preexec_fn": lambda: os.close(number)}}
+        for case in cases:
+            for how, options in lost.items():
+                found = faults_of(case, *run_case(program, case, **options))
+                report.check(f"{how} {stream}: {' '.join(case.words)}", found)
 
 
 def check_no_output(report: Report, program: str) -> None:
     """The output fails: for listings, for help, and where nothing is printed."""
+    files = {"k": TWO, "damaged": TWO[:-1]}
     lines = [KLIST, ("klist", "-k", "damaged"), KTFIND, ("--help",), ("klist", "--help")]
-    printing_nothing = (("klist", "-k", "no"), message(1, "no: no such file"))
-    wanted = [*((words, FAILED) for words in lines), printing_nothing]
-    with folder_of({"k": TWO, "damaged": TWO[:-1]}) as folder:
-        check_lost(report, program, folder, "stdout", wanted)
+    wanted = [*((words, FAILED) for words in lines),
+              (("klist", "-k", "no"), message(1, "no: no such file"))]
+    check_lost(report, program, "stdout", [Case("", *one, files) for one in wanted])
 
 
 def check_no_error_output(report: Report, program: str) -> None:
@@ -56,8 +50,7 @@ def check_no_error_output(report: Report, program: str) -> None:
         (("klist", "-k", "no"), Outcome(1)),
         (("frob",), Outcome(2)),
     ]
-    with folder_of({"k": TWO}) as folder:
-        check_lost(report, program, folder, "stderr", wanted)
+    check_lost(report, program, "stderr", [Case("", *one, {"k": TWO}) for one in wanted])
 
 
 def limited(program: str, folder: str, most: int) -> Outcome:

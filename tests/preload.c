@@ -1,12 +1,17 @@
 /* A preloaded library that lets chosen calls of a program fail.
  *
- *   PRELOAD_COUNTS=F   a file that gets the counts below, each a 64-bit number
- *   REFUSE=N           the Nth request for memory is refused
- *   REFUSE_LASTS=1     each request after it is refused too
- *   FAIL_READ=N        the Nth read fails
- *   FAIL_WRITE=N       the Nth write to the output fails
- *   ZERO_WRITE=N       the Nth write to the output takes no byte
- *   MOST=N             each read and each write moves at most N bytes
+ *   PRELOAD_COUNTS=F     a file that gets the counts below, each a 64-bit number
+ *   REFUSE=N             the Nth request for memory is refused
+ *   REFUSE_LASTS=1       each request after it is refused too
+ *   FAIL_INPUT=N         the Nth read from the standard input fails
+ *   FAIL_READ=N          the Nth read from a file fails
+ *   FAIL_WRITE=N         the Nth write to the standard output fails
+ *   ZERO_WRITE=N         the Nth write to the standard output takes no byte
+ *   FAIL_SAVE=N          the Nth write to a file fails
+ *   ZERO_SAVE=N          the Nth write to a file takes no byte
+ *   MOST=N               each read and each write moves at most N bytes
+ *   CLOCK=N              the clock has N seconds since 1970, as a signed 64-bit number
+ *   FAIL_CLOCK=1         the clock cannot be read
  *
  * Only calls from the start of main on count, and of malloc, calloc and realloc only those by the
  * program's own code. The counts stand in a shared mapping, so they outlive the program however it
@@ -21,23 +26,32 @@
 #include <stdlib.h>
 #include <sys/mman.h>
 #include <sys/syscall.h>
+#include <time.h>
 #include <unistd.h>
 
 extern void *__libc_malloc(size_t);
 extern void *__libc_calloc(size_t, size_t);
 extern void *__libc_realloc(void *, size_t);
 
+/* A kind of calls: how many were made, and which of them is not granted. */
+struct calls {
+    uint64_t made;
+    uint64_t fail;
+    uint64_t take_none;
+};
+
+static struct calls requests, inputs, reads, writes, saves;
+static uint64_t refuse_lasts, most, clock_seconds, fail_clock;
 struct counts {
     uint64_t requests;
     uint64_t reads;
     uint64_t writes;
-    /* The calls of the three kinds that were not granted. */
+    /* The calls that were not granted. */
     uint64_t failures;
 };
 
 static struct counts unshared;
 static struct counts *counts = &unshared;
-static uint64_t refuse, refuse_lasts, fail_read, fail_write, zero_write, most;
 static int in_main;
 static uintptr_t program_start, program_end;
 
@@ -67,7 +81,9 @@ static int refuses(void *caller)
     if (!in_main || at < program_start || at >= program_end)
         return 0;
     counts->requests++;
-    if (refuse == 0 || counts->requests < refuse || (counts->requests > refuse && !refuse_lasts))
+    requests.made++;
+    if (requests.fail == 0 || requests.made < requests.fail ||
+        (requests.made > requests.fail && !refuse_lasts))
         return 0;
     counts->failures++;
     errno = ENOMEM;
@@ -89,12 +105,16 @@ void *realloc(void *old, size_t size)
     return refuses(__builtin_return_address(0)) ? NULL : __libc_realloc(old, size);
 }
 
-/* A call that fails as on a broken device. */
-static ssize_t fails(void)
+/* Counts a call, and says whether it is granted; if not, what it answers instead. */
+static int grants(struct calls *calls, ssize_t *answer)
 {
+    calls->made++;
+    if (calls->made != calls->fail && calls->made != calls->take_none)
+        return 1;
     counts->failures++;
     errno = EIO;
-    return -1;
+    *answer = calls->made == calls->fail ? -1 : 0;
+    return 0;
 }
 
 static size_t at_most(size_t size)
@@ -104,23 +124,31 @@ static size_t at_most(size_t size)
 
 ssize_t read(int fd, void *bytes, size_t size)
 {
-    if (in_main && ++counts->reads == fail_read)
-        return fails();
+    ssize_t answer;
+    counts->reads += in_main;
+    if (in_main && !grants(fd == STDIN_FILENO ? &inputs : &reads, &answer))
+        return answer;
     return syscall(SYS_read, fd, bytes, at_most(size));
 }
 
 ssize_t write(int fd, const void *bytes, size_t size)
 {
-    if (in_main && fd == STDOUT_FILENO) {
-        counts->writes++;
-        if (counts->writes == fail_write)
-            return fails();
-        if (counts->writes == zero_write) {
-            counts->failures++;
-            return 0;
-        }
-    }
+    ssize_t answer;
+    counts->writes += in_main;
+    if (in_main && fd != STDERR_FILENO && !grants(fd == STDOUT_FILENO ? &writes : &saves, &answer))
+        return answer;
     return syscall(SYS_write, fd, bytes, at_most(size));
+}
+
+int clock_gettime(clockid_t clock, struct timespec *time)
+{
+    if (!in_main || clock != CLOCK_REALTIME || (clock_seconds == 0 && !fail_clock))
+        return (int)syscall(SYS_clock_gettime, clock, time);
+    counts->failures++;
+    errno = EINVAL;
+    time->tv_sec = (time_t)clock_seconds;
+    time->tv_nsec = 999999999;
+    return fail_clock ? -1 : 0;
 }
 
 /* Takes a number out of the environment; 0 where it is not there. */
@@ -161,12 +189,17 @@ static int counted_main(int argc, char **argv, char **envp)
         share_counts(file);
     unsetenv("PRELOAD_COUNTS");
     unsetenv("LD_PRELOAD");
-    refuse = taken("REFUSE");
+    requests.fail = taken("REFUSE");
     refuse_lasts = taken("REFUSE_LASTS");
-    fail_read = taken("FAIL_READ");
-    fail_write = taken("FAIL_WRITE");
-    zero_write = taken("ZERO_WRITE");
+    inputs.fail = taken("FAIL_INPUT");
+    reads.fail = taken("FAIL_READ");
+    writes.fail = taken("FAIL_WRITE");
+    writes.take_none = taken("ZERO_WRITE");
+    saves.fail = taken("FAIL_SAVE");
+    saves.take_none = taken("ZERO_SAVE");
     most = taken("MOST");
+    clock_seconds = taken("CLOCK");
+    fail_clock = taken("FAIL_CLOCK");
     in_main = 1;
     int status = program_main(argc, argv, envp);
     in_main = 0;

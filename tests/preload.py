@@ -6,72 +6,88 @@ import shutil
 import struct
 import subprocess
 import tempfile
-from collections.abc import Callable
+from collections.abc import Callable, Iterator
+from contextlib import contextmanager
 from dataclasses import dataclass
 
-from harness import Outcome, Report, differences, files_in, run
+from harness import Outcome, Report, differences, files_in, folder_of, run
 
 SOURCE = os.path.join(os.path.dirname(os.path.abspath(__file__)), "preload.c")
 
 # More calls of one kind than any run makes.
 MOST_CALLS = 10_000
 
+# More bytes than any read or write moves.
+WHOLE = 1_000_000
+
+
+@dataclass(frozen=True)
+class Line:
+    """The program's words and its standard input."""
+
+    words: tuple[str, ...]
+    stdin: bytes = b""
+
+    def __str__(self) -> str:
+        return " ".join(self.words)
+
 
 @dataclass(frozen=True)
 class Counted:
-    """A run, the calls of each kind that it made, and those of them that were not granted."""
+    """A run, the files after it, and how many of its calls were not granted."""
 
     outcome: Outcome
-    requests: int
-    reads: int
-    writes: int
+    files: dict[str, bytes]
     failures: int
 
 
-class Preloaded:
-    """Runs a program in a folder with some of its calls failing."""
+# What is wrong with a run in which the nth call fails, given that number, the run in which none
+# fails, and that run.
+Faults = Callable[[int, Counted, Counted], list[str]]
 
-    def __init__(self, program: str, library: str, folder: str) -> None:
+
+class Preloaded:
+    """Runs a program in a folder with some of its calls failing, each time over the same files."""
+
+    def __init__(self, program: str, library: str, files: dict[str, bytes]) -> None:
         self.program = program
         self.library = library
-        self.folder = folder
-        self.files = files_in(folder)
+        self.files = files
 
-    def run(self, words: tuple[str, ...], **settings: int) -> Counted | None:
+    def run(self, line: Line, **settings: int) -> Counted | None:
         """One run with the settings that preload.c tells of; None where it was not loaded."""
-        with tempfile.TemporaryDirectory() as top:
+        with tempfile.TemporaryDirectory() as top, folder_of(self.files) as folder:
             counts = os.path.join(top, "counts")
             env = {"LD_PRELOAD": self.library, "PRELOAD_COUNTS": counts}
             env.update((name, str(value)) for name, value in settings.items())
-            outcome = run(self.program, words, self.folder, env=env)
+            outcome = run(self.program, line.words, folder, line.stdin, env=env)
             if not os.path.exists(counts):
                 return None
             with open(counts, "rb") as file:
-                return Counted(outcome, *struct.unpack("=4Q", file.read(32)))
+                _, _, _, failures = struct.unpack("=4Q", file.read(32))
+            return Counted(outcome, files_in(folder), failures)
 
     def sweep(
         self,
         report: Report,
         name: str,
-        words: tuple[str, ...],
+        line: Line,
         settings: Callable[[int], dict[str, int]],
-        faults: Callable[[Outcome, Outcome], list[str]],
+        faults: Faults,
     ) -> None:
         """Lets the first call fail, then the second, and so on up to one that is not made.
 
-        `settings` has what makes the nth fail, and `faults` says what is wrong with such a run,
-        given the one in which none fails. At the end the program has to answer as in that one.
-        All of it counts as one case, and of its faults those of three runs are told.
+        `settings` has what makes the nth fail. At the end the program has to answer as where none
+        fails. All of it counts as one case, and of its faults those of three runs are told.
         """
-        whole = self.run(words).outcome
+        whole = self.run(line)
         faulty = []
         for nth in range(1, MOST_CALLS):
-            got = self.run(words, **settings(nth))
-            found = differences(whole, got.outcome)
+            got = self.run(line, **settings(nth))
             if got.failures > 0:
-                found = faults(whole, got.outcome)
-            if files_in(self.folder) != self.files:
-                found.append("the files are not as they were")
+                found = faults(nth, whole, got)
+            else:
+                found = differences(whole.outcome, got.outcome) + other_files(got, whole.files)
             if found:
                 faulty.append(f"at {nth} {', '.join(found)}")
             if got.failures == 0:
@@ -85,6 +101,18 @@ class Preloaded:
         report.check(name, faulty)
 
 
+def other_files(got: Counted, *wanted: dict[str, bytes]) -> list[str]:
+    """That the files are none of those that may be there."""
+    return [] if got.files in wanted else [f"the files {sorted(got.files)} are not as wanted"]
+
+
+def with_prefix(wanted: Outcome, whole: Counted, got: Counted) -> list[str]:
+    """Differences from what is wanted, where a prefix of the whole text may have been printed."""
+    out = got.outcome.out
+    prefix = out if whole.outcome.out.startswith(out) else b""
+    return differences(Outcome(wanted.status, prefix, wanted.err), got.outcome)
+
+
 def built_library(folder: str) -> str | None:
     """The library, built by the C compiler that is there; None where there is none."""
     compilers = map(shutil.which, (os.environ.get("CC") or "cc", "gcc", "clang"))
@@ -94,3 +122,19 @@ def built_library(folder: str) -> str | None:
     library = os.path.join(folder, "preload.so")
     words = [compiler, "-O2", "-Wall", "-shared", "-fPIC", "-o", library, SOURCE, "-ldl"]
     return library if subprocess.run(words, check=False).returncode == 0 else None
+
+
+@contextmanager
+def preloaded(
+    report: Report, program: str, what: str, files: dict[str, bytes]
+) -> Iterator[Preloaded | None]:
+    """The program with the library under it; None where that cannot be had, which is reported."""
+    with tempfile.TemporaryDirectory() as top:
+        library = built_library(top)
+        made = Preloaded(program, library, files) if library else None
+        if made is None:
+            report.skip(what, "no C compiler built preload.c")
+        elif made.run(Line(("--help",))) is None:
+            report.skip(what, "the program does not load a preloaded library")
+            made = None
+        yield made

@@ -26,11 +26,11 @@ class NoEntry(Exception):
 
 
 @dataclass(frozen=True)
-class Read:
-    """An entry that was read, and its place."""
+class KeytabEntry:
+    """What an entry says."""
 
-    place: int
     name: tuple[bytes, ...]  # the components and then the realm
+    name_type: int
     timestamp: int
     kvno: int
     enctype: int
@@ -53,6 +53,18 @@ class Read:
         if "K" in columns:
             shown += b" (0x" + self.key.hex().encode() + b")"
         return shown
+
+    def tail(self) -> bytes:
+        """The end of a line that tells of one entry."""
+        return b"kvno %d etype %d " % (self.kvno, self.enctype) + self.text()
+
+
+@dataclass
+class Cell:
+    """A record or a hole, without its length."""
+
+    data: bytes
+    is_record: bool
 
 
 class Fields:
@@ -83,8 +95,8 @@ def quoted(part: bytes) -> bytes:
     return b"".join(QUOTES.get(byte, bytes([byte])) for byte in part)
 
 
-def read_entry(place: int, data: bytes, version: int, order: str) -> Read:
-    """The entry that begins the record at a place."""
+def read_entry(data: bytes, version: int, order: str) -> KeytabEntry:
+    """The entry that begins a record."""
     fields = Fields(data, order)
     count = fields.number(2)
     if version == 1:
@@ -93,15 +105,19 @@ def read_entry(place: int, data: bytes, version: int, order: str) -> Read:
         count -= 1
     realm = fields.counted()
     components = [fields.counted() for _ in range(count)]
-    if version == 2:
-        fields.number(4)
+    name_type = fields.number(4) if version == 2 else 0
     timestamp = fields.number(4)
     kvno = fields.number(1)
     enctype = fields.number(2)
     key = fields.counted()
     if len(fields.data) >= 4:
         kvno = fields.number(4) or kvno
-    return Read(place, (*components, realm), timestamp, kvno, enctype, key)
+    return KeytabEntry((*components, realm), name_type, timestamp, kvno, enctype, key)
+
+
+def order_of(image: bytes, v1_big: bool) -> str:
+    """The order of a keytab's numbers."""
+    return BIG if image[1] == 2 or v1_big else LITTLE
 
 
 def fault_or_size(image: bytes, at: int, order: str) -> tuple[int, int]:
@@ -113,34 +129,48 @@ def fault_or_size(image: bytes, at: int, order: str) -> tuple[int, int]:
     return (2 if abs(size) > rest - 4 else 0), size
 
 
-def no_keytab(image: bytes) -> Outcome | None:
-    """What is answered of a file `k` that does not begin as a keytab."""
+def no_keytab(image: bytes, name: str = "k") -> Outcome | None:
+    """What is answered of a file that does not begin as a keytab."""
     if len(image) < 2:
-        return message(1, "k: not a keytab (1)")
+        return message(1, f"{name}: not a keytab (1)")
     if image[0] != 5 or image[1] not in (1, 2):
-        return message(1, "k: not a keytab (2)")
+        return message(1, f"{name}: not a keytab (2)")
     return None
 
 
-def read_image(image: bytes, v1_big: bool) -> tuple[list[Read], tuple[int, int] | None]:
-    """The entries of a keytab, and the kind and place of its fault."""
-    version = image[1]
-    order = BIG if version == 2 or v1_big else LITTLE
-    those, at = [], 2
+def read_cells(image: bytes, v1_big: bool) -> tuple[list[Cell], tuple[int, int] | None, int]:
+    """The cells of a keytab, the kind and place of its fault, and where the cells end."""
+    order = order_of(image, v1_big)
+    cells, at = [], 2
     while at < len(image):
         fault, size = fault_or_size(image, at, order)
         if fault == 0 and size == 0:
             break
         after = at + 4 + abs(size)
-        if fault == 0 and size > 0:
+        cell = Cell(image[at + 4 : after], size > 0)
+        if fault == 0 and cell.is_record:
             try:
-                those.append(read_entry(at, image[at + 4 : after], version, order))
+                read_entry(cell.data, image[1], order)
             except NoEntry:
                 fault = 3
         if fault != 0:
-            return those, (fault, at)
+            return cells, (fault, at), at
+        cells.append(cell)
         at = after
-    return those, None
+    return cells, None, at
+
+
+def read_image(
+    image: bytes, v1_big: bool
+) -> tuple[list[tuple[int, KeytabEntry]], tuple[int, int] | None]:
+    """The entries of a keytab with their places, and the kind and place of its fault."""
+    cells, fault, _ = read_cells(image, v1_big)
+    those, at = [], 2
+    for cell in cells:
+        if cell.is_record:
+            those.append((at, read_entry(cell.data, image[1], order_of(image, v1_big))))
+        at += 4 + len(cell.data)
+    return those, fault
 
 
 def answer(image: bytes, v1_big: bool, columns: str = "") -> Outcome:
@@ -149,7 +179,7 @@ def answer(image: bytes, v1_big: bool, columns: str = "") -> Outcome:
     if refused:
         return refused
     those, fault = read_image(image, v1_big)
-    lines = [entry.line(columns) for entry in those]
+    lines = [entry.line(columns) for _, entry in those]
     if fault:
         return Outcome(1, headed(columns, *lines, b"fault %d at %d" % fault))
     return Outcome(0, headed(columns, *lines))
@@ -163,13 +193,13 @@ def found(image: bytes, v1_big: bool, kvno: int, enctype: int, name: tuple[bytes
     those, fault = read_image(image, v1_big)
     if fault:
         return message(1, "k: refused 1")
-    those = [one for one in those if one.name == name and enctype in (0, one.enctype)]
+    those = [(place, one) for place, one in those if one.name == name]
+    those = [(place, one) for place, one in those if enctype in (0, one.enctype)]
     if not those:
         return message(1, "k: refused 9")
-    wanted = kvno or max(one.kvno for one in those)
-    those = [one for one in those if one.kvno == wanted]
+    wanted = kvno or max(one.kvno for _, one in those)
+    those = [(place, one) for place, one in those if one.kvno == wanted]
     if not those:
         return message(1, "k: refused 10")
-    one = those[0]
-    line = b"found %d kvno %d etype %d " % (one.place, one.kvno, one.enctype)
-    return Outcome(0, line + one.text() + b"\n")
+    place, one = those[0]
+    return Outcome(0, b"found %d " % place + one.tail() + b"\n")

@@ -1,0 +1,91 @@
+"""Runs of programs: what they use, and the surroundings that MIT's need."""
+
+import os
+import platform
+import re
+import shutil
+import subprocess
+import sys
+import threading
+import time
+from pathlib import Path
+from typing import NamedTuple
+
+
+class Used(NamedTuple):
+    """Seconds, or what is made of them."""
+
+    wall: float  # from the start of a process to its end
+    cpu: float  # that a processor worked for it, the kernel's part included
+
+
+def surroundings(folder):
+    """The environment of a run: MIT's programs find an empty krb5.conf."""
+    conf = Path(folder) / "krb5.conf"
+    conf.write_text("")
+    return {**os.environ, "KRB5_CONFIG": str(conf), "LC_ALL": "C"}
+
+
+def run(words, env, longest, stdin=subprocess.DEVNULL, stdout=subprocess.DEVNULL, cwd=None):
+    """One run: the status and what it used.
+
+    Popen's own timeout would look at the run in steps of up to 50 ms, so a timer kills it.
+    """
+    start = time.perf_counter()
+    started = subprocess.Popen(words, stdin=stdin, stdout=stdout, stderr=subprocess.DEVNULL,
+                               env=env, cwd=cwd)
+    timer = threading.Timer(longest, started.kill)
+    timer.start()
+    _, status, used = os.wait4(started.pid, 0)
+    seconds = time.perf_counter() - start
+    timer.cancel()
+    started.returncode = os.waitstatus_to_exitcode(status)
+    if started.returncode < 0:
+        print(f"{words[0]}: ended by signal {-started.returncode}", file=sys.stderr)
+    return started.returncode, Used(seconds, used.ru_utime + used.ru_stime)
+
+
+def instructions(words, env, longest, note, **streams):
+    """Instructions that a program executes itself; the kernel's are not counted."""
+    if shutil.which("valgrind") is None:
+        return None
+    grind = ["valgrind", "--tool=callgrind", "--callgrind-out-file=/dev/null", f"--log-file={note}"]
+    run(grind + words, env, longest, **streams)
+    found = re.search(r"Collected : (\d+)", Path(note).read_text())
+    return int(found.group(1)) if found else None
+
+
+def mit(program):
+    """MIT's program of that name on the path, and the version of its klist."""
+    path, klist = shutil.which(program), shutil.which("klist")
+    if path is None or klist is None:
+        sys.exit(f"bench: no {program}; install MIT's (Debian: krb5-user)")
+    said = subprocess.run([klist, "-V"], capture_output=True, text=True).stdout.strip()
+    if not said.startswith("Kerberos 5 version"):
+        sys.exit(f"bench: {klist} is not MIT's klist")
+    return path, said.replace("Kerberos 5 version", "MIT krb5")
+
+
+def built_edits(folder):
+    """mit_edits, built. It takes the library by its file, so that its headers need not be there."""
+    built = str(Path(folder) / "mit_edits")
+    source = Path(__file__).resolve().parent / "mit_edits.c"
+    subprocess.run(["cc", "-O2", "-Wall", "-o", built, source, "-l:libkrb5.so.3"], check=True)
+    return built
+
+
+def processor():
+    for line in Path("/proc/cpuinfo").read_text().splitlines():
+        if line.startswith("model name"):
+            return line.split(":", 1)[1].strip()
+    return platform.machine()
+
+
+def machine(before):
+    """The lines that tell of the machine, given its load before the runs."""
+    loads = [" ".join(f"{value:.1f}" for value in load) for load in (before, os.getloadavg())]
+    return [
+        f"- {time.strftime('%Y-%m-%d')}, {processor()}, {os.cpu_count()} processors, "
+        f"Linux {platform.release()}",
+        f"- load before {loads[0]}, after {loads[1]} (over 1, 5 and 15 minutes)",
+    ]

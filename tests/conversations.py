@@ -1,0 +1,136 @@
+"""ktutil with somebody at the other end: each line is answered before the next one is there."""
+from __future__ import annotations
+
+import os
+import pty
+import select
+import subprocess
+import termios
+
+from edits import text
+from harness import SECONDS, Outcome, Report, differences, folder_of, message
+from images import TWO
+from ktutil_lines import HEADING, NO_SLOTS
+
+LISTED = text([*HEADING, "   1    3 host/a@R", "   2    3 b@R"])
+
+
+class Talk:
+    """A run of ktutil whose input stays open."""
+
+    def __init__(self, program: str, folder: str, stdin: int, input_end: int) -> None:
+        self.input_end = input_end
+        self.found: list[str] = []
+        self.run = subprocess.Popen([program, "ktutil"], cwd=folder, stdin=stdin,
+                                    stdout=subprocess.PIPE, stderr=subprocess.PIPE, bufsize=0)
+        os.close(stdin)
+
+    def send(self, data: bytes) -> None:
+        """Gives it some bytes."""
+        os.write(self.input_end, data)
+
+    def hear(self, wanted: bytes, stream=None) -> None:
+        """Waits for so many bytes of an output."""
+        stream = stream or self.run.stdout
+        heard = b""
+        while len(heard) < len(wanted) and select.select([stream], [], [], 5)[0]:
+            piece = stream.read(len(wanted) - len(heard))
+            if not piece:
+                break
+            heard += piece
+        if heard != wanted:
+            self.found.append(f"{heard!r} came, not {wanted!r}")
+
+    def hear_nothing(self) -> None:
+        """For a while there is no output."""
+        if select.select([self.run.stdout, self.run.stderr], [], [], 0.2)[0]:
+            self.found.append("something came")
+
+    def end(self, wanted: Outcome) -> None:
+        """The run ends by itself, with that and no more."""
+        try:
+            out, err = self.run.communicate(timeout=SECONDS)
+            self.found += differences(wanted, Outcome(self.run.returncode, out or b"", err))
+        except subprocess.TimeoutExpired:
+            self.run.kill()
+            self.found.append("it does not end")
+
+
+def talk_lines(talk: Talk) -> None:
+    """Lines one by one, one in pieces, and faults in their turn."""
+    talk.send(b"l\n")
+    talk.hear(NO_SLOTS)
+    talk.send(b"rkt k\nl\n")
+    talk.hear(LISTED)
+    talk.send(b"frob\n")
+    talk.hear(b"krbfile: line 4: fault 1\n", talk.run.stderr)
+    talk.send(b"cle")
+    talk.hear_nothing()
+    talk.send(b"ar\nl\n")
+    talk.hear(NO_SLOTS)
+
+
+def talk_to_quit(talk: Talk) -> None:
+    """The input stays open behind a `quit`."""
+    talk_lines(talk)
+    talk.send(b"q\n")
+    talk.end(Outcome(1))
+    os.close(talk.input_end)
+
+
+def talk_to_end(talk: Talk) -> None:
+    """The input ends in the midst of a line, which is then handled."""
+    talk_lines(talk)
+    talk.send(b"l")
+    talk.hear_nothing()
+    os.close(talk.input_end)
+    talk.end(Outcome(1, NO_SLOTS))
+
+
+def talk_to_nobody(talk: Talk) -> None:
+    """The reader of the output goes away: the run ends at once, though its input stays open."""
+    talk.send(b"l\n")
+    talk.hear(NO_SLOTS)
+    talk.run.stdout.close()
+    talk.send(b"l\n")
+    err = talk.run.stderr.read()
+    talk.run.stdout = None
+    talk.end(Outcome(3))
+    if err != message(3, "cannot write output").err:
+        talk.found.append(f"error output {err!r}")
+    os.close(talk.input_end)
+
+
+def talk_at_terminal(talk: Talk) -> None:
+    """A terminal gives whole lines, and its end-of-file character ends the input."""
+    talk_lines_at_terminal = (b"l\n", NO_SLOTS), (b"rkt k\nl\n", LISTED)
+    for line, wanted in talk_lines_at_terminal:
+        talk.send(line)
+        talk.hear(wanted)
+    talk.send(b"\x04")
+    talk.end(Outcome(0))
+    os.close(talk.input_end)
+
+
+def terminal() -> tuple[int, int]:
+    """A terminal without echo: its two ends."""
+    master, slave = pty.openpty()
+    settings = termios.tcgetattr(slave)
+    settings[3] &= ~termios.ECHO
+    termios.tcsetattr(slave, termios.TCSANOW, settings)
+    return slave, master
+
+
+def check(report: Report, program: str) -> None:
+    """Runs all of this topic."""
+    talks = [
+        ("up to quit", os.pipe, talk_to_quit),
+        ("up to the end of the input", os.pipe, talk_to_end),
+        ("until nobody listens", os.pipe, talk_to_nobody),
+        ("at a terminal", terminal, talk_at_terminal),
+    ]
+    for name, opened, go in talks:
+        with folder_of({"k": TWO}) as folder:
+            talk = Talk(program, folder, *opened())
+            go(talk)
+        report.check(f"ktutil answers line by line, {name}", talk.found)

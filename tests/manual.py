@@ -1,0 +1,63 @@
+"""The manual page: mandoc finds nothing wrong with it, and its examples are true."""
+from __future__ import annotations
+
+import os
+import re
+import shutil
+import subprocess
+
+from harness import Outcome, Report, folder_of
+from images import TWO, Entry, entries
+
+PAGE = os.path.join(os.path.dirname(os.path.dirname(os.path.abspath(__file__))), "docs", "krbfile.1")
+
+# The files of the examples.
+FILES = {
+    "host.keytab": TWO,
+    "other.keytab": entries(
+        Entry((b"nfs", b"a"), version8=5, enctype=18, key=bytes(32), version32=5)
+    ),
+}
+
+
+def check_form(report: Report) -> None:
+    """What mandoc says of the page."""
+    if shutil.which("mandoc") is None:
+        report.skip("the form of the manual page", "mandoc is not there")
+        return
+    said = subprocess.run(["mandoc", "-Tlint", "-Wwarning", PAGE], capture_output=True, text=True,
+                          check=False).stdout
+    report.check("the form of the manual page", said.splitlines())
+
+
+def examples() -> list[tuple[str, bytes]]:
+    """The commands of the examples, each with what stands under it."""
+    with open(PAGE, encoding="ascii") as file:
+        shown = re.findall(r"^\.Bd -literal.*\n((?s:.*?))^\.Ed$", file.read(), re.MULTILINE)
+    found = []
+    for example in shown:
+        end = example.find("\nEND\n") + 5 if "<<'END'" in example else example.find("\n") + 1
+        found.append((example[2:end], example[end:].encode()))
+    return found
+
+
+def check_examples(report: Report, program: str) -> None:
+    """Each example prints what stands there."""
+    shown = examples()
+    report.check("the manual page has examples", [] if len(shown) > 3 else [f"only {len(shown)}"])
+    with folder_of({}) as programs:
+        os.symlink(program, os.path.join(programs, "krbfile"))
+        env = {**os.environ, "PATH": programs + os.pathsep + os.environ["PATH"]}
+        for command, wanted in shown:
+            with folder_of(FILES) as folder:
+                done = subprocess.run(["sh", "-c", command], cwd=folder, env=env, check=False,
+                                      capture_output=True)
+            got = Outcome(done.returncode, done.stdout, done.stderr)
+            name = f"example of the manual page: {command.splitlines()[0]}"
+            report.compare(name, Outcome(0, wanted), got)
+
+
+def check(report: Report, program: str) -> None:
+    """Runs all of this topic."""
+    check_form(report)
+    check_examples(report, program)
