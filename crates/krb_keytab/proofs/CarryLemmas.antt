@@ -102,21 +102,21 @@ place_before cs p end h is ne = elim (cases_lt p end) [
 ]
 
 -- each cursor was given a place
-pub all_given : (image : List ℕ) (end : ℕ) (cs ds : List Cell) (cursors : List ℕ) → AreGiven image end cs ds → end_place 2 cs ≡ end → AllByRecursion (λ p. is_place 2 cs p ≡ true) cursors → AllByRecursion (HasGiven image end) cursors
-all_given image end cs ds [] given is h = tt
-all_given image end cs ds (p ∷ ps) given is h = (λ ne. (given p h.0 (place_before cs p end h.0 is ne)).within, all_given image end cs ds ps given is h.1)
+pub all_given : (image : List ℕ) (end : ℕ) (cs : List Cell) (to : ℕ) (ds : List Cell) (cursors : List ℕ) → AreGiven image end cs to ds → end_place 2 cs ≡ end → AllByRecursion (λ p. is_place 2 cs p ≡ true) cursors → AllByRecursion (HasGiven image end) cursors
+all_given image end cs to ds [] given is h = tt
+all_given image end cs to ds (p ∷ ps) given is h = (λ ne. (given p h.0 (place_before cs p end h.0 is ne)).within, all_given image end cs to ds ps given is h.1)
 
 -- and goes there
-pub all_go : (image : List ℕ) (end last : ℕ) (cs ds : List Cell) (cursors : List ℕ) → AreGiven image end cs ds → end_place 2 cs ≡ end → last ≡ new_place 2 cs 2 ds end → end_place 2 ds < 2 ^ 32
-    → AllByRecursion (λ p. is_place 2 cs p ≡ true) cursors → AllByRecursion (GoesBy image end last (new_place 2 cs 2 ds)) cursors
-all_go image end last cs ds [] given is is_last small h = tt
-all_go image end last cs ds (p ∷ ps) given is is_last small h = (
+pub all_go : (image : List ℕ) (end last : ℕ) (cs : List Cell) (to : ℕ) (ds : List Cell) (cursors : List ℕ) → AreGiven image end cs to ds → end_place 2 cs ≡ end → last ≡ new_place 2 cs to ds end → end_place to ds < 2 ^ 32
+    → AllByRecursion (λ p. is_place 2 cs p ≡ true) cursors → AllByRecursion (GoesBy image end last (new_place 2 cs to ds)) cursors
+all_go image end last cs to ds [] given is is_last small h = tt
+all_go image end last cs to ds (p ∷ ps) given is is_last small h = (
   record {
-    small = omega (arith, carried_le cs 2 2 p ds, small);
-    ends = λ e. is_last ∙ ap (new_place 2 cs 2 ds) (sym e);
+    small = omega (arith, carried_le cs 2 to p ds, small);
+    ends = λ e. is_last ∙ ap (new_place 2 cs to ds) (sym e);
     told = λ ne. given p h.0 (place_before cs p end h.0 is ne);
   },
-  all_go image end last cs ds ps given is is_last small h.1,
+  all_go image end last cs to ds ps given is is_last small h.1,
 )
 
 -- places of the store are places of its cells

@@ -4,6 +4,7 @@ pub mod CellLemmas
 pub mod Steps
 pub mod Cuts
 pub mod KnownLemmas
+pub mod CellsFromLemmas
 pub mod Stores
 pub mod Listed
 pub mod Replaced

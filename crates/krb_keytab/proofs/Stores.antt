@@ -1,5 +1,5 @@
 -- The questions asked cell by cell are those that are asked of the store.
-use Rattle.std.proofs.Common.{◌≡◌, ℕ, ◌+◌, ◌<◌, ◌≤◌, Bool, true, false, eqb, ltb, List, [], ◌∷◌, length, map, drop, Option, Some, None, refl, sym, ap, ◌∙◌, arith, inl, inr}
+use Rattle.std.proofs.Common.{◌≡◌, ℕ, ◌+◌, ◌<◌, ◌≤◌, Bool, true, false, eqb, ltb, List, [], ◌∷◌, length, map, drop, Option, Some, None, refl, sym, ap, subst, ◌∙◌, arith, inl, inr}
 use Rattle.std.specs.Prelude.{◌==◌, ◌&&◌, ◌||◌, nat_le, IsSome, IfNone}
 use Rattle.std.specs.List.{AllByRecursion}
 use Rattle.std.proofs.lemmas.Bool.{lt-ltb, le-ltb, lt-leb, eq-eqb, ne_eqb}
@@ -19,8 +19,9 @@ use Rattle.krb_keytab.specs.Entry.{entry_at}
 use Rattle.krb_keytab.specs.Cells.{Cell, Live, Free, End, Contents, contents, IsCell, IsSound}
 use Rattle.krb_keytab.specs.Seen.{ends, ending_kind, ending_fault}
 use Rattle.krb_keytab.specs.Known.{IsKnownEnd}
+use Rattle.krb_keytab.specs.CellsFrom.{CellsFrom, AreKnown, cells_of}
 use Rattle.krb_keytab.specs.Questions.{size, end_place, is_place, kind_of, stop_from, live_bytes, live_at}
-use Rattle.krb_keytab.specs.Store.{State, InMemory, placed, store_of}
+use Rattle.krb_keytab.specs.Store.{State, InMemory, IsImage, placed, store_of}
 use Rattle.krb_keytab.proofs.Cuts.{live_entry}
 
 -- four bytes of length and the bytes after it
@@ -139,13 +140,30 @@ pub place_held : (f : KtFormat) (limit : ℕ) (image bytes : List ℕ) (k : Stat
 place_held f limit image bytes k p same is h =
     is_place_held f limit image bytes k p (is_place 2 (contents f (drop 2 bytes)).cells p) same is refl ∙ h
 
-pub stop_held : (f : KtFormat) (limit : ℕ) (image bytes : List ℕ) (k : State) (p : ℕ) (answer : Stop) → bytes ≡ image → held f limit image ≡ k → answer ≡ stop_from 2 (contents f (drop 2 bytes)).cells (contents f (drop 2 bytes)).end p → answer ≡ stop_at (store_of k) p
-stop_held f limit image bytes k p answer same is said =
-    said ∙ ap (λ (b : List ℕ). stop_from 2 (contents f (drop 2 b)).cells (contents f (drop 2 b)).end p) same ∙ stop_from-store 2 p (contents f (drop 2 image)).cells (contents f (drop 2 image)).end ∙ ap (λ (x : State). stop_at (store_of x) p) is
-
 pub live_held : (f : KtFormat) (limit : ℕ) (image bytes : List ℕ) (k : State) (p : ℕ) → bytes ≡ image → held f limit image ≡ k → live_at 2 (contents f (drop 2 bytes)).cells p ≡ store_bytes (store_of k) p
 live_held f limit image bytes k p same is =
     ap (λ (b : List ℕ). live_at 2 (contents f (drop 2 b)).cells p) same ∙ live_at-store 2 p (contents f (drop 2 image)).cells ∙ ap (λ (x : State). store_bytes (store_of x) p) is
+
+-- ---- the cells of a keytab
+
+pub known_held : (f : KtFormat) (limit : ℕ) (image bytes : List ℕ) (e : CellsEnd) → bytes ≡ image → IsImage f limit image → IsKnownEnd f image e → AreKnown f bytes 2 e
+known_held f limit image bytes e same is known =
+    let long = is.long in
+    let within = is.within in
+    let fits = is.limit_fits in
+    subst (λ (b : List ℕ). AreKnown f b 2 e) (sym same) (record { within = long; small = omega (arith, within, fits); ends = known })
+
+pub cells_held : (f : KtFormat) (limit : ℕ) (image bytes : List ℕ) (k : State) → bytes ≡ image → held f limit image ≡ k → ◌≡◌ {A = CellsFrom} (record { format = f; place = 2; contents = contents f (drop 2 bytes) }) (cells_of k)
+cells_held f limit image bytes k same is = ap (λ (b : List ℕ). cells_of (held f limit b)) same ∙ ap (λ (x : State). cells_of x) is
+
+pub place_of_cells : (k : State) (cells : CellsFrom) (p : ℕ) → cells ≡ cells_of k → is_place cells.place cells.contents.cells p ≡ is_store_place (store_of k) p
+place_of_cells k cells p is = ap (λ (x : CellsFrom). is_place x.place x.contents.cells p) is ∙ is_place-store 2 p k.contents.cells
+
+pub stop_of_cells : (k : State) (cells : CellsFrom) (p : ℕ) → cells ≡ cells_of k → stop_from cells.place cells.contents.cells cells.contents.end p ≡ stop_at (store_of k) p
+stop_of_cells k cells p is = ap (λ (x : CellsFrom). stop_from x.place x.contents.cells x.contents.end p) is ∙ stop_from-store 2 p k.contents.cells k.contents.end
+
+pub live_of_cells : (k : State) (cells : CellsFrom) (p : ℕ) → cells ≡ cells_of k → live_at cells.place cells.contents.cells p ≡ store_bytes (store_of k) p
+live_of_cells k cells p is = ap (λ (x : CellsFrom). live_at x.place x.contents.cells p) is ∙ live_at-store 2 p k.contents.cells
 
 -- the bytes of a record begin with an entry
 pub entry_held : (k : State) (p : ℕ) (b : List ℕ) → IsSound k.format k.contents → store_bytes (store_of k) p ≡ Some b → IsSome (entry_at k.format b)

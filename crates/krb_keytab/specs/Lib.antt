@@ -16,6 +16,8 @@ pub mod Laws
 -- For private contracts alone.
 pub mod Seen
 pub mod Known
+pub mod CellsFrom
+pub mod CellView
 pub mod Looked
 pub mod Holes
 pub mod Appends

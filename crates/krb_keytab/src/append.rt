@@ -8,9 +8,9 @@ ghost use Rattle.krb_keytab.specs.Questions.{kind_of};
 ghost use Rattle.krb_keytab.specs.Known.{IsKnownEnd, IsChanged, mark_len, len_with};
 ghost use Rattle.krb_keytab.specs.Changes.{end_after};
 
-use crate::cells::{bytes_fit, put_record, put_zeros};
 use crate::form::Form;
 use crate::image::CellsEnd;
+use crate::put::{bytes_fit, put_record, put_zeros};
 use crate::step::Ending;
 use krb_wire::Name;
 use std::alloc::{AllocError, Allocator};

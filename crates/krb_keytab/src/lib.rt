@@ -18,6 +18,7 @@ mod laws;
 mod new_entry;
 mod open;
 mod placed;
+mod put;
 mod remove;
 mod step;
 #[cfg(test)]

@@ -54,7 +54,7 @@ impl<A: Allocator> Keytab<A> {
         ensures first { result ≡ hole_from 2 need self.now.state.contents.cells }
         ensures within { IfSome result (λ h. h.place < 2 ^ 32) }
     {
-        first_hole(self.format, &self.image, self.end, need)
+        first_hole(self.cells(), need)
     }
 
     // Puts a record into that hole.

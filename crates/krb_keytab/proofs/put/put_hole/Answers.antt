@@ -7,7 +7,7 @@ use Rattle.krb_wire.specs.Spelling.{order_of, digits}
 use Rattle.krb_wire.proofs.Fields.{wide32}
 use Rattle.krb_keytab.specs.Cells.{cell, Free}
 use Rattle.krb_wire.proofs.SpliceLemmas.{splice-then}
-use Rattle.krb_keytab.proofs.cells.put_hole.Goals as goal
+use Rattle.krb_keytab.proofs.put.put_hole.Goals as goal
 
 -- a length and zeros are a hole
 hole_written : (o q : Order) (old mid new : List ℕ) (at from size : ℕ) → at + 4 + size ≤ length old → q ≡ o → from ≡ at + 4

@@ -9,7 +9,7 @@ use Rattle.krb_wire.proofs.Fields.{wide32}
 use Rattle.krb_keytab.specs.Cells.{cell, Live}
 use Rattle.krb_keytab.specs.Changes.{padded}
 use Rattle.krb_keytab.proofs.Splices.{Wrote, wrote-then}
-use Rattle.krb_keytab.proofs.cells.put_record.Goals as goal
+use Rattle.krb_keytab.proofs.put.put_record.Goals as goal
 
 -- a length, bytes and zeros are a record
 record_written : (o q : Order) (old a b new x : List ℕ) (at from behind size : ℕ) → at + 4 + size ≤ length old → length x ≤ size → q ≡ o → from ≡ at + 4 → behind ≡ from + length x
