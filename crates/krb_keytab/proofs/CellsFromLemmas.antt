@@ -9,17 +9,12 @@ use Rattle.krb_wire.specs.declared.format.Order.{Order}
 use Rattle.krb_wire.specs.declared.format.KtFormat.{KtFormat}
 use Rattle.krb_wire.specs.Spelling.{order_of}
 use Rattle.krb_wire.specs.Reading.{number_at}
-use Rattle.krb_wire.proofs.Fields.{IsBytes, IsBytes-drop, some_is}
+use Rattle.krb_wire.proofs.Fields.{IsBytes, IsBytes-drop}
 use Rattle.krb_keytab.specs.declared.image.CellsEnd.{CellsEnd}
-use Rattle.krb_keytab.specs.declared.step.Step.{Step}
 use Rattle.krb_keytab.specs.declared.step.Step.TheVariants as step
-use Rattle.krb_keytab.specs.declared.cells.CellView.{CellView}
-use Rattle.krb_keytab.specs.declared.cells.CellView.TheVariants as view
 use Rattle.krb_keytab.specs.Cells.{Cell, Live, Free, End, Contents, contents, IsCell}
-use Rattle.krb_keytab.specs.Seen.{from_step}
 use Rattle.krb_keytab.specs.Questions.{size, end_place, is_place, live_bytes, live_at, stop_from}
 use Rattle.krb_keytab.specs.CellsFrom.{CellsFrom, AreKnown, IsSuffix, BeginsWith}
-use Rattle.krb_keytab.specs.CellView.{cell_of, GivesCell}
 use Rattle.krb_keytab.proofs.CellLemmas.{contents_spelled}
 use Rattle.krb_keytab.proofs.Steps.{past4}
 use Rattle.krb_keytab.proofs.Cuts.{Cut, cut, known_from, end_place-append, stop_behind, live_behind}

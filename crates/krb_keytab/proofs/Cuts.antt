@@ -1,9 +1,9 @@
 -- A place cuts the cells in two, and the image too.
-use Rattle.std.proofs.Common.{◌≡◌, ℕ, ◌+◌, ◌≤◌, true, false, eqb, ltb, List, [], ◌∷◌, ◌++◌, length, take, drop, Some, refl, sym, ap, subst, ◌∙◌, append_assoc, length-append, arith, inl, inr}
+use Rattle.std.proofs.Common.{◌≡◌, ℕ, ◌+◌, ◌≤◌, true, false, eqb, ltb, List, [], ◌∷◌, ◌++◌, length, drop, Some, refl, sym, ap, subst, ◌∙◌, append_assoc, length-append, arith, inl, inr}
 use Rattle.std.specs.Prelude.{IsSome}
 use Rattle.std.specs.Int.{w32}
 use Rattle.std.specs.List.{flat_map, AllByRecursion}
-use Rattle.std.proofs.lemmas.Bool.{lt-ltb, ne_eqb, eq-eqb}
+use Rattle.std.proofs.lemmas.Bool.{lt-ltb, ne_eqb}
 use Rattle.std.proofs.lemmas.Bool.Decides.{eqb_tells}
 use Rattle.std.proofs.lemmas.Grind.{flat_map-append}
 use Rattle.std.proofs.lemmas.List.{drop_at, length-drop, drop-drop}

@@ -13,6 +13,7 @@ pub mod Appended
 pub mod Additions
 pub mod Removals
 pub mod StoreChanges
+pub mod HasNameLemmas
 pub mod LookUpLemmas
 pub mod WrittenLemmas
 pub mod FoundAgain

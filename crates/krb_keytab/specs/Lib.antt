@@ -19,6 +19,7 @@ pub mod Known
 pub mod CellsFrom
 pub mod CellView
 pub mod Looked
+pub mod HasName
 pub mod Holes
 pub mod Appends
 pub mod Carry

@@ -149,7 +149,7 @@ impl<A: Allocator> Keytab<A> {
     }
 
     // Its cells.
-    fn cells(&self) -> Cells<'_>
+    pub(crate) fn cells(&self) -> Cells<'_>
         ensures { result ≡ cells_of self.now.state }
     {
         Cells {

@@ -11,6 +11,7 @@ mod entry;
 mod fields;
 mod find;
 mod form;
+mod has_name;
 mod hole;
 mod image;
 mod keytab;

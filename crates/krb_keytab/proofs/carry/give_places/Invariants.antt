@@ -1,4 +1,4 @@
-use Rattle.std.proofs.Common.{◌≤◌, ◌-◌, length}
+use Rattle.std.proofs.Common.{◌-◌, length}
 use Rattle.krb_keytab.specs.CellsFrom.{AreKnown}
 use Rattle.krb_keytab.proofs.Given.{IsGivenTo}
 use Rattle.krb_keytab.proofs.carry.give_places.Given as goal

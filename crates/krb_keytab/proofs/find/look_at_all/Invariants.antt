@@ -1,11 +1,10 @@
-use Rattle.std.proofs.Common.{◌≡◌, ◌++◌}
-use Rattle.krb_keytab.specs.LookUp.{placed_entries}
-use Rattle.krb_keytab.specs.Looked.{IsFoundAmong}
+use Rattle.std.proofs.Common.{◌≡◌}
+use Rattle.krb_keytab.specs.Looked.{IsLookedUpTo}
 use Rattle.krb_keytab.proofs.find.look_at_all.Given as goal
 
 -- the entries so far were looked at
 abbrev pub invariant-loop-place : goal.invariant-loop-place
 invariant-loop-place g l = record {
-  found : IsFoundAmong (g.N.Name.parts l.name) l.kvno l.enctype l.yielded l.looked.named l.looked.best;
-  all : l.yielded ++ l.place-iterator ≡ placed_entries l.keytab.state;
+  found : IsLookedUpTo (g.N.Name.parts l.name) l.kvno l.enctype l.keytab.state l.place-iterator l.looked.named l.looked.best;
+  format : l.place-iterator.format ≡ l.format;
 }

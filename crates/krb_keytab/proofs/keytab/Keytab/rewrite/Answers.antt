@@ -4,8 +4,6 @@ use Rattle.krb_keytab.specs.Cells.{contents}
 use Rattle.krb_wire.specs.declared.format.KtFormat.TheVariants.{V2}
 use Rattle.krb_walk.specs.Store.{fault_of}
 use Rattle.krb_walk.specs.Ranks.{Rewrites}
-use Rattle.krb_keytab.specs.declared.step.Ending.TheVariants as ending
-use Rattle.krb_keytab.specs.Known.{IsKnownEnd}
 use Rattle.krb_keytab.specs.Store.{State, store_of, entries}
 use Rattle.krb_keytab.proofs.Stores.{state_is, held, known_held}
 use Rattle.krb_keytab.proofs.CarryLemmas.{all_places, all_carried}
