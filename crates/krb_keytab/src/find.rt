@@ -59,6 +59,7 @@ impl<'a> Looked<'a> {
     }
 
     // Looks at the next record, whose entry is read where it has the name.
+    #[inline(always)]
     fn look_at<N: Name>(
         &mut self,
         name: &N,
@@ -83,7 +84,32 @@ impl<'a> Looked<'a> {
     }
 }
 
-// What is found after all entries.
+// What is found after all entries of a keytab of that format.
+#[inline(always)]
+fn look_in<'a, N: Name, A: Allocator>(
+    format: KtFormat,
+    keytab: &'a Keytab<A>,
+    name: &N,
+    kvno: u32,
+    enctype: u16,
+) -> Looked<'a>
+    requires { format ≡ keytab.now.state.format }
+    ensures { IsFoundAmong (N.parts name.now) kvno enctype (placed_entries keytab.entry.now.state)
+        result.named result.best }
+{
+    let mut looked = Looked {
+        named: false,
+        best: None,
+    };
+    for (place, cell) in keytab.cells() {
+        if let CellView::Live(bytes) = cell {
+            looked.look_at(name, kvno, enctype, format, place as u32, bytes);
+        }
+    }
+    looked
+}
+
+// The same of any format: in each arm it is known, and the loop asks for it no more.
 fn look_at_all<'a, N: Name, A: Allocator>(
     keytab: &'a Keytab<A>,
     name: &N,
@@ -93,17 +119,10 @@ fn look_at_all<'a, N: Name, A: Allocator>(
     ensures { IsFoundAmong (N.parts name.now) kvno enctype (placed_entries keytab.entry.now.state)
         result.named result.best }
 {
-    let mut looked = Looked {
-        named: false,
-        best: None,
-    };
-    let format = keytab.format();
-    for (place, cell) in keytab.cells() {
-        if let CellView::Live(bytes) = cell {
-            looked.look_at(name, kvno, enctype, format, place as u32, bytes);
-        }
+    match keytab.format() {
+        KtFormat::V2 => look_in(KtFormat::V2, keytab, name, kvno, enctype),
+        KtFormat::V1(order) => look_in(KtFormat::V1(order), keytab, name, kvno, enctype),
     }
-    looked
 }
 
 // Why nothing was found.

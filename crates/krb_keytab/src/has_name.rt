@@ -19,6 +19,7 @@ fn is_count(format: KtFormat, field: u16, count: usize) -> bool
 }
 
 // Whether the bytes begin with the components of a name.
+#[inline(always)]
 fn begin_with<N: Name>(order: Order, name: &N, bytes: &[u8]) -> bool
     ensures { result ≡ begin_with order (N.parts name.now).components bytes.now }
 {
@@ -37,6 +38,7 @@ fn begin_with<N: Name>(order: Order, name: &N, bytes: &[u8]) -> bool
 
 /// Whether the entry that the bytes begin with has a name. It is read as far as the two agree: the
 /// realm, which most entries of a keytab share, comes last.
+#[inline(always)]
 pub fn has_name<N: Name>(format: KtFormat, name: &N, bytes: &[u8]) -> bool
     ensures { (e : EntryParts) → entry_at format bytes.now ≡ Some e
         → result ≡ have_same_name (N.parts name.now) e.principal }

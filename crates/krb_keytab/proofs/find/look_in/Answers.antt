@@ -5,14 +5,14 @@ use Rattle.krb_keytab.specs.Entry.{entry_at}
 use Rattle.krb_keytab.specs.CellsFrom.{CellsFrom, BeginsWith}
 use Rattle.krb_keytab.specs.CellView.{cell_of}
 use Rattle.krb_keytab.proofs.Listed.{looked_first, looked_live}
-use Rattle.krb_keytab.proofs.find.look_at_all.Goals as goal
+use Rattle.krb_keytab.proofs.find.look_in.Goals as goal
 
 pub loop-place-init : goal.loop-place-init
 loop-place-init g c =
     let is = c.into_iter-place-iterator.ensures.into_iter_gives ∙ c.cells-place-items.ensures in
     record {
       found = looked_first (g.N.Name.parts c.args.name.now) c.args.kvno c.args.enctype c.args.keytab.now.state c.into_iter-place-iterator.result is;
-      format = ap (λ (x : CellsFrom). x.format) is ∙ sym c.format-format.ensures;
+      format = ap (λ (x : CellsFrom). x.format) is ∙ sym c.requires;
     }
 
 pub loop-place-preserved-in-Live : goal.loop-place-preserved-in-Live

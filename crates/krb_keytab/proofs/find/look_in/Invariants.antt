@@ -1,6 +1,6 @@
 use Rattle.std.proofs.Common.{◌≡◌}
 use Rattle.krb_keytab.specs.Looked.{IsLookedUpTo}
-use Rattle.krb_keytab.proofs.find.look_at_all.Given as goal
+use Rattle.krb_keytab.proofs.find.look_in.Given as goal
 
 -- the entries so far were looked at
 abbrev pub invariant-loop-place : goal.invariant-loop-place
