@@ -15,8 +15,8 @@ use Rattle.krb_walk.proofs.Carries.{lives_rise, below, below_none, below_some}
 use Rattle.krb_keytab.specs.Entry.{EntryParts, entry_at}
 use Rattle.krb_keytab.specs.Cells.{Cell, Live, Free, Contents, contents, IsCell}
 use Rattle.krb_keytab.specs.Questions.{size, is_place, end_place}
-use Rattle.krb_keytab.specs.Store.{State, placed, store_of}
-use Rattle.krb_keytab.specs.Written.{written}
+use Rattle.krb_keytab.specs.Store.{State, store_cell, store_of}
+use Rattle.krb_keytab.specs.Form.{written}
 use Rattle.krb_keytab.specs.Rewrite.{new_record, rewrite_of}
 use Rattle.krb_keytab.specs.Carry.{place_after, cells_after, new_place, AreGiven, HasGiven, GoesBy}
 use Rattle.krb_keytab.proofs.Cuts.{far}
@@ -27,17 +27,17 @@ use Rattle.krb_keytab.proofs.Rewrites.{anews, entries_of, entries_all, anews_liv
 
 -- told by the ranks of live cells
 abbrev by_rank : ℕ → List Cell → ℕ → List Cell → ℕ → ℕ
-by_rank at cs to ds p = nth_or (end_from to (map placed ds)) (lives to (map placed ds)) (below p (lives at (map placed cs)))
+by_rank at cs to ds p = nth_or (end_from to (map store_cell ds)) (lives to (map store_cell ds)) (below p (lives at (map store_cell cs)))
 
-first_of : (to : ℕ) (es : List EntryParts) → nth_or (end_from to (map placed (map new_record es))) (lives to (map placed (map new_record es))) 0 ≡ to
+first_of : (to : ℕ) (es : List EntryParts) → nth_or (end_from to (map store_cell (map new_record es))) (lives to (map store_cell (map new_record es))) 0 ≡ to
 first_of to [] = refl
 first_of to (e ∷ es) = refl
 
 at_or_after : (f : KtFormat) (at to p : ℕ) (cs : List Cell) (es : List EntryParts) → AllByRecursion (IsCell f) cs → p ≤ at → by_rank at cs to (map new_record es) p ≡ to
 at_or_after f at to p cs es sound le =
-    let ps = lives at (map placed cs) in
-    let none : below p ps ≡ 0 = below_none p at (end_from at (map placed cs)) ps le (lives_rise at (map placed cs) (store_sound f cs sound)) in
-    ap (nth_or (end_from to (map placed (map new_record es))) (lives to (map placed (map new_record es)))) none ∙ first_of to es
+    let ps = lives at (map store_cell cs) in
+    let none : below p ps ≡ 0 = below_none p at (end_from at (map store_cell cs)) ps le (lives_rise at (map store_cell cs) (store_sound f cs sound)) in
+    ap (nth_or (end_from to (map store_cell (map new_record es))) (lives to (map store_cell (map new_record es)))) none ∙ first_of to es
 
 carried_by : (at to p : ℕ) (c : Cell) (cs ds : List Cell) (n : ℕ) → (p ≤ at → n ≡ to) → (at < p → n ≡ new_place (at + 4 + size c) cs (place_after c to ds) (cells_after c ds) p) → new_place at (c ∷ cs) to ds p ≡ n
 carried_by at to p c cs ds n here later = elim (cases_lt at p) [
@@ -49,8 +49,8 @@ live_rank : (at to p : ℕ) (b : List ℕ) (e : EntryParts) (cs : List Cell) (es
 live_rank at to p b e cs es lt =
     let at2 = at + (4 + length b) in
     let to2 = to + (4 + length (written V2 e)) in
-    let ds = map placed (map new_record es) in
-    let ps = lives at2 (map placed cs) in
+    let ds = map store_cell (map new_record es) in
+    let ps = lives at2 (map store_cell cs) in
     ap (λ (n : ℕ). nth_or (end_from to2 ds) (to ∷ lives to2 ds) n) (below_some p at ps lt)
     ∙ sym (ap (λ (n : ℕ). by_rank n cs (to + 4 + length (written V2 e)) (map new_record es) p) (past at (length b)) ∙ ap (λ (n : ℕ). by_rank at2 cs n (map new_record es) p) (past to (length (written V2 e))))
 
@@ -93,7 +93,7 @@ carried_le (c ∷ cs) at to p ds = one_of (nat_le p at) to (new_place (at + 4 + 
 -- ---- cursors
 
 place_le : (cs : List Cell) (p : ℕ) → is_place 2 cs p ≡ true → p ≤ end_place 2 cs
-place_le cs p h = omega (arith, place_in 2 (map placed cs) p (sym (is_place-store 2 p cs) ∙ h), end_place-store 2 cs)
+place_le cs p h = omega (arith, place_in 2 (map store_cell cs) p (sym (is_place-store 2 p cs) ∙ h), end_place-store 2 cs)
 
 place_before : (cs : List Cell) (p end : ℕ) → is_place 2 cs p ≡ true → end_place 2 cs ≡ end → p ≢ end → p < end
 place_before cs p end h is ne = elim (cases_lt p end) [

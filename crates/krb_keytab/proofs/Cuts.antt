@@ -16,7 +16,7 @@ use Rattle.krb_keytab.specs.declared.image.CellsEnd.{CellsEnd}
 use Rattle.krb_keytab.specs.Entry.{entry_at}
 use Rattle.krb_keytab.specs.Cells.{Cell, Live, Free, End, Contents, bytes_of, length_field, cell, end_bytes, spelling, contents, IsCell}
 use Rattle.krb_keytab.specs.Questions.{size, end_place, is_place, stop_from, live_bytes, live_at}
-use Rattle.krb_keytab.specs.Known.{EndsKnown}
+use Rattle.krb_keytab.specs.Image.{EndsKnown}
 use Rattle.krb_keytab.proofs.CellLemmas.{contents_spelled, contents_again}
 
 pub cell_len : (o : Order) (c : Cell) → length (cell o c) ≡ 4 + size c

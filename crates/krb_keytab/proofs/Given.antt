@@ -17,9 +17,9 @@ use Rattle.krb_keytab.specs.declared.cells.CellView.{CellView}
 use Rattle.krb_keytab.specs.Cells.{Cell, Live, contents}
 use Rattle.krb_keytab.specs.CellsFrom.{CellsFrom, AreKnown}
 use Rattle.krb_keytab.specs.CellView.{cell_of, GivesCell}
-use Rattle.krb_keytab.specs.Seen.{from_step}
+use Rattle.krb_keytab.specs.Step.{from_step}
 use Rattle.krb_keytab.specs.Questions.{size, is_place, end_place}
-use Rattle.krb_keytab.specs.Known.{EndsKnown}
+use Rattle.krb_keytab.specs.Image.{EndsKnown}
 use Rattle.krb_keytab.specs.Carry.{place_after, cells_after, new_place, AreGiven}
 use Rattle.krb_wire.proofs.Fields.{IsBytes}
 use Rattle.krb_keytab.proofs.Cuts.{far, cut_first, after_first, known_from}

@@ -13,9 +13,9 @@ use Rattle.krb_keytab.specs.declared.image.CellsEnd.{CellsEnd}
 use Rattle.krb_keytab.specs.declared.step.Step.{Step}
 use Rattle.krb_keytab.specs.declared.step.Step.TheVariants as step
 use Rattle.krb_keytab.specs.Cells.{Cell, Live, Free, Contents, bytes_of, length_field, cell, end_bytes, More, next, contents, IsCell, IsSpelled}
-use Rattle.krb_keytab.specs.Seen.{seen, EndsWithin, from_step, CellWithin}
+use Rattle.krb_keytab.specs.Step.{seen, EndsWithin, from_step, CellWithin}
 use Rattle.krb_keytab.specs.Questions.{size, end_place}
-use Rattle.krb_keytab.specs.Known.{EndsKnown}
+use Rattle.krb_keytab.specs.Image.{EndsKnown}
 use Rattle.krb_keytab.proofs.CellLemmas.{contents_spelled, cell_again, sound_size}
 use Rattle.krb_keytab.proofs.Steps.{step_is, within_is}
 use Rattle.krb_keytab.proofs.Cuts.{cell_len}

@@ -9,16 +9,16 @@ use Rattle.krb_wire.specs.declared.format.KtFormat.{KtFormat}
 use Rattle.krb_walk.specs.Store.{Record, standing, record_of}
 use Rattle.krb_keytab.specs.Entry.{EntryParts, entry_at}
 use Rattle.krb_keytab.specs.Cells.{Cell, Live, Free}
-use Rattle.krb_keytab.specs.Store.{State, placed}
+use Rattle.krb_keytab.specs.Store.{State, store_cell}
 use Rattle.krb_keytab.specs.CellsFrom.{CellsFrom, BeginsWith, cells_of}
 use Rattle.krb_keytab.specs.Looked.{IsFoundAmong, IsLookedUpTo}
 use Rattle.krb_keytab.specs.LookUp.{Placed, placed_entries}
-use Rattle.krb_keytab.specs.Listed.{entries_in}
+use Rattle.krb_keytab.specs.Entries.{entries_in}
 use Rattle.krb_keytab.proofs.Stores.{past}
 
 -- the entries of the records of a store's cells
 abbrev stored : KtFormat → ℕ → List Cell → List Placed
-stored f at cs = filter_map (λ (r : Record). option_map (λ (e : EntryParts). (r.place, e)) (entry_at f r.bytes)) (filter_map record_of (standing at (map placed cs)))
+stored f at cs = filter_map (λ (r : Record). option_map (λ (e : EntryParts). (r.place, e)) (entry_at f r.bytes)) (filter_map record_of (standing at (map store_cell cs)))
 
 listed_stored : (f : KtFormat) (at : ℕ) (cs : List Cell) → entries_in f at cs ≡ stored f at cs
 listed_stored f at [] = refl

@@ -6,7 +6,7 @@ use Rattle.krb_wire.proofs.Fields.{IsBytes, IsBytes-drop}
 use Rattle.krb_keytab.specs.declared.step.Step.{Step}
 use Rattle.krb_keytab.specs.declared.step.Step.TheVariants as step
 use Rattle.krb_keytab.specs.Cells.{next, contents, on_next}
-use Rattle.krb_keytab.specs.Seen.{seen, EndsWithin, from_step, CellWithin}
+use Rattle.krb_keytab.specs.Step.{seen, EndsWithin, from_step, CellWithin}
 use Rattle.krb_keytab.proofs.CellLemmas.{contents_next}
 
 pub past4 : (image : List ℕ) (at : ℕ) → drop 4 (drop at image) ≡ drop (at + 4) image

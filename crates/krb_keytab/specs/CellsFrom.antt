@@ -5,7 +5,7 @@ use Rattle.krb_keytab.specs.declared.image.CellsEnd.{CellsEnd}
 use Rattle.krb_keytab.specs.Cells.{Cell, Contents, IsCell}
 use Rattle.krb_keytab.specs.Questions.{size, end_place}
 use Rattle.krb_keytab.specs.Store.{State}
-use Rattle.krb_keytab.specs.Known.{EndsKnown}
+use Rattle.krb_keytab.specs.Image.{EndsKnown}
 
 -- cells of a format that begin at a place, and what ends them
 pub record CellsFrom : Type 0 where

@@ -5,7 +5,7 @@ use Rattle.krb_walk.specs.declared.refusal.Code.{Code}
 use Rattle.krb_walk.specs.declared.refusal.Code.TheVariants.{NotFound, KvnoNotFound}
 use Rattle.krb_keytab.specs.LookUp.{Placed, placed_entries, is_asked, look_up_in}
 use Rattle.krb_keytab.specs.Store.{State}
-use Rattle.krb_keytab.specs.Listed.{entries_in}
+use Rattle.krb_keytab.specs.Entries.{entries_in}
 use Rattle.krb_keytab.specs.CellsFrom.{CellsFrom}
 
 -- what is answered of that

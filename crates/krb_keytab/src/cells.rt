@@ -3,7 +3,7 @@
 ghost use Rattle.std.specs.Prelude.{◌≡◌, ◌≤◌, ◌^◌, ◌+◌, true, IsSome, Some, option_copied, drop, length};
 ghost use Rattle.std.specs.Iterator.{item_count};
 ghost use Rattle.krb_keytab.specs.Questions.{size, end_place, is_place, stop_from, live_bytes, live_at, kind_of};
-ghost use Rattle.krb_keytab.specs.Seen.{ending_kind};
+ghost use Rattle.krb_keytab.specs.Step.{ending_kind};
 ghost use Rattle.krb_keytab.specs.CellsFrom.{CellsFrom, AreKnown, IsSuffix};
 ghost use Rattle.krb_keytab.specs.CellView.{cell_of, GivesCell};
 

@@ -2,7 +2,7 @@
 
 ghost use Rattle.std.specs.Prelude.{◌≡◌, ◌∷◌, [], List, MatchOption};
 ghost use Rattle.std.specs.Iterator.{YieldsFirst, item_count};
-ghost use Rattle.krb_keytab.specs.Listed.{entries_in};
+ghost use Rattle.krb_keytab.specs.Entries.{entries_in};
 ghost use Rattle.krb_keytab.specs.LookUp.{Placed};
 
 use crate::cells::{CellView, Cells};

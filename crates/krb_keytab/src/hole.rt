@@ -1,7 +1,7 @@
 //! Holes of an image.
 
 ghost use Rattle.std.specs.Prelude.{◌≡◌, ◌≤◌, ◌^◌, ◌+◌, IfSome};
-ghost use Rattle.krb_keytab.specs.Holes.{hole_from};
+ghost use Rattle.krb_keytab.specs.Hole.{hole_from};
 
 use crate::cells::{CellView, Cells};
 

@@ -2,8 +2,8 @@
 
 ghost use Rattle.std.specs.Prelude.{◌≡◌, ◌≤◌, ◌^◌, length, drop, slice_index};
 ghost use Rattle.krb_keytab.specs.Cells.{contents, image as image_of, version_byte, IsSpelled};
-ghost use Rattle.krb_keytab.specs.Seen.{from_step, CellWithin};
-ghost use Rattle.krb_keytab.specs.Known.{IsKnownEnd};
+ghost use Rattle.krb_keytab.specs.Step.{from_step, CellWithin};
+ghost use Rattle.krb_keytab.specs.Image.{IsKnownEnd};
 
 use crate::step::{Ending, Step, next_of};
 use krb_wire::{KtFormat, tail};

@@ -9,7 +9,7 @@ ghost use Rattle.krb_walk.specs.Store.{end_of, fault_of, is_place, stop_at, live
 ghost use Rattle.krb_keytab.specs.Entry.{entry_at, Spells};
 ghost use Rattle.krb_keytab.specs.Cells.{contents, IsSound};
 ghost use Rattle.krb_keytab.specs.CellsFrom.{cells_of};
-ghost use Rattle.krb_keytab.specs.Known.{IsKnownEnd};
+ghost use Rattle.krb_keytab.specs.Image.{IsKnownEnd};
 ghost use Rattle.krb_keytab.specs.Laws.{AreBytes};
 ghost use Rattle.krb_keytab.specs.LookUp.{placed_entries};
 ghost use Rattle.krb_keytab.specs.Store.{InMemory, opening, image_of, store_of, entry_at_place, IsImage, Reopens, empty};

@@ -4,7 +4,7 @@ ghost use Rattle.std.specs.Prelude.{◌≡◌, ◌≤◌, ◌<◌, ◌^◌, ◌+
 ghost use Rattle.std.specs.List.{splice};
 ghost use Rattle.krb_wire.specs.Spelling.{order_of};
 ghost use Rattle.krb_keytab.specs.Cells.{cell, Live, Free};
-ghost use Rattle.krb_keytab.specs.Changes.{padded};
+ghost use Rattle.krb_keytab.specs.Changes.{with_zeros};
 ghost use Rattle.krb_keytab.specs.Laws.{AreBytes};
 
 use crate::form::Form;
@@ -42,7 +42,7 @@ pub fn put_record<N: Name>(image: &mut [u8], at: usize, size: usize, form: &Form
     requires fits { length form.now.bytes ≤ size }
     requires small { size < 2 ^ 31 }
     ensures { image.new ≡ splice image.old at (at + 4 + size)
-        (cell (order_of form.now.format) (Live (padded form.now.bytes size))) }
+        (cell (order_of form.now.format) (Live (with_zeros form.now.bytes size))) }
 {
     let from = put_u32(form.format().order(), size as u32, image, at);
     let after = form.put(image, from);

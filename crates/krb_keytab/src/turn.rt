@@ -4,9 +4,9 @@ ghost use Rattle.std.specs.Prelude.{◌≡◌, length, drop, IsSome, Some};
 ghost use Rattle.krb_keytab.specs.Cells.{contents};
 ghost use Rattle.krb_keytab.specs.Questions.{live_at};
 ghost use Rattle.krb_keytab.specs.CellsFrom.{AreKnown};
-ghost use Rattle.krb_keytab.specs.Known.{IsChanged};
-ghost use Rattle.krb_keytab.specs.Changes.{turned_at, freed, filled};
-ghost use Rattle.krb_keytab.specs.Holes.{hole_from};
+ghost use Rattle.krb_keytab.specs.Image.{IsChanged};
+ghost use Rattle.krb_keytab.specs.Changes.{turned_at, zero_hole, record_in};
+ghost use Rattle.krb_keytab.specs.Hole.{hole_from};
 
 use crate::cells::Cells;
 use crate::form::Form;
@@ -21,7 +21,7 @@ pub fn free_cell(format: KtFormat, image: &mut [u8], end: CellsEnd, place: usize
     requires live { IsSome (live_at 2 (contents format (drop 2 image.old)).cells place) }
     ensures len { length image.new ≡ length image.old }
     ensures changed { IsChanged format image.old image.new (record {
-      cells = turned_at 2 freed place (contents format (drop 2 image.old)).cells;
+      cells = turned_at 2 zero_hole place (contents format (drop 2 image.old)).cells;
       end = (contents format (drop 2 image.old)).end;
     }) end }
 {
@@ -43,7 +43,7 @@ pub fn fill_hole<N: Name>(image: &mut [u8], end: CellsEnd, hole: Hole, form: &Fo
         (contents form.now.format (drop 2 image.old)).cells ≡ Some hole }
     ensures len { length image.new ≡ length image.old }
     ensures changed { IsChanged form.now.format image.old image.new (record {
-      cells = turned_at 2 (filled form.now.bytes) hole.place
+      cells = turned_at 2 (record_in form.now.bytes) hole.place
           (contents form.now.format (drop 2 image.old)).cells;
       end = (contents form.now.format (drop 2 image.old)).end;
     }) end }

@@ -1,5 +1,5 @@
 use Rattle.std.proofs.Common.{◌≡◌}
-use Rattle.krb_keytab.specs.Holes.{hole_from}
+use Rattle.krb_keytab.specs.Hole.{hole_from}
 use Rattle.krb_keytab.proofs.hole.first_hole.Given as goal
 
 -- no hole that is large enough was passed

@@ -1,5 +1,5 @@
 use Rattle.std.proofs.Common.{◌≡◌, length}
-use Rattle.krb_keytab.specs.Listed.{entries_in}
+use Rattle.krb_keytab.specs.Entries.{entries_in}
 use Rattle.krb_keytab.proofs.cells.Cells.next_entry.Given as goal
 
 -- no entry was passed

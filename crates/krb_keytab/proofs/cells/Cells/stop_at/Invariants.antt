@@ -1,6 +1,6 @@
 use Rattle.std.proofs.Common.{◌≡◌, ◌≤◌, length}
 use Rattle.krb_keytab.specs.Questions.{stop_from, end_place, kind_of}
-use Rattle.krb_keytab.specs.Seen.{ending_kind}
+use Rattle.krb_keytab.specs.Step.{ending_kind}
 use Rattle.krb_keytab.proofs.cells.Cells.stop_at.Given as goal
 
 -- what is asked of the rest is asked of all, and the rest ends where all do

@@ -9,7 +9,7 @@ use Rattle.krb_keytab.specs.declared.edit.EditRefused.{EditRefused}
 use Rattle.krb_keytab.specs.declared.edit.EditRefused.TheVariants.{NotAKeytab, NoMemory}
 use Rattle.krb_keytab.specs.Entry.{EntryParts}
 use Rattle.krb_keytab.specs.Store.{State, opening, image_of}
-use Rattle.krb_keytab.specs.Walked.{keytab_rules}
+use Rattle.krb_keytab.specs.Placed.{keytab_rules}
 
 -- a new session over a keytab
 abbrev pub new_session : State → Session State

@@ -6,7 +6,7 @@ use Rattle.krb_keytab.specs.declared.step.Ending.{Ending}
 use Rattle.krb_keytab.specs.declared.step.Ending.TheVariants as ending
 use Rattle.krb_keytab.specs.declared.step.Step.TheVariants as step
 use Rattle.krb_keytab.specs.Cells.{Contents, contents}
-use Rattle.krb_keytab.specs.Seen.{from_step}
+use Rattle.krb_keytab.specs.Step.{from_step}
 use Rattle.krb_keytab.specs.Questions.{end_place}
 
 -- the cells from a place on end where it is said, by what it is said

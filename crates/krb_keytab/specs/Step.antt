@@ -9,7 +9,7 @@ use Rattle.krb_keytab.specs.declared.step.Ending.{Ending}
 use Rattle.krb_keytab.specs.declared.step.Ending.TheVariants as ending
 use Rattle.krb_keytab.specs.declared.step.Step.{Step}
 use Rattle.krb_keytab.specs.declared.step.Step.TheVariants as step
-use Rattle.krb_keytab.specs.Cells.{Live, Free, End, Bare, Mark, Damaged, Next, More, Stop as Ends, Contents, contents}
+use Rattle.krb_keytab.specs.Cells.{Live, Free, End, Bare, Mark, Damaged, NextCell, More, NoMore as Ends, Contents, contents}
 
 -- what is wrong, if something is
 abbrev pub ending_kind : Ending → Option FaultKind
@@ -32,7 +32,7 @@ ends bytes ending.Mark = Mark (drop 4 bytes)
 ends bytes (ending.Damaged kind) = Damaged kind bytes
 
 -- a cell of n bytes after its length, or an end
-abbrev pub seen : List ℕ → Step → Next
+abbrev pub seen : List ℕ → Step → NextCell
 seen bytes (step.Live n) = More (Live (take n (drop 4 bytes))) (drop n (drop 4 bytes))
 seen bytes (step.Free n) = More (Free (take n (drop 4 bytes))) (drop n (drop 4 bytes))
 seen bytes (step.End e) = Ends (ends bytes e)
