@@ -18,14 +18,14 @@ use Rattle.krb_keytab.specs.declared.image.CellsEnd.{CellsEnd}
 use Rattle.krb_keytab.specs.declared.hole.Hole.{Hole}
 use Rattle.krb_keytab.specs.Entry.{EntryParts}
 use Rattle.krb_keytab.specs.Cells.{Live, Contents, cell, end_bytes, contents, image}
-use Rattle.krb_keytab.specs.Seen.{ends}
+use Rattle.krb_keytab.specs.Step.{ends}
 use Rattle.krb_keytab.specs.Questions.{end_place, kind_of}
-use Rattle.krb_keytab.specs.Known.{IsKnownEnd, mark_len, len_with}
+use Rattle.krb_keytab.specs.Image.{IsKnownEnd, mark_len, len_with}
 use Rattle.krb_keytab.specs.Store.{State, InMemory, image_of, store_of}
-use Rattle.krb_keytab.specs.Written.{fits, written}
-use Rattle.krb_keytab.specs.Changes.{PlacedCell, first_hole, with_filled, with_last, end_after, appending, putting_into, putting_bytes, putting, is_refused, takes_none}
-use Rattle.krb_keytab.specs.Holes.{hole_of, hole_from}
-use Rattle.krb_keytab.specs.Appends.{AnswersAppend, KeepsRoom}
+use Rattle.krb_keytab.specs.Form.{fits, written}
+use Rattle.krb_keytab.specs.Changes.{PlacedCell, first_hole, with_record_in, with_last, end_after, append_result, put_result_into, put_bytes_result, put_result, is_refused, takes_none}
+use Rattle.krb_keytab.specs.Hole.{hole_of, hole_from}
+use Rattle.krb_keytab.specs.Append.{AnswersAppend, KeepsRoom}
 use Rattle.krb_keytab.proofs.Cuts.{end_place_is, end_place-append}
 use Rattle.krb_keytab.proofs.Stores.{held, end_held}
 use Rattle.krb_keytab.proofs.Appended.{zeros_after}
@@ -69,12 +69,12 @@ same_len f limit bytes x k e n a = ap (λ (y : State). length (image_of (with_la
 same_limit : (f : KtFormat) (limit : ℕ) (bytes x : List ℕ) (k : State) (e : CellsEnd) (n : ℕ) → Appends f limit bytes x k e n → k.limit ≡ limit
 same_limit f limit bytes x k e n a = ap (λ (y : State). y.limit) (sym a.is)
 
-pub append_full : (f : KtFormat) (limit : ℕ) (bytes x : List ℕ) (k : State) (e : CellsEnd) (n : ℕ) → Appends f limit bytes x k e n → limit < n → appending k x ≡ Err code.Full
+pub append_full : (f : KtFormat) (limit : ℕ) (bytes x : List ℕ) (k : State) (e : CellsEnd) (n : ℕ) → Appends f limit bytes x k e n → limit < n → append_result k x ≡ Err code.Full
 append_full f limit bytes x k e n a lt =
     let long : ltb k.limit (length (image_of (with_last k x))) ≡ true = lt-ltb _ _ (omega (arith, same_len f limit bytes x k e n a, same_limit f limit bytes x k e n a)) in
     ap (λ (b : Bool). cond b (Err code.Full) (Ok (end_of (store_of k), with_last k x))) long
 
-pub append_fits : (f : KtFormat) (limit : ℕ) (bytes x : List ℕ) (k : State) (e : CellsEnd) (n : ℕ) → Appends f limit bytes x k e n → n ≤ limit → appending k x ≡ Ok (end_of (store_of k), with_last k x)
+pub append_fits : (f : KtFormat) (limit : ℕ) (bytes x : List ℕ) (k : State) (e : CellsEnd) (n : ℕ) → Appends f limit bytes x k e n → n ≤ limit → append_result k x ≡ Ok (end_of (store_of k), with_last k x)
 append_fits f limit bytes x k e n a le =
     let short : ltb k.limit (length (image_of (with_last k x))) ≡ false = le-ltb _ _ (omega (arith, same_len f limit bytes x k e n a, same_limit f limit bytes x k e n a)) in
     ap (λ (b : Bool). cond b (Err code.Full) (Ok (end_of (store_of k), with_last k x))) short
@@ -87,7 +87,7 @@ appended_state f limit bytes bytes' x k is written =
 
 pub append_ok : (f : KtFormat) (limit : ℕ) (bytes bytes' x : List ℕ) (k : State) (e : CellsEnd) (n : ℕ) → Appends f limit bytes x k e n → n ≤ limit
     → contents f (drop 2 bytes') ≡ record { cells = (contents f (drop 2 bytes)).cells ++ Live x ∷ []; end = end_after (contents f (drop 2 bytes)).end }
-    → appending k x ≡ Ok (e.place, held f limit bytes')
+    → append_result k x ≡ Ok (e.place, held f limit bytes')
 append_ok f limit bytes bytes' x k e n a le written =
     append_fits f limit bytes x k e n a le
     ∙ sym (ap (λ (p : ℕ). Ok (p, held f limit bytes')) (end_held f limit bytes k e a.known a.is) ∙ ap (λ (y : State). Ok (end_of (store_of k), y)) (appended_state f limit bytes bytes' x k a.is written))
@@ -106,27 +106,27 @@ append_no_longer f limit bytes x k e n a spelled le =
 -- ---- anywhere
 
 -- what is put where nothing is wrong and the entry fits
-put_is : (k : State) (e : EntryParts) → is_some (fault_of (store_of k)) ≡ false → fits k.format e ≡ true → putting k e ≡ putting_bytes k (written k.format e)
+put_is : (k : State) (e : EntryParts) → is_some (fault_of (store_of k)) ≡ false → fits k.format e ≡ true → put_result k e ≡ put_bytes_result k (written k.format e)
 put_is k e whole fit =
-    ap (λ (b : Bool). cond b (Err code.Damaged) (cond (fits k.format e) (putting_bytes k (written k.format e)) (Err code.TooLong))) whole
-    ∙ ap (λ (b : Bool). cond b (putting_bytes k (written k.format e)) (Err code.TooLong)) fit
+    ap (λ (b : Bool). cond b (Err code.Damaged) (cond (fits k.format e) (put_bytes_result k (written k.format e)) (Err code.TooLong))) whole
+    ∙ ap (λ (b : Bool). cond b (put_bytes_result k (written k.format e)) (Err code.TooLong)) fit
 
 -- where no hole is large enough, it is put after the cells
-pub put_after_all : (k : State) (e : EntryParts) → is_some (fault_of (store_of k)) ≡ false → fits k.format e ≡ true → first_hole 2 (length (written k.format e)) k.contents.cells ≡ None → putting k e ≡ appending k (written k.format e)
-put_after_all k e whole fit none = put_is k e whole fit ∙ ap (putting_into k (written k.format e)) none
+pub put_after_all : (k : State) (e : EntryParts) → is_some (fault_of (store_of k)) ≡ false → fits k.format e ≡ true → first_hole 2 (length (written k.format e)) k.contents.cells ≡ None → put_result k e ≡ append_result k (written k.format e)
+put_after_all k e whole fit none = put_is k e whole fit ∙ ap (put_result_into k (written k.format e)) none
 
-pub gives_put : (k : State) (e : EntryParts) (result : Result ℕ Refusal) (new : State) → putting k e ≡ appending k (written k.format e) → AnswersAppend k (written k.format e) result new → PutGives (putting k e) k result new
+pub gives_put : (k : State) (e : EntryParts) (result : Result ℕ Refusal) (new : State) → put_result k e ≡ append_result k (written k.format e) → AnswersAppend k (written k.format e) result new → PutGives (put_result k e) k result new
 gives_put k e (Ok place) new is h = is ∙ h
 gives_put k e (Err (ByCode refused)) new is h = (is ∙ h.0, h.1)
 gives_put k e (Err NoMemory) new is h = h.2
 
 -- memory is asked for only where none of these holds
-takes_some : (k : State) (e : EntryParts) → is_refused (putting k e) ≡ false → is_some (first_hole 2 (length (written k.format e)) k.contents.cells) ≡ false → length (image_of k) < length (image_of (with_last k (written k.format e))) → takes_none k e ≡ false
+takes_some : (k : State) (e : EntryParts) → is_refused (put_result k e) ≡ false → is_some (first_hole 2 (length (written k.format e)) k.contents.cells) ≡ false → length (image_of k) < length (image_of (with_last k (written k.format e))) → takes_none k e ≡ false
 takes_some k e given none longer =
     let no : nat_le (length (image_of (with_last k (written k.format e)))) (length (image_of k)) ≡ false = lt-leb _ _ longer in
     rw (given, none, no) refl
 
-pub put_wants : (k : State) (e : EntryParts) (result : Result ℕ Refusal) (new : State) → putting k e ≡ appending k (written k.format e) → first_hole 2 (length (written k.format e)) k.contents.cells ≡ None
+pub put_wants : (k : State) (e : EntryParts) (result : Result ℕ Refusal) (new : State) → put_result k e ≡ append_result k (written k.format e) → first_hole 2 (length (written k.format e)) k.contents.cells ≡ None
     → AnswersAppend k (written k.format e) result new → takes_none k e ≡ true → HadMemory result
 put_wants k e (Ok place) new is none h takes = tt
 put_wants k e (Err (ByCode refused)) new is none h takes = tt
@@ -135,20 +135,20 @@ put_wants k e (Err NoMemory) new is none h takes =
     absurd cc
 
 -- where it takes no memory and is put after the cells, the image becomes no longer
-no_longer : (k : State) (e : EntryParts) (place : ℕ) (new : State) → putting k e ≡ Ok (place, new) → first_hole 2 (length (written k.format e)) k.contents.cells ≡ None → takes_none k e ≡ true
+no_longer : (k : State) (e : EntryParts) (place : ℕ) (new : State) → put_result k e ≡ Ok (place, new) → first_hole 2 (length (written k.format e)) k.contents.cells ≡ None → takes_none k e ≡ true
     → length (image_of (with_last k (written k.format e))) ≤ length (image_of k)
 no_longer k e place new is none takes = leb-true _ _ (rw (ap is_refused is, ap is_some none) at takes)
 
-pub put_keeps : (k : InMemory) (e : EntryParts) (result : Result ℕ Refusal) (new : InMemory) → putting k.state e ≡ appending k.state (written k.state.format e) → first_hole 2 (length (written k.state.format e)) k.state.contents.cells ≡ None
+pub put_keeps : (k : InMemory) (e : EntryParts) (result : Result ℕ Refusal) (new : InMemory) → put_result k.state e ≡ append_result k.state (written k.state.format e) → first_hole 2 (length (written k.state.format e)) k.state.contents.cells ≡ None
     → AnswersAppend k.state (written k.state.format e) result new.state → KeepsRoom k (written k.state.format e) result new → takes_none k.state e ≡ true → new.room ≡ k.room
 put_keeps k e (Ok place) new is none h keeps takes = keeps (no_longer k.state e place new.state (is ∙ h) none takes)
 put_keeps k e (Err (ByCode refused)) new is none h keeps takes = keeps
 put_keeps k e (Err NoMemory) new is none h keeps takes = absurd (put_wants k.state e (Err NoMemory) new.state is none h takes)
 
 -- a hole, by its place
-into_hole : (k : State) (x : List ℕ) (h : Hole) (o : Option PlacedCell) → option_map hole_of o ≡ Some h → putting_into k x o ≡ Ok (h.place, with_filled k x h.place)
+into_hole : (k : State) (x : List ℕ) (h : Hole) (o : Option PlacedCell) → option_map hole_of o ≡ Some h → put_result_into k x o ≡ Ok (h.place, with_record_in k x h.place)
 into_hole k x h None e = absurd cc
-into_hole k x h (Some c) e = ap (λ (p : ℕ). Ok (p, with_filled k x p)) (ap (λ (y : Hole). y.place) (some_is (hole_of c) h e))
+into_hole k x h (Some c) e = ap (λ (p : ℕ). Ok (p, with_record_in k x p)) (ap (λ (y : Hole). y.place) (some_is (hole_of c) h e))
 
 no_hole : (o : Option PlacedCell) → option_map hole_of o ≡ None → o ≡ None
 no_hole None e = refl
@@ -159,6 +159,6 @@ none_large k n e = no_hole (first_hole 2 n k.contents.cells) e
 
 -- the first hole that is large enough takes it
 pub put_in_hole : (k : State) (e : EntryParts) (h : Hole) → is_some (fault_of (store_of k)) ≡ false → fits k.format e ≡ true → hole_from 2 (length (written k.format e)) k.contents.cells ≡ Some h
-    → putting k e ≡ Ok (h.place, with_filled k (written k.format e) h.place)
+    → put_result k e ≡ Ok (h.place, with_record_in k (written k.format e) h.place)
 put_in_hole k e h whole fit hole =
     put_is k e whole fit ∙ into_hole k (written k.format e) h (first_hole 2 (length (written k.format e)) k.contents.cells) hole

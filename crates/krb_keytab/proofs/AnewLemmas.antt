@@ -17,7 +17,7 @@ use Rattle.krb_walk.proofs.Stops.{Stopped, walks_begin_with_all}
 use Rattle.krb_keytab.specs.Entry.{EntryParts, entry_at, Spells}
 use Rattle.krb_keytab.specs.Cells.{cell}
 use Rattle.krb_keytab.specs.Store.{State, store_of, entries, image_of}
-use Rattle.krb_keytab.specs.Written.{fits}
+use Rattle.krb_keytab.specs.Form.{fits}
 use Rattle.krb_keytab.specs.Rewrite.{new_record, rewrite_of}
 use Rattle.krb_keytab.proofs.WrittenLemmas.{fits_yes}
 

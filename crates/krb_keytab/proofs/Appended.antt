@@ -15,10 +15,10 @@ use Rattle.krb_keytab.specs.declared.step.Ending.{Ending}
 use Rattle.krb_keytab.specs.declared.step.Ending.TheVariants as ending
 use Rattle.krb_keytab.specs.Entry.{entry_at}
 use Rattle.krb_keytab.specs.Cells.{Live, End, Bare, Mark, Damaged, Contents, cell, end_bytes, spelling, contents, IsCell, IsEnd, IsSound}
-use Rattle.krb_keytab.specs.Seen.{ends}
+use Rattle.krb_keytab.specs.Step.{ends}
 use Rattle.krb_keytab.specs.Questions.{end_place, kind_of}
-use Rattle.krb_keytab.specs.Known.{IsKnownEnd, IsChanged, mark_len, len_with}
-use Rattle.krb_keytab.specs.Written.{IsRecord}
+use Rattle.krb_keytab.specs.Image.{IsKnownEnd, IsChanged, mark_len, len_with}
+use Rattle.krb_keytab.specs.Form.{IsRecord}
 use Rattle.krb_keytab.specs.Changes.{end_after}
 use Rattle.krb_keytab.proofs.CellLemmas.{contents_spelled, contents_again}
 use Rattle.krb_keytab.proofs.Cuts.{cell_len, end_place_is, end_place-append}

@@ -15,8 +15,8 @@ use Rattle.krb_walk.proofs.Carries.{lives_rise, below, below_none, below_some}
 use Rattle.krb_keytab.specs.Entry.{EntryParts, entry_at}
 use Rattle.krb_keytab.specs.Cells.{Cell, Live, Free, Contents, contents, IsCell}
 use Rattle.krb_keytab.specs.Questions.{size, is_place, end_place}
-use Rattle.krb_keytab.specs.Store.{State, placed, store_of}
-use Rattle.krb_keytab.specs.Written.{written}
+use Rattle.krb_keytab.specs.Store.{State, store_cell, store_of}
+use Rattle.krb_keytab.specs.Form.{written}
 use Rattle.krb_keytab.specs.Rewrite.{new_record, rewrite_of}
 use Rattle.krb_keytab.specs.Carry.{place_after, cells_after, new_place, AreGiven, HasGiven, GoesBy}
 use Rattle.krb_keytab.proofs.Cuts.{far}
@@ -27,17 +27,17 @@ use Rattle.krb_keytab.proofs.Rewrites.{anews, entries_of, entries_all, anews_liv
 
 -- told by the ranks of live cells
 abbrev by_rank : ℕ → List Cell → ℕ → List Cell → ℕ → ℕ
-by_rank at cs to ds p = nth_or (end_from to (map placed ds)) (lives to (map placed ds)) (below p (lives at (map placed cs)))
+by_rank at cs to ds p = nth_or (end_from to (map store_cell ds)) (lives to (map store_cell ds)) (below p (lives at (map store_cell cs)))
 
-first_of : (to : ℕ) (es : List EntryParts) → nth_or (end_from to (map placed (map new_record es))) (lives to (map placed (map new_record es))) 0 ≡ to
+first_of : (to : ℕ) (es : List EntryParts) → nth_or (end_from to (map store_cell (map new_record es))) (lives to (map store_cell (map new_record es))) 0 ≡ to
 first_of to [] = refl
 first_of to (e ∷ es) = refl
 
 at_or_after : (f : KtFormat) (at to p : ℕ) (cs : List Cell) (es : List EntryParts) → AllByRecursion (IsCell f) cs → p ≤ at → by_rank at cs to (map new_record es) p ≡ to
 at_or_after f at to p cs es sound le =
-    let ps = lives at (map placed cs) in
-    let none : below p ps ≡ 0 = below_none p at (end_from at (map placed cs)) ps le (lives_rise at (map placed cs) (store_sound f cs sound)) in
-    ap (nth_or (end_from to (map placed (map new_record es))) (lives to (map placed (map new_record es)))) none ∙ first_of to es
+    let ps = lives at (map store_cell cs) in
+    let none : below p ps ≡ 0 = below_none p at (end_from at (map store_cell cs)) ps le (lives_rise at (map store_cell cs) (store_sound f cs sound)) in
+    ap (nth_or (end_from to (map store_cell (map new_record es))) (lives to (map store_cell (map new_record es)))) none ∙ first_of to es
 
 carried_by : (at to p : ℕ) (c : Cell) (cs ds : List Cell) (n : ℕ) → (p ≤ at → n ≡ to) → (at < p → n ≡ new_place (at + 4 + size c) cs (place_after c to ds) (cells_after c ds) p) → new_place at (c ∷ cs) to ds p ≡ n
 carried_by at to p c cs ds n here later = elim (cases_lt at p) [
@@ -49,8 +49,8 @@ live_rank : (at to p : ℕ) (b : List ℕ) (e : EntryParts) (cs : List Cell) (es
 live_rank at to p b e cs es lt =
     let at2 = at + (4 + length b) in
     let to2 = to + (4 + length (written V2 e)) in
-    let ds = map placed (map new_record es) in
-    let ps = lives at2 (map placed cs) in
+    let ds = map store_cell (map new_record es) in
+    let ps = lives at2 (map store_cell cs) in
     ap (λ (n : ℕ). nth_or (end_from to2 ds) (to ∷ lives to2 ds) n) (below_some p at ps lt)
     ∙ sym (ap (λ (n : ℕ). by_rank n cs (to + 4 + length (written V2 e)) (map new_record es) p) (past at (length b)) ∙ ap (λ (n : ℕ). by_rank at2 cs n (map new_record es) p) (past to (length (written V2 e))))
 
@@ -93,7 +93,7 @@ carried_le (c ∷ cs) at to p ds = one_of (nat_le p at) to (new_place (at + 4 + 
 -- ---- cursors
 
 place_le : (cs : List Cell) (p : ℕ) → is_place 2 cs p ≡ true → p ≤ end_place 2 cs
-place_le cs p h = omega (arith, place_in 2 (map placed cs) p (sym (is_place-store 2 p cs) ∙ h), end_place-store 2 cs)
+place_le cs p h = omega (arith, place_in 2 (map store_cell cs) p (sym (is_place-store 2 p cs) ∙ h), end_place-store 2 cs)
 
 place_before : (cs : List Cell) (p end : ℕ) → is_place 2 cs p ≡ true → end_place 2 cs ≡ end → p ≢ end → p < end
 place_before cs p end h is ne = elim (cases_lt p end) [
@@ -102,21 +102,21 @@ place_before cs p end h is ne = elim (cases_lt p end) [
 ]
 
 -- each cursor was given a place
-pub all_given : (image : List ℕ) (end : ℕ) (cs ds : List Cell) (cursors : List ℕ) → AreGiven image end cs ds → end_place 2 cs ≡ end → AllByRecursion (λ p. is_place 2 cs p ≡ true) cursors → AllByRecursion (HasGiven image end) cursors
-all_given image end cs ds [] given is h = tt
-all_given image end cs ds (p ∷ ps) given is h = (λ ne. (given p h.0 (place_before cs p end h.0 is ne)).within, all_given image end cs ds ps given is h.1)
+pub all_given : (image : List ℕ) (end : ℕ) (cs : List Cell) (to : ℕ) (ds : List Cell) (cursors : List ℕ) → AreGiven image end cs to ds → end_place 2 cs ≡ end → AllByRecursion (λ p. is_place 2 cs p ≡ true) cursors → AllByRecursion (HasGiven image end) cursors
+all_given image end cs to ds [] given is h = tt
+all_given image end cs to ds (p ∷ ps) given is h = (λ ne. (given p h.0 (place_before cs p end h.0 is ne)).within, all_given image end cs to ds ps given is h.1)
 
 -- and goes there
-pub all_go : (image : List ℕ) (end last : ℕ) (cs ds : List Cell) (cursors : List ℕ) → AreGiven image end cs ds → end_place 2 cs ≡ end → last ≡ new_place 2 cs 2 ds end → end_place 2 ds < 2 ^ 32
-    → AllByRecursion (λ p. is_place 2 cs p ≡ true) cursors → AllByRecursion (GoesBy image end last (new_place 2 cs 2 ds)) cursors
-all_go image end last cs ds [] given is is_last small h = tt
-all_go image end last cs ds (p ∷ ps) given is is_last small h = (
+pub all_go : (image : List ℕ) (end last : ℕ) (cs : List Cell) (to : ℕ) (ds : List Cell) (cursors : List ℕ) → AreGiven image end cs to ds → end_place 2 cs ≡ end → last ≡ new_place 2 cs to ds end → end_place to ds < 2 ^ 32
+    → AllByRecursion (λ p. is_place 2 cs p ≡ true) cursors → AllByRecursion (GoesBy image end last (new_place 2 cs to ds)) cursors
+all_go image end last cs to ds [] given is is_last small h = tt
+all_go image end last cs to ds (p ∷ ps) given is is_last small h = (
   record {
-    small = omega (arith, carried_le cs 2 2 p ds, small);
-    ends = λ e. is_last ∙ ap (new_place 2 cs 2 ds) (sym e);
+    small = omega (arith, carried_le cs 2 to p ds, small);
+    ends = λ e. is_last ∙ ap (new_place 2 cs to ds) (sym e);
     told = λ ne. given p h.0 (place_before cs p end h.0 is ne);
   },
-  all_go image end last cs ds ps given is is_last small h.1,
+  all_go image end last cs to ds ps given is is_last small h.1,
 )
 
 -- places of the store are places of its cells

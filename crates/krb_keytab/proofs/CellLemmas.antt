@@ -11,7 +11,7 @@ use Rattle.krb_wire.specs.Spelling.{order_of, digits}
 use Rattle.krb_wire.specs.Reading.{number_at}
 use Rattle.krb_wire.proofs.Fields.{IsBytes, IsBytes-drop, Takes, Takes-then, wide32, number_takes, number_again}
 use Rattle.krb_keytab.specs.Entry.{entry_at}
-use Rattle.krb_keytab.specs.Cells.{Cell, Live, Free, End, Bare, Mark, Damaged, Contents, bytes_of, length_field, cell, end_bytes, spelling, Next, More, Stop, short_end, sized, next_by, next, on_next, walk, contents, IsCell, IsEnd, IsSound, IsSpelled, image, version_byte}
+use Rattle.krb_keytab.specs.Cells.{Cell, Live, Free, End, Bare, Mark, Damaged, Contents, bytes_of, length_field, cell, end_bytes, spelling, NextCell, More, NoMore, short_end, sized, next_by, next, on_next, walk, contents, IsCell, IsEnd, IsSound, IsSpelled, image, version_byte}
 
 pub chosen : {A : Type 0} (b : Bool) (x y z : A) → cond b x y ≡ z → ((b ≡ true) × (x ≡ z)) ⊎ ((b ≡ false) × (y ≡ z))
 chosen true x y z e = inl (refl, e)
@@ -28,9 +28,9 @@ pub record IsAtEnd (f : KtFormat) (bytes : List ℕ) (e : End) : Type 0 where
   pub sound : IsEnd f e
 
 -- the outcome of one read
-abbrev pub IsNext : KtFormat → List ℕ → Next → Type 0
+abbrev pub IsNext : KtFormat → List ℕ → NextCell → Type 0
 IsNext f bytes (More c after) = TakesCell f bytes c after
-IsNext f bytes (Stop e) = IsAtEnd f bytes e
+IsNext f bytes (NoMore e) = IsAtEnd f bytes e
 
 live_taken : (f : KtFormat) (bytes : List ℕ) (n : ℕ) (rest : List ℕ) → Takes bytes (digits (order_of f) w32 n) rest → 0 < n → n < 2 ^ 31 → n ≤ length rest → is_some (entry_at f (take n rest)) ≡ true
     → TakesCell f bytes (Live (take n rest)) (drop n rest)
@@ -61,7 +61,7 @@ free_taken f bytes n rest t fits big long =
 pub along : {A : Type 0} (P : A → Type 0) {x y : A} → x ≡ y → P x → P y
 along P e p = subst P e p
 
-sized_is : (f : KtFormat) (bytes : List ℕ) (n : ℕ) (rest : List ℕ) (s : Next) → next f bytes ≡ s → Takes bytes (digits (order_of f) w32 n) rest → n < 2 ^ 32 → sized f bytes n rest ≡ s → IsNext f bytes s
+sized_is : (f : KtFormat) (bytes : List ℕ) (n : ℕ) (rest : List ℕ) (s : NextCell) → next f bytes ≡ s → Takes bytes (digits (order_of f) w32 n) rest → n < 2 ^ 32 → sized f bytes n rest ≡ s → IsNext f bytes s
 sized_is f bytes n rest s whole t fits e =
     let P = IsNext f bytes in
     elim (chosen (eqb n 0) _ _ s e) [
@@ -86,18 +86,18 @@ sized_is f bytes n rest s whole t fits e =
           ]
     ]
 
-short_is : (f : KtFormat) (bytes : List ℕ) (s : Next) → next f bytes ≡ s → Stop (short_end bytes) ≡ s → IsNext f bytes s
+short_is : (f : KtFormat) (bytes : List ℕ) (s : NextCell) → next f bytes ≡ s → NoMore (short_end bytes) ≡ s → IsNext f bytes s
 short_is f [] s whole e = along (IsNext f []) e (record { parts = refl; sound = tt })
 short_is f (b ∷ bs) s whole e = along (IsNext f (b ∷ bs)) e (record { parts = refl; sound = whole ∙ sym e })
 
-next_by_is : (f : KtFormat) (bytes : List ℕ) (s : Next) (read : Option (ℕ × List ℕ)) → IsBytes bytes → next f bytes ≡ s → number_at (order_of f) w32 bytes ≡ read → next_by f bytes read ≡ s → IsNext f bytes s
+next_by_is : (f : KtFormat) (bytes : List ℕ) (s : NextCell) (read : Option (ℕ × List ℕ)) → IsBytes bytes → next f bytes ≡ s → number_at (order_of f) w32 bytes ≡ read → next_by f bytes read ≡ s → IsNext f bytes s
 next_by_is f bytes s None fits whole got e = short_is f bytes s whole e
 next_by_is f bytes s (Some n) fits whole got e =
     let t = number_takes (order_of f) w32 (2 ^ 32) (wide32 (order_of f)) bytes n.0 n.1 fits got in
     sized_is f bytes n.0 n.1 s whole t.0 t.1 e
 
 -- what one read gives is what the bytes spell
-pub next_is : (f : KtFormat) (bytes : List ℕ) (s : Next) → IsBytes bytes → next f bytes ≡ s → IsNext f bytes s
+pub next_is : (f : KtFormat) (bytes : List ℕ) (s : NextCell) → IsBytes bytes → next f bytes ≡ s → IsNext f bytes s
 unfolding next
 next_is f bytes s fits e = next_by_is f bytes s (number_at (order_of f) w32 bytes) fits e refl e
 
@@ -134,7 +134,7 @@ pub cell_again : (f : KtFormat) (c : Cell) (rest : List ℕ) → IsCell f c → 
 cell_again f (Live b) rest sound = live_again f b rest sound
 cell_again f (Free b) rest sound = free_again f b rest sound
 
-pub end_again : (f : KtFormat) (e : End) → IsEnd f e → next f (end_bytes (order_of f) e) ≡ Stop e
+pub end_again : (f : KtFormat) (e : End) → IsEnd f e → next f (end_bytes (order_of f) e) ≡ NoMore e
 unfolding next
 end_again f Bare sound = refl
 end_again f (Mark rest) sound =
@@ -160,17 +160,17 @@ sound_size f (Live b) h = h.0
 sound_size f (Free b) h = h.0
 
 -- one read, and the reads after it
-walk_suc : (f : KtFormat) (n : ℕ) (bytes : List ℕ) (s : Next) → next f bytes ≡ s → walk f (suc n) bytes ≡ on_next (walk f n) s
+walk_suc : (f : KtFormat) (n : ℕ) (bytes : List ℕ) (s : NextCell) → next f bytes ≡ s → walk f (suc n) bytes ≡ on_next (walk f n) s
 unfolding walk
 walk_suc f n bytes s e = ap (on_next (walk f n)) e
 
-enough_by : (f : KtFormat) (n m : ℕ) (bytes : List ℕ) (s : Next) → ((after : List ℕ) → IsBytes after → length after < n → length after < m → walk f n after ≡ walk f m after)
+enough_by : (f : KtFormat) (n m : ℕ) (bytes : List ℕ) (s : NextCell) → ((after : List ℕ) → IsBytes after → length after < n → length after < m → walk f n after ≡ walk f m after)
     → length bytes < suc n → length bytes < suc m → IsNext f bytes s → on_next (walk f n) s ≡ on_next (walk f m) s
 enough_by f n m bytes (More c after) ih hn hm t =
     let shrinks = more_shrinks f bytes c after t in
     let same : walk f n after ≡ walk f m after = ih after t.takes.rest_fits (omega arith) (omega arith) in
     ap (λ (k : Contents). record { cells = c ∷ k.cells; end = k.end }) same
-enough_by f n m bytes (Stop e) ih hn hm t = refl
+enough_by f n m bytes (NoMore e) ih hn hm t = refl
 
 -- more turns than bytes change nothing
 pub enough : (f : KtFormat) (n m : ℕ) (bytes : List ℕ) → IsBytes bytes → length bytes < n → length bytes < m → walk f n bytes ≡ walk f m bytes
@@ -180,20 +180,20 @@ enough f (suc n) (suc m) bytes fits hn hm =
     let s = next f bytes in
     walk_suc f n bytes s refl ∙ enough_by f n m bytes s (λ after after_fits an am. enough f n m after after_fits an am) hn hm (next_is f bytes s fits refl) ∙ sym (walk_suc f m bytes s refl)
 
-contents_by : (f : KtFormat) (bytes : List ℕ) (s : Next) → IsNext f bytes s → on_next (walk f (length bytes)) s ≡ on_next (contents f) s
+contents_by : (f : KtFormat) (bytes : List ℕ) (s : NextCell) → IsNext f bytes s → on_next (walk f (length bytes)) s ≡ on_next (contents f) s
 unfolding contents
 contents_by f bytes (More c after) t =
     let shrinks = more_shrinks f bytes c after t in
     let same : walk f (length bytes) after ≡ walk f (suc (length after)) after = enough f (length bytes) (suc (length after)) after t.takes.rest_fits (omega arith) (omega arith) in
     ap (λ (k : Contents). record { cells = c ∷ k.cells; end = k.end }) same
-contents_by f bytes (Stop e) t = refl
+contents_by f bytes (NoMore e) t = refl
 
 -- the first cell, and the others
-pub contents_next : (f : KtFormat) (bytes : List ℕ) (s : Next) → IsBytes bytes → next f bytes ≡ s → contents f bytes ≡ on_next (contents f) s
+pub contents_next : (f : KtFormat) (bytes : List ℕ) (s : NextCell) → IsBytes bytes → next f bytes ≡ s → contents f bytes ≡ on_next (contents f) s
 unfolding contents
 contents_next f bytes s fits e = walk_suc f (length bytes) bytes s e ∙ contents_by f bytes s (next_is f bytes s fits e)
 
-spelled_by : (f : KtFormat) (n : ℕ) (bytes : List ℕ) (s : Next) → ((after : List ℕ) → IsBytes after → length after < n → IsSpelled f after (contents f after))
+spelled_by : (f : KtFormat) (n : ℕ) (bytes : List ℕ) (s : NextCell) → ((after : List ℕ) → IsBytes after → length after < n → IsSpelled f after (contents f after))
     → length bytes < suc n → IsNext f bytes s → IsSpelled f bytes (on_next (contents f) s)
 spelled_by f n bytes (More c after) ih lt t =
     let o = order_of f in
@@ -204,7 +204,7 @@ spelled_by f n bytes (More c after) ih lt t =
       parts = t.takes.parts ∙ ap (λ (b : List ℕ). cell o c ++ b) others.parts ∙ sym (ap (λ (b : List ℕ). b ++ end_bytes o k.end) (flat_map-cons (cell o) c k.cells) ∙ append_assoc (cell o c) (flat_map (cell o) k.cells) (end_bytes o k.end));
       sound = record { cells = (t.sound, others.sound.cells); end = others.sound.end };
     }
-spelled_by f n bytes (Stop e) ih lt t = record { parts = t.parts; sound = record { cells = tt; end = t.sound } }
+spelled_by f n bytes (NoMore e) ih lt t = record { parts = t.parts; sound = record { cells = tt; end = t.sound } }
 
 spelled_within : (f : KtFormat) (n : ℕ) (bytes : List ℕ) → IsBytes bytes → length bytes < n → IsSpelled f bytes (contents f bytes)
 spelled_within f zero bytes fits lt = absurd (omega arith)
@@ -240,7 +240,7 @@ contents_again f k sound fits =
     let o = order_of f in
     let e = end_bytes o k.end in
     contents_behind f k.cells e sound.cells fits
-    ∙ ap (behind k.cells) (contents_next f e (Stop k.end) (IsBytes-back (flat_map (cell o) k.cells) e fits) (end_again f k.end sound.end))
+    ∙ ap (behind k.cells) (contents_next f e (NoMore k.end) (IsBytes-back (flat_map (cell o) k.cells) e fits) (end_again f k.end sound.end))
     ∙ ap (λ (cs : List Cell). record { cells = cs; end = k.end }) (append-nil k.cells)
 
 headed : (bytes : List ℕ) → 2 ≤ length bytes → bytes ≡ get_or bytes 0 0 ∷ get_or bytes 1 0 ∷ drop 2 bytes

@@ -1,9 +1,9 @@
 -- A place cuts the cells in two, and the image too.
-use Rattle.std.proofs.Common.{◌≡◌, ℕ, ◌+◌, ◌≤◌, true, false, eqb, ltb, List, [], ◌∷◌, ◌++◌, length, take, drop, Some, refl, sym, ap, subst, ◌∙◌, append_assoc, length-append, arith, inl, inr}
+use Rattle.std.proofs.Common.{◌≡◌, ℕ, ◌+◌, ◌≤◌, true, false, eqb, ltb, List, [], ◌∷◌, ◌++◌, length, drop, Some, refl, sym, ap, subst, ◌∙◌, append_assoc, length-append, arith, inl, inr}
 use Rattle.std.specs.Prelude.{IsSome}
 use Rattle.std.specs.Int.{w32}
 use Rattle.std.specs.List.{flat_map, AllByRecursion}
-use Rattle.std.proofs.lemmas.Bool.{lt-ltb, ne_eqb, eq-eqb}
+use Rattle.std.proofs.lemmas.Bool.{lt-ltb, ne_eqb}
 use Rattle.std.proofs.lemmas.Bool.Decides.{eqb_tells}
 use Rattle.std.proofs.lemmas.Grind.{flat_map-append}
 use Rattle.std.proofs.lemmas.List.{drop_at, length-drop, drop-drop}
@@ -12,14 +12,11 @@ use Rattle.krb_wire.specs.declared.format.Order.{Order}
 use Rattle.krb_wire.specs.declared.format.KtFormat.{KtFormat}
 use Rattle.krb_wire.specs.Spelling.{order_of, digits}
 use Rattle.krb_wire.proofs.Fields.{IsBytes, IsBytes-drop, some_is, wide32}
-use Rattle.krb_keytab.specs.declared.step.Step.{Step}
-use Rattle.krb_keytab.specs.declared.step.Step.TheVariants as step
 use Rattle.krb_keytab.specs.declared.image.CellsEnd.{CellsEnd}
 use Rattle.krb_keytab.specs.Entry.{entry_at}
 use Rattle.krb_keytab.specs.Cells.{Cell, Live, Free, End, Contents, bytes_of, length_field, cell, end_bytes, spelling, contents, IsCell}
-use Rattle.krb_keytab.specs.Seen.{from_step}
 use Rattle.krb_keytab.specs.Questions.{size, end_place, is_place, stop_from, live_bytes, live_at}
-use Rattle.krb_keytab.specs.Known.{EndsKnown}
+use Rattle.krb_keytab.specs.Image.{EndsKnown}
 use Rattle.krb_keytab.proofs.CellLemmas.{contents_spelled, contents_again}
 
 pub cell_len : (o : Order) (c : Cell) → length (cell o c) ≡ 4 + size c
@@ -75,7 +72,7 @@ far [] at = omega arith
 far (c ∷ cs) at = let h = far cs (at + 4 + size c) in omega (arith, h)
 
 -- the questions asked of the cells from the place on
-stop_behind : (front back : List Cell) (at p : ℕ) (e : End) → p ≡ end_place at front → stop_from at (front ++ back) e p ≡ stop_from p back e p
+pub stop_behind : (front back : List Cell) (at p : ℕ) (e : End) → p ≡ end_place at front → stop_from at (front ++ back) e p ≡ stop_from p back e p
 stop_behind [] back at p e is = ap (λ (n : ℕ). stop_from n back e p) (sym is)
 stop_behind (Free b ∷ front) back at p e is = stop_behind front back (at + 4 + length b) p e is
 stop_behind (Live b ∷ front) back at p e is =
@@ -88,54 +85,74 @@ live_behind (c ∷ front) back at p is =
     let not_here : eqb p at ≡ false = ne_eqb p at (λ e. omega (arith, far front (at + 4 + size c))) in
     rw not_here (live_behind front back (at + 4 + size c) p is)
 
--- what a place makes of an image
-pub record Cut (f : KtFormat) (image : List ℕ) (p : ℕ) : Type 0 where
+-- what a place makes of the cells of an image: those before it, and those that the bytes from it on hold
+pub record Cut (f : KtFormat) (image : List ℕ) (at p : ℕ) : Type 0 where
   pub within : p ≤ length image
-  pub stop : stop_from p (contents f (drop p image)).cells (contents f (drop p image)).end p ≡ stop_from 2 (contents f (drop 2 image)).cells (contents f (drop 2 image)).end p
-  pub ends : end_place p (contents f (drop p image)).cells ≡ end_place 2 (contents f (drop 2 image)).cells
-  pub end : (contents f (drop p image)).end ≡ (contents f (drop 2 image)).end
-  pub live : live_at p (contents f (drop p image)).cells p ≡ live_at 2 (contents f (drop 2 image)).cells p
+  pub before : List Cell
+  pub parts : (contents f (drop at image)).cells ≡ before ++ (contents f (drop p image)).cells
+  pub place : p ≡ end_place at before
+  pub end : (contents f (drop p image)).end ≡ (contents f (drop at image)).end
 
--- a place cuts the cells in two, and the bytes from it on spell the second part
-pub cut : (f : KtFormat) (image : List ℕ) (p : ℕ) → IsBytes image → 2 ≤ length image → is_place 2 (contents f (drop 2 image)).cells p ≡ true → Cut f image p
-cut f image p fits long e =
+-- the bytes from a place on hold the cells from it on
+record Holds (f : KtFormat) (image : List ℕ) (at p : ℕ) (back : List Cell) : Type 0 where
+  pub within : p ≤ length image
+  pub contents : contents f (drop p image) ≡ record { cells = back; end = (contents f (drop at image)).end }
+
+holds_back : (f : KtFormat) (image : List ℕ) (at p : ℕ) (front back : List Cell) → IsBytes image → at ≤ length image → (contents f (drop at image)).cells ≡ front ++ back → p ≡ end_place at front → Holds f image at p back
+holds_back f image at p front back fits within parts is_p =
     let o = order_of f in
-    let k = contents f (drop 2 image) in
-    let s = place_splits k.cells 2 p e in
-    let spelled = contents_spelled f (drop 2 image) (IsBytes-drop 2 image fits) in
-    let F = flat_map (cell o) s.front in
-    let rest : Contents = record { cells = s.back; end = k.end } in
-    let bytes : drop 2 image ≡ F ++ spelling o rest =
-    spelled.parts ∙ ap (λ (cs : List Cell). flat_map (cell o) cs ++ end_bytes o k.end) s.parts
-    ∙ ap (λ (b : List ℕ). b ++ end_bytes o k.end) (flat_map-append (cell o) s.front s.back) ∙ append_assoc F (flat_map (cell o) s.back) (end_bytes o k.end) in
-    let place : p ≡ 2 + length F = s.place ∙ end_place_is o 2 s.front in
+    let k = contents f (drop at image) in
+    let spelled = contents_spelled f (drop at image) (IsBytes-drop at image fits) in
+    let F = flat_map (cell o) front in
+    let rest : Contents = record { cells = back; end = k.end } in
+    let bytes : drop at image ≡ F ++ spelling o rest =
+    spelled.parts ∙ ap (λ (cs : List Cell). flat_map (cell o) cs ++ end_bytes o k.end) parts
+    ∙ ap (λ (b : List ℕ). b ++ end_bytes o k.end) (flat_map-append (cell o) front back) ∙ append_assoc F (flat_map (cell o) back) (end_bytes o k.end) in
+    let place : p ≡ at + length F = is_p ∙ end_place_is o at front in
     let at_p : drop p image ≡ spelling o rest =
-    ap (λ (n : ℕ). drop n image) place ∙ sym (drop-drop (length F) 2 image) ∙ ap (drop (length F)) bytes ∙ drop_at F (spelling o rest) (length F) refl in
-    let sound : AllByRecursion (IsCell f) s.back = all_back (IsCell f) s.front s.back (subst (AllByRecursion (IsCell f)) s.parts spelled.sound.cells) in
+    ap (λ (n : ℕ). drop n image) place ∙ sym (drop-drop (length F) at image) ∙ ap (drop (length F)) bytes ∙ drop_at F (spelling o rest) (length F) refl in
+    let sound : AllByRecursion (IsCell f) back = all_back (IsCell f) front back (subst (AllByRecursion (IsCell f)) parts spelled.sound.cells) in
     let fits_p : IsBytes (spelling o rest) = subst IsBytes at_p (IsBytes-drop p image fits) in
-    let again : contents f (drop p image) ≡ rest = ap (contents f) at_p ∙ contents_again f rest (record { cells = sound; end = spelled.sound.end }) fits_p in
     record {
-      within = omega (arith, place, ap length bytes, length-append F (spelling o rest), length-drop 2 image);
-      stop = ap (λ (x : Contents). stop_from p x.cells x.end p) again ∙ sym (ap (λ (cs : List Cell). stop_from 2 cs k.end p) s.parts ∙ stop_behind s.front s.back 2 p k.end s.place);
-      ends = ap (λ (x : Contents). end_place p x.cells) again ∙ ap (λ (n : ℕ). end_place n s.back) s.place ∙ sym (ap (end_place 2) s.parts ∙ end_place-append 2 s.front s.back);
-      end = ap (λ (x : Contents). x.end) again;
-      live = ap (λ (x : Contents). live_at p x.cells p) again ∙ sym (ap (λ (cs : List Cell). live_at 2 cs p) s.parts ∙ live_behind s.front s.back 2 p s.place);
+      within = omega (arith, place, ap length bytes, length-append F (spelling o rest), length-drop at image);
+      contents = ap (contents f) at_p ∙ contents_again f rest (record { cells = sound; end = spelled.sound.end }) fits_p;
     }
 
--- the live cell that was read at a place is the one that stands there
-pub live_here : (f : KtFormat) (image : List ℕ) (p n : ℕ) → contents f (drop p image) ≡ from_step f image p (step.Live n) → live_at p (contents f (drop p image)).cells p ≡ Some (take n (drop (p + 4) image))
-live_here f image p n e = ap (λ (k : Contents). live_at p k.cells p) e ∙ rw (eq-eqb p p refl) refl
+pub cut : (f : KtFormat) (image : List ℕ) (at p : ℕ) → IsBytes image → at ≤ length image → is_place at (contents f (drop at image)).cells p ≡ true → Cut f image at p
+cut f image at p fits within e =
+    let s = place_splits (contents f (drop at image)).cells at p e in
+    let h = holds_back f image at p s.front s.back fits within s.parts s.place in
+    record {
+      within = h.within;
+      before = s.front;
+      parts = s.parts ∙ ap (λ (x : Contents). s.front ++ x.cells) (sym h.contents);
+      place = s.place;
+      end = ap (λ (x : Contents). x.end) h.contents;
+    }
 
-pub only_live : (f : KtFormat) (image : List ℕ) (p : ℕ) (s : Step) → IsSome (live_at p (from_step f image p s).cells p) → ((n : ℕ) → s ≡ step.Live n → ⊥) → ⊥
-only_live f image p (step.Live n) h not = not n refl
-only_live f image p (step.Free n) h not = let here = eq-eqb p p refl in let none = rw here at h in absurd cc
-only_live f image p (step.End e) h not = absurd cc
+-- the place after the first cell
+pub cut_first : (f : KtFormat) (image : List ℕ) (at : ℕ) (c : Cell) (cs : List Cell) → IsBytes image → at ≤ length image → (contents f (drop at image)).cells ≡ c ∷ cs → Cut f image at (at + 4 + size c)
+cut_first f image at c cs fits within is =
+    let h = holds_back f image at (at + 4 + size c) (c ∷ []) cs fits within is refl in
+    record {
+      within = h.within;
+      before = c ∷ [];
+      parts = is ∙ ap (λ (x : Contents). c ∷ x.cells) (sym h.contents);
+      place = refl;
+      end = ap (λ (x : Contents). x.end) h.contents;
+    }
+
+pub after_first : (f : KtFormat) (image : List ℕ) (at : ℕ) (c : Cell) (cs : List Cell) → IsBytes image → at ≤ length image → (contents f (drop at image)).cells ≡ c ∷ cs → cs ≡ (contents f (drop (at + 4 + size c) image)).cells
+after_first f image at c cs fits within is = sym (ap (λ (x : Contents). x.cells) (holds_back f image at (at + 4 + size c) (c ∷ []) cs fits within is refl).contents)
 
 -- what is known of the end is known from each place on
-pub known_from : (f : KtFormat) (image : List ℕ) (p : ℕ) (e : CellsEnd) → IsBytes image → 2 ≤ length image → is_place 2 (contents f (drop 2 image)).cells p ≡ true → EndsKnown f image 2 e → EndsKnown f image p e
-known_from f image p e fits long place known =
-    let k = cut f image p fits long place in
-    record { place = k.ends ∙ known.place; within = known.within; same = k.end ∙ known.same; ending = known.ending }
+pub known_from : (f : KtFormat) (image : List ℕ) (at p : ℕ) (e : CellsEnd) → Cut f image at p → EndsKnown f image at e → EndsKnown f image p e
+known_from f image at p e k known = record {
+  place = ap (λ (n : ℕ). end_place n (contents f (drop p image)).cells) k.place ∙ sym (end_place-append at k.before (contents f (drop p image)).cells) ∙ ap (end_place at) (sym k.parts) ∙ known.place;
+  within = known.within;
+  same = k.end ∙ known.same;
+  ending = known.ending;
+}
 
 -- the bytes of a live cell begin with an entry
 live_is : (f : KtFormat) (c : Cell) (b : List ℕ) → IsCell f c → live_bytes c ≡ Some b → IsSome (entry_at f b)

@@ -13,9 +13,9 @@ use Rattle.krb_keytab.specs.declared.image.CellsEnd.{CellsEnd}
 use Rattle.krb_keytab.specs.declared.step.Step.{Step}
 use Rattle.krb_keytab.specs.declared.step.Step.TheVariants as step
 use Rattle.krb_keytab.specs.Cells.{Cell, Live, Free, Contents, bytes_of, length_field, cell, end_bytes, More, next, contents, IsCell, IsSpelled}
-use Rattle.krb_keytab.specs.Seen.{seen, EndsWithin, from_step, CellWithin}
+use Rattle.krb_keytab.specs.Step.{seen, EndsWithin, from_step, CellWithin}
 use Rattle.krb_keytab.specs.Questions.{size, end_place}
-use Rattle.krb_keytab.specs.Known.{EndsKnown}
+use Rattle.krb_keytab.specs.Image.{EndsKnown}
 use Rattle.krb_keytab.proofs.CellLemmas.{contents_spelled, cell_again, sound_size}
 use Rattle.krb_keytab.proofs.Steps.{step_is, within_is}
 use Rattle.krb_keytab.proofs.Cuts.{cell_len}
@@ -155,6 +155,13 @@ pub free_step : (f : KtFormat) (image t rest : List ℕ) (at n : ℕ) (e : Cells
 free_step f image t rest at n e o fits le known ne is_o is_t read big =
     let s = stands_before f image at e (IsBytes-drop at image fits) known ne in
     told_step f image at (step.Free (2 ^ 32 - n)) fits le (tells_free f (drop at image) s n rest (read_there f image t at o (Some (n, rest)) is_o is_t read) big)
+
+-- what is left after that number
+pub number_rest : (f : KtFormat) (image t rest : List ℕ) (at n : ℕ) (e : CellsEnd) (o : Order) → IsBytes image → EndsKnown f image at e → at ≢ e.place → o ≡ order_of f → t ≡ drop at image → number_at o w32 t ≡ Some (n, rest) → rest ≡ drop 4 (drop at image)
+number_rest f image t rest at n e o fits known ne is_o is_t read =
+    let s = stands_before f image at e (IsBytes-drop at image fits) known ne in
+    let same = some_is (n, rest) (length_field s.cell, drop 4 (drop at image)) (sym (read_there f image t at o (Some (n, rest)) is_o is_t read) ∙ s.told.number) in
+    ap (λ (x : ℕ × List ℕ). x.1) same
 
 -- there is a number at a place before the end
 pub some_there : (f : KtFormat) (image t : List ℕ) (at : ℕ) (e : CellsEnd) (o : Order) → IsBytes image → EndsKnown f image at e → at ≢ e.place → o ≡ order_of f → t ≡ drop at image → number_at o w32 t ≡ None → ⊥

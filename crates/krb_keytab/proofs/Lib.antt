@@ -4,6 +4,7 @@ pub mod CellLemmas
 pub mod Steps
 pub mod Cuts
 pub mod KnownLemmas
+pub mod CellsFromLemmas
 pub mod Stores
 pub mod Listed
 pub mod Replaced
@@ -12,6 +13,7 @@ pub mod Appended
 pub mod Additions
 pub mod Removals
 pub mod StoreChanges
+pub mod HasNameLemmas
 pub mod LookUpLemmas
 pub mod WrittenLemmas
 pub mod FoundAgain

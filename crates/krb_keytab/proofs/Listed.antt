@@ -1,29 +1,24 @@
 -- Entries that are listed from cell to cell are those of the records.
-use Rattle.std.proofs.Common.{◌≡◌, ◌∷◌, ℕ, ◌+◌, [], List, length, map, drop, take, refl, ap, subst, ◌∙◌}
-use Rattle.std.specs.Prelude.{IsSome, option_map}
-use Rattle.std.specs.List.{AllByRecursion, filter_map, cons_option}
+use Rattle.std.proofs.Common.{◌≡◌, ◌∷◌, ℕ, ◌+◌, [], List, length, map, refl, sym, ap, subst, append_assoc, ◌∙◌}
+use Rattle.std.specs.Prelude.{Option, Some, None, Bool, false, ◌++◌, option_map}
+use Rattle.std.proofs.lemmas.List.{append-nil}
+use Rattle.krb_wire.specs.Spelling.{Parts}
+use Rattle.krb_wire.proofs.Fields.{is_some_has}
+use Rattle.std.specs.List.{filter_map, cons_option}
 use Rattle.krb_wire.specs.declared.format.KtFormat.{KtFormat}
-use Rattle.krb_wire.proofs.Fields.{IsBytes, IsBytes-drop}
 use Rattle.krb_walk.specs.Store.{Record, standing, record_of}
-use Rattle.krb_keytab.specs.declared.step.Step.TheVariants as step
 use Rattle.krb_keytab.specs.Entry.{EntryParts, entry_at}
-use Rattle.krb_keytab.specs.Cells.{Cell, Live, Free, Contents, contents, IsCell}
-use Rattle.krb_keytab.specs.Seen.{from_step}
-use Rattle.krb_keytab.specs.Store.{State, placed}
+use Rattle.krb_keytab.specs.Cells.{Cell, Live, Free}
+use Rattle.krb_keytab.specs.Store.{State, store_cell}
+use Rattle.krb_keytab.specs.CellsFrom.{CellsFrom, BeginsWith, cells_of}
+use Rattle.krb_keytab.specs.Looked.{IsFoundAmong, IsLookedUpTo}
 use Rattle.krb_keytab.specs.LookUp.{Placed, placed_entries}
-use Rattle.krb_keytab.specs.Listed.{entries_in}
-use Rattle.krb_keytab.proofs.CellLemmas.{contents_spelled}
-use Rattle.krb_keytab.proofs.Stores.{held, past}
-
--- a live cell of an image is an entry
-pub live_reads : (f : KtFormat) (image : List ℕ) (at n : ℕ) → IsBytes image → contents f (drop at image) ≡ from_step f image at (step.Live n) → IsSome (entry_at f (take n (drop (at + 4) image)))
-live_reads f image at n fits is =
-    let spelled = contents_spelled f (drop at image) (IsBytes-drop at image fits) in
-    (subst (λ (k : Contents). AllByRecursion (IsCell f) k.cells) is spelled.sound.cells).0.2
+use Rattle.krb_keytab.specs.Entries.{entries_in}
+use Rattle.krb_keytab.proofs.Stores.{past}
 
 -- the entries of the records of a store's cells
 abbrev stored : KtFormat → ℕ → List Cell → List Placed
-stored f at cs = filter_map (λ (r : Record). option_map (λ (e : EntryParts). (r.place, e)) (entry_at f r.bytes)) (filter_map record_of (standing at (map placed cs)))
+stored f at cs = filter_map (λ (r : Record). option_map (λ (e : EntryParts). (r.place, e)) (entry_at f r.bytes)) (filter_map record_of (standing at (map store_cell cs)))
 
 listed_stored : (f : KtFormat) (at : ℕ) (cs : List Cell) → entries_in f at cs ≡ stored f at cs
 listed_stored f at [] = refl
@@ -31,7 +26,47 @@ listed_stored f at (Live b ∷ cs) =
     ap (cons_option (option_map (λ (e : EntryParts). (at, e)) (entry_at f b))) (listed_stored f (at + 4 + length b) cs ∙ ap (λ (n : ℕ). stored f n cs) (past at (length b)))
 listed_stored f at (Free b ∷ cs) = listed_stored f (at + 4 + length b) cs ∙ ap (λ (n : ℕ). stored f n cs) (past at (length b))
 
--- those of an image are those of its keytab
-pub entries_held : (f : KtFormat) (limit : ℕ) (image bytes : List ℕ) (k : State) (listed : List Placed) → bytes ≡ image → held f limit image ≡ k → listed ≡ entries_in f 2 (contents f (drop 2 bytes)).cells → listed ≡ placed_entries k
-entries_held f limit image bytes k listed same is said =
-    said ∙ ap (λ (b : List ℕ). entries_in f 2 (contents f (drop 2 b)).cells) same ∙ listed_stored f 2 (contents f (drop 2 image)).cells ∙ ap (λ (x : State). placed_entries x) is
+-- those of the cells of a keytab are its entries
+pub entries_of_cells : (k : State) (cells : CellsFrom) → cells ≡ cells_of k → entries_in cells.format cells.place cells.contents.cells ≡ placed_entries k
+entries_of_cells k cells is = ap (λ (x : CellsFrom). entries_in x.format x.place x.contents.cells) is ∙ listed_stored k.format 2 k.contents.cells
+
+-- ---- looked at one after the other
+
+pub listed_live : (old new : CellsFrom) (at : ℕ) (b : List ℕ) (e : EntryParts) → BeginsWith old at (Live b) new → entry_at old.format b ≡ Some e → entries_in old.format old.place old.contents.cells ≡ (at, e) ∷ entries_in new.format new.place new.contents.cells
+listed_live old new at b e s is =
+    ap (entries_in old.format old.place) s.cells
+    ∙ ap (λ (o : Option EntryParts). cons_option (option_map (λ (x : EntryParts). (old.place, x)) o) (entries_in old.format (old.place + 4 + length b) new.contents.cells)) is
+    ∙ ap (λ (p : ℕ). (p, e) ∷ entries_in old.format (p + 4 + length b) new.contents.cells) (sym s.place)
+    ∙ ap (λ (p : ℕ). (at, e) ∷ entries_in old.format p new.contents.cells) (sym s.next)
+    ∙ ap (λ (f : KtFormat). (at, e) ∷ entries_in f new.place new.contents.cells) (sym s.format)
+
+pub listed_free : (old new : CellsFrom) (at : ℕ) (b : List ℕ) → BeginsWith old at (Free b) new → entries_in old.format old.place old.contents.cells ≡ entries_in new.format new.place new.contents.cells
+listed_free old new at b s =
+    ap (entries_in old.format old.place) s.cells
+    ∙ ap (λ (p : ℕ). entries_in old.format (p + 4 + length b) new.contents.cells) (sym s.place)
+    ∙ ap (λ (p : ℕ). entries_in old.format p new.contents.cells) (sym s.next)
+    ∙ ap (λ (f : KtFormat). entries_in f new.place new.contents.cells) (sym s.format)
+
+pub looked_first : (name : Parts) (kvno enctype : ℕ) (k : State) (cells : CellsFrom) → cells ≡ cells_of k → IsLookedUpTo name kvno enctype k cells false None
+looked_first name kvno enctype k cells is = record { before = []; found = refl; all = entries_of_cells k cells is }
+
+pub looked_free : (name : Parts) (kvno enctype : ℕ) (k : State) (old new : CellsFrom) (at : ℕ) (b : List ℕ) (named : Bool) (best : Option Placed) → BeginsWith old at (Free b) new → IsLookedUpTo name kvno enctype k old named best → IsLookedUpTo name kvno enctype k new named best
+looked_free name kvno enctype k old new at b named best s l = record {
+  before = l.before;
+  found = l.found;
+  all = ap (λ (xs : List Placed). l.before ++ xs) (sym (listed_free old new at b s)) ∙ l.all;
+}
+
+pub looked_live : (name : Parts) (kvno enctype : ℕ) (k : State) (old new : CellsFrom) (at : ℕ) (b : List ℕ) (named named' : Bool) (best best' : Option Placed) → BeginsWith old at (Live b) new → IsLookedUpTo name kvno enctype k old named best
+    → ((xs : List Placed) (e : EntryParts) → entry_at old.format b ≡ Some e → IsFoundAmong name kvno enctype xs named best → IsFoundAmong name kvno enctype (xs ++ (at, e) ∷ []) named' best') → IsLookedUpTo name kvno enctype k new named' best'
+looked_live name kvno enctype k old new at b named named' best best' s l looks =
+    let e = is_some_has (entry_at old.format b) s.sound.2 in
+    record {
+      before = l.before ++ (at, e.0) ∷ [];
+      found = looks l.before e.0 e.1 l.found;
+      all = append_assoc l.before ((at, e.0) ∷ []) (entries_in new.format new.place new.contents.cells) ∙ ap (λ (xs : List Placed). l.before ++ xs) (sym (listed_live old new at b e.0 s e.1)) ∙ l.all;
+    }
+
+pub looked_all : (name : Parts) (kvno enctype : ℕ) (k : State) (cells : CellsFrom) (named : Bool) (best : Option Placed) → cells.contents.cells ≡ [] → IsLookedUpTo name kvno enctype k cells named best → IsFoundAmong name kvno enctype (placed_entries k) named best
+looked_all name kvno enctype k cells named best none l =
+    subst (λ (xs : List Placed). IsFoundAmong name kvno enctype xs named best) (sym (append-nil l.before) ∙ ap (λ (cs : List Cell). l.before ++ entries_in cells.format cells.place cs) (sym none) ∙ l.all) l.found

@@ -160,6 +160,18 @@ pub asked : (n : Parts) (v t : ℕ) (xs : List Placed) (x : Placed) (better : Bo
     → IsFoundAmong n v t (xs ++ x ∷ []) true (cond better (Some x) best)
 asked n v t xs x better best is next = answer_cond better x best ∙ sym next ∙ ap (look_up_in v) (sym (filter-asked n t xs x true is))
 
--- an entry with the enctype is asked for exactly where it has the name
-pub asked_by_name : (n : Parts) (t : ℕ) (x : Placed) (has same : Bool) → has ≡ true → has ≡ (t == 0 || x.1.enctype == t) → same ≡ have_same_name n x.1.principal → same ≡ is_asked n t x
-asked_by_name n t x has same there is e = e ∙ ap (λ (b : Bool). b && have_same_name n x.1.principal) (sym there ∙ is)
+and_false : (b : Bool) → (b && false) ≡ false
+and_false true = refl
+and_false false = refl
+
+and_true : (b : Bool) → (b && true) ≡ b
+and_true true = refl
+and_true false = refl
+
+-- an entry of another name is not asked for
+pub other_name : (n : Parts) (t : ℕ) (x : Placed) → have_same_name n x.1.principal ≡ false → is_asked n t x ≡ false
+other_name n t x e = ap (λ (b : Bool). (t == 0 || x.1.enctype == t) && b) e ∙ and_false (t == 0 || x.1.enctype == t)
+
+-- one with the name is asked for exactly where it has the enctype
+pub asked_by_enctype : (n : Parts) (t : ℕ) (x : Placed) (has : Bool) → have_same_name n x.1.principal ≡ true → has ≡ (t == 0 || x.1.enctype == t) → is_asked n t x ≡ has
+asked_by_enctype n t x has e is = ap (λ (b : Bool). (t == 0 || x.1.enctype == t) && b) e ∙ and_true (t == 0 || x.1.enctype == t) ∙ sym is

@@ -10,9 +10,9 @@ use Rattle.krb_walk.specs.Store.{fault_of, live_bytes as store_bytes, standing, 
 use Rattle.krb_keytab.specs.Entry.{EntryParts, entry_at}
 use Rattle.krb_keytab.specs.Cells.{Cell, Live, Free}
 use Rattle.krb_keytab.specs.Questions.{size, end_place, live_at}
-use Rattle.krb_keytab.specs.Store.{State, placed, store_of}
+use Rattle.krb_keytab.specs.Store.{State, store_cell, store_of}
 use Rattle.krb_keytab.specs.LookUp.{Placed, is_asked, version_asked, found, look_up_in, look_up, finding, placed_entry, placed_entries}
-use Rattle.krb_keytab.specs.Changes.{without, cutting}
+use Rattle.krb_keytab.specs.Changes.{with_hole, cut_result}
 use Rattle.krb_keytab.proofs.CellLemmas.{chosen}
 use Rattle.krb_keytab.proofs.Cuts.{end_place-append, live_behind}
 use Rattle.krb_keytab.proofs.Stores.{past, live_at-store}
@@ -62,7 +62,7 @@ next_place : (front : List Cell) (c : Cell) (p : ℕ) → p ≡ end_place 2 fron
 next_place front c p place = sym (past p (size c)) ∙ ap (λ (n : ℕ). n + 4 + size c) place ∙ sym (end_place-append 2 front (c ∷ []))
 
 -- the entries of the cells from one on
-all_live : (k : State) (front cs : List Cell) (p : ℕ) → k.contents.cells ≡ front ++ cs → p ≡ end_place 2 front → AllByRecursion (IsLiveAt k) (filter_map (placed_entry k) (filter_map record_of (standing p (map placed cs))))
+all_live : (k : State) (front cs : List Cell) (p : ℕ) → k.contents.cells ≡ front ++ cs → p ≡ end_place 2 front → AllByRecursion (IsLiveAt k) (filter_map (placed_entry k) (filter_map record_of (standing p (map store_cell cs))))
 all_live k front [] p parts place = tt
 all_live k front (Live b ∷ cs) p parts place =
     let others = all_live k (front ++ Live b ∷ []) cs (p + (4 + length b)) (parts ∙ sym (append_assoc front (Live b ∷ []) cs)) (next_place front (Live b) p place) in
@@ -80,13 +80,13 @@ found_live k v (y ∷ ys) x all e =
     all_find (IsLiveAt k) (λ z. z.1.version == version_asked v (y ∷ ys)) (y ∷ ys) x all (some_found (find (λ z. z.1.version == version_asked v (y ∷ ys)) (y ∷ ys)) x e)
 
 -- what was found is removed
-pub found_is_cut : (k : State) (n : Parts) (v t : ℕ) (x : Placed) → finding k n v t ≡ Ok x → cutting k x.0 ≡ Ok (without k x.0)
+pub found_is_cut : (k : State) (n : Parts) (v t : ℕ) (x : Placed) → finding k n v t ≡ Ok x → cut_result k x.0 ≡ Ok (with_hole k x.0)
 found_is_cut k n v t x e =
     elim (chosen (is_some (fault_of (store_of k))) (Err Damaged) (look_up k n v t) (Ok x) e) [
       | inl h ↦ absurd (let no = h.1 in cc)
       | inr h ↦
           let all = all_filter (IsLiveAt k) (is_asked n t) (placed_entries k) (all_live k [] k.contents.cells 2 refl refl) in
           let live : is_some (store_bytes (store_of k) x.0) ≡ true = found_live k v (filter (is_asked n t) (placed_entries k)) x all h.1 in
-          ap (λ (b : Bool). cond b (Err Damaged) (cond (is_some (store_bytes (store_of k) x.0)) (Ok (without k x.0)) (Err NotLive))) h.0
-          ∙ ap (λ (b : Bool). cond b (Ok (without k x.0)) (Err NotLive)) live
+          ap (λ (b : Bool). cond b (Err Damaged) (cond (is_some (store_bytes (store_of k) x.0)) (Ok (with_hole k x.0)) (Err NotLive))) h.0
+          ∙ ap (λ (b : Bool). cond b (Ok (with_hole k x.0)) (Err NotLive)) live
     ]

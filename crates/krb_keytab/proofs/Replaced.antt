@@ -12,9 +12,9 @@ use Rattle.krb_wire.specs.Spelling.{order_of}
 use Rattle.krb_wire.proofs.Fields.{IsBytes, IsBytes-drop, some_is}
 use Rattle.krb_keytab.specs.declared.image.CellsEnd.{CellsEnd}
 use Rattle.krb_keytab.specs.Cells.{Cell, Live, Free, End, Contents, cell, end_bytes, spelling, contents, IsCell, IsSound}
-use Rattle.krb_keytab.specs.Seen.{ends}
+use Rattle.krb_keytab.specs.Step.{ends}
 use Rattle.krb_keytab.specs.Questions.{size, end_place, live_bytes, live_at}
-use Rattle.krb_keytab.specs.Known.{IsKnownEnd, IsChanged}
+use Rattle.krb_keytab.specs.Image.{IsKnownEnd, IsChanged}
 use Rattle.krb_keytab.specs.Changes.{PlacedCell, turned_at, is_hole, first_hole}
 use Rattle.krb_keytab.proofs.CellLemmas.{chosen, contents_spelled, contents_again}
 use Rattle.krb_keytab.proofs.Cuts.{cell_len, end_place_is, end_place-append, all_back, far}

@@ -20,11 +20,11 @@ use Rattle.krb_walk.proofs.Lives.{lives}
 use Rattle.krb_keytab.specs.Entry.{EntryParts, entry_at, front, entry_of, Spells, version_by}
 use Rattle.krb_keytab.specs.Cells.{Cell, Live, Free, Bare, Contents, bytes_of, length_field, cell, end_bytes, contents, IsCell, IsSound}
 use Rattle.krb_keytab.specs.Questions.{kind_of, end_place}
-use Rattle.krb_keytab.specs.Store.{State, IsImage, placed, store_of, image_of, entries}
-use Rattle.krb_keytab.specs.Written.{written, fits, IsEntry}
+use Rattle.krb_keytab.specs.Store.{State, IsImage, store_cell, store_of, image_of, entries}
+use Rattle.krb_keytab.specs.Form.{written, fits, IsEntry}
 use Rattle.krb_keytab.specs.Rewrite.{new_record, rewrite_of, rewrite_result}
 use Rattle.krb_keytab.specs.declared.step.Ending.TheVariants as ending
-use Rattle.krb_keytab.specs.Known.{IsKnownEnd}
+use Rattle.krb_keytab.specs.Image.{IsKnownEnd}
 use Rattle.krb_keytab.proofs.CellLemmas.{contents_again}
 use Rattle.krb_keytab.proofs.Turned.{contents_none}
 use Rattle.std.proofs.Math.ListN.{drop_of_length-le}
@@ -42,7 +42,7 @@ entries_of f [] = []
 entries_of f (Free b ∷ cs) = entries_of f cs
 entries_of f (Live b ∷ cs) = cons_option (entry_at f b) (entries_of f cs)
 
-pub entries_is : (f : KtFormat) (at : ℕ) (cs : List Cell) → filter_map (λ r. entry_at f r.bytes) (records_of at (map placed cs)) ≡ entries_of f cs
+pub entries_is : (f : KtFormat) (at : ℕ) (cs : List Cell) → filter_map (λ r. entry_at f r.bytes) (records_of at (map store_cell cs)) ≡ entries_of f cs
 unfolding entries_of
 entries_is f at [] = refl
 entries_is f at (Free b ∷ cs) = entries_is f (at + (4 + length b)) cs
@@ -78,14 +78,14 @@ anews_none f = ap (map new_record) (entries_none f)
 
 -- ---- as many live cells
 
-pub as_many_of : (f : KtFormat) (cs : List Cell) (at to : ℕ) → AllByRecursion (IsCell f) cs → length (lives to (map placed (anews f cs))) ≡ length (lives at (map placed cs))
-as_many_of f [] at to sound = ap (λ (ds : List Cell). length (lives to (map placed ds))) (anews_none f)
-as_many_of f (Free b ∷ cs) at to sound = ap (λ (ds : List Cell). length (lives to (map placed ds))) (anews_free f b cs) ∙ as_many_of f cs (at + (4 + length b)) to sound.1
+pub as_many_of : (f : KtFormat) (cs : List Cell) (at to : ℕ) → AllByRecursion (IsCell f) cs → length (lives to (map store_cell (anews f cs))) ≡ length (lives at (map store_cell cs))
+as_many_of f [] at to sound = ap (λ (ds : List Cell). length (lives to (map store_cell ds))) (anews_none f)
+as_many_of f (Free b ∷ cs) at to sound = ap (λ (ds : List Cell). length (lives to (map store_cell ds))) (anews_free f b cs) ∙ as_many_of f cs (at + (4 + length b)) to sound.1
 as_many_of f (Live b ∷ cs) at to sound =
     let e = is_some_has (entry_at f b) sound.0.2 in
-    ap (λ (ds : List Cell). length (lives to (map placed ds))) (anews_live f b e.0 cs e.1) ∙ ap suc (as_many_of f cs (at + (4 + length b)) (to + (4 + length (written V2 e.0))) sound.1)
+    ap (λ (ds : List Cell). length (lives to (map store_cell ds))) (anews_live f b e.0 cs e.1) ∙ ap suc (as_many_of f cs (at + (4 + length b)) (to + (4 + length (written V2 e.0))) sound.1)
 
-all_live_of : (es : List EntryParts) → AllByRecursion (λ (c : StoreCell). is_some c.live ≡ true) (map placed (map new_record es))
+all_live_of : (es : List EntryParts) → AllByRecursion (λ (c : StoreCell). is_some c.live ≡ true) (map store_cell (map new_record es))
 all_live_of [] = tt
 all_live_of (e ∷ es) = (refl, all_live_of es)
 
@@ -220,7 +220,7 @@ rewrites_store k was sound whole = record {
   fault = refl;
   sound = store_sound V2 (rewrite_of k).contents.cells sound.cells;
   all_live = all_live_of (entries k);
-  as_many = ap (λ (es : List EntryParts). length (lives 2 (map placed (map new_record es)))) (entries_all k) ∙ as_many_of k.format k.contents.cells 2 2 was.cells;
+  as_many = ap (λ (es : List EntryParts). length (lives 2 (map store_cell (map new_record es)))) (entries_all k) ∙ as_many_of k.format k.contents.cells 2 2 was.cells;
 }
 
 pub rewriting_done : (k : State) (n : ℕ) → is_some (fault_of (store_of k)) ≡ false → n ≡ length (image_of (rewrite_of k)) → n ≤ k.limit → rewrite_result k ≡ Ok (rewrite_of k)

@@ -1,17 +1,15 @@
 -- What stands at a place, and what the questions make of it.
-use Rattle.std.proofs.Common.{◌≡◌, ℕ, ◌+◌, ◌≤◌, true, List, [], ◌∷◌, length, drop, refl, ap, ◌∙◌, arith}
-use Rattle.std.proofs.lemmas.Bool.{eq-eqb}
+use Rattle.std.proofs.Common.{◌≡◌, ℕ, ◌+◌, ◌≤◌, List, length, drop, refl, ap, ◌∙◌, arith}
 use Rattle.std.proofs.lemmas.List.{length-take, length-drop, drop-drop}
 use Rattle.krb_wire.specs.declared.format.KtFormat.{KtFormat}
 use Rattle.krb_wire.proofs.Fields.{IsBytes, IsBytes-drop}
 use Rattle.krb_keytab.specs.declared.step.Step.{Step}
 use Rattle.krb_keytab.specs.declared.step.Step.TheVariants as step
-use Rattle.krb_keytab.specs.Cells.{Cell, next, contents, on_next}
-use Rattle.krb_keytab.specs.Seen.{seen, EndsWithin, from_step, CellWithin}
-use Rattle.krb_keytab.specs.Questions.{is_place}
+use Rattle.krb_keytab.specs.Cells.{next, contents, on_next}
+use Rattle.krb_keytab.specs.Step.{seen, EndsWithin, from_step, CellWithin}
 use Rattle.krb_keytab.proofs.CellLemmas.{contents_next}
 
-past4 : (image : List ℕ) (at : ℕ) → drop 4 (drop at image) ≡ drop (at + 4) image
+pub past4 : (image : List ℕ) (at : ℕ) → drop 4 (drop at image) ≡ drop (at + 4) image
 past4 image at = drop-drop 4 at image
 
 past_cell : (image : List ℕ) (at n : ℕ) → drop n (drop 4 (drop at image)) ≡ drop (at + 4 + n) image
@@ -29,8 +27,3 @@ pub within_is : (image : List ℕ) (at : ℕ) (s : Step) → at ≤ length image
 within_is image at (step.Live n) le h = (h.0, omega (arith, length-drop at image), omega (arith, length-drop at image, length-take n (drop (at + 4) image), length-drop (at + 4) image))
 within_is image at (step.Free n) le h = (h.0, omega (arith, length-drop at image), omega (arith, length-drop at image, length-take n (drop (at + 4) image), length-drop (at + 4) image))
 within_is image at (step.End e) le h = tt
-
--- a cell or the end stands where one begins
-pub is_place_here : (at p : ℕ) (cs : List Cell) → p ≡ at → is_place at cs p ≡ true
-is_place_here at p [] e = eq-eqb p at e
-is_place_here at p (c ∷ cs) e = rw (eq-eqb p at e) refl

@@ -1,5 +1,5 @@
 -- The questions asked cell by cell are those that are asked of the store.
-use Rattle.std.proofs.Common.{◌≡◌, ℕ, ◌+◌, ◌<◌, ◌≤◌, Bool, true, false, eqb, ltb, List, [], ◌∷◌, length, map, drop, Option, Some, None, refl, sym, ap, ◌∙◌, arith, inl, inr}
+use Rattle.std.proofs.Common.{◌≡◌, ℕ, ◌+◌, ◌<◌, ◌≤◌, Bool, true, false, eqb, ltb, List, [], ◌∷◌, length, map, drop, Option, Some, None, refl, sym, ap, subst, ◌∙◌, arith, inl, inr}
 use Rattle.std.specs.Prelude.{◌==◌, ◌&&◌, ◌||◌, nat_le, IsSome, IfNone}
 use Rattle.std.specs.List.{AllByRecursion}
 use Rattle.std.proofs.lemmas.Bool.{lt-ltb, le-ltb, lt-leb, eq-eqb, ne_eqb}
@@ -17,20 +17,21 @@ use Rattle.krb_keytab.specs.declared.step.Ending.{Ending}
 use Rattle.krb_keytab.specs.declared.step.Ending.TheVariants as ending
 use Rattle.krb_keytab.specs.Entry.{entry_at}
 use Rattle.krb_keytab.specs.Cells.{Cell, Live, Free, End, Contents, contents, IsCell, IsSound}
-use Rattle.krb_keytab.specs.Seen.{ends, ending_kind, ending_fault}
-use Rattle.krb_keytab.specs.Known.{IsKnownEnd}
+use Rattle.krb_keytab.specs.Step.{ends, ending_kind, ending_fault}
+use Rattle.krb_keytab.specs.Image.{IsKnownEnd}
+use Rattle.krb_keytab.specs.CellsFrom.{CellsFrom, AreKnown, cells_of}
 use Rattle.krb_keytab.specs.Questions.{size, end_place, is_place, kind_of, stop_from, live_bytes, live_at}
-use Rattle.krb_keytab.specs.Store.{State, InMemory, placed, store_of}
+use Rattle.krb_keytab.specs.Store.{State, InMemory, IsImage, store_cell, store_of}
 use Rattle.krb_keytab.proofs.Cuts.{live_entry}
 
 -- four bytes of length and the bytes after it
 pub past : (at n : ℕ) → at + 4 + n ≡ at + (4 + n)
 past at n = omega arith
 
-pub end_place-store : (at : ℕ) (cs : List Cell) → end_place at cs ≡ end_from at (map placed cs)
+pub end_place-store : (at : ℕ) (cs : List Cell) → end_place at cs ≡ end_from at (map store_cell cs)
 end_place-store at [] = refl
-end_place-store at (Live b ∷ cs) = end_place-store (at + 4 + length b) cs ∙ ap (λ (n : ℕ). end_from n (map placed cs)) (past at (length b))
-end_place-store at (Free b ∷ cs) = end_place-store (at + 4 + length b) cs ∙ ap (λ (n : ℕ). end_from n (map placed cs)) (past at (length b))
+end_place-store at (Live b ∷ cs) = end_place-store (at + 4 + length b) cs ∙ ap (λ (n : ℕ). end_from n (map store_cell cs)) (past at (length b))
+end_place-store at (Free b ∷ cs) = end_place-store (at + 4 + length b) cs ∙ ap (λ (n : ℕ). end_from n (map store_cell cs)) (past at (length b))
 
 eqb-sym : (a b : ℕ) → eqb a b ≡ eqb b a
 eqb-sym a b = elim (eqb_tells a b) [
@@ -38,18 +39,18 @@ eqb-sym a b = elim (eqb_tells a b) [
   | inr n ↦ rw (n.0) (sym (ne_eqb b a (λ e. n.1 (sym e))))
 ]
 
-place_cons : (at p : ℕ) (c : Cell) (cs : List Cell) → is_place (at + 4 + size c) cs p ≡ is_place_from (at + (4 + size c)) (map placed cs) p → is_place at (c ∷ cs) p ≡ ((at == p) || is_place_from (at + (4 + size c)) (map placed cs) p)
+place_cons : (at p : ℕ) (c : Cell) (cs : List Cell) → is_place (at + 4 + size c) cs p ≡ is_place_from (at + (4 + size c)) (map store_cell cs) p → is_place at (c ∷ cs) p ≡ ((at == p) || is_place_from (at + (4 + size c)) (map store_cell cs) p)
 place_cons at p c cs ih = elim (eqb_tells p at) [
   | inl y ↦ let yes = y.0 in let back : (at == p) ≡ true = eq-eqb at p (sym y.1) in rw (yes, back) refl
   | inr n ↦ let no = n.0 in let back : (at == p) ≡ false = ne_eqb at p (λ e. n.1 (sym e)) in rw (no, back) ih
 ]
 
-pub is_place-store : (at p : ℕ) (cs : List Cell) → is_place at cs p ≡ is_place_from at (map placed cs) p
+pub is_place-store : (at p : ℕ) (cs : List Cell) → is_place at cs p ≡ is_place_from at (map store_cell cs) p
 is_place-store at p [] = eqb-sym p at
-is_place-store at p (Live b ∷ cs) = place_cons at p (Live b) cs (is_place-store (at + 4 + length b) p cs ∙ ap (λ (n : ℕ). is_place_from n (map placed cs) p) (past at (length b)))
-is_place-store at p (Free b ∷ cs) = place_cons at p (Free b) cs (is_place-store (at + 4 + length b) p cs ∙ ap (λ (n : ℕ). is_place_from n (map placed cs) p) (past at (length b)))
+is_place-store at p (Live b ∷ cs) = place_cons at p (Live b) cs (is_place-store (at + 4 + length b) p cs ∙ ap (λ (n : ℕ). is_place_from n (map store_cell cs) p) (past at (length b)))
+is_place-store at p (Free b ∷ cs) = place_cons at p (Free b) cs (is_place-store (at + 4 + length b) p cs ∙ ap (λ (n : ℕ). is_place_from n (map store_cell cs) p) (past at (length b)))
 
-live_cons : (at p : ℕ) (c : Cell) (cs : List Cell) → live_at (at + 4 + size c) cs p ≡ bytes_from (at + (placed c).width) (map placed cs) p → live_bytes c ≡ (placed c).live → live_at at (c ∷ cs) p ≡ bytes_from at (placed c ∷ map placed cs) p
+live_cons : (at p : ℕ) (c : Cell) (cs : List Cell) → live_at (at + 4 + size c) cs p ≡ bytes_from (at + (store_cell c).width) (map store_cell cs) p → live_bytes c ≡ (store_cell c).live → live_at at (c ∷ cs) p ≡ bytes_from at (store_cell c ∷ map store_cell cs) p
 live_cons at p (Live b) cs ih same = elim (eqb_tells p at) [
   | inl y ↦ let yes = y.0 in let back : (at == p) ≡ true = eq-eqb at p (sym y.1) in rw (yes, back) refl
   | inr n ↦ let no = n.0 in let back : (at == p) ≡ false = ne_eqb at p (λ e. n.1 (sym e)) in rw (no, back) ih
@@ -59,10 +60,10 @@ live_cons at p (Free b) cs ih same = elim (eqb_tells p at) [
   | inr n ↦ let no = n.0 in let back : (at == p) ≡ false = ne_eqb at p (λ e. n.1 (sym e)) in rw (no, back) ih
 ]
 
-pub live_at-store : (at p : ℕ) (cs : List Cell) → live_at at cs p ≡ bytes_from at (map placed cs) p
+pub live_at-store : (at p : ℕ) (cs : List Cell) → live_at at cs p ≡ bytes_from at (map store_cell cs) p
 live_at-store at p [] = refl
-live_at-store at p (Live b ∷ cs) = live_cons at p (Live b) cs (live_at-store (at + 4 + length b) p cs ∙ ap (λ (n : ℕ). bytes_from n (map placed cs) p) (past at (length b))) refl
-live_at-store at p (Free b ∷ cs) = live_cons at p (Free b) cs (live_at-store (at + 4 + length b) p cs ∙ ap (λ (n : ℕ). bytes_from n (map placed cs) p) (past at (length b))) refl
+live_at-store at p (Live b ∷ cs) = live_cons at p (Live b) cs (live_at-store (at + 4 + length b) p cs ∙ ap (λ (n : ℕ). bytes_from n (map store_cell cs) p) (past at (length b))) refl
+live_at-store at p (Free b ∷ cs) = live_cons at p (Free b) cs (live_at-store (at + 4 + length b) p cs ∙ ap (λ (n : ℕ). bytes_from n (map store_cell cs) p) (past at (length b))) refl
 
 -- where a walk stops that finds a record, or none, before an end
 abbrev pub stop_by : ℕ → Option FaultKind → Option Record → Stop
@@ -86,23 +87,23 @@ stop_past at p w b cs kind lt =
 stop_here : (at p w : ℕ) (b : List ℕ) (cs : List StoreCell) (kind : Option FaultKind) → p ≤ at → stop.Live at (at + w) ≡ store_stop at (record { width = w; live = Some b } ∷ cs) kind p
 stop_here at p w b cs kind le = sym (ap (stop_by (end_from (at + w) cs) kind) (next_stops at p w b cs le))
 
-stop_cons : (at p : ℕ) (b : List ℕ) (cs : List Cell) (e : End) → stop_from (at + 4 + length b) cs e p ≡ store_stop (at + (4 + length b)) (map placed cs) (kind_of e) p → stop_from at (Live b ∷ cs) e p ≡ store_stop at (map placed (Live b ∷ cs)) (kind_of e) p
+stop_cons : (at p : ℕ) (b : List ℕ) (cs : List Cell) (e : End) → stop_from (at + 4 + length b) cs e p ≡ store_stop (at + (4 + length b)) (map store_cell cs) (kind_of e) p → stop_from at (Live b ∷ cs) e p ≡ store_stop at (map store_cell (Live b ∷ cs)) (kind_of e) p
 stop_cons at p b cs e ih = elim (leb_tells p at) [
   | inl y ↦
       let here : ltb at p ≡ false = le-ltb at p y.1 in
-      rw here (ap (λ (n : ℕ). stop.Live at n) (past at (length b)) ∙ stop_here at p (4 + length b) b (map placed cs) (kind_of e) y.1)
+      rw here (ap (λ (n : ℕ). stop.Live at n) (past at (length b)) ∙ stop_here at p (4 + length b) b (map store_cell cs) (kind_of e) y.1)
   | inr n ↦
       let before : ltb at p ≡ true = lt-ltb at p n.1 in
-      rw before (ih ∙ stop_past at p (4 + length b) b (map placed cs) (kind_of e) n.1)
+      rw before (ih ∙ stop_past at p (4 + length b) b (map store_cell cs) (kind_of e) n.1)
 ]
 
-pub stop_from-store : (at p : ℕ) (cs : List Cell) (e : End) → stop_from at cs e p ≡ store_stop at (map placed cs) (kind_of e) p
+pub stop_from-store : (at p : ℕ) (cs : List Cell) (e : End) → stop_from at cs e p ≡ store_stop at (map store_cell cs) (kind_of e) p
 stop_from-store at p [] e = refl
-stop_from-store at p (Live b ∷ cs) e = stop_cons at p b cs e (stop_from-store (at + 4 + length b) p cs e ∙ ap (λ (n : ℕ). store_stop n (map placed cs) (kind_of e) p) (past at (length b)))
-stop_from-store at p (Free b ∷ cs) e = stop_from-store (at + 4 + length b) p cs e ∙ ap (λ (n : ℕ). store_stop n (map placed cs) (kind_of e) p) (past at (length b)) ∙ stop_free at p (4 + length b) (map placed cs) (kind_of e)
+stop_from-store at p (Live b ∷ cs) e = stop_cons at p b cs e (stop_from-store (at + 4 + length b) p cs e ∙ ap (λ (n : ℕ). store_stop n (map store_cell cs) (kind_of e) p) (past at (length b)))
+stop_from-store at p (Free b ∷ cs) e = stop_from-store (at + 4 + length b) p cs e ∙ ap (λ (n : ℕ). store_stop n (map store_cell cs) (kind_of e) p) (past at (length b)) ∙ stop_free at p (4 + length b) (map store_cell cs) (kind_of e)
 
 -- each cell takes up places
-pub store_sound : (f : KtFormat) (cs : List Cell) → AllByRecursion (IsCell f) cs → AllByRecursion (λ (c : StoreCell). 0 < c.width) (map placed cs)
+pub store_sound : (f : KtFormat) (cs : List Cell) → AllByRecursion (IsCell f) cs → AllByRecursion (λ (c : StoreCell). 0 < c.width) (map store_cell cs)
 store_sound f [] sound = tt
 store_sound f (Live b ∷ cs) sound = (omega arith, store_sound f cs sound.1)
 store_sound f (Free b ∷ cs) sound = (omega arith, store_sound f cs sound.1)
@@ -139,13 +140,30 @@ pub place_held : (f : KtFormat) (limit : ℕ) (image bytes : List ℕ) (k : Stat
 place_held f limit image bytes k p same is h =
     is_place_held f limit image bytes k p (is_place 2 (contents f (drop 2 bytes)).cells p) same is refl ∙ h
 
-pub stop_held : (f : KtFormat) (limit : ℕ) (image bytes : List ℕ) (k : State) (p : ℕ) (answer : Stop) → bytes ≡ image → held f limit image ≡ k → answer ≡ stop_from 2 (contents f (drop 2 bytes)).cells (contents f (drop 2 bytes)).end p → answer ≡ stop_at (store_of k) p
-stop_held f limit image bytes k p answer same is said =
-    said ∙ ap (λ (b : List ℕ). stop_from 2 (contents f (drop 2 b)).cells (contents f (drop 2 b)).end p) same ∙ stop_from-store 2 p (contents f (drop 2 image)).cells (contents f (drop 2 image)).end ∙ ap (λ (x : State). stop_at (store_of x) p) is
-
 pub live_held : (f : KtFormat) (limit : ℕ) (image bytes : List ℕ) (k : State) (p : ℕ) → bytes ≡ image → held f limit image ≡ k → live_at 2 (contents f (drop 2 bytes)).cells p ≡ store_bytes (store_of k) p
 live_held f limit image bytes k p same is =
     ap (λ (b : List ℕ). live_at 2 (contents f (drop 2 b)).cells p) same ∙ live_at-store 2 p (contents f (drop 2 image)).cells ∙ ap (λ (x : State). store_bytes (store_of x) p) is
+
+-- ---- the cells of a keytab
+
+pub known_held : (f : KtFormat) (limit : ℕ) (image bytes : List ℕ) (e : CellsEnd) → bytes ≡ image → IsImage f limit image → IsKnownEnd f image e → AreKnown f bytes 2 e
+known_held f limit image bytes e same is known =
+    let long = is.long in
+    let within = is.within in
+    let fits = is.limit_fits in
+    subst (λ (b : List ℕ). AreKnown f b 2 e) (sym same) (record { within = long; small = omega (arith, within, fits); ends = known })
+
+pub cells_held : (f : KtFormat) (limit : ℕ) (image bytes : List ℕ) (k : State) → bytes ≡ image → held f limit image ≡ k → ◌≡◌ {A = CellsFrom} (record { format = f; place = 2; contents = contents f (drop 2 bytes) }) (cells_of k)
+cells_held f limit image bytes k same is = ap (λ (b : List ℕ). cells_of (held f limit b)) same ∙ ap (λ (x : State). cells_of x) is
+
+pub place_of_cells : (k : State) (cells : CellsFrom) (p : ℕ) → cells ≡ cells_of k → is_place cells.place cells.contents.cells p ≡ is_store_place (store_of k) p
+place_of_cells k cells p is = ap (λ (x : CellsFrom). is_place x.place x.contents.cells p) is ∙ is_place-store 2 p k.contents.cells
+
+pub stop_of_cells : (k : State) (cells : CellsFrom) (p : ℕ) → cells ≡ cells_of k → stop_from cells.place cells.contents.cells cells.contents.end p ≡ stop_at (store_of k) p
+stop_of_cells k cells p is = ap (λ (x : CellsFrom). stop_from x.place x.contents.cells x.contents.end p) is ∙ stop_from-store 2 p k.contents.cells k.contents.end
+
+pub live_of_cells : (k : State) (cells : CellsFrom) (p : ℕ) → cells ≡ cells_of k → live_at cells.place cells.contents.cells p ≡ store_bytes (store_of k) p
+live_of_cells k cells p is = ap (λ (x : CellsFrom). live_at x.place x.contents.cells p) is ∙ live_at-store 2 p k.contents.cells
 
 -- the bytes of a record begin with an entry
 pub entry_held : (k : State) (p : ℕ) (b : List ℕ) → IsSound k.format k.contents → store_bytes (store_of k) p ≡ Some b → IsSome (entry_at k.format b)

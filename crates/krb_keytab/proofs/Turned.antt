@@ -11,10 +11,10 @@ use Rattle.krb_keytab.specs.declared.image.CellsEnd.{CellsEnd}
 use Rattle.krb_keytab.specs.declared.hole.Hole.{Hole}
 use Rattle.krb_keytab.specs.Cells.{Cell, Live, Free, Bare, cell, next, walk, contents, IsCell}
 use Rattle.krb_keytab.specs.Questions.{size, end_place, live_at}
-use Rattle.krb_keytab.specs.Known.{IsKnownEnd, IsChanged}
-use Rattle.krb_keytab.specs.Changes.{PlacedCell, turned_at, freed, is_hole, first_hole, padded, filled}
-use Rattle.krb_keytab.specs.Holes.{hole_of, hole_from}
-use Rattle.krb_keytab.specs.Written.{IsRecord}
+use Rattle.krb_keytab.specs.Image.{IsKnownEnd, IsChanged}
+use Rattle.krb_keytab.specs.Changes.{PlacedCell, turned_at, zero_hole, is_hole, first_hole, with_zeros, record_in}
+use Rattle.krb_keytab.specs.Hole.{hole_of, hole_from}
+use Rattle.krb_keytab.specs.Form.{IsRecord}
 use Rattle.krb_keytab.proofs.CellLemmas.{contents_spelled, sound_size}
 use Rattle.krb_keytab.proofs.Cuts.{end_place-append, all_back, far}
 use Rattle.krb_keytab.proofs.Replaced.{StandsAt, live_stands, hole_stands, turned, IsReplaced, replaced}
@@ -55,11 +55,11 @@ live_in f image p b end fits known live = stands_in f image p (Live b) end fits 
 pub freed_is : (f : KtFormat) (image image' b : List ℕ) (p n : ℕ) (end : CellsEnd) → 2 ≤ length image → 0 < n → n ≤ 2 ^ 31 → IsBytes image → IsBytes image' → IsKnownEnd f image end
     → Some b ≡ live_at 2 (contents f (drop 2 image)).cells p → n ≡ length b
     → image' ≡ splice image p (p + 4 + n) (cell (order_of f) (Free (replicate {A = ℕ} n 0)))
-    → IsChanged f image image' (record { cells = turned_at 2 freed p (contents f (drop 2 image)).cells; end = (contents f (drop 2 image)).end }) end
+    → IsChanged f image image' (record { cells = turned_at 2 zero_hole p (contents f (drop 2 image)).cells; end = (contents f (drop 2 image)).end }) end
 freed_is f image image' b p n end long some small fits fits' known live len written =
     let k = contents f (drop 2 image) in
     let s = live_stands k.cells 2 p b (sym live) in
-    let new = freed (Live b) in
+    let new = zero_hole (Live b) in
     let zeros : length (replicate {A = ℕ} (length b) 0) ≡ length b = length-replicate (length b) 0 in
     let before : k ≡ record { cells = s.front ++ (Live b ∷ s.back); end = k.end } = ap (λ (cs : List Cell). record { cells = cs; end = k.end }) s.parts in
     let r : IsReplaced f image s.front s.back (Live b) new k.end p = record { long = long; before = before; place = s.place; same_size = zeros; sound = (omega arith, omega arith) } in
@@ -67,7 +67,7 @@ freed_is f image image' b p n end long some small fits fits' known live len writ
     let done = replaced f image image' s.front s.back (Live b) new k.end p end r fits fits' known same in
     record {
       head = done.head;
-      contents = done.contents ∙ ap (λ (cs : List Cell). record { cells = cs; end = k.end }) (sym (turned freed k.cells p (Live b) s));
+      contents = done.contents ∙ ap (λ (cs : List Cell). record { cells = cs; end = k.end }) (sym (turned zero_hole k.cells p (Live b) s));
       known = done.known;
     }
 
@@ -107,35 +107,35 @@ hole_by f image n h end (Some x) fits known is e =
 pub hole_in : (f : KtFormat) (image : List ℕ) (n : ℕ) (h : Hole) (end : CellsEnd) → IsBytes image → IsKnownEnd f image end → hole_from 2 n (contents f (drop 2 image)).cells ≡ Some h → HoleIn f image n h
 hole_in f image n h end fits known e = hole_by f image n h end (first_hole 2 n (contents f (drop 2 image)).cells) fits known refl e
 
-pub padded_len : (x : List ℕ) (n : ℕ) → length x ≤ n → length (padded x n) ≡ n
+pub padded_len : (x : List ℕ) (n : ℕ) → length x ≤ n → length (with_zeros x n) ≡ n
 padded_len x n le = omega (arith, length-append x (replicate {A = ℕ} (n - length x) 0), length-replicate {A = ℕ} (n - length x) 0)
 
 -- a record of just that length has no zeros
-pub padded_self : (x : List ℕ) → padded x (length x) ≡ x
+pub padded_self : (x : List ℕ) → with_zeros x (length x) ≡ x
 padded_self x = let none : length x - length x ≡ 0 = omega arith in ap (λ (m : ℕ). x ++ replicate {A = ℕ} m 0) none ∙ append-nil x
 
 -- a record takes the hole
 pub filled_is : (f : KtFormat) (image image' x : List ℕ) (h : Hole) (end : CellsEnd) → 2 ≤ length image → length image ≤ 2 ^ 30 → IsBytes image → IsBytes image' → IsKnownEnd f image end → IsRecord f x
     → hole_from 2 (length x) (contents f (drop 2 image)).cells ≡ Some h
-    → image' ≡ splice image h.place (h.place + 4 + h.size) (cell (order_of f) (Live (padded x h.size)))
-    → IsChanged f image image' (record { cells = turned_at 2 (filled x) h.place (contents f (drop 2 image)).cells; end = (contents f (drop 2 image)).end }) end
+    → image' ≡ splice image h.place (h.place + 4 + h.size) (cell (order_of f) (Live (with_zeros x h.size)))
+    → IsChanged f image image' (record { cells = turned_at 2 (record_in x) h.place (contents f (drop 2 image)).cells; end = (contents f (drop 2 image)).end }) end
 filled_is f image image' x h end long small fits fits' known entry hole written =
     let k = contents f (drop 2 image) in
     let i = hole_in f image (length x) h end fits known hole in
     let s = i.stands in
     let old = i.cell in
-    let new = filled x old in
+    let new = record_in x old in
     let is_size = i.size_is in
     let large = i.large in
     let some = i.some in
     let room = i.room in
-    let len : length (padded x (size old)) ≡ size old = padded_len x (size old) (omega arith) in
+    let len : length (with_zeros x (size old)) ≡ size old = padded_len x (size old) (omega arith) in
     let before : k ≡ record { cells = s.front ++ (old ∷ s.back); end = k.end } = ap (λ (cs : List Cell). record { cells = cs; end = k.end }) s.parts in
     let r : IsReplaced f image s.front s.back old new k.end h.place = record { long = long; before = before; place = s.place; same_size = len; sound = (omega arith, omega arith, entry (size old - length x)) } in
-    let same : image' ≡ splice image h.place (h.place + 4 + size old) (cell (order_of f) new) = written ∙ ap (λ (m : ℕ). splice image h.place (h.place + 4 + m) (cell (order_of f) (Live (padded x m)))) (sym is_size) in
+    let same : image' ≡ splice image h.place (h.place + 4 + size old) (cell (order_of f) new) = written ∙ ap (λ (m : ℕ). splice image h.place (h.place + 4 + m) (cell (order_of f) (Live (with_zeros x m)))) (sym is_size) in
     let done = replaced f image image' s.front s.back old new k.end h.place end r fits fits' known same in
     record {
       head = done.head;
-      contents = done.contents ∙ ap (λ (cs : List Cell). record { cells = cs; end = k.end }) (sym (turned (filled x) k.cells h.place old s));
+      contents = done.contents ∙ ap (λ (cs : List Cell). record { cells = cs; end = k.end }) (sym (turned (record_in x) k.cells h.place old s));
       known = done.known;
     }

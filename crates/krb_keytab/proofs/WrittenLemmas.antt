@@ -10,7 +10,7 @@ use Rattle.krb_wire.specs.declared.format.KtFormat.TheVariants.{V1, V2}
 use Rattle.krb_wire.specs.Spelling.{digits, data16, order_of, kt_principal, IsShort, is_short, name_fits, HasNameType}
 use Rattle.krb_wire.proofs.Fields.{some_is, wide16, wide32, number_again}
 use Rattle.krb_keytab.specs.Entry.{EntryParts, front, version_by, Spells}
-use Rattle.krb_keytab.specs.Written.{fits, front_of, written, kept_type, read_back, IsEntry, IsRecord}
+use Rattle.krb_keytab.specs.Form.{fits, front_of, written, kept_type, read_back, IsEntry, IsRecord}
 use Rattle.krb_keytab.proofs.EntryLemmas.{entry_again}
 use Rattle.krb_wire.proofs.NamesTold.{and_both, both_and}
 use Rattle.krb_keytab.proofs.Splices.{Wrote, wrote-then}

@@ -29,8 +29,8 @@ pub record Tells (image : List ℕ) (p n : ℕ) : Type 0 where
   pub bytes : take 4 (drop p image) ≡ digits Big w32 n
 
 -- at each place before the end they tell where it is carried
-abbrev pub AreGiven : List ℕ → ℕ → List Cell → List Cell → Type 0
-AreGiven image end cs ds = (p : ℕ) → is_place 2 cs p ≡ true → p < end → Tells image p (new_place 2 cs 2 ds p)
+abbrev pub AreGiven : List ℕ → ℕ → List Cell → ℕ → List Cell → Type 0
+AreGiven image end cs to ds = (p : ℕ) → is_place 2 cs p ≡ true → p < end → Tells image p (new_place 2 cs to ds p)
 
 -- four bytes stand at a place that is not the end
 abbrev pub HasGiven : List ℕ → ℕ → ℕ → Type 0

@@ -65,9 +65,9 @@ image f k = 5 ∷ version_byte f ∷ spelling (order_of f) k
 -- ---- reading
 
 -- one cell more and the bytes after it, or an end
-pub data Next : Type 0 where
-  More : Cell → List ℕ → Next
-  Stop : End → Next
+pub data NextCell : Type 0 where
+  More : Cell → List ℕ → NextCell
+  NoMore : End → NextCell
 
 -- what ends the cells where no length stands
 abbrev pub short_end : List ℕ → End
@@ -75,28 +75,28 @@ short_end [] = Bare
 short_end (b ∷ bs) = Damaged CutLength (b ∷ bs)
 
 -- what stands there by its length: 0 is the end mark, below 2 ^ 31 a record of that many bytes, above a hole
-abbrev pub sized : KtFormat → List ℕ → ℕ → List ℕ → Next
+abbrev pub sized : KtFormat → List ℕ → ℕ → List ℕ → NextCell
 sized f bytes n rest =
-    if n == 0 then Stop (Mark rest)
+    if n == 0 then NoMore (Mark rest)
     else (if nat_lt n (2 ^ 31)
-    then (if nat_lt (length rest) n then Stop (Damaged Overrun bytes)
-    else (if is_some (entry_at f (take n rest)) then More (Live (take n rest)) (drop n rest) else Stop (Damaged BadEntry bytes)))
-    else (if nat_lt (length rest) (2 ^ 32 - n) then Stop (Damaged Overrun bytes)
+    then (if nat_lt (length rest) n then NoMore (Damaged Overrun bytes)
+    else (if is_some (entry_at f (take n rest)) then More (Live (take n rest)) (drop n rest) else NoMore (Damaged BadEntry bytes)))
+    else (if nat_lt (length rest) (2 ^ 32 - n) then NoMore (Damaged Overrun bytes)
     else More (Free (take (2 ^ 32 - n) rest)) (drop (2 ^ 32 - n) rest)))
 
 -- what stands there by the number read, if one was
-abbrev pub next_by : KtFormat → List ℕ → Option (ℕ × List ℕ) → Next
-next_by f bytes None = Stop (short_end bytes)
+abbrev pub next_by : KtFormat → List ℕ → Option (ℕ × List ℕ) → NextCell
+next_by f bytes None = NoMore (short_end bytes)
 next_by f bytes (Some n) = sized f bytes n.0 n.1
 
 -- the cell at the front, and the bytes after it
-unfoldable pub next : KtFormat → List ℕ → Next
+unfoldable pub next : KtFormat → List ℕ → NextCell
 next f bytes = next_by f bytes (number_at (order_of f) w32 bytes)
 
 -- the contents, from the first cell and what the others are
-abbrev pub on_next : (List ℕ → Contents) → Next → Contents
+abbrev pub on_next : (List ℕ → Contents) → NextCell → Contents
 on_next others (More c rest) = record { cells = c ∷ (others rest).cells; end = (others rest).end }
-on_next others (Stop e) = record { cells = []; end = e }
+on_next others (NoMore e) = record { cells = []; end = e }
 
 -- at most so many cells
 unfoldable pub walk : KtFormat → ℕ → List ℕ → Contents
@@ -118,7 +118,7 @@ IsCell f (Free b) = (0 < length b) × (length b ≤ 2 ^ 31)
 abbrev pub IsEnd : KtFormat → End → Type 0
 IsEnd f Bare = Unit {0}
 IsEnd f (Mark rest) = Unit {0}
-IsEnd f (Damaged kind rest) = next f rest ≡ Stop (Damaged kind rest)
+IsEnd f (Damaged kind rest) = next f rest ≡ NoMore (Damaged kind rest)
 
 -- the cells and the end are sound
 pub record IsSound (f : KtFormat) (k : Contents) : Type 0 where

@@ -1,4 +1,4 @@
--- Adding an entry to a keytab, and removing one. A keytab is a store for walks: `store_of` is how it is seen, `putting` what an addition gives, and `cutting` what a removal gives.
+-- Adding an entry to a keytab, and removing one. A keytab is a store for walks: `store_of` is how it is seen, `put_result` what an addition gives, and `cut_result` what a removal gives.
 use Rattle.std.specs.Prelude.{ℕ, ◌+◌, ◌-◌, List, [], ◌∷◌, ◌++◌, length, map, find, replicate, Option, Some, None, is_some, Result, Ok, Err, Bool, true, false, ◌||◌, nat_lt, nat_le, ◌==◌, if◌then◌else◌}
 use Rattle.krb_wire.specs.Spelling.{Parts}
 use Rattle.krb_walk.specs.declared.refusal.Code.{Code}
@@ -9,7 +9,7 @@ use Rattle.krb_keytab.specs.Cells.{Cell, Live, Free, End, Bare, Mark, Damaged}
 use Rattle.krb_keytab.specs.Questions.{size}
 use Rattle.krb_keytab.specs.Store.{State, image_of, store_of}
 use Rattle.krb_keytab.specs.LookUp.{Placed, finding}
-use Rattle.krb_keytab.specs.Written.{fits, written}
+use Rattle.krb_keytab.specs.Form.{fits, written}
 
 -- the place of a cell, and the cell
 abbrev pub PlacedCell : Type 0
@@ -27,27 +27,27 @@ turned_at at turn p cells = map (λ x. if x.0 == p then turn x.1 else x.1) (plac
 -- ---- removing
 
 -- a hole of the cell's size, all zeros
-abbrev pub freed : Cell → Cell
-freed c = Free (replicate (size c) 0)
+abbrev pub zero_hole : Cell → Cell
+zero_hole c = Free (replicate (size c) 0)
 
 -- the keytab, where the cell at a place is such a hole and all else is as it was
-abbrev pub without : State → ℕ → State
-without k p = record k { contents = record { cells = turned_at 2 freed p k.contents.cells; end = k.contents.end } }
+abbrev pub with_hole : State → ℕ → State
+with_hole k p = record k { contents = record { cells = turned_at 2 zero_hole p k.contents.cells; end = k.contents.end } }
 
 -- what a removal gives: a damaged keytab refuses it, and so does each number where no record stands
-abbrev pub cutting : State → ℕ → Result State Code
-cutting k p =
+abbrev pub cut_result : State → ℕ → Result State Code
+cut_result k p =
     if is_some (fault_of (store_of k)) then Err code.Damaged
-    else (if is_some (live_bytes (store_of k) p) then Ok (without k p) else Err code.NotLive)
+    else (if is_some (live_bytes (store_of k) p) then Ok (with_hole k p) else Err code.NotLive)
 
 -- the removal of the record that was found: its place, and the keytab without it
-abbrev pub cutting_found : State → Result Placed Code → Result (ℕ × State) Code
-cutting_found k (Ok x) = Ok (x.0, without k x.0)
-cutting_found k (Err refused) = Err refused
+abbrev pub cut_result_of : State → Result Placed Code → Result (ℕ × State) Code
+cut_result_of k (Ok x) = Ok (x.0, with_hole k x.0)
+cut_result_of k (Err refused) = Err refused
 
 -- the removal of the record that a look-up finds
-abbrev pub removing : State → Parts → ℕ → ℕ → Result (ℕ × State) Code
-removing k name kvno enctype = cutting_found k (finding k name kvno enctype)
+abbrev pub remove_result : State → Parts → ℕ → ℕ → Result (ℕ × State) Code
+remove_result k name kvno enctype = cut_result_of k (finding k name kvno enctype)
 
 -- ---- adding
 
@@ -61,16 +61,16 @@ abbrev pub first_hole : ℕ → ℕ → List Cell → Option PlacedCell
 first_hole at n cells = find (λ x. is_hole n x.1) (placed_cells at cells)
 
 -- bytes, and zeros after them up to a size
-abbrev pub padded : List ℕ → ℕ → List ℕ
-padded bytes n = bytes ++ replicate (n - length bytes) 0
+abbrev pub with_zeros : List ℕ → ℕ → List ℕ
+with_zeros bytes n = bytes ++ replicate (n - length bytes) 0
 
 -- a record of the cell's size that begins with these bytes, and is zeros after them
-abbrev pub filled : List ℕ → Cell → Cell
-filled bytes c = Live (padded bytes (size c))
+abbrev pub record_in : List ℕ → Cell → Cell
+record_in bytes c = Live (with_zeros bytes (size c))
 
 -- the keytab, where the cell at a place is such a record and all else is as it was
-abbrev pub with_filled : State → List ℕ → ℕ → State
-with_filled k bytes p = record k { contents = record { cells = turned_at 2 (filled bytes) p k.contents.cells; end = k.contents.end } }
+abbrev pub with_record_in : State → List ℕ → ℕ → State
+with_record_in k bytes p = record k { contents = record { cells = turned_at 2 (record_in bytes) p k.contents.cells; end = k.contents.end } }
 
 -- what ends the cells after one more: after an end mark nothing is left
 abbrev pub end_after : End → End
@@ -83,25 +83,25 @@ abbrev pub with_last : State → List ℕ → State
 with_last k bytes = record k { contents = record { cells = k.contents.cells ++ Live bytes ∷ []; end = end_after k.contents.end } }
 
 -- the addition of bytes after the cells: refused where the image would be longer than the limit
-abbrev pub appending : State → List ℕ → Result (ℕ × State) Code
-appending k bytes =
+abbrev pub append_result : State → List ℕ → Result (ℕ × State) Code
+append_result k bytes =
     if nat_lt k.limit (length (image_of (with_last k bytes))) then Err code.Full
     else Ok (end_of (store_of k), with_last k bytes)
 
 -- the addition of bytes, into a hole where there is one, and else after the cells
-abbrev pub putting_into : State → List ℕ → Option PlacedCell → Result (ℕ × State) Code
-putting_into k bytes (Some hole) = Ok (hole.0, with_filled k bytes hole.0)
-putting_into k bytes None = appending k bytes
+abbrev pub put_result_into : State → List ℕ → Option PlacedCell → Result (ℕ × State) Code
+put_result_into k bytes (Some hole) = Ok (hole.0, with_record_in k bytes hole.0)
+put_result_into k bytes None = append_result k bytes
 
 -- the addition of bytes: the first hole that is large enough takes them
-abbrev pub putting_bytes : State → List ℕ → Result (ℕ × State) Code
-putting_bytes k bytes = putting_into k bytes (first_hole 2 (length bytes) k.contents.cells)
+abbrev pub put_bytes_result : State → List ℕ → Result (ℕ × State) Code
+put_bytes_result k bytes = put_result_into k bytes (first_hole 2 (length bytes) k.contents.cells)
 
 -- what an addition gives, the place of the record and the keytab with it: a damaged keytab refuses it, and then so does an entry with a part that is too long
-abbrev pub putting : State → EntryParts → Result (ℕ × State) Code
-putting k e =
+abbrev pub put_result : State → EntryParts → Result (ℕ × State) Code
+put_result k e =
     if is_some (fault_of (store_of k)) then Err code.Damaged
-    else (if fits k.format e then putting_bytes k (written k.format e) else Err code.TooLong)
+    else (if fits k.format e then put_bytes_result k (written k.format e) else Err code.TooLong)
 
 -- an addition is refused
 abbrev pub is_refused : Result (ℕ × State) Code → Bool
@@ -111,6 +111,6 @@ is_refused (Err refused) = true
 -- an addition takes no memory where it is refused, where a hole takes the entry, and where the image becomes no longer
 abbrev pub takes_none : State → EntryParts → Bool
 takes_none k e =
-    is_refused (putting k e)
+    is_refused (put_result k e)
     || is_some (first_hole 2 (length (written k.format e)) k.contents.cells)
     || nat_le (length (image_of (with_last k (written k.format e)))) (length (image_of k))

@@ -7,7 +7,7 @@ use Rattle.krb_walk.specs.Store.{fault_of}
 use Rattle.krb_keytab.specs.Entry.{EntryParts}
 use Rattle.krb_keytab.specs.Cells.{Cell, Live, Bare}
 use Rattle.krb_keytab.specs.Store.{State, image_of, store_of, entries}
-use Rattle.krb_keytab.specs.Written.{written}
+use Rattle.krb_keytab.specs.Form.{written}
 
 -- a record that is an entry's written form in version 2, and no more
 abbrev pub new_record : EntryParts → Cell

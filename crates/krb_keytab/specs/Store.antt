@@ -35,22 +35,22 @@ format_of o bytes =
     else None
 
 -- the keytab of a format, if its image is not too long
-abbrev pub opening_in : ℕ → List ℕ → Option KtFormat → Result State KtOpenFault
-opening_in limit bytes None = Err BadVersion
-opening_in limit bytes (Some f) = if nat_lt limit (length bytes) then Err TooLarge else Ok (record { format = f; limit = limit; contents = contents f (drop 2 bytes) })
+abbrev pub open_result_in : ℕ → List ℕ → Option KtFormat → Result State KtOpenFault
+open_result_in limit bytes None = Err BadVersion
+open_result_in limit bytes (Some f) = if nat_lt limit (length bytes) then Err TooLarge else Ok (record { format = f; limit = limit; contents = contents f (drop 2 bytes) })
 
 -- what opening an image gives: fewer than two bytes are too short, then the version counts, then the length
 abbrev pub opening : Order → ℕ → List ℕ → Result State KtOpenFault
-opening o limit bytes = if nat_lt (length bytes) 2 then Err TooShort else opening_in limit bytes (format_of o bytes)
+opening o limit bytes = if nat_lt (length bytes) 2 then Err TooShort else open_result_in limit bytes (format_of o bytes)
 
 -- a cell as a store has it: its length takes four places
-abbrev pub placed : Cell → StoreCell
-placed (Live b) = record { width = 4 + length b; live = Some b }
-placed (Free b) = record { width = 4 + length b; live = None }
+abbrev pub store_cell : Cell → StoreCell
+store_cell (Live b) = record { width = 4 + length b; live = Some b }
+store_cell (Free b) = record { width = 4 + length b; live = None }
 
 -- the store that a keytab is: its cells stand after the two version bytes
 abbrev pub store_of : State → Store
-store_of k = record { first = 2; cells = map placed k.contents.cells; fault = kind_of k.contents.end }
+store_of k = record { first = 2; cells = map store_cell k.contents.cells; fault = kind_of k.contents.end }
 
 -- the entries, in order
 abbrev pub entries : State → List EntryParts

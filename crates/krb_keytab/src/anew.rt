@@ -6,15 +6,15 @@ ghost use Rattle.krb_wire.specs.declared.format.Order.TheVariants.{Big};
 ghost use Rattle.krb_wire.specs.declared.format.KtFormat.TheVariants.{V2};
 ghost use Rattle.krb_keytab.specs.Cells.{cell, contents, IsSound};
 ghost use Rattle.krb_keytab.specs.Store.{image_of, entries};
-ghost use Rattle.krb_keytab.specs.Known.{IsKnownEnd};
+ghost use Rattle.krb_keytab.specs.Image.{IsKnownEnd};
 ghost use Rattle.krb_keytab.specs.declared.step.Ending.TheVariants.{Bare};
-ghost use Rattle.krb_keytab.specs.Written.{fits, written};
+ghost use Rattle.krb_keytab.specs.Form.{fits, written};
 ghost use Rattle.krb_keytab.specs.Rewrite.{new_record, rewrite_of};
 
-use crate::cells::{bytes_fit, put_record};
 use crate::entry::{EntryView, read_entry};
 use crate::form::Form;
 use crate::keytab::Keytab;
+use crate::put::{bytes_fit, put_record};
 use krb_walk::Stop;
 use krb_wire::{KtFormat, NoMemory, PrincipalView};
 use std::alloc::Allocator;

@@ -5,12 +5,12 @@ ghost use Rattle.std.specs.List.{splice};
 ghost use Rattle.krb_wire.specs.Spelling.{order_of};
 ghost use Rattle.krb_keytab.specs.Cells.{cell, contents, Live};
 ghost use Rattle.krb_keytab.specs.Questions.{kind_of};
-ghost use Rattle.krb_keytab.specs.Known.{IsKnownEnd, IsChanged, mark_len, len_with};
+ghost use Rattle.krb_keytab.specs.Image.{IsKnownEnd, IsChanged, mark_len, len_with};
 ghost use Rattle.krb_keytab.specs.Changes.{end_after};
 
-use crate::cells::{bytes_fit, put_record, put_zeros};
 use crate::form::Form;
 use crate::image::CellsEnd;
+use crate::put::{bytes_fit, put_record, put_zeros};
 use crate::step::Ending;
 use krb_wire::Name;
 use std::alloc::{AllocError, Allocator};

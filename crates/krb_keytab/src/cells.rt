@@ -1,50 +1,179 @@
-//! Cells, written over an image in place.
+//! The cells of an image, one after the other.
 
-ghost use Rattle.std.specs.Prelude.{◌≡◌, ◌≤◌, ◌<◌, ◌^◌, ◌+◌, ◌-◌, length, replicate};
-ghost use Rattle.std.specs.List.{splice};
-ghost use Rattle.krb_wire.specs.Spelling.{order_of};
-ghost use Rattle.krb_keytab.specs.Cells.{cell, Live, Free};
-ghost use Rattle.krb_keytab.specs.Changes.{padded};
-ghost use Rattle.krb_keytab.specs.Laws.{AreBytes};
+ghost use Rattle.std.specs.Prelude.{◌≡◌, ◌≤◌, ◌^◌, ◌+◌, true, IsSome, Some, option_copied, drop, length};
+ghost use Rattle.std.specs.Iterator.{item_count};
+ghost use Rattle.krb_keytab.specs.Questions.{size, end_place, is_place, stop_from, live_bytes, live_at, kind_of};
+ghost use Rattle.krb_keytab.specs.Step.{ending_kind};
+ghost use Rattle.krb_keytab.specs.CellsFrom.{CellsFrom, AreKnown, IsSuffix};
+ghost use Rattle.krb_keytab.specs.CellView.{cell_of, GivesCell};
 
-use crate::form::Form;
-use krb_wire::{KtFormat, Name, put_u32};
+use crate::image::CellsEnd;
+use crate::put::bytes_fit;
+use krb_walk::Stop;
+use krb_wire::{KtFormat, split_u32, tail};
+use std::marker::Model;
 
-/// What a slice of bytes holds is below 256.
-pub fn bytes_fit(bytes: &[u8])
-    ensures { AreBytes bytes.now }
-{}
-
-/// Writes zeros from a place to another.
-pub fn put_zeros(out: &mut [u8], at: usize, to: usize)
-    requires ahead { at ≤ to }
-    requires room { to ≤ length out.old }
-    ensures { out.new ≡ splice out.old at to (replicate (to - at) 0) }
-{
-    out[at..to].fill(0);
+/// A cell: the bytes of a record, or of a hole, after their length.
+#[derive(Clone, Copy, Debug)]
+pub enum CellView<'a> {
+    Live(&'a [u8]),
+    Free(&'a [u8]),
 }
 
-/// Makes the bytes at a place a hole of so many zeros.
-pub fn put_hole(format: KtFormat, image: &mut [u8], at: usize, size: usize)
-    requires room { at + 4 + size ≤ length image.old }
-    requires some { 0 < size }
-    requires small { size ≤ 2 ^ 31 }
-    ensures { image.new ≡ splice image.old at (at + 4 + size)
-        (cell (order_of format) (Free (replicate size 0))) }
-{
-    let from = put_u32(format.order(), (0x1_0000_0000 - size) as u32, image, at);
-    put_zeros(image, from, from + size);
+/// The cells from a place on, where it is known what ends them. There a length tells each cell, and
+/// no entry is read again.
+#[derive(Drop)]
+pub struct Cells<'a> {
+    pub format: KtFormat,
+    pub image: &'a [u8],
+    pub end: CellsEnd,
+    pub place: usize,
 }
 
-/// Makes the bytes at a place a record of so many bytes: a written form, and zeros after it.
-pub fn put_record<N: Name>(image: &mut [u8], at: usize, size: usize, form: &Form<'_, N>)
-    requires room { at + 4 + size ≤ length image.old }
-    requires fits { length form.now.bytes ≤ size }
-    requires small { size < 2 ^ 31 }
-    ensures { image.new ≡ splice image.old at (at + 4 + size)
-        (cell (order_of form.now.format) (Live (padded form.now.bytes size))) }
-{
-    let from = put_u32(form.format().order(), size as u32, image, at);
-    let after = form.put(image, from);
-    put_zeros(image, after, from + size);
+impl<'a> CellView<'a> {
+    // Its bytes, if it is live.
+    fn live(self) -> Option<&'a [u8]>
+        ensures { option_copied result ≡ live_bytes (cell_of self.entry) }
+    {
+        match self {
+            CellView::Live(bytes) => Some(bytes),
+            CellView::Free(_) => None,
+        }
+    }
+}
+
+impl<'a> Model for Cells<'a> {
+    ghost use Rattle.std.specs.Prelude.{drop};
+    ghost use Rattle.krb_keytab.specs.Cells.{contents};
+    ghost use Rattle.krb_keytab.specs.CellsFrom.{CellsFrom, AreKnown};
+
+    ghost Value = { CellsFrom };
+
+    ghost view = { λ c. record {
+      format = c.format;
+      place = c.place;
+      contents = contents c.format (drop c.place c.image.now);
+    } };
+
+    ghost invariant = { λ c. AreKnown c.format c.image.now c.place c.end };
+}
+
+impl<'a> Iterator for Cells<'a> {
+    type Item = (usize, CellView<'a>);
+
+    ghost next_gives = { GivesCell };
+
+    ghost remaining = { item_count (λ c. c.contents.cells) };
+
+    #[inline(always)]
+    fn next(&mut self) -> Option<(usize, CellView<'a>)> {
+        bytes_fit(self.image);
+        let at = self.place;
+        if at == self.end.place {
+            return None;
+        }
+        let Some((field, rest)) = split_u32(self.format.order(), tail(self.image, at)) else {
+            unreachable!()
+        };
+        if field < 0x8000_0000 {
+            let size = field as usize;
+            self.place = at + 4 + size;
+            return Some((at, CellView::Live(rest.split_at(size).0)));
+        }
+        let size = 0x1_0000_0000 - field as usize;
+        self.place = at + 4 + size;
+        Some((at, CellView::Free(rest.split_at(size).0)))
+    }
+}
+
+impl<'a> Cells<'a> {
+    /// The place of the first.
+    pub fn place(&self) -> usize
+        ensures place { result ≡ self.now.place }
+        ensures small { result ≤ 2 ^ 30 }
+    {
+        self.place
+    }
+
+    /// Where they end, and by what.
+    pub fn end(&self) -> CellsEnd
+        ensures place { end_place self.now.place self.now.contents.cells ≡ result.place }
+        ensures kind { kind_of self.now.contents.end ≡ ending_kind result.ending }
+        ensures small { result.place ≤ 2 ^ 30 }
+    {
+        self.end
+    }
+
+    /// Whether one of them stands at a place, or they end there.
+    pub fn is_place(self, place: usize) -> bool
+        ensures { result ≡ is_place self.entry.place self.entry.contents.cells place }
+    {
+        let end = self.end();
+        for (at, _) in self {
+            if at == place {
+                return true;
+            }
+        }
+        place == end.place
+    }
+
+    /// Those from a place on.
+    pub fn from(self, place: usize) -> Cells<'a>
+        requires { is_place self.place self.contents.cells place ≡ true }
+        ensures suffix { IsSuffix self.entry result }
+        ensures place { result.place ≡ place }
+    {
+        bytes_fit(self.image);
+        Cells {
+            format: self.format,
+            image: self.image,
+            end: self.end,
+            place,
+        }
+    }
+
+    /// The first live one at or after a place, or what ends them.
+    pub fn stop_at(self, place: usize) -> Stop
+        requires { is_place self.place self.contents.cells place ≡ true }
+        ensures { result ≡ stop_from self.entry.place self.entry.contents.cells self.entry.contents.end place }
+    {
+        let end = self.end();
+        let mut rest = self.from(place);
+        while let Some((at, cell)) = rest.next() {
+            if let CellView::Live(bytes) = cell {
+                return Stop::Live {
+                    place: at as u32,
+                    next: (at + 4 + bytes.len()) as u32,
+                };
+            }
+        }
+        end.ending.stop(end.place as u32)
+    }
+
+    /// The bytes of the live one at a place, looked for from the front.
+    pub fn find_live(self, place: usize) -> Option<&'a [u8]>
+        ensures { option_copied result ≡ live_at self.entry.place self.entry.contents.cells place }
+    {
+        for (at, cell) in self {
+            if at == place {
+                return cell.live();
+            }
+        }
+        None
+    }
+
+    /// The bytes of the live one that stands at a place.
+    pub fn live_at(self, place: usize) -> &'a [u8]
+        requires { IsSome (live_at self.place self.contents.cells place) }
+        ensures { Some result.now ≡ live_at self.entry.place self.entry.contents.cells place }
+    {
+        let mut rest = self.from(place);
+        let Some((_, cell)) = rest.next() else {
+            unreachable!()
+        };
+        let Some(bytes) = cell.live() else {
+            unreachable!()
+        };
+        bytes
+    }
 }

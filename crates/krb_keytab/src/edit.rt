@@ -2,7 +2,7 @@
 
 ghost use Rattle.std.specs.Prelude.{◌≡◌, map, IfOk, IfErr};
 ghost use Rattle.krb_walk.specs.Said.{said};
-ghost use Rattle.krb_keytab.specs.Edited.{Edited, EditRefuses};
+ghost use Rattle.krb_keytab.specs.Edit.{Edited, EditRefuses};
 
 use crate::keytab::Keytab;
 use crate::new_entry::NewEntry;

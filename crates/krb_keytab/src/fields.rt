@@ -1,7 +1,7 @@
 //! The fields of an entry, wherever they lie.
 
 ghost use Rattle.std.specs.Prelude.{◌<◌, ◌^◌};
-ghost use Rattle.krb_keytab.specs.Written.{IsEntry};
+ghost use Rattle.krb_keytab.specs.Form.{IsEntry};
 
 use krb_wire::Name;
 use std::marker::Model;

@@ -1,26 +1,24 @@
 //! Looking up an entry.
 
-ghost use Rattle.std.specs.Prelude.{◌≡◌, ◌==◌, ◌||◌, ◌∷◌, ◌++◌, [], true, ℕ, Bool, List, None, Ok, Err, if◌then◌else◌};
-ghost use Rattle.krb_keytab.specs.LookUp.{Placed, is_asked, placed_entries, look_up_in, look_up, finding};
+ghost use Rattle.std.specs.Prelude.{◌≡◌, ◌==◌, ◌||◌, ◌∷◌, ◌++◌, [], true, Bool, List, Some, None, Ok, Err, if◌then◌else◌};
+ghost use Rattle.krb_wire.specs.Spelling.{Parts};
+ghost use Rattle.krb_wire.specs.SameName.{have_same_name};
+ghost use Rattle.krb_keytab.specs.Entry.{EntryParts, entry_at};
+ghost use Rattle.krb_keytab.specs.LookUp.{Placed, placed_entries, look_up_in, look_up, finding};
 ghost use Rattle.krb_keytab.specs.Looked.{answer, IsFoundAmong};
 
-use crate::entry::EntryView;
+use crate::cells::CellView;
+use crate::entry::{EntryView, read_entry};
+use crate::has_name::has_name;
 use crate::keytab::Keytab;
 use krb_walk::Code;
-use krb_wire::{Name, same_name};
+use krb_wire::{KtFormat, Name};
 use std::alloc::Allocator;
 
 fn has_enctype(enctype: u16, entry: &EntryView<'_>) -> bool
     ensures { result ≡ (enctype == 0 || entry.now.enctype == enctype) }
 {
     enctype == 0 || entry.enctype() == enctype
-}
-
-// Whether an entry has the name, and the enctype unless that is 0.
-fn is_asked<N: Name>(name: &N, enctype: u16, entry: &EntryView<'_>) -> bool
-    ensures { (place : ℕ) → result ≡ is_asked (N.parts name.now) enctype (place, entry.now) }
-{
-    has_enctype(enctype, entry) && same_name(name, entry.principal())
 }
 
 // Whether an entry of that version is looked for more than the one found so far.
@@ -43,14 +41,15 @@ struct Looked<'a> {
 }
 
 impl<'a> Looked<'a> {
-    // Looks at the next entry.
-    fn look<N: Name>(&mut self, name: &N, kvno: u32, enctype: u16, place: u32, entry: EntryView<'a>)
-        ensures { (xs : List Placed)
-            → IsFoundAmong (N.parts name.now) kvno enctype xs self.old.named self.old.best
-            → IsFoundAmong (N.parts name.now) kvno enctype (xs ++ (place, entry.entry) ∷ [])
+    // Looks at the next entry that has the name.
+    fn look(&mut self, kvno: u32, enctype: u16, place: u32, entry: EntryView<'a>)
+        ensures { (name : Parts) (xs : List Placed)
+            → have_same_name name entry.entry.principal ≡ true
+            → IsFoundAmong name kvno enctype xs self.old.named self.old.best
+            → IsFoundAmong name kvno enctype (xs ++ (place, entry.entry) ∷ [])
             self.new.named self.new.best }
     {
-        if !is_asked(name, enctype, &entry) {
+        if !has_enctype(enctype, &entry) {
             return;
         }
         self.named = true;
@@ -58,9 +57,59 @@ impl<'a> Looked<'a> {
             self.best = Some((place, entry));
         }
     }
+
+    // Looks at the next record, whose entry is read where it has the name.
+    #[inline(always)]
+    fn look_at<N: Name>(
+        &mut self,
+        name: &N,
+        kvno: u32,
+        enctype: u16,
+        format: KtFormat,
+        place: u32,
+        bytes: &'a [u8],
+    )
+        ensures { (xs : List Placed) (e : EntryParts)
+            → entry_at format bytes.now ≡ Some e
+            → IsFoundAmong (N.parts name.now) kvno enctype xs self.old.named self.old.best
+            → IsFoundAmong (N.parts name.now) kvno enctype (xs ++ (place, e) ∷ [])
+            self.new.named self.new.best }
+    {
+        if !has_name(format, name, bytes) {
+            return;
+        }
+        if let Some(entry) = read_entry(format, bytes) {
+            self.look(kvno, enctype, place, entry);
+        }
+    }
 }
 
-// What is found after all entries.
+// What is found after all entries of a keytab of that format.
+#[inline(always)]
+fn look_in<'a, N: Name, A: Allocator>(
+    format: KtFormat,
+    keytab: &'a Keytab<A>,
+    name: &N,
+    kvno: u32,
+    enctype: u16,
+) -> Looked<'a>
+    requires { format ≡ keytab.now.state.format }
+    ensures { IsFoundAmong (N.parts name.now) kvno enctype (placed_entries keytab.entry.now.state)
+        result.named result.best }
+{
+    let mut looked = Looked {
+        named: false,
+        best: None,
+    };
+    for (place, cell) in keytab.cells() {
+        if let CellView::Live(bytes) = cell {
+            looked.look_at(name, kvno, enctype, format, place as u32, bytes);
+        }
+    }
+    looked
+}
+
+// The same of any format: in each arm it is known, and the loop asks for it no more.
 fn look_at_all<'a, N: Name, A: Allocator>(
     keytab: &'a Keytab<A>,
     name: &N,
@@ -70,14 +119,10 @@ fn look_at_all<'a, N: Name, A: Allocator>(
     ensures { IsFoundAmong (N.parts name.now) kvno enctype (placed_entries keytab.entry.now.state)
         result.named result.best }
 {
-    let mut looked = Looked {
-        named: false,
-        best: None,
-    };
-    for (place, entry) in keytab.entries() {
-        looked.look(name, kvno, enctype, place, entry);
+    match keytab.format() {
+        KtFormat::V2 => look_in(KtFormat::V2, keytab, name, kvno, enctype),
+        KtFormat::V1(order) => look_in(KtFormat::V1(order), keytab, name, kvno, enctype),
     }
-    looked
 }
 
 // Why nothing was found.

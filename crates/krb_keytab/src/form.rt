@@ -2,7 +2,7 @@
 
 ghost use Rattle.std.specs.Prelude.{◌≡◌, ◌≤◌, ◌<◌, ◌^◌, ◌+◌, length, is_some, IsTrue, IfSome};
 ghost use Rattle.std.specs.List.{splice};
-ghost use Rattle.krb_keytab.specs.Written.{fits, written, FormParts, IsRecord};
+ghost use Rattle.krb_keytab.specs.Form.{fits, written, FormParts, IsRecord};
 
 use crate::fields::Fields;
 use krb_wire::{
@@ -21,7 +21,7 @@ pub struct Form<'a, N: Name> {
 
 impl<'a, N: Name> Model for Form<'a, N> {
     ghost use Rattle.std.specs.Prelude.{◌≡◌, ◌<◌, ◌^◌, length, IsTrue};
-    ghost use Rattle.krb_keytab.specs.Written.{fits, written, FormParts, IsEntry};
+    ghost use Rattle.krb_keytab.specs.Form.{fits, written, FormParts, IsEntry};
 
     ghost Value = { FormParts };
 

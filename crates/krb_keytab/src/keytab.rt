@@ -8,18 +8,18 @@ ghost use Rattle.krb_wire.specs.Reading.{Gives};
 ghost use Rattle.krb_walk.specs.Store.{end_of, fault_of, is_place, stop_at, live_bytes, IsPlace, IsSound as IsSoundStore};
 ghost use Rattle.krb_keytab.specs.Entry.{entry_at, Spells};
 ghost use Rattle.krb_keytab.specs.Cells.{contents, IsSound};
-ghost use Rattle.krb_keytab.specs.Known.{IsKnownEnd};
+ghost use Rattle.krb_keytab.specs.CellsFrom.{cells_of};
+ghost use Rattle.krb_keytab.specs.Image.{IsKnownEnd};
 ghost use Rattle.krb_keytab.specs.Laws.{AreBytes};
 ghost use Rattle.krb_keytab.specs.LookUp.{placed_entries};
 ghost use Rattle.krb_keytab.specs.Store.{InMemory, opening, image_of, store_of, entry_at_place, IsImage, Reopens, empty};
 
-use crate::cells::bytes_fit;
+use crate::cells::Cells;
 use crate::entries::Entries;
 use crate::entry::{EntryView, read_entry};
-use crate::image::{
-    CellsEnd, end_of_cells, is_place_of, live_bytes_of, live_of, spelled_of, stop_of,
-};
+use crate::image::{CellsEnd, end_of_cells, spelled_of};
 use crate::open::{Head, KtOpenRefused, read_head, version_of};
+use crate::put::bytes_fit;
 use krb_walk::{Fault, Stop};
 use krb_wire::{KtFormat, Limits, NoMemory, Order};
 use std::alloc::Allocator;
@@ -148,11 +148,23 @@ impl<A: Allocator> Keytab<A> {
         self.end.ending.fault(self.end())
     }
 
+    // Its cells.
+    pub(crate) fn cells(&self) -> Cells<'_>
+        ensures { result ≡ cells_of self.now.state }
+    {
+        Cells {
+            format: self.format,
+            image: &self.image,
+            end: self.end,
+            place: 2,
+        }
+    }
+
     /// Is true of the place of each cell, live or free, and of `end()`. It looks from the front.
     pub fn is_place(&self, place: u32) -> bool
         ensures { result ≡ is_place (store_of self.now.state) place }
     {
-        is_place_of(self.format, &self.image, self.end, place as usize)
+        self.cells().is_place(place as usize)
     }
 
     /// The first live cell at or after a place, or what ends the cells. It looks from that place on.
@@ -160,7 +172,7 @@ impl<A: Allocator> Keytab<A> {
         requires { IsPlace (store_of self.now.state) place }
         ensures { result ≡ stop_at (store_of self.now.state) place }
     {
-        stop_of(self.format, &self.image, self.end, place as usize)
+        self.cells().stop_at(place as usize)
     }
 
     /// The bytes of the record at a place, after its length: an entry, and what is after it.
@@ -170,21 +182,21 @@ impl<A: Allocator> Keytab<A> {
         ensures entry { IsSome (entry_at self.now.state.format result.now) }
     {
         let _ = self.image();
-        live_bytes_of(self.format, &self.image, self.end, place as usize)
+        self.cells().live_at(place as usize)
     }
 
     /// The entries with the places of their records, in file order, up to the end or the fault.
     pub fn entries(&self) -> Entries<'_>
         ensures { result ≡ placed_entries self.now.state }
     {
-        Entries::of(self.format, &self.image, self.end)
+        Entries::of(self.cells())
     }
 
     // The bytes of the record at a place, if one stands there.
     fn record(&self, place: u32) -> Option<&[u8]>
         ensures { option_copied result ≡ live_bytes (store_of self.now.state) place }
     {
-        live_of(self.format, &self.image, self.end, place as usize)
+        self.cells().find_live(place as usize)
     }
 
     /// The entry of the record at a place: none exactly where no live cell stands. It looks from the

@@ -11,6 +11,7 @@ mod entry;
 mod fields;
 mod find;
 mod form;
+mod has_name;
 mod hole;
 mod image;
 mod keytab;
@@ -18,6 +19,7 @@ mod laws;
 mod new_entry;
 mod open;
 mod placed;
+mod put;
 mod remove;
 mod step;
 #[cfg(test)]

@@ -2,7 +2,7 @@
 
 ghost use Rattle.std.specs.Prelude.{◌≡◌, ◌≤◌, length, drop, IfOk, IfErr, Ok, Err};
 ghost use Rattle.krb_keytab.specs.Cells.{contents, image as image_of, version_byte};
-ghost use Rattle.krb_keytab.specs.Known.{IsKnownEnd};
+ghost use Rattle.krb_keytab.specs.Image.{IsKnownEnd};
 ghost use Rattle.krb_keytab.specs.Store.{format_of, opening, IsImage};
 ghost use Rattle.krb_keytab.specs.Opening.{open_fault_number};
 

@@ -7,7 +7,7 @@ use std::alloc::Allocator;
 
 impl<A: Allocator + Copy> Placed for Keytab<A> {
     ghost use Rattle.krb_keytab.specs.Store.{State};
-    ghost use Rattle.krb_keytab.specs.Walked.{keytab_rules};
+    ghost use Rattle.krb_keytab.specs.Placed.{keytab_rules};
 
     type Item = NewEntry<A>;
 

@@ -3,8 +3,8 @@
 ghost use Rattle.std.specs.Prelude.{◌≡◌, None, IfOk};
 ghost use Rattle.krb_walk.specs.Store.{live_bytes};
 ghost use Rattle.krb_keytab.specs.Store.{store_of};
-ghost use Rattle.krb_keytab.specs.Changes.{removing};
-ghost use Rattle.krb_keytab.specs.Answers.{AnswersRemove};
+ghost use Rattle.krb_keytab.specs.Changes.{remove_result};
+ghost use Rattle.krb_keytab.specs.Remove.{AnswersRemove};
 
 use crate::keytab::Keytab;
 use krb_walk::Code;
@@ -15,7 +15,7 @@ impl<A: Allocator> Keytab<A> {
     /// Removes the record that `find` gives for the same arguments, and answers its place. It refuses
     /// as `find` does.
     pub fn remove<N: Name>(&mut self, name: &N, kvno: u32, enctype: u16) -> Result<u32, Code>
-        ensures gives { AnswersRemove self.old.state (removing self.old.state (N.parts name.now) kvno enctype)
+        ensures gives { AnswersRemove self.old.state (remove_result self.old.state (N.parts name.now) kvno enctype)
             result self.new.state }
         // No record stands there any more.
         ensures gone { IfOk result (λ place. live_bytes (store_of self.new.state) place ≡ None) }

@@ -3,7 +3,7 @@
 ghost use Rattle.std.specs.Prelude.{◌≡◌, ◌<◌, ◌^◌, length, is_some};
 ghost use Rattle.krb_keytab.specs.Entry.{entry_at};
 ghost use Rattle.krb_keytab.specs.Cells.{next};
-ghost use Rattle.krb_keytab.specs.Seen.{seen, EndsWithin, ending_fault, ending_stop};
+ghost use Rattle.krb_keytab.specs.Step.{seen, EndsWithin, ending_fault, ending_stop};
 
 use crate::entry::entry_from;
 use krb_walk::{Fault, FaultKind, Stop};

@@ -1,6 +1,6 @@
 mod additions;
+mod allocations;
 mod claims;
-mod growths;
 mod look_up;
 mod made;
 mod peer_records;
@@ -13,10 +13,9 @@ mod sessions;
 mod turns;
 mod walks;
 
-use crate::{EditRefused, Keytab, KtOpenFault, KtOpenRefused, edit_image};
-use krb_walk::Event;
+use crate::{Keytab, KtOpenFault};
 use krb_wire::{Limits, Name, Order};
-use std::alloc::Global;
+use made::{USUAL, joined, keytab_of};
 use std::test::Fail;
 
 /// Version 2: `host/a@R` at 2, `b@R` at 53, end 98.
@@ -26,19 +25,9 @@ const TWO: &[u8; 98] = b"\x05\x02\
     \0\0\0\x29\0\x01\0\x01R\0\x01b\0\0\0\x01\x65\x53\xf1\0\x03\0\x11\0\x10\
     \x10\x11\x12\x13\x14\x15\x16\x17\x18\x19\x1a\x1b\x1c\x1d\x1e\x1f\0\0\0\x03";
 
-fn opened(
-    alloc: Global,
-    image: &[u8],
-    v1_order: Order,
-) -> Result<Result<Keytab<Global>, KtOpenRefused<Global>>, Fail> {
-    Ok(Keytab::open(Vec::from_slice(alloc, image)?, v1_order, Limits::usual()))
-}
-
 #[test]
 fn entry_at_a_place(rt: HostRuntime) -> Result<(), Fail> {
-    let Ok(keytab) = opened(rt.alloc(), TWO, Order::Little)? else {
-        return Err(Fail::from("refused"));
-    };
+    let keytab = keytab_of(joined(rt.alloc(), &[TWO])?, USUAL)?;
     let entry = keytab.entry_at(53).ok_or("no entry at 53")?;
     assert_eq!(rt; entry.kvno(), 3);
     assert_eq!(rt; entry.timestamp(), 1_700_000_000);
@@ -54,7 +43,7 @@ fn entry_at_a_place(rt: HostRuntime) -> Result<(), Fail> {
     Ok(())
 }
 
-/// An image that is no keytab is handed back by `open` and by an edit.
+/// An image that is no keytab is handed back.
 #[test]
 fn images_that_are_no_keytabs(rt: HostRuntime) -> Result<(), Fail> {
     let small = Limits::of(2).ok_or("no limit of 2")?;
@@ -70,21 +59,6 @@ fn images_that_are_no_keytabs(rt: HostRuntime) -> Result<(), Fail> {
             return Err(Fail::from("opened"));
         };
         assert!(rt; refused.why == why && refused.image.as_slice() == image);
-        let mut replies = Vec::new(rt.alloc());
-        match edit_image(
-            rt.alloc(),
-            refused.image,
-            Order::Little,
-            limits,
-            &[Event::Start],
-            &mut replies,
-        ) {
-            Err(EditRefused::NotAKeytab(refused)) => {
-                assert!(rt; refused.why == why && refused.image.as_slice() == image);
-            }
-            _ => return Err(Fail::from("edited")),
-        }
-        assert!(rt; replies.is_empty());
     }
     Ok(())
 }

@@ -1,45 +1,49 @@
 //! One cell of an image turned into another of its size.
 
-ghost use Rattle.std.specs.Prelude.{◌≡◌, ◌≤◌, ◌^◌, length, drop, IsSome, Some};
+ghost use Rattle.std.specs.Prelude.{◌≡◌, length, drop, IsSome, Some};
 ghost use Rattle.krb_keytab.specs.Cells.{contents};
 ghost use Rattle.krb_keytab.specs.Questions.{live_at};
-ghost use Rattle.krb_keytab.specs.Known.{IsKnownEnd, IsChanged};
-ghost use Rattle.krb_keytab.specs.Changes.{turned_at, freed, filled};
-ghost use Rattle.krb_keytab.specs.Holes.{hole_from};
+ghost use Rattle.krb_keytab.specs.CellsFrom.{AreKnown};
+ghost use Rattle.krb_keytab.specs.Image.{IsChanged};
+ghost use Rattle.krb_keytab.specs.Changes.{turned_at, zero_hole, record_in};
+ghost use Rattle.krb_keytab.specs.Hole.{hole_from};
 
-use crate::cells::{bytes_fit, put_hole, put_record};
+use crate::cells::Cells;
 use crate::form::Form;
 use crate::hole::Hole;
-use crate::image::{CellsEnd, live_bytes_of};
+use crate::image::CellsEnd;
+use crate::put::{bytes_fit, put_hole, put_record};
 use krb_wire::{KtFormat, Name};
 
 /// Makes the live cell at a place a hole of zeros.
 pub fn free_cell(format: KtFormat, image: &mut [u8], end: CellsEnd, place: usize)
-    requires long { 2 ≤ length image.old }
-    requires small { length image.old ≤ 2 ^ 30 }
-    requires known { IsKnownEnd format image.old end }
+    requires known { AreKnown format image.old 2 end }
     requires live { IsSome (live_at 2 (contents format (drop 2 image.old)).cells place) }
     ensures len { length image.new ≡ length image.old }
     ensures changed { IsChanged format image.old image.new (record {
-      cells = turned_at 2 freed place (contents format (drop 2 image.old)).cells;
+      cells = turned_at 2 zero_hole place (contents format (drop 2 image.old)).cells;
       end = (contents format (drop 2 image.old)).end;
     }) end }
 {
     bytes_fit(image);
-    let size = live_bytes_of(format, image, end, place).len();
+    let cells = Cells {
+        format,
+        image,
+        end,
+        place: 2,
+    };
+    let size = cells.live_at(place).len();
     put_hole(format, image, place, size);
 }
 
 /// Makes the first hole that is large enough a record of its size.
 pub fn fill_hole<N: Name>(image: &mut [u8], end: CellsEnd, hole: Hole, form: &Form<'_, N>)
-    requires long { 2 ≤ length image.old }
-    requires small { length image.old ≤ 2 ^ 30 }
-    requires known { IsKnownEnd form.now.format image.old end }
+    requires known { AreKnown form.now.format image.old 2 end }
     requires hole { hole_from 2 (length form.now.bytes)
         (contents form.now.format (drop 2 image.old)).cells ≡ Some hole }
     ensures len { length image.new ≡ length image.old }
     ensures changed { IsChanged form.now.format image.old image.new (record {
-      cells = turned_at 2 (filled form.now.bytes) hole.place
+      cells = turned_at 2 (record_in form.now.bytes) hole.place
           (contents form.now.format (drop 2 image.old)).cells;
       end = (contents form.now.format (drop 2 image.old)).end;
     }) end }

@@ -5,10 +5,10 @@ ghost use Rattle.krb_walk.specs.Rules.{PutGives, CutGives};
 ghost use Rattle.krb_walk.specs.Memory.{HadMemory};
 ghost use Rattle.krb_walk.specs.Store.{fault_of, live_bytes};
 ghost use Rattle.krb_keytab.specs.Store.{store_of, entry_at_place};
-ghost use Rattle.krb_keytab.specs.Written.{read_back, IsEntry};
-ghost use Rattle.krb_keytab.specs.Changes.{cutting, putting, takes_none, with_filled, without};
-ghost use Rattle.krb_keytab.specs.Holes.{hole_from};
-ghost use Rattle.krb_keytab.specs.Appends.{AnswersAppend, KeepsRoom};
+ghost use Rattle.krb_keytab.specs.Form.{read_back, IsEntry};
+ghost use Rattle.krb_keytab.specs.Changes.{cut_result, put_result, takes_none, with_record_in, with_hole};
+ghost use Rattle.krb_keytab.specs.Hole.{hole_from};
+ghost use Rattle.krb_keytab.specs.Append.{AnswersAppend, KeepsRoom};
 
 use super::Keytab;
 use crate::append::{append_record, len_with};
@@ -25,7 +25,7 @@ impl<A: Allocator> Keytab<A> {
     // Makes the record at a place a hole.
     fn free(&mut self, place: u32)
         requires { IsSome (live_bytes (store_of self.old.state) place) }
-        ensures freed { self.new.state ≡ without self.old.state place }
+        ensures freed { self.new.state ≡ with_hole self.old.state place }
         ensures room { self.new.room ≡ self.old.room }
     {
         free_cell(self.format, &mut self.image, self.end, place as usize);
@@ -34,7 +34,7 @@ impl<A: Allocator> Keytab<A> {
     /// Makes the record at a place a hole of its size, all zeros (MIT krb5, "Keytab file format"). A
     /// damaged keytab refuses.
     pub fn remove_at(&mut self, place: u32) -> Result<(), Code>
-        ensures gives { CutGives (cutting self.old.state place) self.old.state result self.new.state }
+        ensures gives { CutGives (cut_result self.old.state place) self.old.state result self.new.state }
         // No record stands there any more.
         ensures gone { OnOk result (live_bytes (store_of self.new.state) place ≡ None) }
         ensures room { self.new.room ≡ self.old.room }
@@ -54,14 +54,14 @@ impl<A: Allocator> Keytab<A> {
         ensures first { result ≡ hole_from 2 need self.now.state.contents.cells }
         ensures within { IfSome result (λ h. h.place < 2 ^ 32) }
     {
-        first_hole(self.format, &self.image, self.end, need)
+        first_hole(self.cells(), need)
     }
 
     // Puts a record into that hole.
     fn fill<N: Name>(&mut self, hole: Hole, form: &Form<'_, N>)
         requires hole { hole_from 2 (length form.now.bytes) self.old.state.contents.cells ≡ Some hole }
         requires format { form.now.format ≡ self.old.state.format }
-        ensures filled { self.new.state ≡ with_filled self.old.state form.now.bytes hole.place }
+        ensures filled { self.new.state ≡ with_record_in self.old.state form.now.bytes hole.place }
         ensures room { self.new.room ≡ self.old.room }
     {
         fill_hole(&mut self.image, self.end, hole, form);
@@ -93,7 +93,7 @@ impl<A: Allocator> Keytab<A> {
     /// length, and then a limit that the image would pass. Memory is taken only where the image
     /// becomes longer than it was. What is our choice here and what is MIT's is in docs/FORMATS.md.
     pub fn add<B: Allocator>(&mut self, entry: &NewEntry<B>) -> Result<u32, Refusal>
-        ensures gives { PutGives (putting self.old.state entry.now) self.old.state result self.new.state }
+        ensures gives { PutGives (put_result self.old.state entry.now) self.old.state result self.new.state }
         ensures memory { takes_none self.old.state entry.now ≡ true → HadMemory result }
         ensures room { takes_none self.old.state entry.now ≡ true → self.new.room ≡ self.old.room }
         // It is read at the place that is answered; in version 1 with name type 0.

@@ -11,6 +11,7 @@ ghost use Rattle.krb_keytab.specs.Rewrite.{rewrite_result};
 use super::Keytab;
 use crate::anew::{anew_is_sound, image_anew, len_anew};
 use crate::carry::carry_cursors;
+use crate::cells::Cells;
 use crate::image::CellsEnd;
 use crate::step::Ending;
 use krb_walk::{Code, Refusal};
@@ -45,7 +46,13 @@ impl<A: Allocator + Copy> Keytab<A> {
             place: len,
             ending: Ending::Bare,
         };
-        carry_cursors(self.format, &mut self.image, self.end, &image, end, cursors);
+        let new = Cells {
+            format: KtFormat::V2,
+            image: &image,
+            end,
+            place: 2,
+        };
+        carry_cursors(self.format, &mut self.image, self.end, new, cursors);
         self.image = image;
         self.format = KtFormat::V2;
         self.end = end;

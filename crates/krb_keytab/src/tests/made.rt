@@ -4,9 +4,7 @@ use super::records::HIGH_KEY;
 use crate::{Keytab, NewEntry};
 use krb_walk::Code;
 use krb_wire::{Limits, Order, Principal, parse_name};
-use refusing::Refusing;
 use std::alloc::{Allocator, Global};
-use std::process::Abort;
 use std::test::Fail;
 
 /// The limit of images that is usual.
@@ -28,30 +26,6 @@ pub fn keytab_of<A: Allocator>(image: Vec<u8, A>, limit: u32) -> Result<Keytab<A
         Ok(keytab) => Ok(keytab),
         Err(_) => Err(Fail::from("refused")),
     }
-}
-
-/// The keytab that the pieces are, with each request for memory refused from `open` on.
-pub fn without_memory<'a>(
-    heap: &'a Refusing<Global>,
-    pieces: &[&[u8]],
-) -> Result<Keytab<&'a Refusing<Global>>, Fail> {
-    let image = joined(heap, pieces)?;
-    heap.refuse_from(0);
-    keytab_of(image, USUAL)
-}
-
-/// Asserts that the keytab has become these pieces, made no request, and gives its memory back.
-pub fn leaves<R: Abort + AllocGlobal>(
-    rt: &R,
-    keytab: Keytab<&Refusing<Global>>,
-    pieces: &[&[u8]],
-) -> Result<(), Fail> {
-    let image = keytab.into_image();
-    let heap = *image.allocator();
-    assert!(rt; image.as_slice() == joined(rt.alloc(), pieces)?.as_slice());
-    drop(image);
-    assert_eq!(rt; (heap.requests(), heap.live_blocks()), (0, 0));
-    Ok(())
 }
 
 /// The name that a text is.

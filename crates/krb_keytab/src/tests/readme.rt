@@ -1,8 +1,8 @@
 //! What README shows, line by line: `tests/readme.py` compares the two.
 
 use super::TWO;
-use super::made::{b, joined};
-use super::sessions::B_BYTES;
+use super::made::{USUAL, b, joined, keytab_of};
+use super::records::B_BYTES;
 use crate::{Keytab, NewEntry};
 use krb_walk::{Event, Session};
 use krb_wire::{Limits, Order, parse_name};
@@ -44,9 +44,7 @@ fn edit(alloc: Global, keytab: Keytab<Global>, entry: NewEntry<Global>) -> Resul
 fn does_what_it_says(rt: HostRuntime) -> Result<(), Fail> {
     let alloc = rt.alloc();
     assert!(rt; look_up(alloc, Vec::from_slice(alloc, TWO)?)? == (2, 3));
-    let Ok(keytab) = super::opened(alloc, TWO, Order::Little)? else {
-        return Err(Fail::from("refused"));
-    };
+    let keytab = keytab_of(joined(alloc, &[TWO])?, USUAL)?;
     let image = edit(alloc, keytab, b(alloc)?)?;
     let record = joined(alloc, &[b"\0\0\0\x29", B_BYTES])?;
     let expected = joined(alloc, &[b"\x05\x02", &record, &record])?;

@@ -1,14 +1,13 @@
 //! Keytabs that are written anew, with their cursors carried.
 
-use super::records::{B, B_BYTES, C_BYTES, HEAD, HOST, HOST_BYTES, VERSION_1, VERSION_1_BYTES};
-use super::turns::Told::{Ended, Gave, Gone, Placed, Refused, Rewritten, Started};
-use super::turns::Turn::{Cut, Resume, Rewrite, Start, Step};
-use super::turns::{PUT_C, Row, check, check_row};
+use super::records::{
+    B, B_BYTES, HEAD, HOST, HOST_BYTES, UNTYPED_BYTES, VERSION_1, VERSION_1_BYTES,
+};
+use super::turns::Told::{Ended, Gave, Gone, Refused, Rewritten, Started};
+use super::turns::Turn::{Cut, Rewrite, Start, Step};
+use super::turns::{Row, check, check_row};
 use krb_walk::Code;
 use std::test::Fail;
-
-/// A hole of seven bytes.
-const HOLE: &[u8] = b"\xff\xff\xff\xfd\0\0\0";
 
 const ROWS: &[Row<'static>] = &[
     Row {
@@ -31,31 +30,16 @@ const ROWS: &[Row<'static>] = &[
         turns: &[(Rewrite, Rewritten(53))],
         after: &[HEAD, HOST],
     },
-    // Each walk is then given what stands where it was carried: without holes that is a record, or the end.
     Row {
-        name: "among holes, two records and a third at the end a walk at each place is carried",
-        before: &[HEAD, HOLE, B, HOLE, HOLE, HOST, HOLE],
+        name: "version 1 becomes version 2, with name type 0, in the middle of a walk",
+        before: &[VERSION_1],
         turns: &[
-            (Resume(9), Started(0, 9)),
-            (Resume(119), Started(1, 119)),
-            (Resume(2), Started(2, 2)),
-            (Resume(68), Started(3, 68)),
-            (Resume(54), Started(4, 54)),
-            (Resume(126), Started(5, 126)),
-            (Resume(61), Started(6, 61)),
-            (PUT_C, Placed(126)),
-            (Resume(171), Started(7, 171)),
-            (Rewrite, Rewritten(143)),
-            (Step(0), Gave(0, 2, 47, B_BYTES)),
-            (Step(1), Gave(1, 98, 143, C_BYTES)),
-            (Step(2), Gave(2, 2, 47, B_BYTES)),
-            (Step(3), Gave(3, 47, 98, HOST_BYTES)),
-            (Step(4), Gave(4, 47, 98, HOST_BYTES)),
-            (Step(5), Gave(5, 98, 143, C_BYTES)),
-            (Step(6), Gave(6, 47, 98, HOST_BYTES)),
-            (Step(7), Ended(7, 143)),
+            (Start, Started(0, 2)),
+            (Step(0), Gave(0, 2, 49, VERSION_1_BYTES)),
+            (Rewrite, Rewritten(53)),
+            (Step(0), Ended(0, 53)),
         ],
-        after: &[HEAD, B, HOST, b"\0\0\0\x29", C_BYTES],
+        after: &[HEAD, b"\0\0\0\x2f", UNTYPED_BYTES],
     },
 ];
 

@@ -1,7 +1,8 @@
 //! Walks over keytabs that change on the way.
 
-pub use super::records::B_BYTES;
-use super::records::{B, B_AND_ZEROS, C_BYTES, HEAD, HOST, HOST_AB_BYTES, HOST_BYTES, LOW_KEY};
+use super::records::{
+    B, B_AND_ZEROS, B_BYTES, C_BYTES, HEAD, HOST, HOST_AB_BYTES, HOST_BYTES, LOW_KEY,
+};
 use super::turns::Told::{Ended, Gave, Gone, Placed, Started};
 use super::turns::Turn::{Cut, Put, Start, Step};
 use super::turns::{PUT_B, PUT_C, PUT_HOST, Row, check};

@@ -5,9 +5,8 @@ use super::made::USUAL;
 use super::records::{B, B_BYTES, C_BYTES, HEAD, HOST, HOST_BYTES};
 use super::turns::Told::{Ended, Faulted, Gave, Gone, Placed, Refused, Started};
 use super::turns::Turn::{Cut, Resume, Start, Step};
-use super::turns::{PUT_B, PUT_C, Row, Told, Turn, check, check_row};
+use super::turns::{PUT_B, PUT_C, Row, Turn, check, check_row};
 use krb_walk::{Code, FaultKind};
-use std::process::Abort;
 use std::test::Fail;
 
 const ROWS: &[Row<'static>] = &[
@@ -20,15 +19,8 @@ const ROWS: &[Row<'static>] = &[
             (Step(0), Faulted(0, 53, FaultKind::BadEntry)),
             (Step(0), Faulted(0, 53, FaultKind::BadEntry)),
             (PUT_B, Refused(Code::Damaged)),
-            (Resume(2), Started(1, 2)),
-            (Resume(53), Started(2, 53)),
-            (Resume(54), Refused(Code::NotAPlace)),
-            (Resume(67), Refused(Code::NotAPlace)),
-            (Resume(112), Refused(Code::NotAPlace)),
             (Cut(2), Refused(Code::Damaged)),
             (Turn::Rewrite, Refused(Code::Damaged)),
-            (Step(1), Gave(1, 2, 53, HOST_BYTES)),
-            (Step(2), Faulted(2, 53, FaultKind::BadEntry)),
         ],
         after: &[HEAD, HOST, b"\0\0\0\x0a", &[0; 10], B],
     },
@@ -88,16 +80,6 @@ fn where_walks_begin_and_end(rt: HostRuntime) -> Result<(), Fail> {
     check(&rt, ROWS)
 }
 
-/// A row of an image that stays.
-fn unchanged<'a>(name: &'a str, image: &'a [&'a [u8]], turns: &'a [(Turn, Told<'a>)]) -> Row<'a> {
-    Row {
-        name,
-        before: image,
-        turns,
-        after: image,
-    }
-}
-
 /// A session holds 1,024 walks, and then refuses a new one wherever it is to begin.
 #[test]
 fn a_session_holds_1024_walks(rt: HostRuntime) -> Result<(), Fail> {
@@ -108,71 +90,16 @@ fn a_session_holds_1024_walks(rt: HostRuntime) -> Result<(), Fail> {
     turns.extend_from_slice(&[
         (Start, Refused(Code::TooManyWalks)),
         (Resume(53), Refused(Code::TooManyWalks)),
-        (Resume(54), Refused(Code::TooManyWalks)),
         (Resume(u32::MAX), Refused(Code::TooManyWalks)),
         (Step(1023), Gave(1023, 2, 53, HOST_BYTES)),
         (Step(1024), Refused(Code::NoSuchWalk)),
         (Cut(3), Refused(Code::NotLive)),
     ])?;
-    check_row(&rt, USUAL, &unchanged("1,024 walks", &[TWO], &turns))
-}
-
-/// A walk begins at the place of a record or at the end, and at no other number.
-#[test]
-fn walks_begin_at_places_alone(rt: HostRuntime) -> Result<(), Fail> {
-    let mut turns = Vec::from_slice(
-        rt.alloc(),
-        &[
-            (Step(9), Refused(Code::NoSuchWalk)),
-            (Resume(u32::MAX), Refused(Code::NotAPlace)),
-        ],
-    )?;
-    for place in 0..=200 {
-        let told = match place {
-            2 => Started(0, 2),
-            53 => Started(1, 53),
-            98 => Started(2, 98),
-            _ => Refused(Code::NotAPlace),
-        };
-        turns.push((Resume(place), told))?;
-    }
-    check_row(&rt, USUAL, &unchanged("each number", &[TWO], &turns))
-}
-
-/// What ends a walk over the first so many bytes of the two records.
-fn end_of_front(len: usize) -> Told<'static> {
-    match len {
-        2 | 53 | 98 => Ended(0, len as u32),
-        3..=5 => Faulted(0, 2, FaultKind::CutLength),
-        54..=56 => Faulted(0, 53, FaultKind::CutLength),
-        6..=52 => Faulted(0, 2, FaultKind::Overrun),
-        _ => Faulted(0, 53, FaultKind::Overrun),
-    }
-}
-
-/// Asserts so of the first so many bytes: a walk gives the records that are whole, then says what is wrong.
-fn check_front<R: Abort + AllocGlobal>(rt: &R, len: usize, front: &[u8]) -> Result<(), Fail> {
-    let start = (Start, Started(0, 2));
-    let host = (Step(0), Gave(0, 2, 53, HOST_BYTES));
-    let b = (Step(0), Gave(0, 53, 98, B_BYTES));
-    let end = (Step(0), end_of_front(len));
-    let name = "a keytab cut off";
-    match len {
-        98 => check_row(
-            rt,
-            USUAL,
-            &unchanged(name, &[front], &[start, host, b, end]),
-        ),
-        53..=97 => check_row(rt, USUAL, &unchanged(name, &[front], &[start, host, end])),
-        _ => check_row(rt, USUAL, &unchanged(name, &[front], &[start, end])),
-    }
-}
-
-#[test]
-fn a_keytab_cut_off_gives_its_whole_records(rt: HostRuntime) -> Result<(), Fail> {
-    for len in 2..=98 {
-        let front = TWO.get(..len).ok_or("no such front")?;
-        check_front(&rt, len, front)?;
-    }
-    Ok(())
+    let row = Row {
+        name: "1,024 walks",
+        before: &[TWO],
+        turns: &turns,
+        after: &[TWO],
+    };
+    check_row(&rt, USUAL, &row)
 }

@@ -3,7 +3,7 @@ use Rattle.std.proofs.lemmas.Bool.{cases_lt}
 use Rattle.std.proofs.lemmas.List.{get_or_past}
 use Rattle.krb_wire.proofs.Fields.{IsBytes}
 use Rattle.krb_keytab.specs.Cells.{Live, contents}
-use Rattle.krb_keytab.specs.Known.{IsChanged, len_with}
+use Rattle.krb_keytab.specs.Image.{IsChanged, len_with}
 use Rattle.krb_keytab.specs.Changes.{end_after}
 use Rattle.krb_keytab.proofs.Appended.{appended_is}
 use Rattle.krb_keytab.proofs.append.append_record.Goals as goal

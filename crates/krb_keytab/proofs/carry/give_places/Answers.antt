@@ -1,68 +1,62 @@
-use Rattle.std.proofs.Common.{◌≡◌, ℕ, ◌+◌, List, length, take, drop, refl, sym, ap, ◌∙◌, arith}
+use Rattle.std.proofs.Common.{◌≡◌, ℕ, ◌+◌, length, refl, ap, ◌∙◌, arith}
 use Rattle.std.specs.List.{splice}
 use Rattle.std.specs.Int.{w32}
 use Rattle.krb_wire.specs.declared.format.Order.TheVariants.{Big}
 use Rattle.krb_wire.specs.Spelling.{digits}
-use Rattle.krb_keytab.specs.declared.step.Step.TheVariants as step
-use Rattle.krb_keytab.specs.Cells.{Contents, contents, Live, Free}
-use Rattle.krb_keytab.proofs.KnownLemmas.{known_after_live, known_after_free}
-use Rattle.krb_keytab.proofs.Given.{given_first, given_next, known_tail, value_before, drop_more}
+use Rattle.krb_keytab.specs.declared.cells.CellView.{CellView}
+use Rattle.krb_keytab.specs.Cells.{Live, Free}
+use Rattle.krb_keytab.specs.CellView.{cell_of}
+use Rattle.krb_keytab.proofs.Given.{given_first, given_next, are_known_tail, first_old, passes_live}
 use Rattle.krb_keytab.proofs.carry.give_places.Goals as goal
 
 pub cells-init : goal.cells-init
-cells-init c = record {
-  within = c.requires.long;
-  known = c.requires.known;
-  to_within = c.requires.new_long;
-  to_known = c.requires.new_known;
-  given = given_first c.args.format c.args.image.now c.args.new.now;
-}
+cells-init c = record { known = c.requires.known; given = given_first c.args.format c.args.image.now c.args.new }
 
-pub known_step-requires-clause-known : goal.known_step-requires-clause-known
-known_step-requires-clause-known c =
+pub invariant_of-old : goal.invariant_of-old
+invariant_of-old c =
     let g = c.cells.invariant.given in
-    known_tail c.args.format c.cells.image c.args.image.now c.cells.at c.args.end g.tails g.len c.cells.invariant.known
+    are_known_tail c.args.format c.cells.image c.args.image.now c.cells.at c.args.end g.tails g.len c.cells.invariant.known
 
-pub cells-preserved-in-Live : goal.cells-preserved-in-Live
-cells-preserved-in-Live c =
-    let f = c.args.format in
-    let old = c.args.image.now in
+pub put_u32-requires : goal.put_u32-requires
+put_u32-requires c =
+    let o = (first_old c.args.format c.args.image.now c.cells.image c.cells.at c.args.end (Live c.in-Some-default-Live.bytes.now) _ _ c.bytes_fit.ensures c.cells.invariant.known c.cells.invariant.given.tails (ap (λ (x : CellView). cell_of x) c.in-Some-default-Live.field-0-1-is) c.in-Some-default-Live.ensures.steps.cells) in
+    let room = o.room in
+    let len = c.cells.invariant.given.len in
+    omega (arith, room, len)
+
+pub cells-preserved-in-Some-default-Live : goal.cells-preserved-in-Some-default-Live
+cells-preserved-in-Some-default-Live c =
     let now = c.cells.image in
     let at = c.cells.at in
-    let n = c.in-Live.size in
     let g = c.cells.invariant.given in
-    let value = value_before f now old at (step.Live n) g.tails c.in-Live.ensures.value in
-    let within = c.in-Live.ensures.within in
-    let len : length (take n (drop (at + 4) old)) ≡ n = ap (λ (b : List ℕ). length (take n b)) (sym (drop_more now old at (at + 4) g.tails (omega arith))) ∙ within.2 in
-    let cs = (contents f (drop (at + 4 + n) old)).cells in
+    let o = (first_old c.args.format c.args.image.now c.cells.image c.cells.at c.args.end (Live c.in-Some-default-Live.bytes.now) _ _ c.bytes_fit.ensures c.cells.invariant.known c.cells.invariant.given.tails (ap (λ (x : CellView). cell_of x) c.in-Some-default-Live.field-0-1-is) c.in-Some-default-Live.ensures.steps.cells) in
+    let room = o.room in
+    let len = g.len in
     let same_len : length c.put_u32.new.out ≡ length now = let auto = c.put_u32.auto.out in omega (arith, auto) in
+    let wrote = c.put_u32.ensures.written ∙ ap (λ (m : ℕ). splice now at m (digits Big w32 c.place.result)) c.put_u32.ensures.next ∙ ap (λ (m : ℕ). splice now at (at + 4) (digits Big w32 m)) c.place.ensures.place in
     record {
-      within = omega (arith, within.1, same_len);
-      known = known_after_live f old at n c.args.end c.cells.invariant.known value len;
-      to_within = c.next_place-to.ensures.within;
-      to_known = c.next_place-to.ensures.known;
-      given = given_next f old now c.put_u32.new.out c.args.new.now at c.cells.to c.next_place-to.result n (Live (take n (drop (at + 4) old))) cs g (omega (arith, within.1)) (ap (λ (k : Contents). k.cells) value) refl len
-          (c.next_place-to.ensures.next (take n (drop (at + 4) old))) (c.next_place-to.ensures.rest (take n (drop (at + 4) old))) (c.put_u32.ensures.written ∙ ap (λ (m : ℕ). splice now at m (digits Big w32 c.cells.to)) c.put_u32.ensures.next) same_len;
+      known = o.known;
+      given = given_next c.args.format c.args.image.now now c.put_u32.new.out c.args.new c.cells.new c.next-in-Some-default-Live.new.self at (length c.in-Some-default-Live.bytes.now) (Live c.in-Some-default-Live.bytes.now) _ g (omega (arith, room, len)) o.cells o.others refl (passes_live c.in-Some-default-Live.bytes.now c.cells.new c.next-in-Some-default-Live.new.self c.next-in-Some-default-Live.result c.next-in-Some-default-Live.ensures.steps) wrote same_len;
     }
+
+pub put_u32-requires-in-Some-default-Free : goal.put_u32-requires-in-Some-default-Free
+put_u32-requires-in-Some-default-Free c =
+    let o = (first_old c.args.format c.args.image.now c.cells.image c.cells.at c.args.end (Free c.in-Some-default-Free.bytes.now) _ _ c.bytes_fit.ensures c.cells.invariant.known c.cells.invariant.given.tails (ap (λ (x : CellView). cell_of x) c.in-Some-default-Free.field-0-1-is) c.in-Some-default-Free.ensures.steps.cells) in
+    let room = o.room in
+    let len = c.cells.invariant.given.len in
+    omega (arith, room, len)
 
 pub cells-preserved : goal.cells-preserved
 cells-preserved c =
-    let f = c.args.format in
-    let old = c.args.image.now in
     let now = c.cells.image in
     let at = c.cells.at in
-    let n = c.in-Free.size in
     let g = c.cells.invariant.given in
-    let value = value_before f now old at (step.Free n) g.tails c.in-Free.ensures.value in
-    let within = c.in-Free.ensures.within in
-    let len : length (take n (drop (at + 4) old)) ≡ n = ap (λ (b : List ℕ). length (take n b)) (sym (drop_more now old at (at + 4) g.tails (omega arith))) ∙ within.2 in
-    let cs = (contents f (drop (at + 4 + n) old)).cells in
-    let same_len : length c.put_u32-in-Free.new.out ≡ length now = let auto = c.put_u32-in-Free.auto.out in omega (arith, auto) in
+    let o = (first_old c.args.format c.args.image.now c.cells.image c.cells.at c.args.end (Free c.in-Some-default-Free.bytes.now) _ _ c.bytes_fit.ensures c.cells.invariant.known c.cells.invariant.given.tails (ap (λ (x : CellView). cell_of x) c.in-Some-default-Free.field-0-1-is) c.in-Some-default-Free.ensures.steps.cells) in
+    let room = o.room in
+    let len = g.len in
+    let same_len : length c.put_u32-in-Some-default-Free.new.out ≡ length now = let auto = c.put_u32-in-Some-default-Free.auto.out in omega (arith, auto) in
+    let wrote = c.put_u32-in-Some-default-Free.ensures.written ∙ ap (λ (m : ℕ). splice now at m (digits Big w32 c.place-in-Some-default-Free.result)) c.put_u32-in-Some-default-Free.ensures.next ∙ ap (λ (m : ℕ). splice now at (at + 4) (digits Big w32 m)) c.place-in-Some-default-Free.ensures.place in
     record {
-      within = omega (arith, within.1, same_len);
-      known = known_after_free f old at n c.args.end c.cells.invariant.known value len;
-      to_within = c.cells.invariant.to_within;
-      to_known = c.cells.invariant.to_known;
-      given = given_next f old now c.put_u32-in-Free.new.out c.args.new.now at c.cells.to c.cells.to n (Free (take n (drop (at + 4) old))) cs g (omega (arith, within.1)) (ap (λ (k : Contents). k.cells) value) refl len
-          refl refl (c.put_u32-in-Free.ensures.written ∙ ap (λ (m : ℕ). splice now at m (digits Big w32 c.cells.to)) c.put_u32-in-Free.ensures.next) same_len;
+      known = o.known;
+      given = given_next c.args.format c.args.image.now now c.put_u32-in-Some-default-Free.new.out c.args.new c.cells.new c.cells.new at (length c.in-Some-default-Free.bytes.now) (Free c.in-Some-default-Free.bytes.now) _ g (omega (arith, room, len)) o.cells o.others refl (record { place = refl; cells = refl }) wrote same_len;
     }

@@ -3,7 +3,7 @@ use Rattle.std.specs.List.{splice}
 use Rattle.krb_wire.specs.Spelling.{name_fits}
 use Rattle.krb_wire.proofs.Fields.{wide16, wide32}
 use Rattle.krb_keytab.specs.Entry.{EntryParts}
-use Rattle.krb_keytab.specs.Written.{written}
+use Rattle.krb_keytab.specs.Form.{written}
 use Rattle.krb_keytab.proofs.WrittenLemmas.{name_of_entry_fits, entry_put}
 use Rattle.krb_keytab.proofs.form.put_entry.Goals as goal
 

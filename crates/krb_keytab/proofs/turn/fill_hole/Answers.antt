@@ -4,18 +4,18 @@ use Rattle.krb_keytab.proofs.turn.fill_hole.Goals as goal
 
 pub put_record-requires-clause-room : goal.put_record-requires-clause-room
 put_record-requires-clause-room g c =
-    (hole_in c.args.form.now.format c.args.image.now (length c.args.form.now.bytes) c.args.hole c.args.end c.bytes_fit.ensures c.requires.known c.requires.hole).room
+    (hole_in c.args.form.now.format c.args.image.now (length c.args.form.now.bytes) c.args.hole c.args.end c.bytes_fit.ensures c.requires.known.ends c.requires.hole).room
 
 pub put_record-requires-clause-fits : goal.put_record-requires-clause-fits
 put_record-requires-clause-fits g c =
-    (hole_in c.args.form.now.format c.args.image.now (length c.args.form.now.bytes) c.args.hole c.args.end c.bytes_fit.ensures c.requires.known c.requires.hole).large
+    (hole_in c.args.form.now.format c.args.image.now (length c.args.form.now.bytes) c.args.hole c.args.end c.bytes_fit.ensures c.requires.known.ends c.requires.hole).large
 
 pub put_record-requires-clause-small : goal.put_record-requires-clause-small
 put_record-requires-clause-small g c =
-    let i = hole_in c.args.form.now.format c.args.image.now (length c.args.form.now.bytes) c.args.hole c.args.end c.bytes_fit.ensures c.requires.known c.requires.hole in
+    let i = hole_in c.args.form.now.format c.args.image.now (length c.args.form.now.bytes) c.args.hole c.args.end c.bytes_fit.ensures c.requires.known.ends c.requires.hole in
     let room = i.room in
     omega (arith, room)
 
 pub returns-clause-changed : goal.returns-clause-changed
 returns-clause-changed g c =
-    filled_is c.args.form.now.format c.args.image.now c.put_record.new.image c.args.form.now.bytes c.args.hole c.args.end c.requires.long c.requires.small c.bytes_fit.ensures (λ i. omega (arith, c.type_inv.image i)) c.requires.known c.len.ensures.record c.requires.hole c.put_record.ensures
+    filled_is c.args.form.now.format c.args.image.now c.put_record.new.image c.args.form.now.bytes c.args.hole c.args.end c.requires.known.within c.requires.known.small c.bytes_fit.ensures (λ i. omega (arith, c.type_inv.image i)) c.requires.known.ends c.len.ensures.record c.requires.hole c.put_record.ensures

@@ -1,5 +1,5 @@
 use Rattle.std.proofs.Common.{subst}
-use Rattle.krb_keytab.specs.Written.{FormParts, IsRecord}
+use Rattle.krb_keytab.specs.Form.{FormParts, IsRecord}
 use Rattle.krb_keytab.proofs.WrittenLemmas.{written_is_record}
 use Rattle.krb_keytab.proofs.form.Form.len.Goals as goal
 

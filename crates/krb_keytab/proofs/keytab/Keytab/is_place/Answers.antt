@@ -1,5 +1,6 @@
-use Rattle.krb_keytab.proofs.Stores.{state_is, is_place_held}
+use Rattle.std.proofs.Common.{◌∙◌}
+use Rattle.krb_keytab.proofs.Stores.{place_of_cells}
 use Rattle.krb_keytab.proofs.keytab.Keytab.is_place.Goals as goal
 
 pub returns : goal.returns
-returns g c = is_place_held c.self.inside.format c.self.inside.limit c.self.inside.image.items c.deref.result.now c.args.self.now.state c.args.place c.is_place_of.result c.deref.ensures.value (state_is c.self.view_is) c.is_place_of.ensures
+returns g c = c.is_place.ensures ∙ place_of_cells c.args.self.now.state c.cells.result c.args.place c.cells.ensures

@@ -1,7 +1,7 @@
 use Rattle.std.proofs.Common.{rules, ◌≡◌, ℕ, List, Option, Some, None, Ok, true, refl, subst}
 use Rattle.std.specs.Prelude.{IsSome, is_some, option_copied}
 use Rattle.std.specs.Borrow.{Bor}
-use Rattle.krb_keytab.specs.Changes.{cutting}
+use Rattle.krb_keytab.specs.Changes.{cut_result}
 use Rattle.krb_keytab.proofs.FoundAgain.{removed_none}
 use Rattle.krb_keytab.proofs.keytab.Keytab.remove_at.Goals as goal
 
@@ -14,5 +14,5 @@ free-requires g c = subst (λ (o : Option (List ℕ)). IsSome o) c.record.ensure
 
 pub returns-clause-gone : goal.returns-clause-gone
 returns-clause-gone g c =
-    let gives : cutting c.args.self.now.state c.args.place ≡ Ok c.free.new.self.state = search rules in
+    let gives : cut_result c.args.self.now.state c.args.place ≡ Ok c.free.new.self.state = search rules in
     removed_none c.args.self.now.state c.args.place c.free.new.self.state gives

@@ -4,17 +4,14 @@ use Rattle.krb_keytab.specs.Cells.{contents}
 use Rattle.krb_wire.specs.declared.format.KtFormat.TheVariants.{V2}
 use Rattle.krb_walk.specs.Store.{fault_of}
 use Rattle.krb_walk.specs.Ranks.{Rewrites}
-use Rattle.krb_keytab.specs.declared.step.Ending.TheVariants as ending
-use Rattle.krb_keytab.specs.Known.{IsKnownEnd}
 use Rattle.krb_keytab.specs.Store.{State, store_of, entries}
-use Rattle.krb_keytab.proofs.Stores.{state_is, held}
+use Rattle.krb_keytab.proofs.Stores.{state_is, held, known_held}
 use Rattle.krb_keytab.proofs.CarryLemmas.{all_places, all_carried}
 use Rattle.krb_keytab.proofs.Rewrites.{held_anew, rewriting_done, rewrites_store, is_image, whole_kind}
 use Rattle.krb_keytab.proofs.keytab.Keytab.rewrite.Goals as goal
 
-pub carry_cursors-requires-clause-new_known : goal.carry_cursors-requires-clause-new_known
-carry_cursors-requires-clause-new_known g c =
-    subst (λ (b : List ℕ). IsKnownEnd V2 b (record { place = c.in-Some.len; ending = ending.Bare })) (sym c.deref.ensures.value) c.in-Ok.ensures.known
+pub carry_cursors-requires-clause-known : goal.carry_cursors-requires-clause-known
+carry_cursors-requires-clause-known g c = known_held c.self.inside.format c.self.inside.limit c.self.inside.image.items c.deref_mut.result.now c.self.inside.end c.deref_mut.ensures.value c.self.invariant.0 c.self.invariant.1
 
 pub carry_cursors-requires-clause-places : goal.carry_cursors-requires-clause-places
 carry_cursors-requires-clause-places g c =

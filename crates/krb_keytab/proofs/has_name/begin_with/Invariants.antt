@@ -1,0 +1,8 @@
+use Rattle.std.proofs.Common.{◌≡◌}
+use Rattle.krb_keytab.specs.HasName.{begin_with}
+use Rattle.krb_keytab.proofs.has_name.begin_with.Given as goal
+
+-- what is asked of the rest is asked of all
+abbrev pub invariant-loop-component : goal.invariant-loop-component
+invariant-loop-component g l =
+    begin_with l.order l.component-iterator l.rest ≡ begin_with l.order (g.N.Name.parts l.name).components l.bytes

@@ -1,0 +1,42 @@
+-- The cells of an image from a place on.
+use Rattle.std.specs.Prelude.{◌≡◌, ℕ, ◌+◌, ◌≤◌, ◌^◌, List, ◌∷◌, ◌++◌, length}
+use Rattle.krb_wire.specs.declared.format.KtFormat.{KtFormat}
+use Rattle.krb_keytab.specs.declared.image.CellsEnd.{CellsEnd}
+use Rattle.krb_keytab.specs.Cells.{Cell, Contents, IsCell}
+use Rattle.krb_keytab.specs.Questions.{size, end_place}
+use Rattle.krb_keytab.specs.Store.{State}
+use Rattle.krb_keytab.specs.Image.{EndsKnown}
+
+-- cells of a format that begin at a place, and what ends them
+pub record CellsFrom : Type 0 where
+  pub format : KtFormat
+  pub place : ℕ
+  pub contents : Contents
+
+-- all cells of a keytab
+abbrev pub cells_of : State → CellsFrom
+cells_of k = record { format = k.format; place = 2; contents = k.contents }
+
+-- they lie in an image, and where they end is known
+pub record AreKnown (f : KtFormat) (image : List ℕ) (at : ℕ) (e : CellsEnd) : Type 0 where
+  pub within : at ≤ length image
+  pub small : length image ≤ 2 ^ 30
+  pub ends : EndsKnown f image at e
+
+-- the first cell, and the cells after it
+pub record BeginsWith (old : CellsFrom) (at : ℕ) (c : Cell) (new : CellsFrom) : Type 0 where
+  pub place : at ≡ old.place
+  pub cells : old.contents.cells ≡ c ∷ new.contents.cells
+  pub end : old.contents.end ≡ new.contents.end
+  pub next : new.place ≡ at + 4 + size c
+  pub format : new.format ≡ old.format
+  pub sound : IsCell old.format c
+  pub small : new.place ≤ 2 ^ 30
+
+-- the cells from one of them on, after those before it
+pub record IsSuffix (cells rest : CellsFrom) : Type 0 where
+  pub before : List Cell
+  pub parts : cells.contents.cells ≡ before ++ rest.contents.cells
+  pub place : rest.place ≡ end_place cells.place before
+  pub end : rest.contents.end ≡ cells.contents.end
+  pub format : rest.format ≡ cells.format

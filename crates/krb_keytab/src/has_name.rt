@@ -1,0 +1,60 @@
+//! The name of an entry, compared where it stands.
+
+ghost use Rattle.std.specs.Prelude.{◌≡◌, ◌↔◌, IsTrue, Some, length};
+ghost use Rattle.krb_wire.specs.SameName.{have_same_name};
+ghost use Rattle.krb_wire.specs.Reading.{components_of_count};
+ghost use Rattle.krb_keytab.specs.Entry.{EntryParts, entry_at};
+ghost use Rattle.krb_keytab.specs.HasName.{begin_with};
+
+use krb_wire::{KtFormat, Name, Order, split_data16, split_u16};
+
+// Whether a count that was read stands for so many components: version 1 counts the realm too.
+fn is_count(format: KtFormat, field: u16, count: usize) -> bool
+    ensures { IsTrue result ↔ (components_of_count format field ≡ Some count) }
+{
+    match format {
+        KtFormat::V1(_) => field != 0 && field as usize - 1 == count,
+        KtFormat::V2 => field as usize == count,
+    }
+}
+
+// Whether the bytes begin with the components of a name.
+#[inline(always)]
+fn begin_with<N: Name>(order: Order, name: &N, bytes: &[u8]) -> bool
+    ensures { result ≡ begin_with order (N.parts name.now).components bytes.now }
+{
+    let mut rest = bytes;
+    for component in name.components() {
+        let Some((read, after)) = split_data16(order, rest) else {
+            return false;
+        };
+        if component != read {
+            return false;
+        }
+        rest = after;
+    }
+    true
+}
+
+/// Whether the entry that the bytes begin with has a name. It is read as far as the two agree: the
+/// realm, which most entries of a keytab share, comes last.
+#[inline(always)]
+pub fn has_name<N: Name>(format: KtFormat, name: &N, bytes: &[u8]) -> bool
+    ensures { (e : EntryParts) → entry_at format bytes.now ≡ Some e
+        → result ≡ have_same_name (N.parts name.now) e.principal }
+{
+    let order = format.order();
+    let Some((field, rest)) = split_u16(order, bytes) else {
+        return false;
+    };
+    let Some((realm, components)) = split_data16(order, rest) else {
+        return false;
+    };
+    if !is_count(format, field, name.count()) {
+        return false;
+    }
+    if !begin_with(order, name, components) {
+        return false;
+    }
+    name.realm() == realm
+}
