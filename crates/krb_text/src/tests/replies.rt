@@ -1,8 +1,13 @@
+ghost use Rattle.krb_wire.specs.declared.format.KtFormat.TheVariants.{V2};
+ghost use Rattle.krb_walk.specs.Said.{said};
+ghost use Rattle.krb_text.specs.Reply.{IsReadable};
+
 use crate::{reply_line, reply_lines};
+use krb_keytab::read_entry;
 use krb_walk::{Code, Fault, FaultKind, Reply};
 use krb_wire::{KtFormat, Order};
-use refusing::refuse_each;
-use std::alloc::{AllocError, Allocator};
+use refusing::{Refusing, refuse_each};
+use std::alloc::Global;
 use std::test::Fail;
 
 /// `host/a@R` of version 1, in its last bytes a version of 32 bits.
@@ -12,64 +17,117 @@ const HOST_V1: &[u8] = b"\x03\0\x01\0R\x04\0host\x01\0a\0\xf1\x53\x65\x03\x11\0\
 const HOST_V2: &[u8] =
     b"\0\x02\0\x01R\0\x04host\0\x01a\0\0\0\x01\x65\x53\xf1\0\x03\0\x11\0\0\0\0\0\x03";
 
-fn gave<A: Allocator>(alloc: A, place: u32, bytes: &[u8]) -> Result<Reply<A>, AllocError> {
-    Ok(Reply::Gave {
+// The line of a reply over a keytab of version 2.
+fn line(alloc: Global, reply: &Reply<Global>) -> Result<Vec<u8>, Fail>
+    requires { IsReadable V2 (said reply.now) }
+{
+    let mut out = Vec::new(alloc);
+    match reply_line(KtFormat::V2, reply, &mut out) {
+        Ok(()) => Ok(out),
+        Err(_) => Err(Fail::from("no memory")),
+    }
+}
+
+// The same where a record is given.
+fn line_of_record(alloc: Global) -> Result<Vec<u8>, Fail> {
+    let bytes = Vec::from_slice(alloc, HOST_V2)?;
+    if read_entry(KtFormat::V2, &bytes).is_none() {
+        return Err(Fail::from("no entry"));
+    }
+    let reply = Reply::Gave {
         walk: 0,
-        place,
-        next: place + 51,
-        bytes: Vec::from_slice(alloc, bytes)?,
-    })
+        place: 2,
+        next: 53,
+        bytes,
+    };
+    line(alloc, &reply)
 }
 
 /// Each line as the program's users are told it.
 #[test]
 fn a_line_of_each_reply(rt: HostRuntime) -> Result<(), Fail> {
+    let heap = rt.alloc();
     let fault = Fault {
         place: 53,
         kind: FaultKind::BadEntry,
     };
-    for (reply, want) in [
-        (Reply::Started { walk: 0, next: 2 }, "walk 0 at 2\n"),
+    for (line, want) in [
         (
-            gave(rt.alloc(), 2, HOST_V2)?,
+            line(heap, &Reply::Started { walk: 0, next: 2 })?,
+            "walk 0 at 2\n",
+        ),
+        (
+            line_of_record(heap)?,
             "walk 0 gave 2 next 53 kvno 3 etype 17 host/a@R\n",
         ),
         (
-            Reply::Ended {
-                walk: 1023,
-                next: 98,
-            },
+            line(
+                heap,
+                &Reply::Ended {
+                    walk: 1023,
+                    next: 98,
+                },
+            )?,
             "walk 1023 end 98\n",
         ),
-        (Reply::Faulted { walk: 0, fault }, "walk 0 fault 3 at 53\n"),
-        (Reply::Placed(2), "placed 2\n"),
-        (Reply::Gone(u32::MAX), "gone 4294967295\n"),
-        (Reply::Refused(Code::Damaged), "refused 1\n"),
-        (Reply::Rewritten(53), "rewritten 53\n"),
+        (
+            line(heap, &Reply::Faulted { walk: 0, fault })?,
+            "walk 0 fault 3 at 53\n",
+        ),
+        (line(heap, &Reply::Placed(2))?, "placed 2\n"),
+        (line(heap, &Reply::Gone(u32::MAX))?, "gone 4294967295\n"),
+        (line(heap, &Reply::Refused(Code::Damaged))?, "refused 1\n"),
+        (line(heap, &Reply::Rewritten(53))?, "rewritten 53\n"),
     ] {
-        let mut out = Vec::new(rt.alloc());
-        assert!(rt; reply_line(KtFormat::V2, &reply, &mut out).is_ok());
-        assert!(rt; out.as_slice() == want.as_bytes(), "{want}");
+        assert!(rt; line.as_slice() == want.as_bytes(), "{want}");
     }
     Ok(())
 }
 
-/// The format is version 2 from a rewrite on. Where a growth is refused, what was there before stays.
+// Whether the lines of a record, a rewrite and the record again were written, where a request is refused.
+fn write_over_a_rewrite<'a>(
+    heap: &'a Refusing<Global>,
+    nth: u64,
+    out: &mut Vec<u8, &'a Refusing<Global>>,
+) -> Result<bool, Fail> {
+    let format = KtFormat::V1(Order::Little);
+    let before = Vec::from_slice(heap, HOST_V1)?;
+    let after = Vec::from_slice(heap, HOST_V2)?;
+    if read_entry(format, &before).is_none() {
+        return Err(Fail::from("no entry of version 1"));
+    }
+    if read_entry(KtFormat::V2, &after).is_none() {
+        return Err(Fail::from("no entry of version 2"));
+    }
+    let replies = [
+        Reply::Gave {
+            walk: 0,
+            place: 2,
+            next: 49,
+            bytes: before,
+        },
+        Reply::Rewritten(53),
+        Reply::Gave {
+            walk: 0,
+            place: 2,
+            next: 53,
+            bytes: after,
+        },
+    ];
+    heap.refuse(nth);
+    Ok(reply_lines(format, &replies, out).is_ok())
+}
+
+/// The format is version 2 from a rewrite on. Where an allocation fails, what was there before stays.
 #[test]
 fn growths_of_lines_over_a_rewrite(rt: HostRuntime) -> Result<(), Fail> {
-    let replies = [
-        gave(rt.alloc(), 2, HOST_V1)?,
-        Reply::Rewritten(53),
-        gave(rt.alloc(), 2, HOST_V2)?,
-    ];
     let requests = refuse_each(rt.alloc(), 100, |heap, n| {
         let mut out = Vec::from_slice(heap, b"before\n")?;
-        heap.refuse(n);
-        let is_written = reply_lines(KtFormat::V1(Order::Little), &replies, &mut out).is_ok();
+        let is_written = write_over_a_rewrite(heap, n, &mut out)?;
         assert_eq!(rt; is_written, !heap.refused());
         let want = if is_written {
             "before\n\
-walk 0 gave 2 next 53 kvno 3 etype 17 host/a@R\n\
+walk 0 gave 2 next 49 kvno 3 etype 17 host/a@R\n\
 rewritten 53\n\
 walk 0 gave 2 next 53 kvno 3 etype 17 host/a@R\n"
         } else {
