@@ -17,13 +17,13 @@ use Rattle.krb_walk.specs.Said.{Said, Started, Refused}
 use Rattle.krb_walk.specs.Events.{State as Session, reply_to, after, store_after, step_said, stop_said, end_said, put_said, put_store, cut_said, cut_store, rewrite_said}
 use Rattle.krb_walk.specs.History.{history, replies, state_after}
 use Rattle.krb_walk.specs.Ran.{Ran}
-use Rattle.krb_keytab.specs.Changes.{PlacedCell, putting, putting_bytes, putting_into, first_hole, without, with_last}
-use Rattle.krb_keytab.specs.Edited.{new_session}
+use Rattle.krb_keytab.specs.Changes.{PlacedCell, put_result, put_bytes_result, put_result_into, first_hole, with_hole, with_last}
+use Rattle.krb_keytab.specs.Edit.{new_session}
 use Rattle.krb_keytab.specs.Entry.{EntryParts}
 use Rattle.krb_keytab.specs.Rewrite.{rewrite_of}
 use Rattle.krb_keytab.specs.Store.{State, image_of, store_of}
-use Rattle.krb_keytab.specs.Walked.{keytab_rules}
-use Rattle.krb_keytab.specs.Written.{fits, written}
+use Rattle.krb_keytab.specs.Placed.{keytab_rules}
+use Rattle.krb_keytab.specs.Form.{fits, written}
 use Rattle.krb_text.specs.declared.files.Files.{Ghosts}
 use Rattle.krb_text.specs.declared.files.LoadFault.{LoadFault}
 use Rattle.krb_text.specs.declared.files.LoadFault.TheVariants as load
@@ -57,14 +57,14 @@ if_keeps : (k : State) (b : Bool) (x y : Result (ℕ × State) Code) → KeepsFo
 if_keeps k true x y hx hy = hx
 if_keeps k false x y hx hy = hy
 
-into_keeps : (k : State) (bytes : List ℕ) (hole : Option PlacedCell) → KeepsFormat k (putting_into k bytes hole)
+into_keeps : (k : State) (bytes : List ℕ) (hole : Option PlacedCell) → KeepsFormat k (put_result_into k bytes hole)
 into_keeps k bytes (Some hole) = refl
 into_keeps k bytes None = if_keeps k (nat_lt k.limit (length (image_of (with_last k bytes)))) (Err code.Full) (Ok (end_of (store_of k), with_last k bytes)) tt refl
 
-put_keeps : (k : State) (e : EntryParts) → KeepsFormat k (putting k e)
+put_keeps : (k : State) (e : EntryParts) → KeepsFormat k (put_result k e)
 put_keeps k e =
-    if_keeps k (is_some (fault_of (store_of k))) (Err code.Damaged) (if fits k.format e then putting_bytes k (written k.format e) else Err code.TooLong) tt
-      (if_keeps k (fits k.format e) (putting_bytes k (written k.format e)) (Err code.TooLong) (into_keeps k (written k.format e) (first_hole 2 (length (written k.format e)) k.contents.cells)) tt)
+    if_keeps k (is_some (fault_of (store_of k))) (Err code.Damaged) (if fits k.format e then put_bytes_result k (written k.format e) else Err code.TooLong) tt
+      (if_keeps k (fits k.format e) (put_bytes_result k (written k.format e)) (Err code.TooLong) (into_keeps k (written k.format e) (first_hole 2 (length (written k.format e)) k.contents.cells)) tt)
 
 -- the format that a reply leaves is that of the keytab after its event
 of_put : (k : State) (given : Result (ℕ × State) Code) → KeepsFormat k given → (put_store k given).format ≡ format_after k.format (put_said given)
@@ -91,8 +91,8 @@ of_step : (f : KtFormat) (s : Store) (w : ℕ) (cursor : Option ℕ) → f ≡ f
 of_step f s w None = refl
 of_step f s w (Some c) = of_stop f s w (next_live s c)
 
-of_cut_if : (k : State) (p : ℕ) (a b : Bool) (r s : Code) → (cut_store k (if a then Err r else (if b then Ok (without k p) else Err s))).format
-    ≡ format_after k.format (cut_said p (if a then Err r else (if b then Ok (without k p) else Err s)))
+of_cut_if : (k : State) (p : ℕ) (a b : Bool) (r s : Code) → (cut_store k (if a then Err r else (if b then Ok (with_hole k p) else Err s))).format
+    ≡ format_after k.format (cut_said p (if a then Err r else (if b then Ok (with_hole k p) else Err s)))
 of_cut_if k p true b r s = refl
 of_cut_if k p false true r s = refl
 of_cut_if k p false false r s = refl
@@ -107,7 +107,7 @@ format_of_event : (s : Session State) (e : Event EntryParts) → (store_after ke
 format_of_event s Start = of_cond s.store.format (nat_lt (length s.cursors) 1024) (Started (length s.cursors) 2) (Refused code.TooManyWalks) refl refl
 format_of_event s (Resume p) = of_resume s.store.format (nat_lt (length s.cursors) 1024) (is_place (store_of s.store) p) (Started (length s.cursors) p) (Refused code.NotAPlace) (Refused code.TooManyWalks) refl refl refl
 format_of_event s (Step w) = of_step s.store.format (store_of s.store) w (slice_get s.cursors w)
-format_of_event s (Put e) = of_put s.store (putting s.store e) (put_keeps s.store e)
+format_of_event s (Put e) = of_put s.store (put_result s.store e) (put_keeps s.store e)
 format_of_event s (Cut p) = of_cut_if s.store p (is_some (fault_of (store_of s.store))) (is_some (live_bytes (store_of s.store) p)) code.Damaged code.NotLive
 format_of_event s Rewrite = of_rewrite_if s.store (is_some (fault_of (store_of s.store))) (nat_lt s.store.limit (length (image_of (rewrite_of s.store)))) code.Damaged code.Full
 

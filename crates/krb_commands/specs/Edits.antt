@@ -4,10 +4,10 @@ use Rattle.krb_wire.specs.declared.format.Order.{Order}
 use Rattle.krb_walk.specs.declared.event.Event.{Event}
 use Rattle.krb_walk.specs.History.{replies, state_after}
 use Rattle.krb_walk.specs.Ran.{Ran}
-use Rattle.krb_keytab.specs.Edited.{new_session}
+use Rattle.krb_keytab.specs.Edit.{new_session}
 use Rattle.krb_keytab.specs.Entry.{EntryParts}
 use Rattle.krb_keytab.specs.Store.{State, image_of}
-use Rattle.krb_keytab.specs.Walked.{keytab_rules}
+use Rattle.krb_keytab.specs.Placed.{keytab_rules}
 use Rattle.krb_text.specs.declared.files.Files.{Ghosts}
 use Rattle.krb_text.specs.Bytes.{Watch}
 use Rattle.krb_commands.specs.declared.ktedit.Edited.{Edited}

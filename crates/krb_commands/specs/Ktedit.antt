@@ -8,10 +8,10 @@ use Rattle.krb_walk.specs.Said.{Said, Placed, Gone, Rewritten, Refused, Faulted}
 use Rattle.krb_walk.specs.History.{Moment, history, replies, state_after}
 use Rattle.krb_walk.specs.Ran.{Ran}
 use Rattle.krb_keytab.specs.declared.open.KtOpenFault.{KtOpenFault}
-use Rattle.krb_keytab.specs.Edited.{new_session}
+use Rattle.krb_keytab.specs.Edit.{new_session}
 use Rattle.krb_keytab.specs.Entry.{EntryParts}
 use Rattle.krb_keytab.specs.Store.{State, empty, image_of, opening}
-use Rattle.krb_keytab.specs.Walked.{keytab_rules}
+use Rattle.krb_keytab.specs.Placed.{keytab_rules}
 use Rattle.krb_text.specs.declared.files.Files.{Ghosts}
 use Rattle.krb_text.specs.declared.files.LoadFault.{LoadFault}
 use Rattle.krb_text.specs.declared.files.LoadFault.TheVariants as load
