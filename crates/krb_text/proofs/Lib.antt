@@ -2,6 +2,10 @@ pub mod Prefixes
 pub mod FileLists
 pub mod Passing
 pub mod Lines
+pub mod Cuts
+pub mod Scripts
+pub mod Additions
+pub mod Items
 pub mod Aligned
 pub mod Found
 pub mod Etypes

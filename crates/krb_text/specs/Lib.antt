@@ -12,4 +12,8 @@ pub mod Time
 pub mod Calendar
 pub mod Line
 pub mod Listing
+pub mod Slots
 pub mod Found
+pub mod Reply
+pub mod Pieces
+pub mod Script

@@ -74,8 +74,8 @@ fn is_hexadecimal(text: &[u8]) -> bool
     text.len() % 2 == 0 && are_hex_digits(text)
 }
 
-// Whether a text spells a key of an encryption type.
-fn is_key(etype: u16, digits: &[u8]) -> bool
+/// Whether a text spells a key of an encryption type.
+pub fn is_key(etype: u16, digits: &[u8]) -> bool
     ensures { result ≡ is_some (key_in etype digits.now) }
 {
     is_hexadecimal(digits) && is_key_size(etype, digits.len() / 2)
@@ -112,6 +112,37 @@ mod tests {
         out.clear();
         assert!(rt; key_text(b"", &mut out).is_ok());
         assert!(rt; out.as_slice() == b"0x".as_slice());
+        Ok(())
+    }
+
+    #[test]
+    fn keys_of_digits(rt: HostRuntime) -> Result<(), Fail> {
+        for (etype, digits, want) in [
+            (1, "", Some(b"".as_slice())),
+            (1, "00fFAb9a", Some(b"\0\xff\xab\x9a")),
+            (1, "0", None),
+            (1, "0x", None),
+            (1, "0@", None),
+            (1, "0G", None),
+            (17, "", None),
+            (17, "000102030405060708090a0b0c0d0e", None),
+            (
+                17,
+                "000102030405060708090a0b0c0d0e0f",
+                Some(b"\0\x01\x02\x03\x04\x05\x06\x07\x08\x09\x0a\x0b\x0c\x0d\x0e\x0f"),
+            ),
+        ] {
+            match parse_key(rt.alloc(), etype, digits.as_bytes()) {
+                Ok(key) => assert!(rt; want == Some(key.as_slice()), "{digits}"),
+                Err(refusal) => {
+                    assert!(rt;
+                        refusal == LineRefusal::Fault(LineFault::BadKey),
+                        "{digits}"
+                    );
+                    assert!(rt; want.is_none(), "{digits}");
+                }
+            }
+        }
         Ok(())
     }
 }

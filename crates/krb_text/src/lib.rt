@@ -1,8 +1,10 @@
 //! Keytabs as text, and files by name.
 #![tactic(auto)]
 
+mod addition;
 mod append;
 mod columns;
+mod command;
 mod etype;
 mod fields;
 mod files;
@@ -15,6 +17,10 @@ mod listing;
 mod mem_files;
 mod numbers;
 mod output;
+mod pieces;
+mod reply;
+mod script;
+mod slots;
 #[cfg(test)]
 mod tests;
 mod time;
@@ -31,6 +37,9 @@ pub use listing::list_keytab;
 pub use mem_files::MemFiles;
 pub use numbers::parse_u32;
 pub use output::{OutFault, put};
+pub use reply::{reply_line, reply_lines};
+pub use script::{ScriptRefusal, parse_script};
+pub use slots::list_slots;
 pub use time::time_text;
 pub use watched::Watched;
 pub use word::{etype_word, name_word, number_word};

@@ -1,7 +1,10 @@
-//! Listings and found entries of keytabs. Images and texts are spelled out by hand.
+//! Listings, found entries, replies and scripts. Images and texts are spelled out by hand.
 
 mod columns;
 mod found;
 mod growths;
 mod keytabs;
 mod listings;
+mod replies;
+mod scripts;
+mod slots;

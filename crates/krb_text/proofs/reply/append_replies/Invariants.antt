@@ -1,0 +1,12 @@
+use Rattle.std.proofs.Common.{◌≡◌, ◌++◌, drop, map}
+use Rattle.krb_wire.specs.Text.{Grew}
+use Rattle.krb_walk.specs.Said.{said}
+use Rattle.krb_text.specs.Reply.{reply_texts, AllReadable}
+use Rattle.krb_text.proofs.reply.append_replies.Given as goal
+
+abbrev pub invariant-replies : goal.invariant-replies
+invariant-replies g l = record {
+  text : l.fn.out.items ++ reply_texts l.fn.format (map said l.replies) ≡ l.out.items ++ reply_texts l.now (map said (drop l.reply-index l.replies));
+  readable : AllReadable l.now (map said (drop l.reply-index l.replies));
+  grew : Grew l.fn.out.items l.out.items;
+}

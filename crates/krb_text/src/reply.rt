@@ -1,0 +1,205 @@
+//! The lines of replies.
+
+ghost use Rattle.std.specs.Prelude.{◌≡◌, ◌++◌, decimal, codes, map, IsSome, OnOk, OnErr};
+ghost use Rattle.krb_wire.specs.Text.{Grew};
+ghost use Rattle.krb_walk.specs.Said.{said};
+ghost use Rattle.krb_keytab.specs.Entry.{entry_at};
+ghost use Rattle.krb_text.specs.Line.{fault_text};
+ghost use Rattle.krb_text.specs.Reply.{walk_line, number_line, given_tail, reply_text, reply_texts, format_after, IsReadable, AllReadable};
+
+use crate::append::{append, append_byte, append_number};
+use crate::fields::view_fields;
+use crate::line::{append_fault, append_tail};
+use krb_keytab::read_entry;
+use krb_walk::{Fault, Reply};
+use krb_wire::{KtFormat, NoMemory};
+use std::alloc::Allocator;
+
+// What a number is, and the number.
+fn append_number_line<A: Allocator>(
+    label: &[u8],
+    number: u32,
+    out: &mut Vec<u8, A>,
+) -> Result<(), NoMemory>
+    ensures ok { OnOk result (out.new.items ≡ out.old.items ++ number_line label.now number) }
+    ensures err { OnErr result (Grew out.old.items out.new.items) }
+{
+    append(label, out)?;
+    append_number(number, out)?;
+    append_byte(b'\n', out)
+}
+
+fn append_walk<A: Allocator>(walk: u32, out: &mut Vec<u8, A>) -> Result<(), NoMemory>
+    ensures ok { OnOk result (out.new.items ≡ out.old.items ++ (codes "walk " ++ decimal walk)) }
+    ensures err { OnErr result (Grew out.old.items out.new.items) }
+{
+    append(b"walk ", out)?;
+    append_number(walk, out)
+}
+
+// Where a walk stands.
+fn append_place<A: Allocator>(
+    walk: u32,
+    label: &[u8],
+    next: u32,
+    out: &mut Vec<u8, A>,
+) -> Result<(), NoMemory>
+    ensures ok { OnOk result
+        (out.new.items ≡ out.old.items ++ walk_line walk (number_line label.now next)) }
+    ensures err { OnErr result (Grew out.old.items out.new.items) }
+{
+    append_walk(walk, out)?;
+    append_number_line(label, next, out)
+}
+
+// The fault that a walk met.
+fn append_walk_fault<A: Allocator>(
+    walk: u32,
+    fault: Fault,
+    out: &mut Vec<u8, A>,
+) -> Result<(), NoMemory>
+    ensures ok { OnOk result
+        (out.new.items ≡ out.old.items ++ walk_line walk (codes " " ++ fault_text fault)) }
+    ensures err { OnErr result (Grew out.old.items out.new.items) }
+{
+    append_walk(walk, out)?;
+    append_byte(b' ', out)?;
+    append_fault(fault, out)
+}
+
+// The end of the line of a record.
+fn append_given<A: Allocator>(
+    format: KtFormat,
+    bytes: &[u8],
+    out: &mut Vec<u8, A>,
+) -> Result<(), NoMemory>
+    requires { IsSome (entry_at format bytes.now) }
+    ensures ok { OnOk result
+        (out.new.items ≡ out.old.items ++ given_tail (entry_at format bytes.now)) }
+    ensures err { OnErr result (Grew out.old.items out.new.items) }
+{
+    let Some(entry) = read_entry(format, bytes) else {
+        unreachable!()
+    };
+    append_tail(&view_fields(&entry), out)
+}
+
+// The record that a walk was given.
+fn append_gave<A: Allocator>(
+    format: KtFormat,
+    walk: u32,
+    place: u32,
+    next: u32,
+    bytes: &[u8],
+    out: &mut Vec<u8, A>,
+) -> Result<(), NoMemory>
+    requires { IsSome (entry_at format bytes.now) }
+    ensures ok { OnOk result (out.new.items ≡ out.old.items
+        ++ walk_line walk (codes " gave " ++ (decimal place ++ (codes " next "
+        ++ (decimal next ++ given_tail (entry_at format bytes.now)))))) }
+    ensures err { OnErr result (Grew out.old.items out.new.items) }
+{
+    append_walk(walk, out)?;
+    append(b" gave ", out)?;
+    append_number(place, out)?;
+    append(b" next ", out)?;
+    append_number(next, out)?;
+    append_given(format, bytes, out)
+}
+
+fn append_reply<A: Allocator, B: Allocator>(
+    format: KtFormat,
+    reply: &Reply<B>,
+    out: &mut Vec<u8, A>,
+) -> Result<(), NoMemory>
+    requires { IsReadable format (said reply.now) }
+    ensures ok { OnOk result
+        (out.new.items ≡ out.old.items ++ reply_text format (said reply.now)) }
+    ensures err { OnErr result (Grew out.old.items out.new.items) }
+{
+    match reply {
+        Reply::Started { walk, next } => append_place(*walk, b" at ", *next, out),
+        Reply::Gave {
+            walk,
+            place,
+            next,
+            bytes,
+        } => append_gave(format, *walk, *place, *next, bytes, out),
+        Reply::Ended { walk, next } => append_place(*walk, b" end ", *next, out),
+        Reply::Faulted { walk, fault } => append_walk_fault(*walk, *fault, out),
+        Reply::Placed(place) => append_number_line(b"placed ", *place, out),
+        Reply::Gone(place) => append_number_line(b"gone ", *place, out),
+        Reply::Rewritten(end) => append_number_line(b"rewritten ", *end, out),
+        Reply::Refused(code) => append_number_line(b"refused ", code.number(), out),
+    }
+}
+
+// The format after a reply.
+fn format_after<B: Allocator>(format: KtFormat, reply: &Reply<B>) -> KtFormat
+    ensures { result ≡ format_after format (said reply.now) }
+{
+    match reply {
+        Reply::Rewritten(_) => KtFormat::V2,
+        _ => format,
+    }
+}
+
+fn append_replies<A: Allocator, B: Allocator>(
+    format: KtFormat,
+    replies: &[Reply<B>],
+    out: &mut Vec<u8, A>,
+) -> Result<(), NoMemory>
+    requires { AllReadable format (map said replies.now) }
+    ensures ok { OnOk result
+        (out.new.items ≡ out.old.items ++ reply_texts format (map said replies.now)) }
+    ensures err { OnErr result (Grew out.old.items out.new.items) }
+{
+    let mut now = format;
+    'replies: for reply in replies {
+        append_reply(now, reply, out)?;
+        now = format_after(now, reply);
+    }
+    Ok(())
+}
+
+/// Appends the line of a reply. The bytes that it gives are read in that format.
+pub fn reply_line<A: Allocator, B: Allocator>(
+    format: KtFormat,
+    reply: &Reply<B>,
+    out: &mut Vec<u8, A>,
+) -> Result<(), NoMemory>
+    requires { IsReadable format (said reply.now) }
+    ensures ok { OnOk result
+        (out.new.items ≡ out.old.items ++ reply_text format (said reply.now)) }
+    ensures err { OnErr result (out.new.items ≡ out.old.items) }
+{
+    let len = out.len();
+    match append_reply(format, reply, out) {
+        Ok(()) => Ok(()),
+        Err(_) => {
+            out.truncate(len);
+            Err(NoMemory)
+        }
+    }
+}
+
+/// Appends the lines of replies in order. After a rewrite the format is version 2.
+pub fn reply_lines<A: Allocator, B: Allocator>(
+    format: KtFormat,
+    replies: &[Reply<B>],
+    out: &mut Vec<u8, A>,
+) -> Result<(), NoMemory>
+    requires { AllReadable format (map said replies.now) }
+    ensures ok { OnOk result
+        (out.new.items ≡ out.old.items ++ reply_texts format (map said replies.now)) }
+    ensures err { OnErr result (out.new.items ≡ out.old.items) }
+{
+    let len = out.len();
+    match append_replies(format, replies, out) {
+        Ok(()) => Ok(()),
+        Err(_) => {
+            out.truncate(len);
+            Err(NoMemory)
+        }
+    }
+}

@@ -1,0 +1,137 @@
+//! Scripts: lines that ask for events.
+
+ghost use Rattle.std.specs.Prelude.{◌≡◌, ◌++◌, ◌∷◌, [], Ok, IfOk, IfErr, OnOk, IsOkAnd};
+ghost use Rattle.krb_text.specs.LineFault.{Reads};
+ghost use Rattle.krb_text.specs.Script.{no_words, lone_number, event_by, event_in, is_asked, script_of, script, RefusesScript};
+
+use crate::addition::parse_addition;
+use crate::command::Command;
+use crate::line_fault::{LineFault, LineRefusal};
+use crate::pieces::{Lines, Words};
+use crate::word::number_word;
+use krb_keytab::NewEntry;
+use krb_walk::Event;
+use std::alloc::Allocator;
+use thiserror::Error;
+
+/// Why a script gives no events.
+#[derive(Clone, Copy, Debug, PartialEq, Eq, Error)]
+pub enum ScriptRefusal {
+    /// The first faulty line, counted from 1, and its first fault.
+    #[error("line {line}: {kind}")]
+    Fault { line: u64, kind: LineFault },
+    /// An allocation failed.
+    #[error("out of memory")]
+    NoMemory,
+}
+
+fn no_words(mut words: Words<'_>) -> Result<(), LineFault>
+    ensures { result ≡ no_words words.entry }
+{
+    match words.next() {
+        None => Ok(()),
+        Some(_) => Err(LineFault::WordCount),
+    }
+}
+
+// One word, which is a number.
+fn lone_number(mut words: Words<'_>) -> Result<u32, LineFault>
+    ensures { result ≡ lone_number words.entry }
+{
+    let Some(word) = words.next() else {
+        return Err(LineFault::WordCount);
+    };
+    match words.next() {
+        None => number_word(word),
+        Some(_) => Err(LineFault::WordCount),
+    }
+}
+
+// The event of a command and the words after it.
+fn event_by<A: Allocator + Copy>(
+    alloc: A,
+    command: Command,
+    words: Words<'_>,
+) -> Result<Event<NewEntry<A>>, LineRefusal>
+    ensures { Reads (λ e. e) (event_by command words.entry) result }
+{
+    match command {
+        Command::Start => {
+            no_words(words)?;
+            Ok(Event::Start)
+        }
+        Command::Resume => Ok(Event::Resume(lone_number(words)?)),
+        Command::Step => Ok(Event::Step(lone_number(words)?)),
+        Command::Add => Ok(Event::Put(parse_addition(alloc, words)?)),
+        Command::Cut => Ok(Event::Cut(lone_number(words)?)),
+        Command::Rewrite => {
+            no_words(words)?;
+            Ok(Event::Rewrite)
+        }
+    }
+}
+
+// The event of a line.
+fn parse_line<A: Allocator + Copy>(alloc: A, line: &[u8]) -> Result<Event<NewEntry<A>>, LineRefusal>
+    ensures { Reads (λ e. e) (event_in line.now) result }
+{
+    let mut words = Words::of(line);
+    let Some(word) = words.next() else {
+        return Err(LineRefusal::Fault(LineFault::UnknownWord));
+    };
+    match Command::named(word) {
+        Some(command) => event_by(alloc, command, words),
+        None => Err(LineRefusal::Fault(LineFault::UnknownWord)),
+    }
+}
+
+// Whether a line asks for something: it is not empty, and no comment.
+fn is_asked(line: &[u8]) -> bool
+    ensures { result ≡ is_asked line.now }
+{
+    match line {
+        [] => false,
+        [first, ..] => *first != b'#',
+    }
+}
+
+// Appends the event of a line.
+fn add_event<A: Allocator + Copy>(
+    alloc: A,
+    number: u64,
+    line: &[u8],
+    events: &mut Vec<Event<NewEntry<A>>, A>,
+) -> Result<(), ScriptRefusal>
+    ensures ok { OnOk result
+        (IsOkAnd (event_in line.now) (λ e. events.new.items ≡ events.old.items ++ e ∷ [])) }
+    ensures err { IfErr result (RefusesScript (script_of ((number, line.now) ∷ []))) }
+{
+    match parse_line(alloc, line) {
+        Ok(event) => match events.push(event) {
+            Ok(()) => Ok(()),
+            Err(_) => Err(ScriptRefusal::NoMemory),
+        },
+        Err(LineRefusal::Fault(kind)) => Err(ScriptRefusal::Fault { line: number, kind }),
+        Err(LineRefusal::NoMemory) => Err(ScriptRefusal::NoMemory),
+    }
+}
+
+/// The events that the lines of a script ask for, in order. Empty lines and those that begin with `#`
+/// ask for nothing, and count. Lines are read in order: where an allocation fails, a fault may follow.
+pub fn parse_script<A: Allocator + Copy>(
+    alloc: A,
+    text: &[u8],
+) -> Result<Vec<Event<NewEntry<A>>, A>, ScriptRefusal>
+    ensures ok { IfOk result (λ events. script text.now ≡ Ok events.items) }
+    ensures err { IfErr result (RefusesScript (script text.now)) }
+{
+    let mut events = Vec::new(alloc);
+    let mut number = 0;
+    'lines: for line in Lines::of(text) {
+        number += 1;
+        if is_asked(line) {
+            add_event(alloc, number, line, &mut events)?;
+        }
+    }
+    Ok(events)
+}

@@ -1,0 +1,65 @@
+//! The listing of slots.
+
+ghost use Rattle.std.specs.Prelude.{◌≡◌, ◌++◌, OnOk, OnErr};
+ghost use Rattle.krb_text.specs.Slots.{slot_heading, slot_line, slot_lines, slot_text};
+
+use crate::append::{append, append_right_in_4};
+use crate::columns::KtColumns;
+use crate::fields::new_fields;
+use crate::line::append_entry;
+use crate::listing::{titles, underlines};
+use krb_keytab::NewEntry;
+use krb_wire::NoMemory;
+use std::alloc::Allocator;
+
+fn append_heading<A: Allocator>(times: bool, out: &mut Vec<u8, A>) -> Result<(), NoMemory>
+    ensures { OnOk result (out.new.items ≡ out.old.items ++ slot_heading times) }
+{
+    append(b"slot ", out)?;
+    append(titles(times), out)?;
+    append(b"---- ", out)?;
+    append(underlines(times), out)
+}
+
+fn append_slot<A: Allocator, B: Allocator>(
+    columns: KtColumns,
+    slot: u64,
+    entry: &NewEntry<B>,
+    out: &mut Vec<u8, A>,
+) -> Result<(), NoMemory>
+    ensures { OnOk result (out.new.items ≡ out.old.items ++ slot_line columns (slot, entry.now)) }
+{
+    append_right_in_4(slot, out)?;
+    append_entry(columns, &new_fields(entry), out)
+}
+
+fn append_slots<A: Allocator, B: Allocator>(
+    columns: KtColumns,
+    entries: &[NewEntry<B>],
+    out: &mut Vec<u8, A>,
+) -> Result<(), NoMemory>
+    ensures { OnOk result (out.new.items ≡ out.old.items ++ slot_lines columns 1 entries.now) }
+{
+    let mut slot = 0;
+    'slots: for entry in entries {
+        slot += 1;
+        append_slot(columns, slot, entry, out)?;
+    }
+    Ok(())
+}
+
+/// Appends the listing of entries in slots: a heading, and a line for each entry with its slot.
+pub fn list_slots<A: Allocator>(
+    alloc: A,
+    entries: &[NewEntry<A>],
+    columns: KtColumns,
+    out: &mut Vec<u8, A>,
+) -> Result<(), NoMemory>
+    ensures ok { OnOk result (out.new.items ≡ out.old.items ++ slot_text columns entries.now) }
+    ensures err { OnErr result (out.new.items ≡ out.old.items) }
+{
+    let mut text = Vec::new(alloc);
+    append_heading(columns.times, &mut text)?;
+    append_slots(columns, entries, &mut text)?;
+    append(&text, out)
+}
