@@ -14,3 +14,7 @@ pub mod Digits
 pub mod NameFaults
 pub mod Days
 pub mod Numbering
+pub mod WordLemmas
+pub mod KtutilLists
+pub mod KtutilHandles
+pub mod KtutilOptions

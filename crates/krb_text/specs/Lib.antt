@@ -17,3 +17,7 @@ pub mod Found
 pub mod Reply
 pub mod Pieces
 pub mod Script
+pub mod KtutilWords
+pub mod KtutilCommand
+pub mod Ktutil
+pub mod KtutilFiles

@@ -1,0 +1,57 @@
+-- The words of a line.
+use Rattle.std.specs.Prelude.{ℕ, zero, suc, List, [], ◌∷◌, map, filter, reverse, Bool, true, false, ◌||◌, ◌==◌, if◌then◌else◌}
+use Rattle.std.specs.List.{concat, slice_split}
+
+-- a space or a tab
+abbrev pub is_blank : ℕ → Bool
+is_blank b = b == 32 || b == 9
+
+-- a line, cut from the left: a backslash and the byte after it stay together, and each other byte stands alone
+abbrev pub pieces : List ℕ → List (List ℕ)
+pieces [] = []
+pieces (b ∷ []) = (b ∷ []) ∷ []
+pieces (b ∷ c ∷ rest) = if b == 92 then (b ∷ c ∷ []) ∷ pieces rest else (b ∷ []) ∷ pieces (c ∷ rest)
+
+-- a blank alone
+abbrev pub is_gap : List ℕ → Bool
+is_gap [] = false
+is_gap (b ∷ []) = is_blank b
+is_gap (b ∷ c ∷ rest) = false
+
+-- what stands before, between and after the blanks
+abbrev pub parts : List ℕ → List (List ℕ)
+parts line = map concat (slice_split is_gap (pieces line))
+
+-- it has a byte
+abbrev pub is_word : List ℕ → Bool
+is_word [] = false
+is_word (b ∷ bs) = true
+
+-- the words: the parts that are not empty
+abbrev pub words : List ℕ → List (List ℕ)
+words line = filter is_word (parts line)
+
+-- the second of some words, or nothing
+abbrev pub second : List (List ℕ) → List ℕ
+second [] = []
+second (first ∷ []) = []
+second (first ∷ word ∷ others) = word
+
+-- a text without the blanks that it begins with
+abbrev pub unindented : List ℕ → List ℕ
+unindented [] = []
+unindented (b ∷ bs) = if is_blank b then unindented bs else b ∷ bs
+
+-- a text without the blanks at its ends
+abbrev pub trimmed : List ℕ → List ℕ
+trimmed text = reverse (unindented (reverse (unindented text)))
+
+-- how many bytes stand before the first blank, after a backslash or not: for a private contract
+abbrev pub size_from : List ℕ → Bool → ℕ
+size_from [] quoted = zero
+size_from (b ∷ bs) true = suc (size_from bs false)
+size_from (b ∷ bs) false = if is_blank b then zero else suc (size_from bs (b == 92))
+
+-- how many bytes stand before the first blank
+abbrev pub word_size : List ℕ → ℕ
+word_size text = size_from text false
