@@ -7,7 +7,7 @@ use Rattle.krb_walk.specs.Store.{Record, records}
 use Rattle.krb_keytab.specs.Entry.{EntryParts, entry_at}
 use Rattle.krb_keytab.specs.Store.{State, store_of, entries}
 use Rattle.krb_keytab.specs.LookUp.{Placed, placed_entries}
-use Rattle.krb_keytab.specs.Changes.{putting}
+use Rattle.krb_keytab.specs.Changes.{put_result}
 use Rattle.krb_walk.specs.Rules.{PutGives}
 use Rattle.krb_walk.specs.declared.refusal.Code.{Code}
 use Rattle.krb_walk.specs.declared.refusal.Refusal.{Refusal}
@@ -38,7 +38,7 @@ with_added-err [] refused = refl
 with_added-err (e ∷ es) refused = refl
 
 -- the first refusal is that of all
-pub refuses_added : (e : EntryParts) (es : List EntryParts) (k k' : State) (r : Refusal) (all : Result State Code) → PutGives (putting k e) k (Err r) k' → with_added (e ∷ es) (Ok k) ≡ all → RefusesAdded all r
+pub refuses_added : (e : EntryParts) (es : List EntryParts) (k k' : State) (r : Refusal) (all : Result State Code) → PutGives (put_result k e) k (Err r) k' → with_added (e ∷ es) (Ok k) ≡ all → RefusesAdded all r
 refuses_added e es k k' (ByCode refused) all gives is =
     sym is ∙ ap (λ (put : Result (ℕ × State) Code). with_added es (result_map (λ added. added.1) put)) gives.0 ∙ with_added-err es refused
 refuses_added e es k k' NoMemory all gives is = tt

@@ -8,7 +8,7 @@ use Rattle.krb_walk.specs.Store.{fault_of}
 use Rattle.krb_keytab.specs.declared.open.KtOpenFault.{KtOpenFault}
 use Rattle.krb_keytab.specs.Entry.{EntryParts}
 use Rattle.krb_keytab.specs.Store.{State as Keytab, opening, image_of, store_of, entries, empty}
-use Rattle.krb_keytab.specs.Changes.{putting}
+use Rattle.krb_keytab.specs.Changes.{put_result}
 use Rattle.krb_text.specs.declared.files.LoadFault.{LoadFault}
 use Rattle.krb_text.specs.declared.files.LoadFault.TheVariants as load
 use Rattle.krb_text.specs.declared.files.SaveFault.{SaveFault}
@@ -99,7 +99,7 @@ with_entries s (Ok k) =
 -- a keytab with these entries added one after the other, or the first refusal
 abbrev pub with_added : List EntryParts → Result Keytab Code → Result Keytab Code
 with_added [] k = k
-with_added (e ∷ es) (Ok k) = with_added es (result_map (λ added. added.1) (putting k e))
+with_added (e ∷ es) (Ok k) = with_added es (result_map (λ added. added.1) (put_result k e))
 with_added (e ∷ es) (Err refused) = Err refused
 
 -- the keytab is saved under the name, or why not
