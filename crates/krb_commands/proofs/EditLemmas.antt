@@ -64,7 +64,7 @@ into_keeps k bytes None = if_keeps k (nat_lt k.limit (length (image_of (with_las
 put_keeps : (k : State) (e : EntryParts) → KeepsFormat k (put_result k e)
 put_keeps k e =
     if_keeps k (is_some (fault_of (store_of k))) (Err code.Damaged) (if fits k.format e then put_bytes_result k (written k.format e) else Err code.TooLong) tt
-      (if_keeps k (fits k.format e) (put_bytes_result k (written k.format e)) (Err code.TooLong) (into_keeps k (written k.format e) (first_hole 2 (length (written k.format e)) k.contents.cells)) tt)
+    (if_keeps k (fits k.format e) (put_bytes_result k (written k.format e)) (Err code.TooLong) (into_keeps k (written k.format e) (first_hole 2 (length (written k.format e)) k.contents.cells)) tt)
 
 -- the format that a reply leaves is that of the keytab after its event
 of_put : (k : State) (given : Result (ℕ × State) Code) → KeepsFormat k given → (put_store k given).format ≡ format_after k.format (put_said given)
@@ -118,7 +118,7 @@ lines_of s [] = refl
 lines_of s (e ∷ es) =
     let next = after keytab_rules s e in
     ap (λ (t : List ℕ). reply_text s.store.format (reply_to keytab_rules s e) ++ t)
-      (lines_of next es ∙ ap (λ (f : KtFormat). reply_texts f (replies (history keytab_rules next es))) (format_of_event s e))
+    (lines_of next es ∙ ap (λ (f : KtFormat). reply_texts f (replies (history keytab_rules next es))) (format_of_event s e))
 
 -- ---- what was made of a keytab
 
@@ -135,7 +135,7 @@ IsEdited-by keytab events old new told e begins ran image text changed status =
     let new_is : new ≡ state_after keytab_rules (new_session keytab) events = from_new.state in
     record {
       ran = subst (λ (t : List Said). Ran keytab_rules (new_session keytab) (state_after keytab_rules (new_session keytab) events) events [] t) told_is
-        (subst (λ (s : Session State). Ran keytab_rules (new_session keytab) s events [] told) new_is from_new);
+          (subst (λ (s : Session State). Ran keytab_rules (new_session keytab) s events [] told) new_is from_new);
       image = image ∙ ap (λ (s : Session State). image_of s.store) new_is;
       text = text ∙ ap (reply_texts keytab.format) told_is ∙ sym (lines_of (new_session keytab) events);
       is_changed = changed ∙ ap (list_any is_change) told_is;
@@ -281,7 +281,7 @@ module _ {F : Type 0} (trait : Ghosts F) (file : List ℕ) (out err : Watch) (we
   why_not : (events : List (Event EntryParts)) (new : F) (err' : Watch) (status : ℕ) (old : F) (order : Order) (opened : Result State Run)
       → ((status ≡ 4) × Says err err' (message (codes "out of memory"))) ⊎ SaysWhy trait file order old new err err' opened status
       → RunsOutFirst trait file out out err err' status new new
-        ⊎ (RunsFairly events opened × SavesDue trait file out out err err' status (edit_keytab events opened).saved (edit_keytab events opened).run new new)
+      ⊎ (RunsFairly events opened × SavesDue trait file out out err err' status (edit_keytab events opened).saved (edit_keytab events opened).run new new)
   why_not events new err' status old order opened (inl memory) = inl (refl, record { ends = memory.0; kept = refl; said = memory.1 })
   why_not events new err' status old order opened (inr why) = inr (without_keytab events new err' status old order opened why)
 
@@ -320,7 +320,7 @@ module _ {F : Type 0} (trait : Ghosts F) (file : List ℕ) (out out' err err' : 
   memory_honestly due old files new same ran_out =
       let ends = ran_out.1 in
       let kept : EndsRun memory_run out out' err err' status =
-        subst (λ (o : Watch). EndsRun memory_run out o err err' status) (sym ends.kept) (EndsRun-said memory_run out err err' status well refl ends.ends ends.said (λ e. refl)) in
+      subst (λ (o : Watch). EndsRun memory_run out o err err' status) (sym ends.kept) (EndsRun-said memory_run out err err' status well refl ends.ends ends.said (λ e. refl)) in
       inl (subst (λ (f : F). SameFiles (trait.file old) (trait.file f)) (sym ran_out.0) same, kept)
 
   -- nothing was to be saved
@@ -357,7 +357,7 @@ module _ {F : Type 0} (trait : Ghosts F) (file : List ℕ) (out out' err err' : 
       → EndsHonestly trait file out out' err err' status (edit_keytab events (keytab_loaded order file (loaded (trait.file old file) most_bytes))) old new
   loaded_honestly order events old files new loads honest same (inl failed) saves =
       let left : LeavesFiles trait file out out' err err' status (load_fault_run file load.Failed) files new =
-        subst (λ (answer : Result (List ℕ) LoadFault). SavesDue trait file out out' err err' status (edit_keytab events (keytab_loaded order file answer)).saved (edit_keytab events (keytab_loaded order file answer)).run files new) failed saves in
+      subst (λ (answer : Result (List ℕ) LoadFault). SavesDue trait file out out' err err' status (edit_keytab events (keytab_loaded order file answer)).saved (edit_keytab events (keytab_loaded order file answer)).run files new) failed saves in
       inr (inl (record {
         counted = subst (λ (f : F). CountsFailure (trait.failure_count old) (trait.failure_count f)) (sym left.0) (loads.counted failed);
         same = subst (λ (f : F). SameFiles (trait.file old) (trait.file f)) (sym left.0) same;
@@ -365,17 +365,17 @@ module _ {F : Type 0} (trait : Ghosts F) (file : List ℕ) (out out' err err' : 
       }))
   loaded_honestly order events old files new loads honest same (inr (inl no_memory)) saves =
       let left : LeavesFiles trait file out out' err err' status (load_fault_run file load.NoMemory) files new =
-        subst (λ (answer : Result (List ℕ) LoadFault). SavesDue trait file out out' err err' status (edit_keytab events (keytab_loaded order file answer)).saved (edit_keytab events (keytab_loaded order file answer)).run files new) no_memory saves in
+      subst (λ (answer : Result (List ℕ) LoadFault). SavesDue trait file out out' err err' status (edit_keytab events (keytab_loaded order file answer)).saved (edit_keytab events (keytab_loaded order file answer)).run files new) no_memory saves in
       inl (subst (λ (f : F). SameFiles (trait.file old) (trait.file f)) (sym left.0) same, left.1)
   loaded_honestly order events old files new loads honest same (inr (inr stands)) saves =
       let due = edit_keytab events (keytab_loaded order file (loaded (trait.file old file) most_bytes)) in
       due_honestly due.saved due.run old files new honest same loads.count
-        (subst (λ (answer : Result (List ℕ) LoadFault). SavesDue trait file out out' err err' status (edit_keytab events (keytab_loaded order file answer)).saved (edit_keytab events (keytab_loaded order file answer)).run files new) stands saves)
+      (subst (λ (answer : Result (List ℕ) LoadFault). SavesDue trait file out out' err err' status (edit_keytab events (keytab_loaded order file answer)).saved (edit_keytab events (keytab_loaded order file answer)).run files new) stands saves)
 
   edits_honestly : (order : Order) (events : List (Event EntryParts)) (old files new : F) (loads : Loads trait file old files) → LoadsHonestly trait file old files loads.answer
       → RunsOutFirst trait file out out' err err' status files new
-        ⊎ (RunsFairly events (keytab_loaded order file loads.answer)
-          × SavesDue trait file out out' err err' status (edit_keytab events (keytab_loaded order file loads.answer)).saved (edit_keytab events (keytab_loaded order file loads.answer)).run files new)
+      ⊎ (RunsFairly events (keytab_loaded order file loads.answer)
+      × SavesDue trait file out out' err err' status (edit_keytab events (keytab_loaded order file loads.answer)).saved (edit_keytab events (keytab_loaded order file loads.answer)).run files new)
       → EndsHonestly trait file out out' err err' status (edit_keytab events (keytab_loaded order file (loaded (trait.file old file) most_bytes))) old new
   edits_honestly order events old files new loads stands (inl ran_out) =
       memory_honestly (edit_keytab events (keytab_loaded order file (loaded (trait.file old file) most_bytes))) old files new stands.same ran_out
@@ -399,7 +399,7 @@ module _ {F : Type 0} (trait : Ghosts F) (file : List ℕ) (out out' err err' : 
       let no : 1 ≢ 4 = search rules in
       let ends = EndsRun-said (line_run line kind) out err err' status well refl same says (λ e. absurd (no e)) in
       inr (subst (λ (g : Result (List (Event EntryParts)) ScriptFault). EndsScript trait file out out' err err' status order files files g) (sym is)
-        (refl, subst (λ (o : Watch). EndsRun (line_run line kind) out o err err' status) (sym kept) ends))
+      (refl, subst (λ (o : Watch). EndsRun (line_run line kind) out o err err' status) (sym kept) ends))
   refused order given refusal.NoMemory files kept is same says = inl (refl, record { ends = same; kept = kept; said = says })
 
   -- a run over what a reader gave
@@ -419,11 +419,11 @@ pub SavesDue-edited : {A F : Type 0} (trait : Ghosts F) (file : List ℕ) (out o
     → SavesDue trait file out out' err err' status (edit_keytab events (Ok keytab)).saved (edit_keytab events (Ok keytab)).run old new
 SavesDue-edited trait file out out' err err' status old new keytab events e is saves =
     let saved : saved_of e ≡ (edit_keytab events (Ok keytab)).saved =
-      ap (λ (b : Bool). if b then Some e.image.items else None) is.is_changed ∙ ap (λ (bytes : List ℕ). if is_changed keytab events then Some bytes else None) is.image in
+    ap (λ (b : Bool). if b then Some e.image.items else None) is.is_changed ∙ ap (λ (bytes : List ℕ). if is_changed keytab events then Some bytes else None) is.image in
     let run : run_of e ≡ edit_run keytab events =
-      ap (λ (text : List ℕ). record { out = text; err = []; status = e.status }) is.text ∙ ap (λ (n : ℕ). record { out = reply_lines keytab events; err = []; status = n }) is.status in
+    ap (λ (text : List ℕ). record { out = text; err = []; status = e.status }) is.text ∙ ap (λ (n : ℕ). record { out = reply_lines keytab events; err = []; status = n }) is.status in
     subst (λ (due : Run). SavesDue trait file out out' err err' status (edit_keytab events (Ok keytab)).saved due old new) run
-      (subst (λ (bytes : Option (List ℕ)). SavesDue trait file out out' err err' status bytes (run_of e) old new) saved saves)
+    (subst (λ (bytes : Option (List ℕ)). SavesDue trait file out out' err err' status bytes (run_of e) old new) saved saves)
 
 -- a keytab was edited
 pub EditsFile-edited : {A F : Type 0} (trait : Ghosts F) (file : List ℕ) (order : Order) (out out' err err1 err' : Watch) (status : ℕ) (old files new : F) (keytab : State) (events : List (Event EntryParts)) (e : Edited A)
@@ -436,5 +436,5 @@ EditsFile-edited trait file order out out' err err1 err' status old files new ke
       loads = opens.loads;
       ends = subst (λ (opened : Result State Run). RunsOutFirst trait file out out' err err' status files new
           ⊎ (RunsFairly events opened × SavesDue trait file out out' err err' status (edit_keytab events opened).saved (edit_keytab events opened).run files new))
-        (sym opens.opened) (inr (is.ran, SavesDue-edited trait file out out' err err' status files new keytab events e is from_err));
+          (sym opens.opened) (inr (is.ran, SavesDue-edited trait file out out' err err' status files new keytab events e is from_err));
     }

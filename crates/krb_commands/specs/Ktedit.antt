@@ -162,7 +162,7 @@ module _ {F : Type 0} (trait : Ghosts F) (file : List ℕ) (out out' err err' : 
     pub loads : Loads trait file old files
     pub ends : RunsOutFirst files new
         ⊎ (RunsFairly events (keytab_loaded order file loads.answer)
-          × SavesDue (edit_keytab events (keytab_loaded order file loads.answer)).saved (edit_keytab events (keytab_loaded order file loads.answer)).run files new)
+        × SavesDue (edit_keytab events (keytab_loaded order file loads.answer)).saved (edit_keytab events (keytab_loaded order file loads.answer)).run files new)
 
   -- the script's events are run, or its first fault is told
   abbrev pub EndsScript : Order → F → F → Result (List (Event EntryParts)) ScriptFault → Type 0

@@ -89,5 +89,8 @@ pub fn complain_of_line<E: Write>(err: &mut Watched<E>, line: u64, what: &str, n
     let mut buffer = Buffer::new();
     let line_digits = line_buffer.format(line);
     let digits = buffer.format(number);
-    say(err, &["krbfile: line ", line_digits, ": ", what, digits, "\n"]);
+    say(
+        err,
+        &["krbfile: line ", line_digits, ": ", what, digits, "\n"],
+    );
 }

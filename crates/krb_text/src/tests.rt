@@ -2,7 +2,7 @@
 
 mod columns;
 mod found;
-mod growths;
+mod allocations;
 mod keytabs;
 mod listings;
 mod replies;

@@ -3,7 +3,8 @@
 use clap::error::ErrorKind;
 use clap::{Arg, ArgAction, ArgMatches, Command, Error};
 use krb_commands::{
-    Action, KlistWords, KteditWords, KtfindWords, WordFault, klist_action, ktedit_action, ktfind_action,
+    Action, KlistWords, KteditWords, KtfindWords, WordFault, klist_action, ktedit_action,
+    ktfind_action,
 };
 use std::alloc::{AllocError, Global};
 
@@ -58,7 +59,12 @@ fn ktedit_command<'a>(alloc: Global) -> Result<Command<'a>, AllocError> {
         .after_help(SCRIPT)
         .args_override_self(true)
         .arg(v1_big(alloc))?
-        .arg(word(alloc, "file", "FILE", "The file to edit, made where it is missing"))
+        .arg(word(
+            alloc,
+            "file",
+            "FILE",
+            "The file to edit, made where it is missing",
+        ))
 }
 
 fn ktfind_command<'a>(alloc: Global) -> Result<Command<'a>, AllocError> {

@@ -11,7 +11,7 @@ pub enum Fault {
     NotAKeytab,
     /// The file has fewer records than are to be removed.
     TooFew,
-    /// The keytab refused a change, or its growth was refused.
+    /// The keytab refused a change, or it was out of memory.
     Refused,
     Write,
     NoMemory,

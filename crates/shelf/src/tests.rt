@@ -1,6 +1,6 @@
 //! Sessions over a shelf. What they tell is written out by hand: slot k stands at 8 + 4 k.
 
-mod growths;
+mod allocations;
 mod joined;
 mod rewrites;
 mod told;

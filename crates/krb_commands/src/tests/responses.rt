@@ -41,7 +41,11 @@ fn each_response(rt: HostRuntime) -> Result<(), Fail> {
     let found = "found 2 kvno 3 etype 17 host/a@R\n";
     let find = Ok(Action::Ktfind(wanted(alloc, 0, 0, "host/a@R")?, file.clone()?));
     check(&rt, &find, (found, "", 0))?;
-    check(&rt, &Ok(Action::Ktedit(Order::Little, file)), ("gone 2\n", "", 0))?;
+    check(
+        &rt,
+        &Ok(Action::Ktedit(Order::Little, file)),
+        ("gone 2\n", "", 0),
+    )?;
     let help = Ok(Action::Help(String::from_str(alloc, "help\n")?));
     check(&rt, &help, ("help\n", "", 0))?;
     let bad = "krbfile: bad command line\n";

@@ -120,7 +120,7 @@ fn write_over_a_rewrite<'a>(
 
 /// The format is version 2 from a rewrite on. Where an allocation fails, what was there before stays.
 #[test]
-fn growths_of_lines_over_a_rewrite(rt: HostRuntime) -> Result<(), Fail> {
+fn allocations_of_lines_over_a_rewrite(rt: HostRuntime) -> Result<(), Fail> {
     let requests = refuse_each(rt.alloc(), 100, |heap, n| {
         let mut out = Vec::from_slice(heap, b"before\n")?;
         let is_written = write_over_a_rewrite(heap, n, &mut out)?;

@@ -96,7 +96,7 @@ fn the_first_fault_of_the_first_faulty_line(rt: HostRuntime) {
 }
 
 #[test]
-fn growths_of_a_script(rt: HostRuntime) -> Result<(), Fail> {
+fn allocations_of_a_script(rt: HostRuntime) -> Result<(), Fail> {
     let requests = refuse_each(rt.alloc(), 100, |heap, n| {
         heap.refuse(n);
         match parse_script(heap, ADD_HOST.as_bytes()) {

@@ -23,9 +23,9 @@ fn entries<'a>(
     Ok(all)
 }
 
-/// Where a growth is refused, what was there before stays.
+/// Where an allocation fails, what was there before stays.
 #[test]
-fn growths_of_slots(rt: HostRuntime) -> Result<(), Fail> {
+fn allocations_of_slots(rt: HostRuntime) -> Result<(), Fail> {
     for (columns, want) in [
         (
             KtColumns::default(),

@@ -3,9 +3,9 @@ use crate::{OutFault, Watched, etype_text, found_text, list_keytab, time_text};
 use refusing::refuse_each;
 use std::test::Fail;
 
-/// Where a growth is refused, what was there before stays.
+/// Where an allocation fails, what was there before stays.
 #[test]
-fn growths_of_a_time(rt: HostRuntime) -> Result<(), Fail> {
+fn allocations_of_a_time(rt: HostRuntime) -> Result<(), Fail> {
     let requests = refuse_each(rt.alloc(), 100, |heap, n| {
         let mut out = Vec::from_slice(heap, b"at ")?;
         heap.refuse(n);
@@ -24,7 +24,7 @@ fn growths_of_a_time(rt: HostRuntime) -> Result<(), Fail> {
 }
 
 #[test]
-fn growths_of_an_encryption_type(rt: HostRuntime) -> Result<(), Fail> {
+fn allocations_of_an_encryption_type(rt: HostRuntime) -> Result<(), Fail> {
     for (etype, text) in [
         (17, "is aes128-cts-hmac-sha1-96"),
         (65_535, "is etype 65535"),
@@ -44,7 +44,7 @@ fn growths_of_an_encryption_type(rt: HostRuntime) -> Result<(), Fail> {
 }
 
 #[test]
-fn growths_of_a_found_line(rt: HostRuntime) -> Result<(), Fail> {
+fn allocations_of_a_found_line(rt: HostRuntime) -> Result<(), Fail> {
     let keytab = opened(rt.alloc(), &[HEAD, HOST])?;
     let Some(entry) = keytab.entry_at(2) else {
         return Err(Fail::from("no entry"));
@@ -64,9 +64,9 @@ fn growths_of_a_found_line(rt: HostRuntime) -> Result<(), Fail> {
     Ok(())
 }
 
-/// Where a growth is refused, a prefix of the listing is out.
+/// Where an allocation fails, a prefix of the listing is out.
 #[test]
-fn growths_of_a_listing(rt: HostRuntime) -> Result<(), Fail> {
+fn allocations_of_a_listing(rt: HostRuntime) -> Result<(), Fail> {
     let alloc = rt.alloc();
     let keytab = opened(alloc, &[HEAD, HOST, B])?;
     let want = listed(alloc, "k", &keytab, ALL)?;
