@@ -75,11 +75,6 @@ REFUSED: list[Line] = [
     ("ktedit", "--v1-big"),
     ("ktedit", "--v1-big=yes", "k"),
     ("ktedit", b"\xff"),
-    ("ktutil", "k"),
-    ("ktutil", ""),
-    ("ktutil", "-k"),
-    ("ktutil", "--v1-big=yes"),
-    ("ktutil", b"\xff"),
 ]
 
 # Words that are no version: not one to ten digits, or over 32 bits.
@@ -152,7 +147,7 @@ FINDING: list[Line] = [
     ("ktfind", "k", "0", "0", "--", "b@R"),
 ]
 
-# Lines that read a script, and lines that read commands: `start` is a line of the first alone.
+# Lines that read a script, which is `start`.
 EDITING: list[Line] = [
     ("ktedit", "k"),
     ("ktedit", "--v1-big", "k"),
@@ -160,19 +155,12 @@ EDITING: list[Line] = [
     ("ktedit", "--v1-big", "k", "--v1-big"),
     ("ktedit", "--", "k"),
 ]
-WORKING: list[Line] = [
-    ("ktutil",),
-    ("ktutil", "--v1-big"),
-    ("ktutil", "--v1-big", "--v1-big"),
-    ("ktutil", "--"),
-]
 
 # Lines that print help, and words that it has.
-OF_ALL = (b"krbfile", b"klist", b"ktfind", b"ktedit", b"ktutil", b"--help")
+OF_ALL = (b"krbfile", b"klist", b"ktfind", b"ktedit", b"--help")
 OF_KLIST = (b"krbfile klist", b"-k", b"-t", b"-K", b"-e", b"--v1-big", b"FILE", b"--help")
 OF_KTFIND = (b"krbfile ktfind", b"--v1-big", b"FILE", b"KVNO", b"ETYPE", b"NAME", b"--help")
 OF_KTEDIT = (b"krbfile ktedit", b"--v1-big", b"FILE", b"--help")
-OF_KTUTIL = (b"krbfile ktutil", b"--v1-big", b"--help")
 HELP: list[tuple[Line, tuple[bytes, ...]]] = [
     (("--help",), OF_ALL),
     (("-h",), OF_ALL),
@@ -191,9 +179,6 @@ HELP: list[tuple[Line, tuple[bytes, ...]]] = [
     (("help", "ktedit"), OF_KTEDIT),
     (("ktedit", "--help"), OF_KTEDIT),
     (("ktedit", "k", "-h"), OF_KTEDIT),
-    (("help", "ktutil"), OF_KTUTIL),
-    (("ktutil", "--help"), OF_KTUTIL),
-    (("ktutil", "--v1-big", "-h"), OF_KTUTIL),
 ]
 
 
@@ -222,7 +207,6 @@ def cases() -> list[Case]:
         *(("taken", words, Outcome(0, sample(letters))) for words, letters in TAKEN),
         *(("finding", words, found) for words in FINDING),
         *(("editing", words, Outcome(0, b"walk 0 at 2\n")) for words in EDITING),
-        *(("working", words, message(1, "line 1: fault 1")) for words in WORKING),
     ]
     return [
         Case(f"{kind}: {shown(words)}", words, outcome, files, stdin=b"start")

@@ -46,6 +46,7 @@ class Report:
     def __init__(self) -> None:
         self.passed = 0
         self.failed = 0
+        self.left_out: list[str] = []
 
     def check(self, name: str, faults: list[str]) -> None:
         """Counts one case, which failed where there are faults."""
@@ -60,8 +61,12 @@ class Report:
         self.check(name, differences(wanted, got))
 
     def skip(self, what: str, why: str) -> None:
-        """Says that a part is left out."""
-        print(f"{what}: left out, since {why}")
+        """Notes that a part is left out."""
+        self.left_out.append(f"{what}: left out, since {why}")
+
+    def summary(self) -> str:
+        """What was left out, a line each, and the counts."""
+        return "\n".join([*self.left_out, f"{self.passed} passed, {self.failed} failed"])
 
 
 def short(data: bytes) -> str:
@@ -109,6 +114,12 @@ def run(program: str, words, folder: str, stdin: bytes = b"", **options) -> Outc
     options = {"stdout": subprocess.PIPE, "stderr": subprocess.PIPE, **options}
     done = subprocess.run([program, *words], cwd=folder, input=stdin, timeout=SECONDS, **options)
     return Outcome(done.returncode, done.stdout or b"", done.stderr or b"")
+
+
+def knows(program: str, command: str) -> bool:
+    """Whether the program has that command, and so help for it."""
+    with folder_of({}) as folder:
+        return run(program, (command, "--help"), folder).status == 0
 
 
 def run_case(program: str, case: Case, **options) -> tuple[Outcome, dict[str, bytes]]:

@@ -1,4 +1,4 @@
-"""The manual page: mandoc finds nothing wrong with it, and its examples are true."""
+"""The manual page: its form, its commands and its examples."""
 from __future__ import annotations
 
 import os
@@ -6,10 +6,13 @@ import re
 import shutil
 import subprocess
 
-from harness import Outcome, Report, folder_of
+from harness import Outcome, Report, folder_of, knows
 from images import TWO, Entry, entries
 
 PAGE = os.path.join(os.path.dirname(os.path.dirname(os.path.abspath(__file__))), "docs", "krbfile.1")
+
+# The commands that a program may have.
+COMMANDS = ("klist", "ktfind", "ktedit", "ktutil")
 
 # The files of the examples.
 FILES = {
@@ -30,12 +33,32 @@ def check_form(report: Report) -> None:
     report.check("the form of the manual page", said.splitlines())
 
 
+def page() -> str:
+    """The page's text."""
+    with open(PAGE, encoding="ascii") as file:
+        return file.read()
+
+
+def check_commands(report: Report, program: str) -> None:
+    """The page tells of each command that the program has, and of no other, with an example."""
+    synopsis = page().partition("\n.Sh SYNOPSIS\n")[2].partition("\n.Sh ")[0]
+    told = re.findall(r"^\.Cm (\w+)$", synopsis, re.MULTILINE)
+    shown = [command.split()[1] for command, _ in examples()]
+    for command in COMMANDS:
+        is_there = knows(program, command)
+        faults = [
+            f"{'not ' if is_there else ''}in {part}"
+            for part, names in (("the synopsis", told), ("the examples", shown))
+            if (command in names) != is_there
+        ]
+        report.check(f"{command} in the manual page", faults)
+    report.check("other commands in the manual page", sorted({*told, *shown} - {*COMMANDS}))
+
+
 def examples() -> list[tuple[str, bytes]]:
     """The commands of the examples, each with what stands under it."""
-    with open(PAGE, encoding="ascii") as file:
-        shown = re.findall(r"^\.Bd -literal.*\n((?s:.*?))^\.Ed$", file.read(), re.MULTILINE)
     found = []
-    for example in shown:
+    for example in re.findall(r"^\.Bd -literal.*\n((?s:.*?))^\.Ed$", page(), re.MULTILINE):
         end = example.find("\nEND\n") + 5 if "<<'END'" in example else example.find("\n") + 1
         found.append((example[2:end], example[end:].encode()))
     return found
@@ -43,12 +66,10 @@ def examples() -> list[tuple[str, bytes]]:
 
 def check_examples(report: Report, program: str) -> None:
     """Each example prints what stands there."""
-    shown = examples()
-    report.check("the manual page has examples", [] if len(shown) > 3 else [f"only {len(shown)}"])
     with folder_of({}) as programs:
         os.symlink(program, os.path.join(programs, "krbfile"))
         env = {**os.environ, "PATH": programs + os.pathsep + os.environ["PATH"]}
-        for command, wanted in shown:
+        for command, wanted in examples():
             with folder_of(FILES) as folder:
                 done = subprocess.run(["sh", "-c", command], cwd=folder, env=env, check=False,
                                       capture_output=True)
@@ -60,4 +81,5 @@ def check_examples(report: Report, program: str) -> None:
 def check(report: Report, program: str) -> None:
     """Runs all of this topic."""
     check_form(report)
+    check_commands(report, program)
     check_examples(report, program)
