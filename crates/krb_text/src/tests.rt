@@ -1,8 +1,8 @@
 //! Listings, found entries, replies and scripts. Images and texts are spelled out by hand.
 
+mod allocations;
 mod columns;
 mod found;
-mod allocations;
 mod keytabs;
 mod listings;
 mod replies;
