@@ -14,8 +14,8 @@ use Rattle.krb_text.specs.declared.script.ScriptRefusal.TheVariants.{Fault, NoMe
 use Rattle.krb_text.specs.Pieces.{pieces}
 use Rattle.krb_text.specs.Word.{number_word, etype_word, key_word, name_word}
 
--- the ? of the logic: the second step, if the first gave a value
 infixl 10 ◌>>=◌
+-- the ? of the logic: the second step, if the first gave a value
 abbrev pub ◌>>=◌ : {A B : Type 0} → Result A LineFault → (A → Result B LineFault) → Result B LineFault
 Ok x >>= f = f x
 Err fault >>= f = Err fault
