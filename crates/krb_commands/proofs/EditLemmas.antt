@@ -14,14 +14,14 @@ use Rattle.krb_walk.specs.declared.refusal.Code.{Code}
 use Rattle.krb_walk.specs.declared.refusal.Code.TheVariants as code
 use Rattle.krb_walk.specs.Store.{Store, Record, end_of, fault_of, is_place, live_bytes, next_live}
 use Rattle.krb_walk.specs.Said.{Said, Started, Refused}
-use Rattle.krb_walk.specs.Events.{State as Session, reply_to, after, store_after, step_said, stop_said, end_said, put_said, put_store, cut_said, cut_store, rewrite_said}
+use Rattle.krb_walk.specs.Events.{SessionState, reply_to, after, store_after, step_said, stop_said, end_said, put_said, put_store, cut_said, cut_store, rewrite_said}
 use Rattle.krb_walk.specs.History.{history, replies, state_after}
 use Rattle.krb_walk.specs.Ran.{Ran}
 use Rattle.krb_keytab.specs.Changes.{PlacedCell, put_result, put_bytes_result, put_result_into, first_hole, with_hole, with_last}
 use Rattle.krb_keytab.specs.Edit.{new_session}
 use Rattle.krb_keytab.specs.Entry.{EntryParts}
 use Rattle.krb_keytab.specs.Rewrite.{rewrite_of}
-use Rattle.krb_keytab.specs.Store.{State, image_of, store_of}
+use Rattle.krb_keytab.specs.Store.{KeytabState, image_of, store_of}
 use Rattle.krb_keytab.specs.Placed.{keytab_rules}
 use Rattle.krb_keytab.specs.Form.{fits, written}
 use Rattle.krb_text.specs.declared.files.Files.{Ghosts}
@@ -49,25 +49,25 @@ use Rattle.krb_commands.specs.Runs.{Run, Says, EndsRun, memory_run}
 -- ---- the format after an event
 
 -- an addition keeps the format
-abbrev KeepsFormat : State → Result (ℕ × State) Code → Type 0
+abbrev KeepsFormat : KeytabState → Result (ℕ × KeytabState) Code → Type 0
 KeepsFormat k (Ok given) = given.1.format ≡ k.format
 KeepsFormat k (Err refused) = Unit {0}
 
-if_keeps : (k : State) (b : Bool) (x y : Result (ℕ × State) Code) → KeepsFormat k x → KeepsFormat k y → KeepsFormat k (if b then x else y)
+if_keeps : (k : KeytabState) (b : Bool) (x y : Result (ℕ × KeytabState) Code) → KeepsFormat k x → KeepsFormat k y → KeepsFormat k (if b then x else y)
 if_keeps k true x y hx hy = hx
 if_keeps k false x y hx hy = hy
 
-into_keeps : (k : State) (bytes : List ℕ) (hole : Option PlacedCell) → KeepsFormat k (put_result_into k bytes hole)
+into_keeps : (k : KeytabState) (bytes : List ℕ) (hole : Option PlacedCell) → KeepsFormat k (put_result_into k bytes hole)
 into_keeps k bytes (Some hole) = refl
 into_keeps k bytes None = if_keeps k (nat_lt k.limit (length (image_of (with_last k bytes)))) (Err code.Full) (Ok (end_of (store_of k), with_last k bytes)) tt refl
 
-put_keeps : (k : State) (e : EntryParts) → KeepsFormat k (put_result k e)
+put_keeps : (k : KeytabState) (e : EntryParts) → KeepsFormat k (put_result k e)
 put_keeps k e =
     if_keeps k (is_some (fault_of (store_of k))) (Err code.Damaged) (if fits k.format e then put_bytes_result k (written k.format e) else Err code.TooLong) tt
     (if_keeps k (fits k.format e) (put_bytes_result k (written k.format e)) (Err code.TooLong) (into_keeps k (written k.format e) (first_hole 2 (length (written k.format e)) k.contents.cells)) tt)
 
 -- the format that a reply leaves is that of the keytab after its event
-of_put : (k : State) (given : Result (ℕ × State) Code) → KeepsFormat k given → (put_store k given).format ≡ format_after k.format (put_said given)
+of_put : (k : KeytabState) (given : Result (ℕ × KeytabState) Code) → KeepsFormat k given → (put_store k given).format ≡ format_after k.format (put_said given)
 of_put k (Ok given) keeps = keeps
 of_put k (Err refused) keeps = refl
 
@@ -91,19 +91,19 @@ of_step : (f : KtFormat) (s : Store) (w : ℕ) (cursor : Option ℕ) → f ≡ f
 of_step f s w None = refl
 of_step f s w (Some c) = of_stop f s w (next_live s c)
 
-of_cut_if : (k : State) (p : ℕ) (a b : Bool) (r s : Code) → (cut_store k (if a then Err r else (if b then Ok (with_hole k p) else Err s))).format
+of_cut_if : (k : KeytabState) (p : ℕ) (a b : Bool) (r s : Code) → (cut_store k (if a then Err r else (if b then Ok (with_hole k p) else Err s))).format
     ≡ format_after k.format (cut_said p (if a then Err r else (if b then Ok (with_hole k p) else Err s)))
 of_cut_if k p true b r s = refl
 of_cut_if k p false true r s = refl
 of_cut_if k p false false r s = refl
 
-of_rewrite_if : (k : State) (a b : Bool) (r s : Code) → (cut_store k (if a then Err r else (if b then Err s else Ok (rewrite_of k)))).format
+of_rewrite_if : (k : KeytabState) (a b : Bool) (r s : Code) → (cut_store k (if a then Err r else (if b then Err s else Ok (rewrite_of k)))).format
     ≡ format_after k.format (rewrite_said store_of (if a then Err r else (if b then Err s else Ok (rewrite_of k))))
 of_rewrite_if k true b r s = refl
 of_rewrite_if k false true r s = refl
 of_rewrite_if k false false r s = refl
 
-format_of_event : (s : Session State) (e : Event EntryParts) → (store_after keytab_rules s e).format ≡ format_after s.store.format (reply_to keytab_rules s e)
+format_of_event : (s : SessionState KeytabState) (e : Event EntryParts) → (store_after keytab_rules s e).format ≡ format_after s.store.format (reply_to keytab_rules s e)
 format_of_event s Start = of_cond s.store.format (nat_lt (length s.cursors) 1024) (Started (length s.cursors) 2) (Refused code.TooManyWalks) refl refl
 format_of_event s (Resume p) = of_resume s.store.format (nat_lt (length s.cursors) 1024) (is_place (store_of s.store) p) (Started (length s.cursors) p) (Refused code.NotAPlace) (Refused code.TooManyWalks) refl refl refl
 format_of_event s (Step w) = of_step s.store.format (store_of s.store) w (slice_get s.cursors w)
@@ -112,7 +112,7 @@ format_of_event s (Cut p) = of_cut_if s.store p (is_some (fault_of (store_of s.s
 format_of_event s Rewrite = of_rewrite_if s.store (is_some (fault_of (store_of s.store))) (nat_lt s.store.limit (length (image_of (rewrite_of s.store)))) code.Damaged code.Full
 
 -- the lines of replies, each in the format that the keytab then had
-lines_of : (s : Session State) (events : List (Event EntryParts))
+lines_of : (s : SessionState KeytabState) (events : List (Event EntryParts))
     → flat_map (λ m. reply_text m.before.store.format m.reply) (history keytab_rules s events) ≡ reply_texts s.store.format (replies (history keytab_rules s events))
 lines_of s [] = refl
 lines_of s (e ∷ es) =
@@ -126,17 +126,17 @@ pub any_said : {A B : Type 0} (f : A → B) (test : B → Bool) (xs : List A) �
 any_said f test [] = refl
 any_said f test (x ∷ xs) = ap (λ (b : Bool). test (f x) || b) (any_said f test xs)
 
-pub IsEdited-by : {A : Type 0} (keytab : State) (events : List (Event EntryParts)) (old new : Session State) (told : List Said) (e : Edited A)
+pub IsEdited-by : {A : Type 0} (keytab : KeytabState) (events : List (Event EntryParts)) (old new : SessionState KeytabState) (told : List Said) (e : Edited A)
     → old ≡ new_session keytab → Ran keytab_rules old new events [] told → e.image.items ≡ image_of new.store → e.text.items ≡ reply_texts keytab.format told
     → e.is_changed ≡ list_any is_change told → e.status ≡ (if list_any is_trouble told then 1 else 0) → IsEdited keytab events e
 IsEdited-by keytab events old new told e begins ran image text changed status =
-    let from_new : Ran keytab_rules (new_session keytab) new events [] told = subst (λ (s : Session State). Ran keytab_rules s new events [] told) begins ran in
+    let from_new : Ran keytab_rules (new_session keytab) new events [] told = subst (λ (s : SessionState KeytabState). Ran keytab_rules s new events [] told) begins ran in
     let told_is : told ≡ replies (moments keytab events) = from_new.replies_are in
     let new_is : new ≡ state_after keytab_rules (new_session keytab) events = from_new.state in
     record {
       ran = subst (λ (t : List Said). Ran keytab_rules (new_session keytab) (state_after keytab_rules (new_session keytab) events) events [] t) told_is
-          (subst (λ (s : Session State). Ran keytab_rules (new_session keytab) s events [] told) new_is from_new);
-      image = image ∙ ap (λ (s : Session State). image_of s.store) new_is;
+          (subst (λ (s : SessionState KeytabState). Ran keytab_rules (new_session keytab) s events [] told) new_is from_new);
+      image = image ∙ ap (λ (s : SessionState KeytabState). image_of s.store) new_is;
       text = text ∙ ap (reply_texts keytab.format) told_is ∙ sym (lines_of (new_session keytab) events);
       is_changed = changed ∙ ap (list_any is_change) told_is;
       status = status ∙ ap (λ (t : List Said). if list_any is_trouble t then 1 else 0) told_is;
@@ -147,7 +147,7 @@ one_at_most true = omega arith
 one_at_most false = omega arith
 
 -- its status is that of no failure
-pub IsEdited-low : {A : Type 0} (keytab : State) (events : List (Event EntryParts)) (e : Edited A) → IsEdited keytab events e → e.status < 3
+pub IsEdited-low : {A : Type 0} (keytab : KeytabState) (events : List (Event EntryParts)) (e : Edited A) → IsEdited keytab events e → e.status < 3
 IsEdited-low keytab events e is = subst (λ (n : ℕ). n < 3) (sym is.status) (one_at_most (list_any is_trouble (replies (moments keytab events))))
 
 -- ---- how a run ends that prints nothing
@@ -273,12 +273,12 @@ module _ {F : Type 0} (trait : Ghosts F) (file : List ℕ) (out err : Watch) (we
       }
 
   -- there was no keytab to edit
-  without_keytab : (events : List (Event EntryParts)) (new : F) (err' : Watch) (status : ℕ) (old : F) (order : Order) (opened : Result State Run) → SaysWhy trait file order old new err err' opened status
+  without_keytab : (events : List (Event EntryParts)) (new : F) (err' : Watch) (status : ℕ) (old : F) (order : Order) (opened : Result KeytabState Run) → SaysWhy trait file order old new err err' opened status
       → RunsFairly events opened × SavesDue trait file out out err err' status (edit_keytab events opened).saved (edit_keytab events opened).run new new
   without_keytab events new err' status old order (Ok keytab) why = absurd why
   without_keytab events new err' status old order (Err due) why = (tt, (refl, EndsRun-said due out err err' status well why.0 why.1 why.2 why.3))
 
-  why_not : (events : List (Event EntryParts)) (new : F) (err' : Watch) (status : ℕ) (old : F) (order : Order) (opened : Result State Run)
+  why_not : (events : List (Event EntryParts)) (new : F) (err' : Watch) (status : ℕ) (old : F) (order : Order) (opened : Result KeytabState Run)
       → ((status ≡ 4) × Says err err' (message (codes "out of memory"))) ⊎ SaysWhy trait file order old new err err' opened status
       → RunsOutFirst trait file out out err err' status new new
       ⊎ (RunsFairly events opened × SavesDue trait file out out err err' status (edit_keytab events opened).saved (edit_keytab events opened).run new new)
@@ -294,7 +294,7 @@ module _ {F : Type 0} (trait : Ghosts F) (file : List ℕ) (out err : Watch) (we
   }
 
   -- memory ran out over a keytab
-  pub EditsFile-memory : (order : Order) (events : List (Event EntryParts)) (old new : F) (err1 err' : Watch) (keytab : State) → OpensToEdit trait file order old new err err1 keytab
+  pub EditsFile-memory : (order : Order) (events : List (Event EntryParts)) (old new : F) (err1 err' : Watch) (keytab : KeytabState) → OpensToEdit trait file order old new err err1 keytab
       → Says err1 err' (message (codes "out of memory")) → EditsFile trait file out out err err' 4 order events old new
   EditsFile-memory order events old new err1 err' keytab opens says = record {
     files = new;
@@ -414,7 +414,7 @@ module _ {F : Type 0} (trait : Ghosts F) (file : List ℕ) (out out' err err' : 
 
 -- ---- what is due of an edited keytab
 
-pub SavesDue-edited : {A F : Type 0} (trait : Ghosts F) (file : List ℕ) (out out' err err' : Watch) (status : ℕ) (old new : F) (keytab : State) (events : List (Event EntryParts)) (e : Edited A)
+pub SavesDue-edited : {A F : Type 0} (trait : Ghosts F) (file : List ℕ) (out out' err err' : Watch) (status : ℕ) (old new : F) (keytab : KeytabState) (events : List (Event EntryParts)) (e : Edited A)
     → IsEdited keytab events e → SavesDue trait file out out' err err' status (saved_of e) (run_of e) old new
     → SavesDue trait file out out' err err' status (edit_keytab events (Ok keytab)).saved (edit_keytab events (Ok keytab)).run old new
 SavesDue-edited trait file out out' err err' status old new keytab events e is saves =
@@ -426,7 +426,7 @@ SavesDue-edited trait file out out' err err' status old new keytab events e is s
     (subst (λ (bytes : Option (List ℕ)). SavesDue trait file out out' err err' status bytes (run_of e) old new) saved saves)
 
 -- a keytab was edited
-pub EditsFile-edited : {A F : Type 0} (trait : Ghosts F) (file : List ℕ) (order : Order) (out out' err err1 err' : Watch) (status : ℕ) (old files new : F) (keytab : State) (events : List (Event EntryParts)) (e : Edited A)
+pub EditsFile-edited : {A F : Type 0} (trait : Ghosts F) (file : List ℕ) (order : Order) (out out' err err1 err' : Watch) (status : ℕ) (old files new : F) (keytab : KeytabState) (events : List (Event EntryParts)) (e : Edited A)
     → OpensToEdit trait file order old files err err1 keytab → IsEdited keytab events e → SavesDue trait file out out' err1 err' status (saved_of e) (run_of e) files new
     → EditsFile trait file out out' err err' status order events old new
 EditsFile-edited trait file order out out' err err1 err' status old files new keytab events e opens is saves =
@@ -434,7 +434,7 @@ EditsFile-edited trait file order out out' err err1 err' status old files new ke
     record {
       files = files;
       loads = opens.loads;
-      ends = subst (λ (opened : Result State Run). RunsOutFirst trait file out out' err err' status files new
+      ends = subst (λ (opened : Result KeytabState Run). RunsOutFirst trait file out out' err err' status files new
           ⊎ (RunsFairly events opened × SavesDue trait file out out' err err' status (edit_keytab events opened).saved (edit_keytab events opened).run files new))
           (sym opens.opened) (inr (is.ran, SavesDue-edited trait file out out' err err' status files new keytab events e is from_err));
     }

@@ -5,8 +5,8 @@ use Rattle.std.specs.Io.KnownBytes.{Appends}
 use Rattle.std.proofs.lemmas.Bool.{false≢true, true≢false}
 use Rattle.krb_wire.specs.declared.format.Order.{Order}
 use Rattle.krb_walk.specs.declared.refusal.Code.{Code}
-use Rattle.krb_keytab.specs.LookUp.{Placed}
-use Rattle.krb_keytab.specs.Store.{State}
+use Rattle.krb_keytab.specs.Find.{PlacedEntry}
+use Rattle.krb_keytab.specs.Store.{KeytabState}
 use Rattle.krb_text.specs.declared.files.LoadFault.{LoadFault}
 use Rattle.krb_text.specs.declared.files.LoadFault.TheVariants as load
 use Rattle.krb_text.specs.Bytes.{Watch, AppendsPrefix}
@@ -54,7 +54,7 @@ EndsRun-failed due out out' err err' failed prefix says =
     }
 
 -- with a file that was not loaded
-pub EndsRun-unloaded : (then_ : State → Run) (order : Order) (file : List ℕ) (fault : LoadFault) (out err err' : Watch)
+pub EndsRun-unloaded : (then_ : KeytabState → Run) (order : Order) (file : List ℕ) (fault : LoadFault) (out err err' : Watch)
     → IsFalse out.failed → Says err err' (load_message file fault) → EndsRun (load_run then_ order file (Err fault)) out out err err' (load_status fault)
 EndsRun-unloaded then_ order file load.Missing out err err' well says =
     let not4 : 1 ≢ 4 = search rules in EndsRun-done (load_run then_ order file (Err load.Missing)) out out err err' 1 well not4 refl (Appends-nil out.contents) says
@@ -66,7 +66,7 @@ EndsRun-unloaded then_ order file load.NoMemory out err err' well says =
     EndsRun-no_memory (load_run then_ order file (Err load.NoMemory)) out out err err' well (AppendsPrefix-none out.contents _) says
 
 -- a file was loaded
-pub EndsLoaded-ok : (Answered : Result (List ℕ) LoadFault → Type 0) (then_ : State → Run) (order : Order) (file bytes : List ℕ) (failures failures' : ℕ) (out out' err err' : Watch) (status : ℕ)
+pub EndsLoaded-ok : (Answered : Result (List ℕ) LoadFault → Type 0) (then_ : KeytabState → Run) (order : Order) (file bytes : List ℕ) (failures failures' : ℕ) (out out' err err' : Watch) (status : ℕ)
     → Answered (Ok bytes) → EndsRun (load_run then_ order file (Ok bytes)) out out' err err' status → EndsLoaded Answered (load_run then_ order file) failures failures' out out' err err' status
 EndsLoaded-ok Answered then_ order file bytes failures failures' out out' err err' status answered ends = record {
   loaded = Ok bytes;
@@ -80,7 +80,7 @@ fault_in (Ok x) = load.Missing
 fault_in (Err fault) = fault
 
 -- a file was not loaded
-pub EndsLoaded-err : (Answered : Result (List ℕ) LoadFault → Type 0) (then_ : State → Run) (order : Order) (file : List ℕ) (fault : LoadFault) (failures failures' : ℕ) (out err err' : Watch)
+pub EndsLoaded-err : (Answered : Result (List ℕ) LoadFault → Type 0) (then_ : KeytabState → Run) (order : Order) (file : List ℕ) (fault : LoadFault) (failures failures' : ℕ) (out err err' : Watch)
     → Answered (Err fault) → (fault ≡ load.Failed → CountsFailure failures failures') → IsFalse out.failed → Says err err' (load_message file fault)
     → EndsLoaded Answered (load_run then_ order file) failures failures' out out err err' (load_status fault)
 EndsLoaded-err Answered then_ order file fault failures failures' out err err' answered counts well says = record {
@@ -91,7 +91,7 @@ EndsLoaded-err Answered then_ order file fault failures failures' out err err' a
 }
 
 -- and what stands under its name is known
-pub EndsRun-honest : (then_ : State → Run) (order : Order) (file : List ℕ) (content : Option (List ℕ)) (fault : LoadFault) (failures failures' : ℕ) (out err err' : Watch)
+pub EndsRun-honest : (then_ : KeytabState → Run) (order : Order) (file : List ℕ) (content : Option (List ℕ)) (fault : LoadFault) (failures failures' : ℕ) (out err err' : Watch)
     → (fault ≡ load.Failed) ⊎ (fault ≡ load.NoMemory) ⊎ (loaded content most_bytes ≡ Err fault)
     → (fault ≡ load.Failed → CountsFailure failures failures') → IsFalse out.failed → Says err err' (load_message file fault)
     → FailsToRead file failures failures' out out err err' (load_status fault) ⊎ EndsRun (load_run then_ order file (loaded content most_bytes)) out out err err' (load_status fault)
@@ -105,7 +105,7 @@ EndsRun-honest then_ order file content fault failures failures' out err err' (i
     inr (subst (λ l. EndsRun (load_run then_ order file l) out out err err' (load_status fault)) (sym e) (EndsRun-unloaded then_ order file fault out err err' well says))
 
 -- with a look-up that was refused
-pub EndsRun-not_found : (file : List ℕ) (found : Result Placed Code) (code : Code) (out err err' : Watch) → found ≡ Err code
+pub EndsRun-not_found : (file : List ℕ) (found : Result PlacedEntry Code) (code : Code) (out err err' : Watch) → found ≡ Err code
     → IsFalse out.failed → Says err err' (refused_message file code) → EndsRun (found_run file found) out out err err' 1
 EndsRun-not_found file found code out err err' refused well says =
     let not4 : 1 ≢ 4 = search rules in

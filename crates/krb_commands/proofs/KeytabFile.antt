@@ -2,7 +2,7 @@
 use Rattle.std.proofs.Common.{◌≡◌, ◌≢◌, ◌⊎◌, ℕ, List, rules, refl, sym, ap, subst, ◌∙◌, inr}
 use Rattle.std.specs.Prelude.{Ok, Err}
 use Rattle.krb_wire.specs.declared.format.Order.{Order}
-use Rattle.krb_keytab.specs.Store.{State}
+use Rattle.krb_keytab.specs.Store.{KeytabState}
 use Rattle.krb_text.specs.declared.files.Files.{Ghosts}
 use Rattle.krb_text.specs.declared.files.LoadFault.{LoadFault}
 use Rattle.krb_text.specs.declared.files.LoadFault.TheVariants as load
@@ -36,7 +36,7 @@ HasCause-unloaded due file load.NoMemory failures failures' out err err' counts 
 
 module _ {F : Type 0} (trait : Ghosts F) (old new : F) (file : List ℕ) (order : Order) where
   -- a keytab was opened, and something was done with it
-  pub RunsOver-opened : (then_ : State → Run) (keytab : State) (out out' err err' err'' : Watch) (status : ℕ) → OpensKeytab trait old new file order err err' keytab
+  pub RunsOver-opened : (then_ : KeytabState → Run) (keytab : KeytabState) (out out' err err' err'' : Watch) (status : ℕ) → OpensKeytab trait old new file order err err' keytab
       → (then_ keytab).status ≢ 3 → EndsRun (then_ keytab) out out' err' err'' status → RunsOver trait old new file (load_run then_ order file) out out' err err'' status
   RunsOver-opened then_ keytab out out' err err' err'' status opens not3 ends =
       let same : load_run then_ order file (Ok opens.image) ≡ then_ keytab = ap (opening_run then_ file) opens.opened in

@@ -6,7 +6,7 @@ use Rattle.krb_walk.specs.History.{replies, state_after}
 use Rattle.krb_walk.specs.Ran.{Ran}
 use Rattle.krb_keytab.specs.Edit.{new_session}
 use Rattle.krb_keytab.specs.Entry.{EntryParts}
-use Rattle.krb_keytab.specs.Store.{State, image_of}
+use Rattle.krb_keytab.specs.Store.{KeytabState, image_of}
 use Rattle.krb_keytab.specs.Placed.{keytab_rules}
 use Rattle.krb_text.specs.declared.files.Files.{Ghosts}
 use Rattle.krb_text.specs.Bytes.{Watch}
@@ -24,7 +24,7 @@ abbrev pub run_of : {A : Type 0} → Edited A → Run
 run_of e = record { out = e.text.items; err = []; status = e.status }
 
 -- events made it of a keytab
-pub record IsEdited {A : Type 0} (keytab : State) (events : List (Event EntryParts)) (e : Edited A) : Type 0 where
+pub record IsEdited {A : Type 0} (keytab : KeytabState) (events : List (Event EntryParts)) (e : Edited A) : Type 0 where
   pub ran : Ran keytab_rules (new_session keytab) (state_after keytab_rules (new_session keytab) events) events [] (replies (moments keytab events))
   pub image : e.image.items ≡ image_of (keytab_after keytab events)
   pub text : e.text.items ≡ reply_lines keytab events
@@ -33,13 +33,13 @@ pub record IsEdited {A : Type 0} (keytab : State) (events : List (Event EntryPar
 
 module _ {F : Type 0} (trait : Ghosts F) (file : List ℕ) (order : Order) (old new : F) (err err' : Watch) where
   -- the keytab of a file was loaded, and nothing is said
-  pub record OpensToEdit (keytab : State) : Type 0 where
+  pub record OpensToEdit (keytab : KeytabState) : Type 0 where
     pub loads : Loads trait file old new
     pub opened : keytab_loaded order file loads.answer ≡ Ok keytab
     pub quiet : err' ≡ err
 
   -- why there is none is said
-  abbrev pub SaysWhy : Result State Run → ℕ → Type 0
+  abbrev pub SaysWhy : Result KeytabState Run → ℕ → Type 0
   SaysWhy (Ok keytab) status = ⊥
   SaysWhy (Err due) status = (due.out ≡ []) × (status ≡ due.status) × Says err err' due.err × (due.status ≡ 4 → due.err ≡ message (codes "out of memory"))
 

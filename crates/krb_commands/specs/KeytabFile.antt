@@ -2,8 +2,8 @@
 use Rattle.std.specs.Prelude.{◌≡◌, ◌⊎◌, ℕ, List, [], ◌++◌, Result, Ok, Err, IsFalse, codes, decimal}
 use Rattle.krb_wire.specs.declared.format.Order.{Order}
 use Rattle.krb_keytab.specs.declared.open.KtOpenFault.{KtOpenFault}
-use Rattle.krb_keytab.specs.Opening.{open_fault_number}
-use Rattle.krb_keytab.specs.Store.{State, opening}
+use Rattle.krb_keytab.specs.Open.{open_fault_number}
+use Rattle.krb_keytab.specs.Store.{KeytabState, open_result}
 use Rattle.krb_text.specs.declared.files.LoadFault.{LoadFault}
 use Rattle.krb_text.specs.declared.files.LoadFault.TheVariants as load
 use Rattle.krb_text.specs.declared.files.SaveFault.{SaveFault}
@@ -45,13 +45,13 @@ abbrev pub load_fault_run : List ℕ → LoadFault → Run
 load_fault_run file fault = record { out = []; err = load_message file fault; status = load_status fault }
 
 -- an image was opened, and something is done with the keytab, or it was not
-abbrev pub opening_run : (State → Run) → List ℕ → Result State KtOpenFault → Run
+abbrev pub opening_run : (KeytabState → Run) → List ℕ → Result KeytabState KtOpenFault → Run
 opening_run then_ file (Ok keytab) = then_ keytab
 opening_run then_ file (Err fault) = open_fault_run file fault
 
 -- a file was loaded, or not
-abbrev pub load_run : (State → Run) → Order → List ℕ → Result (List ℕ) LoadFault → Run
-load_run then_ order file (Ok image) = opening_run then_ file (opening order most_bytes image)
+abbrev pub load_run : (KeytabState → Run) → Order → List ℕ → Result (List ℕ) LoadFault → Run
+load_run then_ order file (Ok image) = opening_run then_ file (open_result order most_bytes image)
 load_run then_ order file (Err fault) = load_fault_run file fault
 
 -- a run that ends with a file that was not saved
@@ -78,14 +78,14 @@ module _ {F : Type 0} (trait : Ghosts F) (old new : F) where
     pub files : KeepsFiles
 
   -- the keytab of a file: its image was loaded and opened, and nothing is said
-  pub record OpensKeytab (file : List ℕ) (order : Order) (err err' : Watch) (keytab : State) : Type 0 where
+  pub record OpensKeytab (file : List ℕ) (order : Order) (err err' : Watch) (keytab : KeytabState) : Type 0 where
     pub image : List ℕ
     pub answered : trait.answers old file most_bytes (Ok image) new
     pub stands : trait.is_honest old → loaded (trait.file old file) most_bytes ≡ Ok image
-    pub opened : opening order most_bytes image ≡ Ok keytab
+    pub opened : open_result order most_bytes image ≡ Ok keytab
     pub quiet : err' ≡ err
     pub files : KeepsFiles
 
   -- a file without a keytab: why is said, and a run ends with that status, whatever was to be done with the keytab
   abbrev pub EndsUnopened : List ℕ → Order → Watch → Watch → ℕ → Type 0
-  EndsUnopened file order err err' status = (then_ : State → Run) (out : Watch) → IsFalse out.failed → RunsOver file (load_run then_ order file) out out err err' status
+  EndsUnopened file order err err' status = (then_ : KeytabState → Run) (out : Watch) → IsFalse out.failed → RunsOver file (load_run then_ order file) out out err err' status

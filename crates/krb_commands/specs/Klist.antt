@@ -1,7 +1,7 @@
 -- What klist prints.
 use Rattle.std.specs.Prelude.{ℕ, List, [], if◌then◌else◌, is_some, Result}
 use Rattle.krb_walk.specs.Store.{fault_of}
-use Rattle.krb_keytab.specs.Store.{State, store_of}
+use Rattle.krb_keytab.specs.Store.{KeytabState, store_of}
 use Rattle.krb_text.specs.declared.columns.KtColumns.{KtColumns}
 use Rattle.krb_text.specs.declared.files.LoadFault.{LoadFault}
 use Rattle.krb_text.specs.Listing.{list_text}
@@ -12,7 +12,7 @@ use Rattle.krb_commands.specs.KeytabFile.{load_run}
 use Rattle.krb_commands.specs.Runs.{Run}
 
 -- a keytab is listed; the listing tells its fault, if there is one
-abbrev pub listing_run : KtColumns → List ℕ → State → Run
+abbrev pub listing_run : KtColumns → List ℕ → KeytabState → Run
 listing_run columns file keytab = record {
   out = list_text columns file keytab;
   err = [];

@@ -10,7 +10,7 @@ use Rattle.krb_walk.specs.Ran.{Ran}
 use Rattle.krb_keytab.specs.declared.open.KtOpenFault.{KtOpenFault}
 use Rattle.krb_keytab.specs.Edit.{new_session}
 use Rattle.krb_keytab.specs.Entry.{EntryParts}
-use Rattle.krb_keytab.specs.Store.{State, empty, image_of, opening}
+use Rattle.krb_keytab.specs.Store.{KeytabState, empty, image_of, open_result}
 use Rattle.krb_keytab.specs.Placed.{keytab_rules}
 use Rattle.krb_text.specs.declared.files.Files.{Ghosts}
 use Rattle.krb_text.specs.declared.files.LoadFault.{LoadFault}
@@ -38,13 +38,13 @@ is_trouble (Refused code) = true
 is_trouble (Faulted walk fault) = true
 is_trouble said = false
 
-module _ (keytab : State) (events : List (Event EntryParts)) where
+module _ (keytab : KeytabState) (events : List (Event EntryParts)) where
   -- the events, each with its reply, over the keytab in a new session
-  abbrev pub moments : List (Moment State EntryParts)
+  abbrev pub moments : List (Moment KeytabState EntryParts)
   moments = history keytab_rules (new_session keytab) events
 
   -- the keytab after them
-  abbrev pub keytab_after : State
+  abbrev pub keytab_after : KeytabState
   keytab_after = (state_after keytab_rules (new_session keytab) events).store
 
   -- some event changed the keytab
@@ -64,13 +64,13 @@ module _ (keytab : State) (events : List (Event EntryParts)) where
   }
 
 -- the keytab that an image is, or how the run ends without one
-abbrev pub keytab_opened : List ℕ → Result State KtOpenFault → Result State Run
+abbrev pub keytab_opened : List ℕ → Result KeytabState KtOpenFault → Result KeytabState Run
 keytab_opened file (Ok keytab) = Ok keytab
 keytab_opened file (Err fault) = Err (open_fault_run file fault)
 
 -- the keytab of what a load answered: a missing file begins as an empty keytab of version 2
-abbrev pub keytab_loaded : Order → List ℕ → Result (List ℕ) LoadFault → Result State Run
-keytab_loaded order file (Ok image) = keytab_opened file (opening order most_bytes image)
+abbrev pub keytab_loaded : Order → List ℕ → Result (List ℕ) LoadFault → Result KeytabState Run
+keytab_loaded order file (Ok image) = keytab_opened file (open_result order most_bytes image)
 keytab_loaded order file (Err load.Missing) = Ok (empty V2 most_bytes)
 keytab_loaded order file (Err fault) = Err (load_fault_run file fault)
 
@@ -86,7 +86,7 @@ abbrev pub no_edit : Run → Edit
 no_edit run = record { saved = None; run = run }
 
 -- events over a keytab, or none over none: a keytab that was changed is saved
-abbrev pub edit_keytab : List (Event EntryParts) → Result State Run → Edit
+abbrev pub edit_keytab : List (Event EntryParts) → Result KeytabState Run → Edit
 edit_keytab events (Ok keytab) = record {
   saved = if is_changed keytab events then Some (image_of (keytab_after keytab events)) else None;
   run = edit_run keytab events;
@@ -112,7 +112,7 @@ FileAfter file old new bytes (Ok done) = SetsFile old file bytes new
 FileAfter file old new bytes (Err fault) = SameFiles old new
 
 -- events were run over a keytab: every walk is given what is due to it
-abbrev pub RunsFairly : List (Event EntryParts) → Result State Run → Type 0
+abbrev pub RunsFairly : List (Event EntryParts) → Result KeytabState Run → Type 0
 RunsFairly events (Ok keytab) = Ran keytab_rules (new_session keytab) (state_after keytab_rules (new_session keytab) events) events [] (replies (moments keytab events))
 RunsFairly events (Err run) = Unit {0}
 

@@ -16,42 +16,42 @@ use Rattle.krb_walk.specs.Stops.{records_from}
 use Rattle.krb_walk.proofs.Stops.{Stopped, walks_begin_with_all}
 use Rattle.krb_keytab.specs.Entry.{EntryParts, entry_at, Spells}
 use Rattle.krb_keytab.specs.Cells.{cell}
-use Rattle.krb_keytab.specs.Store.{State, store_of, entries, image_of}
+use Rattle.krb_keytab.specs.Store.{KeytabState, store_of, entries, image_of}
 use Rattle.krb_keytab.specs.Form.{fits}
 use Rattle.krb_keytab.specs.Rewrite.{new_record, rewrite_of}
 use Rattle.krb_keytab.proofs.WrittenLemmas.{fits_yes}
 
 -- the entries from a place on
-abbrev pub entries_from : State → ℕ → List EntryParts
+abbrev pub entries_from : KeytabState → ℕ → List EntryParts
 entries_from k p = filter_map (λ r. entry_at k.format r.bytes) (records_from (store_of k) p)
 
-pub entries_first : (k : State) → entries_from k 2 ≡ entries k
+pub entries_first : (k : KeytabState) → entries_from k 2 ≡ entries k
 entries_first k = ap (filter_map (λ r. entry_at k.format r.bytes)) (walks_begin_with_all (store_of k)).all
 
-pub entries_stop : (k : State) (p at next : ℕ) (b : List ℕ) (e : EntryParts) → Stopped (store_of k) p at next → live_bytes (store_of k) at ≡ Some b → entry_at k.format b ≡ Some e → entries_from k p ≡ e ∷ entries_from k next
+pub entries_stop : (k : KeytabState) (p at next : ℕ) (b : List ℕ) (e : EntryParts) → Stopped (store_of k) p at next → live_bytes (store_of k) at ≡ Some b → entry_at k.format b ≡ Some e → entries_from k p ≡ e ∷ entries_from k next
 entries_stop k p at next b e stop live is =
     let same : stop.bytes ≡ b = some_is stop.bytes b (sym stop.live ∙ live) in
     let entry : entry_at k.format stop.bytes ≡ Some e = ap (entry_at k.format) same ∙ is in
     ap (filter_map (λ r. entry_at k.format r.bytes)) stop.first ∙ ap (λ (o : Option EntryParts). cons_option o (entries_from k next)) entry
 
 -- the bytes of the new records that are left
-abbrev pub rest : State → ℕ → List ℕ
+abbrev pub rest : KeytabState → ℕ → List ℕ
 rest k p = flat_map (cell Big) (map new_record (entries_from k p))
 
-pub rest_stop : (k : State) (p at next : ℕ) (b : List ℕ) (e : EntryParts) → Stopped (store_of k) p at next → live_bytes (store_of k) at ≡ Some b → entry_at k.format b ≡ Some e → rest k p ≡ cell Big (new_record e) ++ rest k next
+pub rest_stop : (k : KeytabState) (p at next : ℕ) (b : List ℕ) (e : EntryParts) → Stopped (store_of k) p at next → live_bytes (store_of k) at ≡ Some b → entry_at k.format b ≡ Some e → rest k p ≡ cell Big (new_record e) ++ rest k next
 rest_stop k p at next b e stop live is =
     ap (λ (es : List EntryParts). flat_map (cell Big) (map new_record es)) (entries_stop k p at next b e stop live is) ∙ flat_map-cons (cell Big) (new_record e) (map new_record (entries_from k next))
 
-pub rest_first : (k : State) → rest k 2 ≡ flat_map (cell Big) (map new_record (entries k))
+pub rest_first : (k : KeytabState) → rest k 2 ≡ flat_map (cell Big) (map new_record (entries k))
 rest_first k = ap (λ (es : List EntryParts). flat_map (cell Big) (map new_record es)) (entries_first k)
 
-pub image_anew : (k : State) → image_of (rewrite_of k) ≡ 5 ∷ 2 ∷ rest k 2
+pub image_anew : (k : KeytabState) → image_of (rewrite_of k) ≡ 5 ∷ 2 ∷ rest k 2
 image_anew k = ap (λ (b : List ℕ). 5 ∷ 2 ∷ b) (append-nil (flat_map (cell Big) (map new_record (entries k))) ∙ sym (rest_first k))
 
-pub len_all : (k : State) → length (image_of (rewrite_of k)) ≡ 2 + length (rest k 2)
+pub len_all : (k : KeytabState) → length (image_of (rewrite_of k)) ≡ 2 + length (rest k 2)
 len_all k = ap length (image_anew k) ∙ omega arith
 
-pub rest_len : (k : State) (p at next : ℕ) (b : List ℕ) (e : EntryParts) → Stopped (store_of k) p at next → live_bytes (store_of k) at ≡ Some b → entry_at k.format b ≡ Some e → length (rest k p) ≡ length (cell Big (new_record e)) + length (rest k next)
+pub rest_len : (k : KeytabState) (p at next : ℕ) (b : List ℕ) (e : EntryParts) → Stopped (store_of k) p at next → live_bytes (store_of k) at ≡ Some b → entry_at k.format b ≡ Some e → length (rest k p) ≡ length (cell Big (new_record e)) + length (rest k next)
 rest_len k p at next b e stop live is = ap length (rest_stop k p at next b e stop live is) ∙ length-append (cell Big (new_record e)) (rest k next)
 
 -- ---- an entry that was read fits version 2
@@ -72,14 +72,14 @@ fits_anew f e b s =
 
 -- ---- as the loops have it
 
-pub entry_read : (k : State) (f : KtFormat) (b : List ℕ) (e : EntryParts) → f ≡ k.format → entry_at f b ≡ Some e → entry_at k.format b ≡ Some e
+pub entry_read : (k : KeytabState) (f : KtFormat) (b : List ℕ) (e : EntryParts) → f ≡ k.format → entry_at f b ≡ Some e → entry_at k.format b ≡ Some e
 entry_read k f b e same is = ap (λ (x : KtFormat). entry_at x b) (sym same) ∙ is
 
-pub rest_none : (k : State) (p : ℕ) → records_from (store_of k) p ≡ [] → rest k p ≡ []
+pub rest_none : (k : KeytabState) (p : ℕ) → records_from (store_of k) p ≡ [] → rest k p ≡ []
 rest_none k p none = ap (λ (rs : List Record). flat_map (cell Big) (map new_record (filter_map (λ r. entry_at k.format r.bytes) rs))) none
 
 -- the two first bytes, and then the records
-pub spelled_first : (k : State) (xs : List ℕ) → length xs ≡ length (image_of (rewrite_of k)) → splice (slice_set (slice_set xs 0 5) 1 2) 2 (2 + length (rest k 2)) (rest k 2) ≡ image_of (rewrite_of k)
+pub spelled_first : (k : KeytabState) (xs : List ℕ) → length xs ≡ length (image_of (rewrite_of k)) → splice (slice_set (slice_set xs 0 5) 1 2) 2 (2 + length (rest k 2)) (rest k 2) ≡ image_of (rewrite_of k)
 spelled_first k [] len = absurd (omega (arith, len, len_all k))
 spelled_first k (a ∷ []) len = absurd (omega (arith, len, len_all k))
 spelled_first k (a ∷ b ∷ xs) len =
@@ -94,5 +94,5 @@ spelled_all out left whole to none so_far =
     sym (take-append-drop to out) ∙ ap (λ (n : ℕ). take to out ++ drop n out) (sym is) ∙ ap (λ (b : List ℕ). take to out ++ (b ++ drop (to + length left) out)) (sym none) ∙ so_far
 
 -- the first place is 2
-pub spelled_from : (k : State) (xs : List ℕ) (p : ℕ) → p ≡ 2 → length xs ≡ length (image_of (rewrite_of k)) → splice (slice_set (slice_set xs 0 5) 1 2) 2 (2 + length (rest k p)) (rest k p) ≡ image_of (rewrite_of k)
+pub spelled_from : (k : KeytabState) (xs : List ℕ) (p : ℕ) → p ≡ 2 → length xs ≡ length (image_of (rewrite_of k)) → splice (slice_set (slice_set xs 0 5) 1 2) 2 (2 + length (rest k p)) (rest k p) ≡ image_of (rewrite_of k)
 spelled_from k xs p is len = subst (λ (q : ℕ). splice (slice_set (slice_set xs 0 5) 1 2) 2 (2 + length (rest k q)) (rest k q) ≡ image_of (rewrite_of k)) (sym is) (spelled_first k xs len)

@@ -15,7 +15,7 @@ use Rattle.krb_walk.proofs.Carries.{lives_rise, below, below_none, below_some}
 use Rattle.krb_keytab.specs.Entry.{EntryParts, entry_at}
 use Rattle.krb_keytab.specs.Cells.{Cell, Live, Free, Contents, contents, IsCell}
 use Rattle.krb_keytab.specs.Questions.{size, is_place, end_place}
-use Rattle.krb_keytab.specs.Store.{State, store_cell, store_of}
+use Rattle.krb_keytab.specs.Store.{KeytabState, store_cell, store_of}
 use Rattle.krb_keytab.specs.Form.{written}
 use Rattle.krb_keytab.specs.Rewrite.{new_record, rewrite_of}
 use Rattle.krb_keytab.specs.Carry.{place_after, cells_after, new_place, AreGiven, HasGiven, GoesBy}
@@ -71,7 +71,7 @@ carried_is f (Live b ∷ cs) at to p sound =
     (λ lt. live_rank at to p b e.0 cs (entries_of f cs) lt ∙ sym (carried_is f cs (at + 4 + length b) (to + 4 + length (written V2 e.0)) p sound.1)) in
     ap (λ (ds : List Cell). new_place at (Live b ∷ cs) to ds p) is ∙ goal ∙ sym (ap (λ (ds : List Cell). by_rank at (Live b ∷ cs) to ds p) is)
 
-pub carry_is : (k : State) (p : ℕ) → AllByRecursion (IsCell k.format) k.contents.cells → new_place 2 k.contents.cells 2 (rewrite_of k).contents.cells p ≡ carry (store_of k) (store_of (rewrite_of k)) p
+pub carry_is : (k : KeytabState) (p : ℕ) → AllByRecursion (IsCell k.format) k.contents.cells → new_place 2 k.contents.cells 2 (rewrite_of k).contents.cells p ≡ carry (store_of k) (store_of (rewrite_of k)) p
 carry_is k p sound =
     let same = entries_all k in
     subst (λ (es : List EntryParts). new_place 2 k.contents.cells 2 (map new_record es) p ≡ by_rank 2 k.contents.cells 2 (map new_record es) p) (sym same) (carried_is k.format k.contents.cells 2 2 p sound)
@@ -120,7 +120,7 @@ all_go image end last cs to ds (p ∷ ps) given is is_last small h = (
 )
 
 -- places of the store are places of its cells
-pub all_places : (f : KtFormat) (limit : ℕ) (image bytes : List ℕ) (k : State) (cursors : List ℕ) → bytes ≡ image → held f limit image ≡ k → AllByRecursion (IsPlace (store_of k)) cursors → AllByRecursion (λ p. is_place 2 (contents f (drop 2 bytes)).cells p ≡ true) cursors
+pub all_places : (f : KtFormat) (limit : ℕ) (image bytes : List ℕ) (k : KeytabState) (cursors : List ℕ) → bytes ≡ image → held f limit image ≡ k → AllByRecursion (IsPlace (store_of k)) cursors → AllByRecursion (λ p. is_place 2 (contents f (drop 2 bytes)).cells p ≡ true) cursors
 all_places f limit image bytes k [] same is h = tt
 all_places f limit image bytes k (p ∷ ps) same is h = (place_held f limit image bytes k p same is h.0, all_places f limit image bytes k ps same is h.1)
 
@@ -128,11 +128,11 @@ map_same : (f g : ℕ → ℕ) (xs : List ℕ) → ((x : ℕ) → f x ≡ g x) �
 map_same f g [] same = refl
 map_same f g (x ∷ xs) same = ap (λ (n : ℕ). n ∷ map f xs) (same x) ∙ ap (λ (ys : List ℕ). g x ∷ ys) (map_same f g xs same)
 
-pub all_carried : (f : KtFormat) (limit : ℕ) (image bytes new : List ℕ) (k after : State) (cursors : List ℕ) → bytes ≡ image → held f limit image ≡ k → AllByRecursion (IsCell k.format) k.contents.cells → contents V2 (drop 2 new) ≡ (rewrite_of k).contents → after ≡ rewrite_of k
+pub all_carried : (f : KtFormat) (limit : ℕ) (image bytes new : List ℕ) (k after : KeytabState) (cursors : List ℕ) → bytes ≡ image → held f limit image ≡ k → AllByRecursion (IsCell k.format) k.contents.cells → contents V2 (drop 2 new) ≡ (rewrite_of k).contents → after ≡ rewrite_of k
     → map (new_place 2 (contents f (drop 2 bytes)).cells 2 (contents V2 (drop 2 new)).cells) cursors ≡ map (carry (store_of k) (store_of after)) cursors
 all_carried f limit image bytes new k after cursors same is sound spelled done =
     ap (λ (b : List ℕ). map (new_place 2 (contents f (drop 2 b)).cells 2 (contents V2 (drop 2 new)).cells) cursors) same
-    ∙ ap (λ (s : State). map (new_place 2 s.contents.cells 2 (contents V2 (drop 2 new)).cells) cursors) is
+    ∙ ap (λ (s : KeytabState). map (new_place 2 s.contents.cells 2 (contents V2 (drop 2 new)).cells) cursors) is
     ∙ ap (λ (x : Contents). map (new_place 2 k.contents.cells 2 x.cells) cursors) spelled
     ∙ map_same (new_place 2 k.contents.cells 2 (rewrite_of k).contents.cells) (carry (store_of k) (store_of (rewrite_of k))) cursors (λ p. carry_is k p sound)
-    ∙ ap (λ (s : State). map (carry (store_of k) (store_of s)) cursors) (sym done)
+    ∙ ap (λ (s : KeytabState). map (carry (store_of k) (store_of s)) cursors) (sym done)

@@ -9,15 +9,15 @@ use Rattle.krb_wire.specs.declared.format.KtFormat.{KtFormat}
 use Rattle.krb_walk.specs.Store.{Record, standing, record_of}
 use Rattle.krb_keytab.specs.Entry.{EntryParts, entry_at}
 use Rattle.krb_keytab.specs.Cells.{Cell, Live, Free}
-use Rattle.krb_keytab.specs.Store.{State, store_cell}
+use Rattle.krb_keytab.specs.Store.{KeytabState, store_cell}
 use Rattle.krb_keytab.specs.CellsFrom.{CellsFrom, BeginsWith, cells_of}
 use Rattle.krb_keytab.specs.Looked.{IsFoundAmong, IsLookedUpTo}
-use Rattle.krb_keytab.specs.LookUp.{Placed, placed_entries}
+use Rattle.krb_keytab.specs.Find.{PlacedEntry, placed_entries}
 use Rattle.krb_keytab.specs.Entries.{entries_in}
 use Rattle.krb_keytab.proofs.Stores.{past}
 
 -- the entries of the records of a store's cells
-abbrev stored : KtFormat → ℕ → List Cell → List Placed
+abbrev stored : KtFormat → ℕ → List Cell → List PlacedEntry
 stored f at cs = filter_map (λ (r : Record). option_map (λ (e : EntryParts). (r.place, e)) (entry_at f r.bytes)) (filter_map record_of (standing at (map store_cell cs)))
 
 listed_stored : (f : KtFormat) (at : ℕ) (cs : List Cell) → entries_in f at cs ≡ stored f at cs
@@ -27,7 +27,7 @@ listed_stored f at (Live b ∷ cs) =
 listed_stored f at (Free b ∷ cs) = listed_stored f (at + 4 + length b) cs ∙ ap (λ (n : ℕ). stored f n cs) (past at (length b))
 
 -- those of the cells of a keytab are its entries
-pub entries_of_cells : (k : State) (cells : CellsFrom) → cells ≡ cells_of k → entries_in cells.format cells.place cells.contents.cells ≡ placed_entries k
+pub entries_of_cells : (k : KeytabState) (cells : CellsFrom) → cells ≡ cells_of k → entries_in cells.format cells.place cells.contents.cells ≡ placed_entries k
 entries_of_cells k cells is = ap (λ (x : CellsFrom). entries_in x.format x.place x.contents.cells) is ∙ listed_stored k.format 2 k.contents.cells
 
 -- ---- looked at one after the other
@@ -47,26 +47,26 @@ listed_free old new at b s =
     ∙ ap (λ (p : ℕ). entries_in old.format p new.contents.cells) (sym s.next)
     ∙ ap (λ (f : KtFormat). entries_in f new.place new.contents.cells) (sym s.format)
 
-pub looked_first : (name : Parts) (kvno enctype : ℕ) (k : State) (cells : CellsFrom) → cells ≡ cells_of k → IsLookedUpTo name kvno enctype k cells false None
+pub looked_first : (name : Parts) (kvno enctype : ℕ) (k : KeytabState) (cells : CellsFrom) → cells ≡ cells_of k → IsLookedUpTo name kvno enctype k cells false None
 looked_first name kvno enctype k cells is = record { before = []; found = refl; all = entries_of_cells k cells is }
 
-pub looked_free : (name : Parts) (kvno enctype : ℕ) (k : State) (old new : CellsFrom) (at : ℕ) (b : List ℕ) (named : Bool) (best : Option Placed) → BeginsWith old at (Free b) new → IsLookedUpTo name kvno enctype k old named best → IsLookedUpTo name kvno enctype k new named best
+pub looked_free : (name : Parts) (kvno enctype : ℕ) (k : KeytabState) (old new : CellsFrom) (at : ℕ) (b : List ℕ) (named : Bool) (best : Option PlacedEntry) → BeginsWith old at (Free b) new → IsLookedUpTo name kvno enctype k old named best → IsLookedUpTo name kvno enctype k new named best
 looked_free name kvno enctype k old new at b named best s l = record {
   before = l.before;
   found = l.found;
-  all = ap (λ (xs : List Placed). l.before ++ xs) (sym (listed_free old new at b s)) ∙ l.all;
+  all = ap (λ (xs : List PlacedEntry). l.before ++ xs) (sym (listed_free old new at b s)) ∙ l.all;
 }
 
-pub looked_live : (name : Parts) (kvno enctype : ℕ) (k : State) (old new : CellsFrom) (at : ℕ) (b : List ℕ) (named named' : Bool) (best best' : Option Placed) → BeginsWith old at (Live b) new → IsLookedUpTo name kvno enctype k old named best
-    → ((xs : List Placed) (e : EntryParts) → entry_at old.format b ≡ Some e → IsFoundAmong name kvno enctype xs named best → IsFoundAmong name kvno enctype (xs ++ (at, e) ∷ []) named' best') → IsLookedUpTo name kvno enctype k new named' best'
+pub looked_live : (name : Parts) (kvno enctype : ℕ) (k : KeytabState) (old new : CellsFrom) (at : ℕ) (b : List ℕ) (named named' : Bool) (best best' : Option PlacedEntry) → BeginsWith old at (Live b) new → IsLookedUpTo name kvno enctype k old named best
+    → ((xs : List PlacedEntry) (e : EntryParts) → entry_at old.format b ≡ Some e → IsFoundAmong name kvno enctype xs named best → IsFoundAmong name kvno enctype (xs ++ (at, e) ∷ []) named' best') → IsLookedUpTo name kvno enctype k new named' best'
 looked_live name kvno enctype k old new at b named named' best best' s l looks =
     let e = is_some_has (entry_at old.format b) s.sound.2 in
     record {
       before = l.before ++ (at, e.0) ∷ [];
       found = looks l.before e.0 e.1 l.found;
-      all = append_assoc l.before ((at, e.0) ∷ []) (entries_in new.format new.place new.contents.cells) ∙ ap (λ (xs : List Placed). l.before ++ xs) (sym (listed_live old new at b e.0 s e.1)) ∙ l.all;
+      all = append_assoc l.before ((at, e.0) ∷ []) (entries_in new.format new.place new.contents.cells) ∙ ap (λ (xs : List PlacedEntry). l.before ++ xs) (sym (listed_live old new at b e.0 s e.1)) ∙ l.all;
     }
 
-pub looked_all : (name : Parts) (kvno enctype : ℕ) (k : State) (cells : CellsFrom) (named : Bool) (best : Option Placed) → cells.contents.cells ≡ [] → IsLookedUpTo name kvno enctype k cells named best → IsFoundAmong name kvno enctype (placed_entries k) named best
+pub looked_all : (name : Parts) (kvno enctype : ℕ) (k : KeytabState) (cells : CellsFrom) (named : Bool) (best : Option PlacedEntry) → cells.contents.cells ≡ [] → IsLookedUpTo name kvno enctype k cells named best → IsFoundAmong name kvno enctype (placed_entries k) named best
 looked_all name kvno enctype k cells named best none l =
-    subst (λ (xs : List Placed). IsFoundAmong name kvno enctype xs named best) (sym (append-nil l.before) ∙ ap (λ (cs : List Cell). l.before ++ entries_in cells.format cells.place cs) (sym none) ∙ l.all) l.found
+    subst (λ (xs : List PlacedEntry). IsFoundAmong name kvno enctype xs named best) (sym (append-nil l.before) ∙ ap (λ (cs : List Cell). l.before ++ entries_in cells.format cells.place cs) (sym none) ∙ l.all) l.found

@@ -8,63 +8,63 @@ use Rattle.std.proofs.lemmas.Bool.Decides.{eqb_tells}
 use Rattle.krb_wire.specs.Spelling.{Parts}
 use Rattle.krb_wire.specs.SameName.{have_same_name}
 use Rattle.krb_keytab.specs.Looked.{answer, IsFoundAmong}
-use Rattle.krb_keytab.specs.LookUp.{Placed, is_asked, greatest, version_asked, found, look_up_in}
+use Rattle.krb_keytab.specs.Find.{PlacedEntry, is_asked, greatest, version_asked, found, look_up_in}
 
 -- ---- one entry after the other
 
 -- an entry of that version is looked for more than the one that was found so far
-abbrev pub is_better : ℕ → Option Placed → ℕ → Bool
+abbrev pub is_better : ℕ → Option PlacedEntry → ℕ → Bool
 is_better kvno None version = kvno == 0 || version == kvno
 is_better kvno (Some x) version = kvno == 0 && ltb x.1.version version
 
 -- the one that is looked for, after some entries that are asked for
-abbrev best_after : ℕ → Option Placed → List Placed → Option Placed
+abbrev best_after : ℕ → Option PlacedEntry → List PlacedEntry → Option PlacedEntry
 best_after v best [] = best
 best_after v best (x ∷ xs) = best_after v (cond (is_better v best x.1.version) (Some x) best) xs
 
 -- and after one more
-best-append : (v : ℕ) (best : Option Placed) (xs : List Placed) (x : Placed) → best_after v best (xs ++ x ∷ []) ≡ cond (is_better v (best_after v best xs) x.1.version) (Some x) (best_after v best xs)
+best-append : (v : ℕ) (best : Option PlacedEntry) (xs : List PlacedEntry) (x : PlacedEntry) → best_after v best (xs ++ x ∷ []) ≡ cond (is_better v (best_after v best xs) x.1.version) (Some x) (best_after v best xs)
 best-append v best [] x = refl
 best-append v best (y ∷ ys) x = best-append v (cond (is_better v best y.1.version) (Some y) best) ys x
 
 -- whether there is some entry
-abbrev some_of : List Placed → Bool
+abbrev some_of : List PlacedEntry → Bool
 some_of [] = false
 some_of (x ∷ xs) = true
 
-some-append : (xs : List Placed) (x : Placed) → some_of (xs ++ x ∷ []) ≡ true
+some-append : (xs : List PlacedEntry) (x : PlacedEntry) → some_of (xs ++ x ∷ []) ≡ true
 some-append [] x = refl
 some-append (y ∷ ys) x = refl
 
 -- ---- the first with a version
 
 -- with a version, what is found stays
-stays : (v : ℕ) (x : Placed) (xs : List Placed) → (v == 0) ≡ false → best_after v (Some x) xs ≡ Some x
+stays : (v : ℕ) (x : PlacedEntry) (xs : List PlacedEntry) → (v == 0) ≡ false → best_after v (Some x) xs ≡ Some x
 stays v x [] e = refl
 stays v x (y ∷ ys) e = rw e (stays v x ys e)
 
-first_by : (v : ℕ) (x : Placed) (xs : List Placed) (b : Bool) → (v == 0) ≡ false → (x.1.version == v) ≡ b → best_after v None xs ≡ find (λ y. y.1.version == v) xs → best_after v None (x ∷ xs) ≡ find (λ y. y.1.version == v) (x ∷ xs)
+first_by : (v : ℕ) (x : PlacedEntry) (xs : List PlacedEntry) (b : Bool) → (v == 0) ≡ false → (x.1.version == v) ≡ b → best_after v None xs ≡ find (λ y. y.1.version == v) xs → best_after v None (x ∷ xs) ≡ find (λ y. y.1.version == v) (x ∷ xs)
 first_by v x xs true e is ih = rw (e, is) (stays v x xs e)
 first_by v x xs false e is ih = rw (e, is) ih
 
-first_with : (v : ℕ) (xs : List Placed) → (v == 0) ≡ false → best_after v None xs ≡ find (λ y. y.1.version == v) xs
+first_with : (v : ℕ) (xs : List PlacedEntry) → (v == 0) ≡ false → best_after v None xs ≡ find (λ y. y.1.version == v) xs
 first_with v [] e = refl
 first_with v (x ∷ xs) e = first_by v x xs (x.1.version == v) e refl (first_with v xs e)
 
 -- ---- the first with the greatest version
 
 -- the first of some entries with a version
-abbrev with_version : ℕ → List Placed → Option Placed
+abbrev with_version : ℕ → List PlacedEntry → Option PlacedEntry
 with_version m xs = find (λ y. y.1.version == m) xs
 
-skips : (m : ℕ) (x : Placed) (xs : List Placed) → (x.1.version == m) ≡ false → with_version m (x ∷ xs) ≡ with_version m xs
+skips : (m : ℕ) (x : PlacedEntry) (xs : List PlacedEntry) → (x.1.version == m) ≡ false → with_version m (x ∷ xs) ≡ with_version m xs
 skips m x xs e = rw e refl
 
-takes : (m : ℕ) (x : Placed) (xs : List Placed) → (x.1.version == m) ≡ true → with_version m (x ∷ xs) ≡ Some x
+takes : (m : ℕ) (x : PlacedEntry) (xs : List PlacedEntry) → (x.1.version == m) ≡ true → with_version m (x ∷ xs) ≡ Some x
 takes m x xs e = rw e refl
 
 -- an entry that is greater takes the place of the one found
-greater : (b y : Placed) (ys : List Placed) → b.1.version < y.1.version → best_after 0 (Some y) ys ≡ with_version (max y.1.version (greatest ys)) (y ∷ ys)
+greater : (b y : PlacedEntry) (ys : List PlacedEntry) → b.1.version < y.1.version → best_after 0 (Some y) ys ≡ with_version (max y.1.version (greatest ys)) (y ∷ ys)
     → best_after 0 (Some b) (y ∷ ys) ≡ with_version (max b.1.version (max y.1.version (greatest ys))) (b ∷ y ∷ ys)
 greater b y ys lt ih =
     let better : ltb b.1.version y.1.version ≡ true = lt-ltb _ _ lt in
@@ -74,7 +74,7 @@ greater b y ys lt ih =
     rw better (ih ∙ ap (λ (n : ℕ). with_version n (y ∷ ys)) (sym same) ∙ sym (skips m b (y ∷ ys) no))
 
 -- one that is not changes nothing
-no_greater : (b y : Placed) (ys : List Placed) → y.1.version ≤ b.1.version → best_after 0 (Some b) ys ≡ with_version (max b.1.version (greatest ys)) (b ∷ ys)
+no_greater : (b y : PlacedEntry) (ys : List PlacedEntry) → y.1.version ≤ b.1.version → best_after 0 (Some b) ys ≡ with_version (max b.1.version (greatest ys)) (b ∷ ys)
     → best_after 0 (Some b) (y ∷ ys) ≡ with_version (max b.1.version (max y.1.version (greatest ys))) (b ∷ y ∷ ys)
 no_greater b y ys le ih =
     let worse : ltb b.1.version y.1.version ≡ false = le-ltb _ _ le in
@@ -88,7 +88,7 @@ no_greater b y ys le ih =
           skips m b ys not.0 ∙ sym (skips m y ys no) ∙ sym (skips m b (y ∷ ys) not.0)
     ])
 
-first_greatest : (b : Placed) (xs : List Placed) → best_after 0 (Some b) xs ≡ with_version (max b.1.version (greatest xs)) (b ∷ xs)
+first_greatest : (b : PlacedEntry) (xs : List PlacedEntry) → best_after 0 (Some b) xs ≡ with_version (max b.1.version (greatest xs)) (b ∷ xs)
 first_greatest b [] =
     let is : (b.1.version == max b.1.version 0) ≡ true = eq-eqb b.1.version (max b.1.version 0) (omega arith) in
     sym (takes (max b.1.version 0) b [] is)
@@ -100,7 +100,7 @@ first_greatest b (y ∷ ys) = elim (cases_lt b.1.version y.1.version) [
 -- ---- look-up
 
 -- the best of the entries that are asked for is the one that is looked for
-best_found : (v : ℕ) (x : Placed) (xs : List Placed) → best_after v None (x ∷ xs) ≡ with_version (version_asked v (x ∷ xs)) (x ∷ xs)
+best_found : (v : ℕ) (x : PlacedEntry) (xs : List PlacedEntry) → best_after v None (x ∷ xs) ≡ with_version (version_asked v (x ∷ xs)) (x ∷ xs)
 best_found v x xs = elim (eqb_tells v 0) [
   | inl zero_ ↦
       let is = zero_.0 in
@@ -112,17 +112,17 @@ best_found v x xs = elim (eqb_tells v 0) [
       first_with v (x ∷ xs) no ∙ ap (λ (n : ℕ). with_version n (x ∷ xs)) (sym asked)
 ]
 
-answer_found : (o : Option Placed) → answer true o ≡ found o
+answer_found : (o : Option PlacedEntry) → answer true o ≡ found o
 answer_found None = refl
 answer_found (Some x) = refl
 
 -- what is found after all entries is what look-up gives
-looked_up : (v : ℕ) (xs : List Placed) → answer (some_of xs) (best_after v None xs) ≡ look_up_in v xs
+looked_up : (v : ℕ) (xs : List PlacedEntry) → answer (some_of xs) (best_after v None xs) ≡ look_up_in v xs
 looked_up v [] = refl
 looked_up v (x ∷ xs) = ap (answer true) (best_found v x xs) ∙ answer_found (with_version (version_asked v (x ∷ xs)) (x ∷ xs))
 
 -- one answer tells one entry
-same_best : (n m : Bool) (a b : Option Placed) → answer n a ≡ answer m b → a ≡ b
+same_best : (n m : Bool) (a b : Option PlacedEntry) → answer n a ≡ answer m b → a ≡ b
 same_best n m (Some x) (Some y) e = cc
 same_best n true (Some x) None e = absurd cc
 same_best n false (Some x) None e = absurd cc
@@ -130,33 +130,33 @@ same_best true m None (Some y) e = absurd cc
 same_best false m None (Some y) e = absurd cc
 same_best n m None None e = refl
 
-answer_cond : (better : Bool) (x : Placed) (best : Option Placed) → answer true (cond better (Some x) best) ≡ cond better (Ok x) (answer true best)
+answer_cond : (better : Bool) (x : PlacedEntry) (best : Option PlacedEntry) → answer true (cond better (Some x) best) ≡ cond better (Ok x) (answer true best)
 answer_cond true x best = refl
 answer_cond false x best = refl
 
 -- the next entry, where it is the better one or not
-pub next_found : (v : ℕ) (named : Bool) (best : Option Placed) (xs : List Placed) (x : Placed) (version : ℕ) (better : Bool) → x.1.version ≡ version → better ≡ is_better v best version → answer named best ≡ look_up_in v xs
+pub next_found : (v : ℕ) (named : Bool) (best : Option PlacedEntry) (xs : List PlacedEntry) (x : PlacedEntry) (version : ℕ) (better : Bool) → x.1.version ≡ version → better ≡ is_better v best version → answer named best ≡ look_up_in v xs
     → look_up_in v (xs ++ x ∷ []) ≡ cond better (Ok x) (answer true best)
 next_found v named best xs x version better is_version is so_far =
     let same : best_after v None xs ≡ best = same_best (some_of xs) named (best_after v None xs) best (looked_up v xs ∙ sym so_far) in
     sym (looked_up v (xs ++ x ∷ []))
     ∙ ap (λ (b : Bool). answer b (best_after v None (xs ++ x ∷ []))) (some-append xs x)
     ∙ ap (answer true) (best-append v None xs x)
-    ∙ ap (λ (o : Option Placed). answer true (cond (is_better v o x.1.version) (Some x) o)) same
+    ∙ ap (λ (o : Option PlacedEntry). answer true (cond (is_better v o x.1.version) (Some x) o)) same
     ∙ ap (λ (n : ℕ). answer true (cond (is_better v best n) (Some x) best)) is_version
     ∙ ap (λ (b : Bool). answer true (cond b (Some x) best)) (sym is)
     ∙ answer_cond better x best
 
-filter-asked : (n : Parts) (t : ℕ) (xs : List Placed) (x : Placed) (b : Bool) → is_asked n t x ≡ b → filter (is_asked n t) (xs ++ x ∷ []) ≡ filter (is_asked n t) xs ++ cond b (x ∷ []) []
+filter-asked : (n : Parts) (t : ℕ) (xs : List PlacedEntry) (x : PlacedEntry) (b : Bool) → is_asked n t x ≡ b → filter (is_asked n t) (xs ++ x ∷ []) ≡ filter (is_asked n t) xs ++ cond b (x ∷ []) []
 filter-asked n t xs x b e = filter-append (is_asked n t) xs (x ∷ []) ∙ ap (λ (c : Bool). filter (is_asked n t) xs ++ cond c (x ∷ []) []) e
 
 -- an entry that is not asked for changes nothing
-pub not_asked : (n : Parts) (v t : ℕ) (xs : List Placed) (x : Placed) (named : Bool) (best : Option Placed) → is_asked n t x ≡ false → IsFoundAmong n v t xs named best → IsFoundAmong n v t (xs ++ x ∷ []) named best
+pub not_asked : (n : Parts) (v t : ℕ) (xs : List PlacedEntry) (x : PlacedEntry) (named : Bool) (best : Option PlacedEntry) → is_asked n t x ≡ false → IsFoundAmong n v t xs named best → IsFoundAmong n v t (xs ++ x ∷ []) named best
 not_asked n v t xs x named best other so_far =
     so_far ∙ ap (look_up_in v) (sym (filter-asked n t xs x false other ∙ append-nil (filter (is_asked n t) xs)))
 
 -- one that is asked for is the one that is looked for, or not
-pub asked : (n : Parts) (v t : ℕ) (xs : List Placed) (x : Placed) (better : Bool) (best : Option Placed) → is_asked n t x ≡ true → look_up_in v (filter (is_asked n t) xs ++ x ∷ []) ≡ cond better (Ok x) (answer true best)
+pub asked : (n : Parts) (v t : ℕ) (xs : List PlacedEntry) (x : PlacedEntry) (better : Bool) (best : Option PlacedEntry) → is_asked n t x ≡ true → look_up_in v (filter (is_asked n t) xs ++ x ∷ []) ≡ cond better (Ok x) (answer true best)
     → IsFoundAmong n v t (xs ++ x ∷ []) true (cond better (Some x) best)
 asked n v t xs x better best is next = answer_cond better x best ∙ sym next ∙ ap (look_up_in v) (sym (filter-asked n t xs x true is))
 
@@ -169,9 +169,9 @@ and_true true = refl
 and_true false = refl
 
 -- an entry of another name is not asked for
-pub other_name : (n : Parts) (t : ℕ) (x : Placed) → have_same_name n x.1.principal ≡ false → is_asked n t x ≡ false
+pub other_name : (n : Parts) (t : ℕ) (x : PlacedEntry) → have_same_name n x.1.principal ≡ false → is_asked n t x ≡ false
 other_name n t x e = ap (λ (b : Bool). (t == 0 || x.1.enctype == t) && b) e ∙ and_false (t == 0 || x.1.enctype == t)
 
 -- one with the name is asked for exactly where it has the enctype
-pub asked_by_enctype : (n : Parts) (t : ℕ) (x : Placed) (has : Bool) → have_same_name n x.1.principal ≡ true → has ≡ (t == 0 || x.1.enctype == t) → is_asked n t x ≡ has
+pub asked_by_enctype : (n : Parts) (t : ℕ) (x : PlacedEntry) (has : Bool) → have_same_name n x.1.principal ≡ true → has ≡ (t == 0 || x.1.enctype == t) → is_asked n t x ≡ has
 asked_by_enctype n t x has e is = ap (λ (b : Bool). (t == 0 || x.1.enctype == t) && b) e ∙ and_true (t == 0 || x.1.enctype == t) ∙ sym is

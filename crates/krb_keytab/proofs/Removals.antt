@@ -10,15 +10,15 @@ use Rattle.krb_walk.specs.Store.{fault_of, live_bytes as store_bytes, standing, 
 use Rattle.krb_keytab.specs.Entry.{EntryParts, entry_at}
 use Rattle.krb_keytab.specs.Cells.{Cell, Live, Free}
 use Rattle.krb_keytab.specs.Questions.{size, end_place, live_at}
-use Rattle.krb_keytab.specs.Store.{State, store_cell, store_of}
-use Rattle.krb_keytab.specs.LookUp.{Placed, is_asked, version_asked, found, look_up_in, look_up, finding, placed_entry, placed_entries}
+use Rattle.krb_keytab.specs.Store.{KeytabState, store_cell, store_of}
+use Rattle.krb_keytab.specs.Find.{PlacedEntry, is_asked, version_asked, found, look_up_in, look_up, find_result, placed_entry, placed_entries}
 use Rattle.krb_keytab.specs.Changes.{with_hole, cut_result}
 use Rattle.krb_keytab.proofs.CellLemmas.{chosen}
 use Rattle.krb_keytab.proofs.Cuts.{end_place-append, live_behind}
 use Rattle.krb_keytab.proofs.Stores.{past, live_at-store}
 
 -- a record stands at the place
-abbrev IsLiveAt : State → Placed → Type 0
+abbrev IsLiveAt : KeytabState → PlacedEntry → Type 0
 IsLiveAt k x = is_some (store_bytes (store_of k) x.0) ≡ true
 
 -- ---- lists
@@ -44,17 +44,17 @@ all_find P test (x ∷ xs) y all e = elim (chosen (test x) (Some x) (find test x
 
 -- ---- entries
 
-if_placed : (k : State) (p : ℕ) (o : Option EntryParts) → is_some (store_bytes (store_of k) p) ≡ true → IfSome (option_map (λ (e : EntryParts). (p, e)) o) (IsLiveAt k)
+if_placed : (k : KeytabState) (p : ℕ) (o : Option EntryParts) → is_some (store_bytes (store_of k) p) ≡ true → IfSome (option_map (λ (e : EntryParts). (p, e)) o) (IsLiveAt k)
 if_placed k p (Some e) h = h
 if_placed k p None h = tt
 
 -- a live cell after others holds its bytes in the store
-pub holds : (k : State) (front back : List Cell) (b : List ℕ) (p : ℕ) → k.contents.cells ≡ front ++ (Live b ∷ back) → p ≡ end_place 2 front → store_bytes (store_of k) p ≡ Some b
+pub holds : (k : KeytabState) (front back : List Cell) (b : List ℕ) (p : ℕ) → k.contents.cells ≡ front ++ (Live b ∷ back) → p ≡ end_place 2 front → store_bytes (store_of k) p ≡ Some b
 holds k front back b p parts place =
     let here : live_at p (Live b ∷ back) p ≡ Some b = rw (eq-eqb p p refl) refl in
     sym (live_at-store 2 p k.contents.cells) ∙ ap (λ (cs : List Cell). live_at 2 cs p) parts ∙ live_behind front (Live b ∷ back) 2 p place ∙ here
 
-stands : (k : State) (front back : List Cell) (b : List ℕ) (p : ℕ) → k.contents.cells ≡ front ++ (Live b ∷ back) → p ≡ end_place 2 front → is_some (store_bytes (store_of k) p) ≡ true
+stands : (k : KeytabState) (front back : List Cell) (b : List ℕ) (p : ℕ) → k.contents.cells ≡ front ++ (Live b ∷ back) → p ≡ end_place 2 front → is_some (store_bytes (store_of k) p) ≡ true
 stands k front back b p parts place = ap is_some (holds k front back b p parts place)
 
 -- the place after one cell more
@@ -62,7 +62,7 @@ next_place : (front : List Cell) (c : Cell) (p : ℕ) → p ≡ end_place 2 fron
 next_place front c p place = sym (past p (size c)) ∙ ap (λ (n : ℕ). n + 4 + size c) place ∙ sym (end_place-append 2 front (c ∷ []))
 
 -- the entries of the cells from one on
-all_live : (k : State) (front cs : List Cell) (p : ℕ) → k.contents.cells ≡ front ++ cs → p ≡ end_place 2 front → AllByRecursion (IsLiveAt k) (filter_map (placed_entry k) (filter_map record_of (standing p (map store_cell cs))))
+all_live : (k : KeytabState) (front cs : List Cell) (p : ℕ) → k.contents.cells ≡ front ++ cs → p ≡ end_place 2 front → AllByRecursion (IsLiveAt k) (filter_map (placed_entry k) (filter_map record_of (standing p (map store_cell cs))))
 all_live k front [] p parts place = tt
 all_live k front (Live b ∷ cs) p parts place =
     let others = all_live k (front ++ Live b ∷ []) cs (p + (4 + length b)) (parts ∙ sym (append_assoc front (Live b ∷ []) cs)) (next_place front (Live b) p place) in
@@ -70,17 +70,17 @@ all_live k front (Live b ∷ cs) p parts place =
 all_live k front (Free b ∷ cs) p parts place =
     all_live k (front ++ Free b ∷ []) cs (p + (4 + length b)) (parts ∙ sym (append_assoc front (Free b ∷ []) cs)) (next_place front (Free b) p place)
 
-some_found : (o : Option Placed) (x : Placed) → found o ≡ Ok x → o ≡ Some x
+some_found : (o : Option PlacedEntry) (x : PlacedEntry) → found o ≡ Ok x → o ≡ Some x
 some_found (Some y) x e = cc
 some_found None x e = absurd cc
 
-found_live : (k : State) (v : ℕ) (xs : List Placed) (x : Placed) → AllByRecursion (IsLiveAt k) xs → look_up_in v xs ≡ Ok x → IsLiveAt k x
+found_live : (k : KeytabState) (v : ℕ) (xs : List PlacedEntry) (x : PlacedEntry) → AllByRecursion (IsLiveAt k) xs → look_up_in v xs ≡ Ok x → IsLiveAt k x
 found_live k v [] x all e = absurd cc
 found_live k v (y ∷ ys) x all e =
     all_find (IsLiveAt k) (λ z. z.1.version == version_asked v (y ∷ ys)) (y ∷ ys) x all (some_found (find (λ z. z.1.version == version_asked v (y ∷ ys)) (y ∷ ys)) x e)
 
 -- what was found is removed
-pub found_is_cut : (k : State) (n : Parts) (v t : ℕ) (x : Placed) → finding k n v t ≡ Ok x → cut_result k x.0 ≡ Ok (with_hole k x.0)
+pub found_is_cut : (k : KeytabState) (n : Parts) (v t : ℕ) (x : PlacedEntry) → find_result k n v t ≡ Ok x → cut_result k x.0 ≡ Ok (with_hole k x.0)
 found_is_cut k n v t x e =
     elim (chosen (is_some (fault_of (store_of k))) (Err Damaged) (look_up k n v t) (Ok x) e) [
       | inl h ↦ absurd (let no = h.1 in cc)

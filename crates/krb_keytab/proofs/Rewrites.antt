@@ -20,7 +20,7 @@ use Rattle.krb_walk.proofs.Lives.{lives}
 use Rattle.krb_keytab.specs.Entry.{EntryParts, entry_at, front, entry_of, Spells, version_by}
 use Rattle.krb_keytab.specs.Cells.{Cell, Live, Free, Bare, Contents, bytes_of, length_field, cell, end_bytes, contents, IsCell, IsSound}
 use Rattle.krb_keytab.specs.Questions.{kind_of, end_place}
-use Rattle.krb_keytab.specs.Store.{State, IsImage, store_cell, store_of, image_of, entries}
+use Rattle.krb_keytab.specs.Store.{KeytabState, IsImage, store_cell, store_of, image_of, entries}
 use Rattle.krb_keytab.specs.Form.{written, fits, IsEntry}
 use Rattle.krb_keytab.specs.Rewrite.{new_record, rewrite_of, rewrite_result}
 use Rattle.krb_keytab.specs.declared.step.Ending.TheVariants as ending
@@ -48,7 +48,7 @@ entries_is f at [] = refl
 entries_is f at (Free b ∷ cs) = entries_is f (at + (4 + length b)) cs
 entries_is f at (Live b ∷ cs) = ap (cons_option (entry_at f b)) (entries_is f (at + (4 + length b)) cs)
 
-pub entries_all : (k : State) → entries k ≡ entries_of k.format k.contents.cells
+pub entries_all : (k : KeytabState) → entries k ≡ entries_of k.format k.contents.cells
 entries_all k = entries_is k.format 2 k.contents.cells
 
 -- the new cells
@@ -169,7 +169,7 @@ kept_of f (Live b ∷ cs) sound fits =
 
 -- ---- the keytab and its image
 
-pub new_sound : (k : State) (bytes : List ℕ) → IsSound k.format k.contents → bytes ≡ image_of k → IsBytes bytes → length (image_of (rewrite_of k)) ≤ 2 ^ 30 → AllByRecursion (IsCell V2) (rewrite_of k).contents.cells
+pub new_sound : (k : KeytabState) (bytes : List ℕ) → IsSound k.format k.contents → bytes ≡ image_of k → IsBytes bytes → length (image_of (rewrite_of k)) ≤ 2 ^ 30 → AllByRecursion (IsCell V2) (rewrite_of k).contents.cells
 new_sound k bytes sound is fits small =
     let cells = k.contents.cells in
     let o = order_of k.format in
@@ -179,7 +179,7 @@ new_sound k bytes sound is fits small =
     subst (λ (es : List EntryParts). AllByRecursion (IsCell V2) (map new_record es)) (sym same)
     (sound_anew k.format cells sound.cells (cell_bytes o cells (end_bytes o k.contents.end) inner) (subst (λ (es : List EntryParts). length (flat_map (cell Big) (map new_record es)) < 2 ^ 31) same (omega (arith, len, small))))
 
-pub entries_kept : (k : State) (bytes : List ℕ) → IsSound k.format k.contents → bytes ≡ image_of k → IsBytes bytes → entries (rewrite_of k) ≡ entries k
+pub entries_kept : (k : KeytabState) (bytes : List ℕ) → IsSound k.format k.contents → bytes ≡ image_of k → IsBytes bytes → entries (rewrite_of k) ≡ entries k
 entries_kept k bytes sound is fits =
     let cells = k.contents.cells in
     let o = order_of k.format in
@@ -187,11 +187,11 @@ entries_kept k bytes sound is fits =
     entries_all (rewrite_of k) ∙ ap (λ (es : List EntryParts). entries_of V2 (map new_record es)) (entries_all k)
     ∙ kept_of k.format cells sound.cells (cell_bytes o cells (end_bytes o k.contents.end) inner) ∙ sym (entries_all k)
 
-pub contents_anew : (k : State) (new : List ℕ) → IsSound V2 (rewrite_of k).contents → new ≡ image_of (rewrite_of k) → IsBytes new → contents V2 (drop 2 new) ≡ (rewrite_of k).contents
+pub contents_anew : (k : KeytabState) (new : List ℕ) → IsSound V2 (rewrite_of k).contents → new ≡ image_of (rewrite_of k) → IsBytes new → contents V2 (drop 2 new) ≡ (rewrite_of k).contents
 contents_anew k new sound is fits =
     ap (λ (b : List ℕ). contents V2 (drop 2 b)) is ∙ contents_again V2 (rewrite_of k).contents sound (IsBytes-drop 2 (image_of (rewrite_of k)) (subst IsBytes is fits))
 
-pub known_anew : (k : State) (new : List ℕ) (len : ℕ) → contents V2 (drop 2 new) ≡ (rewrite_of k).contents → new ≡ image_of (rewrite_of k) → len ≡ length (image_of (rewrite_of k)) → IsKnownEnd V2 new (record { place = len; ending = ending.Bare })
+pub known_anew : (k : KeytabState) (new : List ℕ) (len : ℕ) → contents V2 (drop 2 new) ≡ (rewrite_of k).contents → new ≡ image_of (rewrite_of k) → len ≡ length (image_of (rewrite_of k)) → IsKnownEnd V2 new (record { place = len; ending = ending.Bare })
 known_anew k new len is spelled is_len =
     let ds = (rewrite_of k).contents.cells in
     let at_end : drop len new ≡ [] = drop_of_length-le new {i = len} (omega (arith, is_len, ap length spelled)) in
@@ -205,7 +205,7 @@ known_anew k new len is spelled is_len =
     }
 
 -- bytes that are kept as an image
-pub is_image : (k : State) (new : List ℕ) (limit len : ℕ) → new ≡ image_of (rewrite_of k) → len ≡ length (image_of (rewrite_of k)) → len ≤ limit → limit ≤ 1073741824 → IsImage V2 limit new
+pub is_image : (k : KeytabState) (new : List ℕ) (limit len : ℕ) → new ≡ image_of (rewrite_of k) → len ≡ length (image_of (rewrite_of k)) → len ≤ limit → limit ≤ 1073741824 → IsImage V2 limit new
 is_image k new limit len spelled is_len within small = record {
   long = omega (arith, ap length spelled);
   first = ap (λ (b : List ℕ). slice_index b 0) spelled;
@@ -214,7 +214,7 @@ is_image k new limit len spelled is_len within small = record {
   limit_fits = small;
 }
 
-pub rewrites_store : (k : State) → IsSound k.format k.contents → IsSound V2 (rewrite_of k).contents → (store_of k).fault ≡ None → Rewrites (store_of k) (store_of (rewrite_of k))
+pub rewrites_store : (k : KeytabState) → IsSound k.format k.contents → IsSound V2 (rewrite_of k).contents → (store_of k).fault ≡ None → Rewrites (store_of k) (store_of (rewrite_of k))
 rewrites_store k was sound whole = record {
   whole = whole;
   fault = refl;
@@ -223,15 +223,15 @@ rewrites_store k was sound whole = record {
   as_many = ap (λ (es : List EntryParts). length (lives 2 (map store_cell (map new_record es)))) (entries_all k) ∙ as_many_of k.format k.contents.cells 2 2 was.cells;
 }
 
-pub rewriting_done : (k : State) (n : ℕ) → is_some (fault_of (store_of k)) ≡ false → n ≡ length (image_of (rewrite_of k)) → n ≤ k.limit → rewrite_result k ≡ Ok (rewrite_of k)
+pub rewriting_done : (k : KeytabState) (n : ℕ) → is_some (fault_of (store_of k)) ≡ false → n ≡ length (image_of (rewrite_of k)) → n ≤ k.limit → rewrite_result k ≡ Ok (rewrite_of k)
 rewriting_done k n whole is le =
     let short : nat_lt k.limit (length (image_of (rewrite_of k))) ≡ false = le-ltb _ _ (omega (arith, is, le)) in
     rw (whole, short) refl
 
 -- the new image, as a keytab
-pub held_anew : (f : KtFormat) (limit : ℕ) (image new : List ℕ) (k : State) → held f limit image ≡ k → contents V2 (drop 2 new) ≡ (rewrite_of k).contents → held V2 limit new ≡ rewrite_of k
+pub held_anew : (f : KtFormat) (limit : ℕ) (image new : List ℕ) (k : KeytabState) → held f limit image ≡ k → contents V2 (drop 2 new) ≡ (rewrite_of k).contents → held V2 limit new ≡ rewrite_of k
 held_anew f limit image new k is spelled =
-    ap (λ (x : Contents). record { format = V2; limit = limit; contents = x }) spelled ∙ ap (λ (n : ℕ). record { format = V2; limit = n; contents = (rewrite_of k).contents }) (ap (λ (s : State). s.limit) is)
+    ap (λ (x : Contents). record { format = V2; limit = limit; contents = x }) spelled ∙ ap (λ (n : ℕ). record { format = V2; limit = n; contents = (rewrite_of k).contents }) (ap (λ (s : KeytabState). s.limit) is)
 
-pub whole_kind : (k : State) → is_some (fault_of (store_of k)) ≡ false → (store_of k).fault ≡ None
+pub whole_kind : (k : KeytabState) → is_some (fault_of (store_of k)) ≡ false → (store_of k).fault ≡ None
 whole_kind k h = whole_of (end_of (store_of k)) (kind_of k.contents.end) h

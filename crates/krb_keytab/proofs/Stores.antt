@@ -21,7 +21,7 @@ use Rattle.krb_keytab.specs.Step.{ends, ending_kind, ending_fault}
 use Rattle.krb_keytab.specs.Image.{IsKnownEnd}
 use Rattle.krb_keytab.specs.CellsFrom.{CellsFrom, AreKnown, cells_of}
 use Rattle.krb_keytab.specs.Questions.{size, end_place, is_place, kind_of, stop_from, live_bytes, live_at}
-use Rattle.krb_keytab.specs.Store.{State, InMemory, IsImage, store_cell, store_of}
+use Rattle.krb_keytab.specs.Store.{KeytabState, InMemory, IsImage, store_cell, store_of}
 use Rattle.krb_keytab.proofs.Cuts.{live_entry}
 
 -- four bytes of length and the bytes after it
@@ -115,34 +115,34 @@ pub state_is : {a b : InMemory} → a ≡ b → a.state ≡ b.state
 state_is is = ap (λ (k : InMemory). k.state) is
 
 -- the keytab of an image
-abbrev pub held : KtFormat → ℕ → List ℕ → State
+abbrev pub held : KtFormat → ℕ → List ℕ → KeytabState
 held f limit image = record { format = f; limit = limit; contents = contents f (drop 2 image) }
 
-pub end_held : (f : KtFormat) (limit : ℕ) (image : List ℕ) (k : State) (e : CellsEnd) → IsKnownEnd f image e → held f limit image ≡ k → e.place ≡ end_of (store_of k)
-end_held f limit image k e known is = sym known.place ∙ end_place-store 2 (contents f (drop 2 image)).cells ∙ ap (λ (x : State). end_of (store_of x)) is
+pub end_held : (f : KtFormat) (limit : ℕ) (image : List ℕ) (k : KeytabState) (e : CellsEnd) → IsKnownEnd f image e → held f limit image ≡ k → e.place ≡ end_of (store_of k)
+end_held f limit image k e known is = sym known.place ∙ end_place-store 2 (contents f (drop 2 image)).cells ∙ ap (λ (x : KeytabState). end_of (store_of x)) is
 
 kind_ends : (bytes : List ℕ) (e : Ending) → kind_of (ends bytes e) ≡ ending_kind e
 kind_ends bytes ending.Bare = refl
 kind_ends bytes ending.Mark = refl
 kind_ends bytes (ending.Damaged kind) = refl
 
-pub fault_held : (f : KtFormat) (limit : ℕ) (image : List ℕ) (k : State) (e : CellsEnd) (place : ℕ) (answer : Option Fault) → IsKnownEnd f image e → held f limit image ≡ k → place ≡ end_of (store_of k) → answer ≡ ending_fault place e.ending → answer ≡ fault_of (store_of k)
+pub fault_held : (f : KtFormat) (limit : ℕ) (image : List ℕ) (k : KeytabState) (e : CellsEnd) (place : ℕ) (answer : Option Fault) → IsKnownEnd f image e → held f limit image ≡ k → place ≡ end_of (store_of k) → answer ≡ ending_fault place e.ending → answer ≡ fault_of (store_of k)
 fault_held f limit image k e place answer known is at said =
     let kind : ending_kind e.ending ≡ kind_of (contents f (drop 2 image)).end =
     sym (ap kind_of known.same ∙ ap (λ (x : Contents). kind_of x.end) known.ending ∙ kind_ends (drop e.place image) e.ending) in
-    said ∙ ap (λ (x : Option FaultKind). fault_from place x) (kind ∙ ap (λ (x : State). kind_of x.contents.end) is) ∙ ap (λ (n : ℕ). fault_from n (kind_of k.contents.end)) at
+    said ∙ ap (λ (x : Option FaultKind). fault_from place x) (kind ∙ ap (λ (x : KeytabState). kind_of x.contents.end) is) ∙ ap (λ (n : ℕ). fault_from n (kind_of k.contents.end)) at
 
-pub is_place_held : (f : KtFormat) (limit : ℕ) (image bytes : List ℕ) (k : State) (p : ℕ) (answer : Bool) → bytes ≡ image → held f limit image ≡ k → answer ≡ is_place 2 (contents f (drop 2 bytes)).cells p → answer ≡ is_store_place (store_of k) p
+pub is_place_held : (f : KtFormat) (limit : ℕ) (image bytes : List ℕ) (k : KeytabState) (p : ℕ) (answer : Bool) → bytes ≡ image → held f limit image ≡ k → answer ≡ is_place 2 (contents f (drop 2 bytes)).cells p → answer ≡ is_store_place (store_of k) p
 is_place_held f limit image bytes k p answer same is said =
-    said ∙ ap (λ (b : List ℕ). is_place 2 (contents f (drop 2 b)).cells p) same ∙ is_place-store 2 p (contents f (drop 2 image)).cells ∙ ap (λ (x : State). is_store_place (store_of x) p) is
+    said ∙ ap (λ (b : List ℕ). is_place 2 (contents f (drop 2 b)).cells p) same ∙ is_place-store 2 p (contents f (drop 2 image)).cells ∙ ap (λ (x : KeytabState). is_store_place (store_of x) p) is
 
-pub place_held : (f : KtFormat) (limit : ℕ) (image bytes : List ℕ) (k : State) (p : ℕ) → bytes ≡ image → held f limit image ≡ k → is_store_place (store_of k) p ≡ true → is_place 2 (contents f (drop 2 bytes)).cells p ≡ true
+pub place_held : (f : KtFormat) (limit : ℕ) (image bytes : List ℕ) (k : KeytabState) (p : ℕ) → bytes ≡ image → held f limit image ≡ k → is_store_place (store_of k) p ≡ true → is_place 2 (contents f (drop 2 bytes)).cells p ≡ true
 place_held f limit image bytes k p same is h =
     is_place_held f limit image bytes k p (is_place 2 (contents f (drop 2 bytes)).cells p) same is refl ∙ h
 
-pub live_held : (f : KtFormat) (limit : ℕ) (image bytes : List ℕ) (k : State) (p : ℕ) → bytes ≡ image → held f limit image ≡ k → live_at 2 (contents f (drop 2 bytes)).cells p ≡ store_bytes (store_of k) p
+pub live_held : (f : KtFormat) (limit : ℕ) (image bytes : List ℕ) (k : KeytabState) (p : ℕ) → bytes ≡ image → held f limit image ≡ k → live_at 2 (contents f (drop 2 bytes)).cells p ≡ store_bytes (store_of k) p
 live_held f limit image bytes k p same is =
-    ap (λ (b : List ℕ). live_at 2 (contents f (drop 2 b)).cells p) same ∙ live_at-store 2 p (contents f (drop 2 image)).cells ∙ ap (λ (x : State). store_bytes (store_of x) p) is
+    ap (λ (b : List ℕ). live_at 2 (contents f (drop 2 b)).cells p) same ∙ live_at-store 2 p (contents f (drop 2 image)).cells ∙ ap (λ (x : KeytabState). store_bytes (store_of x) p) is
 
 -- ---- the cells of a keytab
 
@@ -153,20 +153,20 @@ known_held f limit image bytes e same is known =
     let fits = is.limit_fits in
     subst (λ (b : List ℕ). AreKnown f b 2 e) (sym same) (record { within = long; small = omega (arith, within, fits); ends = known })
 
-pub cells_held : (f : KtFormat) (limit : ℕ) (image bytes : List ℕ) (k : State) → bytes ≡ image → held f limit image ≡ k → ◌≡◌ {A = CellsFrom} (record { format = f; place = 2; contents = contents f (drop 2 bytes) }) (cells_of k)
-cells_held f limit image bytes k same is = ap (λ (b : List ℕ). cells_of (held f limit b)) same ∙ ap (λ (x : State). cells_of x) is
+pub cells_held : (f : KtFormat) (limit : ℕ) (image bytes : List ℕ) (k : KeytabState) → bytes ≡ image → held f limit image ≡ k → ◌≡◌ {A = CellsFrom} (record { format = f; place = 2; contents = contents f (drop 2 bytes) }) (cells_of k)
+cells_held f limit image bytes k same is = ap (λ (b : List ℕ). cells_of (held f limit b)) same ∙ ap (λ (x : KeytabState). cells_of x) is
 
-pub place_of_cells : (k : State) (cells : CellsFrom) (p : ℕ) → cells ≡ cells_of k → is_place cells.place cells.contents.cells p ≡ is_store_place (store_of k) p
+pub place_of_cells : (k : KeytabState) (cells : CellsFrom) (p : ℕ) → cells ≡ cells_of k → is_place cells.place cells.contents.cells p ≡ is_store_place (store_of k) p
 place_of_cells k cells p is = ap (λ (x : CellsFrom). is_place x.place x.contents.cells p) is ∙ is_place-store 2 p k.contents.cells
 
-pub stop_of_cells : (k : State) (cells : CellsFrom) (p : ℕ) → cells ≡ cells_of k → stop_from cells.place cells.contents.cells cells.contents.end p ≡ stop_at (store_of k) p
+pub stop_of_cells : (k : KeytabState) (cells : CellsFrom) (p : ℕ) → cells ≡ cells_of k → stop_from cells.place cells.contents.cells cells.contents.end p ≡ stop_at (store_of k) p
 stop_of_cells k cells p is = ap (λ (x : CellsFrom). stop_from x.place x.contents.cells x.contents.end p) is ∙ stop_from-store 2 p k.contents.cells k.contents.end
 
-pub live_of_cells : (k : State) (cells : CellsFrom) (p : ℕ) → cells ≡ cells_of k → live_at cells.place cells.contents.cells p ≡ store_bytes (store_of k) p
+pub live_of_cells : (k : KeytabState) (cells : CellsFrom) (p : ℕ) → cells ≡ cells_of k → live_at cells.place cells.contents.cells p ≡ store_bytes (store_of k) p
 live_of_cells k cells p is = ap (λ (x : CellsFrom). live_at x.place x.contents.cells p) is ∙ live_at-store 2 p k.contents.cells
 
 -- the bytes of a record begin with an entry
-pub entry_held : (k : State) (p : ℕ) (b : List ℕ) → IsSound k.format k.contents → store_bytes (store_of k) p ≡ Some b → IsSome (entry_at k.format b)
+pub entry_held : (k : KeytabState) (p : ℕ) (b : List ℕ) → IsSound k.format k.contents → store_bytes (store_of k) p ≡ Some b → IsSome (entry_at k.format b)
 entry_held k p b sound e = live_entry k.format k.contents.cells 2 p b sound.cells (live_at-store 2 p k.contents.cells ∙ e)
 
 -- a read that is sure to give an entry gives one

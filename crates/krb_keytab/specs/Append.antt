@@ -3,11 +3,11 @@ use Rattle.std.specs.Prelude.{◌≡◌, ℕ, ◌<◌, ◌≤◌, List, length, 
 use Rattle.krb_walk.specs.declared.refusal.Refusal.{Refusal}
 use Rattle.krb_walk.specs.declared.refusal.Refusal.TheVariants.{Code as ByCode, NoMemory}
 use Rattle.krb_walk.specs.Store.{end_of}
-use Rattle.krb_keytab.specs.Store.{State, InMemory, image_of, store_of}
+use Rattle.krb_keytab.specs.Store.{KeytabState, InMemory, image_of, store_of}
 use Rattle.krb_keytab.specs.Changes.{with_last, append_result}
 
 -- it answered what it gives, or that it is out of memory where the image becomes longer
-abbrev pub AnswersAppend : State → List ℕ → Result ℕ Refusal → State → Type 0
+abbrev pub AnswersAppend : KeytabState → List ℕ → Result ℕ Refusal → KeytabState → Type 0
 AnswersAppend k bytes (Ok place) new = append_result k bytes ≡ Ok (place, new)
 AnswersAppend k bytes (Err (ByCode refused)) new = (append_result k bytes ≡ Err refused) × (new ≡ k)
 AnswersAppend k bytes (Err NoMemory) new =

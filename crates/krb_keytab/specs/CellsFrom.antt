@@ -4,7 +4,7 @@ use Rattle.krb_wire.specs.declared.format.KtFormat.{KtFormat}
 use Rattle.krb_keytab.specs.declared.image.CellsEnd.{CellsEnd}
 use Rattle.krb_keytab.specs.Cells.{Cell, Contents, IsCell}
 use Rattle.krb_keytab.specs.Questions.{size, end_place}
-use Rattle.krb_keytab.specs.Store.{State}
+use Rattle.krb_keytab.specs.Store.{KeytabState}
 use Rattle.krb_keytab.specs.Image.{EndsKnown}
 
 -- cells of a format that begin at a place, and what ends them
@@ -14,7 +14,7 @@ pub record CellsFrom : Type 0 where
   pub contents : Contents
 
 -- all cells of a keytab
-abbrev pub cells_of : State → CellsFrom
+abbrev pub cells_of : KeytabState → CellsFrom
 cells_of k = record { format = k.format; place = 2; contents = k.contents }
 
 -- they lie in an image, and where they end is known

@@ -7,8 +7,8 @@ use Rattle.krb_walk.specs.Store.{end_of, fault_of, live_bytes}
 use Rattle.krb_keytab.specs.Entry.{EntryParts}
 use Rattle.krb_keytab.specs.Cells.{Cell, Live, Free, End, Bare, Mark, Damaged}
 use Rattle.krb_keytab.specs.Questions.{size}
-use Rattle.krb_keytab.specs.Store.{State, image_of, store_of}
-use Rattle.krb_keytab.specs.LookUp.{Placed, finding}
+use Rattle.krb_keytab.specs.Store.{KeytabState, image_of, store_of}
+use Rattle.krb_keytab.specs.Find.{PlacedEntry, find_result}
 use Rattle.krb_keytab.specs.Form.{fits, written}
 
 -- the place of a cell, and the cell
@@ -31,23 +31,23 @@ abbrev pub zero_hole : Cell → Cell
 zero_hole c = Free (replicate (size c) 0)
 
 -- the keytab, where the cell at a place is such a hole and all else is as it was
-abbrev pub with_hole : State → ℕ → State
+abbrev pub with_hole : KeytabState → ℕ → KeytabState
 with_hole k p = record k { contents = record { cells = turned_at 2 zero_hole p k.contents.cells; end = k.contents.end } }
 
 -- what a removal gives: a damaged keytab refuses it, and so does each number where no record stands
-abbrev pub cut_result : State → ℕ → Result State Code
+abbrev pub cut_result : KeytabState → ℕ → Result KeytabState Code
 cut_result k p =
     if is_some (fault_of (store_of k)) then Err code.Damaged
     else (if is_some (live_bytes (store_of k) p) then Ok (with_hole k p) else Err code.NotLive)
 
 -- the removal of the record that was found: its place, and the keytab without it
-abbrev pub cut_result_of : State → Result Placed Code → Result (ℕ × State) Code
+abbrev pub cut_result_of : KeytabState → Result PlacedEntry Code → Result (ℕ × KeytabState) Code
 cut_result_of k (Ok x) = Ok (x.0, with_hole k x.0)
 cut_result_of k (Err refused) = Err refused
 
 -- the removal of the record that a look-up finds
-abbrev pub remove_result : State → Parts → ℕ → ℕ → Result (ℕ × State) Code
-remove_result k name kvno enctype = cut_result_of k (finding k name kvno enctype)
+abbrev pub remove_result : KeytabState → Parts → ℕ → ℕ → Result (ℕ × KeytabState) Code
+remove_result k name kvno enctype = cut_result_of k (find_result k name kvno enctype)
 
 -- ---- adding
 
@@ -69,7 +69,7 @@ abbrev pub record_in : List ℕ → Cell → Cell
 record_in bytes c = Live (with_zeros bytes (size c))
 
 -- the keytab, where the cell at a place is such a record and all else is as it was
-abbrev pub with_record_in : State → List ℕ → ℕ → State
+abbrev pub with_record_in : KeytabState → List ℕ → ℕ → KeytabState
 with_record_in k bytes p = record k { contents = record { cells = turned_at 2 (record_in bytes) p k.contents.cells; end = k.contents.end } }
 
 -- what ends the cells after one more: after an end mark nothing is left
@@ -79,37 +79,37 @@ end_after (Mark rest) = Mark []
 end_after (Damaged kind rest) = Damaged kind rest
 
 -- the keytab with a record of these bytes after its cells
-abbrev pub with_last : State → List ℕ → State
+abbrev pub with_last : KeytabState → List ℕ → KeytabState
 with_last k bytes = record k { contents = record { cells = k.contents.cells ++ Live bytes ∷ []; end = end_after k.contents.end } }
 
 -- the addition of bytes after the cells: refused where the image would be longer than the limit
-abbrev pub append_result : State → List ℕ → Result (ℕ × State) Code
+abbrev pub append_result : KeytabState → List ℕ → Result (ℕ × KeytabState) Code
 append_result k bytes =
     if nat_lt k.limit (length (image_of (with_last k bytes))) then Err code.Full
     else Ok (end_of (store_of k), with_last k bytes)
 
 -- the addition of bytes, into a hole where there is one, and else after the cells
-abbrev pub put_result_into : State → List ℕ → Option PlacedCell → Result (ℕ × State) Code
+abbrev pub put_result_into : KeytabState → List ℕ → Option PlacedCell → Result (ℕ × KeytabState) Code
 put_result_into k bytes (Some hole) = Ok (hole.0, with_record_in k bytes hole.0)
 put_result_into k bytes None = append_result k bytes
 
 -- the addition of bytes: the first hole that is large enough takes them
-abbrev pub put_bytes_result : State → List ℕ → Result (ℕ × State) Code
+abbrev pub put_bytes_result : KeytabState → List ℕ → Result (ℕ × KeytabState) Code
 put_bytes_result k bytes = put_result_into k bytes (first_hole 2 (length bytes) k.contents.cells)
 
 -- what an addition gives, the place of the record and the keytab with it: a damaged keytab refuses it, and then so does an entry with a part that is too long
-abbrev pub put_result : State → EntryParts → Result (ℕ × State) Code
+abbrev pub put_result : KeytabState → EntryParts → Result (ℕ × KeytabState) Code
 put_result k e =
     if is_some (fault_of (store_of k)) then Err code.Damaged
     else (if fits k.format e then put_bytes_result k (written k.format e) else Err code.TooLong)
 
 -- an addition is refused
-abbrev pub is_refused : Result (ℕ × State) Code → Bool
+abbrev pub is_refused : Result (ℕ × KeytabState) Code → Bool
 is_refused (Ok given) = false
 is_refused (Err refused) = true
 
 -- an addition takes no memory where it is refused, where a hole takes the entry, and where the image becomes no longer
-abbrev pub takes_none : State → EntryParts → Bool
+abbrev pub takes_none : KeytabState → EntryParts → Bool
 takes_none k e =
     is_refused (put_result k e)
     || is_some (first_hole 2 (length (written k.format e)) k.contents.cells)

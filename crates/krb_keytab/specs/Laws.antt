@@ -6,7 +6,7 @@ use Rattle.krb_wire.specs.Spelling.{order_of}
 use Rattle.krb_keytab.specs.Entry.{EntryParts, Spells}
 use Rattle.krb_keytab.specs.Form.{fits, written, read_back, IsEntry}
 use Rattle.krb_walk.specs.Store.{live_bytes}
-use Rattle.krb_keytab.specs.Store.{State, store_of, entry_at_place}
+use Rattle.krb_keytab.specs.Store.{KeytabState, store_of, entry_at_place}
 use Rattle.krb_keytab.specs.Changes.{put_result, cut_result}
 use Rattle.krb_keytab.specs.Cells.{Cell, Contents, cell, spelling, contents, IsCell, IsSound, IsSpelled}
 
@@ -38,8 +38,8 @@ IsAlwaysReadBack = (f : KtFormat) (e : EntryParts) (zeros : ℕ) → IsEntry e �
 
 -- the entry that was added is read at the place that the addition gives
 abbrev pub IsReadWhereAdded : Type 0
-IsReadWhereAdded = (k : State) (e : EntryParts) (given : ℕ × State) → IsEntry e → put_result k e ≡ Ok given → entry_at_place given.1 given.0 ≡ Some (read_back k.format e)
+IsReadWhereAdded = (k : KeytabState) (e : EntryParts) (given : ℕ × KeytabState) → IsEntry e → put_result k e ≡ Ok given → entry_at_place given.1 given.0 ≡ Some (read_back k.format e)
 
 -- where a record was removed, none stands
 abbrev pub IsGoneWhereRemoved : Type 0
-IsGoneWhereRemoved = (k : State) (place : ℕ) (new : State) → cut_result k place ≡ Ok new → live_bytes (store_of new) place ≡ None
+IsGoneWhereRemoved = (k : KeytabState) (place : ℕ) (new : KeytabState) → cut_result k place ≡ Ok new → live_bytes (store_of new) place ≡ None

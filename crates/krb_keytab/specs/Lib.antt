@@ -3,7 +3,7 @@ pub mod Entry
 pub mod Cells
 pub mod Questions
 pub mod Store
-pub mod LookUp
+pub mod Find
 pub mod Entries
 pub mod Form
 pub mod Changes
@@ -11,7 +11,7 @@ pub mod Remove
 pub mod Rewrite
 pub mod Placed
 pub mod Edit
-pub mod Opening
+pub mod Open
 pub mod Laws
 -- For private contracts alone.
 pub mod Step

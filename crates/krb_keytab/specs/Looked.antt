@@ -3,23 +3,23 @@ use Rattle.std.specs.Prelude.{◌≡◌, ℕ, List, ◌++◌, Bool, true, false,
 use Rattle.krb_wire.specs.Spelling.{Parts}
 use Rattle.krb_walk.specs.declared.refusal.Code.{Code}
 use Rattle.krb_walk.specs.declared.refusal.Code.TheVariants.{NotFound, KvnoNotFound}
-use Rattle.krb_keytab.specs.LookUp.{Placed, placed_entries, is_asked, look_up_in}
-use Rattle.krb_keytab.specs.Store.{State}
+use Rattle.krb_keytab.specs.Find.{PlacedEntry, placed_entries, is_asked, look_up_in}
+use Rattle.krb_keytab.specs.Store.{KeytabState}
 use Rattle.krb_keytab.specs.Entries.{entries_in}
 use Rattle.krb_keytab.specs.CellsFrom.{CellsFrom}
 
 -- what is answered of that
-abbrev pub answer : Bool → Option Placed → Result Placed Code
+abbrev pub answer : Bool → Option PlacedEntry → Result PlacedEntry Code
 answer named (Some x) = Ok x
 answer true None = Err KvnoNotFound
 answer false None = Err NotFound
 
 -- it is what look-up gives among these entries
-abbrev pub IsFoundAmong : Parts → ℕ → ℕ → List Placed → Bool → Option Placed → Type 0
+abbrev pub IsFoundAmong : Parts → ℕ → ℕ → List PlacedEntry → Bool → Option PlacedEntry → Type 0
 IsFoundAmong name kvno enctype xs named best = answer named best ≡ look_up_in kvno (filter (is_asked name enctype) xs)
 
 -- some entries were looked at, and those of these cells are still to come
-pub record IsLookedUpTo (name : Parts) (kvno enctype : ℕ) (k : State) (cells : CellsFrom) (named : Bool) (best : Option Placed) : Type 0 where
-  pub before : List Placed
+pub record IsLookedUpTo (name : Parts) (kvno enctype : ℕ) (k : KeytabState) (cells : CellsFrom) (named : Bool) (best : Option PlacedEntry) : Type 0 where
+  pub before : List PlacedEntry
   pub found : IsFoundAmong name kvno enctype before named best
   pub all : before ++ entries_in cells.format cells.place cells.contents.cells ≡ placed_entries k

@@ -6,7 +6,7 @@ use Rattle.krb_walk.specs.declared.refusal.Code.TheVariants.{Damaged, Full}
 use Rattle.krb_walk.specs.Store.{fault_of}
 use Rattle.krb_keytab.specs.Entry.{EntryParts}
 use Rattle.krb_keytab.specs.Cells.{Cell, Live, Bare}
-use Rattle.krb_keytab.specs.Store.{State, image_of, store_of, entries}
+use Rattle.krb_keytab.specs.Store.{KeytabState, image_of, store_of, entries}
 use Rattle.krb_keytab.specs.Form.{written}
 
 -- a record that is an entry's written form in version 2, and no more
@@ -14,11 +14,11 @@ abbrev pub new_record : EntryParts → Cell
 new_record e = Live (written V2 e)
 
 -- the keytab in version 2, with such a record for each entry, in order: no holes, and nothing after the cells
-abbrev pub rewrite_of : State → State
+abbrev pub rewrite_of : KeytabState → KeytabState
 rewrite_of k = record { format = V2; limit = k.limit; contents = record { cells = map new_record (entries k); end = Bare } }
 
 -- what a rewrite gives: a damaged keytab refuses it, and then so does a limit that the new image would pass
-abbrev pub rewrite_result : State → Result State Code
+abbrev pub rewrite_result : KeytabState → Result KeytabState Code
 rewrite_result k =
     if is_some (fault_of (store_of k)) then Err Damaged
     else (if nat_lt k.limit (length (image_of (rewrite_of k))) then Err Full else Ok (rewrite_of k))

@@ -13,18 +13,18 @@ use Rattle.krb_keytab.specs.Cells.{Cell, Live, Free, Bare, Contents, contents, i
 use Rattle.krb_keytab.specs.Questions.{kind_of}
 
 -- a keytab: its format, the greatest length of its image, and its cells with what ends them
-pub record State : Type 0 where
+pub record KeytabState : Type 0 where
   pub format : KtFormat
   pub limit : ℕ
   pub contents : Contents
 
 -- a keytab in memory: what it holds, and how many bytes there is room for before memory is asked for
 pub record InMemory : Type 0 where
-  pub state : State
+  pub state : KeytabState
   pub room : ℕ
 
 -- the bytes that spell it
-abbrev pub image_of : State → List ℕ
+abbrev pub image_of : KeytabState → List ℕ
 image_of k = image k.format k.contents
 
 -- the format that the two first bytes tell, where version 1 has an order
@@ -35,13 +35,13 @@ format_of o bytes =
     else None
 
 -- the keytab of a format, if its image is not too long
-abbrev pub open_result_in : ℕ → List ℕ → Option KtFormat → Result State KtOpenFault
+abbrev pub open_result_in : ℕ → List ℕ → Option KtFormat → Result KeytabState KtOpenFault
 open_result_in limit bytes None = Err BadVersion
 open_result_in limit bytes (Some f) = if nat_lt limit (length bytes) then Err TooLarge else Ok (record { format = f; limit = limit; contents = contents f (drop 2 bytes) })
 
--- what opening an image gives: fewer than two bytes are too short, then the version counts, then the length
-abbrev pub opening : Order → ℕ → List ℕ → Result State KtOpenFault
-opening o limit bytes = if nat_lt (length bytes) 2 then Err TooShort else open_result_in limit bytes (format_of o bytes)
+-- what open_result an image gives: fewer than two bytes are too short, then the version counts, then the length
+abbrev pub open_result : Order → ℕ → List ℕ → Result KeytabState KtOpenFault
+open_result o limit bytes = if nat_lt (length bytes) 2 then Err TooShort else open_result_in limit bytes (format_of o bytes)
 
 -- a cell as a store has it: its length takes four places
 abbrev pub store_cell : Cell → StoreCell
@@ -49,15 +49,15 @@ store_cell (Live b) = record { width = 4 + length b; live = Some b }
 store_cell (Free b) = record { width = 4 + length b; live = None }
 
 -- the store that a keytab is: its cells stand after the two version bytes
-abbrev pub store_of : State → Store
+abbrev pub store_of : KeytabState → Store
 store_of k = record { first = 2; cells = map store_cell k.contents.cells; fault = kind_of k.contents.end }
 
 -- the entries, in order
-abbrev pub entries : State → List EntryParts
+abbrev pub entries : KeytabState → List EntryParts
 entries k = filter_map (λ r. entry_at k.format r.bytes) (records (store_of k))
 
 -- the entry at a place, if a record stands there
-abbrev pub entry_at_place : State → ℕ → Option EntryParts
+abbrev pub entry_at_place : KeytabState → ℕ → Option EntryParts
 entry_at_place k p = live_bytes (store_of k) p >>= entry_at k.format
 
 -- bytes that are kept as an image
@@ -74,9 +74,9 @@ IsInOrder o (V1 p) = p ≡ o
 IsInOrder o V2 = Unit {0}
 
 -- the image is opened as the keytab that it is, in its order and with any limit that is no smaller
-abbrev pub Reopens : State → List ℕ → Type 0
-Reopens k bytes = (o : Order) (limit : ℕ) → IsInOrder o k.format → k.limit ≤ limit → opening o limit bytes ≡ Ok (record k { limit = limit })
+abbrev pub Reopens : KeytabState → List ℕ → Type 0
+Reopens k bytes = (o : Order) (limit : ℕ) → IsInOrder o k.format → k.limit ≤ limit → open_result o limit bytes ≡ Ok (record k { limit = limit })
 
 -- a keytab without cells, and with nothing after them
-abbrev pub empty : KtFormat → ℕ → State
+abbrev pub empty : KtFormat → ℕ → KeytabState
 empty f limit = record { format = f; limit = limit; contents = record { cells = []; end = Bare } }

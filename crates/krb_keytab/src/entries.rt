@@ -3,7 +3,7 @@
 ghost use Rattle.std.specs.Prelude.{◌≡◌, ◌∷◌, [], List, MatchOption};
 ghost use Rattle.std.specs.Iterator.{YieldsFirst, item_count};
 ghost use Rattle.krb_keytab.specs.Entries.{entries_in};
-ghost use Rattle.krb_keytab.specs.LookUp.{Placed};
+ghost use Rattle.krb_keytab.specs.Find.{PlacedEntry};
 
 use crate::cells::{CellView, Cells};
 use crate::entry::{EntryView, read_entry};
@@ -17,7 +17,7 @@ pub struct Entries<'a> {
 }
 
 impl<'a> Model for Entries<'a> {
-    ghost Value = { List Placed };
+    ghost Value = { List PlacedEntry };
 
     ghost view = { λ e. entries_in e.cells.format e.cells.place e.cells.contents.cells };
 }

@@ -4,7 +4,7 @@ ghost use Rattle.std.specs.Prelude.{◌≡◌, ◌==◌, ◌||◌, ◌∷◌, �
 ghost use Rattle.krb_wire.specs.Spelling.{Parts};
 ghost use Rattle.krb_wire.specs.SameName.{have_same_name};
 ghost use Rattle.krb_keytab.specs.Entry.{EntryParts, entry_at};
-ghost use Rattle.krb_keytab.specs.LookUp.{Placed, placed_entries, look_up_in, look_up, finding};
+ghost use Rattle.krb_keytab.specs.Find.{PlacedEntry, placed_entries, look_up_in, look_up, find_result};
 ghost use Rattle.krb_keytab.specs.Looked.{answer, IsFoundAmong};
 
 use crate::cells::CellView;
@@ -23,7 +23,7 @@ fn has_enctype(enctype: u16, entry: &EntryView<'_>) -> bool
 
 // Whether an entry of that version is looked for more than the one found so far.
 fn is_better(kvno: u32, best: &Option<(u32, EntryView<'_>)>, version: u32) -> bool
-    ensures { (named : Bool) (xs : List Placed) (x : Placed) → x.1.version ≡ version
+    ensures { (named : Bool) (xs : List PlacedEntry) (x : PlacedEntry) → x.1.version ≡ version
         → answer named best.now ≡ look_up_in kvno xs
         → look_up_in kvno (xs ++ x ∷ []) ≡ (if result then Ok x else answer true best.now) }
 {
@@ -43,7 +43,7 @@ struct Looked<'a> {
 impl<'a> Looked<'a> {
     // Looks at the next entry that has the name.
     fn look(&mut self, kvno: u32, enctype: u16, place: u32, entry: EntryView<'a>)
-        ensures { (name : Parts) (xs : List Placed)
+        ensures { (name : Parts) (xs : List PlacedEntry)
             → have_same_name name entry.entry.principal ≡ true
             → IsFoundAmong name kvno enctype xs self.old.named self.old.best
             → IsFoundAmong name kvno enctype (xs ++ (place, entry.entry) ∷ [])
@@ -69,7 +69,7 @@ impl<'a> Looked<'a> {
         place: u32,
         bytes: &'a [u8],
     )
-        ensures { (xs : List Placed) (e : EntryParts)
+        ensures { (xs : List PlacedEntry) (e : EntryParts)
             → entry_at format bytes.now ≡ Some e
             → IsFoundAmong (N.parts name.now) kvno enctype xs self.old.named self.old.best
             → IsFoundAmong (N.parts name.now) kvno enctype (xs ++ (place, e) ∷ [])
@@ -162,7 +162,7 @@ impl<A: Allocator> Keytab<A> {
         kvno: u32,
         enctype: u16,
     ) -> Result<(u32, EntryView<'_>), Code>
-        ensures { result ≡ finding self.now.state (N.parts name.now) kvno enctype }
+        ensures { result ≡ find_result self.now.state (N.parts name.now) kvno enctype }
     {
         if self.fault().is_some() {
             return Err(Code::Damaged);

@@ -11,8 +11,8 @@ ghost use Rattle.krb_keytab.specs.Cells.{contents, IsSound};
 ghost use Rattle.krb_keytab.specs.CellsFrom.{cells_of};
 ghost use Rattle.krb_keytab.specs.Image.{IsKnownEnd};
 ghost use Rattle.krb_keytab.specs.Laws.{AreBytes};
-ghost use Rattle.krb_keytab.specs.LookUp.{placed_entries};
-ghost use Rattle.krb_keytab.specs.Store.{InMemory, opening, image_of, store_of, entry_at_place, IsImage, Reopens, empty};
+ghost use Rattle.krb_keytab.specs.Find.{placed_entries};
+ghost use Rattle.krb_keytab.specs.Store.{InMemory, open_result, image_of, store_of, entry_at_place, IsImage, Reopens, empty};
 
 use crate::cells::Cells;
 use crate::entries::Entries;
@@ -72,11 +72,11 @@ impl<A: Allocator> Keytab<A> {
         v1_order: Order,
         limits: Limits,
     ) -> Result<Keytab<A>, KtOpenRefused<A>>
-        ensures ok { IfOk result (λ k. opening v1_order limits image.items ≡ Ok k.state) }
+        ensures ok { IfOk result (λ k. open_result v1_order limits image.items ≡ Ok k.state) }
         // The bytes are kept as they are.
         ensures kept { IfOk result (λ k. image_of k.state ≡ image.items) }
         ensures room { IfOk result (λ k. k.room ≡ vec_capacity image) }
-        ensures err { IfErr result (λ e. (opening v1_order limits image.items ≡ Err e.why)
+        ensures err { IfErr result (λ e. (open_result v1_order limits image.items ≡ Err e.why)
             × (e.image ≡ image)) }
     {
         match read_head(v1_order, limits.image(), &image) {

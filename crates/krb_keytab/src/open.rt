@@ -3,8 +3,8 @@
 ghost use Rattle.std.specs.Prelude.{◌≡◌, ◌≤◌, length, drop, IfOk, IfErr, Ok, Err};
 ghost use Rattle.krb_keytab.specs.Cells.{contents, image as image_of, version_byte};
 ghost use Rattle.krb_keytab.specs.Image.{IsKnownEnd};
-ghost use Rattle.krb_keytab.specs.Store.{format_of, opening, IsImage};
-ghost use Rattle.krb_keytab.specs.Opening.{open_fault_number};
+ghost use Rattle.krb_keytab.specs.Store.{format_of, open_result, IsImage};
+ghost use Rattle.krb_keytab.specs.Open.{open_fault_number};
 
 use crate::image::{CellsEnd, end_of_cells, spelled_of};
 use krb_wire::{KtFormat, Order};
@@ -52,7 +52,7 @@ pub struct Head {
 /// Reads an image. Each entry is read once; there are only bytes here, and nothing to take memory from.
 pub fn read_head(v1_order: Order, limit: u32, image: &[u8]) -> Result<Head, KtOpenFault>
     requires { limit ≤ 1073741824 }
-    ensures ok { IfOk result (λ h. opening v1_order limit image.now ≡ Ok (record {
+    ensures ok { IfOk result (λ h. open_result v1_order limit image.now ≡ Ok (record {
       format = h.format;
       limit = h.limit;
       contents = contents h.format (drop 2 image.now);
@@ -61,7 +61,7 @@ pub fn read_head(v1_order: Order, limit: u32, image: &[u8]) -> Result<Head, KtOp
     ensures known { IfOk result (λ h. IsKnownEnd h.format image.now h.end) }
     ensures spelled { IfOk result (λ h. image.now
         ≡ image_of h.format (contents h.format (drop 2 image.now))) }
-    ensures err { IfErr result (λ why. opening v1_order limit image.now ≡ Err why) }
+    ensures err { IfErr result (λ why. open_result v1_order limit image.now ≡ Err why) }
 {
     if image.len() < 2 {
         return Err(KtOpenFault::TooShort);

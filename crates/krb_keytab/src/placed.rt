@@ -6,12 +6,12 @@ use krb_walk::{Code, Fault, Placed, Refusal, Stop};
 use std::alloc::Allocator;
 
 impl<A: Allocator + Copy> Placed for Keytab<A> {
-    ghost use Rattle.krb_keytab.specs.Store.{State};
+    ghost use Rattle.krb_keytab.specs.Store.{KeytabState};
     ghost use Rattle.krb_keytab.specs.Placed.{keytab_rules};
 
     type Item = NewEntry<A>;
 
-    ghost State = { State };
+    ghost State = { KeytabState };
 
     ghost state_of = { λ k. k.state };
 

@@ -4,7 +4,7 @@ use Rattle.krb_wire.specs.declared.format.Order.{Order}
 use Rattle.krb_walk.specs.declared.refusal.Code.{Code}
 use Rattle.krb_walk.specs.declared.refusal.Refusal.{Refusal}
 use Rattle.krb_walk.specs.declared.refusal.Refusal.TheVariants.{Code as ByCode, NoMemory}
-use Rattle.krb_keytab.specs.Store.{State as Keytab, InMemory, image_of}
+use Rattle.krb_keytab.specs.Store.{KeytabState, InMemory, image_of}
 use Rattle.krb_text.specs.declared.files.LoadFault.{LoadFault}
 use Rattle.krb_text.specs.declared.files.LoadFault.TheVariants as load
 use Rattle.krb_text.specs.declared.files.SaveFault.{SaveFault}
@@ -14,43 +14,43 @@ use Rattle.krb_text.specs.declared.ktutil.line_end.LineEnd.{LineEnd}
 use Rattle.krb_text.specs.declared.ktutil.line_end.LineEnd.TheVariants as end
 use Rattle.krb_text.specs.Files.{SameFiles, SetsFile, CountsFailure, loaded}
 use Rattle.krb_text.specs.KtutilCommand.{result_map}
-use Rattle.krb_text.specs.Ktutil.{State, Outcome, Plan, Ends, Loads, Saves, most_bytes, keytab_of, keytab_or_new, save_end}
+use Rattle.krb_text.specs.Ktutil.{KtutilState, Outcome, Plan, Ends, Loads, Saves, most_bytes, keytab_of, keytab_or_new, save_end}
 
 -- the state, the bytes that were written and the end are those of an outcome
-pub record Shows (state : State) (out out' : List ℕ) (ending : LineEnd) (due : Outcome) : Type 0 where
+pub record Shows (state : KtutilState) (out out' : List ℕ) (ending : LineEnd) (due : Outcome) : Type 0 where
   pub state_is : state ≡ due.state
   pub appended : out' ≡ out ++ due.text
   pub ending_is : ending ≡ due.ending
 
 -- out of memory: state and output are as they were
-pub record RunsOut (old new : State) (out out' : List ℕ) (ending : LineEnd) : Type 0 where
+pub record RunsOut (old new : KtutilState) (out out' : List ℕ) (ending : LineEnd) : Type 0 where
   pub state_is : new ≡ old
   pub same : out' ≡ out
   pub ending_is : ending ≡ end.NoMemory
 
 -- an addition was refused so, or out of memory
-abbrev pub RefusesAdded : Result Keytab Code → Refusal → Type 0
+abbrev pub RefusesAdded : Result KeytabState Code → Refusal → Type 0
 RefusesAdded added (ByCode refused) = added ≡ Err refused
 RefusesAdded added NoMemory = Unit {0}
 
 -- a line that asks for no file has that end, after which this is the state, and it prints nothing
-abbrev pub Ended : Plan → State → LineEnd → Type 0
+abbrev pub Ended : Plan → KtutilState → LineEnd → Type 0
 Ended (Ends due) new ending = (new ≡ due.state) × (due.text ≡ []) × (ending ≡ due.ending)
 Ended (Loads name then_) new ending = ⊥
 Ended (Saves name bytes then_) new ending = ⊥
 
 -- the same, or out of memory with the state as it was
-abbrev pub Finishes : Plan → State → State → LineEnd → Type 0
+abbrev pub Finishes : Plan → KtutilState → KtutilState → LineEnd → Type 0
 Finishes plan old new ending = Ended plan new ending ⊎ ((new ≡ old) × (ending ≡ end.NoMemory))
 
 -- a line that asks for no file was done, and printed this, or out of memory with all as it was
-abbrev pub EndsAt : Plan → State → State → List ℕ → List ℕ → LineEnd → Type 0
+abbrev pub EndsAt : Plan → KtutilState → KtutilState → List ℕ → List ℕ → LineEnd → Type 0
 EndsAt (Ends due) old new out out' ending = Shows new out out' ending due ⊎ RunsOut old new out out' ending
 EndsAt (Loads name then_) old new out out' ending = ⊥
 EndsAt (Saves name bytes then_) old new out out' ending = ⊥
 
 -- a keytab or an end is as it is due, or memory ran out
-abbrev pub GivesOrRunsOut : Result Keytab LineEnd → Result InMemory LineEnd → Type 0
+abbrev pub GivesOrRunsOut : Result KeytabState LineEnd → Result InMemory LineEnd → Type 0
 GivesOrRunsOut due given = (due ≡ result_map (λ k. k.state) given) ⊎ (given ≡ Err end.NoMemory)
 
 module _ {F : Type 0} (trait : Ghosts F) where
@@ -85,7 +85,7 @@ module _ {F : Type 0} (trait : Ghosts F) where
   Begins (Saves name bytes then_) old new = new ≡ old
 
   -- a line was handled by its plan, or out of memory before it saved anything
-  abbrev pub Handles : Plan → F → F → State → State → List ℕ → List ℕ → LineEnd → Type 0
+  abbrev pub Handles : Plan → F → F → KtutilState → KtutilState → List ℕ → List ℕ → LineEnd → Type 0
   Handles plan files files' old new out out' ending =
       Follows plan files files' (Shows new out out' ending) ⊎ (Begins plan files files' × RunsOut old new out out' ending)
 
@@ -102,16 +102,16 @@ module _ {F : Type 0} (trait : Ghosts F) where
     pub gives : GivesOrRunsOut (keytab_or_new order answer) result
 
   -- a keytab was saved, and the end is that of the answer
-  pub record SavesKeytab (old : F) (name : List ℕ) (k : Keytab) (ending : LineEnd) (new : F) : Type 0 where
+  pub record SavesKeytab (old : F) (name : List ℕ) (k : KeytabState) (ending : LineEnd) (new : F) : Type 0 where
     pub answer : Result (Unit {0}) SaveFault
     pub saves : SavesFile old name (image_of k) answer new
     pub gives : ending ≡ save_end answer
 
   -- a plan was followed that prints nothing, or out of memory before anything was done
-  abbrev pub GoesOn : Plan → F → F → State → State → LineEnd → Type 0
+  abbrev pub GoesOn : Plan → F → F → KtutilState → KtutilState → LineEnd → Type 0
   GoesOn plan files files' old new ending =
       ((out : List ℕ) → Follows plan files files' (Shows new out out ending)) ⊎ ((files' ≡ files) × (new ≡ old) × (ending ≡ end.NoMemory))
 
   -- a plan that prints nothing was handled
-  abbrev pub HandlesQuietly : Plan → F → F → State → State → LineEnd → Type 0
+  abbrev pub HandlesQuietly : Plan → F → F → KtutilState → KtutilState → LineEnd → Type 0
   HandlesQuietly plan files files' old new ending = (out : List ℕ) → Handles plan files files' old new out out ending

@@ -3,7 +3,7 @@ use Rattle.std.specs.Prelude.{ℕ, List, [], ◌++◌, codes, Bool, if◌then◌
 use Rattle.std.specs.List.{flat_map}
 use Rattle.krb_walk.specs.declared.fault.Fault.{Fault}
 use Rattle.krb_walk.specs.Store.{fault_of}
-use Rattle.krb_keytab.specs.Store.{State, store_of, entries}
+use Rattle.krb_keytab.specs.Store.{KeytabState, store_of, entries}
 use Rattle.krb_text.specs.declared.columns.KtColumns.{KtColumns}
 use Rattle.krb_text.specs.Line.{entry_line, fault_text}
 
@@ -20,7 +20,7 @@ abbrev pub heading : List ℕ → Bool → List ℕ
 heading name times = codes "Keytab name: FILE:" ++ (name ++ (codes "\n" ++ (titles times ++ underlines times)))
 
 -- the lines of all entries
-abbrev pub entry_lines : KtColumns → State → List ℕ
+abbrev pub entry_lines : KtColumns → KeytabState → List ℕ
 entry_lines columns k = flat_map (entry_line columns) (entries k)
 
 -- the line of a fault, if there is one
@@ -29,5 +29,5 @@ fault_line None = []
 fault_line (Some fault) = fault_text fault
 
 -- the listing of a keytab under a name
-abbrev pub list_text : KtColumns → List ℕ → State → List ℕ
+abbrev pub list_text : KtColumns → List ℕ → KeytabState → List ℕ
 list_text columns name k = heading name columns.times ++ (entry_lines columns k ++ fault_line (fault_of (store_of k)))

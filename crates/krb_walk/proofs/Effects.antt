@@ -10,7 +10,7 @@ use Rattle.krb_walk.specs.Store.{Cell, Store, Record, end_from, end_of, is_place
 use Rattle.krb_walk.specs.Changes.{Changes}
 use Rattle.krb_walk.specs.Said.{Said, Placed, Gone, Rewritten, tells_step, is_rewritten}
 use Rattle.krb_walk.specs.Rules.{Rules}
-use Rattle.krb_walk.specs.Events.{State, after, reply_to, store_after, cursors_after, stop_cursor, stop_said, end_said, put_said, cut_said, cut_store, rewrite_said, rewrite_cursors, step_said, step_cursors}
+use Rattle.krb_walk.specs.Events.{SessionState, after, reply_to, store_after, cursors_after, stop_cursor, stop_said, end_said, put_said, cut_said, cut_store, rewrite_said, rewrite_cursors, step_said, step_cursors}
 use Rattle.krb_walk.specs.History.{IsReady, IsLawful, AllLawful, AllPlain, moment, history, state_after, steps_walk}
 use Rattle.krb_walk.specs.Ranks.{rank, nth_or, carry}
 use Rattle.krb_walk.specs.Track.{carry_by, AnswersStep}
@@ -54,13 +54,13 @@ changes_step : (s : Store) (w : ℕ) (o : Option ℕ) → Changes (step_said s w
 changes_step s w None = refl
 changes_step s w (Some c) = changes_stop s w (next_live s c)
 
-pub lawful_start : {S I : Type 0} (r : Rules S I) (s : State S) → IsLawful {I = I} r (moment r s Start)
+pub lawful_start : {S I : Type 0} (r : Rules S I) (s : SessionState S) → IsLawful {I = I} r (moment r s Start)
 lawful_start r s = changes_cond (nat_lt (length s.cursors) 1024) _ _ (r.seen s.store) refl refl
 
-pub lawful_resume : {S I : Type 0} (r : Rules S I) (s : State S) (p : ℕ) → IsLawful {I = I} r (moment r s (Resume p))
+pub lawful_resume : {S I : Type 0} (r : Rules S I) (s : SessionState S) (p : ℕ) → IsLawful {I = I} r (moment r s (Resume p))
 lawful_resume r s p = changes_cond (nat_lt (length s.cursors) 1024) _ _ (r.seen s.store) (changes_cond (is_place (r.seen s.store) p) _ _ (r.seen s.store) refl refl) refl
 
-pub lawful_step : {S I : Type 0} (r : Rules S I) (s : State S) (w : ℕ) → IsLawful {I = I} r (moment r s (Step w))
+pub lawful_step : {S I : Type 0} (r : Rules S I) (s : SessionState S) (w : ℕ) → IsLawful {I = I} r (moment r s (Step w))
 lawful_step r s w = changes_step (r.seen s.store) w (slice_get s.cursors w)
 
 -- where a cursor is carried, there is a place
@@ -122,7 +122,7 @@ rewrite_sound : {S : Type 0} (seen : S → Store) (old : S) (given : Result S Co
 rewrite_sound seen old (Ok new) h sound = h.sound
 rewrite_sound seen old (Err code) h sound = sound
 
-sound_after : {S I : Type 0} (r : Rules S I) (s : State S) (e : Event I) → IsSound (r.seen s.store) → IsLawful r (moment r s e) → IsSound (r.seen (store_after r s e))
+sound_after : {S I : Type 0} (r : Rules S I) (s : SessionState S) (e : Event I) → IsSound (r.seen s.store) → IsLawful r (moment r s e) → IsSound (r.seen (store_after r s e))
 sound_after r s Start sound h = sound
 sound_after r s (Resume p) sound h = sound
 sound_after r s (Step v) sound h = sound
@@ -130,7 +130,7 @@ sound_after r s (Put item) sound h = sound_kept _ _ (put_extends (r.put s.store 
 sound_after r s (Cut p) sound h = sound_kept _ _ (cut_extends p (r.cut s.store p) _ _ h) sound
 sound_after r s Rewrite sound h = rewrite_sound r.seen s.store (r.rewrite s.store) h sound
 
-at_after : {S I : Type 0} (r : Rules S I) (s : State S) (e : Event I) → AtPlaces (r.seen s.store) s.cursors → IsLawful r (moment r s e) → AtPlaces (r.seen (store_after r s e)) (cursors_after r s e)
+at_after : {S I : Type 0} (r : Rules S I) (s : SessionState S) (e : Event I) → AtPlaces (r.seen s.store) s.cursors → IsLawful r (moment r s e) → AtPlaces (r.seen (store_after r s e)) (cursors_after r s e)
 at_after r s Start all h = at_start (r.seen s.store) s.cursors _ (nat_lt (length s.cursors) 1024) all (λ _. place_first (r.seen s.store))
 at_after r s (Resume p) all h = at_start (r.seen s.store) s.cursors p (nat_lt (length s.cursors) 1024 && is_place (r.seen s.store) p) all (λ e. and_right _ _ e)
 at_after r s (Step v) all h = at_step (r.seen s.store) s.cursors v (slice_get s.cursors v) all
@@ -138,19 +138,19 @@ at_after r s (Put item) all h = λ w c e. place_kept _ _ c (put_extends (r.put s
 at_after r s (Cut p) all h = λ w c e. place_kept _ _ c (cut_extends p (r.cut s.store p) _ _ h) (all w c e)
 at_after r s Rewrite all h = at_rewrite r.seen s.store s.cursors (r.rewrite s.store) all
 
-pub ready_after : {S I : Type 0} (r : Rules S I) (s : State S) (e : Event I) → IsReady r s → IsLawful r (moment r s e) → IsReady r (after r s e)
+pub ready_after : {S I : Type 0} (r : Rules S I) (s : SessionState S) (e : Event I) → IsReady r s → IsLawful r (moment r s e) → IsReady r (after r s e)
 ready_after r s e ready h = record {
   sound = sound_after r s e ready.sound h;
   cursors = at_after r s e ready.cursors h;
 }
 
 -- an event that is no step of a walk, and one that is
-pub record Unmoved {S I : Type 0} (r : Rules S I) (s : State S) (e : Event I) (w : ℕ) : Type 0 where
+pub record Unmoved {S I : Type 0} (r : Rules S I) (s : SessionState S) (e : Event I) (w : ℕ) : Type 0 where
   pub idle : steps_walk s e w ≡ false
   pub stays : (d : ℕ) → slice_get s.cursors w ≡ Some d → slice_get (cursors_after r s e) w ≡ Some (carry_by (reply_to r s e) (r.seen s.store) (r.seen (store_after r s e)) d)
   pub other : tells_step w (reply_to r s e) ≡ false
 
-pub record Moves {S I : Type 0} (r : Rules S I) (s : State S) (e : Event I) (w : ℕ) : Type 0 where
+pub record Moves {S I : Type 0} (r : Rules S I) (s : SessionState S) (e : Event I) (w : ℕ) : Type 0 where
   pub stepped : steps_walk s e w ≡ true
   pub at : ℕ
   pub stood : slice_get s.cursors w ≡ Some at
@@ -218,7 +218,7 @@ pub get_push_cond : (b : Bool) (cursors : List ℕ) (p w d : ℕ) → slice_get 
 get_push_cond true cursors p w d h = get-append cursors (p ∷ []) w d h
 get_push_cond false cursors p w d h = h
 
-pub plain_reply : {S I : Type 0} (r : Rules S I) (s : State S) (e : Event I) → (e ≡ Rewrite → is_rewritten (reply_to r s e) ≡ false) → is_rewritten (reply_to r s e) ≡ false
+pub plain_reply : {S I : Type 0} (r : Rules S I) (s : SessionState S) (e : Event I) → (e ≡ Rewrite → is_rewritten (reply_to r s e) ≡ false) → is_rewritten (reply_to r s e) ≡ false
 plain_reply r s Start h = plain_cond (nat_lt (length s.cursors) 1024) _ _ refl refl
 plain_reply r s (Resume p) h = plain_cond (nat_lt (length s.cursors) 1024) _ _ (plain_cond (is_place (r.seen s.store) p) _ _ refl refl) refl
 plain_reply r s (Step v) h = plain_step (r.seen s.store) v (slice_get s.cursors v)
@@ -235,11 +235,11 @@ answered_by : (s : Store) (w c : ℕ) (found : Option Record) → next_live s c 
 answered_by s w c None is = answered_none s w c s.fault is refl
 answered_by s w c (Some r) is = (refl, is, refl)
 
-pub record OwnStep {S I : Type 0} (r : Rules S I) (s : State S) (w c : ℕ) : Type 0 where
+pub record OwnStep {S I : Type 0} (r : Rules S I) (s : SessionState S) (w c : ℕ) : Type 0 where
   pub stands : slice_get (cursors_after r s (Step w)) w ≡ Some (stop_cursor (end_of (r.seen s.store)) (next_live (r.seen s.store) c))
   pub answered : AnswersStep (r.seen s.store) w c (reply_to r s (Step w)) (stop_cursor (end_of (r.seen s.store)) (next_live (r.seen s.store) c))
 
-pub own_step : {S I : Type 0} (r : Rules S I) (s : State S) (w c : ℕ) → slice_get s.cursors w ≡ Some c → OwnStep r s w c
+pub own_step : {S I : Type 0} (r : Rules S I) (s : SessionState S) (w c : ℕ) → slice_get s.cursors w ≡ Some c → OwnStep r s w c
 own_step r s w c is =
     let store = r.seen s.store in
     let to = stop_cursor (end_of store) (next_live store c) in
@@ -248,7 +248,7 @@ own_step r s w c is =
       answered = subst (λ (o : Option ℕ). AnswersStep store w c (step_said store w o) to) (sym is) (answered_by store w c (next_live store c) refl);
     }
 
-moves_own : {S I : Type 0} (r : Rules S I) (s : State S) (w c : ℕ) → slice_get s.cursors w ≡ Some c → Moves r s (Step w) w
+moves_own : {S I : Type 0} (r : Rules S I) (s : SessionState S) (w c : ℕ) → slice_get s.cursors w ≡ Some c → Moves r s (Step w) w
 moves_own r s w c is =
     let step = own_step r s w c is in
     let itself : (w == w) ≡ true = grind (arith, nat_tests) in
@@ -261,7 +261,7 @@ idle_none cursors v w true is e =
     ap (λ (b : Bool). b && is_some (slice_get cursors w)) e ∙ ap (λ (o : Option ℕ). is_some o) (ap (slice_get cursors) (sym same) ∙ is)
 idle_none cursors v w false is e = ap (λ (b : Bool). b && is_some (slice_get cursors w)) e
 
-effect_step : {S I : Type 0} (r : Rules S I) (s : State S) (v w : ℕ) (o : Option ℕ) (b : Bool) → slice_get s.cursors v ≡ o → (v == w) ≡ b → Unmoved r s (Step v) w ⊎ Moves r s (Step v) w
+effect_step : {S I : Type 0} (r : Rules S I) (s : SessionState S) (v w : ℕ) (o : Option ℕ) (b : Bool) → slice_get s.cursors v ≡ o → (v == w) ≡ b → Unmoved r s (Step v) w ⊎ Moves r s (Step v) w
 effect_step r s v w None b is e =
     let store = r.seen s.store in
     inl (record {
@@ -281,7 +281,7 @@ effect_step r s v w (Some c) true is e =
     let same : v ≡ w = grind (arith, nat_tests) in
     inr (subst (Moves r s (Step v)) same (moves_own r s v c is))
 
-pub effect : {S I : Type 0} (r : Rules S I) (s : State S) (e : Event I) (w : ℕ) → Unmoved r s e w ⊎ Moves r s e w
+pub effect : {S I : Type 0} (r : Rules S I) (s : SessionState S) (e : Event I) (w : ℕ) → Unmoved r s e w ⊎ Moves r s e w
 effect r s Start w = inl (record { idle = refl; stays = λ d h. stays_plain _ _ _ _ d (plain_cond (nat_lt (length s.cursors) 1024) _ _ refl refl) (get_push_cond (nat_lt (length s.cursors) 1024) s.cursors _ w d h); other = other_cond w (nat_lt (length s.cursors) 1024) _ _ refl refl })
 effect r s (Resume p) w = inl (record { idle = refl; stays = λ d h. stays_plain _ _ _ _ d (plain_cond (nat_lt (length s.cursors) 1024) _ _ (plain_cond (is_place (r.seen s.store) p) _ _ refl refl) refl) (get_push_cond (nat_lt (length s.cursors) 1024 && is_place (r.seen s.store) p) s.cursors p w d h); other = other_cond w (nat_lt (length s.cursors) 1024) _ _ (other_cond w (is_place (r.seen s.store) p) _ _ refl refl) refl })
 effect r s (Step v) w = effect_step r s v w (slice_get s.cursors v) (v == w) refl refl
@@ -290,10 +290,10 @@ effect r s (Cut p) w = inl (record { idle = refl; stays = λ d h. stays_plain _ 
 effect r s Rewrite w = inl (record { idle = refl; stays = λ d h. rewrite_stays r.seen s.store s.cursors (r.rewrite s.store) w d h; other = other_rewrite w r.seen (r.rewrite s.store) })
 
 -- a whole history: its last store has the first one's cells where they were
-pub history_extends : {S I : Type 0} (r : Rules S I) (s : State S) (es : List (Event I)) → AllPlain (history r s es) → AllLawful r (history r s es) → Extends (r.seen s.store) (r.seen (state_after r s es).store)
+pub history_extends : {S I : Type 0} (r : Rules S I) (s : SessionState S) (es : List (Event I)) → AllPlain (history r s es) → AllLawful r (history r s es) → Extends (r.seen s.store) (r.seen (state_after r s es).store)
 history_extends r s [] plain h = extends_self (r.seen s.store)
 history_extends r s (e ∷ es) plain h = extends_on _ _ _ (changes-extends _ _ _ plain.0 h.0) (history_extends r (after r s e) es plain.1 h.1)
 
-pub ready_to_last : {S I : Type 0} (r : Rules S I) (s : State S) (es : List (Event I)) → IsReady r s → AllLawful r (history r s es) → IsReady r (state_after r s es)
+pub ready_to_last : {S I : Type 0} (r : Rules S I) (s : SessionState S) (es : List (Event I)) → IsReady r s → AllLawful r (history r s es) → IsReady r (state_after r s es)
 ready_to_last r s [] ready h = ready
 ready_to_last r s (e ∷ es) ready h = ready_to_last r (after r s e) es (ready_after r s e ready h.0) h.1

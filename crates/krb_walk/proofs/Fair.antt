@@ -5,7 +5,7 @@ use Rattle.std.proofs.lemmas.Grind.{flat_map-append}
 use Rattle.krb_walk.specs.declared.event.Event.{Event}
 use Rattle.krb_walk.specs.Store.{Store}
 use Rattle.krb_walk.specs.Rules.{Rules}
-use Rattle.krb_walk.specs.Events.{State}
+use Rattle.krb_walk.specs.Events.{SessionState}
 use Rattle.krb_walk.specs.History.{Moment, Row, IsReady, AllLawful, history, state_after, given, given_from, rows_of_reply}
 use Rattle.krb_walk.specs.Track.{RecordName, WalkEvent, Track, PlacesStay, first_names, track_on, track, last_names, IsTrack, IsWalk}
 use Rattle.krb_walk.specs.Due.{rows_at_event, given_over, due_over, due_by_steps}
@@ -58,10 +58,10 @@ walk_fair first start t last walk =
       cursor = cursors_keep 1 first names start t last walk.is;
     }
 
-pub history_fair : {S I : Type 0} (r : Rules S I) (s : State S) (es : List (Event I)) (w : ℕ) → IsReady r s → AllLawful r (history r s es) → IsFair (track r s w (history r s es)) (r.seen (state_after r s es).store)
+pub history_fair : {S I : Type 0} (r : Rules S I) (s : SessionState S) (es : List (Event I)) (w : ℕ) → IsReady r s → AllLawful r (history r s es) → IsFair (track r s w (history r s es)) (r.seen (state_after r s es).store)
 history_fair r s es w ready h = walk_fair _ _ _ _ (history_walks r s es w ready h)
 
-pub joined_fair : {S T I J : Type 0} (r : Rules S I) (s : State S) (es : List (Event I)) (w : ℕ) (q : Rules T J) (z : State T) (gs : List (Event J)) (v c : ℕ) → Join r s es w q z gs v c → IsFair (joined r s es w q z gs v c) (q.seen (state_after q z gs).store)
+pub joined_fair : {S T I J : Type 0} (r : Rules S I) (s : SessionState S) (es : List (Event I)) (w : ℕ) (q : Rules T J) (z : SessionState T) (gs : List (Event J)) (v c : ℕ) → Join r s es w q z gs v c → IsFair (joined r s es w q z gs v c) (q.seen (state_after q z gs).store)
 joined_fair r s es w q z gs v c j = walk_fair _ _ _ _ (walk_goes_on _ _ _ _ q z gs v c (history_walks r s es w j.run.ready j.run.lawful) (joined_next r s es w q z gs v c j))
 
 -- the rows of a track are those of the replies
@@ -69,17 +69,17 @@ given_track : {S I : Type 0} (r : Rules S I) (n w : ℕ) (names : List RecordNam
 given_track r n w names c [] = refl
 given_track r n w names c (m ∷ ms) = ap (λ (rows : List Row). rows_of_reply w n m.reply ++ rows) (given_track r (suc n) w _ c ms)
 
-pub track_told : {S I : Type 0} (r : Rules S I) (s : State S) (es : List (Event I)) (w : ℕ) → given_over (track r s w (history r s es)) ≡ given w (history r s es)
+pub track_told : {S I : Type 0} (r : Rules S I) (s : SessionState S) (es : List (Event I)) (w : ℕ) → given_over (track r s w (history r s es)) ≡ given w (history r s es)
 track_told r s es w = given_track r 1 w (first_names (r.seen s.store)) None (history r s es)
 
 -- what a walk is given is what is due to it
-pub gives_due_at_places : {S I : Type 0} (r : Rules S I) (s : State S) (es : List (Event I)) (w : ℕ) → IsReady r s → AllLawful r (history r s es) → PlacesStay (track r s w (history r s es)) → given w (history r s es) ≡ due_over (track r s w (history r s es)) (r.seen (state_after r s es).store)
+pub gives_due_at_places : {S I : Type 0} (r : Rules S I) (s : SessionState S) (es : List (Event I)) (w : ℕ) → IsReady r s → AllLawful r (history r s es) → PlacesStay (track r s w (history r s es)) → given w (history r s es) ≡ due_over (track r s w (history r s es)) (r.seen (state_after r s es).store)
 gives_due_at_places r s es w ready h keeps = sym (track_told r s es w) ∙ (history_fair r s es w ready h).given_is_due_at_places keeps
 
-pub gives_due : {S I : Type 0} (r : Rules S I) (s : State S) (es : List (Event I)) (w : ℕ) → IsReady r s → AllLawful r (history r s es) → given w (history r s es) ≡ due_by_steps (track r s w (history r s es))
+pub gives_due : {S I : Type 0} (r : Rules S I) (s : SessionState S) (es : List (Event I)) (w : ℕ) → IsReady r s → AllLawful r (history r s es) → given w (history r s es) ≡ due_by_steps (track r s w (history r s es))
 gives_due r s es w ready h = sym (track_told r s es w) ∙ (history_fair r s es w ready h).given_is_due
 
-pub joined_gives : {S T I J : Type 0} (r : Rules S I) (s : State S) (es : List (Event I)) (w : ℕ) (q : Rules T J) (z : State T) (gs : List (Event J)) (v c : ℕ) → Join r s es w q z gs v c
+pub joined_gives : {S T I J : Type 0} (r : Rules S I) (s : SessionState S) (es : List (Event I)) (w : ℕ) (q : Rules T J) (z : SessionState T) (gs : List (Event J)) (v c : ℕ) → Join r s es w q z gs v c
     → given w (history r s es) ++ given_from (suc (length (history r s es))) v (history q z gs) ≡ due_by_steps (joined r s es w q z gs v c)
 joined_gives r s es w q z gs v c j =
     let first = track r s w (history r s es) in

@@ -6,7 +6,7 @@ use Rattle.krb_walk.specs.declared.event.Event.{Event}
 use Rattle.krb_walk.specs.Store.{Store, is_place}
 use Rattle.krb_walk.specs.Said.{Said, is_rewritten}
 use Rattle.krb_walk.specs.Rules.{Rules}
-use Rattle.krb_walk.specs.Events.{State, after, reply_to, store_after, cursors_after}
+use Rattle.krb_walk.specs.Events.{SessionState, after, reply_to, store_after, cursors_after}
 use Rattle.krb_walk.specs.History.{IsReady, AllLawful, history, state_after}
 use Rattle.krb_walk.specs.Track.{RecordName, track_on, carry_by, AnswersStep, IsTrack}
 use Rattle.krb_walk.proofs.Places.{place_kept}
@@ -14,15 +14,15 @@ use Rattle.krb_walk.proofs.Effects.{ready_after, effect, changes-extends}
 use Rattle.krb_walk.proofs.WalkEvents.{carry_by-same}
 
 -- where the walk is made, it is made at c, and before that no event rewrites the store
-pub record Fits {S I : Type 0} (c : Option ℕ) (r : Rules S I) (w : ℕ) (s : State S) (e : Event I) : Type 0 where
+pub record Fits {S I : Type 0} (c : Option ℕ) (r : Rules S I) (w : ℕ) (s : SessionState S) (e : Event I) : Type 0 where
   pub made : (d a : ℕ) → c ≡ Some d → slice_get s.cursors w ≡ None → slice_get (cursors_after r s e) w ≡ Some a → a ≡ d
   pub plain : (d : ℕ) → c ≡ Some d → slice_get s.cursors w ≡ None → is_rewritten (reply_to r s e) ≡ false
 
-abbrev pub MadeAt : {S I : Type 0} → Option ℕ → Rules S I → ℕ → State S → List (Event I) → Type 0
+abbrev pub MadeAt : {S I : Type 0} → Option ℕ → Rules S I → ℕ → SessionState S → List (Event I) → Type 0
 MadeAt c r w s [] = Unit {0}
 MadeAt c r w s (e ∷ es) = Fits c r w s e × MadeAt c r w (after r s e) es
 
-pub made_none : {S I : Type 0} (r : Rules S I) (w : ℕ) (s : State S) (es : List (Event I)) → MadeAt None r w s es
+pub made_none : {S I : Type 0} (r : Rules S I) (w : ℕ) (s : SessionState S) (es : List (Event I)) → MadeAt None r w s es
 made_none r w s [] = tt
 made_none r w s (e ∷ es) = (record { made = λ d a is. cc; plain = λ d is. cc }, made_none r w (after r s e) es)
 
@@ -32,16 +32,16 @@ stays_on told old new c (Some x) q stays made plain d h = let same : x ≡ d = c
 stays_on told old new c None None stays made plain d h = h ∙ sym (ap Some (carry_by-same told old new d (plain d h refl)))
 stays_on told old new c None (Some a) stays made plain d h = ap Some (made d a h refl refl) ∙ sym (ap Some (carry_by-same told old new d (plain d h refl)))
 
-places_on : {S I : Type 0} (r : Rules S I) (s : State S) (c o : Option ℕ) → ((d : ℕ) → o ≡ Some d → is_place (r.seen s.store) d ≡ true) → ((d : ℕ) → c ≡ Some d → o ≡ None → is_place (r.seen s.store) d ≡ true) → (d : ℕ) → option_or o c ≡ Some d → is_place (r.seen s.store) d ≡ true
+places_on : {S I : Type 0} (r : Rules S I) (s : SessionState S) (c o : Option ℕ) → ((d : ℕ) → o ≡ Some d → is_place (r.seen s.store) d ≡ true) → ((d : ℕ) → c ≡ Some d → o ≡ None → is_place (r.seen s.store) d ≡ true) → (d : ℕ) → option_or o c ≡ Some d → is_place (r.seen s.store) d ≡ true
 places_on r s c None all made d h = made d h refl
 places_on r s c (Some x) all made d h = all d h
 
 -- a walk that is not made after an event was not made before it
-not_made : {S I : Type 0} (r : Rules S I) (s : State S) (e : Event I) (w : ℕ) (o : Option ℕ) → slice_get s.cursors w ≡ o → slice_get (cursors_after r s e) w ≡ None → o ≡ None
+not_made : {S I : Type 0} (r : Rules S I) (s : SessionState S) (e : Event I) (w : ℕ) (o : Option ℕ) → slice_get s.cursors w ≡ o → slice_get (cursors_after r s e) w ≡ None → o ≡ None
 not_made r s e w None is none = refl
 not_made r s e w (Some d) is none = elim (effect r s e w) [ inl still ↦ cc (still.stays d is, none) | inr moves ↦ cc (moves.stands, none) ]
 
-pub track_is : {S I : Type 0} (r : Rules S I) (s : State S) (es : List (Event I)) (n w : ℕ) (names : List RecordName) (c : Option ℕ) → IsReady r s → AllLawful r (history r s es) → MadeAt c r w s es → ((d : ℕ) → c ≡ Some d → slice_get s.cursors w ≡ None → is_place (r.seen s.store) d ≡ true)
+pub track_is : {S I : Type 0} (r : Rules S I) (s : SessionState S) (es : List (Event I)) (n w : ℕ) (names : List RecordName) (c : Option ℕ) → IsReady r s → AllLawful r (history r s es) → MadeAt c r w s es → ((d : ℕ) → c ≡ Some d → slice_get s.cursors w ≡ None → is_place (r.seen s.store) d ≡ true)
     → IsTrack n (r.seen s.store) names (option_or (slice_get s.cursors w) c) (track_on n names c r w (history r s es)) (r.seen (state_after r s es).store)
 track_is r s [] n w names c ready h made here = refl
 track_is r s (e ∷ es) n w names c ready h made here =

@@ -10,7 +10,7 @@ use Rattle.krb_walk.specs.declared.refusal.Code.TheVariants.{NotAPlace, TooManyW
 use Rattle.krb_walk.specs.Store.{Store, is_place}
 use Rattle.krb_walk.specs.Said.{Started, Refused, is_rewritten}
 use Rattle.krb_walk.specs.Rules.{Rules}
-use Rattle.krb_walk.specs.Events.{State, after, reply_to, cursors_after}
+use Rattle.krb_walk.specs.Events.{SessionState, after, reply_to, cursors_after}
 use Rattle.krb_walk.specs.History.{Moment, IsReady, AllLawful, history, state_after}
 use Rattle.krb_walk.specs.Track.{RecordName, Track, first_names, track_on, track, last_names, last_cursor, IsTrack, IsWalk}
 use Rattle.krb_walk.specs.Joins.{StandsOrResumes, Next, track_then, Join}
@@ -23,17 +23,17 @@ pub record Stands (cursors : List ℕ) (w : ℕ) : Type 0 where
   pub at : ℕ
   pub is : slice_get cursors w ≡ Some at
 
-pub stands_after : {S I : Type 0} (r : Rules S I) (s : State S) (e : Event I) (w : ℕ) → Stands s.cursors w → Stands (cursors_after r s e) w
+pub stands_after : {S I : Type 0} (r : Rules S I) (s : SessionState S) (e : Event I) (w : ℕ) → Stands s.cursors w → Stands (cursors_after r s e) w
 stands_after r s e w stands = elim (effect r s e w) [
   | inl still ↦ record { at = _; is = still.stays stands.at stands.is }
   | inr moves ↦ record { at = _; is = moves.stands }
 ]
 
-pub stands_to : {S I : Type 0} (r : Rules S I) (s : State S) (es : List (Event I)) (w : ℕ) → Stands s.cursors w → Stands (state_after r s es).cursors w
+pub stands_to : {S I : Type 0} (r : Rules S I) (s : SessionState S) (es : List (Event I)) (w : ℕ) → Stands s.cursors w → Stands (state_after r s es).cursors w
 stands_to r s [] w stands = stands
 stands_to r s (e ∷ es) w stands = stands_to r (after r s e) es w (stands_after r s e w stands)
 
-stands_fits : {S I : Type 0} (r : Rules S I) (s : State S) (es : List (Event I)) (w : ℕ) (c : Option ℕ) → Stands s.cursors w → MadeAt c r w s es
+stands_fits : {S I : Type 0} (r : Rules S I) (s : SessionState S) (es : List (Event I)) (w : ℕ) (c : Option ℕ) → Stands s.cursors w → MadeAt c r w s es
 stands_fits r s [] w c stands = tt
 stands_fits r s (e ∷ es) w c stands = (record { made = λ d a is none now. cc (stands.is, none); plain = λ d is none. cc (stands.is, none) }, stands_fits r (after r s e) es w c (stands_after r s e w stands))
 
@@ -47,7 +47,7 @@ resumed_by true true cursors p w c e = record { number = cc; place = cc; made = 
 resumed_by true false cursors p w c e = cc
 resumed_by false d cursors p w c e = cc
 
-resumed : {S I : Type 0} (r : Rules S I) (s : State S) (p w c : ℕ) → reply_to r s (Resume p) ≡ Started w c → Resumed s.cursors (cursors_after r s (Resume p)) p w c
+resumed : {S I : Type 0} (r : Rules S I) (s : SessionState S) (p w c : ℕ) → reply_to r s (Resume p) ≡ Started w c → Resumed s.cursors (cursors_after r s (Resume p)) p w c
 resumed r s p w c e = resumed_by (nat_lt (length s.cursors) 1024) (is_place (r.seen s.store) p) s.cursors p w c e
 
 get_last : (xs : List ℕ) (p : ℕ) → slice_get (xs ++ p ∷ []) (length xs) ≡ Some p
@@ -62,7 +62,7 @@ plain_resume true true k p = refl
 plain_resume true false k p = refl
 plain_resume false d k p = refl
 
-resumes_fits : {S I : Type 0} (r : Rules S I) (s : State S) (w c : ℕ) (earlier later : List (Event I)) → reply_to r (state_after r s earlier) (Resume c) ≡ Started w c → AllByRecursion (λ m. is_rewritten m.reply ≡ false) (history r s earlier) → MadeAt (Some c) r w s (earlier ++ Resume c ∷ later)
+resumes_fits : {S I : Type 0} (r : Rules S I) (s : SessionState S) (w c : ℕ) (earlier later : List (Event I)) → reply_to r (state_after r s earlier) (Resume c) ≡ Started w c → AllByRecursion (λ m. is_rewritten m.reply ≡ false) (history r s earlier) → MadeAt (Some c) r w s (earlier ++ Resume c ∷ later)
 resumes_fits r s w c [] later told plain =
     let now = resumed r s c w c told in
     let stands : slice_get (cursors_after r s (Resume c)) w ≡ Some c = ap (λ (xs : List ℕ). slice_get xs w) now.made ∙ ap (slice_get (s.cursors ++ c ∷ [])) (sym now.number) ∙ get_last s.cursors c in
@@ -75,7 +75,7 @@ resumes_fits r s w c (e ∷ earlier) later told plain = (
   resumes_fits r (after r s e) w c earlier later told plain.1,
 )
 
-made_at : {S I : Type 0} (r : Rules S I) (s : State S) (es : List (Event I)) (w c : ℕ) → StandsOrResumes r s es w c → MadeAt (Some c) r w s es
+made_at : {S I : Type 0} (r : Rules S I) (s : SessionState S) (es : List (Event I)) (w c : ℕ) → StandsOrResumes r s es w c → MadeAt (Some c) r w s es
 made_at r s es w c on = elim on [
   | inl at ↦ stands_fits r s es w (Some c) (record { at = c; is = at })
   | inr res ↦ subst (MadeAt (Some c) r w s) (sym res.events_are) (resumes_fits r s w c res.earlier res.later res.told res.plain)
@@ -85,14 +85,14 @@ begins_none : (cursors : List ℕ) (w c : ℕ) (o : Option ℕ) → slice_get cu
 begins_none cursors w c None is no_walk = refl
 begins_none cursors w c (Some d) is no_walk = absurd (no_walk (record { at = d; is = is }))
 
-begins_at : {S I : Type 0} (r : Rules S I) (s : State S) (es : List (Event I)) (w c : ℕ) → StandsOrResumes r s es w c → option_or (slice_get s.cursors w) (Some c) ≡ Some c
+begins_at : {S I : Type 0} (r : Rules S I) (s : SessionState S) (es : List (Event I)) (w c : ℕ) → StandsOrResumes r s es w c → option_or (slice_get s.cursors w) (Some c) ≡ Some c
 begins_at r s es w c on = elim on [
   | inl at ↦ ap (λ (o : Option ℕ). option_or o (Some c)) at
   | inr res ↦ begins_none s.cursors w c (slice_get s.cursors w) refl (λ stands. not_yet _ w (resumed r (state_after r s res.earlier) c w c res.told).number (stands_to r s res.earlier w stands))
 ]
 
 -- where the track of a history ends
-cursor_last : {S I : Type 0} (r : Rules S I) (s : State S) (es : List (Event I)) (n w : ℕ) (names : List RecordName) (c : Option ℕ) → last_cursor (option_or (slice_get s.cursors w) c) (track_on n names c r w (history r s es)) ≡ option_or (slice_get (state_after r s es).cursors w) c
+cursor_last : {S I : Type 0} (r : Rules S I) (s : SessionState S) (es : List (Event I)) (n w : ℕ) (names : List RecordName) (c : Option ℕ) → last_cursor (option_or (slice_get s.cursors w) c) (track_on n names c r w (history r s es)) ≡ option_or (slice_get (state_after r s es).cursors w) c
 cursor_last r s [] n w names c = refl
 cursor_last r s (e ∷ es) n w names c = cursor_last r (after r s e) es (suc n) w _ c
 
@@ -105,7 +105,7 @@ or_none None = refl
 or_none (Some c) = refl
 
 -- the track of a history is that of a walk
-pub history_walks : {S I : Type 0} (r : Rules S I) (s : State S) (es : List (Event I)) (w : ℕ) → IsReady r s → AllLawful r (history r s es) → IsWalk (r.seen s.store) (slice_get s.cursors w) (track r s w (history r s es)) (r.seen (state_after r s es).store)
+pub history_walks : {S I : Type 0} (r : Rules S I) (s : SessionState S) (es : List (Event I)) (w : ℕ) → IsReady r s → AllLawful r (history r s es) → IsWalk (r.seen s.store) (slice_get s.cursors w) (track r s w (history r s es)) (r.seen (state_after r s es).store)
 history_walks r s es w ready h =
     let first = r.seen s.store in
     let last = r.seen (state_after r s es).store in
@@ -121,7 +121,7 @@ last_place n s names c [] last d h here is = subst (λ (x : Store). is_place x d
 last_place n s names c (x ∷ xs) last d h here is = last_place (suc n) x.after _ x.to xs last d h.1 h.0.there is
 
 -- a track goes on over the next run
-pub walk_goes_on : {T J : Type 0} (first : Store) (start : Option ℕ) (t : Track) (last : Store) (q : Rules T J) (z : State T) (gs : List (Event J)) (v c : ℕ) → IsWalk first start t last → Next first start t last q z gs v c
+pub walk_goes_on : {T J : Type 0} (first : Store) (start : Option ℕ) (t : Track) (last : Store) (q : Rules T J) (z : SessionState T) (gs : List (Event J)) (v c : ℕ) → IsWalk first start t last → Next first start t last q z gs v c
     → IsWalk first start (track_then first t q v c (history q z gs)) (q.seen (state_after q z gs).store)
 walk_goes_on first start t last q z gs v c walk next =
     let names = last_names (first_names first) t in
@@ -142,7 +142,7 @@ walk_goes_on first start t last q z gs v c walk next =
     }
 
 -- two runs that join
-pub joined_next : {S T I J : Type 0} (r : Rules S I) (s : State S) (es : List (Event I)) (w : ℕ) (q : Rules T J) (z : State T) (gs : List (Event J)) (v c : ℕ) → Join r s es w q z gs v c
+pub joined_next : {S T I J : Type 0} (r : Rules S I) (s : SessionState S) (es : List (Event I)) (w : ℕ) (q : Rules T J) (z : SessionState T) (gs : List (Event J)) (v c : ℕ) → Join r s es w q z gs v c
     → Next (r.seen s.store) (slice_get s.cursors w) (track r s w (history r s es)) (r.seen (state_after r s es).store) q z gs v c
 joined_next r s es w q z gs v c j = record {
   run = j.next_run;

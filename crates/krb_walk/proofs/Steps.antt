@@ -10,7 +10,7 @@ use Rattle.krb_walk.specs.Store.{Cell, Store, standing, end_from, end_of, is_pla
 use Rattle.krb_walk.specs.Changes.{Fills, Appends, Puts, Changes}
 use Rattle.krb_walk.specs.Said.{Said, Placed, is_rewritten}
 use Rattle.krb_walk.specs.Rules.{Rules}
-use Rattle.krb_walk.specs.Events.{State, after, reply_to, stop_cursor, step_cursors, rewrite_said, rewrite_cursors}
+use Rattle.krb_walk.specs.Events.{SessionState, after, reply_to, stop_cursor, step_cursors, rewrite_said, rewrite_cursors}
 use Rattle.krb_walk.specs.History.{IsReady, IsLawful, AllLawful, AllPlain, moment, history, state_after}
 use Rattle.krb_walk.specs.Track.{AnswersStep}
 use Rattle.krb_walk.proofs.Lists.{get-set_other}
@@ -20,7 +20,7 @@ use Rattle.krb_walk.proofs.Effects.{effect, own_step, ready_after, history_exten
 use Rattle.krb_walk.proofs.WalkEvents.{carry_by-same}
 
 -- what a step is answered
-pub step_answered : {S I : Type 0} (r : Rules S I) (s : State S) (w c : ℕ) → slice_get s.cursors w ≡ Some c → IsSomeAnd (slice_get (after {I = I} r s (Step w)).cursors w) (AnswersStep (r.seen s.store) w c (reply_to {I = I} r s (Step w)))
+pub step_answered : {S I : Type 0} (r : Rules S I) (s : SessionState S) (w c : ℕ) → slice_get s.cursors w ≡ Some c → IsSomeAnd (slice_get (after {I = I} r s (Step w)).cursors w) (AnswersStep (r.seen s.store) w c (reply_to {I = I} r s (Step w)))
 step_answered {I = I} r s w c at =
     let moves = own_step r s w c at in
     subst (λ (o : Option ℕ). IsSomeAnd o (AnswersStep (r.seen s.store) w c (reply_to {I = I} r s (Step w)))) (sym moves.stands) moves.answered
@@ -34,7 +34,7 @@ only_rewrite : {S : Type 0} (seen : S → Store) (old : S) (cursors : List ℕ) 
 only_rewrite seen old cursors (Ok new) w c at kept = cc
 only_rewrite seen old cursors (Err code) w c at kept = at
 
-pub only_steps : {S I : Type 0} (r : Rules S I) (s : State S) (e : Event I) (w c : ℕ) → slice_get s.cursors w ≡ Some c → e ≢ Step w → is_rewritten (reply_to r s e) ≡ false → slice_get (after r s e).cursors w ≡ Some c
+pub only_steps : {S I : Type 0} (r : Rules S I) (s : SessionState S) (e : Event I) (w c : ℕ) → slice_get s.cursors w ≡ Some c → e ≢ Step w → is_rewritten (reply_to r s e) ≡ false → slice_get (after r s e).cursors w ≡ Some c
 only_steps r s Start w c at ne kept = get_push_cond (nat_lt (length s.cursors) 1024) s.cursors (r.seen s.store).first w c at
 only_steps r s (Resume p) w c at ne kept = get_push_cond (nat_lt (length s.cursors) 1024 && is_place (r.seen s.store) p) s.cursors p w c at
 only_steps {I = I} r s (Step v) w c at ne kept = step_other (r.seen s.store) s.cursors v w c (slice_get s.cursors v) (λ e. let step : ℕ → Event I = λ x. Step x in ne (ap step e)) at
@@ -43,7 +43,7 @@ only_steps r s (Cut p) w c at ne kept = at
 only_steps r s Rewrite w c at ne kept = only_rewrite r.seen s.store s.cursors (r.rewrite s.store) w c at kept
 
 -- a cursor never goes back
-pub never_back : {S I : Type 0} (r : Rules S I) (s : State S) (es : List (Event I)) (w b c : ℕ) → IsReady r s → AllPlain (history r s es) → AllLawful r (history r s es) → slice_get s.cursors w ≡ Some c → b ≤ c → IsSomeAnd (slice_get (state_after r s es).cursors w) (λ d. b ≤ d)
+pub never_back : {S I : Type 0} (r : Rules S I) (s : SessionState S) (es : List (Event I)) (w b c : ℕ) → IsReady r s → AllPlain (history r s es) → AllLawful r (history r s es) → slice_get s.cursors w ≡ Some c → b ≤ c → IsSomeAnd (slice_get (state_after r s es).cursors w) (λ d. b ≤ d)
 never_back r s [] w b c ready plain h at le = subst (λ (o : Option ℕ). IsSomeAnd o (λ d. b ≤ d)) (sym at) le
 never_back r s (e ∷ es) w b c ready plain h at le =
     let next = ready_after r s e ready h.0 in
@@ -84,10 +84,10 @@ size_kept old new p n e h =
     sizes new.first new.cells p ∙ ap (λ (f : ℕ). size_in f (widths new.cells) p) e.first ∙ ap (λ (ws : List ℕ). size_in old.first ws p) e.widths_are
     ∙ size_more old.first (widths old.cells) e.more p n (sym (sizes old.first old.cells p) ∙ h)
 
-pub places_kept : {S I : Type 0} (r : Rules S I) (s : State S) (es : List (Event I)) (p : ℕ) → AllPlain (history r s es) → AllLawful r (history r s es) → is_place (r.seen s.store) p ≡ true → is_place (r.seen (state_after r s es).store) p ≡ true
+pub places_kept : {S I : Type 0} (r : Rules S I) (s : SessionState S) (es : List (Event I)) (p : ℕ) → AllPlain (history r s es) → AllLawful r (history r s es) → is_place (r.seen s.store) p ≡ true → is_place (r.seen (state_after r s es).store) p ≡ true
 places_kept r s es p plain h is = place_kept _ _ p (history_extends r s es plain h) is
 
-pub sizes_kept : {S I : Type 0} (r : Rules S I) (s : State S) (es : List (Event I)) (p n : ℕ) → AllPlain (history r s es) → AllLawful r (history r s es) → size_at (r.seen s.store) p ≡ Some n → size_at (r.seen (state_after r s es).store) p ≡ Some n
+pub sizes_kept : {S I : Type 0} (r : Rules S I) (s : SessionState S) (es : List (Event I)) (p n : ℕ) → AllPlain (history r s es) → AllLawful r (history r s es) → size_at (r.seen s.store) p ≡ Some n → size_at (r.seen (state_after r s es).store) p ≡ Some n
 sizes_kept r s es p n plain h is = size_kept _ _ p n (history_extends r s es plain h) is
 
 -- what is appended stands at the old end
@@ -102,7 +102,7 @@ appends_end old new p a =
     let e = ap (λ (at : ℕ). end_from at new.cells) a.first ∙ ap (end_from old.first) a.cells ∙ end_from-append old.first old.cells (record { width = a.width; live = Some a.bytes } ∷ []) in
     omega (arith, e, a.some_width)
 
-pub put_place : {S I : Type 0} (r : Rules S I) (s : State S) (item : I) (p : ℕ) → IsLawful r (moment r s (Put item)) → reply_to r s (Put item) ≡ Placed p
+pub put_place : {S I : Type 0} (r : Rules S I) (s : SessionState S) (item : I) (p : ℕ) → IsLawful r (moment r s (Put item)) → reply_to r s (Put item) ≡ Placed p
     → (end_of (r.seen (after r s (Put item)).store) ≡ end_of (r.seen s.store)) ⊎ ((p ≡ end_of (r.seen s.store)) × (end_of (r.seen s.store) < end_of (r.seen (after r s (Put item)).store)))
 put_place r s item p h told =
     let old = r.seen s.store in

@@ -11,13 +11,13 @@ use Rattle.krb_walk.specs.Store.{Store, Record, end_of, end_stop, stop_of, stop_
 use Rattle.krb_walk.specs.Changes.{Puts, Cuts}
 use Rattle.krb_walk.specs.Ranks.{carry, Rewrites}
 use Rattle.krb_walk.specs.Rules.{Rules, PutGives, CutGives, RewriteGives}
-use Rattle.krb_walk.specs.Events.{State, stop_cursor}
+use Rattle.krb_walk.specs.Events.{SessionState, stop_cursor}
 use Rattle.krb_walk.specs.Kept.{IsKept, place_after}
 use Rattle.krb_walk.proofs.Places.{Extends, puts-extends, cuts-extends, sound_kept, place_kept}
 use Rattle.krb_walk.proofs.Effects.{was_map, place_carried}
 
 -- the state that a table shows
-abbrev pub shown : {S : Type 0} → S → List ℕ → ℕ → State S
+abbrev pub shown : {S : Type 0} → S → List ℕ → ℕ → SessionState S
 shown store table count = record { store = store; cursors = take count table }
 
 -- the place after a stop is where the cursor goes
@@ -33,10 +33,10 @@ pub place_after-stop_at : (s : Store) (c : ℕ) → place_after (stop_at s c) �
 place_after-stop_at s c = place_after_of s (next_live s c)
 
 -- a cursor is written
-pub go_shown : {S : Type 0} (s : State S) (store : S) (table : List ℕ) (count walk to : ℕ) → shown store table count ≡ s → walk < length s.cursors → shown store (set table walk to) count ≡ record { store = s.store; cursors = set s.cursors walk to }
+pub go_shown : {S : Type 0} (s : SessionState S) (store : S) (table : List ℕ) (count walk to : ℕ) → shown store table count ≡ s → walk < length s.cursors → shown store (set table walk to) count ≡ record { store = s.store; cursors = set s.cursors walk to }
 go_shown {S} s store table count walk to is stands =
-    let within : walk < count = omega (arith, stands, length-take count table, ap (λ (x : State S). length x.cursors) is) in
-    ap (λ (cs : List ℕ). record { store = store; cursors = cs }) (take-set-lt count table walk to within) ∙ ap (λ (x : State S). record { store = x.store; cursors = set x.cursors walk to }) is
+    let within : walk < count = omega (arith, stands, length-take count table, ap (λ (x : SessionState S). length x.cursors) is) in
+    ap (λ (cs : List ℕ). record { store = store; cursors = cs }) (take-set-lt count table walk to within) ∙ ap (λ (x : SessionState S). record { store = x.store; cursors = set x.cursors walk to }) is
 
 -- a change of the store leaves the table
 extends_kept : {S I : Type 0} (r : Rules S I) (old new : S) (table : List ℕ) (count : ℕ) → Extends (r.seen old) (r.seen new) → IsKept r old table count → IsKept r new table count

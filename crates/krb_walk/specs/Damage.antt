@@ -8,7 +8,7 @@ use Rattle.krb_walk.specs.Store.{Store, Record, end_of}
 use Rattle.krb_walk.specs.Stops.{records_from}
 use Rattle.krb_walk.specs.Said.{Said, Gave, Ended, Faulted, Refused}
 use Rattle.krb_walk.specs.Rules.{Rules}
-use Rattle.krb_walk.specs.Events.{State}
+use Rattle.krb_walk.specs.Events.{SessionState}
 use Rattle.krb_walk.specs.History.{history, state_after}
 use Rattle.krb_walk.specs.Track.{WalkEvent, Track}
 
@@ -23,7 +23,7 @@ RefusesChange Rewrite said = ⊥
 RefusesChange e said = Unit {0}
 
 -- all additions, removals and rewrites are refused, and the store stays
-pub record RefusesChanges {S I : Type 0} (r : Rules S I) (s : State S) (events : List (Event I)) : Type 0 where
+pub record RefusesChanges {S I : Type 0} (r : Rules S I) (s : SessionState S) (events : List (Event I)) : Type 0 where
   pub refused : AllByRecursion (λ m. RefusesChange m.event m.reply) (history r s events)
   pub stays : (state_after r s events).store ≡ s.store
 

@@ -12,12 +12,12 @@ use Rattle.krb_walk.specs.Said.{Said, Started, Gave, Ended, Faulted, Placed, Gon
 use Rattle.krb_walk.specs.Rules.{Rules}
 
 -- a store, and the cursor of each walk
-pub record State (S : Type 0) : Type 0 where
+pub record SessionState (S : Type 0) : Type 0 where
   pub store : S
   pub cursors : List ℕ
 
 -- a session, where its store is in a state
-abbrev pub session_of : {S T : Type 0} → (S → T) → State S → State T
+abbrev pub session_of : {S T : Type 0} → (S → T) → SessionState S → SessionState T
 session_of state s = record { store = state s.store; cursors = s.cursors }
 
 -- ---- Start and Resume: a new walk stands at a place; up to 1,024 walks stand
@@ -105,7 +105,7 @@ rewrite_cursors seen old cursors (Err code) = cursors
 -- ---- the whole table
 
 -- the reply to an event
-abbrev pub reply_to : {S I : Type 0} → Rules S I → State S → Event I → Said
+abbrev pub reply_to : {S I : Type 0} → Rules S I → SessionState S → Event I → Said
 reply_to r s Start = start_said s.cursors (r.seen s.store).first
 reply_to r s (Resume p) = resume_said (r.seen s.store) s.cursors p
 reply_to r s (Step w) = step_said (r.seen s.store) w (slice_get s.cursors w)
@@ -114,7 +114,7 @@ reply_to r s (Cut p) = cut_said p (r.cut s.store p)
 reply_to r s Rewrite = rewrite_said r.seen (r.rewrite s.store)
 
 -- the store after an event
-abbrev pub store_after : {S I : Type 0} → Rules S I → State S → Event I → S
+abbrev pub store_after : {S I : Type 0} → Rules S I → SessionState S → Event I → S
 store_after r s Start = s.store
 store_after r s (Resume p) = s.store
 store_after r s (Step w) = s.store
@@ -123,7 +123,7 @@ store_after r s (Cut p) = cut_store s.store (r.cut s.store p)
 store_after r s Rewrite = cut_store s.store (r.rewrite s.store)
 
 -- the cursors after an event
-abbrev pub cursors_after : {S I : Type 0} → Rules S I → State S → Event I → List ℕ
+abbrev pub cursors_after : {S I : Type 0} → Rules S I → SessionState S → Event I → List ℕ
 cursors_after r s Start = start_cursors s.cursors (r.seen s.store).first
 cursors_after r s (Resume p) = resume_cursors (r.seen s.store) s.cursors p
 cursors_after r s (Step w) = step_cursors (r.seen s.store) s.cursors w (slice_get s.cursors w)
@@ -132,5 +132,5 @@ cursors_after r s (Cut p) = s.cursors
 cursors_after r s Rewrite = rewrite_cursors r.seen s.store s.cursors (r.rewrite s.store)
 
 -- the state after an event
-abbrev pub after : {S I : Type 0} → Rules S I → State S → Event I → State S
+abbrev pub after : {S I : Type 0} → Rules S I → SessionState S → Event I → SessionState S
 after r s e = record { store = store_after r s e; cursors = cursors_after r s e }

@@ -6,21 +6,21 @@ use Rattle.krb_walk.specs.Store.{Store, Record, IsPlace, IsSound}
 use Rattle.krb_walk.specs.Changes.{Changes}
 use Rattle.krb_walk.specs.Said.{Said, Gave, is_rewritten}
 use Rattle.krb_walk.specs.Rules.{Rules}
-use Rattle.krb_walk.specs.Events.{State, reply_to, after}
+use Rattle.krb_walk.specs.Events.{SessionState, reply_to, after}
 
 -- an event with its reply, between two states
 pub record Moment (S I : Type 0) : Type 0 where
-  pub before : State S
+  pub before : SessionState S
   pub event : Event I
   pub reply : Said
-  pub after : State S
+  pub after : SessionState S
 
 -- the moment of an event in a state
-abbrev pub moment : {S I : Type 0} → Rules S I → State S → Event I → Moment S I
+abbrev pub moment : {S I : Type 0} → Rules S I → SessionState S → Event I → Moment S I
 moment r s e = record { before = s; event = e; reply = reply_to r s e; after = after r s e }
 
 -- the history of events from a state
-abbrev pub history : {S I : Type 0} → Rules S I → State S → List (Event I) → List (Moment S I)
+abbrev pub history : {S I : Type 0} → Rules S I → SessionState S → List (Event I) → List (Moment S I)
 history r s [] = []
 history r s (e ∷ es) = moment r s e ∷ history r (after r s e) es
 
@@ -29,7 +29,7 @@ abbrev pub replies : {S I : Type 0} → List (Moment S I) → List Said
 replies h = map (λ m. m.reply) h
 
 -- the state after events
-abbrev pub state_after : {S I : Type 0} → Rules S I → State S → List (Event I) → State S
+abbrev pub state_after : {S I : Type 0} → Rules S I → SessionState S → List (Event I) → SessionState S
 state_after r s [] = s
 state_after r s (e ∷ es) = state_after r (after r s e) es
 
@@ -48,17 +48,17 @@ AllPlain [] = Unit {0}
 AllPlain (m ∷ ms) = (is_rewritten m.reply ≡ false) × AllPlain ms
 
 -- the cells take up places, and each cursor is a place of the store
-pub record IsReady {S I : Type 0} (r : Rules S I) (s : State S) : Type 0 where
+pub record IsReady {S I : Type 0} (r : Rules S I) (s : SessionState S) : Type 0 where
   pub sound : IsSound (r.seen s.store)
   pub cursors : (w c : ℕ) → slice_get s.cursors w ≡ Some c → IsPlace (r.seen s.store) c
 
 -- a history that begins ready, and changes the store as it may
-pub record IsRun {S I : Type 0} (r : Rules S I) (s : State S) (events : List (Event I)) : Type 0 where
+pub record IsRun {S I : Type 0} (r : Rules S I) (s : SessionState S) (events : List (Event I)) : Type 0 where
   pub ready : IsReady r s
   pub lawful : AllLawful r (history r s events)
 
 -- the store after events, as a store
-abbrev pub last_store : {S I : Type 0} → Rules S I → State S → List (Event I) → Store
+abbrev pub last_store : {S I : Type 0} → Rules S I → SessionState S → List (Event I) → Store
 last_store r s events = r.seen (state_after r s events).store
 
 -- a row: the number of an event, and the record that stood there just before it
@@ -86,5 +86,5 @@ is_step w (Step v) = v == w
 is_step w e = false
 
 -- an event is a step of walk w, which stands
-abbrev pub steps_walk : {S I : Type 0} → State S → Event I → ℕ → Bool
+abbrev pub steps_walk : {S I : Type 0} → SessionState S → Event I → ℕ → Bool
 steps_walk s e w = is_step w e && is_some (slice_get s.cursors w)

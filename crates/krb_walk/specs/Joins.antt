@@ -6,12 +6,12 @@ use Rattle.krb_walk.specs.declared.event.Event.TheVariants.{Resume}
 use Rattle.krb_walk.specs.Said.{Started, is_rewritten}
 use Rattle.krb_walk.specs.Store.{Store}
 use Rattle.krb_walk.specs.Rules.{Rules}
-use Rattle.krb_walk.specs.Events.{State, reply_to}
+use Rattle.krb_walk.specs.Events.{SessionState, reply_to}
 use Rattle.krb_walk.specs.History.{Moment, IsRun, state_after, last_store, history}
 use Rattle.krb_walk.specs.Track.{Track, first_names, last_names, last_cursor, track_of, track_on}
 
 -- a walk is resumed at a place, after any other events, none of which rewrites the store
-pub record Resumes {S I : Type 0} (r : Rules S I) (s : State S) (events : List (Event I)) (w c : ℕ) : Type 0 where
+pub record Resumes {S I : Type 0} (r : Rules S I) (s : SessionState S) (events : List (Event I)) (w c : ℕ) : Type 0 where
   pub earlier : List (Event I)
   pub later : List (Event I)
   pub events_are : events ≡ earlier ++ Resume c ∷ later
@@ -19,11 +19,11 @@ pub record Resumes {S I : Type 0} (r : Rules S I) (s : State S) (events : List (
   pub plain : AllByRecursion (λ m. is_rewritten m.reply ≡ false) (history r s earlier)
 
 -- a walk goes on at a place: it stands there already, or it is resumed there
-abbrev pub StandsOrResumes : {S I : Type 0} → Rules S I → State S → List (Event I) → ℕ → ℕ → Type 0
+abbrev pub StandsOrResumes : {S I : Type 0} → Rules S I → SessionState S → List (Event I) → ℕ → ℕ → Type 0
 StandsOrResumes r s events w c = (slice_get s.cursors w ≡ Some c) ⊎ Resumes r s events w c
 
 -- a run over the last store of a track, in which walk v goes on where the track's walk stands
-pub record Next {T J : Type 0} (first : Store) (start : Option ℕ) (t : Track) (last : Store) (q : Rules T J) (z : State T) (events : List (Event J)) (v c : ℕ) : Type 0 where
+pub record Next {T J : Type 0} (first : Store) (start : Option ℕ) (t : Track) (last : Store) (q : Rules T J) (z : SessionState T) (events : List (Event J)) (v c : ℕ) : Type 0 where
   pub run : IsRun q z events
   pub store : q.seen z.store ≡ last
   pub cursor : last_cursor start t ≡ Some c
@@ -34,7 +34,7 @@ abbrev pub track_then : {T J : Type 0} → Store → Track → Rules T J → ℕ
 track_then first t q v c k = t ++ track_on (suc (length t)) (last_names (first_names first) t) (Some c) q v k
 
 -- a run is followed by another over the same store: walk w stands at c at the end of the first, and v goes on at c in the next
-pub record Join {S T I J : Type 0} (r : Rules S I) (s : State S) (events : List (Event I)) (w : ℕ) (q : Rules T J) (z : State T) (next : List (Event J)) (v c : ℕ) : Type 0 where
+pub record Join {S T I J : Type 0} (r : Rules S I) (s : SessionState S) (events : List (Event I)) (w : ℕ) (q : Rules T J) (z : SessionState T) (next : List (Event J)) (v c : ℕ) : Type 0 where
   pub run : IsRun r s events
   pub next_run : IsRun q z next
   pub store : q.seen z.store ≡ last_store r s events
@@ -42,5 +42,5 @@ pub record Join {S T I J : Type 0} (r : Rules S I) (s : State S) (events : List 
   pub goes_on : StandsOrResumes q z next v c
 
 -- the track of walk w over a run, and then of v over the next
-abbrev pub joined : {S T I J : Type 0} → Rules S I → State S → List (Event I) → ℕ → Rules T J → State T → List (Event J) → ℕ → ℕ → Track
+abbrev pub joined : {S T I J : Type 0} → Rules S I → SessionState S → List (Event I) → ℕ → Rules T J → SessionState T → List (Event J) → ℕ → ℕ → Track
 joined r s events w q z next v c = track_then (r.seen s.store) (track_of r s events w) q v c (history q z next)

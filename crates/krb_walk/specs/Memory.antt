@@ -6,7 +6,7 @@ use Rattle.krb_walk.specs.declared.refusal.Refusal.{Refusal}
 use Rattle.krb_walk.specs.declared.refusal.Refusal.TheVariants.{NoMemory}
 use Rattle.krb_walk.specs.Said.{is_gave}
 use Rattle.krb_walk.specs.Rules.{Rules}
-use Rattle.krb_walk.specs.Events.{State, reply_to}
+use Rattle.krb_walk.specs.Events.{SessionState, reply_to}
 
 -- an addition that did not run out of memory
 abbrev pub HadMemory : Result ℕ Refusal → Type 0
@@ -14,7 +14,7 @@ HadMemory (Err NoMemory) = ⊥
 HadMemory result = Unit {0}
 
 -- an event that takes no memory: all but a step that gives a record, an addition whose store grows, and a rewrite that is not refused
-abbrev pub TakesNone : {S I : Type 0} → Rules S I → State S → Event I → Type 0
+abbrev pub TakesNone : {S I : Type 0} → Rules S I → SessionState S → Event I → Type 0
 TakesNone r s (Step w) = is_gave (reply_to r s (Step w)) ≡ false
 TakesNone r s (Put item) = r.takes_none s.store item ≡ true
 TakesNone r s Rewrite = IsErr (r.rewrite s.store)

@@ -4,7 +4,7 @@ use Rattle.krb_walk.specs.declared.event.Event.{Event}
 use Rattle.krb_walk.specs.declared.fault.FaultKind.{FaultKind}
 use Rattle.krb_walk.specs.Said.{Said}
 use Rattle.krb_walk.specs.Rules.{Rules}
-use Rattle.krb_walk.specs.Events.{State}
+use Rattle.krb_walk.specs.Events.{SessionState}
 use Rattle.krb_walk.specs.History.{IsReady, IsRun, history, replies, state_after, given}
 use Rattle.krb_walk.specs.Track.{PlacesStay, track_of}
 use Rattle.krb_walk.specs.Due.{due_over, due_by_steps}
@@ -12,7 +12,7 @@ use Rattle.krb_walk.specs.Fair.{IsFair}
 use Rattle.krb_walk.specs.Damage.{RefusesChanges}
 
 -- a run of events: the replies and the state are those of the history, and every walk is given what is due to it
-pub record Ran {S I : Type 0} (r : Rules S I) (old new : State S) (events : List (Event I)) (told_old told_new : List Said) : Type 0 where
+pub record Ran {S I : Type 0} (r : Rules S I) (old new : SessionState S) (events : List (Event I)) (told_old told_new : List Said) : Type 0 where
   pub replies_are : told_new ≡ told_old ++ replies (history r old events)
   pub state : new ≡ state_after r old events
   pub run : IsRun r old events
@@ -23,7 +23,7 @@ pub record Ran {S I : Type 0} (r : Rules S I) (old new : State S) (events : List
   pub damaged_refuses : (kind : FaultKind) → (r.seen old.store).fault ≡ Some kind → RefusesChanges r old events
 
 -- a run that ran out of memory: it is a run of the events before one of them
-pub record RanSome {S I : Type 0} (r : Rules S I) (old new : State S) (events : List (Event I)) (told_old told_new : List Said) : Type 0 where
+pub record RanSome {S I : Type 0} (r : Rules S I) (old new : SessionState S) (events : List (Event I)) (told_old told_new : List Said) : Type 0 where
   pub done : ℕ
   pub fewer : done < length events
   pub ran : Ran r old new (take done events) told_old told_new

@@ -8,7 +8,7 @@ use Rattle.krb_walk.specs.Ranks.{live_places, rank, carry}
 use Rattle.krb_walk.specs.Changes.{Changes}
 use Rattle.krb_walk.specs.Said.{Said, Gave, Ended, Faulted, Placed, Gone, Rewritten, tells_step, is_rewritten}
 use Rattle.krb_walk.specs.Rules.{Rules}
-use Rattle.krb_walk.specs.Events.{State}
+use Rattle.krb_walk.specs.Events.{SessionState}
 use Rattle.krb_walk.specs.History.{Moment, history, steps_walk}
 
 -- the name of a record: the place where it was put, and its birth, the number of the event that put it, or 0
@@ -63,11 +63,11 @@ track_on n names c r w (m ∷ ms) =
     ∷ track_on (suc n) (names_after n m.reply (r.seen m.before.store) (r.seen m.after.store) names) c r w ms
 
 -- the track of a walk over a history that begins in a state
-abbrev pub track : {S I : Type 0} → Rules S I → State S → ℕ → List (Moment S I) → Track
+abbrev pub track : {S I : Type 0} → Rules S I → SessionState S → ℕ → List (Moment S I) → Track
 track r s w h = track_on 1 (first_names (r.seen s.store)) None r w h
 
 -- the track of a walk over events from a state
-abbrev pub track_of : {S I : Type 0} → Rules S I → State S → List (Event I) → ℕ → Track
+abbrev pub track_of : {S I : Type 0} → Rules S I → SessionState S → List (Event I) → ℕ → Track
 track_of r s events w = track r s w (history r s events)
 
 -- a cursor goes from at or before a place to after it

@@ -3,7 +3,7 @@
 ghost use Rattle.std.specs.Prelude.{◌≡◌, ◌<◌, [], ◌∷◌, length, slice_get, slice_set};
 ghost use Rattle.krb_walk.specs.declared.event.Event.TheVariants.{Step};
 ghost use Rattle.krb_walk.specs.Store.{IsPlace, end_of, next_live, stop_at};
-ghost use Rattle.krb_walk.specs.Events.{State, session_of, after, reply_to, stop_cursor, step_result};
+ghost use Rattle.krb_walk.specs.Events.{SessionState, session_of, after, reply_to, stop_cursor, step_result};
 ghost use Rattle.krb_walk.specs.History.{IsReady};
 ghost use Rattle.krb_walk.specs.Ran.{Ran};
 ghost use Rattle.krb_walk.specs.Kept.{place_after};
@@ -27,11 +27,11 @@ pub struct Session<P: Placed, A: Allocator + Copy> {
 
 impl<P: Placed, A: Allocator + Copy> Model for Session<P, A> {
     ghost use Rattle.std.specs.Prelude.{take};
-    ghost use Rattle.krb_walk.specs.Events.{State};
+    ghost use Rattle.krb_walk.specs.Events.{SessionState};
     ghost use Rattle.krb_walk.specs.Ran.{Ran};
     ghost use Rattle.krb_walk.specs.Kept.{IsKept};
 
-    ghost Value = { State P };
+    ghost Value = { SessionState P };
 
     ghost view = { λ s. record { store = s.store; cursors = take s.count s.cursors } };
 

@@ -2,7 +2,7 @@
 use Rattle.std.proofs.Common.{◌≡◌, ◌∙◌, ◌++◌, ℕ, List, [], ◌∷◌, None, refl, ap}
 use Rattle.krb_walk.specs.declared.event.Event.{Event}
 use Rattle.krb_walk.specs.declared.event.Event.TheVariants.{Start, Step, Put, Cut}
-use Rattle.krb_walk.specs.Events.{State}
+use Rattle.krb_walk.specs.Events.{SessionState}
 use Rattle.krb_walk.specs.History.{history, replies, state_after}
 use Rattle.krb_walk.specs.Said.{Said}
 use Rattle.krb_walk.specs.Ran.{Ran}
@@ -28,14 +28,14 @@ worked_events =
     ∷ []
 
 -- a session over an empty shelf, without walks
-abbrev pub empty : State Contents
+abbrev pub empty : SessionState Contents
 empty = record { store = record { slots = []; fault = None }; cursors = [] }
 
 -- the state after them
-pub worked_leaves : (old new : State Contents) (told_old told_new : List Said) → old ≡ empty → Ran shelf_rules old new worked_events told_old told_new → new ≡ worked_state
-worked_leaves old new told_old told_new start ran = ran.state ∙ ap (λ (s : State Contents). state_after shelf_rules s worked_events) start ∙ refl
+pub worked_leaves : (old new : SessionState Contents) (told_old told_new : List Said) → old ≡ empty → Ran shelf_rules old new worked_events told_old told_new → new ≡ worked_state
+worked_leaves old new told_old told_new start ran = ran.state ∙ ap (λ (s : SessionState Contents). state_after shelf_rules s worked_events) start ∙ refl
 
 -- their replies
-pub worked_tells : (old new : State Contents) (told_old told_new : List Said) → old ≡ empty → told_old ≡ [] → Ran shelf_rules old new worked_events told_old told_new → told_new ≡ worked_replies
+pub worked_tells : (old new : SessionState Contents) (told_old told_new : List Said) → old ≡ empty → told_old ≡ [] → Ran shelf_rules old new worked_events told_old told_new → told_new ≡ worked_replies
 worked_tells old new told_old told_new start none ran =
-    ran.replies_are ∙ ap (λ (told : List Said). told ++ replies (history shelf_rules old worked_events)) none ∙ ap (λ (s : State Contents). replies (history shelf_rules s worked_events)) start ∙ refl
+    ran.replies_are ∙ ap (λ (told : List Said). told ++ replies (history shelf_rules old worked_events)) none ∙ ap (λ (s : SessionState Contents). replies (history shelf_rules s worked_events)) start ∙ refl

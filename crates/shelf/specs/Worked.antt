@@ -2,7 +2,7 @@
 use Rattle.std.specs.Prelude.{List, [], ◌∷◌, Some, None}
 use Rattle.krb_walk.specs.declared.refusal.Code.TheVariants.{NotLive}
 use Rattle.krb_walk.specs.Said.{Said, Started, Gave, Ended, Placed, Gone, Refused}
-use Rattle.krb_walk.specs.Events.{State}
+use Rattle.krb_walk.specs.Events.{SessionState}
 use Rattle.shelf.specs.Shelf.{Contents}
 
 -- three additions, a walk that is given the first, a removal ahead of it twice, an addition into the hole, and the walk's other steps
@@ -24,7 +24,7 @@ worked_replies =
     ∷ []
 
 -- what is left: four full slots, and a walk at their end
-abbrev pub worked_state : State Contents
+abbrev pub worked_state : SessionState Contents
 worked_state = record {
   store = record {
     slots = Some (1 ∷ 2 ∷ 3 ∷ 4 ∷ []) ∷ Some (5 ∷ 6 ∷ 7 ∷ 8 ∷ []) ∷ Some (13 ∷ 14 ∷ 15 ∷ 16 ∷ []) ∷ Some (17 ∷ 18 ∷ 19 ∷ 20 ∷ []) ∷ [];

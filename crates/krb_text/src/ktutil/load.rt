@@ -1,7 +1,7 @@
 //! Keytabs from files, and to files.
 
 ghost use Rattle.std.specs.Prelude.{◌≡◌};
-ghost use Rattle.krb_keytab.specs.Store.{opening};
+ghost use Rattle.krb_keytab.specs.Store.{open_result};
 ghost use Rattle.krb_text.specs.KtutilCommand.{result_map};
 ghost use Rattle.krb_text.specs.Ktutil.{load_end, opened, without_file, most_bytes};
 ghost use Rattle.krb_text.specs.KtutilFiles.{GivesKeytab, GivesKeytabOrNew, GivesOrRunsOut, SavesKeytab};
@@ -25,7 +25,7 @@ fn load_end(fault: LoadFault) -> LineEnd
 }
 
 fn opened<A: Allocator>(order: Order, image: Vec<u8, A>) -> Result<Keytab<A>, LineEnd>
-    ensures { result_map (λ k. k.state) result ≡ opened (opening order most_bytes image.items) }
+    ensures { result_map (λ k. k.state) result ≡ opened (open_result order most_bytes image.items) }
 {
     match Keytab::open(image, order, Limits::usual()) {
         Ok(keytab) => Ok(keytab),

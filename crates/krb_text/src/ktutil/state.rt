@@ -3,7 +3,7 @@
 ghost use Rattle.std.specs.Prelude.{Some, IsSome, IfSome, ◌≡◌, [], None, is_some, length};
 ghost use Rattle.krb_text.specs.KtutilWords.{words};
 ghost use Rattle.krb_text.specs.KtutilCommand.{ReadFile, WriteFile, ClearList, Quit, alone, listing, addition, deletion, command_by, command_of};
-ghost use Rattle.krb_text.specs.Ktutil.{State, with_entries, written_to, with_key, command_plan, plan_of};
+ghost use Rattle.krb_text.specs.Ktutil.{KtutilState, with_entries, written_to, with_key, command_plan, plan_of};
 ghost use Rattle.krb_text.specs.KtutilFiles.{Ended, EndsAt, Finishes, GoesOn, Handles, HandlesQuietly};
 
 use crate::files::Files;
@@ -34,7 +34,7 @@ pub struct Ktutil<A: Allocator> {
 }
 
 impl<A: Allocator> Model for Ktutil<A> {
-    ghost Value = { State };
+    ghost Value = { KtutilState };
 
     ghost view = { λ k. record {
       order = k.v1_order;
@@ -175,7 +175,7 @@ fn write_to<A: Allocator, B: Allocator, F: Files>(
     name: &str,
     keytab: Keytab<B>,
 ) -> LineEnd
-    ensures { (s : State) → s.entries ≡ entries.now →
+    ensures { (s : KtutilState) → s.entries ≡ entries.now →
         GoesOn F.Files (written_to s name.now (Ok keytab.state)) files.old files.new s s result }
 {
     let mut keytab = keytab;
@@ -234,7 +234,7 @@ impl<A: Allocator + Copy> Ktutil<A> {
 
 // Ends the lines.
 fn quit(rest: &[u8]) -> LineEnd
-    ensures { (s : State) → Ended (command_plan s (alone Quit (words rest.now))) s result }
+    ensures { (s : KtutilState) → Ended (command_plan s (alone Quit (words rest.now))) s result }
 {
     if is_bare(rest) {
         LineEnd::Quit

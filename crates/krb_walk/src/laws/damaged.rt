@@ -3,7 +3,7 @@
 ghost use Rattle.std.specs.Prelude.{◌≡◌, ℕ, List, Some};
 ghost use Rattle.krb_walk.specs.declared.event.Event.{Event};
 ghost use Rattle.krb_walk.specs.declared.fault.FaultKind.{FaultKind};
-ghost use Rattle.krb_walk.specs.Events.{State};
+ghost use Rattle.krb_walk.specs.Events.{SessionState};
 ghost use Rattle.krb_walk.specs.History.{IsRun};
 ghost use Rattle.krb_walk.specs.Damage.{RefusesChanges};
 
@@ -11,6 +11,6 @@ use crate::placed::Placed;
 
 /// A store with a fault refuses all additions, removals and rewrites, and stays as it is.
 pub fn damaged_stores_refuse_changes<P: Placed>()
-    ensures { (s : State P.State) (events : List (Event P.Item)) (kind : FaultKind) → IsRun P.rules s events
+    ensures { (s : SessionState P.State) (events : List (Event P.Item)) (kind : FaultKind) → IsRun P.rules s events
         → (P.rules.seen s.store).fault ≡ Some kind → RefusesChanges P.rules s events }
 {}

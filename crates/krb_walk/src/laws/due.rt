@@ -3,7 +3,7 @@
 ghost use Rattle.std.specs.Prelude.{◌≡◌, ℕ, List, slice_get, Option};
 ghost use Rattle.krb_walk.specs.declared.event.Event.{Event};
 ghost use Rattle.krb_walk.specs.Store.{Store};
-ghost use Rattle.krb_walk.specs.Events.{State};
+ghost use Rattle.krb_walk.specs.Events.{SessionState};
 ghost use Rattle.krb_walk.specs.History.{IsRun, history, last_store, given};
 ghost use Rattle.krb_walk.specs.Track.{Track, PlacesStay, track_of, IsWalk};
 ghost use Rattle.krb_walk.specs.Due.{given_over, due_over, due_by_steps};
@@ -13,26 +13,26 @@ use crate::placed::Placed;
 
 /// What a walk is given is due to it, step by step: each step gives the live cells that its cursor goes past.
 pub fn given_is_due<P: Placed>()
-    ensures { (s : State P.State) (events : List (Event P.Item)) (w : ℕ) → IsRun P.rules s events
+    ensures { (s : SessionState P.State) (events : List (Event P.Item)) (w : ℕ) → IsRun P.rules s events
         → given w (history P.rules s events) ≡ due_by_steps (track_of P.rules s events w) }
 {}
 
 /// Where no event rewrites the store: for each place of the last store, in order, the record that stood there
 /// just before the event at which the walk passed it.
 pub fn given_is_due_at_places<P: Placed>()
-    ensures { (s : State P.State) (events : List (Event P.Item)) (w : ℕ) → IsRun P.rules s events → PlacesStay (track_of P.rules s events w)
+    ensures { (s : SessionState P.State) (events : List (Event P.Item)) (w : ℕ) → IsRun P.rules s events → PlacesStay (track_of P.rules s events w)
         → given w (history P.rules s events) ≡ due_over (track_of P.rules s events w) (last_store P.rules s events) }
 {}
 
 /// The rows along a walk's track are those that the replies give.
 pub fn tracks_tell_the_replies<P: Placed>()
-    ensures { (s : State P.State) (events : List (Event P.Item)) (w : ℕ)
+    ensures { (s : SessionState P.State) (events : List (Event P.Item)) (w : ℕ)
         → given_over (track_of P.rules s events w) ≡ given w (history P.rules s events) }
 {}
 
 /// The track of a walk over a run is that of one walk.
 pub fn runs_are_walks<P: Placed>()
-    ensures { (s : State P.State) (events : List (Event P.Item)) (w : ℕ) → IsRun P.rules s events
+    ensures { (s : SessionState P.State) (events : List (Event P.Item)) (w : ℕ) → IsRun P.rules s events
         → IsWalk (P.rules.seen s.store) (slice_get s.cursors w) (track_of P.rules s events w) (last_store P.rules s events) }
 {}
 

@@ -3,7 +3,7 @@
 ghost use Rattle.std.specs.Prelude.{◌≡◌, ℕ, suc, ◌++◌, List, Option, length};
 ghost use Rattle.krb_walk.specs.declared.event.Event.{Event};
 ghost use Rattle.krb_walk.specs.Store.{Store};
-ghost use Rattle.krb_walk.specs.Events.{State};
+ghost use Rattle.krb_walk.specs.Events.{SessionState};
 ghost use Rattle.krb_walk.specs.History.{history, last_store, given, given_from};
 ghost use Rattle.krb_walk.specs.Track.{Track, IsWalk};
 ghost use Rattle.krb_walk.specs.Due.{due_by_steps};
@@ -15,7 +15,7 @@ use crate::placed::Placed;
 /// The track of a walk goes on over the next run, where the walk stands already or is resumed, and is again
 /// that of one walk. So any number of runs join.
 pub fn walks_go_on<Q: Placed>()
-    ensures { (first : Store) (start : Option ℕ) (t : Track) (last : Store) (z : State Q.State) (events : List (Event Q.Item)) (v c : ℕ)
+    ensures { (first : Store) (start : Option ℕ) (t : Track) (last : Store) (z : SessionState Q.State) (events : List (Event Q.Item)) (v c : ℕ)
         → IsWalk first start t last → Next first start t last Q.rules z events v c
         → IsWalk first start (track_then first t Q.rules v c (history Q.rules z events)) (last_store Q.rules z events) }
 {}
@@ -23,7 +23,7 @@ pub fn walks_go_on<Q: Placed>()
 /// The rows of a walk in one run, and then those of the walk that goes on in the next, are what is due to
 /// one walk over both.
 pub fn joined_runs_give_what_is_due<P: Placed, Q: Placed>()
-    ensures { (s : State P.State) (events : List (Event P.Item)) (w : ℕ) (z : State Q.State) (next : List (Event Q.Item)) (v c : ℕ)
+    ensures { (s : SessionState P.State) (events : List (Event P.Item)) (w : ℕ) (z : SessionState Q.State) (next : List (Event Q.Item)) (v c : ℕ)
         → Join P.rules s events w Q.rules z next v c
         → given w (history P.rules s events) ++ given_from (suc (length (history P.rules s events))) v (history Q.rules z next)
         ≡ due_by_steps (joined P.rules s events w Q.rules z next v c) }
@@ -31,7 +31,7 @@ pub fn joined_runs_give_what_is_due<P: Placed, Q: Placed>()
 
 /// All that holds of one walk holds of it over both.
 pub fn joined_runs_are_fair<P: Placed, Q: Placed>()
-    ensures { (s : State P.State) (events : List (Event P.Item)) (w : ℕ) (z : State Q.State) (next : List (Event Q.Item)) (v c : ℕ)
+    ensures { (s : SessionState P.State) (events : List (Event P.Item)) (w : ℕ) (z : SessionState Q.State) (next : List (Event Q.Item)) (v c : ℕ)
         → Join P.rules s events w Q.rules z next v c
         → IsFair (joined P.rules s events w Q.rules z next v c) (last_store Q.rules z next) }
 {}

@@ -3,7 +3,7 @@
 ghost use Rattle.std.specs.Prelude.{◌≡◌, ◌↔◌, ◌≤◌, ℕ, List, Option, Some};
 ghost use Rattle.krb_walk.specs.declared.event.Event.{Event};
 ghost use Rattle.krb_walk.specs.Store.{Store, IsSound};
-ghost use Rattle.krb_walk.specs.Events.{State};
+ghost use Rattle.krb_walk.specs.Events.{SessionState};
 ghost use Rattle.krb_walk.specs.History.{IsRun, history, given};
 ghost use Rattle.krb_walk.specs.Due.{due_by_steps};
 ghost use Rattle.krb_walk.specs.Ranks.{live_places, rank, carry, Rewrites};

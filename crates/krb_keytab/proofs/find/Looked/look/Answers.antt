@@ -1,22 +1,22 @@
 use Rattle.std.proofs.Common.{true, false, sym}
 use Rattle.std.specs.Prelude.{filter}
-use Rattle.krb_keytab.specs.LookUp.{Placed, is_asked}
+use Rattle.krb_keytab.specs.Find.{PlacedEntry, is_asked}
 use Rattle.krb_keytab.proofs.LookUpLemmas.{not_asked, asked, asked_by_enctype}
 use Rattle.krb_keytab.proofs.find.Looked.look.Goals as goal
 
 pub returns-then-not-has_enctype : goal.returns-then-not-has_enctype
 returns-then-not-has_enctype c = λ n xs same so_far.
-    let x : Placed = (c.args.place, c.args.entry) in
+    let x : PlacedEntry = (c.args.place, c.args.entry) in
     not_asked n c.args.kvno c.args.enctype xs x c.args.self.now.named c.args.self.now.best (asked_by_enctype n c.args.enctype x false same c.if-not-has_enctype.ensures) so_far
 
 pub returns-then-is_better : goal.returns-then-is_better
 returns-then-is_better c = λ n xs same so_far.
-    let x : Placed = (c.args.place, c.args.entry) in
+    let x : PlacedEntry = (c.args.place, c.args.entry) in
     let next = c.if-is_better.ensures c.args.self.now.named (filter (is_asked n c.args.enctype) xs) x (sym c.kvno.ensures) so_far in
     asked n c.args.kvno c.args.enctype xs x true c.args.self.now.best (asked_by_enctype n c.args.enctype x true same c.if-not-has_enctype.ensures) next
 
 pub returns-else-is_better : goal.returns-else-is_better
 returns-else-is_better c = λ n xs same so_far.
-    let x : Placed = (c.args.place, c.args.entry) in
+    let x : PlacedEntry = (c.args.place, c.args.entry) in
     let next = c.if-is_better.ensures c.args.self.now.named (filter (is_asked n c.args.enctype) xs) x (sym c.kvno.ensures) so_far in
     asked n c.args.kvno c.args.enctype xs x false c.args.self.now.best (asked_by_enctype n c.args.enctype x true same c.if-not-has_enctype.ensures) next

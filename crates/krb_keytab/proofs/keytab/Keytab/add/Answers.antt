@@ -2,7 +2,7 @@ use Rattle.std.proofs.Common.{◌≡◌, ℕ, List, None, Some, Ok, true, false,
 use Rattle.std.specs.Prelude.{is_some}
 use Rattle.krb_walk.specs.Store.{fault_of}
 use Rattle.krb_keytab.specs.Form.{FormParts, fits, written, IsEntry}
-use Rattle.krb_keytab.specs.Store.{State, store_of}
+use Rattle.krb_keytab.specs.Store.{KeytabState, store_of}
 use Rattle.krb_keytab.specs.Changes.{with_record_in}
 use Rattle.krb_keytab.specs.Hole.{hole_from}
 use Rattle.krb_keytab.specs.Append.{AnswersAppend, KeepsRoom}
@@ -47,7 +47,7 @@ returns g c =
     let hole : hole_from 2 (length (written k.format e)) k.contents.cells ≡ Some h =
     ap (λ (n : ℕ). hole_from 2 n k.contents.cells) (sym (c.len.ensures.len ∙ ap (λ (b : List ℕ). length b) bytes)) ∙ sym c.in-Some-hole.ensures.first in
     let is = subst IsEntry c.fields-fields.ensures c.numbers_fit.ensures in
-    let gives = put_in_hole k e h whole fit hole ∙ ap (λ (b : List ℕ). Ok (h.place, with_record_in k b h.place)) (sym bytes) ∙ ap (λ (y : State). Ok (h.place, y)) (sym c.fill.ensures.filled) in
+    let gives = put_in_hole k e h whole fit hole ∙ ap (λ (b : List ℕ). Ok (h.place, with_record_in k b h.place)) (sym bytes) ∙ ap (λ (y : KeytabState). Ok (h.place, y)) (sym c.fill.ensures.filled) in
     record {
       gives = gives;
       memory = λ takes. tt;

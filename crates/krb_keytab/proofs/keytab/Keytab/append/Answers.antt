@@ -2,7 +2,7 @@ use Rattle.std.proofs.Common.{◌≡◌, ℕ, List, [], ◌∷◌, ◌++◌, len
 use Rattle.krb_wire.specs.declared.format.KtFormat.{KtFormat}
 use Rattle.krb_keytab.specs.Cells.{Live, contents}
 use Rattle.krb_keytab.specs.Changes.{end_after}
-use Rattle.krb_keytab.specs.Store.{State, InMemory}
+use Rattle.krb_keytab.specs.Store.{KeytabState, InMemory}
 use Rattle.krb_keytab.proofs.Stores.{state_is, held}
 use Rattle.krb_keytab.proofs.Additions.{appends, append_full, append_fits, append_ok, append_longer, append_no_longer}
 use Rattle.krb_keytab.proofs.keytab.Keytab.append.Goals as goal
@@ -21,7 +21,7 @@ returns-in-Ok-clause-appended g c =
     let x = c.args.form.now.bytes in
     let k = c.args.self.now.state in
     let a = appends i.format i.limit i.image.items x k i.end c.len_with.result c.len.result c.self.invariant.1 (state_is c.self.view_is) c.requires.whole c.len_with.ensures c.len.ensures.len in
-    let same : c.args.form.now.format ≡ i.format = c.requires.format ∙ sym (ap (λ (y : State). y.format) (state_is c.self.view_is)) in
+    let same : c.args.form.now.format ≡ i.format = c.requires.format ∙ sym (ap (λ (y : KeytabState). y.format) (state_is c.self.view_is)) in
     let put = subst (λ (f : KtFormat). contents f (drop 2 c.append_record.new.image.items) ≡ record { cells = (contents f (drop 2 i.image.items)).cells ++ Live x ∷ []; end = end_after (contents f (drop 2 i.image.items)).end }) same c.in-Ok.ensures.changed.contents in
     append_ok i.format i.limit i.image.items c.append_record.new.image.items x k i.end c.len_with.result a c.if-len_with-self.false put
 

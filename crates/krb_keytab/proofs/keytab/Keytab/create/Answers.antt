@@ -1,12 +1,12 @@
 use Rattle.std.proofs.Common.{◌≡◌, ℕ, List, [], ◌∷◌, drop, refl}
 use Rattle.krb_wire.specs.declared.format.KtFormat.{KtFormat}
 use Rattle.krb_keytab.specs.Cells.{contents}
-use Rattle.krb_keytab.specs.Store.{State, empty}
+use Rattle.krb_keytab.specs.Store.{KeytabState, empty}
 use Rattle.krb_keytab.proofs.Turned.{contents_none}
 use Rattle.krb_keytab.proofs.keytab.Keytab.create.Goals as goal
 
 holds_nothing : (f : KtFormat) (limit most version : ℕ) (bytes : List ℕ) → limit ≡ most → bytes ≡ 5 ∷ version ∷ []
-    → ◌≡◌ {A = State} (record { format = f; limit = limit; contents = contents f (drop 2 bytes) }) (empty f most)
+    → ◌≡◌ {A = KeytabState} (record { format = f; limit = limit; contents = contents f (drop 2 bytes) }) (empty f most)
 holds_nothing f limit most version bytes is_limit is_bytes = rw (is_limit, is_bytes, contents_none f) refl
 
 pub returns : goal.returns

@@ -4,7 +4,7 @@ use Rattle.krb_keytab.specs.Cells.{contents}
 use Rattle.krb_wire.specs.declared.format.KtFormat.TheVariants.{V2}
 use Rattle.krb_walk.specs.Store.{fault_of}
 use Rattle.krb_walk.specs.Ranks.{Rewrites}
-use Rattle.krb_keytab.specs.Store.{State, store_of, entries}
+use Rattle.krb_keytab.specs.Store.{KeytabState, store_of, entries}
 use Rattle.krb_keytab.proofs.Stores.{state_is, held, known_held}
 use Rattle.krb_keytab.proofs.CarryLemmas.{all_places, all_carried}
 use Rattle.krb_keytab.proofs.Rewrites.{held_anew, rewriting_done, rewrites_store, is_image, whole_kind}
@@ -27,17 +27,17 @@ returns-clause-gives g c =
     let i = c.self.inside in
     let k = c.args.self.now.state in
     let whole : is_some (fault_of (store_of k)) ≡ false = let a = c.fault.ensures in let b = c.is_some.ensures in let d = c.if-is_some.false in cc in
-    let limit : k.limit ≡ i.limit = ap (λ (s : State). s.limit) (sym (state_is c.self.view_is)) in
+    let limit : k.limit ≡ i.limit = ap (λ (s : KeytabState). s.limit) (sym (state_is c.self.view_is)) in
     let within : c.in-Some.len ≤ i.limit = c.in-Some.ensures.within in
     rewriting_done k c.in-Some.len whole c.in-Some.ensures.len (omega (arith, limit, within))
-    ∙ ap (λ (s : State). Ok s) (sym (held_anew i.format i.limit i.image.items c.in-Ok.image.items k (state_is c.self.view_is) c.in-Ok.ensures.contents))
+    ∙ ap (λ (s : KeytabState). Ok s) (sym (held_anew i.format i.limit i.image.items c.in-Ok.image.items k (state_is c.self.view_is) c.in-Ok.ensures.contents))
 
 pub returns-clause-rewrites : goal.returns-clause-rewrites
 returns-clause-rewrites g c =
     let i = c.self.inside in
     let k = c.args.self.now.state in
     let whole : is_some (fault_of (store_of k)) ≡ false = let a = c.fault.ensures in let b = c.is_some.ensures in let d = c.if-is_some.false in cc in
-    subst (λ (s : State). Rewrites (store_of k) (store_of s)) (sym (held_anew i.format i.limit i.image.items c.in-Ok.image.items k (state_is c.self.view_is) c.in-Ok.ensures.contents))
+    subst (λ (s : KeytabState). Rewrites (store_of k) (store_of s)) (sym (held_anew i.format i.limit i.image.items c.in-Ok.image.items k (state_is c.self.view_is) c.in-Ok.ensures.contents))
     (rewrites_store k c.anew_is_sound.ensures.was c.anew_is_sound.ensures.sound (whole_kind k whole))
 
 pub returns-clause-entries : goal.returns-clause-entries

@@ -3,21 +3,21 @@ use Rattle.std.proofs.lemmas.List.{take_more, map-append}
 use Rattle.krb_walk.specs.declared.event.Event.{Event}
 use Rattle.krb_walk.specs.Said.{Said, said}
 use Rattle.krb_walk.specs.History.{IsReady}
-use Rattle.krb_walk.specs.Events.{State, session_of, reply_to}
+use Rattle.krb_walk.specs.Events.{SessionState, session_of, reply_to}
 use Rattle.krb_walk.specs.Ran.{Ran}
 use Rattle.krb_walk.proofs.Runs.{ran_none, ran_more}
 use Rattle.krb_walk.proofs.session.Session.run.Goals as goal
 
 pub loop-event-init : goal.loop-event-init
 loop-event-init g c =
-    let now = λ (s : State g.row.P.Denot). session_of g.P.Placed.state_of s in
-    let ready : IsReady g.P.Placed.rules (now c.args.self.now) = subst (λ (s : State g.row.P.Denot). IsReady g.P.Placed.rules (now s)) c.self.view_is c.self.invariant.ready in
+    let now = λ (s : SessionState g.row.P.Denot). session_of g.P.Placed.state_of s in
+    let ready : IsReady g.P.Placed.rules (now c.args.self.now) = subst (λ (s : SessionState g.row.P.Denot). IsReady g.P.Placed.rules (now s)) c.self.view_is c.self.invariant.ready in
     record { ran = ran_none g.P.Placed.rules (now c.args.self.now) _ ready; ready = ready }
 
 pub loop-event-preserved : goal.loop-event-preserved
 loop-event-preserved g c =
     let r = g.P.Placed.rules in
-    let now = λ (s : State g.row.P.Denot). session_of g.P.Placed.state_of s in
+    let now = λ (s : SessionState g.row.P.Denot). session_of g.P.Placed.state_of s in
     let e = c.event-item.result in
     let more : take (c.loop-event.event-index + 1) c.args.events.now ≡ take c.loop-event.event-index c.args.events.now ++ e ∷ [] = take_more c.args.events.now c.loop-event.event-index e c.loop-event-test.true ∙ ap (λ (x : Event g.row.P-Item.Denot). take c.loop-event.event-index c.args.events.now ++ x ∷ []) (sym c.event-item.is) in
     let told : map said c.push_reserved.new.self.items ≡ map said c.loop-event.replies.items ++ reply_to r (now c.loop-event.self) e ∷ [] =

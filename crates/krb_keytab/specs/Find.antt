@@ -7,47 +7,47 @@ use Rattle.krb_walk.specs.declared.refusal.Code.{Code}
 use Rattle.krb_walk.specs.declared.refusal.Code.TheVariants.{Damaged, NotFound, KvnoNotFound}
 use Rattle.krb_walk.specs.Store.{Record, records, fault_of}
 use Rattle.krb_keytab.specs.Entry.{EntryParts, entry_at}
-use Rattle.krb_keytab.specs.Store.{State, store_of}
+use Rattle.krb_keytab.specs.Store.{KeytabState, store_of}
 
 -- the place of a record, and its entry
-abbrev pub Placed : Type 0
-Placed = ℕ × EntryParts
+abbrev pub PlacedEntry : Type 0
+PlacedEntry = ℕ × EntryParts
 
 -- the entry of a record
-abbrev pub placed_entry : State → Record → Option Placed
+abbrev pub placed_entry : KeytabState → Record → Option PlacedEntry
 placed_entry k r = option_map (λ e. (r.place, e)) (entry_at k.format r.bytes)
 
 -- the entries with their places, in file order
-abbrev pub placed_entries : State → List Placed
+abbrev pub placed_entries : KeytabState → List PlacedEntry
 placed_entries k = filter_map (placed_entry k) (records (store_of k))
 
 -- the entry has the name, and the enctype unless that is 0
-abbrev pub is_asked : Parts → ℕ → Placed → Bool
+abbrev pub is_asked : Parts → ℕ → PlacedEntry → Bool
 is_asked name enctype x = (enctype == 0 || x.1.enctype == enctype) && have_same_name name x.1.principal
 
 -- the greatest version
-abbrev pub greatest : List Placed → ℕ
+abbrev pub greatest : List PlacedEntry → ℕ
 greatest [] = 0
 greatest (x ∷ xs) = max x.1.version (greatest xs)
 
 -- the version that is looked for among the entries: 0 asks for their greatest
-abbrev pub version_asked : ℕ → List Placed → ℕ
+abbrev pub version_asked : ℕ → List PlacedEntry → ℕ
 version_asked kvno xs = if kvno == 0 then greatest xs else kvno
 
 -- the first of the entries, if there is one
-abbrev pub found : Option Placed → Result Placed Code
+abbrev pub found : Option PlacedEntry → Result PlacedEntry Code
 found None = Err KvnoNotFound
 found (Some x) = Ok x
 
 -- look-up among the entries that are asked for: the first with the version
-abbrev pub look_up_in : ℕ → List Placed → Result Placed Code
+abbrev pub look_up_in : ℕ → List PlacedEntry → Result PlacedEntry Code
 look_up_in kvno [] = Err NotFound
 look_up_in kvno (x ∷ xs) = found (find (λ y. y.1.version == version_asked kvno (x ∷ xs)) (x ∷ xs))
 
 -- look-up: of the entries with the name and the enctype, the first in file order with the version
-abbrev pub look_up : State → Parts → ℕ → ℕ → Result Placed Code
+abbrev pub look_up : KeytabState → Parts → ℕ → ℕ → Result PlacedEntry Code
 look_up k name kvno enctype = look_up_in kvno (filter (is_asked name enctype) (placed_entries k))
 
 -- what a look-up answers: a damaged keytab refuses it
-abbrev pub finding : State → Parts → ℕ → ℕ → Result Placed Code
-finding k name kvno enctype = if is_some (fault_of (store_of k)) then Err Damaged else look_up k name kvno enctype
+abbrev pub find_result : KeytabState → Parts → ℕ → ℕ → Result PlacedEntry Code
+find_result k name kvno enctype = if is_some (fault_of (store_of k)) then Err Damaged else look_up k name kvno enctype
