@@ -2,11 +2,14 @@
 
 ghost use Rattle.std.specs.Prelude.{◌≡◌, ◌≤◌, ◌<◌, ◌^◌, ◌+◌, length, is_some, IsTrue, IfSome};
 ghost use Rattle.std.specs.List.{splice};
+ghost use Rattle.krb_wire.specs.declared.format.KtFormat.TheVariants.{V2};
 ghost use Rattle.krb_keytab.specs.Form.{fits, written, FormParts, IsRecord};
 
+use crate::entry::EntryView;
 use crate::fields::Fields;
 use krb_wire::{
-    KtFormat, Name, kt_principal_len, put_data16, put_kt_principal, put_u8, put_u16, put_u32,
+    KtFormat, Name, PrincipalView, kt_principal_len, put_data16, put_kt_principal, put_u8, put_u16,
+    put_u32,
 };
 use std::marker::Model;
 
@@ -99,5 +102,21 @@ impl<'a, N: Name> Form<'a, N> {
         ensures written { out.new ≡ splice out.old at result self.now.bytes }
     {
         put_entry(self.format, &self.entry, out, at)
+    }
+}
+
+impl<'a> Form<'a, PrincipalView<'a>> {
+    /// The written form in version 2 of an entry that was read: all of them fit.
+    pub fn anew(entry: &'a EntryView<'a>) -> Form<'a, PrincipalView<'a>>
+        ensures { result ≡ record { format = V2; bytes = written V2 entry.now } }
+    {
+        let entry = entry.fields();
+        entry.numbers_fit();
+        let len = entry_len(KtFormat::V2, &entry).unwrap_or(0) as usize;
+        Form {
+            format: KtFormat::V2,
+            entry,
+            len,
+        }
     }
 }

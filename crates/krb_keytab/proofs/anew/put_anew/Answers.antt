@@ -19,4 +19,4 @@ just_fits old new x form at size is len put =
 
 pub returns-clause-written : goal.returns-clause-written
 returns-clause-written c =
-    just_fits c.args.out.now c.put_record.new.image (written V2 c.args.entry.now) c.form_anew-form.result c.args.at c.len-size.result c.form_anew-form.ensures c.len-size.ensures.len c.put_record.ensures
+    just_fits c.args.out.now c.put_record.new.image (written V2 c.args.entry.now) c.anew-form.result c.args.at c.len-size.result c.anew-form.ensures c.len-size.ensures.len c.put_record.ensures
