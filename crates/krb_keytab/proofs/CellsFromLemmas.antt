@@ -12,7 +12,7 @@ use Rattle.krb_wire.specs.Reading.{number_at}
 use Rattle.krb_wire.proofs.Fields.{IsBytes, IsBytes-drop}
 use Rattle.krb_keytab.specs.declared.image.CellsEnd.{CellsEnd}
 use Rattle.krb_keytab.specs.declared.step.Step.TheVariants as step
-use Rattle.krb_keytab.specs.Cells.{Cell, Live, Free, End, Contents, contents, IsCell}
+use Rattle.krb_keytab.specs.Cells.{Cell, Live, Free, End, Contents, bytes_of, contents, IsCell}
 use Rattle.krb_keytab.specs.Questions.{size, end_place, is_place, live_bytes, live_at, stop_from}
 use Rattle.krb_keytab.specs.CellsFrom.{CellsFrom, AreKnown, IsSuffix, BeginsWith}
 use Rattle.krb_keytab.proofs.CellLemmas.{contents_spelled}
@@ -67,6 +67,10 @@ taken_free f image t rest at field n e o fits known ne is_o is_t read big is_n =
       end = ap (λ (k : Contents). k.end) s.value;
       known = record { within = within; small = known.small; ends = known_after_free f image at n e known.ends s.value s.within.2 };
     }
+
+-- the order of the cells' format, where a format is known to be theirs
+pub order_is : (f g : KtFormat) (image : List ℕ) (at : ℕ) (o : Order) (old : CellsFrom) → record { format = f; place = at; contents = contents f (drop at image) } ≡ old → g ≡ old.format → o ≡ order_of g → o ≡ order_of f
+order_is f g image at o old is same order = order ∙ ap order_of (same ∙ sym (ap (λ (x : CellsFrom). x.format) is))
 
 -- that cell is the first, and those after it are given next
 pub begins : (f : KtFormat) (image rest : List ℕ) (at n : ℕ) (e : CellsEnd) (c d : Cell) (old new : CellsFrom) → Taken f image rest at n e c → c ≡ d
@@ -132,8 +136,12 @@ end_suffix old new s =
     ap (λ (n : ℕ). end_place n new.contents.cells) s.place ∙ sym (end_place-append old.place s.before new.contents.cells) ∙ ap (end_place old.place) (sym s.parts)
 
 -- where one is live at a place, it is the first from there on
-pub live_given : (old mid new : CellsFrom) (p at : ℕ) (c : Cell) → IsSuffix old mid → mid.place ≡ p → BeginsWith mid at c new → live_bytes c ≡ live_at old.place old.contents.cells p
-live_given old mid new p at c s is b = sym (live_first mid new p at c b is) ∙ live_suffix old mid p s is
+live_is : (c : Cell) (o : Option (List ℕ)) → live_bytes c ≡ o → IsSome o → Some (bytes_of c) ≡ o
+live_is (Live b) o is some = is
+live_is (Free b) o is some = absurd (let h = subst (λ (x : Option (List ℕ)). IsSome x) (sym is) some in cc)
+
+pub live_given : (old mid new : CellsFrom) (p at : ℕ) (c : Cell) → IsSuffix old mid → mid.place ≡ p → BeginsWith mid at c new → IsSome (live_at old.place old.contents.cells p) → Some (bytes_of c) ≡ live_at old.place old.contents.cells p
+live_given old mid new p at c s is b some = live_is c _ (sym (live_first mid new p at c b is) ∙ live_suffix old mid p s is) some
 
 pub some_given : (old mid : CellsFrom) (p : ℕ) → IsSuffix old mid → mid.place ≡ p → IsSome (live_at old.place old.contents.cells p) → mid.contents.cells ≡ [] → ⊥
 some_given old mid p s is some none =

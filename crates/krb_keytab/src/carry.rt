@@ -58,10 +58,10 @@ fn place_given(image: &[u8], end: usize, last: u32, place: u32) -> u32
     if place as usize == end {
         return last;
     }
-    let Some((given, _)) = split_u32(Order::Big, tail(image, place as usize)) else {
-        unreachable!()
-    };
-    given
+    match split_u32(Order::Big, tail(image, place as usize)) {
+        Some((given, _)) => given,
+        None => last,
+    }
 }
 
 // Carries cursors to the places that they were given.

@@ -2,6 +2,7 @@
 
 ghost use Rattle.std.specs.Prelude.{◌≡◌, ◌≤◌, ◌^◌, ◌+◌, true, IsSome, Some, option_copied, drop, length};
 ghost use Rattle.std.specs.Iterator.{item_count};
+ghost use Rattle.krb_keytab.specs.Cells.{bytes_of};
 ghost use Rattle.krb_keytab.specs.Questions.{size, end_place, is_place, stop_from, live_bytes, live_at, kind_of};
 ghost use Rattle.krb_keytab.specs.Step.{ending_kind};
 ghost use Rattle.krb_keytab.specs.CellsFrom.{CellsFrom, AreKnown, IsSuffix};
@@ -31,6 +32,16 @@ pub struct Cells<'a> {
 }
 
 impl<'a> CellView<'a> {
+    // Its bytes.
+    fn bytes(self) -> &'a [u8]
+        ensures { result.now ≡ bytes_of (cell_of self.entry) }
+    {
+        match self {
+            CellView::Live(bytes) => bytes,
+            CellView::Free(bytes) => bytes,
+        }
+    }
+
     // Its bytes, if it is live.
     fn live(self) -> Option<&'a [u8]>
         ensures { option_copied result ≡ live_bytes (cell_of self.entry) }
@@ -67,14 +78,23 @@ impl<'a> Iterator for Cells<'a> {
 
     #[inline(always)]
     fn next(&mut self) -> Option<(usize, CellView<'a>)> {
+        self.next_in(self.format)
+    }
+}
+
+impl<'a> Cells<'a> {
+    /// The next cell, for a format that is known where this is inlined.
+    #[inline(always)]
+    pub fn next_in(&mut self, format: KtFormat) -> Option<(usize, CellView<'a>)>
+        requires { format ≡ self.old.format }
+        ensures { GivesCell self.old result self.new }
+    {
         bytes_fit(self.image);
         let at = self.place;
         if at == self.end.place {
             return None;
         }
-        let Some((field, rest)) = split_u32(self.format.order(), tail(self.image, at)) else {
-            unreachable!()
-        };
+        let (field, rest) = split_u32(format.order(), tail(self.image, at))?;
         if field < 0x8000_0000 {
             let size = field as usize;
             self.place = at + 4 + size;
@@ -84,9 +104,7 @@ impl<'a> Iterator for Cells<'a> {
         self.place = at + 4 + size;
         Some((at, CellView::Free(rest.split_at(size).0)))
     }
-}
 
-impl<'a> Cells<'a> {
     /// The place of the first.
     pub fn place(&self) -> usize
         ensures place { result ≡ self.now.place }
@@ -167,13 +185,9 @@ impl<'a> Cells<'a> {
         requires { IsSome (live_at self.place self.contents.cells place) }
         ensures { Some result.now ≡ live_at self.entry.place self.entry.contents.cells place }
     {
-        let mut rest = self.from(place);
-        let Some((_, cell)) = rest.next() else {
-            unreachable!()
-        };
-        let Some(bytes) = cell.live() else {
-            unreachable!()
-        };
-        bytes
+        match self.from(place).next() {
+            Some((_, cell)) => cell.bytes(),
+            None => &[],
+        }
     }
 }
