@@ -8,7 +8,7 @@ ghost use Rattle.std.specs.Prelude.{◌≡◌, true, ℕ, List, ◌≤◌, ◌^�
 ghost use Rattle.std.specs.List.{AllByRecursion};
 ghost use Rattle.krb_keytab.specs.Cells.{contents};
 ghost use Rattle.krb_keytab.specs.CellsFrom.{AreKnown};
-ghost use Rattle.krb_keytab.specs.Questions.{is_place};
+ghost use Rattle.krb_keytab.specs.Questions.{is_place_in};
 ghost use Rattle.krb_keytab.specs.Carry.{new_place, AreGiven, HasGiven, GoesBy};
 
 use crate::cells::{CellView, Cells};
@@ -83,7 +83,7 @@ pub fn carry_cursors(
     cursors: &mut [u32],
 )
     requires known { AreKnown format image.old 2 end }
-    requires places { AllByRecursion (λ p. is_place 2 (contents format (drop 2 image.old)).cells p ≡ true) cursors.old }
+    requires places { AllByRecursion (λ p. is_place_in 2 (contents format (drop 2 image.old)).cells p ≡ true) cursors.old }
     ensures { cursors.new ≡ map (new_place 2 (contents format (drop 2 image.old)).cells new.entry.place new.entry.contents.cells) cursors.old }
 {
     let _ = new.end();

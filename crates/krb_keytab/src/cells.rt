@@ -2,8 +2,9 @@
 
 ghost use Rattle.std.specs.Prelude.{◌≡◌, ◌≤◌, ◌^◌, ◌+◌, true, IsSome, Some, option_copied, drop, length};
 ghost use Rattle.std.specs.Iterator.{item_count};
-ghost use Rattle.krb_keytab.specs.Cells.{bytes_of};
-ghost use Rattle.krb_keytab.specs.Questions.{size, end_place, is_place, stop_from, live_bytes, live_at, kind_of};
+ghost use Rattle.krb_keytab.specs.Cells.{bytes_of, size, kind_of};
+ghost use Rattle.krb_keytab.specs.Store.{store_cell};
+ghost use Rattle.krb_keytab.specs.Questions.{end_place, is_place_in, stop_in, live_bytes_in};
 ghost use Rattle.krb_keytab.specs.Step.{ending_kind};
 ghost use Rattle.krb_keytab.specs.CellsFrom.{CellsFrom, AreKnown, IsSuffix};
 ghost use Rattle.krb_keytab.specs.CellView.{cell_of, GivesCell};
@@ -44,7 +45,7 @@ impl<'a> CellView<'a> {
 
     // Its bytes, if it is live.
     fn live(self) -> Option<&'a [u8]>
-        ensures { option_copied result ≡ live_bytes (cell_of self.entry) }
+        ensures { option_copied result ≡ (store_cell (cell_of self.entry)).live }
     {
         match self {
             CellView::Live(bytes) => Some(bytes),
@@ -124,7 +125,7 @@ impl<'a> Cells<'a> {
 
     /// Whether one of them stands at a place, or they end there.
     pub fn is_place(self, place: usize) -> bool
-        ensures { result ≡ is_place self.entry.place self.entry.contents.cells place }
+        ensures { result ≡ is_place_in self.entry.place self.entry.contents.cells place }
     {
         let end = self.end();
         for (at, _) in self {
@@ -137,7 +138,7 @@ impl<'a> Cells<'a> {
 
     /// Those from a place on.
     pub fn from(self, place: usize) -> Cells<'a>
-        requires { is_place self.place self.contents.cells place ≡ true }
+        requires { is_place_in self.place self.contents.cells place ≡ true }
         ensures suffix { IsSuffix self.entry result }
         ensures place { result.place ≡ place }
     {
@@ -152,8 +153,8 @@ impl<'a> Cells<'a> {
 
     /// The first live one at or after a place, or what ends them.
     pub fn stop_at(self, place: usize) -> Stop
-        requires { is_place self.place self.contents.cells place ≡ true }
-        ensures { result ≡ stop_from self.entry.place self.entry.contents.cells self.entry.contents.end place }
+        requires { is_place_in self.place self.contents.cells place ≡ true }
+        ensures { result ≡ stop_in self.entry.place self.entry.contents.cells self.entry.contents.end place }
     {
         let end = self.end();
         let mut rest = self.from(place);
@@ -170,7 +171,7 @@ impl<'a> Cells<'a> {
 
     /// The bytes of the live one at a place, looked for from the front.
     pub fn find_live(self, place: usize) -> Option<&'a [u8]>
-        ensures { option_copied result ≡ live_at self.entry.place self.entry.contents.cells place }
+        ensures { option_copied result ≡ live_bytes_in self.entry.place self.entry.contents.cells place }
     {
         for (at, cell) in self {
             if at == place {
@@ -182,8 +183,8 @@ impl<'a> Cells<'a> {
 
     /// The bytes of the live one that stands at a place.
     pub fn live_at(self, place: usize) -> &'a [u8]
-        requires { IsSome (live_at self.place self.contents.cells place) }
-        ensures { Some result.now ≡ live_at self.entry.place self.entry.contents.cells place }
+        requires { IsSome (live_bytes_in self.place self.contents.cells place) }
+        ensures { Some result.now ≡ live_bytes_in self.entry.place self.entry.contents.cells place }
     {
         match self.from(place).next() {
             Some((_, cell)) => cell.bytes(),
