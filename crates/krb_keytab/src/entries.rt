@@ -61,6 +61,7 @@ impl<'a> Iterator for Entries<'a> {
 
     ghost remaining = { item_count (λ s. s) };
 
+    #[inline(always)]
     fn next(&mut self) -> Option<(u32, EntryView<'a>)> {
         match self.cells.format {
             KtFormat::V2 => self.cells.next_entry(KtFormat::V2),
