@@ -23,7 +23,7 @@ use Rattle.krb_keytab.specs.Entry.{EntryParts}
 use Rattle.krb_keytab.specs.Rewrite.{rewrite_of}
 use Rattle.krb_keytab.specs.Store.{KeytabState, image_of, store_of}
 use Rattle.krb_keytab.specs.Placed.{keytab_rules}
-use Rattle.krb_keytab.specs.Form.{fits, written}
+use Rattle.krb_keytab.specs.Form.{fits, written_form}
 use Rattle.krb_text.specs.declared.files.Files.{Ghosts}
 use Rattle.krb_text.specs.declared.files.LoadFault.{LoadFault}
 use Rattle.krb_text.specs.declared.files.LoadFault.TheVariants as load
@@ -63,8 +63,8 @@ into_keeps k bytes None = if_keeps k (nat_lt k.limit (length (image_of (with_las
 
 put_keeps : (k : KeytabState) (e : EntryParts) → KeepsFormat k (put_result k e)
 put_keeps k e =
-    if_keeps k (is_some (fault_of (store_of k))) (Err code.Damaged) (if fits k.format e then put_bytes_result k (written k.format e) else Err code.TooLong) tt
-    (if_keeps k (fits k.format e) (put_bytes_result k (written k.format e)) (Err code.TooLong) (into_keeps k (written k.format e) (first_hole 2 (length (written k.format e)) k.contents.cells)) tt)
+    if_keeps k (is_some (fault_of (store_of k))) (Err code.Damaged) (if fits k.format e then put_bytes_result k (written_form k.format e) else Err code.TooLong) tt
+    (if_keeps k (fits k.format e) (put_bytes_result k (written_form k.format e)) (Err code.TooLong) (into_keeps k (written_form k.format e) (first_hole 2 (length (written_form k.format e)) k.contents.cells)) tt)
 
 -- the format that a reply leaves is that of the keytab after its event
 of_put : (k : KeytabState) (given : Result (ℕ × KeytabState) Code) → KeepsFormat k given → (put_store k given).format ≡ format_after k.format (put_said given)

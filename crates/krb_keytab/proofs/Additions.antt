@@ -17,17 +17,17 @@ use Rattle.krb_walk.specs.Store.{end_of, fault_from, fault_of}
 use Rattle.krb_keytab.specs.declared.image.CellsEnd.{CellsEnd}
 use Rattle.krb_keytab.specs.declared.hole.Hole.{Hole}
 use Rattle.krb_keytab.specs.Entry.{EntryParts}
-use Rattle.krb_keytab.specs.Cells.{Live, Contents, cell, end_bytes, contents, image}
+use Rattle.krb_keytab.specs.Cells.{Live, Contents, cell, end_bytes, contents, image, kind_of}
 use Rattle.krb_keytab.specs.Step.{ends}
-use Rattle.krb_keytab.specs.Questions.{end_place, kind_of}
+use Rattle.krb_keytab.specs.Questions.{end_place}
 use Rattle.krb_keytab.specs.Image.{IsKnownEnd, mark_len, len_with}
 use Rattle.krb_keytab.specs.Store.{KeytabState, InMemory, image_of, store_of}
-use Rattle.krb_keytab.specs.Form.{fits, written}
+use Rattle.krb_keytab.specs.Form.{fits, written_form}
 use Rattle.krb_keytab.specs.Changes.{PlacedCell, first_hole, with_record_in, with_last, end_after, append_result, put_result_into, put_bytes_result, put_result, is_refused, takes_none}
 use Rattle.krb_keytab.specs.Hole.{hole_of, hole_from}
 use Rattle.krb_keytab.specs.Append.{AnswersAppend, KeepsRoom}
 use Rattle.krb_keytab.proofs.Cuts.{end_place_is, end_place-append}
-use Rattle.krb_keytab.proofs.Stores.{held, end_held}
+use Rattle.krb_keytab.proofs.Stores.{keytab_of, end_held}
 use Rattle.krb_keytab.proofs.Appended.{zeros_after}
 
 -- ---- after the cells
@@ -37,7 +37,7 @@ none_from place None h = refl
 none_from place (Some kind) h = absurd cc
 
 -- how long the image is with one record more
-last_len : (f : KtFormat) (limit : ℕ) (bytes x : List ℕ) (e : CellsEnd) → IsKnownEnd f bytes e → kind_of (contents f (drop 2 bytes)).end ≡ None → length (image_of (with_last (held f limit bytes) x)) ≡ len_with e (length x)
+last_len : (f : KtFormat) (limit : ℕ) (bytes x : List ℕ) (e : CellsEnd) → IsKnownEnd f bytes e → kind_of (contents f (drop 2 bytes)).end ≡ None → length (image_of (with_last (keytab_of f limit bytes) x)) ≡ len_with e (length x)
 last_len f limit bytes x e known whole =
     let o = order_of f in
     let k = contents f (drop 2 bytes) in
@@ -51,15 +51,15 @@ last_len f limit bytes x e known whole =
 -- a keytab that is kept, and the record that is put after its cells
 pub record Appends (f : KtFormat) (limit : ℕ) (bytes x : List ℕ) (k : KeytabState) (e : CellsEnd) (n : ℕ) : Type 0 where
   pub known : IsKnownEnd f bytes e
-  pub is : held f limit bytes ≡ k
+  pub is : keytab_of f limit bytes ≡ k
   pub whole : kind_of (contents f (drop 2 bytes)).end ≡ None
   pub len : n ≡ len_with e (length x)
 
-pub appends : (f : KtFormat) (limit : ℕ) (bytes x : List ℕ) (k : KeytabState) (e : CellsEnd) (n need : ℕ) → IsKnownEnd f bytes e → held f limit bytes ≡ k → fault_of (store_of k) ≡ None → n ≡ len_with e need → need ≡ length x → Appends f limit bytes x k e n
+pub appends : (f : KtFormat) (limit : ℕ) (bytes x : List ℕ) (k : KeytabState) (e : CellsEnd) (n need : ℕ) → IsKnownEnd f bytes e → keytab_of f limit bytes ≡ k → fault_of (store_of k) ≡ None → n ≡ len_with e need → need ≡ length x → Appends f limit bytes x k e n
 appends f limit bytes x k e n need known is whole len is_need = record {
   known = known;
   is = is;
-  whole = none_from (end_of (store_of (held f limit bytes))) (kind_of (contents f (drop 2 bytes)).end) (ap (λ (y : KeytabState). fault_of (store_of y)) is ∙ whole);
+  whole = none_from (end_of (store_of (keytab_of f limit bytes))) (kind_of (contents f (drop 2 bytes)).end) (ap (λ (y : KeytabState). fault_of (store_of y)) is ∙ whole);
   len = len ∙ ap (len_with e) is_need;
 }
 
@@ -80,17 +80,17 @@ append_fits f limit bytes x k e n a le =
     ap (λ (b : Bool). cond b (Err code.Full) (Ok (end_of (store_of k), with_last k x))) short
 
 -- the image that was written, as a keytab
-appended_state : (f : KtFormat) (limit : ℕ) (bytes bytes' x : List ℕ) (k : KeytabState) → held f limit bytes ≡ k
-    → contents f (drop 2 bytes') ≡ record { cells = (contents f (drop 2 bytes)).cells ++ Live x ∷ []; end = end_after (contents f (drop 2 bytes)).end } → held f limit bytes' ≡ with_last k x
+appended_state : (f : KtFormat) (limit : ℕ) (bytes bytes' x : List ℕ) (k : KeytabState) → keytab_of f limit bytes ≡ k
+    → contents f (drop 2 bytes') ≡ record { cells = (contents f (drop 2 bytes)).cells ++ Live x ∷ []; end = end_after (contents f (drop 2 bytes)).end } → keytab_of f limit bytes' ≡ with_last k x
 appended_state f limit bytes bytes' x k is written =
     ap (λ (y : Contents). record { format = f; limit = limit; contents = y }) written ∙ ap (λ (y : KeytabState). with_last y x) is
 
 pub append_ok : (f : KtFormat) (limit : ℕ) (bytes bytes' x : List ℕ) (k : KeytabState) (e : CellsEnd) (n : ℕ) → Appends f limit bytes x k e n → n ≤ limit
     → contents f (drop 2 bytes') ≡ record { cells = (contents f (drop 2 bytes)).cells ++ Live x ∷ []; end = end_after (contents f (drop 2 bytes)).end }
-    → append_result k x ≡ Ok (e.place, held f limit bytes')
+    → append_result k x ≡ Ok (e.place, keytab_of f limit bytes')
 append_ok f limit bytes bytes' x k e n a le written =
     append_fits f limit bytes x k e n a le
-    ∙ sym (ap (λ (p : ℕ). Ok (p, held f limit bytes')) (end_held f limit bytes k e a.known a.is) ∙ ap (λ (y : KeytabState). Ok (end_of (store_of k), y)) (appended_state f limit bytes bytes' x k a.is written))
+    ∙ sym (ap (λ (p : ℕ). Ok (p, keytab_of f limit bytes')) (end_held f limit bytes k e a.known a.is) ∙ ap (λ (y : KeytabState). Ok (end_of (store_of k), y)) (appended_state f limit bytes bytes' x k a.is written))
 
 -- how long the image is before and after
 pub append_longer : (f : KtFormat) (limit : ℕ) (bytes x : List ℕ) (k : KeytabState) (e : CellsEnd) (n : ℕ) → Appends f limit bytes x k e n → bytes ≡ image f (contents f (drop 2 bytes)) → length bytes < n → length (image_of k) < length (image_of (with_last k x))
@@ -106,28 +106,28 @@ append_no_longer f limit bytes x k e n a spelled le =
 -- ---- anywhere
 
 -- what is put where nothing is wrong and the entry fits
-put_is : (k : KeytabState) (e : EntryParts) → is_some (fault_of (store_of k)) ≡ false → fits k.format e ≡ true → put_result k e ≡ put_bytes_result k (written k.format e)
+put_is : (k : KeytabState) (e : EntryParts) → is_some (fault_of (store_of k)) ≡ false → fits k.format e ≡ true → put_result k e ≡ put_bytes_result k (written_form k.format e)
 put_is k e whole fit =
-    ap (λ (b : Bool). cond b (Err code.Damaged) (cond (fits k.format e) (put_bytes_result k (written k.format e)) (Err code.TooLong))) whole
-    ∙ ap (λ (b : Bool). cond b (put_bytes_result k (written k.format e)) (Err code.TooLong)) fit
+    ap (λ (b : Bool). cond b (Err code.Damaged) (cond (fits k.format e) (put_bytes_result k (written_form k.format e)) (Err code.TooLong))) whole
+    ∙ ap (λ (b : Bool). cond b (put_bytes_result k (written_form k.format e)) (Err code.TooLong)) fit
 
 -- where no hole is large enough, it is put after the cells
-pub put_after_all : (k : KeytabState) (e : EntryParts) → is_some (fault_of (store_of k)) ≡ false → fits k.format e ≡ true → first_hole 2 (length (written k.format e)) k.contents.cells ≡ None → put_result k e ≡ append_result k (written k.format e)
-put_after_all k e whole fit none = put_is k e whole fit ∙ ap (put_result_into k (written k.format e)) none
+pub put_after_all : (k : KeytabState) (e : EntryParts) → is_some (fault_of (store_of k)) ≡ false → fits k.format e ≡ true → first_hole 2 (length (written_form k.format e)) k.contents.cells ≡ None → put_result k e ≡ append_result k (written_form k.format e)
+put_after_all k e whole fit none = put_is k e whole fit ∙ ap (put_result_into k (written_form k.format e)) none
 
-pub gives_put : (k : KeytabState) (e : EntryParts) (result : Result ℕ Refusal) (new : KeytabState) → put_result k e ≡ append_result k (written k.format e) → AnswersAppend k (written k.format e) result new → PutGives (put_result k e) k result new
+pub gives_put : (k : KeytabState) (e : EntryParts) (result : Result ℕ Refusal) (new : KeytabState) → put_result k e ≡ append_result k (written_form k.format e) → AnswersAppend k (written_form k.format e) result new → PutGives (put_result k e) k result new
 gives_put k e (Ok place) new is h = is ∙ h
 gives_put k e (Err (ByCode refused)) new is h = (is ∙ h.0, h.1)
 gives_put k e (Err NoMemory) new is h = h.2
 
 -- memory is asked for only where none of these holds
-takes_some : (k : KeytabState) (e : EntryParts) → is_refused (put_result k e) ≡ false → is_some (first_hole 2 (length (written k.format e)) k.contents.cells) ≡ false → length (image_of k) < length (image_of (with_last k (written k.format e))) → takes_none k e ≡ false
+takes_some : (k : KeytabState) (e : EntryParts) → is_refused (put_result k e) ≡ false → is_some (first_hole 2 (length (written_form k.format e)) k.contents.cells) ≡ false → length (image_of k) < length (image_of (with_last k (written_form k.format e))) → takes_none k e ≡ false
 takes_some k e given none longer =
-    let no : nat_le (length (image_of (with_last k (written k.format e)))) (length (image_of k)) ≡ false = lt-leb _ _ longer in
+    let no : nat_le (length (image_of (with_last k (written_form k.format e)))) (length (image_of k)) ≡ false = lt-leb _ _ longer in
     rw (given, none, no) refl
 
-pub put_wants : (k : KeytabState) (e : EntryParts) (result : Result ℕ Refusal) (new : KeytabState) → put_result k e ≡ append_result k (written k.format e) → first_hole 2 (length (written k.format e)) k.contents.cells ≡ None
-    → AnswersAppend k (written k.format e) result new → takes_none k e ≡ true → HadMemory result
+pub put_wants : (k : KeytabState) (e : EntryParts) (result : Result ℕ Refusal) (new : KeytabState) → put_result k e ≡ append_result k (written_form k.format e) → first_hole 2 (length (written_form k.format e)) k.contents.cells ≡ None
+    → AnswersAppend k (written_form k.format e) result new → takes_none k e ≡ true → HadMemory result
 put_wants k e (Ok place) new is none h takes = tt
 put_wants k e (Err (ByCode refused)) new is none h takes = tt
 put_wants k e (Err NoMemory) new is none h takes =
@@ -135,12 +135,12 @@ put_wants k e (Err NoMemory) new is none h takes =
     absurd cc
 
 -- where it takes no memory and is put after the cells, the image becomes no longer
-no_longer : (k : KeytabState) (e : EntryParts) (place : ℕ) (new : KeytabState) → put_result k e ≡ Ok (place, new) → first_hole 2 (length (written k.format e)) k.contents.cells ≡ None → takes_none k e ≡ true
-    → length (image_of (with_last k (written k.format e))) ≤ length (image_of k)
+no_longer : (k : KeytabState) (e : EntryParts) (place : ℕ) (new : KeytabState) → put_result k e ≡ Ok (place, new) → first_hole 2 (length (written_form k.format e)) k.contents.cells ≡ None → takes_none k e ≡ true
+    → length (image_of (with_last k (written_form k.format e))) ≤ length (image_of k)
 no_longer k e place new is none takes = leb-true _ _ (rw (ap is_refused is, ap is_some none) at takes)
 
-pub put_keeps : (k : InMemory) (e : EntryParts) (result : Result ℕ Refusal) (new : InMemory) → put_result k.state e ≡ append_result k.state (written k.state.format e) → first_hole 2 (length (written k.state.format e)) k.state.contents.cells ≡ None
-    → AnswersAppend k.state (written k.state.format e) result new.state → KeepsRoom k (written k.state.format e) result new → takes_none k.state e ≡ true → new.room ≡ k.room
+pub put_keeps : (k : InMemory) (e : EntryParts) (result : Result ℕ Refusal) (new : InMemory) → put_result k.state e ≡ append_result k.state (written_form k.state.format e) → first_hole 2 (length (written_form k.state.format e)) k.state.contents.cells ≡ None
+    → AnswersAppend k.state (written_form k.state.format e) result new.state → KeepsRoom k (written_form k.state.format e) result new → takes_none k.state e ≡ true → new.room ≡ k.room
 put_keeps k e (Ok place) new is none h keeps takes = keeps (no_longer k.state e place new.state (is ∙ h) none takes)
 put_keeps k e (Err (ByCode refused)) new is none h keeps takes = keeps
 put_keeps k e (Err NoMemory) new is none h keeps takes = absurd (put_wants k.state e (Err NoMemory) new.state is none h takes)
@@ -158,7 +158,7 @@ pub none_large : (k : KeytabState) (n : ℕ) → hole_from 2 n k.contents.cells 
 none_large k n e = no_hole (first_hole 2 n k.contents.cells) e
 
 -- the first hole that is large enough takes it
-pub put_in_hole : (k : KeytabState) (e : EntryParts) (h : Hole) → is_some (fault_of (store_of k)) ≡ false → fits k.format e ≡ true → hole_from 2 (length (written k.format e)) k.contents.cells ≡ Some h
-    → put_result k e ≡ Ok (h.place, with_record_in k (written k.format e) h.place)
+pub put_in_hole : (k : KeytabState) (e : EntryParts) (h : Hole) → is_some (fault_of (store_of k)) ≡ false → fits k.format e ≡ true → hole_from 2 (length (written_form k.format e)) k.contents.cells ≡ Some h
+    → put_result k e ≡ Ok (h.place, with_record_in k (written_form k.format e) h.place)
 put_in_hole k e h whole fit hole =
-    put_is k e whole fit ∙ into_hole k (written k.format e) h (first_hole 2 (length (written k.format e)) k.contents.cells) hole
+    put_is k e whole fit ∙ into_hole k (written_form k.format e) h (first_hole 2 (length (written_form k.format e)) k.contents.cells) hole

@@ -14,9 +14,9 @@ use Rattle.krb_keytab.specs.declared.image.CellsEnd.{CellsEnd}
 use Rattle.krb_keytab.specs.declared.step.Ending.{Ending}
 use Rattle.krb_keytab.specs.declared.step.Ending.TheVariants as ending
 use Rattle.krb_keytab.specs.Entry.{entry_at}
-use Rattle.krb_keytab.specs.Cells.{Live, End, Bare, Mark, Damaged, Contents, cell, end_bytes, spelling, contents, IsCell, IsEnd, IsSound}
+use Rattle.krb_keytab.specs.Cells.{Live, End, Bare, Mark, Damaged, Contents, cell, end_bytes, spelling, contents, IsCell, IsEnd, IsSound, kind_of}
 use Rattle.krb_keytab.specs.Step.{ends}
-use Rattle.krb_keytab.specs.Questions.{end_place, kind_of}
+use Rattle.krb_keytab.specs.Questions.{end_place}
 use Rattle.krb_keytab.specs.Image.{IsKnownEnd, IsChanged, mark_len, len_with}
 use Rattle.krb_keytab.specs.Form.{IsRecord}
 use Rattle.krb_keytab.specs.Changes.{end_after}

@@ -11,7 +11,7 @@ use Rattle.krb_wire.specs.Spelling.{order_of, digits}
 use Rattle.krb_wire.specs.Reading.{number_at}
 use Rattle.krb_wire.proofs.Fields.{IsBytes, IsBytes-drop, Takes, Takes-then, wide32, number_takes, number_again}
 use Rattle.krb_keytab.specs.Entry.{entry_at}
-use Rattle.krb_keytab.specs.Cells.{Cell, Live, Free, End, Bare, Mark, Damaged, Contents, bytes_of, length_field, cell, end_bytes, spelling, NextCell, More, NoMore, short_end, sized, next_by, next, on_next, walk, contents, IsCell, IsEnd, IsSound, IsSpelled, image, version_byte}
+use Rattle.krb_keytab.specs.Cells.{Cell, Live, Free, End, Bare, Mark, Damaged, Contents, bytes_of, length_field, cell, end_bytes, spelling, NextCell, More, NoMore, short_end, next_of_size, next_by, next, on_next, walk, contents, IsCell, IsEnd, IsSound, IsSpelled, image, version_byte}
 
 pub chosen : {A : Type 0} (b : Bool) (x y z : A) → cond b x y ≡ z → ((b ≡ true) × (x ≡ z)) ⊎ ((b ≡ false) × (y ≡ z))
 chosen true x y z e = inl (refl, e)
@@ -61,7 +61,7 @@ free_taken f bytes n rest t fits big long =
 pub along : {A : Type 0} (P : A → Type 0) {x y : A} → x ≡ y → P x → P y
 along P e p = subst P e p
 
-sized_is : (f : KtFormat) (bytes : List ℕ) (n : ℕ) (rest : List ℕ) (s : NextCell) → next f bytes ≡ s → Takes bytes (digits (order_of f) w32 n) rest → n < 2 ^ 32 → sized f bytes n rest ≡ s → IsNext f bytes s
+sized_is : (f : KtFormat) (bytes : List ℕ) (n : ℕ) (rest : List ℕ) (s : NextCell) → next f bytes ≡ s → Takes bytes (digits (order_of f) w32 n) rest → n < 2 ^ 32 → next_of_size f bytes n rest ≡ s → IsNext f bytes s
 sized_is f bytes n rest s whole t fits e =
     let P = IsNext f bytes in
     elim (chosen (eqb n 0) _ _ s e) [

@@ -12,8 +12,9 @@ use Rattle.krb_wire.specs.Reading.{number_at}
 use Rattle.krb_wire.proofs.Fields.{IsBytes, IsBytes-drop}
 use Rattle.krb_keytab.specs.declared.image.CellsEnd.{CellsEnd}
 use Rattle.krb_keytab.specs.declared.step.Step.TheVariants as step
-use Rattle.krb_keytab.specs.Cells.{Cell, Live, Free, End, Contents, contents, IsCell}
-use Rattle.krb_keytab.specs.Questions.{size, end_place, is_place, live_bytes, live_at, stop_from}
+use Rattle.krb_keytab.specs.Cells.{Cell, Live, Free, End, Contents, bytes_of, contents, IsCell, size}
+use Rattle.krb_keytab.specs.Store.{store_cell}
+use Rattle.krb_keytab.specs.Questions.{end_place, is_place_in, live_bytes_in, stop_in}
 use Rattle.krb_keytab.specs.CellsFrom.{CellsFrom, AreKnown, IsSuffix, BeginsWith}
 use Rattle.krb_keytab.proofs.CellLemmas.{contents_spelled}
 use Rattle.krb_keytab.proofs.Steps.{past4}
@@ -68,6 +69,10 @@ taken_free f image t rest at field n e o fits known ne is_o is_t read big is_n =
       known = record { within = within; small = known.small; ends = known_after_free f image at n e known.ends s.value s.within.2 };
     }
 
+-- the order of the cells' format, where a format is known to be theirs
+pub order_is : (f g : KtFormat) (image : List ℕ) (at : ℕ) (o : Order) (old : CellsFrom) → record { format = f; place = at; contents = contents f (drop at image) } ≡ old → g ≡ old.format → o ≡ order_of g → o ≡ order_of f
+order_is f g image at o old is same order = order ∙ ap order_of (same ∙ sym (ap (λ (x : CellsFrom). x.format) is))
+
 -- that cell is the first, and those after it are given next
 pub begins : (f : KtFormat) (image rest : List ℕ) (at n : ℕ) (e : CellsEnd) (c d : Cell) (old new : CellsFrom) → Taken f image rest at n e c → c ≡ d
     → old ≡ record { format = f; place = at; contents = contents f (drop at image) } → new ≡ record { format = f; place = at + 4 + n; contents = contents f (drop (at + 4 + n) image) } → BeginsWith old at d new
@@ -87,16 +92,16 @@ begins f image rest at n e c d old new t is is_old is_new =
     }
 
 -- cells of an image from a place on
-cut_of : (f : KtFormat) (image : List ℕ) (at p : ℕ) (e : CellsEnd) (old : CellsFrom) → IsBytes image → AreKnown f image at e → record { format = f; place = at; contents = contents f (drop at image) } ≡ old → is_place old.place old.contents.cells p ≡ true → Cut f image at p
-cut_of f image at p e old fits known is h = cut f image at p fits known.within (ap (λ (x : CellsFrom). is_place x.place x.contents.cells p) is ∙ h)
+cut_of : (f : KtFormat) (image : List ℕ) (at p : ℕ) (e : CellsEnd) (old : CellsFrom) → IsBytes image → AreKnown f image at e → record { format = f; place = at; contents = contents f (drop at image) } ≡ old → is_place_in old.place old.contents.cells p ≡ true → Cut f image at p
+cut_of f image at p e old fits known is h = cut f image at p fits known.within (ap (λ (x : CellsFrom). is_place_in x.place x.contents.cells p) is ∙ h)
 
-pub known_of : (f : KtFormat) (image : List ℕ) (at p : ℕ) (e : CellsEnd) (old : CellsFrom) → IsBytes image → AreKnown f image at e → record { format = f; place = at; contents = contents f (drop at image) } ≡ old → is_place old.place old.contents.cells p ≡ true → AreKnown f image p e
+pub known_of : (f : KtFormat) (image : List ℕ) (at p : ℕ) (e : CellsEnd) (old : CellsFrom) → IsBytes image → AreKnown f image at e → record { format = f; place = at; contents = contents f (drop at image) } ≡ old → is_place_in old.place old.contents.cells p ≡ true → AreKnown f image p e
 known_of f image at p e old fits known is h =
     let k = cut_of f image at p e old fits known is h in
     record { within = k.within; small = known.small; ends = known_from f image at p e k known.ends }
 
 -- are the last ones
-pub suffix_of : (f : KtFormat) (image : List ℕ) (at p : ℕ) (e : CellsEnd) (old new : CellsFrom) → IsBytes image → AreKnown f image at e → record { format = f; place = at; contents = contents f (drop at image) } ≡ old → is_place old.place old.contents.cells p ≡ true
+pub suffix_of : (f : KtFormat) (image : List ℕ) (at p : ℕ) (e : CellsEnd) (old new : CellsFrom) → IsBytes image → AreKnown f image at e → record { format = f; place = at; contents = contents f (drop at image) } ≡ old → is_place_in old.place old.contents.cells p ≡ true
     → new ≡ record { format = f; place = p; contents = contents f (drop p image) } → IsSuffix old new
 suffix_of f image at p e old new fits known is h is_new =
     let k = cut_of f image at p e old fits known is h in
@@ -109,18 +114,18 @@ suffix_of f image at p e old new fits known is h is_new =
     }
 
 -- what is asked of a place is asked of the cells from it on
-pub stop_suffix : (old new : CellsFrom) (p : ℕ) → IsSuffix old new → new.place ≡ p → stop_from new.place new.contents.cells new.contents.end p ≡ stop_from old.place old.contents.cells old.contents.end p
+pub stop_suffix : (old new : CellsFrom) (p : ℕ) → IsSuffix old new → new.place ≡ p → stop_in new.place new.contents.cells new.contents.end p ≡ stop_in old.place old.contents.cells old.contents.end p
 stop_suffix old new p s is =
-    ap (λ (e : End). stop_from new.place new.contents.cells e p) s.end ∙ ap (λ (n : ℕ). stop_from n new.contents.cells old.contents.end p) is
-    ∙ sym (stop_behind s.before new.contents.cells old.place p old.contents.end (sym is ∙ s.place)) ∙ sym (ap (λ (cs : List Cell). stop_from old.place cs old.contents.end p) s.parts)
+    ap (λ (e : End). stop_in new.place new.contents.cells e p) s.end ∙ ap (λ (n : ℕ). stop_in n new.contents.cells old.contents.end p) is
+    ∙ sym (stop_behind s.before new.contents.cells old.place p old.contents.end (sym is ∙ s.place)) ∙ sym (ap (λ (cs : List Cell). stop_in old.place cs old.contents.end p) s.parts)
 
-pub live_suffix : (old new : CellsFrom) (p : ℕ) → IsSuffix old new → new.place ≡ p → live_at new.place new.contents.cells p ≡ live_at old.place old.contents.cells p
+pub live_suffix : (old new : CellsFrom) (p : ℕ) → IsSuffix old new → new.place ≡ p → live_bytes_in new.place new.contents.cells p ≡ live_bytes_in old.place old.contents.cells p
 live_suffix old new p s is =
-    ap (λ (n : ℕ). live_at n new.contents.cells p) is ∙ sym (live_behind s.before new.contents.cells old.place p (sym is ∙ s.place)) ∙ sym (ap (λ (cs : List Cell). live_at old.place cs p) s.parts)
+    ap (λ (n : ℕ). live_bytes_in n new.contents.cells p) is ∙ sym (live_behind s.before new.contents.cells old.place p (sym is ∙ s.place)) ∙ sym (ap (λ (cs : List Cell). live_bytes_in old.place cs p) s.parts)
 
 -- the first of them stands at their place
-pub live_first : (old new : CellsFrom) (p at : ℕ) (c : Cell) → BeginsWith old at c new → old.place ≡ p → live_at old.place old.contents.cells p ≡ live_bytes c
-live_first old new p at c b is = ap (λ (cs : List Cell). live_at old.place cs p) b.cells ∙ rw (eq-eqb p old.place (sym is)) refl
+pub live_first : (old new : CellsFrom) (p at : ℕ) (c : Cell) → BeginsWith old at c new → old.place ≡ p → live_bytes_in old.place old.contents.cells p ≡ (store_cell c).live
+live_first old new p at c b is = ap (λ (cs : List Cell). live_bytes_in old.place cs p) b.cells ∙ rw (eq-eqb p old.place (sym is)) refl
 
 -- fewer are left
 pub fewer_left : (old new : CellsFrom) (at : ℕ) (c : Cell) → BeginsWith old at c new → length new.contents.cells < length old.contents.cells
@@ -132,11 +137,15 @@ end_suffix old new s =
     ap (λ (n : ℕ). end_place n new.contents.cells) s.place ∙ sym (end_place-append old.place s.before new.contents.cells) ∙ ap (end_place old.place) (sym s.parts)
 
 -- where one is live at a place, it is the first from there on
-pub live_given : (old mid new : CellsFrom) (p at : ℕ) (c : Cell) → IsSuffix old mid → mid.place ≡ p → BeginsWith mid at c new → live_bytes c ≡ live_at old.place old.contents.cells p
-live_given old mid new p at c s is b = sym (live_first mid new p at c b is) ∙ live_suffix old mid p s is
+live_is : (c : Cell) (o : Option (List ℕ)) → (store_cell c).live ≡ o → IsSome o → Some (bytes_of c) ≡ o
+live_is (Live b) o is some = is
+live_is (Free b) o is some = absurd (let h = subst (λ (x : Option (List ℕ)). IsSome x) (sym is) some in cc)
 
-pub some_given : (old mid : CellsFrom) (p : ℕ) → IsSuffix old mid → mid.place ≡ p → IsSome (live_at old.place old.contents.cells p) → mid.contents.cells ≡ [] → ⊥
+pub live_given : (old mid new : CellsFrom) (p at : ℕ) (c : Cell) → IsSuffix old mid → mid.place ≡ p → BeginsWith mid at c new → IsSome (live_bytes_in old.place old.contents.cells p) → Some (bytes_of c) ≡ live_bytes_in old.place old.contents.cells p
+live_given old mid new p at c s is b some = live_is c _ (sym (live_first mid new p at c b is) ∙ live_suffix old mid p s is) some
+
+pub some_given : (old mid : CellsFrom) (p : ℕ) → IsSuffix old mid → mid.place ≡ p → IsSome (live_bytes_in old.place old.contents.cells p) → mid.contents.cells ≡ [] → ⊥
 some_given old mid p s is some none =
     let nothing : Option (List ℕ) = None in
-    let h : IsSome nothing = subst (λ (o : Option (List ℕ)). IsSome o) (sym (live_suffix old mid p s is) ∙ ap (λ (cs : List Cell). live_at mid.place cs p) none) some in
+    let h : IsSome nothing = subst (λ (o : Option (List ℕ)). IsSome o) (sym (live_suffix old mid p s is) ∙ ap (λ (cs : List Cell). live_bytes_in mid.place cs p) none) some in
     absurd cc

@@ -14,8 +14,9 @@ use Rattle.krb_wire.specs.Spelling.{order_of, digits}
 use Rattle.krb_wire.proofs.Fields.{IsBytes, IsBytes-drop, some_is, wide32}
 use Rattle.krb_keytab.specs.declared.image.CellsEnd.{CellsEnd}
 use Rattle.krb_keytab.specs.Entry.{entry_at}
-use Rattle.krb_keytab.specs.Cells.{Cell, Live, Free, End, Contents, bytes_of, length_field, cell, end_bytes, spelling, contents, IsCell}
-use Rattle.krb_keytab.specs.Questions.{size, end_place, is_place, stop_from, live_bytes, live_at}
+use Rattle.krb_keytab.specs.Cells.{Cell, Live, Free, End, Contents, bytes_of, length_field, cell, end_bytes, spelling, contents, IsCell, size}
+use Rattle.krb_keytab.specs.Store.{store_cell}
+use Rattle.krb_keytab.specs.Questions.{end_place, is_place_in, stop_in, live_bytes_in}
 use Rattle.krb_keytab.specs.Image.{EndsKnown}
 use Rattle.krb_keytab.proofs.CellLemmas.{contents_spelled, contents_again}
 
@@ -46,7 +47,7 @@ pub record Splits (cs : List Cell) (at p : ℕ) : Type 0 where
   pub parts : cs ≡ front ++ back
   pub place : p ≡ end_place at front
 
-pub place_splits : (cs : List Cell) (at p : ℕ) → is_place at cs p ≡ true → Splits cs at p
+pub place_splits : (cs : List Cell) (at p : ℕ) → is_place_in at cs p ≡ true → Splits cs at p
 place_splits [] at p e = elim (eqb_tells p at) [
   | inl y ↦ record { front = []; back = []; parts = refl; place = y.1 }
   | inr n ↦ let no = n.0 in absurd cc
@@ -60,7 +61,7 @@ place_splits (c ∷ cs) at p e = elim (eqb_tells p at) [
 ]
 
 -- a live cell stands at a place
-pub live_is_place : (cs : List Cell) (at p : ℕ) → IsSome (live_at at cs p) → is_place at cs p ≡ true
+pub live_is_place : (cs : List Cell) (at p : ℕ) → IsSome (live_bytes_in at cs p) → is_place_in at cs p ≡ true
 live_is_place [] at p h = absurd cc
 live_is_place (c ∷ cs) at p h = elim (eqb_tells p at) [
   | inl y ↦ rw (y.0) refl
@@ -72,15 +73,15 @@ far [] at = omega arith
 far (c ∷ cs) at = let h = far cs (at + 4 + size c) in omega (arith, h)
 
 -- the questions asked of the cells from the place on
-pub stop_behind : (front back : List Cell) (at p : ℕ) (e : End) → p ≡ end_place at front → stop_from at (front ++ back) e p ≡ stop_from p back e p
-stop_behind [] back at p e is = ap (λ (n : ℕ). stop_from n back e p) (sym is)
+pub stop_behind : (front back : List Cell) (at p : ℕ) (e : End) → p ≡ end_place at front → stop_in at (front ++ back) e p ≡ stop_in p back e p
+stop_behind [] back at p e is = ap (λ (n : ℕ). stop_in n back e p) (sym is)
 stop_behind (Free b ∷ front) back at p e is = stop_behind front back (at + 4 + length b) p e is
 stop_behind (Live b ∷ front) back at p e is =
     let before : ltb at p ≡ true = lt-ltb at p (omega (arith, far front (at + 4 + length b))) in
     rw before (stop_behind front back (at + 4 + length b) p e is)
 
-pub live_behind : (front back : List Cell) (at p : ℕ) → p ≡ end_place at front → live_at at (front ++ back) p ≡ live_at p back p
-live_behind [] back at p is = ap (λ (n : ℕ). live_at n back p) (sym is)
+pub live_behind : (front back : List Cell) (at p : ℕ) → p ≡ end_place at front → live_bytes_in at (front ++ back) p ≡ live_bytes_in p back p
+live_behind [] back at p is = ap (λ (n : ℕ). live_bytes_in n back p) (sym is)
 live_behind (c ∷ front) back at p is =
     let not_here : eqb p at ≡ false = ne_eqb p at (λ e. omega (arith, far front (at + 4 + size c))) in
     rw not_here (live_behind front back (at + 4 + size c) p is)
@@ -118,7 +119,7 @@ holds_back f image at p front back fits within parts is_p =
       contents = ap (contents f) at_p ∙ contents_again f rest (record { cells = sound; end = spelled.sound.end }) fits_p;
     }
 
-pub cut : (f : KtFormat) (image : List ℕ) (at p : ℕ) → IsBytes image → at ≤ length image → is_place at (contents f (drop at image)).cells p ≡ true → Cut f image at p
+pub cut : (f : KtFormat) (image : List ℕ) (at p : ℕ) → IsBytes image → at ≤ length image → is_place_in at (contents f (drop at image)).cells p ≡ true → Cut f image at p
 cut f image at p fits within e =
     let s = place_splits (contents f (drop at image)).cells at p e in
     let h = holds_back f image at p s.front s.back fits within s.parts s.place in
@@ -155,11 +156,11 @@ known_from f image at p e k known = record {
 }
 
 -- the bytes of a live cell begin with an entry
-live_is : (f : KtFormat) (c : Cell) (b : List ℕ) → IsCell f c → live_bytes c ≡ Some b → IsSome (entry_at f b)
+live_is : (f : KtFormat) (c : Cell) (b : List ℕ) → IsCell f c → (store_cell c).live ≡ Some b → IsSome (entry_at f b)
 live_is f (Live x) b sound e = subst (λ (y : List ℕ). IsSome (entry_at f y)) (some_is x b e) sound.2
 live_is f (Free x) b sound e = absurd cc
 
-pub live_entry : (f : KtFormat) (cs : List Cell) (at p : ℕ) (b : List ℕ) → AllByRecursion (IsCell f) cs → live_at at cs p ≡ Some b → IsSome (entry_at f b)
+pub live_entry : (f : KtFormat) (cs : List Cell) (at p : ℕ) (b : List ℕ) → AllByRecursion (IsCell f) cs → live_bytes_in at cs p ≡ Some b → IsSome (entry_at f b)
 live_entry f [] at p b sound e = absurd cc
 live_entry f (c ∷ cs) at p b sound e = elim (eqb_tells p at) [
   | inl y ↦ let yes = y.0 in live_is f c b sound.0 (rw yes at e)

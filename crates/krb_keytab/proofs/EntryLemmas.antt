@@ -9,7 +9,7 @@ use Rattle.krb_wire.proofs.Fields.{IsBytes, bind_some, some_is, is_some_has, Tak
 use Rattle.krb_wire.proofs.Principals.{kt_principal_takes, kt_principal_again}
 use Rattle.krb_keytab.specs.Entry.{EntryParts, Front, front, FitsFront, entry_of, Spells, front_at, entry_at}
 
-byte_takes : (bytes : List ℕ) (x : ℕ × List ℕ) → IsBytes bytes → byte_at bytes ≡ Some x → Takes bytes (x.0 ∷ []) x.1 × (x.0 < 256)
+pub byte_takes : (bytes : List ℕ) (x : ℕ × List ℕ) → IsBytes bytes → byte_at bytes ≡ Some x → Takes bytes (x.0 ∷ []) x.1 × (x.0 < 256)
 byte_takes [] x fits e = absurd cc
 byte_takes (b ∷ bs) x fits e = subst (λ (y : ℕ × List ℕ). Takes (b ∷ bs) (y.0 ∷ []) y.1 × (y.0 < 256)) (some_is (b, bs) x e) (record { parts = refl; rest_fits = λ i. fits (suc i) }, fits 0)
 

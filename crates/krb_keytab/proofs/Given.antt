@@ -14,11 +14,11 @@ use Rattle.krb_keytab.specs.declared.image.CellsEnd.{CellsEnd}
 use Rattle.krb_keytab.specs.declared.step.Step.{Step}
 use Rattle.krb_keytab.specs.declared.step.Step.TheVariants as step
 use Rattle.krb_keytab.specs.declared.cells.CellView.{CellView}
-use Rattle.krb_keytab.specs.Cells.{Cell, Live, contents}
+use Rattle.krb_keytab.specs.Cells.{Cell, Live, contents, size}
 use Rattle.krb_keytab.specs.CellsFrom.{CellsFrom, AreKnown}
 use Rattle.krb_keytab.specs.CellView.{cell_of, GivesCell}
 use Rattle.krb_keytab.specs.Step.{from_step}
-use Rattle.krb_keytab.specs.Questions.{size, is_place, end_place}
+use Rattle.krb_keytab.specs.Questions.{is_place_in, end_place}
 use Rattle.krb_keytab.specs.Image.{EndsKnown}
 use Rattle.krb_keytab.specs.Carry.{place_after, cells_after, new_place, AreGiven}
 use Rattle.krb_wire.proofs.Fields.{IsBytes}
@@ -27,7 +27,7 @@ use Rattle.krb_keytab.proofs.Splices.{splice-behind}
 
 -- ---- places of cells
 
-pub place_ge : (at : ℕ) (cs : List Cell) (p : ℕ) → is_place at cs p ≡ true → at ≤ p
+pub place_ge : (at : ℕ) (cs : List Cell) (p : ℕ) → is_place_in at cs p ≡ true → at ≤ p
 place_ge at [] p h = elim (eqb_tells p at) [
   | inl y ↦ omega (arith, y.1)
   | inr n ↦ let no = n.0 in absurd (cc (no, h))
@@ -37,7 +37,7 @@ place_ge at (c ∷ cs) p h = elim (eqb_tells p at) [
   | inr n ↦ let no = n.0 in let ge = place_ge (at + 4 + size c) cs p (rw no at h) in omega (arith, ge)
 ]
 
-place_past : (at : ℕ) (c : Cell) (cs : List Cell) (p : ℕ) → at < p → is_place at (c ∷ cs) p ≡ is_place (at + 4 + size c) cs p
+place_past : (at : ℕ) (c : Cell) (cs : List Cell) (p : ℕ) → at < p → is_place_in at (c ∷ cs) p ≡ is_place_in (at + 4 + size c) cs p
 place_past at c cs p lt = let no : eqb p at ≡ false = ne_eqb p at (λ e. omega (arith, lt, e)) in rw no refl
 
 carried_past : (at : ℕ) (c : Cell) (cs : List Cell) (to : ℕ) (ds : List Cell) (p : ℕ) → at < p → new_place at (c ∷ cs) to ds p ≡ new_place (at + 4 + size c) cs (place_after c to ds) (cells_after c ds) p
@@ -101,10 +101,10 @@ are_known_tail f now old at e same len known =
 pub record IsGivenTo (f : KtFormat) (old now : List ℕ) (first : CellsFrom) (at : ℕ) (new : CellsFrom) : Type 0 where
   pub len : length now ≡ length old
   pub tails : drop at now ≡ drop at old
-  pub left : (p : ℕ) → at ≤ p → is_place 2 (contents f (drop 2 old)).cells p ≡ is_place at (contents f (drop at old)).cells p
+  pub left : (p : ℕ) → at ≤ p → is_place_in 2 (contents f (drop 2 old)).cells p ≡ is_place_in at (contents f (drop at old)).cells p
   pub same : (p : ℕ) → at ≤ p → new_place 2 (contents f (drop 2 old)).cells first.place first.contents.cells p ≡ new_place at (contents f (drop at old)).cells new.place new.contents.cells p
-  pub before : (p : ℕ) → is_place 2 (contents f (drop 2 old)).cells p ≡ true → p < at → p + 4 ≤ at
-  pub told : (p : ℕ) → is_place 2 (contents f (drop 2 old)).cells p ≡ true → p < at → take 4 (drop p now) ≡ digits Big w32 (new_place 2 (contents f (drop 2 old)).cells first.place first.contents.cells p)
+  pub before : (p : ℕ) → is_place_in 2 (contents f (drop 2 old)).cells p ≡ true → p < at → p + 4 ≤ at
+  pub told : (p : ℕ) → is_place_in 2 (contents f (drop 2 old)).cells p ≡ true → p < at → take 4 (drop p now) ≡ digits Big w32 (new_place 2 (contents f (drop 2 old)).cells first.place first.contents.cells p)
 
 pub given_first : (f : KtFormat) (old : List ℕ) (first : CellsFrom) → IsGivenTo f old old first 2 first
 given_first f old first = record {
@@ -117,7 +117,7 @@ given_first f old first = record {
 }
 
 -- no place stands within a cell
-not_within : (at : ℕ) (c : Cell) (cs : List Cell) (p : ℕ) → is_place at (c ∷ cs) p ≡ true → p < at + 4 + size c → p ≡ at
+not_within : (at : ℕ) (c : Cell) (cs : List Cell) (p : ℕ) → is_place_in at (c ∷ cs) p ≡ true → p < at + 4 + size c → p ≡ at
 not_within at c cs p h lt = elim (eqb_tells p at) [
   | inl y ↦ y.1
   | inr n ↦ let no = n.0 in let ge = place_ge (at + 4 + size c) cs p (rw no at h) in absurd (omega (arith, ge, lt))
@@ -168,18 +168,18 @@ given_next f old now now' first new new' at n c cs g room cells others is_n pass
     let ds = new.contents.cells in
     let d = digits Big w32 to in
     let next = at + 4 + n in
-    let here : (p : ℕ) → at ≤ p → is_place 2 CS p ≡ is_place at (c ∷ cs) p = λ p le. g.left p le ∙ ap (λ (x : List Cell). is_place at x p) cells in
+    let here : (p : ℕ) → at ≤ p → is_place_in 2 CS p ≡ is_place_in at (c ∷ cs) p = λ p le. g.left p le ∙ ap (λ (x : List Cell). is_place_in at x p) cells in
     let behind : drop next now' ≡ drop next now = ap (drop next) wrote ∙ splice-behind now d at (at + 4) next (omega arith) (omega (arith, (wide32 Big).len to)) (omega arith) in
-    let not_in : (p : ℕ) → is_place 2 CS p ≡ true → at ≤ p → p < next → p ≡ at = λ p h le lt. not_within at c cs p (sym (here p le) ∙ h) (omega (arith, is_n, lt)) in
+    let not_in : (p : ℕ) → is_place_in 2 CS p ≡ true → at ≤ p → p < next → p ≡ at = λ p h le lt. not_within at c cs p (sym (here p le) ∙ h) (omega (arith, is_n, lt)) in
     let goes : new_place 2 CS start DS at ≡ to = g.same at (omega arith) ∙ carried_here at (contents f (drop at old)).cells to ds in
-    let old_told : (p : ℕ) → is_place 2 CS p ≡ true → p < at → take 4 (drop p now') ≡ digits Big w32 (new_place 2 CS start DS p) =
+    let old_told : (p : ℕ) → is_place_in 2 CS p ≡ true → p < at → take 4 (drop p now') ≡ digits Big w32 (new_place 2 CS start DS p) =
     λ p h lt. ap (λ (b : List ℕ). take 4 (drop p b)) wrote ∙ put_before now d at p (omega arith) (g.before p h lt) ∙ g.told p h lt in
     let new_told : take 4 (drop at now') ≡ digits Big w32 (new_place 2 CS start DS at) =
     ap (λ (b : List ℕ). take 4 (drop at b)) wrote ∙ put_here now at to room ∙ ap (digits Big w32) (sym goes) in
     record {
       len = len ∙ g.len;
       tails = behind ∙ drop_more now old at next g.tails (omega arith);
-      left = λ p le. here p (omega (arith, le)) ∙ place_past at c cs p (omega (arith, le)) ∙ ap (λ (m : ℕ). is_place (at + 4 + m) cs p) is_n ∙ ap (λ (x : List Cell). is_place next x p) others;
+      left = λ p le. here p (omega (arith, le)) ∙ place_past at c cs p (omega (arith, le)) ∙ ap (λ (m : ℕ). is_place_in (at + 4 + m) cs p) is_n ∙ ap (λ (x : List Cell). is_place_in next x p) others;
       same = λ p le. g.same p (omega (arith, le)) ∙ ap (λ (x : List Cell). new_place at x to ds p) cells ∙ carried_past at c cs to ds p (omega (arith, le))
           ∙ ap (λ (m : ℕ). new_place (at + 4 + m) cs (place_after c to ds) (cells_after c ds) p) is_n
           ∙ ap (λ (x : List Cell). new_place next x (place_after c to ds) (cells_after c ds) p) others

@@ -12,9 +12,9 @@ use Rattle.krb_wire.proofs.Fields.{IsBytes, IsBytes-drop, some_is, wide32, numbe
 use Rattle.krb_keytab.specs.declared.image.CellsEnd.{CellsEnd}
 use Rattle.krb_keytab.specs.declared.step.Step.{Step}
 use Rattle.krb_keytab.specs.declared.step.Step.TheVariants as step
-use Rattle.krb_keytab.specs.Cells.{Cell, Live, Free, Contents, bytes_of, length_field, cell, end_bytes, More, next, contents, IsCell, IsSpelled}
-use Rattle.krb_keytab.specs.Step.{seen, EndsWithin, from_step, CellWithin}
-use Rattle.krb_keytab.specs.Questions.{size, end_place}
+use Rattle.krb_keytab.specs.Cells.{Cell, Live, Free, Contents, bytes_of, length_field, cell, end_bytes, More, next, contents, IsCell, IsSpelled, size}
+use Rattle.krb_keytab.specs.Step.{next_of_step, EndsWithin, from_step, CellWithin}
+use Rattle.krb_keytab.specs.Questions.{end_place}
 use Rattle.krb_keytab.specs.Image.{EndsKnown}
 use Rattle.krb_keytab.proofs.CellLemmas.{contents_spelled, cell_again, sound_size}
 use Rattle.krb_keytab.proofs.Steps.{step_is, within_is}
@@ -29,14 +29,14 @@ step_of (Free b) = step.Free (length b)
 pub record Told (f : KtFormat) (bytes : List ℕ) (c : Cell) : Type 0 where
   pub sound : IsCell f c
   pub number : number_at (order_of f) w32 bytes ≡ Some (length_field c, drop 4 bytes)
-  pub next : next f bytes ≡ seen bytes (step_of c)
+  pub next : next f bytes ≡ next_of_step bytes (step_of c)
   pub within : EndsWithin bytes (step_of c)
 
 field_small : (f : KtFormat) (c : Cell) → IsCell f c → length_field c < 2 ^ 32
 field_small f (Live b) sound = omega (arith, sound.1)
 field_small f (Free b) sound = omega (arith, sound.0)
 
-seen_is : (c : Cell) (bytes rest : List ℕ) → take (size c) (drop 4 bytes) ≡ bytes_of c → drop (size c) (drop 4 bytes) ≡ rest → More c rest ≡ seen bytes (step_of c)
+seen_is : (c : Cell) (bytes rest : List ℕ) → take (size c) (drop 4 bytes) ≡ bytes_of c → drop (size c) (drop 4 bytes) ≡ rest → More c rest ≡ next_of_step bytes (step_of c)
 seen_is (Live b) bytes rest taken left = rw (taken, left) refl
 seen_is (Free b) bytes rest taken left = rw (taken, left) refl
 
@@ -100,18 +100,18 @@ great_step f (Free b) n sound is le = let e : length b ≡ 2 ^ 32 - n = omega (a
 
 -- what the number tells
 pub record Tells (f : KtFormat) (bytes : List ℕ) (s : Step) : Type 0 where
-  pub next : next f bytes ≡ seen bytes s
+  pub next : next f bytes ≡ next_of_step bytes s
   pub within : EndsWithin bytes s
 
 pub tells_live : (f : KtFormat) (bytes : List ℕ) (s : Stands f bytes) (n : ℕ) (rest : List ℕ) → number_at (order_of f) w32 bytes ≡ Some (n, rest) → n < 2 ^ 31 → Tells f bytes (step.Live n)
 tells_live f bytes s n rest e lt =
     let is = small_step f s.cell n s.told.sound (is_told f bytes s n rest e) lt in
-    record { next = s.told.next ∙ ap (seen bytes) is; within = subst (EndsWithin bytes) is s.told.within }
+    record { next = s.told.next ∙ ap (next_of_step bytes) is; within = subst (EndsWithin bytes) is s.told.within }
 
 pub tells_free : (f : KtFormat) (bytes : List ℕ) (s : Stands f bytes) (n : ℕ) (rest : List ℕ) → number_at (order_of f) w32 bytes ≡ Some (n, rest) → 2 ^ 31 ≤ n → Tells f bytes (step.Free (2 ^ 32 - n))
 tells_free f bytes s n rest e le =
     let is = great_step f s.cell n s.told.sound (is_told f bytes s n rest e) le in
-    record { next = s.told.next ∙ ap (seen bytes) is; within = subst (EndsWithin bytes) is s.told.within }
+    record { next = s.told.next ∙ ap (next_of_step bytes) is; within = subst (EndsWithin bytes) is s.told.within }
 
 -- the end is known from the next cell on
 pub known_after_live : (f : KtFormat) (image : List ℕ) (at n : ℕ) (e : CellsEnd) → EndsKnown f image at e → contents f (drop at image) ≡ from_step f image at (step.Live n) → length (take n (drop (at + 4) image)) ≡ n → EndsKnown f image (at + 4 + n) e

@@ -17,14 +17,14 @@ use Rattle.krb_keytab.specs.Entries.{entries_in}
 use Rattle.krb_keytab.proofs.Stores.{past}
 
 -- the entries of the records of a store's cells
-abbrev stored : KtFormat → ℕ → List Cell → List PlacedEntry
-stored f at cs = filter_map (λ (r : Record). option_map (λ (e : EntryParts). (r.place, e)) (entry_at f r.bytes)) (filter_map record_of (standing at (map store_cell cs)))
+abbrev record_entries : KtFormat → ℕ → List Cell → List PlacedEntry
+record_entries f at cs = filter_map (λ (r : Record). option_map (λ (e : EntryParts). (r.place, e)) (entry_at f r.bytes)) (filter_map record_of (standing at (map store_cell cs)))
 
-listed_stored : (f : KtFormat) (at : ℕ) (cs : List Cell) → entries_in f at cs ≡ stored f at cs
+listed_stored : (f : KtFormat) (at : ℕ) (cs : List Cell) → entries_in f at cs ≡ record_entries f at cs
 listed_stored f at [] = refl
 listed_stored f at (Live b ∷ cs) =
-    ap (cons_option (option_map (λ (e : EntryParts). (at, e)) (entry_at f b))) (listed_stored f (at + 4 + length b) cs ∙ ap (λ (n : ℕ). stored f n cs) (past at (length b)))
-listed_stored f at (Free b ∷ cs) = listed_stored f (at + 4 + length b) cs ∙ ap (λ (n : ℕ). stored f n cs) (past at (length b))
+    ap (cons_option (option_map (λ (e : EntryParts). (at, e)) (entry_at f b))) (listed_stored f (at + 4 + length b) cs ∙ ap (λ (n : ℕ). record_entries f n cs) (past at (length b)))
+listed_stored f at (Free b ∷ cs) = listed_stored f (at + 4 + length b) cs ∙ ap (λ (n : ℕ). record_entries f n cs) (past at (length b))
 
 -- those of the cells of a keytab are its entries
 pub entries_of_cells : (k : KeytabState) (cells : CellsFrom) → cells ≡ cells_of k → entries_in cells.format cells.place cells.contents.cells ≡ placed_entries k

@@ -8,7 +8,7 @@ use Rattle.std.proofs.lemmas.Bool.Decides.{eqb_tells}
 use Rattle.krb_wire.specs.Spelling.{Parts}
 use Rattle.krb_wire.specs.SameName.{have_same_name}
 use Rattle.krb_keytab.specs.Looked.{answer, IsFoundAmong}
-use Rattle.krb_keytab.specs.Find.{PlacedEntry, is_asked, greatest, version_asked, found, look_up_in}
+use Rattle.krb_keytab.specs.Find.{PlacedEntry, is_asked, greatest, version_asked, first_or_missing, look_up_in}
 
 -- ---- one entry after the other
 
@@ -112,7 +112,7 @@ best_found v x xs = elim (eqb_tells v 0) [
       first_with v (x ∷ xs) no ∙ ap (λ (n : ℕ). with_version n (x ∷ xs)) (sym asked)
 ]
 
-answer_found : (o : Option PlacedEntry) → answer true o ≡ found o
+answer_found : (o : Option PlacedEntry) → answer true o ≡ first_or_missing o
 answer_found None = refl
 answer_found (Some x) = refl
 

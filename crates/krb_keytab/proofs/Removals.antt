@@ -8,14 +8,14 @@ use Rattle.krb_wire.proofs.Fields.{some_is}
 use Rattle.krb_walk.specs.declared.refusal.Code.TheVariants.{Damaged, NotLive}
 use Rattle.krb_walk.specs.Store.{fault_of, live_bytes as store_bytes, standing, record_of}
 use Rattle.krb_keytab.specs.Entry.{EntryParts, entry_at}
-use Rattle.krb_keytab.specs.Cells.{Cell, Live, Free}
-use Rattle.krb_keytab.specs.Questions.{size, end_place, live_at}
+use Rattle.krb_keytab.specs.Cells.{Cell, Live, Free, size}
+use Rattle.krb_keytab.specs.Questions.{end_place, live_bytes_in}
 use Rattle.krb_keytab.specs.Store.{KeytabState, store_cell, store_of}
-use Rattle.krb_keytab.specs.Find.{PlacedEntry, is_asked, version_asked, found, look_up_in, look_up, find_result, placed_entry, placed_entries}
+use Rattle.krb_keytab.specs.Find.{PlacedEntry, is_asked, version_asked, first_or_missing, look_up_in, look_up, find_result, placed_entry, placed_entries}
 use Rattle.krb_keytab.specs.Changes.{with_hole, cut_result}
 use Rattle.krb_keytab.proofs.CellLemmas.{chosen}
 use Rattle.krb_keytab.proofs.Cuts.{end_place-append, live_behind}
-use Rattle.krb_keytab.proofs.Stores.{past, live_at-store}
+use Rattle.krb_keytab.proofs.Stores.{past, live_bytes_in-store}
 
 -- a record stands at the place
 abbrev IsLiveAt : KeytabState → PlacedEntry → Type 0
@@ -51,8 +51,8 @@ if_placed k p None h = tt
 -- a live cell after others holds its bytes in the store
 pub holds : (k : KeytabState) (front back : List Cell) (b : List ℕ) (p : ℕ) → k.contents.cells ≡ front ++ (Live b ∷ back) → p ≡ end_place 2 front → store_bytes (store_of k) p ≡ Some b
 holds k front back b p parts place =
-    let here : live_at p (Live b ∷ back) p ≡ Some b = rw (eq-eqb p p refl) refl in
-    sym (live_at-store 2 p k.contents.cells) ∙ ap (λ (cs : List Cell). live_at 2 cs p) parts ∙ live_behind front (Live b ∷ back) 2 p place ∙ here
+    let here : live_bytes_in p (Live b ∷ back) p ≡ Some b = rw (eq-eqb p p refl) refl in
+    sym (live_bytes_in-store 2 p k.contents.cells) ∙ ap (λ (cs : List Cell). live_bytes_in 2 cs p) parts ∙ live_behind front (Live b ∷ back) 2 p place ∙ here
 
 stands : (k : KeytabState) (front back : List Cell) (b : List ℕ) (p : ℕ) → k.contents.cells ≡ front ++ (Live b ∷ back) → p ≡ end_place 2 front → is_some (store_bytes (store_of k) p) ≡ true
 stands k front back b p parts place = ap is_some (holds k front back b p parts place)
@@ -70,7 +70,7 @@ all_live k front (Live b ∷ cs) p parts place =
 all_live k front (Free b ∷ cs) p parts place =
     all_live k (front ++ Free b ∷ []) cs (p + (4 + length b)) (parts ∙ sym (append_assoc front (Free b ∷ []) cs)) (next_place front (Free b) p place)
 
-some_found : (o : Option PlacedEntry) (x : PlacedEntry) → found o ≡ Ok x → o ≡ Some x
+some_found : (o : Option PlacedEntry) (x : PlacedEntry) → first_or_missing o ≡ Ok x → o ≡ Some x
 some_found (Some y) x e = cc
 some_found None x e = absurd cc
 

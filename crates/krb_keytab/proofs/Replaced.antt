@@ -11,9 +11,10 @@ use Rattle.krb_wire.specs.declared.format.KtFormat.{KtFormat}
 use Rattle.krb_wire.specs.Spelling.{order_of}
 use Rattle.krb_wire.proofs.Fields.{IsBytes, IsBytes-drop, some_is}
 use Rattle.krb_keytab.specs.declared.image.CellsEnd.{CellsEnd}
-use Rattle.krb_keytab.specs.Cells.{Cell, Live, Free, End, Contents, cell, end_bytes, spelling, contents, IsCell, IsSound}
+use Rattle.krb_keytab.specs.Cells.{Cell, Live, Free, End, Contents, cell, end_bytes, spelling, contents, IsCell, IsSound, size}
 use Rattle.krb_keytab.specs.Step.{ends}
-use Rattle.krb_keytab.specs.Questions.{size, end_place, live_bytes, live_at}
+use Rattle.krb_keytab.specs.Store.{store_cell}
+use Rattle.krb_keytab.specs.Questions.{end_place, live_bytes_in}
 use Rattle.krb_keytab.specs.Image.{IsKnownEnd, IsChanged}
 use Rattle.krb_keytab.specs.Changes.{PlacedCell, turned_at, is_hole, first_hole}
 use Rattle.krb_keytab.proofs.CellLemmas.{chosen, contents_spelled, contents_again}
@@ -43,11 +44,11 @@ here c d cs at p is same = record { front = []; back = cs; parts = ap (λ (x : C
 further : (c d : Cell) (cs : List Cell) (at p : ℕ) → StandsAt cs (at + 4 + size c) p d → StandsAt (c ∷ cs) at p d
 further c d cs at p s = record { front = c ∷ s.front; back = s.back; parts = ap (λ (xs : List Cell). c ∷ xs) s.parts; place = s.place }
 
-is_live : (c : Cell) (b : List ℕ) → live_bytes c ≡ Some b → c ≡ Live b
+is_live : (c : Cell) (b : List ℕ) → (store_cell c).live ≡ Some b → c ≡ Live b
 is_live (Live x) b e = ap (λ (y : List ℕ). Live y) (some_is x b e)
 is_live (Free x) b e = absurd cc
 
-pub live_stands : (cs : List Cell) (at p : ℕ) (b : List ℕ) → live_at at cs p ≡ Some b → StandsAt cs at p (Live b)
+pub live_stands : (cs : List Cell) (at p : ℕ) (b : List ℕ) → live_bytes_in at cs p ≡ Some b → StandsAt cs at p (Live b)
 live_stands [] at p b e = absurd cc
 live_stands (c ∷ cs) at p b e = elim (eqb_tells p at) [
   | inl y ↦ let yes = y.0 in here c (Live b) cs at p y.1 (is_live c b (rw yes at e))

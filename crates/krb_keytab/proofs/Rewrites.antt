@@ -18,10 +18,10 @@ use Rattle.krb_walk.specs.Ranks.{Rewrites}
 use Rattle.krb_walk.proofs.Stops.{records_of}
 use Rattle.krb_walk.proofs.Lives.{lives}
 use Rattle.krb_keytab.specs.Entry.{EntryParts, entry_at, front, entry_of, Spells, version_by}
-use Rattle.krb_keytab.specs.Cells.{Cell, Live, Free, Bare, Contents, bytes_of, length_field, cell, end_bytes, contents, IsCell, IsSound}
-use Rattle.krb_keytab.specs.Questions.{kind_of, end_place}
+use Rattle.krb_keytab.specs.Cells.{Cell, Live, Free, Bare, Contents, bytes_of, length_field, cell, end_bytes, contents, IsCell, IsSound, kind_of}
+use Rattle.krb_keytab.specs.Questions.{end_place}
 use Rattle.krb_keytab.specs.Store.{KeytabState, IsImage, store_cell, store_of, image_of, entries}
-use Rattle.krb_keytab.specs.Form.{written, fits, IsEntry}
+use Rattle.krb_keytab.specs.Form.{written_form, fits, IsEntry}
 use Rattle.krb_keytab.specs.Rewrite.{new_record, rewrite_of, rewrite_result}
 use Rattle.krb_keytab.specs.declared.step.Ending.TheVariants as ending
 use Rattle.krb_keytab.specs.Image.{IsKnownEnd}
@@ -31,7 +31,7 @@ use Rattle.std.proofs.Math.ListN.{drop_of_length-le}
 use Rattle.krb_keytab.proofs.Cuts.{cell_len, end_place_is}
 use Rattle.krb_keytab.proofs.EntryLemmas.{entry_spelled, entry_again}
 use Rattle.krb_keytab.proofs.WrittenLemmas.{written_spells, written_len}
-use Rattle.krb_keytab.proofs.Stores.{store_sound, held}
+use Rattle.krb_keytab.proofs.Stores.{store_sound, keytab_of}
 use Rattle.krb_keytab.proofs.AnewLemmas.{fits_anew}
 use Rattle.krb_keytab.proofs.StoreChanges.{whole_of}
 
@@ -52,8 +52,8 @@ pub entries_all : (k : KeytabState) → entries k ≡ entries_of k.format k.cont
 entries_all k = entries_is k.format 2 k.contents.cells
 
 -- the new cells
-abbrev pub anews : KtFormat → List Cell → List Cell
-anews f cs = map new_record (entries_of f cs)
+abbrev pub new_cells : KtFormat → List Cell → List Cell
+new_cells f cs = map new_record (entries_of f cs)
 
 pub entries_live : (f : KtFormat) (b : List ℕ) (e : EntryParts) (cs : List Cell) → entry_at f b ≡ Some e → entries_of f (Live b ∷ cs) ≡ e ∷ entries_of f cs
 unfolding entries_of
@@ -67,23 +67,23 @@ pub entries_none : (f : KtFormat) → entries_of f [] ≡ []
 unfolding entries_of
 entries_none f = refl
 
-pub anews_live : (f : KtFormat) (b : List ℕ) (e : EntryParts) (cs : List Cell) → entry_at f b ≡ Some e → anews f (Live b ∷ cs) ≡ new_record e ∷ anews f cs
+pub anews_live : (f : KtFormat) (b : List ℕ) (e : EntryParts) (cs : List Cell) → entry_at f b ≡ Some e → new_cells f (Live b ∷ cs) ≡ new_record e ∷ new_cells f cs
 anews_live f b e cs is = ap (map new_record) (entries_live f b e cs is)
 
-pub anews_free : (f : KtFormat) (b : List ℕ) (cs : List Cell) → anews f (Free b ∷ cs) ≡ anews f cs
+pub anews_free : (f : KtFormat) (b : List ℕ) (cs : List Cell) → new_cells f (Free b ∷ cs) ≡ new_cells f cs
 anews_free f b cs = ap (map new_record) (entries_free f b cs)
 
-pub anews_none : (f : KtFormat) → anews f [] ≡ []
+pub anews_none : (f : KtFormat) → new_cells f [] ≡ []
 anews_none f = ap (map new_record) (entries_none f)
 
 -- ---- as many live cells
 
-pub as_many_of : (f : KtFormat) (cs : List Cell) (at to : ℕ) → AllByRecursion (IsCell f) cs → length (lives to (map store_cell (anews f cs))) ≡ length (lives at (map store_cell cs))
+pub as_many_of : (f : KtFormat) (cs : List Cell) (at to : ℕ) → AllByRecursion (IsCell f) cs → length (lives to (map store_cell (new_cells f cs))) ≡ length (lives at (map store_cell cs))
 as_many_of f [] at to sound = ap (λ (ds : List Cell). length (lives to (map store_cell ds))) (anews_none f)
 as_many_of f (Free b ∷ cs) at to sound = ap (λ (ds : List Cell). length (lives to (map store_cell ds))) (anews_free f b cs) ∙ as_many_of f cs (at + (4 + length b)) to sound.1
 as_many_of f (Live b ∷ cs) at to sound =
     let e = is_some_has (entry_at f b) sound.0.2 in
-    ap (λ (ds : List Cell). length (lives to (map store_cell ds))) (anews_live f b e.0 cs e.1) ∙ ap suc (as_many_of f cs (at + (4 + length b)) (to + (4 + length (written V2 e.0))) sound.1)
+    ap (λ (ds : List Cell). length (lives to (map store_cell ds))) (anews_live f b e.0 cs e.1) ∙ ap suc (as_many_of f cs (at + (4 + length b)) (to + (4 + length (written_form V2 e.0))) sound.1)
 
 all_live_of : (es : List EntryParts) → AllByRecursion (λ (c : StoreCell). is_some c.live ≡ true) (map store_cell (map new_record es))
 all_live_of [] = tt
@@ -123,14 +123,14 @@ is_entry f e b fits s =
 pub record GivesBack (e : EntryParts) : Type 0 where
   pub fit : fits V2 e ≡ true
   pub entry : IsEntry e
-  pub back : entry_at V2 (written V2 e) ≡ Some e
+  pub back : entry_at V2 (written_form V2 e) ≡ Some e
 
 pub gives_back : (f : KtFormat) (b : List ℕ) (e : EntryParts) → IsBytes b → entry_at f b ≡ Some e → GivesBack e
 gives_back f b e fits is =
     let s = entry_spelled f b e fits is in
     let fit = fits_anew f e b s in
     let ok = is_entry f e b fits s in
-    record { fit = fit; entry = ok; back = ap (entry_at V2) (sym (append-nil (written V2 e))) ∙ entry_again V2 e (written V2 e ++ []) (written_spells V2 e 0 fit ok) }
+    record { fit = fit; entry = ok; back = ap (entry_at V2) (sym (append-nil (written_form V2 e))) ∙ entry_again V2 e (written_form V2 e ++ []) (written_spells V2 e 0 fit ok) }
 
 -- ---- the new cells are sound
 
@@ -141,10 +141,10 @@ cell_bytes o (c ∷ cs) more fits =
     let fits2 = subst IsBytes grouped fits in
     (IsBytes-behind (digits o w32 (length_field c)) (bytes_of c) (IsBytes-front (cell o c) (flat_map (cell o) cs ++ more) fits2), cell_bytes o cs more (IsBytes-behind (cell o c) (flat_map (cell o) cs ++ more) fits2))
 
-written_some : (e : EntryParts) → 0 < length (written V2 e)
+written_some : (e : EntryParts) → 0 < length (written_form V2 e)
 written_some e = let len = written_len V2 e in omega (arith, len)
 
-pub sound_anew : (f : KtFormat) (cs : List Cell) → AllByRecursion (IsCell f) cs → AllByRecursion (λ c. IsBytes (bytes_of c)) cs → length (flat_map (cell Big) (anews f cs)) < 2 ^ 31 → AllByRecursion (IsCell V2) (anews f cs)
+pub sound_anew : (f : KtFormat) (cs : List Cell) → AllByRecursion (IsCell f) cs → AllByRecursion (λ c. IsBytes (bytes_of c)) cs → length (flat_map (cell Big) (new_cells f cs)) < 2 ^ 31 → AllByRecursion (IsCell V2) (new_cells f cs)
 sound_anew f [] sound fits small = subst (AllByRecursion (IsCell V2)) (sym (anews_none f)) tt
 sound_anew f (Free b ∷ cs) sound fits small =
     subst (AllByRecursion (IsCell V2)) (sym (anews_free f b cs)) (sound_anew f cs sound.1 fits.1 (subst (λ (ds : List Cell). length (flat_map (cell Big) ds) < 2 ^ 31) (anews_free f b cs) small))
@@ -152,20 +152,20 @@ sound_anew f (Live b ∷ cs) sound fits small =
     let e = is_some_has (entry_at f b) sound.0.2 in
     let is = anews_live f b e.0 cs e.1 in
     let g = gives_back f b e.0 fits.0 e.1 in
-    let len : length (flat_map (cell Big) (new_record e.0 ∷ anews f cs)) ≡ (4 + length (written V2 e.0)) + length (flat_map (cell Big) (anews f cs)) =
-    ap length (flat_map-cons (cell Big) (new_record e.0) (anews f cs)) ∙ length-append (cell Big (new_record e.0)) (flat_map (cell Big) (anews f cs)) ∙ ap (λ (n : ℕ). n + length (flat_map (cell Big) (anews f cs))) (cell_len Big (new_record e.0)) in
-    let whole : length (flat_map (cell Big) (new_record e.0 ∷ anews f cs)) < 2 ^ 31 = subst (λ (ds : List Cell). length (flat_map (cell Big) ds) < 2 ^ 31) is small in
+    let len : length (flat_map (cell Big) (new_record e.0 ∷ new_cells f cs)) ≡ (4 + length (written_form V2 e.0)) + length (flat_map (cell Big) (new_cells f cs)) =
+    ap length (flat_map-cons (cell Big) (new_record e.0) (new_cells f cs)) ∙ length-append (cell Big (new_record e.0)) (flat_map (cell Big) (new_cells f cs)) ∙ ap (λ (n : ℕ). n + length (flat_map (cell Big) (new_cells f cs))) (cell_len Big (new_record e.0)) in
+    let whole : length (flat_map (cell Big) (new_record e.0 ∷ new_cells f cs)) < 2 ^ 31 = subst (λ (ds : List Cell). length (flat_map (cell Big) ds) < 2 ^ 31) is small in
     subst (AllByRecursion (IsCell V2)) (sym is) ((written_some e.0, omega (arith, len, whole), ap is_some g.back), sound_anew f cs sound.1 fits.1 (omega (arith, len, whole)))
 
 -- ---- each entry is kept
 
-pub kept_of : (f : KtFormat) (cs : List Cell) → AllByRecursion (IsCell f) cs → AllByRecursion (λ c. IsBytes (bytes_of c)) cs → entries_of V2 (anews f cs) ≡ entries_of f cs
+pub kept_of : (f : KtFormat) (cs : List Cell) → AllByRecursion (IsCell f) cs → AllByRecursion (λ c. IsBytes (bytes_of c)) cs → entries_of V2 (new_cells f cs) ≡ entries_of f cs
 kept_of f [] sound fits = ap (entries_of V2) (anews_none f) ∙ entries_none V2 ∙ sym (entries_none f)
 kept_of f (Free b ∷ cs) sound fits = ap (entries_of V2) (anews_free f b cs) ∙ kept_of f cs sound.1 fits.1 ∙ sym (entries_free f b cs)
 kept_of f (Live b ∷ cs) sound fits =
     let e = is_some_has (entry_at f b) sound.0.2 in
     let g = gives_back f b e.0 fits.0 e.1 in
-    ap (entries_of V2) (anews_live f b e.0 cs e.1) ∙ entries_live V2 (written V2 e.0) e.0 (anews f cs) g.back ∙ ap (λ (es : List EntryParts). e.0 ∷ es) (kept_of f cs sound.1 fits.1) ∙ sym (entries_live f b e.0 cs e.1)
+    ap (entries_of V2) (anews_live f b e.0 cs e.1) ∙ entries_live V2 (written_form V2 e.0) e.0 (new_cells f cs) g.back ∙ ap (λ (es : List EntryParts). e.0 ∷ es) (kept_of f cs sound.1 fits.1) ∙ sym (entries_live f b e.0 cs e.1)
 
 -- ---- the keytab and its image
 
@@ -229,7 +229,7 @@ rewriting_done k n whole is le =
     rw (whole, short) refl
 
 -- the new image, as a keytab
-pub held_anew : (f : KtFormat) (limit : ℕ) (image new : List ℕ) (k : KeytabState) → held f limit image ≡ k → contents V2 (drop 2 new) ≡ (rewrite_of k).contents → held V2 limit new ≡ rewrite_of k
+pub held_anew : (f : KtFormat) (limit : ℕ) (image new : List ℕ) (k : KeytabState) → keytab_of f limit image ≡ k → contents V2 (drop 2 new) ≡ (rewrite_of k).contents → keytab_of V2 limit new ≡ rewrite_of k
 held_anew f limit image new k is spelled =
     ap (λ (x : Contents). record { format = V2; limit = limit; contents = x }) spelled ∙ ap (λ (n : ℕ). record { format = V2; limit = n; contents = (rewrite_of k).contents }) (ap (λ (s : KeytabState). s.limit) is)
 

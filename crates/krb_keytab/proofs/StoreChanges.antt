@@ -11,15 +11,14 @@ use Rattle.krb_walk.specs.declared.refusal.Refusal.{Refusal}
 use Rattle.krb_walk.specs.Store.{end_of, fault_from, fault_of, live_bytes as store_bytes}
 use Rattle.krb_walk.specs.Changes.{OneCell, Puts, Cuts}
 use Rattle.krb_keytab.specs.Entry.{EntryParts}
-use Rattle.krb_keytab.specs.Cells.{Cell, Live, Free, End, Bare, Mark, Damaged}
-use Rattle.krb_keytab.specs.Questions.{kind_of}
+use Rattle.krb_keytab.specs.Cells.{Cell, Live, Free, End, Bare, Mark, Damaged, kind_of}
 use Rattle.krb_keytab.specs.Store.{KeytabState, store_cell, store_of, image_of, entry_at_place}
-use Rattle.krb_keytab.specs.Form.{fits, written, read_back, IsEntry}
+use Rattle.krb_keytab.specs.Form.{fits, written_form, read_back, IsEntry}
 use Rattle.krb_keytab.specs.Changes.{PlacedCell, turned_at, zero_hole, is_hole, with_zeros, record_in, first_hole, with_record_in, with_last, end_after, with_hole, append_result, put_result_into, put_bytes_result, put_result, cut_result}
 use Rattle.krb_walk.specs.Rules.{PutGives, CutGives}
 use Rattle.krb_keytab.proofs.CellLemmas.{chosen}
 use Rattle.krb_keytab.proofs.FoundAgain.{added_reads, removed_none}
-use Rattle.krb_keytab.proofs.Stores.{end_place-store, live_at-store}
+use Rattle.krb_keytab.proofs.Stores.{end_place-store, live_bytes_in-store}
 use Rattle.krb_keytab.proofs.Turned.{padded_len}
 use Rattle.krb_keytab.proofs.Replaced.{StandsAt, live_stands, hole_stands, turned}
 
@@ -47,7 +46,7 @@ freed_len n = length-replicate n 0
 
 cuts_at : (k : KeytabState) (p : ℕ) (b : List ℕ) → (store_of k).fault ≡ None → store_bytes (store_of k) p ≡ Some b → Cuts (store_of k) (store_of (with_hole k p)) p
 cuts_at k p b whole held =
-    let s = live_stands k.contents.cells 2 p b (live_at-store 2 p k.contents.cells ∙ held) in
+    let s = live_stands k.contents.cells 2 p b (live_bytes_in-store 2 p k.contents.cells ∙ held) in
     let one = turned_cell k zero_hole p (Live b) s in
     record {
       whole = whole;
@@ -139,8 +138,8 @@ puts_of : (k : KeytabState) (e : EntryParts) (p : ℕ) (new : KeytabState) → p
 puts_of k e p new is =
     elim (chosen (is_some (fault_of (store_of k))) (Err code.Damaged) _ (Ok (p, new)) is) [
       | inl h ↦ absurd (let no = h.1 in cc)
-      | inr h ↦ elim (chosen (fits k.format e) (put_bytes_result k (written k.format e)) (Err TooLong) (Ok (p, new)) h.1) [
-        | inl g ↦ filled_hole k (written k.format e) p new (first_hole 2 (length (written k.format e)) k.contents.cells) (whole_of _ _ h.0) refl g.1
+      | inr h ↦ elim (chosen (fits k.format e) (put_bytes_result k (written_form k.format e)) (Err TooLong) (Ok (p, new)) h.1) [
+        | inl g ↦ filled_hole k (written_form k.format e) p new (first_hole 2 (length (written_form k.format e)) k.contents.cells) (whole_of _ _ h.0) refl g.1
         | inr g ↦ absurd (let no = g.1 in cc)
       ]
     ]

@@ -16,11 +16,11 @@ use Rattle.krb_keytab.specs.declared.image.CellsEnd.{CellsEnd}
 use Rattle.krb_keytab.specs.declared.step.Ending.{Ending}
 use Rattle.krb_keytab.specs.declared.step.Ending.TheVariants as ending
 use Rattle.krb_keytab.specs.Entry.{entry_at}
-use Rattle.krb_keytab.specs.Cells.{Cell, Live, Free, End, Contents, contents, IsCell, IsSound}
+use Rattle.krb_keytab.specs.Cells.{Cell, Live, Free, End, Contents, contents, IsCell, IsSound, size, kind_of}
 use Rattle.krb_keytab.specs.Step.{ends, ending_kind, ending_fault}
 use Rattle.krb_keytab.specs.Image.{IsKnownEnd}
 use Rattle.krb_keytab.specs.CellsFrom.{CellsFrom, AreKnown, cells_of}
-use Rattle.krb_keytab.specs.Questions.{size, end_place, is_place, kind_of, stop_from, live_bytes, live_at}
+use Rattle.krb_keytab.specs.Questions.{end_place, is_place_in, stop_in, live_bytes_in}
 use Rattle.krb_keytab.specs.Store.{KeytabState, InMemory, IsImage, store_cell, store_of}
 use Rattle.krb_keytab.proofs.Cuts.{live_entry}
 
@@ -39,31 +39,31 @@ eqb-sym a b = elim (eqb_tells a b) [
   | inr n ↦ rw (n.0) (sym (ne_eqb b a (λ e. n.1 (sym e))))
 ]
 
-place_cons : (at p : ℕ) (c : Cell) (cs : List Cell) → is_place (at + 4 + size c) cs p ≡ is_place_from (at + (4 + size c)) (map store_cell cs) p → is_place at (c ∷ cs) p ≡ ((at == p) || is_place_from (at + (4 + size c)) (map store_cell cs) p)
+place_cons : (at p : ℕ) (c : Cell) (cs : List Cell) → is_place_in (at + 4 + size c) cs p ≡ is_place_from (at + (4 + size c)) (map store_cell cs) p → is_place_in at (c ∷ cs) p ≡ ((at == p) || is_place_from (at + (4 + size c)) (map store_cell cs) p)
 place_cons at p c cs ih = elim (eqb_tells p at) [
   | inl y ↦ let yes = y.0 in let back : (at == p) ≡ true = eq-eqb at p (sym y.1) in rw (yes, back) refl
   | inr n ↦ let no = n.0 in let back : (at == p) ≡ false = ne_eqb at p (λ e. n.1 (sym e)) in rw (no, back) ih
 ]
 
-pub is_place-store : (at p : ℕ) (cs : List Cell) → is_place at cs p ≡ is_place_from at (map store_cell cs) p
-is_place-store at p [] = eqb-sym p at
-is_place-store at p (Live b ∷ cs) = place_cons at p (Live b) cs (is_place-store (at + 4 + length b) p cs ∙ ap (λ (n : ℕ). is_place_from n (map store_cell cs) p) (past at (length b)))
-is_place-store at p (Free b ∷ cs) = place_cons at p (Free b) cs (is_place-store (at + 4 + length b) p cs ∙ ap (λ (n : ℕ). is_place_from n (map store_cell cs) p) (past at (length b)))
+pub is_place_in-store : (at p : ℕ) (cs : List Cell) → is_place_in at cs p ≡ is_place_from at (map store_cell cs) p
+is_place_in-store at p [] = eqb-sym p at
+is_place_in-store at p (Live b ∷ cs) = place_cons at p (Live b) cs (is_place_in-store (at + 4 + length b) p cs ∙ ap (λ (n : ℕ). is_place_from n (map store_cell cs) p) (past at (length b)))
+is_place_in-store at p (Free b ∷ cs) = place_cons at p (Free b) cs (is_place_in-store (at + 4 + length b) p cs ∙ ap (λ (n : ℕ). is_place_from n (map store_cell cs) p) (past at (length b)))
 
-live_cons : (at p : ℕ) (c : Cell) (cs : List Cell) → live_at (at + 4 + size c) cs p ≡ bytes_from (at + (store_cell c).width) (map store_cell cs) p → live_bytes c ≡ (store_cell c).live → live_at at (c ∷ cs) p ≡ bytes_from at (store_cell c ∷ map store_cell cs) p
-live_cons at p (Live b) cs ih same = elim (eqb_tells p at) [
+live_cons : (at p : ℕ) (c : Cell) (cs : List Cell) → live_bytes_in (at + 4 + size c) cs p ≡ bytes_from (at + (store_cell c).width) (map store_cell cs) p → live_bytes_in at (c ∷ cs) p ≡ bytes_from at (store_cell c ∷ map store_cell cs) p
+live_cons at p (Live b) cs ih = elim (eqb_tells p at) [
   | inl y ↦ let yes = y.0 in let back : (at == p) ≡ true = eq-eqb at p (sym y.1) in rw (yes, back) refl
   | inr n ↦ let no = n.0 in let back : (at == p) ≡ false = ne_eqb at p (λ e. n.1 (sym e)) in rw (no, back) ih
 ]
-live_cons at p (Free b) cs ih same = elim (eqb_tells p at) [
+live_cons at p (Free b) cs ih = elim (eqb_tells p at) [
   | inl y ↦ let yes = y.0 in let back : (at == p) ≡ true = eq-eqb at p (sym y.1) in rw (yes, back) refl
   | inr n ↦ let no = n.0 in let back : (at == p) ≡ false = ne_eqb at p (λ e. n.1 (sym e)) in rw (no, back) ih
 ]
 
-pub live_at-store : (at p : ℕ) (cs : List Cell) → live_at at cs p ≡ bytes_from at (map store_cell cs) p
-live_at-store at p [] = refl
-live_at-store at p (Live b ∷ cs) = live_cons at p (Live b) cs (live_at-store (at + 4 + length b) p cs ∙ ap (λ (n : ℕ). bytes_from n (map store_cell cs) p) (past at (length b))) refl
-live_at-store at p (Free b ∷ cs) = live_cons at p (Free b) cs (live_at-store (at + 4 + length b) p cs ∙ ap (λ (n : ℕ). bytes_from n (map store_cell cs) p) (past at (length b))) refl
+pub live_bytes_in-store : (at p : ℕ) (cs : List Cell) → live_bytes_in at cs p ≡ bytes_from at (map store_cell cs) p
+live_bytes_in-store at p [] = refl
+live_bytes_in-store at p (Live b ∷ cs) = live_cons at p (Live b) cs (live_bytes_in-store (at + 4 + length b) p cs ∙ ap (λ (n : ℕ). bytes_from n (map store_cell cs) p) (past at (length b)))
+live_bytes_in-store at p (Free b ∷ cs) = live_cons at p (Free b) cs (live_bytes_in-store (at + 4 + length b) p cs ∙ ap (λ (n : ℕ). bytes_from n (map store_cell cs) p) (past at (length b)))
 
 -- where a walk stops that finds a record, or none, before an end
 abbrev pub stop_by : ℕ → Option FaultKind → Option Record → Stop
@@ -87,7 +87,7 @@ stop_past at p w b cs kind lt =
 stop_here : (at p w : ℕ) (b : List ℕ) (cs : List StoreCell) (kind : Option FaultKind) → p ≤ at → stop.Live at (at + w) ≡ store_stop at (record { width = w; live = Some b } ∷ cs) kind p
 stop_here at p w b cs kind le = sym (ap (stop_by (end_from (at + w) cs) kind) (next_stops at p w b cs le))
 
-stop_cons : (at p : ℕ) (b : List ℕ) (cs : List Cell) (e : End) → stop_from (at + 4 + length b) cs e p ≡ store_stop (at + (4 + length b)) (map store_cell cs) (kind_of e) p → stop_from at (Live b ∷ cs) e p ≡ store_stop at (map store_cell (Live b ∷ cs)) (kind_of e) p
+stop_cons : (at p : ℕ) (b : List ℕ) (cs : List Cell) (e : End) → stop_in (at + 4 + length b) cs e p ≡ store_stop (at + (4 + length b)) (map store_cell cs) (kind_of e) p → stop_in at (Live b ∷ cs) e p ≡ store_stop at (map store_cell (Live b ∷ cs)) (kind_of e) p
 stop_cons at p b cs e ih = elim (leb_tells p at) [
   | inl y ↦
       let here : ltb at p ≡ false = le-ltb at p y.1 in
@@ -97,10 +97,10 @@ stop_cons at p b cs e ih = elim (leb_tells p at) [
       rw before (ih ∙ stop_past at p (4 + length b) b (map store_cell cs) (kind_of e) n.1)
 ]
 
-pub stop_from-store : (at p : ℕ) (cs : List Cell) (e : End) → stop_from at cs e p ≡ store_stop at (map store_cell cs) (kind_of e) p
-stop_from-store at p [] e = refl
-stop_from-store at p (Live b ∷ cs) e = stop_cons at p b cs e (stop_from-store (at + 4 + length b) p cs e ∙ ap (λ (n : ℕ). store_stop n (map store_cell cs) (kind_of e) p) (past at (length b)))
-stop_from-store at p (Free b ∷ cs) e = stop_from-store (at + 4 + length b) p cs e ∙ ap (λ (n : ℕ). store_stop n (map store_cell cs) (kind_of e) p) (past at (length b)) ∙ stop_free at p (4 + length b) (map store_cell cs) (kind_of e)
+pub stop_in-store : (at p : ℕ) (cs : List Cell) (e : End) → stop_in at cs e p ≡ store_stop at (map store_cell cs) (kind_of e) p
+stop_in-store at p [] e = refl
+stop_in-store at p (Live b ∷ cs) e = stop_cons at p b cs e (stop_in-store (at + 4 + length b) p cs e ∙ ap (λ (n : ℕ). store_stop n (map store_cell cs) (kind_of e) p) (past at (length b)))
+stop_in-store at p (Free b ∷ cs) e = stop_in-store (at + 4 + length b) p cs e ∙ ap (λ (n : ℕ). store_stop n (map store_cell cs) (kind_of e) p) (past at (length b)) ∙ stop_free at p (4 + length b) (map store_cell cs) (kind_of e)
 
 -- each cell takes up places
 pub store_sound : (f : KtFormat) (cs : List Cell) → AllByRecursion (IsCell f) cs → AllByRecursion (λ (c : StoreCell). 0 < c.width) (map store_cell cs)
@@ -115,10 +115,10 @@ pub state_is : {a b : InMemory} → a ≡ b → a.state ≡ b.state
 state_is is = ap (λ (k : InMemory). k.state) is
 
 -- the keytab of an image
-abbrev pub held : KtFormat → ℕ → List ℕ → KeytabState
-held f limit image = record { format = f; limit = limit; contents = contents f (drop 2 image) }
+abbrev pub keytab_of : KtFormat → ℕ → List ℕ → KeytabState
+keytab_of f limit image = record { format = f; limit = limit; contents = contents f (drop 2 image) }
 
-pub end_held : (f : KtFormat) (limit : ℕ) (image : List ℕ) (k : KeytabState) (e : CellsEnd) → IsKnownEnd f image e → held f limit image ≡ k → e.place ≡ end_of (store_of k)
+pub end_held : (f : KtFormat) (limit : ℕ) (image : List ℕ) (k : KeytabState) (e : CellsEnd) → IsKnownEnd f image e → keytab_of f limit image ≡ k → e.place ≡ end_of (store_of k)
 end_held f limit image k e known is = sym known.place ∙ end_place-store 2 (contents f (drop 2 image)).cells ∙ ap (λ (x : KeytabState). end_of (store_of x)) is
 
 kind_ends : (bytes : List ℕ) (e : Ending) → kind_of (ends bytes e) ≡ ending_kind e
@@ -126,23 +126,23 @@ kind_ends bytes ending.Bare = refl
 kind_ends bytes ending.Mark = refl
 kind_ends bytes (ending.Damaged kind) = refl
 
-pub fault_held : (f : KtFormat) (limit : ℕ) (image : List ℕ) (k : KeytabState) (e : CellsEnd) (place : ℕ) (answer : Option Fault) → IsKnownEnd f image e → held f limit image ≡ k → place ≡ end_of (store_of k) → answer ≡ ending_fault place e.ending → answer ≡ fault_of (store_of k)
+pub fault_held : (f : KtFormat) (limit : ℕ) (image : List ℕ) (k : KeytabState) (e : CellsEnd) (place : ℕ) (answer : Option Fault) → IsKnownEnd f image e → keytab_of f limit image ≡ k → place ≡ end_of (store_of k) → answer ≡ ending_fault place e.ending → answer ≡ fault_of (store_of k)
 fault_held f limit image k e place answer known is at said =
     let kind : ending_kind e.ending ≡ kind_of (contents f (drop 2 image)).end =
     sym (ap kind_of known.same ∙ ap (λ (x : Contents). kind_of x.end) known.ending ∙ kind_ends (drop e.place image) e.ending) in
     said ∙ ap (λ (x : Option FaultKind). fault_from place x) (kind ∙ ap (λ (x : KeytabState). kind_of x.contents.end) is) ∙ ap (λ (n : ℕ). fault_from n (kind_of k.contents.end)) at
 
-pub is_place_held : (f : KtFormat) (limit : ℕ) (image bytes : List ℕ) (k : KeytabState) (p : ℕ) (answer : Bool) → bytes ≡ image → held f limit image ≡ k → answer ≡ is_place 2 (contents f (drop 2 bytes)).cells p → answer ≡ is_store_place (store_of k) p
+pub is_place_held : (f : KtFormat) (limit : ℕ) (image bytes : List ℕ) (k : KeytabState) (p : ℕ) (answer : Bool) → bytes ≡ image → keytab_of f limit image ≡ k → answer ≡ is_place_in 2 (contents f (drop 2 bytes)).cells p → answer ≡ is_store_place (store_of k) p
 is_place_held f limit image bytes k p answer same is said =
-    said ∙ ap (λ (b : List ℕ). is_place 2 (contents f (drop 2 b)).cells p) same ∙ is_place-store 2 p (contents f (drop 2 image)).cells ∙ ap (λ (x : KeytabState). is_store_place (store_of x) p) is
+    said ∙ ap (λ (b : List ℕ). is_place_in 2 (contents f (drop 2 b)).cells p) same ∙ is_place_in-store 2 p (contents f (drop 2 image)).cells ∙ ap (λ (x : KeytabState). is_store_place (store_of x) p) is
 
-pub place_held : (f : KtFormat) (limit : ℕ) (image bytes : List ℕ) (k : KeytabState) (p : ℕ) → bytes ≡ image → held f limit image ≡ k → is_store_place (store_of k) p ≡ true → is_place 2 (contents f (drop 2 bytes)).cells p ≡ true
+pub place_held : (f : KtFormat) (limit : ℕ) (image bytes : List ℕ) (k : KeytabState) (p : ℕ) → bytes ≡ image → keytab_of f limit image ≡ k → is_store_place (store_of k) p ≡ true → is_place_in 2 (contents f (drop 2 bytes)).cells p ≡ true
 place_held f limit image bytes k p same is h =
-    is_place_held f limit image bytes k p (is_place 2 (contents f (drop 2 bytes)).cells p) same is refl ∙ h
+    is_place_held f limit image bytes k p (is_place_in 2 (contents f (drop 2 bytes)).cells p) same is refl ∙ h
 
-pub live_held : (f : KtFormat) (limit : ℕ) (image bytes : List ℕ) (k : KeytabState) (p : ℕ) → bytes ≡ image → held f limit image ≡ k → live_at 2 (contents f (drop 2 bytes)).cells p ≡ store_bytes (store_of k) p
+pub live_held : (f : KtFormat) (limit : ℕ) (image bytes : List ℕ) (k : KeytabState) (p : ℕ) → bytes ≡ image → keytab_of f limit image ≡ k → live_bytes_in 2 (contents f (drop 2 bytes)).cells p ≡ store_bytes (store_of k) p
 live_held f limit image bytes k p same is =
-    ap (λ (b : List ℕ). live_at 2 (contents f (drop 2 b)).cells p) same ∙ live_at-store 2 p (contents f (drop 2 image)).cells ∙ ap (λ (x : KeytabState). store_bytes (store_of x) p) is
+    ap (λ (b : List ℕ). live_bytes_in 2 (contents f (drop 2 b)).cells p) same ∙ live_bytes_in-store 2 p (contents f (drop 2 image)).cells ∙ ap (λ (x : KeytabState). store_bytes (store_of x) p) is
 
 -- ---- the cells of a keytab
 
@@ -153,21 +153,21 @@ known_held f limit image bytes e same is known =
     let fits = is.limit_fits in
     subst (λ (b : List ℕ). AreKnown f b 2 e) (sym same) (record { within = long; small = omega (arith, within, fits); ends = known })
 
-pub cells_held : (f : KtFormat) (limit : ℕ) (image bytes : List ℕ) (k : KeytabState) → bytes ≡ image → held f limit image ≡ k → ◌≡◌ {A = CellsFrom} (record { format = f; place = 2; contents = contents f (drop 2 bytes) }) (cells_of k)
-cells_held f limit image bytes k same is = ap (λ (b : List ℕ). cells_of (held f limit b)) same ∙ ap (λ (x : KeytabState). cells_of x) is
+pub cells_held : (f : KtFormat) (limit : ℕ) (image bytes : List ℕ) (k : KeytabState) → bytes ≡ image → keytab_of f limit image ≡ k → ◌≡◌ {A = CellsFrom} (record { format = f; place = 2; contents = contents f (drop 2 bytes) }) (cells_of k)
+cells_held f limit image bytes k same is = ap (λ (b : List ℕ). cells_of (keytab_of f limit b)) same ∙ ap (λ (x : KeytabState). cells_of x) is
 
-pub place_of_cells : (k : KeytabState) (cells : CellsFrom) (p : ℕ) → cells ≡ cells_of k → is_place cells.place cells.contents.cells p ≡ is_store_place (store_of k) p
-place_of_cells k cells p is = ap (λ (x : CellsFrom). is_place x.place x.contents.cells p) is ∙ is_place-store 2 p k.contents.cells
+pub place_of_cells : (k : KeytabState) (cells : CellsFrom) (p : ℕ) → cells ≡ cells_of k → is_place_in cells.place cells.contents.cells p ≡ is_store_place (store_of k) p
+place_of_cells k cells p is = ap (λ (x : CellsFrom). is_place_in x.place x.contents.cells p) is ∙ is_place_in-store 2 p k.contents.cells
 
-pub stop_of_cells : (k : KeytabState) (cells : CellsFrom) (p : ℕ) → cells ≡ cells_of k → stop_from cells.place cells.contents.cells cells.contents.end p ≡ stop_at (store_of k) p
-stop_of_cells k cells p is = ap (λ (x : CellsFrom). stop_from x.place x.contents.cells x.contents.end p) is ∙ stop_from-store 2 p k.contents.cells k.contents.end
+pub stop_of_cells : (k : KeytabState) (cells : CellsFrom) (p : ℕ) → cells ≡ cells_of k → stop_in cells.place cells.contents.cells cells.contents.end p ≡ stop_at (store_of k) p
+stop_of_cells k cells p is = ap (λ (x : CellsFrom). stop_in x.place x.contents.cells x.contents.end p) is ∙ stop_in-store 2 p k.contents.cells k.contents.end
 
-pub live_of_cells : (k : KeytabState) (cells : CellsFrom) (p : ℕ) → cells ≡ cells_of k → live_at cells.place cells.contents.cells p ≡ store_bytes (store_of k) p
-live_of_cells k cells p is = ap (λ (x : CellsFrom). live_at x.place x.contents.cells p) is ∙ live_at-store 2 p k.contents.cells
+pub live_of_cells : (k : KeytabState) (cells : CellsFrom) (p : ℕ) → cells ≡ cells_of k → live_bytes_in cells.place cells.contents.cells p ≡ store_bytes (store_of k) p
+live_of_cells k cells p is = ap (λ (x : CellsFrom). live_bytes_in x.place x.contents.cells p) is ∙ live_bytes_in-store 2 p k.contents.cells
 
 -- the bytes of a record begin with an entry
 pub entry_held : (k : KeytabState) (p : ℕ) (b : List ℕ) → IsSound k.format k.contents → store_bytes (store_of k) p ≡ Some b → IsSome (entry_at k.format b)
-entry_held k p b sound e = live_entry k.format k.contents.cells 2 p b sound.cells (live_at-store 2 p k.contents.cells ∙ e)
+entry_held k p b sound e = live_entry k.format k.contents.cells 2 p b sound.cells (live_bytes_in-store 2 p k.contents.cells ∙ e)
 
 -- a read that is sure to give an entry gives one
 pub none_there : {X Y : Type 0} (view : X → Y) (result : Option X) (read : Option Y) (o : Option (List ℕ)) → Gives view result read → IsSome read → IfNone result (o ≡ None)

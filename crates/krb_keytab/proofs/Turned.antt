@@ -9,8 +9,8 @@ use Rattle.krb_wire.specs.Spelling.{order_of}
 use Rattle.krb_wire.proofs.Fields.{IsBytes, IsBytes-drop, some_is}
 use Rattle.krb_keytab.specs.declared.image.CellsEnd.{CellsEnd}
 use Rattle.krb_keytab.specs.declared.hole.Hole.{Hole}
-use Rattle.krb_keytab.specs.Cells.{Cell, Live, Free, Bare, cell, next, walk, contents, IsCell}
-use Rattle.krb_keytab.specs.Questions.{size, end_place, live_at}
+use Rattle.krb_keytab.specs.Cells.{Cell, Live, Free, Bare, cell, next, walk, contents, IsCell, size}
+use Rattle.krb_keytab.specs.Questions.{end_place, live_bytes_in}
 use Rattle.krb_keytab.specs.Image.{IsKnownEnd, IsChanged}
 use Rattle.krb_keytab.specs.Changes.{PlacedCell, turned_at, zero_hole, is_hole, first_hole, with_zeros, record_in}
 use Rattle.krb_keytab.specs.Hole.{hole_of, hole_from}
@@ -48,12 +48,12 @@ stands_in f image p c end fits known s =
       sound = (all_back (IsCell f) s.front (c ∷ s.back) (subst (AllByRecursion (IsCell f)) s.parts sound.cells)).0;
     }
 
-pub live_in : (f : KtFormat) (image : List ℕ) (p : ℕ) (b : List ℕ) (end : CellsEnd) → IsBytes image → IsKnownEnd f image end → Some b ≡ live_at 2 (contents f (drop 2 image)).cells p → StandsIn f image p (Live b)
+pub live_in : (f : KtFormat) (image : List ℕ) (p : ℕ) (b : List ℕ) (end : CellsEnd) → IsBytes image → IsKnownEnd f image end → Some b ≡ live_bytes_in 2 (contents f (drop 2 image)).cells p → StandsIn f image p (Live b)
 live_in f image p b end fits known live = stands_in f image p (Live b) end fits known (live_stands (contents f (drop 2 image)).cells 2 p b (sym live))
 
 -- a live cell is made a hole of zeros
 pub freed_is : (f : KtFormat) (image image' b : List ℕ) (p n : ℕ) (end : CellsEnd) → 2 ≤ length image → 0 < n → n ≤ 2 ^ 31 → IsBytes image → IsBytes image' → IsKnownEnd f image end
-    → Some b ≡ live_at 2 (contents f (drop 2 image)).cells p → n ≡ length b
+    → Some b ≡ live_bytes_in 2 (contents f (drop 2 image)).cells p → n ≡ length b
     → image' ≡ splice image p (p + 4 + n) (cell (order_of f) (Free (replicate {A = ℕ} n 0)))
     → IsChanged f image image' (record { cells = turned_at 2 zero_hole p (contents f (drop 2 image)).cells; end = (contents f (drop 2 image)).end }) end
 freed_is f image image' b p n end long some small fits fits' known live len written =

@@ -10,7 +10,7 @@ use Rattle.krb_wire.specs.declared.format.KtFormat.TheVariants.{V1, V2}
 use Rattle.krb_wire.specs.Spelling.{digits, data16, order_of, kt_principal, IsShort, is_short, name_fits, HasNameType}
 use Rattle.krb_wire.proofs.Fields.{some_is, wide16, wide32, number_again}
 use Rattle.krb_keytab.specs.Entry.{EntryParts, front, version_by, Spells}
-use Rattle.krb_keytab.specs.Form.{fits, front_of, written, kept_type, read_back, IsEntry, IsRecord}
+use Rattle.krb_keytab.specs.Form.{fits, front_of, written_form, kept_type, read_back, IsEntry, IsRecord}
 use Rattle.krb_keytab.proofs.EntryLemmas.{entry_again}
 use Rattle.krb_wire.proofs.NamesTold.{and_both, both_and}
 use Rattle.krb_keytab.proofs.Splices.{Wrote, wrote-then}
@@ -34,7 +34,7 @@ fits_yes f e h le = sym (both_and (name_fits f e.principal) (is_short e.key) h (
 data16_len : (o : Order) (c : List ℕ) → length (data16 o c) ≡ 2 + length c
 data16_len o c = omega (arith, length-append (digits o w16 (length c)) c, (wide16 o).len (length c))
 
-pub written_len : (f : KtFormat) (e : EntryParts) → length (written f e) ≡ length (kt_principal f e.principal) + 13 + length e.key
+pub written_len : (f : KtFormat) (e : EntryParts) → length (written_form f e) ≡ length (kt_principal f e.principal) + 13 + length e.key
 written_len f e =
     let o = order_of f in
     let d0 = kt_principal f e.principal in
@@ -60,7 +60,7 @@ version_back v rest = elim (eqb_tells v 0) [
   | inr n ↦ let no = n.0 in rw no refl
 ]
 
-pub written_spells : (f : KtFormat) (e : EntryParts) (n : ℕ) → fits f e ≡ true → IsEntry e → Spells f (read_back f e) (written f e ++ replicate n 0)
+pub written_spells : (f : KtFormat) (e : EntryParts) (n : ℕ) → fits f e ≡ true → IsEntry e → Spells f (read_back f e) (written_form f e ++ replicate n 0)
 written_spells f e n fit is =
     let o = order_of f in
     let d5 = digits o w32 e.version in
@@ -81,12 +81,12 @@ written_spells f e n fit is =
           (sym (ap (version_by (e.version % 256)) (number_again o w32 (2 ^ 32) (wide32 o) e.version z is.version) ∙ version_back e.version z));
     }
 
-pub only_written : (f : KtFormat) (e x : EntryParts) (n : ℕ) → fits f e ≡ true → IsEntry e → Spells f x (written f e ++ replicate n 0) → x ≡ read_back f e
+pub only_written : (f : KtFormat) (e x : EntryParts) (n : ℕ) → fits f e ≡ true → IsEntry e → Spells f x (written_form f e ++ replicate n 0) → x ≡ read_back f e
 only_written f e x n fit is s =
-    some_is x (read_back f e) (sym (entry_again f x (written f e ++ replicate n 0) s) ∙ entry_again f (read_back f e) (written f e ++ replicate n 0) (written_spells f e n fit is))
+    some_is x (read_back f e) (sym (entry_again f x (written_form f e ++ replicate n 0) s) ∙ entry_again f (read_back f e) (written_form f e ++ replicate n 0) (written_spells f e n fit is))
 
-pub written_is_record : (f : KtFormat) (e : EntryParts) → fits f e ≡ true → IsEntry e → IsRecord f (written f e)
-written_is_record f e fit is = λ n. ap is_some (entry_again f (read_back f e) (written f e ++ replicate {A = ℕ} n 0) (written_spells f e n fit is))
+pub written_is_record : (f : KtFormat) (e : EntryParts) → fits f e ≡ true → IsEntry e → IsRecord f (written_form f e)
+written_is_record f e fit is = λ n. ap is_some (entry_again f (read_back f e) (written_form f e ++ replicate {A = ℕ} n 0) (written_spells f e n fit is))
 
 -- ---- written part by part
 
@@ -95,7 +95,7 @@ regroup a b c d e f = simp append_assoc
 
 pub entry_put : (f : KtFormat) (e : EntryParts) (o : Order) (bytes old a b c d x new : List ℕ) (at i j k l m n : ℕ) → o ≡ order_of f → bytes ≡ e.key → at ≤ length old
     → Wrote old a at i (kt_principal f e.principal) → Wrote a b i j (digits o w32 e.timestamp) → Wrote b c j k ((e.version % 256) ∷ []) → Wrote c d k l (digits o w16 e.enctype) → Wrote d x l m (data16 o bytes) → Wrote x new m n (digits o w32 e.version)
-    → Wrote old new at n (written f e)
+    → Wrote old new at n (written_form f e)
 entry_put f e o bytes old a b c d x new at i j k l m n is_o is_key le w0 w1 w2 w3 w4 w5 =
     let d0 = kt_principal f e.principal in
     let d1 = digits o w32 e.timestamp in

@@ -3,8 +3,8 @@ use Rattle.std.specs.Prelude.{◌≡◌, ◌≢◌, ℕ, ◌^◌, ◌<◌, ◌�
 use Rattle.std.specs.Int.{w32}
 use Rattle.krb_wire.specs.declared.format.Order.TheVariants.{Big}
 use Rattle.krb_wire.specs.Spelling.{digits}
-use Rattle.krb_keytab.specs.Cells.{Cell, Live, Free}
-use Rattle.krb_keytab.specs.Questions.{size, is_place}
+use Rattle.krb_keytab.specs.Cells.{Cell, Live, Free, size}
+use Rattle.krb_keytab.specs.Questions.{is_place_in}
 
 -- a new cell is passed for each live one: the place after it
 abbrev pub place_after : Cell → ℕ → List Cell → ℕ
@@ -30,7 +30,7 @@ pub record Tells (image : List ℕ) (p n : ℕ) : Type 0 where
 
 -- at each place before the end they tell where it is carried
 abbrev pub AreGiven : List ℕ → ℕ → List Cell → ℕ → List Cell → Type 0
-AreGiven image end cs to ds = (p : ℕ) → is_place 2 cs p ≡ true → p < end → Tells image p (new_place 2 cs to ds p)
+AreGiven image end cs to ds = (p : ℕ) → is_place_in 2 cs p ≡ true → p < end → Tells image p (new_place 2 cs to ds p)
 
 -- four bytes stand at a place that is not the end
 abbrev pub HasGiven : List ℕ → ℕ → ℕ → Type 0

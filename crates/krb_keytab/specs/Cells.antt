@@ -34,6 +34,10 @@ abbrev pub bytes_of : Cell → List ℕ
 bytes_of (Live b) = b
 bytes_of (Free b) = b
 
+-- how many bytes a cell has after its length
+abbrev pub size : Cell → ℕ
+size c = length (bytes_of c)
+
 -- the length, in two's complement, negated where the cell is free
 abbrev pub length_field : Cell → ℕ
 length_field (Live b) = length b
@@ -52,6 +56,12 @@ end_bytes o (Damaged kind rest) = rest
 -- the bytes after the two version bytes
 abbrev pub spelling : Order → Contents → List ℕ
 spelling o k = flat_map (cell o) k.cells ++ end_bytes o k.end
+
+-- what is wrong where the cells end
+abbrev pub kind_of : End → Option FaultKind
+kind_of Bare = None
+kind_of (Mark rest) = None
+kind_of (Damaged kind rest) = Some kind
 
 -- the second byte of an image
 abbrev pub version_byte : KtFormat → ℕ
@@ -75,8 +85,8 @@ short_end [] = Bare
 short_end (b ∷ bs) = Damaged CutLength (b ∷ bs)
 
 -- what stands there by its length: 0 is the end mark, below 2 ^ 31 a record of that many bytes, above a hole
-abbrev pub sized : KtFormat → List ℕ → ℕ → List ℕ → NextCell
-sized f bytes n rest =
+abbrev pub next_of_size : KtFormat → List ℕ → ℕ → List ℕ → NextCell
+next_of_size f bytes n rest =
     if n == 0 then NoMore (Mark rest)
     else (if nat_lt n (2 ^ 31)
     then (if nat_lt (length rest) n then NoMore (Damaged Overrun bytes)
@@ -87,7 +97,7 @@ sized f bytes n rest =
 -- what stands there by the number read, if one was
 abbrev pub next_by : KtFormat → List ℕ → Option (ℕ × List ℕ) → NextCell
 next_by f bytes None = NoMore (short_end bytes)
-next_by f bytes (Some n) = sized f bytes n.0 n.1
+next_by f bytes (Some n) = next_of_size f bytes n.0 n.1
 
 -- the cell at the front, and the bytes after it
 unfoldable pub next : KtFormat → List ℕ → NextCell

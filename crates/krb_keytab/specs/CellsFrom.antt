@@ -2,8 +2,8 @@
 use Rattle.std.specs.Prelude.{◌≡◌, ℕ, ◌+◌, ◌≤◌, ◌^◌, List, ◌∷◌, ◌++◌, length}
 use Rattle.krb_wire.specs.declared.format.KtFormat.{KtFormat}
 use Rattle.krb_keytab.specs.declared.image.CellsEnd.{CellsEnd}
-use Rattle.krb_keytab.specs.Cells.{Cell, Contents, IsCell}
-use Rattle.krb_keytab.specs.Questions.{size, end_place}
+use Rattle.krb_keytab.specs.Cells.{Cell, Contents, IsCell, size}
+use Rattle.krb_keytab.specs.Questions.{end_place}
 use Rattle.krb_keytab.specs.Store.{KeytabState}
 use Rattle.krb_keytab.specs.Image.{EndsKnown}
 

@@ -5,11 +5,10 @@ use Rattle.krb_walk.specs.declared.refusal.Code.{Code}
 use Rattle.krb_walk.specs.declared.refusal.Code.TheVariants as code
 use Rattle.krb_walk.specs.Store.{end_of, fault_of, live_bytes}
 use Rattle.krb_keytab.specs.Entry.{EntryParts}
-use Rattle.krb_keytab.specs.Cells.{Cell, Live, Free, End, Bare, Mark, Damaged}
-use Rattle.krb_keytab.specs.Questions.{size}
+use Rattle.krb_keytab.specs.Cells.{Cell, Live, Free, End, Bare, Mark, Damaged, size}
 use Rattle.krb_keytab.specs.Store.{KeytabState, image_of, store_of}
 use Rattle.krb_keytab.specs.Find.{PlacedEntry, find_result}
-use Rattle.krb_keytab.specs.Form.{fits, written}
+use Rattle.krb_keytab.specs.Form.{fits, written_form}
 
 -- the place of a cell, and the cell
 abbrev pub PlacedCell : Type 0
@@ -101,7 +100,7 @@ put_bytes_result k bytes = put_result_into k bytes (first_hole 2 (length bytes) 
 abbrev pub put_result : KeytabState → EntryParts → Result (ℕ × KeytabState) Code
 put_result k e =
     if is_some (fault_of (store_of k)) then Err code.Damaged
-    else (if fits k.format e then put_bytes_result k (written k.format e) else Err code.TooLong)
+    else (if fits k.format e then put_bytes_result k (written_form k.format e) else Err code.TooLong)
 
 -- an addition is refused
 abbrev pub is_refused : Result (ℕ × KeytabState) Code → Bool
@@ -112,5 +111,5 @@ is_refused (Err refused) = true
 abbrev pub takes_none : KeytabState → EntryParts → Bool
 takes_none k e =
     is_refused (put_result k e)
-    || is_some (first_hole 2 (length (written k.format e)) k.contents.cells)
-    || nat_le (length (image_of (with_last k (written k.format e)))) (length (image_of k))
+    || is_some (first_hole 2 (length (written_form k.format e)) k.contents.cells)
+    || nat_le (length (image_of (with_last k (written_form k.format e)))) (length (image_of k))

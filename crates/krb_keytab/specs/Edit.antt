@@ -16,7 +16,7 @@ abbrev pub new_session : KeytabState → SessionState KeytabState
 new_session k = record { store = k; cursors = [] }
 
 -- the image is a keytab, all events were run over it in a new session, and this is its image afterwards
-pub record Edited (o : Order) (limit : ℕ) (image new : List ℕ) (events : List (Event EntryParts)) (told_old told_new : List Said) : Type 0 where
+pub record EditsImage (o : Order) (limit : ℕ) (image new : List ℕ) (events : List (Event EntryParts)) (told_old told_new : List Said) : Type 0 where
   pub keytab : KeytabState
   pub opens : open_result o limit image ≡ Ok keytab
   pub after : SessionState KeytabState
@@ -24,7 +24,7 @@ pub record Edited (o : Order) (limit : ℕ) (image new : List ℕ) (events : Lis
   pub image_is : new ≡ image_of after.store
 
 -- the same, where it ran out of memory: the events before one of them were run
-pub record EditedSome (o : Order) (limit : ℕ) (image new : List ℕ) (events : List (Event EntryParts)) (told_old told_new : List Said) : Type 0 where
+pub record EditsImageInPart (o : Order) (limit : ℕ) (image new : List ℕ) (events : List (Event EntryParts)) (told_old told_new : List Said) : Type 0 where
   pub keytab : KeytabState
   pub opens : open_result o limit image ≡ Ok keytab
   pub after : SessionState KeytabState
@@ -34,4 +34,4 @@ pub record EditedSome (o : Order) (limit : ℕ) (image new : List ℕ) (events :
 -- an image that is no keytab is handed back, and nothing is replied; where it ran out of memory, the image is that after the events before
 abbrev pub EditRefuses : {A : Type 0} → EditRefused A → Order → ℕ → Vec ℕ A → List (Event EntryParts) → List Said → List Said → Type 0
 EditRefuses (NotAKeytab refused) o limit image events told_old told_new = (open_result o limit image.items ≡ Err refused.why) × (refused.image ≡ image) × (told_new ≡ told_old)
-EditRefuses (NoMemory bytes) o limit image events told_old told_new = EditedSome o limit image.items bytes.items events told_old told_new
+EditRefuses (NoMemory bytes) o limit image events told_old told_new = EditsImageInPart o limit image.items bytes.items events told_old told_new

@@ -5,13 +5,13 @@ use Rattle.krb_wire.specs.declared.format.KtFormat.{KtFormat}
 use Rattle.krb_wire.specs.Reading.{◌>>=◌}
 use Rattle.krb_keytab.specs.Entry.{entry_at}
 use Rattle.krb_keytab.specs.Cells.{Cell}
-use Rattle.krb_keytab.specs.Questions.{live_bytes}
+use Rattle.krb_keytab.specs.Store.{store_cell}
 use Rattle.krb_keytab.specs.Changes.{PlacedCell, placed_cells}
 use Rattle.krb_keytab.specs.Find.{PlacedEntry}
 
 -- the entry of a cell, if it is live, with its place
 abbrev pub entry_in : KtFormat → PlacedCell → Option PlacedEntry
-entry_in f x = option_map (λ e. (x.0, e)) (live_bytes x.1 >>= entry_at f)
+entry_in f x = option_map (λ e. (x.0, e)) ((store_cell x.1).live >>= entry_at f)
 
 -- the entries of cells that begin at a place
 abbrev pub entries_in : KtFormat → ℕ → List Cell → List PlacedEntry

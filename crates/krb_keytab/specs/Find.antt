@@ -35,14 +35,14 @@ abbrev pub version_asked : ℕ → List PlacedEntry → ℕ
 version_asked kvno xs = if kvno == 0 then greatest xs else kvno
 
 -- the first of the entries, if there is one
-abbrev pub found : Option PlacedEntry → Result PlacedEntry Code
-found None = Err KvnoNotFound
-found (Some x) = Ok x
+abbrev pub first_or_missing : Option PlacedEntry → Result PlacedEntry Code
+first_or_missing None = Err KvnoNotFound
+first_or_missing (Some x) = Ok x
 
 -- look-up among the entries that are asked for: the first with the version
 abbrev pub look_up_in : ℕ → List PlacedEntry → Result PlacedEntry Code
 look_up_in kvno [] = Err NotFound
-look_up_in kvno (x ∷ xs) = found (find (λ y. y.1.version == version_asked kvno (x ∷ xs)) (x ∷ xs))
+look_up_in kvno (x ∷ xs) = first_or_missing (find (λ y. y.1.version == version_asked kvno (x ∷ xs)) (x ∷ xs))
 
 -- look-up: of the entries with the name and the enctype, the first in file order with the version
 abbrev pub look_up : KeytabState → Parts → ℕ → ℕ → Result PlacedEntry Code

@@ -15,8 +15,8 @@ abbrev pub front_of : EntryParts → Front
 front_of e = record { principal = e.principal; timestamp = e.timestamp; low_version = e.version % 256; enctype = e.enctype; key = e.key }
 
 -- the written form: these fields, and the whole version in 32 bits
-abbrev pub written : KtFormat → EntryParts → List ℕ
-written f e = front f (front_of e) ++ digits (order_of f) w32 e.version
+abbrev pub written_form : KtFormat → EntryParts → List ℕ
+written_form f e = front f (front_of e) ++ digits (order_of f) w32 e.version
 
 -- an entry's written form, without where the entry lies in memory
 pub record FormParts : Type 0 where

@@ -1,8 +1,7 @@
 -- A hole as the code knows it: its place and its size.
 use Rattle.std.specs.Prelude.{ℕ, List, Option, option_map}
 use Rattle.krb_keytab.specs.declared.hole.Hole.{Hole}
-use Rattle.krb_keytab.specs.Cells.{Cell}
-use Rattle.krb_keytab.specs.Questions.{size}
+use Rattle.krb_keytab.specs.Cells.{Cell, size}
 use Rattle.krb_keytab.specs.Changes.{PlacedCell, first_hole}
 
 -- the hole that a cell is, from its place and the cell

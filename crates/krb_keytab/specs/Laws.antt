@@ -4,7 +4,7 @@ use Rattle.std.specs.List.{flat_map, AllByRecursion}
 use Rattle.krb_wire.specs.declared.format.KtFormat.{KtFormat}
 use Rattle.krb_wire.specs.Spelling.{order_of}
 use Rattle.krb_keytab.specs.Entry.{EntryParts, Spells}
-use Rattle.krb_keytab.specs.Form.{fits, written, read_back, IsEntry}
+use Rattle.krb_keytab.specs.Form.{fits, written_form, read_back, IsEntry}
 use Rattle.krb_walk.specs.Store.{live_bytes}
 use Rattle.krb_keytab.specs.Store.{KeytabState, store_of, entry_at_place}
 use Rattle.krb_keytab.specs.Changes.{put_result, cut_result}
@@ -34,7 +34,7 @@ pub record IsReadBack (f : KtFormat) (e : EntryParts) (bytes : List ℕ) : Type 
 
 -- that is so of each entry whose numbers fit their types and whose lengths and counts fit their fields
 abbrev pub IsAlwaysReadBack : Type 0
-IsAlwaysReadBack = (f : KtFormat) (e : EntryParts) (zeros : ℕ) → IsEntry e → IsTrue (fits f e) → IsReadBack f e (written f e ++ replicate zeros 0)
+IsAlwaysReadBack = (f : KtFormat) (e : EntryParts) (zeros : ℕ) → IsEntry e → IsTrue (fits f e) → IsReadBack f e (written_form f e ++ replicate zeros 0)
 
 -- the entry that was added is read at the place that the addition gives
 abbrev pub IsReadWhereAdded : Type 0

@@ -1,7 +1,6 @@
 -- What the contracts of this crate say.
 pub mod Entry
 pub mod Cells
-pub mod Questions
 pub mod Store
 pub mod Find
 pub mod Entries
@@ -16,6 +15,7 @@ pub mod Laws
 -- For private contracts alone.
 pub mod Step
 pub mod Image
+pub mod Questions
 pub mod CellsFrom
 pub mod CellView
 pub mod Looked

@@ -7,11 +7,11 @@ use Rattle.krb_walk.specs.Store.{fault_of}
 use Rattle.krb_keytab.specs.Entry.{EntryParts}
 use Rattle.krb_keytab.specs.Cells.{Cell, Live, Bare}
 use Rattle.krb_keytab.specs.Store.{KeytabState, image_of, store_of, entries}
-use Rattle.krb_keytab.specs.Form.{written}
+use Rattle.krb_keytab.specs.Form.{written_form}
 
 -- a record that is an entry's written form in version 2, and no more
 abbrev pub new_record : EntryParts → Cell
-new_record e = Live (written V2 e)
+new_record e = Live (written_form V2 e)
 
 -- the keytab in version 2, with such a record for each entry, in order: no holes, and nothing after the cells
 abbrev pub rewrite_of : KeytabState → KeytabState

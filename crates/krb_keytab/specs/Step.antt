@@ -32,10 +32,10 @@ ends bytes ending.Mark = Mark (drop 4 bytes)
 ends bytes (ending.Damaged kind) = Damaged kind bytes
 
 -- a cell of n bytes after its length, or an end
-abbrev pub seen : List ℕ → Step → NextCell
-seen bytes (step.Live n) = More (Live (take n (drop 4 bytes))) (drop n (drop 4 bytes))
-seen bytes (step.Free n) = More (Free (take n (drop 4 bytes))) (drop n (drop 4 bytes))
-seen bytes (step.End e) = Ends (ends bytes e)
+abbrev pub next_of_step : List ℕ → Step → NextCell
+next_of_step bytes (step.Live n) = More (Live (take n (drop 4 bytes))) (drop n (drop 4 bytes))
+next_of_step bytes (step.Free n) = More (Free (take n (drop 4 bytes))) (drop n (drop 4 bytes))
+next_of_step bytes (step.End e) = Ends (ends bytes e)
 
 -- the cell ends within the bytes
 abbrev pub EndsWithin : List ℕ → Step → Type 0

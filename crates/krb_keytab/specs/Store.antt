@@ -9,8 +9,7 @@ use Rattle.krb_walk.specs.Store.{Cell as StoreCell, Store, records, live_bytes}
 use Rattle.krb_keytab.specs.declared.open.KtOpenFault.{KtOpenFault}
 use Rattle.krb_keytab.specs.declared.open.KtOpenFault.TheVariants.{TooShort, BadVersion, TooLarge}
 use Rattle.krb_keytab.specs.Entry.{EntryParts, entry_at}
-use Rattle.krb_keytab.specs.Cells.{Cell, Live, Free, Bare, Contents, contents, image, version_byte}
-use Rattle.krb_keytab.specs.Questions.{kind_of}
+use Rattle.krb_keytab.specs.Cells.{Cell, Live, Free, Bare, Contents, contents, image, version_byte, kind_of}
 
 -- a keytab: its format, the greatest length of its image, and its cells with what ends them
 pub record KeytabState : Type 0 where

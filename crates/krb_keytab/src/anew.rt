@@ -1,6 +1,6 @@
 //! The entries of a keytab, written anew in version 2.
 
-ghost use Rattle.std.specs.Prelude.{◌≡◌, ◌≤◌, ◌<◌, ◌^◌, ◌+◌, length, drop, IsTrue, IfSome, IfNone, IfOk, vec_len};
+ghost use Rattle.std.specs.Prelude.{◌≡◌, ◌≤◌, ◌<◌, ◌^◌, ◌+◌, length, drop, IfSome, IfNone, IfOk, vec_len};
 ghost use Rattle.std.specs.List.{splice};
 ghost use Rattle.krb_wire.specs.declared.format.Order.TheVariants.{Big};
 ghost use Rattle.krb_wire.specs.declared.format.KtFormat.TheVariants.{V2};
@@ -8,46 +8,31 @@ ghost use Rattle.krb_keytab.specs.Cells.{cell, contents, IsSound};
 ghost use Rattle.krb_keytab.specs.Store.{image_of, entries};
 ghost use Rattle.krb_keytab.specs.Image.{IsKnownEnd};
 ghost use Rattle.krb_keytab.specs.declared.step.Ending.TheVariants.{Bare};
-ghost use Rattle.krb_keytab.specs.Form.{fits, written};
 ghost use Rattle.krb_keytab.specs.Rewrite.{new_record, rewrite_of};
 
-use crate::entry::{EntryView, read_entry};
+use crate::entry::EntryView;
 use crate::form::Form;
 use crate::keytab::Keytab;
 use crate::put::{bytes_fit, put_record};
-use krb_walk::Stop;
-use krb_wire::{KtFormat, NoMemory, PrincipalView};
+use krb_wire::NoMemory;
 use std::alloc::Allocator;
 
-// The written form in version 2 of an entry that was read.
-fn form_anew<'a>(entry: &'a EntryView<'a>) -> Form<'a, PrincipalView<'a>>
-    requires { IsTrue (fits V2 entry.now) }
-    ensures { result ≡ record { format = V2; bytes = written V2 entry.now } }
-{
-    let Some(form) = Form::of(KtFormat::V2, entry.fields()) else {
-        unreachable!()
-    };
-    form
-}
-
-// How many bytes a record of that form takes, with its length.
+// How many bytes the new record of an entry takes, with its length.
 fn len_of_record(entry: &EntryView<'_>) -> usize
-    requires { IsTrue (fits V2 entry.now) }
     ensures len { result ≡ length (cell Big (new_record entry.now)) }
     ensures small { result < 2 ^ 35 }
 {
-    4 + form_anew(entry).len()
+    4 + Form::anew(entry).len()
 }
 
-// Writes a record of that form at a place; the answer is the place after it.
+// Writes the new record of an entry at a place; the answer is the place after it.
 fn put_anew(entry: &EntryView<'_>, out: &mut [u8], at: usize) -> usize
-    requires fits { IsTrue (fits V2 entry.now) }
     requires room { at + length (cell Big (new_record entry.now)) ≤ length out.old }
     requires small { length out.old ≤ 2 ^ 30 }
     ensures next { result ≡ at + length (cell Big (new_record entry.now)) }
     ensures written { out.new ≡ splice out.old at result (cell Big (new_record entry.now)) }
 {
-    let form = form_anew(entry);
+    let form = Form::anew(entry);
     let size = form.len();
     put_record(out, at, size, &form);
     at + 4 + size
@@ -62,16 +47,11 @@ pub fn len_anew<A: Allocator>(keytab: &Keytab<A>, limit: usize) -> Option<usize>
     ensures long { IfNone result (limit < length (image_of (rewrite_of keytab.now.state))) }
 {
     let mut len: usize = 2;
-    let mut place = keytab.first();
-    'records: while let Stop::Live { place: at, next } = keytab.stop_at(place) {
-        let Some(entry) = read_entry(keytab.format(), keytab.bytes_at(at)) else {
-            unreachable!()
-        };
+    'entries: for (_, entry) in keytab.entries() {
         len = len + len_of_record(&entry);
         if len > limit {
             return None;
         }
-        place = next;
     }
     Some(len)
 }
@@ -85,13 +65,8 @@ fn spell_anew<A: Allocator>(keytab: &Keytab<A>, out: &mut [u8])
     out[0] = 5;
     out[1] = 2;
     let mut to: usize = 2;
-    let mut place = keytab.first();
-    'records: while let Stop::Live { place: at, next } = keytab.stop_at(place) {
-        let Some(entry) = read_entry(keytab.format(), keytab.bytes_at(at)) else {
-            unreachable!()
-        };
+    'entries: for (_, entry) in keytab.entries() {
         to = put_anew(&entry, out, to);
-        place = next;
     }
 }
 

@@ -3,8 +3,7 @@
 ghost use Rattle.std.specs.Prelude.{◌≡◌, ◌≤◌, ◌<◌, ◌^◌, ◌+◌, ◌-◌, ◌++◌, ◌∷◌, [], None, length, drop, take, replicate, IfOk, OnOk, OnErr, vec_len, vec_capacity};
 ghost use Rattle.std.specs.List.{splice};
 ghost use Rattle.krb_wire.specs.Spelling.{order_of};
-ghost use Rattle.krb_keytab.specs.Cells.{cell, contents, Live};
-ghost use Rattle.krb_keytab.specs.Questions.{kind_of};
+ghost use Rattle.krb_keytab.specs.Cells.{cell, contents, Live, kind_of};
 ghost use Rattle.krb_keytab.specs.Image.{IsKnownEnd, IsChanged, mark_len, len_with};
 ghost use Rattle.krb_keytab.specs.Changes.{end_after};
 

@@ -8,7 +8,7 @@ ghost use Rattle.std.specs.Prelude.{◌≡◌, true, ℕ, List, ◌≤◌, ◌^�
 ghost use Rattle.std.specs.List.{AllByRecursion};
 ghost use Rattle.krb_keytab.specs.Cells.{contents};
 ghost use Rattle.krb_keytab.specs.CellsFrom.{AreKnown};
-ghost use Rattle.krb_keytab.specs.Questions.{is_place};
+ghost use Rattle.krb_keytab.specs.Questions.{is_place_in};
 ghost use Rattle.krb_keytab.specs.Carry.{new_place, AreGiven, HasGiven, GoesBy};
 
 use crate::cells::{CellView, Cells};
@@ -58,10 +58,10 @@ fn place_given(image: &[u8], end: usize, last: u32, place: u32) -> u32
     if place as usize == end {
         return last;
     }
-    let Some((given, _)) = split_u32(Order::Big, tail(image, place as usize)) else {
-        unreachable!()
-    };
-    given
+    match split_u32(Order::Big, tail(image, place as usize)) {
+        Some((given, _)) => given,
+        None => last,
+    }
 }
 
 // Carries cursors to the places that they were given.
@@ -83,7 +83,7 @@ pub fn carry_cursors(
     cursors: &mut [u32],
 )
     requires known { AreKnown format image.old 2 end }
-    requires places { AllByRecursion (λ p. is_place 2 (contents format (drop 2 image.old)).cells p ≡ true) cursors.old }
+    requires places { AllByRecursion (λ p. is_place_in 2 (contents format (drop 2 image.old)).cells p ≡ true) cursors.old }
     ensures { cursors.new ≡ map (new_place 2 (contents format (drop 2 image.old)).cells new.entry.place new.entry.contents.cells) cursors.old }
 {
     let _ = new.end();

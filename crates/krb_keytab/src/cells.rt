@@ -2,7 +2,9 @@
 
 ghost use Rattle.std.specs.Prelude.{◌≡◌, ◌≤◌, ◌^◌, ◌+◌, true, IsSome, Some, option_copied, drop, length};
 ghost use Rattle.std.specs.Iterator.{item_count};
-ghost use Rattle.krb_keytab.specs.Questions.{size, end_place, is_place, stop_from, live_bytes, live_at, kind_of};
+ghost use Rattle.krb_keytab.specs.Cells.{bytes_of, size, kind_of};
+ghost use Rattle.krb_keytab.specs.Store.{store_cell};
+ghost use Rattle.krb_keytab.specs.Questions.{end_place, is_place_in, stop_in, live_bytes_in};
 ghost use Rattle.krb_keytab.specs.Step.{ending_kind};
 ghost use Rattle.krb_keytab.specs.CellsFrom.{CellsFrom, AreKnown, IsSuffix};
 ghost use Rattle.krb_keytab.specs.CellView.{cell_of, GivesCell};
@@ -31,9 +33,19 @@ pub struct Cells<'a> {
 }
 
 impl<'a> CellView<'a> {
+    // Its bytes.
+    fn bytes(self) -> &'a [u8]
+        ensures { result.now ≡ bytes_of (cell_of self.entry) }
+    {
+        match self {
+            CellView::Live(bytes) => bytes,
+            CellView::Free(bytes) => bytes,
+        }
+    }
+
     // Its bytes, if it is live.
     fn live(self) -> Option<&'a [u8]>
-        ensures { option_copied result ≡ live_bytes (cell_of self.entry) }
+        ensures { option_copied result ≡ (store_cell (cell_of self.entry)).live }
     {
         match self {
             CellView::Live(bytes) => Some(bytes),
@@ -67,14 +79,23 @@ impl<'a> Iterator for Cells<'a> {
 
     #[inline(always)]
     fn next(&mut self) -> Option<(usize, CellView<'a>)> {
+        self.next_in(self.format)
+    }
+}
+
+impl<'a> Cells<'a> {
+    /// The next cell, for a format that is known where this is inlined.
+    #[inline(always)]
+    pub fn next_in(&mut self, format: KtFormat) -> Option<(usize, CellView<'a>)>
+        requires { format ≡ self.old.format }
+        ensures { GivesCell self.old result self.new }
+    {
         bytes_fit(self.image);
         let at = self.place;
         if at == self.end.place {
             return None;
         }
-        let Some((field, rest)) = split_u32(self.format.order(), tail(self.image, at)) else {
-            unreachable!()
-        };
+        let (field, rest) = split_u32(format.order(), tail(self.image, at))?;
         if field < 0x8000_0000 {
             let size = field as usize;
             self.place = at + 4 + size;
@@ -84,9 +105,7 @@ impl<'a> Iterator for Cells<'a> {
         self.place = at + 4 + size;
         Some((at, CellView::Free(rest.split_at(size).0)))
     }
-}
 
-impl<'a> Cells<'a> {
     /// The place of the first.
     pub fn place(&self) -> usize
         ensures place { result ≡ self.now.place }
@@ -106,7 +125,7 @@ impl<'a> Cells<'a> {
 
     /// Whether one of them stands at a place, or they end there.
     pub fn is_place(self, place: usize) -> bool
-        ensures { result ≡ is_place self.entry.place self.entry.contents.cells place }
+        ensures { result ≡ is_place_in self.entry.place self.entry.contents.cells place }
     {
         let end = self.end();
         for (at, _) in self {
@@ -119,7 +138,7 @@ impl<'a> Cells<'a> {
 
     /// Those from a place on.
     pub fn from(self, place: usize) -> Cells<'a>
-        requires { is_place self.place self.contents.cells place ≡ true }
+        requires { is_place_in self.place self.contents.cells place ≡ true }
         ensures suffix { IsSuffix self.entry result }
         ensures place { result.place ≡ place }
     {
@@ -134,8 +153,8 @@ impl<'a> Cells<'a> {
 
     /// The first live one at or after a place, or what ends them.
     pub fn stop_at(self, place: usize) -> Stop
-        requires { is_place self.place self.contents.cells place ≡ true }
-        ensures { result ≡ stop_from self.entry.place self.entry.contents.cells self.entry.contents.end place }
+        requires { is_place_in self.place self.contents.cells place ≡ true }
+        ensures { result ≡ stop_in self.entry.place self.entry.contents.cells self.entry.contents.end place }
     {
         let end = self.end();
         let mut rest = self.from(place);
@@ -152,7 +171,7 @@ impl<'a> Cells<'a> {
 
     /// The bytes of the live one at a place, looked for from the front.
     pub fn find_live(self, place: usize) -> Option<&'a [u8]>
-        ensures { option_copied result ≡ live_at self.entry.place self.entry.contents.cells place }
+        ensures { option_copied result ≡ live_bytes_in self.entry.place self.entry.contents.cells place }
     {
         for (at, cell) in self {
             if at == place {
@@ -164,16 +183,12 @@ impl<'a> Cells<'a> {
 
     /// The bytes of the live one that stands at a place.
     pub fn live_at(self, place: usize) -> &'a [u8]
-        requires { IsSome (live_at self.place self.contents.cells place) }
-        ensures { Some result.now ≡ live_at self.entry.place self.entry.contents.cells place }
+        requires { IsSome (live_bytes_in self.place self.contents.cells place) }
+        ensures { Some result.now ≡ live_bytes_in self.entry.place self.entry.contents.cells place }
     {
-        let mut rest = self.from(place);
-        let Some((_, cell)) = rest.next() else {
-            unreachable!()
-        };
-        let Some(bytes) = cell.live() else {
-            unreachable!()
-        };
-        bytes
+        match self.from(place).next() {
+            Some((_, cell)) => cell.bytes(),
+            None => &[],
+        }
     }
 }

@@ -2,7 +2,7 @@
 
 ghost use Rattle.std.specs.Prelude.{◌≡◌, map, IfOk, IfErr};
 ghost use Rattle.krb_walk.specs.Said.{said};
-ghost use Rattle.krb_keytab.specs.Edit.{Edited, EditRefuses};
+ghost use Rattle.krb_keytab.specs.Edit.{EditsImage, EditRefuses};
 
 use crate::keytab::Keytab;
 use crate::new_entry::NewEntry;
@@ -21,7 +21,7 @@ pub enum EditRefused<A: Allocator> {
 }
 
 /// Opens an image, applies events to it in a new session, and gives the image afterwards. A reply to
-/// each event is appended. Every walk is given what is due to it: that is in `Edited`.
+/// each event is appended. Every walk is given what is due to it: that is in `EditsImage`.
 pub fn edit_image<A: Allocator + Copy>(
     alloc: A,
     image: Vec<u8, A>,
@@ -30,7 +30,7 @@ pub fn edit_image<A: Allocator + Copy>(
     events: &[Event<NewEntry<A>>],
     replies: &mut Vec<Reply<A>, A>,
 ) -> Result<Vec<u8, A>, EditRefused<A>>
-    ensures ok { IfOk result (λ bytes. Edited v1_order limits image.items bytes.items events.now
+    ensures ok { IfOk result (λ bytes. EditsImage v1_order limits image.items bytes.items events.now
         (map said replies.old.items) (map said replies.new.items)) }
     ensures err { IfErr result (λ e. EditRefuses e v1_order limits image events.now
         (map said replies.old.items) (map said replies.new.items)) }

@@ -7,6 +7,7 @@ ghost use Rattle.krb_keytab.specs.Find.{PlacedEntry};
 
 use crate::cells::{CellView, Cells};
 use crate::entry::{EntryView, read_entry};
+use krb_wire::KtFormat;
 use std::marker::Model;
 
 /// The entries that are still to come, each with the place of its record, in file order, up to the end
@@ -23,21 +24,21 @@ impl<'a> Model for Entries<'a> {
 }
 
 impl<'a> Cells<'a> {
-    // The first entry, with the place of its record.
-    fn next_entry(&mut self) -> Option<(u32, EntryView<'a>)>
+    // The next entry of cells of that format, with the place of its record.
+    #[inline(always)]
+    fn next_entry(&mut self, format: KtFormat) -> Option<(u32, EntryView<'a>)>
+        requires { format ≡ self.old.format }
         ensures { MatchOption result
             ((entries_in self.old.format self.old.place self.old.contents.cells ≡ [])
             × (entries_in self.new.format self.new.place self.new.contents.cells ≡ []))
             (λ x. entries_in self.old.format self.old.place self.old.contents.cells
             ≡ x ∷ entries_in self.new.format self.new.place self.new.contents.cells) }
     {
-        let format = self.format;
-        while let Some((at, cell)) = self.next() {
+        while let Some((at, cell)) = self.next_in(format) {
             if let CellView::Live(bytes) = cell {
-                let Some(entry) = read_entry(format, bytes) else {
-                    unreachable!()
-                };
-                return Some((at as u32, entry));
+                if let Some(entry) = read_entry(format, bytes) {
+                    return Some((at as u32, entry));
+                }
             }
         }
         None
@@ -60,7 +61,11 @@ impl<'a> Iterator for Entries<'a> {
 
     ghost remaining = { item_count (λ s. s) };
 
+    #[inline(always)]
     fn next(&mut self) -> Option<(u32, EntryView<'a>)> {
-        self.cells.next_entry()
+        match self.cells.format {
+            KtFormat::V2 => self.cells.next_entry(KtFormat::V2),
+            KtFormat::V1(order) => self.cells.next_entry(KtFormat::V1(order)),
+        }
     }
 }

@@ -1,9 +1,11 @@
 //! Entries of a keytab, read in place.
 
-ghost use Rattle.std.specs.Prelude.{◌≡◌, IfSome, Some};
+ghost use Rattle.std.specs.Prelude.{◌≡◌, IfSome, IsTrue, Some};
 ghost use Rattle.std.specs.Int.{w32};
+ghost use Rattle.krb_wire.specs.declared.format.KtFormat.TheVariants.{V2};
 ghost use Rattle.krb_wire.specs.Reading.{Gives, number_at};
 ghost use Rattle.krb_keytab.specs.Entry.{EntryParts, entry_at, Spells, version_by};
+ghost use Rattle.krb_keytab.specs.Form.{fits};
 
 use crate::fields::Fields;
 use krb_wire::{
@@ -23,6 +25,11 @@ pub struct EntryView<'a> {
 }
 
 impl<'a> Model for EntryView<'a> {
+    ghost use Rattle.std.specs.Prelude.{◌&&◌, IsTrue};
+    ghost use Rattle.krb_wire.specs.declared.format.KtFormat.TheVariants.{V2};
+    ghost use Rattle.krb_wire.specs.Spelling.{name_fits, is_short};
+    ghost use Rattle.krb_keytab.specs.Entry.{EntryParts};
+
     ghost Value = { EntryParts };
 
     ghost view = { λ v. record {
@@ -32,6 +39,8 @@ impl<'a> Model for EntryView<'a> {
       enctype = v.enctype;
       key = v.key.now;
     } };
+
+    ghost invariant = { λ v. IsTrue (name_fits V2 v.principal && is_short v.key.now) };
 }
 
 impl<'a> EntryView<'a> {
@@ -70,9 +79,10 @@ impl<'a> EntryView<'a> {
         self.key
     }
 
-    // Its fields.
+    // Its fields. What was read fits version 2.
     pub(crate) fn fields(&self) -> Fields<'_, PrincipalView<'a>>
-        ensures { result ≡ self.now }
+        ensures is { result ≡ self.now }
+        ensures fits { IsTrue (fits V2 result) }
     {
         Fields {
             principal: &self.principal,

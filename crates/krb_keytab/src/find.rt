@@ -101,7 +101,7 @@ fn look_in<'a, N: Name, A: Allocator>(
         named: false,
         best: None,
     };
-    for (place, cell) in keytab.cells() {
+    for (place, cell) in keytab.cells_in(format) {
         if let CellView::Live(bytes) = cell {
             looked.look_at(name, kvno, enctype, format, place as u32, bytes);
         }

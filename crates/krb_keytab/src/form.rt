@@ -2,11 +2,14 @@
 
 ghost use Rattle.std.specs.Prelude.{◌≡◌, ◌≤◌, ◌<◌, ◌^◌, ◌+◌, length, is_some, IsTrue, IfSome};
 ghost use Rattle.std.specs.List.{splice};
-ghost use Rattle.krb_keytab.specs.Form.{fits, written, FormParts, IsRecord};
+ghost use Rattle.krb_wire.specs.declared.format.KtFormat.TheVariants.{V2};
+ghost use Rattle.krb_keytab.specs.Form.{fits, written_form, FormParts, IsRecord};
 
+use crate::entry::EntryView;
 use crate::fields::Fields;
 use krb_wire::{
-    KtFormat, Name, kt_principal_len, put_data16, put_kt_principal, put_u8, put_u16, put_u32,
+    KtFormat, Name, PrincipalView, kt_principal_len, put_data16, put_kt_principal, put_u8, put_u16,
+    put_u32,
 };
 use std::marker::Model;
 
@@ -21,20 +24,20 @@ pub struct Form<'a, N: Name> {
 
 impl<'a, N: Name> Model for Form<'a, N> {
     ghost use Rattle.std.specs.Prelude.{◌≡◌, ◌<◌, ◌^◌, length, IsTrue};
-    ghost use Rattle.krb_keytab.specs.Form.{fits, written, FormParts, IsEntry};
+    ghost use Rattle.krb_keytab.specs.Form.{fits, written_form, FormParts, IsEntry};
 
     ghost Value = { FormParts };
 
-    ghost view = { λ w. record { format = w.format; bytes = written w.format w.entry } };
+    ghost view = { λ w. record { format = w.format; bytes = written_form w.format w.entry } };
 
     ghost invariant = { λ w. IsTrue (fits w.format w.entry) × IsEntry w.entry
-        × (w.len ≡ length (written w.format w.entry)) × (w.len < 2 ^ 34) };
+        × (w.len ≡ length (written_form w.format w.entry)) × (w.len < 2 ^ 34) };
 }
 
 // How many bytes are written for an entry: none where a length or a count does not fit its field.
 fn entry_len<N: Name>(format: KtFormat, entry: &Fields<'_, N>) -> Option<u64>
     ensures fits { is_some result ≡ fits format entry.now }
-    ensures len { IfSome result (λ n. n ≡ length (written format entry.now)) }
+    ensures len { IfSome result (λ n. n ≡ length (written_form format entry.now)) }
     ensures small { IfSome result (λ n. n < 2 ^ 34) }
 {
     let principal = kt_principal_len(format, entry.principal)?;
@@ -48,9 +51,9 @@ fn entry_len<N: Name>(format: KtFormat, entry: &Fields<'_, N>) -> Option<u64>
 // Writes an entry at a place; the answer is the place after it.
 fn put_entry<N: Name>(format: KtFormat, entry: &Fields<'_, N>, out: &mut [u8], at: usize) -> usize
     requires fits { IsTrue (fits format entry.now) }
-    requires room { at + length (written format entry.now) ≤ length out.old }
-    ensures next { result ≡ at + length (written format entry.now) }
-    ensures written { out.new ≡ splice out.old at result (written format entry.now) }
+    requires room { at + length (written_form format entry.now) ≤ length out.old }
+    ensures next { result ≡ at + length (written_form format entry.now) }
+    ensures written { out.new ≡ splice out.old at result (written_form format entry.now) }
 {
     let order = format.order();
     let timestamp = put_kt_principal(format, entry.principal, out, at);
@@ -67,7 +70,7 @@ impl<'a, N: Name> Form<'a, N> {
         ensures fits { is_some result ≡ fits format entry.entry }
         ensures bytes { IfSome result (λ w. w ≡ record {
           format = format;
-          bytes = written format entry.entry;
+          bytes = written_form format entry.entry;
         }) }
     {
         let len = entry_len(format, &entry)? as usize;
@@ -99,5 +102,21 @@ impl<'a, N: Name> Form<'a, N> {
         ensures written { out.new ≡ splice out.old at result self.now.bytes }
     {
         put_entry(self.format, &self.entry, out, at)
+    }
+}
+
+impl<'a> Form<'a, PrincipalView<'a>> {
+    /// The written form in version 2 of an entry that was read: all of them fit.
+    pub fn anew(entry: &'a EntryView<'a>) -> Form<'a, PrincipalView<'a>>
+        ensures { result ≡ record { format = V2; bytes = written_form V2 entry.now } }
+    {
+        let entry = entry.fields();
+        entry.numbers_fit();
+        let len = entry_len(KtFormat::V2, &entry).unwrap_or(0) as usize;
+        Form {
+            format: KtFormat::V2,
+            entry,
+            len,
+        }
     }
 }

@@ -148,16 +148,25 @@ impl<A: Allocator> Keytab<A> {
         self.end.ending.fault(self.end())
     }
 
-    // Its cells.
-    pub(crate) fn cells(&self) -> Cells<'_>
+    // Its cells, for a format that is known where this is inlined.
+    #[inline(always)]
+    pub(crate) fn cells_in(&self, format: KtFormat) -> Cells<'_>
+        requires { format ≡ self.now.state.format }
         ensures { result ≡ cells_of self.now.state }
     {
         Cells {
-            format: self.format,
+            format,
             image: &self.image,
             end: self.end,
             place: 2,
         }
+    }
+
+    // Its cells.
+    pub(crate) fn cells(&self) -> Cells<'_>
+        ensures { result ≡ cells_of self.now.state }
+    {
+        self.cells_in(self.format())
     }
 
     /// Is true of the place of each cell, live or free, and of `end()`. It looks from the front.

@@ -3,7 +3,7 @@
 ghost use Rattle.std.specs.Prelude.{◌≡◌, ◌<◌, ◌^◌, length, is_some};
 ghost use Rattle.krb_keytab.specs.Entry.{entry_at};
 ghost use Rattle.krb_keytab.specs.Cells.{next};
-ghost use Rattle.krb_keytab.specs.Step.{seen, EndsWithin, ending_fault, ending_stop};
+ghost use Rattle.krb_keytab.specs.Step.{next_of_step, EndsWithin, ending_fault, ending_stop};
 
 use crate::entry::entry_from;
 use krb_walk::{Fault, FaultKind, Stop};
@@ -64,7 +64,7 @@ fn is_entry(format: KtFormat, bytes: &[u8]) -> bool
 #[tactic(auto, unfolding(crate::specs::Cells::next))]
 pub fn next_of(format: KtFormat, bytes: &[u8]) -> Step
     requires { length bytes.now < 2 ^ 32 }
-    ensures value { next format bytes.now ≡ seen bytes.now result }
+    ensures value { next format bytes.now ≡ next_of_step bytes.now result }
     ensures within { EndsWithin bytes.now result }
 {
     let Some((field, rest)) = split_u32(format.order(), bytes) else {

@@ -1,20 +1,15 @@
 mod additions;
 mod allocations;
-mod claims;
-mod look_up;
 mod made;
 mod peer_records;
 mod peers;
 mod readme;
 mod records;
 mod removals;
-mod rewrites;
 mod sessions;
 mod turns;
-mod walks;
 
-use crate::{Keytab, KtOpenFault};
-use krb_wire::{Limits, Name, Order};
+use krb_wire::Name;
 use made::{USUAL, joined, keytab_of};
 use std::test::Fail;
 
@@ -40,25 +35,5 @@ fn entry_at_a_place(rt: HostRuntime) -> Result<(), Fail> {
     assert!(rt; entry.principal().component(0) == Some(b"b".as_slice()));
     assert!(rt; entry.principal().component(1).is_none());
     assert!(rt; keytab.entry_at(54).is_none() && keytab.entry_at(98).is_none());
-    Ok(())
-}
-
-/// An image that is no keytab is handed back.
-#[test]
-fn images_that_are_no_keytabs(rt: HostRuntime) -> Result<(), Fail> {
-    let small = Limits::of(2).ok_or("no limit of 2")?;
-    for (image, limits, why) in [
-        (b"".as_slice(), Limits::usual(), KtOpenFault::TooShort),
-        (b"\x05", Limits::usual(), KtOpenFault::TooShort),
-        (b"\x05\x03", Limits::usual(), KtOpenFault::BadVersion),
-        (b"\x04\x02", Limits::usual(), KtOpenFault::BadVersion),
-        (b"\x05\x02\0", small, KtOpenFault::TooLarge),
-    ] {
-        let bytes = Vec::from_slice(rt.alloc(), image)?;
-        let Err(refused) = Keytab::open(bytes, Order::Little, limits) else {
-            return Err(Fail::from("opened"));
-        };
-        assert!(rt; refused.why == why && refused.image.as_slice() == image);
-    }
     Ok(())
 }

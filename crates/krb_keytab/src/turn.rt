@@ -2,7 +2,7 @@
 
 ghost use Rattle.std.specs.Prelude.{◌≡◌, length, drop, IsSome, Some};
 ghost use Rattle.krb_keytab.specs.Cells.{contents};
-ghost use Rattle.krb_keytab.specs.Questions.{live_at};
+ghost use Rattle.krb_keytab.specs.Questions.{live_bytes_in};
 ghost use Rattle.krb_keytab.specs.CellsFrom.{AreKnown};
 ghost use Rattle.krb_keytab.specs.Image.{IsChanged};
 ghost use Rattle.krb_keytab.specs.Changes.{turned_at, zero_hole, record_in};
@@ -18,7 +18,7 @@ use krb_wire::{KtFormat, Name};
 /// Makes the live cell at a place a hole of zeros.
 pub fn free_cell(format: KtFormat, image: &mut [u8], end: CellsEnd, place: usize)
     requires known { AreKnown format image.old 2 end }
-    requires live { IsSome (live_at 2 (contents format (drop 2 image.old)).cells place) }
+    requires live { IsSome (live_bytes_in 2 (contents format (drop 2 image.old)).cells place) }
     ensures len { length image.new ≡ length image.old }
     ensures changed { IsChanged format image.old image.new (record {
       cells = turned_at 2 zero_hole place (contents format (drop 2 image.old)).cells;

@@ -2,7 +2,6 @@
 
 use super::records::HIGH_KEY;
 use crate::{Keytab, NewEntry};
-use krb_walk::Code;
 use krb_wire::{Limits, Order, Principal, parse_name};
 use std::alloc::{Allocator, Global};
 use std::test::Fail;
@@ -55,16 +54,4 @@ pub fn entry_of<A: Allocator + Copy>(
 /// The entry of the record `B`.
 pub fn b(alloc: Global) -> Result<NewEntry<Global>, Fail> {
     entry_of(alloc, b"b@R", (3, 17, 1_700_000_000), HIGH_KEY)
-}
-
-/// The place that a look-up finds.
-pub fn found<A: Allocator>(
-    keytab: &Keytab<A>,
-    name: &Principal<Global>,
-    asked: (u32, u16),
-) -> Result<u32, Code> {
-    match keytab.find(name, asked.0, asked.1) {
-        Ok((place, _)) => Ok(place),
-        Err(code) => Err(code),
-    }
 }

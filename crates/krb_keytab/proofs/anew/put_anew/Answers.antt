@@ -5,7 +5,7 @@ use Rattle.krb_wire.specs.declared.format.KtFormat.TheVariants.{V2}
 use Rattle.krb_wire.specs.Spelling.{order_of}
 use Rattle.krb_keytab.specs.Cells.{cell, Live}
 use Rattle.krb_keytab.specs.Changes.{with_zeros}
-use Rattle.krb_keytab.specs.Form.{FormParts, written}
+use Rattle.krb_keytab.specs.Form.{FormParts, written_form}
 use Rattle.krb_keytab.proofs.Turned.{padded_self}
 use Rattle.krb_keytab.proofs.anew.put_anew.Goals as goal
 
@@ -19,4 +19,4 @@ just_fits old new x form at size is len put =
 
 pub returns-clause-written : goal.returns-clause-written
 returns-clause-written c =
-    just_fits c.args.out.now c.put_record.new.image (written V2 c.args.entry.now) c.form_anew-form.result c.args.at c.len-size.result c.form_anew-form.ensures c.len-size.ensures.len c.put_record.ensures
+    just_fits c.args.out.now c.put_record.new.image (written_form V2 c.args.entry.now) c.anew-form.result c.args.at c.len-size.result c.anew-form.ensures c.len-size.ensures.len c.put_record.ensures

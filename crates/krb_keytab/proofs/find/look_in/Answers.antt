@@ -9,7 +9,7 @@ use Rattle.krb_keytab.proofs.find.look_in.Goals as goal
 
 pub loop-place-init : goal.loop-place-init
 loop-place-init g c =
-    let is = c.into_iter-place-iterator.ensures.into_iter_gives ∙ c.cells-place-items.ensures in
+    let is = c.into_iter-place-iterator.ensures.into_iter_gives ∙ c.cells_in-place-items.ensures in
     record {
       found = looked_first (g.N.Name.parts c.args.name.now) c.args.kvno c.args.enctype c.args.keytab.now.state c.into_iter-place-iterator.result is;
       format = ap (λ (x : CellsFrom). x.format) is ∙ sym c.requires;

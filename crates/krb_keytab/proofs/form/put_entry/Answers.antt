@@ -3,7 +3,7 @@ use Rattle.std.specs.List.{splice}
 use Rattle.krb_wire.specs.Spelling.{name_fits}
 use Rattle.krb_wire.proofs.Fields.{wide16, wide32}
 use Rattle.krb_keytab.specs.Entry.{EntryParts}
-use Rattle.krb_keytab.specs.Form.{written}
+use Rattle.krb_keytab.specs.Form.{written_form}
 use Rattle.krb_keytab.proofs.WrittenLemmas.{name_of_entry_fits, entry_put}
 use Rattle.krb_keytab.proofs.form.put_entry.Goals as goal
 
@@ -31,4 +31,4 @@ returns-clause-written g c =
     (record { place = omega (arith, n2, (wide16 o).len e.enctype); written = c.put_u16-key.ensures.written })
     (record { place = c.put_data16-version.ensures.next; written = c.put_data16-version.ensures.written })
     (record { place = omega (arith, n3, (wide32 o).len e.version); written = c.put_u32.ensures.written }) in
-    subst (λ (x : EntryParts). c.put_u32.new.out ≡ splice c.args.out.now c.args.at c.put_u32.result (written f x)) c.entry.view_is put.written
+    subst (λ (x : EntryParts). c.put_u32.new.out ≡ splice c.args.out.now c.args.at c.put_u32.result (written_form f x)) c.entry.view_is put.written

@@ -1,6 +1,5 @@
 use Rattle.std.proofs.Common.{◌∙◌, ap, arith}
-use Rattle.krb_keytab.specs.Cells.{End}
-use Rattle.krb_keytab.specs.Questions.{kind_of}
+use Rattle.krb_keytab.specs.Cells.{End, kind_of}
 use Rattle.krb_keytab.proofs.CellsFromLemmas.{stop_suffix, end_suffix}
 use Rattle.krb_keytab.proofs.cells.Cells.stop_at.Goals as goal
 

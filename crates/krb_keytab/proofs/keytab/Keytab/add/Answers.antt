@@ -1,7 +1,7 @@
 use Rattle.std.proofs.Common.{◌≡◌, ℕ, List, None, Some, Ok, true, false, length, ap, sym, subst, ◌∙◌}
 use Rattle.std.specs.Prelude.{is_some}
 use Rattle.krb_walk.specs.Store.{fault_of}
-use Rattle.krb_keytab.specs.Form.{FormParts, fits, written, IsEntry}
+use Rattle.krb_keytab.specs.Form.{FormParts, fits, written_form, IsEntry}
 use Rattle.krb_keytab.specs.Store.{KeytabState, store_of}
 use Rattle.krb_keytab.specs.Changes.{with_record_in}
 use Rattle.krb_keytab.specs.Hole.{hole_from}
@@ -18,10 +18,10 @@ returns-in_default-hole g c =
     let whole : is_some (fault_of (store_of k)) ≡ false = let a = c.fault.ensures in let b = c.is_some.ensures in let d = c.if-is_some.false in cc in
     let fit : fits k.format e ≡ true = sym (rw (c.fields-fields.ensures, c.format.ensures) at c.in-Some.ensures.fits) in
     let form = rw (c.fields-fields.ensures, c.format.ensures) at c.in-Some.ensures.bytes in
-    let bytes : c.in-Some.form.bytes ≡ written k.format e = ap (λ (w : FormParts). w.bytes) form in
-    let none : hole_from 2 (length (written k.format e)) k.contents.cells ≡ None =
+    let bytes : c.in-Some.form.bytes ≡ written_form k.format e = ap (λ (w : FormParts). w.bytes) form in
+    let none : hole_from 2 (length (written_form k.format e)) k.contents.cells ≡ None =
     ap (λ (n : ℕ). hole_from 2 n k.contents.cells) (sym (c.len.ensures.len ∙ ap (λ (b : List ℕ). length b) bytes)) ∙ sym c.hole.ensures.first ∙ c.in_default-hole.is in
-    let no_hole = none_large k (length (written k.format e)) none in
+    let no_hole = none_large k (length (written_form k.format e)) none in
     let after = put_after_all k e whole fit no_hole in
     let answer = subst (λ (b : List ℕ). AnswersAppend k b c.append.result c.append.new.self.state) bytes c.append.ensures.appended in
     let keeps = subst (λ (b : List ℕ). KeepsRoom c.args.self.now b c.append.result c.append.new.self) bytes c.append.ensures.room in
@@ -43,8 +43,8 @@ returns g c =
     let whole : is_some (fault_of (store_of k)) ≡ false = let a = c.fault.ensures in let b = c.is_some.ensures in let d = c.if-is_some.false in cc in
     let fit : fits k.format e ≡ true = sym (rw (c.fields-fields.ensures, c.format.ensures) at c.in-Some.ensures.fits) in
     let form = rw (c.fields-fields.ensures, c.format.ensures) at c.in-Some.ensures.bytes in
-    let bytes : c.in-Some.form.bytes ≡ written k.format e = ap (λ (w : FormParts). w.bytes) form in
-    let hole : hole_from 2 (length (written k.format e)) k.contents.cells ≡ Some h =
+    let bytes : c.in-Some.form.bytes ≡ written_form k.format e = ap (λ (w : FormParts). w.bytes) form in
+    let hole : hole_from 2 (length (written_form k.format e)) k.contents.cells ≡ Some h =
     ap (λ (n : ℕ). hole_from 2 n k.contents.cells) (sym (c.len.ensures.len ∙ ap (λ (b : List ℕ). length b) bytes)) ∙ sym c.in-Some-hole.ensures.first in
     let is = subst IsEntry c.fields-fields.ensures c.numbers_fit.ensures in
     let gives = put_in_hole k e h whole fit hole ∙ ap (λ (b : List ℕ). Ok (h.place, with_record_in k b h.place)) (sym bytes) ∙ ap (λ (y : KeytabState). Ok (h.place, y)) (sym c.fill.ensures.filled) in

@@ -3,7 +3,7 @@ use Rattle.krb_wire.specs.declared.format.KtFormat.{KtFormat}
 use Rattle.krb_keytab.specs.Cells.{Live, contents}
 use Rattle.krb_keytab.specs.Changes.{end_after}
 use Rattle.krb_keytab.specs.Store.{KeytabState, InMemory}
-use Rattle.krb_keytab.proofs.Stores.{state_is, held}
+use Rattle.krb_keytab.proofs.Stores.{state_is, keytab_of}
 use Rattle.krb_keytab.proofs.Additions.{appends, append_full, append_fits, append_ok, append_longer, append_no_longer}
 use Rattle.krb_keytab.proofs.keytab.Keytab.append.Goals as goal
 
@@ -37,7 +37,7 @@ returns-in-Err-clause-appended g c =
     let len = a.len in (
       append_fits i.format i.limit i.image.items x k i.end c.len_with.result a c.if-len_with-self.false,
       append_longer i.format i.limit i.image.items x k i.end c.len_with.result a spelled (omega (arith, len, full, items)),
-      ap (λ (b : List ℕ). held i.format i.limit b) c.in-Err.ensures.err ∙ (state_is c.self.view_is),
+      ap (λ (b : List ℕ). keytab_of i.format i.limit b) c.in-Err.ensures.err ∙ (state_is c.self.view_is),
     )
 
 pub returns-in-Ok-clause-room : goal.returns-in-Ok-clause-room

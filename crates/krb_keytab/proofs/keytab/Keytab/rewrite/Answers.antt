@@ -5,7 +5,7 @@ use Rattle.krb_wire.specs.declared.format.KtFormat.TheVariants.{V2}
 use Rattle.krb_walk.specs.Store.{fault_of}
 use Rattle.krb_walk.specs.Ranks.{Rewrites}
 use Rattle.krb_keytab.specs.Store.{KeytabState, store_of, entries}
-use Rattle.krb_keytab.proofs.Stores.{state_is, held, known_held}
+use Rattle.krb_keytab.proofs.Stores.{state_is, keytab_of, known_held}
 use Rattle.krb_keytab.proofs.CarryLemmas.{all_places, all_carried}
 use Rattle.krb_keytab.proofs.Rewrites.{held_anew, rewriting_done, rewrites_store, is_image, whole_kind}
 use Rattle.krb_keytab.proofs.keytab.Keytab.rewrite.Goals as goal
@@ -53,4 +53,4 @@ returns-clause-carries g c =
     let done = held_anew i.format i.limit i.image.items c.in-Ok.image.items k (state_is c.self.view_is) c.in-Ok.ensures.contents in
     let spelled = ap (λ (b : List ℕ). contents V2 (drop 2 b)) c.deref.ensures.value ∙ c.in-Ok.ensures.contents in
     c.carry_cursors.ensures
-    ∙ all_carried i.format i.limit i.image.items c.deref_mut.result.now c.deref.result.now k (held V2 i.limit c.in-Ok.image.items) c.args.cursors.now c.deref_mut.ensures.value (state_is c.self.view_is) c.anew_is_sound.ensures.was.cells spelled done
+    ∙ all_carried i.format i.limit i.image.items c.deref_mut.result.now c.deref.result.now k (keytab_of V2 i.limit c.in-Ok.image.items) c.args.cursors.now c.deref_mut.ensures.value (state_is c.self.view_is) c.anew_is_sound.ensures.was.cells spelled done
