@@ -2,11 +2,12 @@
 
 mod transfer;
 
-ghost use Rattle.std.specs.Prelude.{Some, IsSome, IfSome, ◌≡◌, [], None, is_some, length};
+ghost use Rattle.std.specs.Prelude.{Some, IsSome, IfSome, ◌≡◌, ◌≤◌, [], None, is_some, length};
 ghost use Rattle.krb_text.specs.KtutilWords.{words};
 ghost use Rattle.krb_text.specs.KtutilCommand.{ClearList, Quit, alone, listing, addition, deletion, command_by, command_of};
 ghost use Rattle.krb_text.specs.Ktutil.{KtutilState, with_key, command_plan, plan_of};
 ghost use Rattle.krb_text.specs.KtutilFiles.{Ended, EndsAt, Finishes, Handles};
+ghost use Rattle.krb_text.specs.KtutilHonest.{HandlesHonestly, Spares};
 
 use crate::files::Files;
 use crate::ktutil::addition::Addition;
@@ -230,8 +231,13 @@ impl<A: Allocator + Copy> Ktutil<A> {
         now: u32,
         out: &mut Vec<u8, A>,
     ) -> LineEnd
-        ensures { Handles F.Files (plan_of self.old now line.now)
+        ensures handles { Handles F.Files (plan_of self.old now line.now)
             files.old files.new self.old self.new out.old.items out.new.items result }
+        ensures honest { F.Files.is_honest files.old
+            → HandlesHonestly F.Files (plan_of self.old now line.now)
+            files.old files.new self.old self.new out.old.items out.new.items result }
+        ensures spared { Spares F.Files files.old files.new self.old self.new result }
+        ensures count { F.Files.failure_count files.old ≤ F.Files.failure_count files.new }
     {
         if self.pending() {
             return self.take_key(line, now);
