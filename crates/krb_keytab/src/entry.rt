@@ -79,8 +79,8 @@ impl<'a> EntryView<'a> {
         self.key
     }
 
-    // Its fields. What was read fits version 2.
-    pub(crate) fn fields(&self) -> Fields<'_, PrincipalView<'a>>
+    /// Its fields. What was read fits version 2.
+    pub fn fields(&self) -> Fields<'_, PrincipalView<'a>>
         ensures is { result ≡ self.now }
         ensures fits { IsTrue (fits V2 result) }
     {

@@ -29,6 +29,7 @@ mod turn;
 pub use edit::{EditRefused, edit_image};
 pub use entries::Entries;
 pub use entry::{EntryView, read_entry};
+pub use fields::Fields;
 pub use keytab::Keytab;
 pub use laws::{changes_are_seen, one_reading, written_is_read_back};
 pub use new_entry::NewEntry;

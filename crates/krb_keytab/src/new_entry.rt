@@ -37,8 +37,8 @@ impl<A: Allocator> Model for NewEntry<A> {
 }
 
 impl<A: Allocator> NewEntry<A> {
-    // Its fields.
-    pub(crate) fn fields(&self) -> Fields<'_, Principal<A>>
+    /// Its fields.
+    pub fn fields(&self) -> Fields<'_, Principal<A>>
         ensures { result ≡ self.now }
     {
         Fields {

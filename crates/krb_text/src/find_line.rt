@@ -4,7 +4,6 @@ ghost use Rattle.std.specs.Prelude.{◌≡◌, ◌++◌, OnOk, IfOk};
 ghost use Rattle.krb_text.specs.Found.{found_line};
 
 use crate::append::{append, append_number};
-use crate::fields::view_fields;
 use crate::line::append_tail;
 use krb_keytab::EntryView;
 use krb_wire::NoMemory;
@@ -19,7 +18,7 @@ fn append_found<A: Allocator>(
 {
     append(b"found ", out)?;
     append_number(place, out)?;
-    append_tail(&view_fields(entry), out)
+    append_tail(&entry.fields(), out)
 }
 
 /// Makes the line of an entry that was found at a place.

@@ -6,7 +6,6 @@ mod append;
 mod columns;
 mod command;
 mod etype;
-mod fields;
 mod files;
 mod find_line;
 mod gather;

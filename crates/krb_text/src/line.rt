@@ -7,9 +7,9 @@ ghost use Rattle.krb_text.specs.Line.{entry_line, time_column, etype_column, key
 use crate::append::{append, append_byte, append_number, append_right_in_4};
 use crate::columns::KtColumns;
 use crate::etype::etype_text;
-use crate::fields::Fields;
 use crate::key::key_text;
 use crate::time::time_text;
+use krb_keytab::Fields;
 use krb_walk::Fault;
 use krb_wire::{Name, NoMemory, write_name};
 use std::alloc::Allocator;

@@ -8,7 +8,6 @@ ghost use Rattle.krb_text.specs.Listing.{titles, underlines, heading, entry_line
 
 use crate::append::append;
 use crate::columns::KtColumns;
-use crate::fields::view_fields;
 use crate::gather::{FULL, send_if_full};
 use crate::line::{append_entry, append_fault};
 use crate::output::{OutFault, put};
@@ -70,7 +69,7 @@ fn list_entries<A: Allocator, B: Allocator, W: Write>(
     ensures failed { out.new.failed ≡ is_write_fault result }
 {
     'entries: for (_, entry) in keytab.entries() {
-        append_entry(columns, &view_fields(&entry), gathered)?;
+        append_entry(columns, &entry.fields(), gathered)?;
         send_if_full(gathered, out)?;
     }
     Ok(())

@@ -8,7 +8,6 @@ ghost use Rattle.krb_text.specs.Line.{fault_text};
 ghost use Rattle.krb_text.specs.Reply.{walk_line, number_line, given_tail, reply_text, reply_texts, format_after};
 
 use crate::append::{append, append_byte, append_number};
-use crate::fields::view_fields;
 use crate::line::{append_fault, append_tail};
 use krb_keytab::read_entry;
 use krb_walk::{Fault, Reply};
@@ -78,7 +77,7 @@ fn append_given<A: Allocator>(
     ensures err { OnErr result (Grew out.old.items out.new.items) }
 {
     match read_entry(format, bytes) {
-        Some(entry) => append_tail(&view_fields(&entry), out),
+        Some(entry) => append_tail(&entry.fields(), out),
         None => append_byte(b'\n', out),
     }
 }

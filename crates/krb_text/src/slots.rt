@@ -5,7 +5,6 @@ ghost use Rattle.krb_text.specs.Slots.{slot_heading, slot_line, slot_lines, slot
 
 use crate::append::{append, append_right_in_4};
 use crate::columns::KtColumns;
-use crate::fields::new_fields;
 use crate::line::append_entry;
 use crate::listing::{titles, underlines};
 use krb_keytab::NewEntry;
@@ -30,7 +29,7 @@ fn append_slot<A: Allocator, B: Allocator>(
     ensures { OnOk result (out.new.items ≡ out.old.items ++ slot_line columns (slot, entry.now)) }
 {
     append_right_in_4(slot, out)?;
-    append_entry(columns, &new_fields(entry), out)
+    append_entry(columns, &entry.fields(), out)
 }
 
 fn append_slots<A: Allocator, B: Allocator>(
