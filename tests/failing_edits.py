@@ -3,6 +3,7 @@ from __future__ import annotations
 
 import os
 import subprocess
+from collections.abc import Callable
 
 from edits import GAVE_B, GAVE_HOST, text
 from failing_calls import check_calls, check_memory, check_single_bytes
@@ -112,15 +113,28 @@ def check_script(report: Report, program: Preloaded) -> None:
             check_calls(report, program, SCRIPT, setting, most, faults)
 
 
+def check_failing(
+    report: Report,
+    program: str,
+    whole: tuple[Line, bytes, dict[str, bytes]],
+    lines: list[Line],
+    checks: list[Callable[[Report, Preloaded], None]],
+) -> None:
+    """A line where nothing fails, and lines where their input, memory and what is checked fail."""
+    line, out, after = whole
+    check_lost_input(report, program, line)
+    with preloaded(report, program, f"failing calls of {line.words[0]}", FILES) as under:
+        if under is None:
+            return
+        check_whole(report, under, line, out, after)
+        check_memory(report, under, lines, faults_without_memory)
+        for check_calls_of in checks:
+            check_calls_of(report, under)
+        check_single_bytes(report, under, lines)
+
+
 def check(report: Report, program: str) -> None:
     """Runs all of this topic."""
     check_lost_outputs(report, program)
-    check_lost_input(report, program, SCRIPT)
-    with preloaded(report, program, "failing calls of ktedit", FILES) as under:
-        if under is None:
-            return
-        check_whole(report, under, SCRIPT, REPLIES, AFTER_SCRIPT)
-        lines = [SCRIPT, NEW, ANEW, FAULTY]
-        check_memory(report, under, lines, faults_without_memory)
-        check_script(report, under)
-        check_single_bytes(report, under, lines)
+    whole = (SCRIPT, REPLIES, AFTER_SCRIPT)
+    check_failing(report, program, whole, [SCRIPT, NEW, ANEW, FAULTY], [check_script])

@@ -2,15 +2,13 @@
 from __future__ import annotations
 
 from edits import text
-from failing_calls import check_calls, check_memory, check_single_bytes
+from failing_calls import check_calls
 from failing_edits import (
     FILES,
     NO_OUTPUT,
     case,
-    check_lost_input,
-    check_whole,
+    check_failing,
     faults_of_output,
-    faults_without_memory,
     is_one_of,
 )
 from harness import Outcome, Report
@@ -18,7 +16,7 @@ from images import B, HOST, entries
 from ktutil_lines import ADDENT, HEADING, KEY, NO_SLOTS
 from ktutil_model import handled
 from outputs import check_lost
-from preload import WHOLE, Counted, Line, Preloaded, preloaded
+from preload import WHOLE, Counted, Line, Preloaded
 
 # An input that reads `j`, writes `k`, and lists before and after it; what it prints, and the files.
 INPUT = Line(("ktutil",), text(["rkt j", "l", "wkt k", "l -k", "l"]))
@@ -93,13 +91,5 @@ def check_clock(report: Report, program: Preloaded) -> None:
 def check(report: Report, program: str) -> None:
     """Runs all of this topic."""
     check_lost_outputs(report, program)
-    check_lost_input(report, program, INPUT)
-    with preloaded(report, program, "failing calls of ktutil", FILES) as under:
-        if under is None:
-            return
-        check_whole(report, under, INPUT, LISTED, AFTER_INPUT)
-        lines = [FAULTY, INPUT, ADDED]
-        check_memory(report, under, lines, faults_without_memory)
-        check_input(report, under)
-        check_clock(report, under)
-        check_single_bytes(report, under, lines)
+    whole = (INPUT, LISTED, AFTER_INPUT)
+    check_failing(report, program, whole, [FAULTY, INPUT, ADDED], [check_input, check_clock])

@@ -1,4 +1,6 @@
 pub mod Reading
+pub mod NewlineLemmas
+pub mod InputLemmas
 pub mod Faults
 pub mod Pieces
 pub mod Ends

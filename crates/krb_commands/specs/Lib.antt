@@ -4,6 +4,7 @@ pub mod Messages
 pub mod Runs
 pub mod KeytabFile
 pub mod Input
+pub mod InputLines
 pub mod Klist
 pub mod Ktfind
 pub mod Ktedit

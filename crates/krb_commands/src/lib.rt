@@ -3,6 +3,7 @@
 
 mod action;
 mod input;
+mod input_lines;
 mod keytab_file;
 mod klist;
 mod ktedit;

@@ -29,7 +29,7 @@ fn read_into<R: Read>(reader: &mut R, bytes: &mut [u8], at: usize) -> Result<usi
 }
 
 // Reads once, at most that many bytes, and appends what is given.
-fn append_read<A: Allocator, R: Read>(
+pub fn append_read<A: Allocator, R: Read>(
     bytes: &mut Vec<u8, A>,
     reader: &mut R,
     most: usize,
@@ -40,19 +40,27 @@ fn append_read<A: Allocator, R: Read>(
         × Consumes (R.remaining reader.old) (R.remaining reader.new) given) }
     ensures end { IfOk result (λ count. count ≡ 0 → IsAtEnd (R.remaining reader.new)) }
     ensures err { OnErr result (Keeps (R.remaining reader.old) (R.remaining reader.new)) }
+    ensures same { OnErr result (bytes.new.items ≡ bytes.old.items) }
     ensures why { IfErr result (λ fault. (fault ≡ LoadFault.Failed) ⊎ (fault ≡ LoadFault.NoMemory)) }
 {
     let filled = bytes.len();
     if bytes.resize(filled + most, 0).is_err() {
         return Err(LoadFault::NoMemory);
     }
-    let count = read_into(reader, bytes, filled)?;
-    bytes.truncate(filled + count);
-    Ok(count)
+    match read_into(reader, bytes, filled) {
+        Ok(count) => {
+            bytes.truncate(filled + count);
+            Ok(count)
+        }
+        Err(fault) => {
+            bytes.truncate(filled);
+            Err(fault)
+        }
+    }
 }
 
 // How many bytes are read next: the room that is there is filled before more is taken.
-fn next_read<A: Allocator>(bytes: &Vec<u8, A>) -> usize
+pub fn next_read<A: Allocator>(bytes: &Vec<u8, A>) -> usize
     ensures { (0 < result) × (result ≤ 131072) }
 {
     match bytes.capacity() - bytes.len() {

@@ -1,0 +1,131 @@
+//! Lines out of a reader, each as soon as its end is read.
+
+ghost use Rattle.std.specs.Prelude.{◌≡◌, ◌≢◌, ◌<◌, ◌≤◌, [], length, IfOk, IfErr, IfSome, OnErr, IsErrOf, vec_len};
+ghost use Rattle.krb_commands.specs.InputLines.{InputParts, ReadsLine, KeepsLines, Grows, IsWithin, FindsNewline, EndsLine};
+
+use crate::input::MOST_INPUT;
+use crate::reader::{append_read, next_read};
+use krb_text::LoadFault;
+use std::alloc::Allocator;
+use std::io::Read;
+use std::marker::Model;
+
+/// An input as far as it was read, and the line that was read last.
+#[derive(Drop)]
+pub struct InputLines<A: Allocator> {
+    bytes: Vec<u8, A>,
+    // Where that line begins and ends, and where the next one begins.
+    from: usize,
+    to: usize,
+    next: usize,
+}
+
+impl<A: Allocator> Model for InputLines<A> {
+    ghost use Rattle.std.specs.Prelude.{◌≤◌, slice_range, vec_len};
+    ghost use Rattle.krb_commands.specs.InputLines.{InputParts};
+
+    ghost Value = { InputParts };
+
+    ghost view = { λ i. record {
+      read = i.bytes.items;
+      line = slice_range i.bytes.items i.from i.to;
+      next = i.next;
+    } };
+
+    ghost invariant = { λ i. (i.from ≤ i.to) × (i.to ≤ i.next) × (i.next ≤ vec_len i.bytes)
+        × (vec_len i.bytes ≤ 16777217) };
+}
+
+// The first newline from a place on.
+fn newline_from(bytes: &[u8], from: usize) -> Option<usize>
+    requires { from ≤ length bytes.now }
+    ensures { FindsNewline bytes.now from result }
+{
+    let offset = bytes[from..].iter().position(|byte| *byte == b'\n')?;
+    Some(from + offset)
+}
+
+// Reads on until a newline stands behind a place, or the input ends.
+fn read_to_newline<A: Allocator, R: Read>(
+    bytes: &mut Vec<u8, A>,
+    reader: &mut R,
+    next: usize,
+) -> Result<Option<usize>, LoadFault>
+    requires { (next ≤ vec_len bytes.old) × (vec_len bytes.old ≤ 16777217) }
+    ensures ok { IfOk result (EndsLine bytes.new.items next (R.remaining reader.new)) }
+    ensures too_large { IsErrOf result LoadFault.TooLarge → 16777216 < vec_len bytes.new }
+    ensures never { IfErr result (λ fault. fault ≢ LoadFault.Missing) }
+    ensures grows { Grows bytes.old.items bytes.new.items (R.remaining reader.old) (R.remaining reader.new) }
+    ensures within { vec_len bytes.new ≤ 16777217 }
+{
+    let most = MOST_INPUT as usize;
+    let mut seen = next;
+    'reads: loop {
+        if let Some(end) = newline_from(bytes, seen) {
+            if end < most {
+                return Ok(Some(end));
+            }
+            return Err(LoadFault::TooLarge);
+        }
+        seen = bytes.len();
+        if seen > most {
+            return Err(LoadFault::TooLarge);
+        }
+        let room = next_read(bytes).min(most - seen + 1);
+        if append_read(bytes, reader, room)? == 0 {
+            return Ok(None);
+        }
+    }
+}
+
+impl<A: Allocator> InputLines<A> {
+    /// An input of which nothing was read.
+    pub fn new(alloc: A) -> InputLines<A>
+        ensures { result ≡ record { read = []; line = []; next = 0 } }
+    {
+        InputLines {
+            bytes: Vec::new(alloc),
+            from: 0,
+            to: 0,
+            next: 0,
+        }
+    }
+
+    /// The line that was read last, without its newline.
+    pub fn line(&self) -> &[u8]
+        ensures { result.now ≡ self.now.line }
+    {
+        &self.bytes[self.from..self.to]
+    }
+
+    /// Reads the next line, and no further than its end is known; false where the input has ended. A last
+    /// line needs no newline. At most one byte more than `MOST_INPUT` is read, of all lines together.
+    pub fn read_line<R: Read>(&mut self, reader: &mut R) -> Result<bool, LoadFault>
+        ensures line { IfOk result (λ is_line. ReadsLine is_line self.old self.new
+            (R.remaining reader.old) (R.remaining reader.new)) }
+        // Where a read fails no line is lost, but what was cut off is no line.
+        ensures err { OnErr result (KeepsLines self.old self.new
+            (R.remaining reader.old) (R.remaining reader.new)) }
+        ensures too_large { IsErrOf result LoadFault.TooLarge → 16777216 < length self.new.read }
+        ensures never { IfErr result (λ fault. fault ≢ LoadFault.Missing) }
+        ensures grows { Grows self.old.read self.new.read (R.remaining reader.old) (R.remaining reader.new) }
+        ensures within { IsWithin self.new }
+    {
+        let from = self.next;
+        match read_to_newline(&mut self.bytes, reader, from)? {
+            Some(end) => {
+                self.from = from;
+                self.to = end;
+                self.next = end + 1;
+                Ok(true)
+            }
+            None => {
+                let end = self.bytes.len();
+                self.from = from;
+                self.to = end;
+                self.next = end;
+                Ok(from < end)
+            }
+        }
+    }
+}
