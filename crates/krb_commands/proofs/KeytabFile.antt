@@ -2,15 +2,17 @@
 use Rattle.std.proofs.Common.{◌≡◌, ◌≢◌, ◌⊎◌, ℕ, List, rules, refl, sym, ap, subst, ◌∙◌, inr}
 use Rattle.std.specs.Prelude.{Ok, Err}
 use Rattle.krb_wire.specs.declared.format.Order.{Order}
-use Rattle.krb_keytab.specs.Store.{KeytabState}
+use Rattle.krb_keytab.specs.declared.open.KtOpenFault.{KtOpenFault}
+use Rattle.krb_keytab.specs.Store.{KeytabState, open_result}
 use Rattle.krb_text.specs.declared.files.Files.{Ghosts}
 use Rattle.krb_text.specs.declared.files.LoadFault.{LoadFault}
 use Rattle.krb_text.specs.declared.files.LoadFault.TheVariants as load
 use Rattle.krb_text.specs.Bytes.{Watch}
 use Rattle.krb_text.specs.Files.{CountsFailure, loaded}
-use Rattle.krb_commands.specs.KeytabFile.{most_bytes, load_message, load_status, opening_run, load_run, KeepsFiles, RunsOver, OpensKeytab, EndsUnopened}
+use Rattle.krb_text.proofs.Prefixes.{Appends-nil}
+use Rattle.krb_commands.specs.KeytabFile.{most_bytes, load_message, load_status, open_message, open_fault_run, opening_run, load_run, KeepsFiles, RunsOver, OpensKeytab, EndsUnopened}
 use Rattle.krb_commands.specs.Runs.{Run, Says, EndsRun, HasCause}
-use Rattle.krb_commands.proofs.Ends.{EndsRun-unloaded, EndsRun-honest, EndsLoaded-ok, EndsLoaded-err}
+use Rattle.krb_commands.proofs.Ends.{EndsRun-done, EndsRun-unloaded, EndsRun-honest, EndsLoaded-ok, EndsLoaded-err}
 
 -- a run that was not due to end with status 3 has that status for the output alone
 HasCause-ends : (due : Run) (failures failures' : ℕ) (out out' err err' : Watch) (status : ℕ) → due.status ≢ 3 → EndsRun due out out' err err' status → HasCause failures failures' out' err err' status
@@ -60,3 +62,20 @@ module _ {F : Type 0} (trait : Ghosts F) (old new : F) (file : List ℕ) (order 
     cause = HasCause-unloaded (load_run then_ order file (Err fault)) file fault (trait.failure_count old) (trait.failure_count new) out err err' counts says (EndsRun-unloaded then_ order file fault out err err' well says);
     files = files;
   }
+
+  -- a file holds no keytab
+  pub EndsUnopened-no_keytab : (image : List ℕ) (fault : KtOpenFault) (err err' : Watch) → trait.answers old file most_bytes (Ok image) new
+      → (trait.is_honest old → loaded (trait.file old file) most_bytes ≡ Ok image) → open_result order most_bytes image ≡ Err fault → KeepsFiles trait old new
+      → Says err err' (open_message file fault) → EndsUnopened trait old new file order err err' 1
+  EndsUnopened-no_keytab image fault err err' answered stands refused files says then_ out well =
+      let not4 : 1 ≢ 4 = search rules in
+      let not3 : 1 ≢ 3 = search rules in
+      let same : load_run then_ order file (Ok image) ≡ open_fault_run file fault = ap (opening_run then_ file) refused in
+      let told : EndsRun (open_fault_run file fault) out out err err' 1 = EndsRun-done (open_fault_run file fault) out out err err' 1 well not4 refl (Appends-nil out.contents) says in
+      let due : EndsRun (load_run then_ order file (Ok image)) out out err err' 1 = subst (λ (due : Run). EndsRun due out out err err' 1) (sym same) told in
+      record {
+        run = λ honest. inr (subst (λ l. EndsRun (load_run then_ order file l) out out err err' 1) (sym (stands honest)) due);
+        answered = EndsLoaded-ok (λ answer. trait.answers old file most_bytes answer new) then_ order file image (trait.failure_count old) (trait.failure_count new) out out err err' 1 answered due;
+        cause = HasCause-ends (open_fault_run file fault) (trait.failure_count old) (trait.failure_count new) out out err err' 1 not3 told;
+        files = files;
+      }

@@ -6,3 +6,5 @@ pub mod Pieces
 pub mod Ends
 pub mod KeytabFile
 pub mod EditLemmas
+pub mod KtutilEnds
+pub mod KtutilLemmas

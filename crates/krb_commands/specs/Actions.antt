@@ -3,13 +3,14 @@ use Rattle.std.specs.Prelude.{◌≡◌, ℕ, List, [], Option, Result, Ok, Err,
 use Rattle.krb_text.specs.declared.files.Files.{Ghosts}
 use Rattle.krb_text.specs.Bytes.{Watch}
 use Rattle.krb_commands.specs.declared.action.Action.{Action}
-use Rattle.krb_commands.specs.declared.action.Action.TheVariants.{Klist, Ktedit, Ktfind, Help}
+use Rattle.krb_commands.specs.declared.action.Action.TheVariants.{Klist, Ktedit, Ktfind, Ktutil, Help}
 use Rattle.krb_commands.specs.declared.action.WordFault.{WordFault}
 use Rattle.krb_commands.specs.declared.action.WordFault.TheVariants.{BadLine, NoMemory}
 use Rattle.krb_commands.specs.KeytabFile.{RunsOver}
 use Rattle.krb_commands.specs.Klist.{listing_loaded}
 use Rattle.krb_commands.specs.Ktedit.{RunsEdit}
 use Rattle.krb_commands.specs.Ktfind.{finding_loaded}
+use Rattle.krb_commands.specs.Ktutil.{RunsKtutil}
 use Rattle.krb_commands.specs.Messages.{message}
 use Rattle.krb_commands.specs.Runs.{Run, EndsRun}
 
@@ -31,7 +32,7 @@ word_run fault = record { out = []; err = word_message fault; status = word_stat
 abbrev pub help_run : List ℕ → Run
 help_run text = record { out = text; err = []; status = 0 }
 
-module _ {F : Type 0} (trait : Ghosts F) (given given' : Option (List ℕ)) (old new : F) (out out' err err' : Watch) (status : ℕ) where
+module _ {F : Type 0} (trait : Ghosts F) (now : ℕ) (given given' : Option (List ℕ)) (old new : F) (out out' err err' : Watch) (status : ℕ) where
   -- what is asked for without files ends so
   abbrev pub EndsAlone : Run → Type 0
   EndsAlone due = (new ≡ old) × EndsRun due out out' err err' status
@@ -41,6 +42,7 @@ module _ {F : Type 0} (trait : Ghosts F) (given given' : Option (List ℕ)) (old
   EndsAction (Klist options file) = RunsOver trait old new (string_bytes file) (listing_loaded options (string_bytes file)) out out' err err' status
   EndsAction (Ktfind options file) = RunsOver trait old new (string_bytes file) (finding_loaded options (string_bytes file)) out out' err err' status
   EndsAction (Ktedit order file) = RunsEdit trait (string_bytes file) out out' err err' status order given given' old new
+  EndsAction (Ktutil order) = RunsKtutil trait order now given given' old new out out' err err' status
   EndsAction (Help text) = EndsAlone (help_run (string_bytes text))
 
   -- what was asked for, or why nothing was

@@ -8,6 +8,7 @@ pub mod InputLines
 pub mod Klist
 pub mod Ktfind
 pub mod Ktedit
+pub mod Ktutil
 pub mod Edits
 pub mod Options
 pub mod Actions

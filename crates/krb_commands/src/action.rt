@@ -43,6 +43,8 @@ pub enum Action {
     Ktfind(FindOptions<Global>, String),
     /// To edit the file of that name by a script; version 1 has that order.
     Ktedit(Order, String),
+    /// To handle the lines of ktutil; version 1 has that order.
+    Ktutil(Order),
     /// To show that help.
     Help(String),
 }

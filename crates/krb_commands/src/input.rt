@@ -2,10 +2,12 @@
 
 ghost use Rattle.std.specs.Prelude.{◌≡◌};
 ghost use Rattle.krb_commands.specs.Input.{input_run, line_run, refusal_run};
+ghost use Rattle.krb_commands.specs.Ktutil.{refused_run};
 ghost use Rattle.krb_commands.specs.Runs.{Says};
 
 use crate::messages::{complain, complain_of_line};
 use krb_text::{LineFault, LoadFault, ScriptRefusal, Watched};
+use krb_walk::Code;
 use std::io::Write;
 
 /// The most bytes that are read from the standard input.
@@ -38,6 +40,15 @@ pub fn refuse_line<E: Write>(line: u64, fault: LineFault, err: &mut Watched<E>) 
     ensures err { Says err.old err.new (line_run line fault).err }
 {
     complain_of_line(err, line, "fault ", fault.number());
+    1
+}
+
+/// Says that a keytab refused what a line asked for, and answers the status for it.
+pub fn refuse_line_code<E: Write>(line: u64, code: Code, err: &mut Watched<E>) -> u8
+    ensures status { result ≡ (refused_run line code).status }
+    ensures err { Says err.old err.new (refused_run line code).err }
+{
+    complain_of_line(err, line, "refused ", code.number());
     1
 }
 

@@ -31,10 +31,10 @@ pub fn open_keytab<A: Allocator, F: Files, E: Write>(
         Ok(image) => match Keytab::open(image, v1_order, Limits::usual()) {
             Ok(keytab) => Ok(keytab),
             Err(refused) => {
-                refuse_image(file, refused.why, err);
+                refuse_image(file.as_bytes(), refused.why, err);
                 Err(1)
             }
         },
-        Err(fault) => Err(refuse_load(file, fault, err)),
+        Err(fault) => Err(refuse_load(file.as_bytes(), fault, err)),
     }
 }

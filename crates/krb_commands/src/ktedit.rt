@@ -128,7 +128,7 @@ fn finish<A: Allocator, F: Files, W: Write, E: Write>(
 {
     if edited.is_changed {
         if let Err(fault) = files.save(file, &edited.image) {
-            return refuse_save(file, fault, err);
+            return refuse_save(file.as_bytes(), fault, err);
         }
     }
     show(&edited.text, edited.status, out, err)
@@ -165,14 +165,14 @@ fn open_or_create<A: Allocator + Copy, F: Files, E: Write>(
         Ok(image) => match Keytab::open(image, v1_order, Limits::usual()) {
             Ok(keytab) => Ok(keytab),
             Err(refused) => {
-                refuse_image(file, refused.why, err);
+                refuse_image(file.as_bytes(), refused.why, err);
                 Err(1)
             }
         },
         Err(fault) => match fault {
             LoadFault::Missing => create(alloc, err),
             LoadFault::TooLarge | LoadFault::Failed | LoadFault::NoMemory => {
-                Err(refuse_load(file, fault, err))
+                Err(refuse_load(file.as_bytes(), fault, err))
             }
         },
     }

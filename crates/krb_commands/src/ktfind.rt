@@ -54,7 +54,7 @@ fn find_opened<A: Allocator, B: Allocator, C: Allocator, W: Write, E: Write>(
     match keytab.find(&options.name, options.kvno, options.enctype) {
         Ok((place, entry)) => show_found(alloc, place, &entry, out, err),
         Err(code) => {
-            refuse_code(file, code, err);
+            refuse_code(file.as_bytes(), code, err);
             1
         }
     }

@@ -8,6 +8,7 @@ mod keytab_file;
 mod klist;
 mod ktedit;
 mod ktfind;
+mod ktutil;
 mod messages;
 mod options;
 mod reader;
@@ -22,8 +23,10 @@ pub use keytab_file::open_keytab;
 pub use klist::run_klist;
 pub use ktedit::run_ktedit;
 pub use ktfind::run_ktfind;
+pub use ktutil::run_ktutil;
 pub use options::{
-    KlistWords, KteditWords, KtfindWords, klist_action, ktedit_action, ktfind_action,
+    KlistWords, KteditWords, KtfindWords, KtutilWords, klist_action, ktedit_action, ktfind_action,
+    ktutil_action,
 };
 pub use reader::load;
 pub use response::respond;

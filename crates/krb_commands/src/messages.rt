@@ -7,7 +7,7 @@ ghost use Rattle.krb_text.specs.Gathered.{Sent};
 ghost use Rattle.krb_commands.specs.Messages.{message, file_message, line_message};
 ghost use Rattle.krb_commands.specs.Runs.{Says};
 
-use arrayvec::ArrayString;
+use arrayvec::ArrayVec;
 use itoa::Buffer;
 use krb_text::{OutFault, Watched, put};
 use std::io::Write;
@@ -17,58 +17,58 @@ const LINE: usize = 4160;
 
 // Gathers one more text. Where there is no room for it, writes what was gathered, and then the text.
 fn add<E: Write>(
-    text: &str,
-    line: &mut ArrayString<LINE>,
+    text: &[u8],
+    line: &mut ArrayVec<u8, LINE>,
     err: &mut Watched<E>,
 ) -> Result<(), OutFault>
     ensures ok { OnOk result (Sent err.old.contents err.new.contents
-        (line.old.bytes ++ text.now) line.new.bytes) }
+        (line.old.items ++ text.now) line.new.items) }
     ensures prefix { OnErr result (AppendsPrefix err.old.contents err.new.contents
-        (line.old.bytes ++ text.now)) }
+        (line.old.items ++ text.now)) }
     ensures failed { OnErr result (IsTrue err.new.failed) }
 {
-    match line.try_push_str(text) {
+    match line.try_extend_from_slice(text) {
         Ok(()) => Ok(()),
         Err(_) => {
-            put(err, line.as_str().as_bytes())?;
+            put(err, line.as_slice())?;
             line.clear();
-            put(err, text.as_bytes())
+            put(err, text)
         }
     }
 }
 
 // Says the texts one after the other, in one write if they have room in a line.
-fn say<E: Write>(err: &mut Watched<E>, texts: &[&str])
+fn say<E: Write>(err: &mut Watched<E>, texts: &[&[u8]])
     ensures { Says err.old err.new (flat_map (λ text. text.now) texts.now) }
 {
-    let mut line = ArrayString::new();
+    let mut line = ArrayVec::new();
     for text in texts {
         match add(text, &mut line, err) {
             Ok(()) => {}
             Err(_) => return,
         }
     }
-    let _ = put(err, line.as_str().as_bytes());
+    let _ = put(err, line.as_slice());
 }
 
 /// Says something on the error output. A failure there is passed over.
 pub fn complain<E: Write>(err: &mut Watched<E>, what: &str)
     ensures { Says err.old err.new (message what.now) }
 {
-    say(err, &["krbfile: ", what, "\n"]);
+    say(err, &[b"krbfile: ", what.as_bytes(), b"\n"]);
 }
 
 /// Says something of a file on the error output. A failure there is passed over.
-pub fn complain_of<E: Write>(err: &mut Watched<E>, file: &str, what: &str)
+pub fn complain_of<E: Write>(err: &mut Watched<E>, file: &[u8], what: &str)
     ensures { Says err.old err.new (file_message file.now what.now) }
 {
-    say(err, &["krbfile: ", file, ": ", what, "\n"]);
+    say(err, &[b"krbfile: ", file, b": ", what.as_bytes(), b"\n"]);
 }
 
 /// Says something of a file that has a number in it. A failure there is passed over.
 pub fn complain_number_of<'a, E: Write>(
     err: &mut Watched<E>,
-    file: &'a str,
+    file: &'a [u8],
     before: &'a str,
     number: u32,
     after: &'a str,
@@ -78,7 +78,18 @@ pub fn complain_number_of<'a, E: Write>(
 {
     let mut buffer = Buffer::new();
     let digits = buffer.format(number);
-    say(err, &["krbfile: ", file, ": ", before, digits, after, "\n"]);
+    say(
+        err,
+        &[
+            b"krbfile: ",
+            file,
+            b": ",
+            before.as_bytes(),
+            digits.as_bytes(),
+            after.as_bytes(),
+            b"\n",
+        ],
+    );
 }
 
 /// Says something of a line of the input that has a number in it. A failure there is passed over.
@@ -91,6 +102,13 @@ pub fn complain_of_line<E: Write>(err: &mut Watched<E>, line: u64, what: &str, n
     let digits = buffer.format(number);
     say(
         err,
-        &["krbfile: line ", line_digits, ": ", what, digits, "\n"],
+        &[
+            b"krbfile: line ",
+            line_digits.as_bytes(),
+            b": ",
+            what.as_bytes(),
+            digits.as_bytes(),
+            b"\n",
+        ],
     );
 }

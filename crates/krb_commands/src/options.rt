@@ -3,6 +3,7 @@
 ghost use Rattle.std.specs.Prelude.{◌≡◌, ◌↔◌, IsTrue, IsFalse, IsOk, IsErr, OnOk, IfOk, IfErr, IsErrOf, None, Ok};
 ghost use Rattle.krb_wire.specs.NameOf.{name_of};
 ghost use Rattle.krb_wire.specs.Reading.{principal_parts};
+ghost use Rattle.krb_commands.specs.declared.action.Action.TheVariants.{Ktutil};
 ghost use Rattle.krb_commands.specs.Options.{order_of, list_options, Spells, IsReadable, IsUnreadable, AsksToList, AsksToEdit, AsksToFind};
 
 use crate::action::{Action, FindOptions, KlistOptions, ListKind, WordFault};
@@ -36,6 +37,12 @@ pub struct KtfindWords<'a> {
     pub kvno: &'a str,
     pub etype: &'a str,
     pub name: &'a str,
+}
+
+/// What the words of ktutil say.
+#[derive(Clone, Copy)]
+pub struct KtutilWords {
+    pub v1_big: bool,
 }
 
 fn order_of(v1_big: bool) -> Order
@@ -78,6 +85,13 @@ pub fn ktedit_action(alloc: Global, words: &KteditWords<'_>) -> Result<Action, W
 {
     let file = String::from_str(alloc, words.file)?;
     Ok(Action::Ktedit(order_of(words.v1_big), file))
+}
+
+/// What the words of ktutil ask for.
+pub fn ktutil_action(words: KtutilWords) -> Action
+    ensures { result ≡ Ktutil (order_of words.v1_big) }
+{
+    Action::Ktutil(order_of(words.v1_big))
 }
 
 // The name that a word spells, with its realm.

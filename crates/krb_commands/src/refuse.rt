@@ -13,7 +13,7 @@ use krb_walk::Code;
 use std::io::Write;
 
 /// Says why a file was not loaded, and answers the status for it.
-pub fn refuse_load<E: Write>(file: &str, fault: LoadFault, err: &mut Watched<E>) -> u8
+pub fn refuse_load<E: Write>(file: &[u8], fault: LoadFault, err: &mut Watched<E>) -> u8
     ensures status { result ≡ load_status fault }
     ensures err { Says err.old err.new (load_message file.now fault) }
 {
@@ -38,7 +38,7 @@ pub fn refuse_load<E: Write>(file: &str, fault: LoadFault, err: &mut Watched<E>)
 }
 
 /// Says why a file was not saved, and answers the status for it.
-pub fn refuse_save<E: Write>(file: &str, fault: SaveFault, err: &mut Watched<E>) -> u8
+pub fn refuse_save<E: Write>(file: &[u8], fault: SaveFault, err: &mut Watched<E>) -> u8
     ensures status { result ≡ (save_fault_run file.now fault).status }
     ensures err { Says err.old err.new (save_fault_run file.now fault).err }
 {
@@ -55,14 +55,14 @@ pub fn refuse_save<E: Write>(file: &str, fault: SaveFault, err: &mut Watched<E>)
 }
 
 /// Says why an image was not opened.
-pub fn refuse_image<E: Write>(file: &str, fault: KtOpenFault, err: &mut Watched<E>)
+pub fn refuse_image<E: Write>(file: &[u8], fault: KtOpenFault, err: &mut Watched<E>)
     ensures { Says err.old err.new (open_message file.now fault) }
 {
     complain_number_of(err, file, "not a keytab (", fault.number(), ")");
 }
 
 /// Says why a keytab refused.
-pub fn refuse_code<E: Write>(file: &str, code: Code, err: &mut Watched<E>)
+pub fn refuse_code<E: Write>(file: &[u8], code: Code, err: &mut Watched<E>)
     ensures { Says err.old err.new (refused_message file.now code) }
 {
     complain_number_of(err, file, "refused ", code.number(), "");

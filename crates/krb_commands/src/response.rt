@@ -8,6 +8,7 @@ use crate::action::{Action, WordFault};
 use crate::klist::run_klist;
 use crate::ktedit::run_ktedit;
 use crate::ktfind::run_ktfind;
+use crate::ktutil::run_ktutil;
 use crate::messages::complain;
 use krb_text::{Files, Watched, put};
 use std::alloc::Allocator;
@@ -48,11 +49,12 @@ fn act<A: Allocator + Copy, F: Files, R: Read, W: Write, E: Write>(
     action: &Action,
     files: &mut F,
     input: &mut R,
+    now: u32,
     out: &mut Watched<W>,
     err: &mut Watched<E>,
 ) -> u8
     requires { IsFalse out.old.failed }
-    ensures { EndsAction F.Files (R.remaining input.old) (R.remaining input.new) files.old files.new
+    ensures { EndsAction F.Files now (R.remaining input.old) (R.remaining input.new) files.old files.new
         out.old out.new err.old err.new result action.now }
 {
     match action {
@@ -61,26 +63,28 @@ fn act<A: Allocator + Copy, F: Files, R: Read, W: Write, E: Write>(
         Action::Ktedit(v1_order, file) => {
             run_ktedit(alloc, *v1_order, file.as_str(), files, input, out, err)
         }
+        Action::Ktutil(v1_order) => { run_ktutil(alloc, *v1_order, files, input, now, out, err) }
         Action::Help(text) => show_help(text.as_str(), out, err),
     }
 }
 
-/// Does what was asked for, or says why the command line was not read, and answers the status. Scripts
-/// come from `input`. What goes wrong is said on `err`; a failure of `err` changes nothing else.
+/// Does what was asked for, or says why the command line was not read, and answers the status. Scripts and
+/// the lines of ktutil come from `input`, and entries are made at `now`, in seconds. What goes wrong is said on `err`; a failure of `err` changes nothing else.
 pub fn respond<A: Allocator + Copy, F: Files, R: Read, W: Write, E: Write>(
     alloc: A,
     asked: &Result<Action, WordFault>,
     files: &mut F,
     input: &mut R,
+    now: u32,
     out: &mut Watched<W>,
     err: &mut Watched<E>,
 ) -> u8
     requires { IsFalse out.old.failed }
-    ensures { EndsAsked F.Files (R.remaining input.old) (R.remaining input.new) files.old files.new
+    ensures { EndsAsked F.Files now (R.remaining input.old) (R.remaining input.new) files.old files.new
         out.old out.new err.old err.new result asked.now }
 {
     match asked {
-        Ok(action) => act(alloc, action, files, input, out, err),
+        Ok(action) => act(alloc, action, files, input, now, out, err),
         Err(fault) => refuse_words(*fault, err),
     }
 }

@@ -1,12 +1,14 @@
 //! Shows and edits Kerberos keytabs.
 #![tactic(auto)]
 
+mod clock;
 mod disk;
 mod run;
 #[cfg(test)]
 mod tests;
 mod words;
 
+use clock::seconds_now;
 use disk::DiskFiles;
 use krb_text::Watched;
 use std::process::ExitCode;
@@ -16,5 +18,6 @@ fn main(rt: HostRuntime) -> ExitCode {
     let mut input = rt.stdin();
     let mut out = Watched::new(rt.stdout());
     let mut err = Watched::new(rt.stderr());
-    ExitCode::from(run::run(&rt, &mut files, &mut input, &mut out, &mut err))
+    let now = seconds_now(&rt);
+    ExitCode::from(run::run(&rt, &mut files, &mut input, now, &mut out, &mut err))
 }

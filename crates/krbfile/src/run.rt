@@ -30,6 +30,7 @@ pub fn run<H: rt::Env + AllocGlobal, F: Files, R: Read, W: Write, E: Write>(
     rt: &H,
     files: &mut F,
     input: &mut R,
+    now: u32,
     out: &mut Watched<W>,
     err: &mut Watched<E>,
 ) -> u8
@@ -37,8 +38,8 @@ pub fn run<H: rt::Env + AllocGlobal, F: Files, R: Read, W: Write, E: Write>(
 
     // Something was asked for, or the line was not read, and that decides the run.
     ensures { (asked : Result Action WordFault)
-        × EndsAsked F.Files (R.remaining input.old) (R.remaining input.new) files.old files.new
+        × EndsAsked F.Files now (R.remaining input.old) (R.remaining input.new) files.old files.new
         out.old out.new err.old err.new result asked }
 {
-    respond(rt.alloc(), &asked(rt), files, input, out, err)
+    respond(rt.alloc(), &asked(rt), files, input, now, out, err)
 }

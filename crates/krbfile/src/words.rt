@@ -3,8 +3,8 @@
 use clap::error::ErrorKind;
 use clap::{Arg, ArgAction, ArgMatches, Command, Error};
 use krb_commands::{
-    Action, KlistWords, KteditWords, KtfindWords, WordFault, klist_action, ktedit_action,
-    ktfind_action,
+    Action, KlistWords, KteditWords, KtfindWords, KtutilWords, WordFault, klist_action,
+    ktedit_action, ktfind_action, ktutil_action,
 };
 use std::alloc::{AllocError, Global};
 
@@ -17,6 +17,18 @@ Lines of the script, of which empty ones and those that begin with # ask for not
   add KVNO ETYPE TIME KEY NAME  An addition; KEY is hexadecimal, or - for none
   cut PLACE                     The removal of the record at that place
   rewrite                       The keytab is written anew, without holes";
+
+/// The commands of ktutil.
+const COMMANDS: &str = "\
+Commands, each on a line, and their short names:
+  list, l [-t] [-k] [-e]     Lists the entries, with times, keys, encryption types
+  read_kt, rkt FILE          Adds the entries of the file to the list
+  write_kt, wkt FILE         Adds the list to the file, made where it is missing
+  add_entry, addent -key -p NAME -k KVNO -e ETYPE
+                             Adds an entry; the next line is its key, in hexadecimal
+  delete_entry, delent SLOT  Deletes the entry of that slot
+  clear_list, clear          Empties the list
+  quit, q, exit              Ends";
 
 fn flag<'a>(alloc: Global, id: &'a str, letter: char, help: &'a str) -> Arg<'a> {
     Arg::new(alloc, id)
@@ -84,13 +96,23 @@ fn ktfind_command<'a>(alloc: Global) -> Result<Command<'a>, AllocError> {
         .arg(word(alloc, "name", "NAME", "The principal, with its realm"))
 }
 
+fn ktutil_command<'a>(alloc: Global) -> Result<Command<'a>, AllocError> {
+    Command::new(alloc, "ktutil")
+        .about("Edits a list of entries by commands from the standard input")
+        .override_usage("krbfile ktutil [--v1-big] < COMMANDS")
+        .after_help(COMMANDS)
+        .args_override_self(true)
+        .arg(v1_big(alloc))
+}
+
 fn krbfile_command<'a>(alloc: Global) -> Result<Command<'a>, AllocError> {
     Command::new(alloc, "krbfile")
         .about("Reads and edits Kerberos keytabs")
         .subcommand_required(true)
         .subcommand(klist_command(alloc)?)?
         .subcommand(ktedit_command(alloc)?)?
-        .subcommand(ktfind_command(alloc)?)
+        .subcommand(ktfind_command(alloc)?)?
+        .subcommand(ktutil_command(alloc)?)
 }
 
 // The words of klist that were found.
@@ -124,6 +146,13 @@ fn ktfind_words<'a>(matches: &ArgMatches<'a>) -> Option<KtfindWords<'a>> {
     })
 }
 
+// The words of ktutil that were found.
+fn ktutil_words(matches: &ArgMatches) -> KtutilWords {
+    KtutilWords {
+        v1_big: matches.get_flag("v1-big"),
+    }
+}
+
 // What a command and its words ask for.
 fn command_action(alloc: Global, matches: &ArgMatches) -> Result<Action, WordFault> {
     match matches.subcommand() {
@@ -136,6 +165,7 @@ fn command_action(alloc: Global, matches: &ArgMatches) -> Result<Action, WordFau
         Some(("ktfind", found)) => {
             ktfind_action(alloc, &ktfind_words(found).ok_or(WordFault::BadLine)?)
         }
+        Some(("ktutil", found)) => Ok(ktutil_action(ktutil_words(found))),
         _ => Err(WordFault::BadLine),
     }
 }

@@ -31,7 +31,7 @@ fn a_message_is_one_write(rt: HostRuntime) -> Result<(), Fail> {
         }
         let mut writes = Writes(0);
         let mut err = Watched::new(&mut writes);
-        complain_of(&mut err, name.as_str(), "no such file");
+        complain_of(&mut err, name.as_str().as_bytes(), "no such file");
         assert_eq!(rt; writes.0, want, "{length}");
     }
     Ok(())

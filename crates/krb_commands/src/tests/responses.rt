@@ -21,6 +21,7 @@ fn check<R: Abort + AllocGlobal>(
         asked,
         &mut files,
         &mut input,
+        0,
         &mut Watched::new(&mut out),
         &mut Watched::new(&mut err),
     );
@@ -46,6 +47,8 @@ fn each_response(rt: HostRuntime) -> Result<(), Fail> {
         &Ok(Action::Ktedit(Order::Little, file)),
         ("gone 2\n", "", 0),
     )?;
+    let unknown = "krbfile: line 1: fault 1\n";
+    check(&rt, &Ok(Action::Ktutil(Order::Little)), ("", unknown, 1))?;
     let help = Ok(Action::Help(String::from_str(alloc, "help\n")?));
     check(&rt, &help, ("help\n", "", 0))?;
     let bad = "krbfile: bad command line\n";

@@ -70,6 +70,20 @@ fn lines_that_list_with_columns(rt: HostRuntime) -> Result<(), Fail> {
 }
 
 #[test]
+fn lines_of_ktutil(rt: HostRuntime) -> Result<(), Fail> {
+    for (line, order) in [
+        ("krbfile ktutil", Order::Little),
+        ("krbfile ktutil --v1-big", Order::Big),
+    ] {
+        let Ok(Action::Ktutil(asked)) = parsed(rt.alloc(), line)? else {
+            return Err(Fail::from("no ktutil"));
+        };
+        assert!(rt; asked == order, "at {line}");
+    }
+    Ok(())
+}
+
+#[test]
 fn lines_that_edit(rt: HostRuntime) -> Result<(), Fail> {
     for (line, order) in [
         ("krbfile ktedit k", Order::Little),

@@ -18,7 +18,7 @@ returns-in-Err-open-clause-err g c =
     let no : 1 ≢ 4 = search rules in
     record {
       loads = Loads-ok g.F.Files c.args.file.now c.args.files.now c.load.new.self c.load.ensures.honest c.load.ensures.same c.load.ensures.count c.in-Ok.image.items c.in-Ok.ensures.answered c.in-Ok.ensures.ok;
-      why = inr (rw (rw c.usual.ensures at c.in-Err-open.ensures.err.0) (refl, refl, c.refuse_image.ensures, λ e. absurd (no e)));
+      why = inr (rw (rw c.usual.ensures at c.in-Err-open.ensures.err.0) (refl, refl, (rw c.as_bytes.ensures.value at c.refuse_image.ensures), λ e. absurd (no e)));
     }
 
 -- a missing file begins as an empty keytab
@@ -36,6 +36,6 @@ returns-in-TooLarge g c = record {
   ok = tt;
   err = record {
     loads = Loads-err g.F.Files c.args.file.now c.args.files.now c.load.new.self c.load.ensures.honest c.load.ensures.same c.load.ensures.count c.in-Err.fault c.in-Err.ensures.answered c.in-Err.ensures.err (λ e. c.in-Err.ensures.failed (ap Err e));
-    why = inr (SaysWhy-unloaded g.F.Files c.args.file.now c.args.v1_order c.args.files.now c.load.new.self c.args.err.now c.refuse_load.new.err c.refuse_load.result c.in-Err.fault c.in-TooLarge.is c.refuse_load.ensures.status c.refuse_load.ensures.err);
+    why = inr (SaysWhy-unloaded g.F.Files c.args.file.now c.args.v1_order c.args.files.now c.load.new.self c.args.err.now c.refuse_load.new.err c.refuse_load.result c.in-Err.fault c.in-TooLarge.is c.refuse_load.ensures.status (rw c.as_bytes-in-TooLarge.ensures.value at c.refuse_load.ensures.err));
   };
 }

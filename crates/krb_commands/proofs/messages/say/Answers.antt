@@ -23,6 +23,6 @@ pub returns : goal.returns
 returns g c =
     let past : length c.args.texts.now ≤ c.loop-text.text-index = omega arith in
     let all = rw (take_all _ c.args.texts.now past) at c.loop-text.invariant in
-    let ok = rw (c.as_bytes.ensures.value, c.as_str.ensures.value) at c.put.ensures.ok in
-    let prefix = rw (c.as_bytes.ensures.value, c.as_str.ensures.value) at c.put.ensures.prefix in
-    Says-last c.args.err.now c.loop-text.err c.put.new.out _ c.loop-text.line.bytes c.put.result all ok prefix c.put.ensures.failed
+    let ok = rw (c.as_slice.ensures.value) at c.put.ensures.ok in
+    let prefix = rw (c.as_slice.ensures.value) at c.put.ensures.prefix in
+    Says-last c.args.err.now c.loop-text.err c.put.new.out _ c.loop-text.line.items c.put.result all ok prefix c.put.ensures.failed

@@ -5,4 +5,4 @@ use Rattle.krb_commands.proofs.messages.say.Given as goal
 
 abbrev pub invariant-loop-text : goal.invariant-loop-text
 invariant-loop-text g l =
-    Sent l.initial.err.contents l.err.contents (flat_map (λ text. text.now) (take l.text-index l.texts)) l.line.bytes
+    Sent l.initial.err.contents l.err.contents (flat_map (λ text. text.now) (take l.text-index l.texts)) l.line.items

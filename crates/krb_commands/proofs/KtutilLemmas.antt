@@ -1,0 +1,179 @@
+-- The lines of ktutil, one after the other.
+use Rattle.std.proofs.Common.{◌≡◌, ◌≢◌, inl, inr, ℕ, ◌+◌, ◌<◌, ◌≤◌, List, [], ◌∷◌, ◌++◌, length, length-append, drop, refl, sym, subst, ◌∙◌, append_assoc, append-nil, arith}
+use Rattle.std.specs.Prelude.{IsFalse, max, Option, None, Some, IfSome}
+use Rattle.std.specs.Io.KnownBytes.{Consumes}
+use Rattle.krb_wire.specs.declared.format.Order.{Order}
+use Rattle.krb_text.specs.declared.files.Files.{Ghosts}
+use Rattle.krb_text.specs.declared.files.LoadFault.{LoadFault}
+use Rattle.krb_text.specs.declared.files.LoadFault.TheVariants.{Missing, TooLarge}
+use Rattle.krb_text.specs.Bytes.{Watch}
+use Rattle.krb_commands.specs.Input.{input_run}
+use Rattle.krb_commands.specs.InputLines.{InputParts, lines_of, HasLines, KeepsLines, TakesLine, Grows, IsWithin}
+use Rattle.krb_commands.specs.KeytabFile.{most_bytes}
+use Rattle.krb_commands.specs.Ktutil.{Talk, first_talk, AreFirst, Continues, Stops, TalksOver, RunsKtutil}
+use Rattle.krb_commands.specs.Reader.{ConsumesAtMost}
+use Rattle.krb_commands.specs.Runs.{Says}
+use Rattle.krb_commands.proofs.Reading.{Consumes-trans}
+
+-- the input, as far as lines of it were handled, has these lines and those that are to come
+abbrev ToCome : Option (List ℕ) → List (List ℕ) → InputParts → Option (List ℕ) → Type 0
+ToCome given lines input left = (more : List (List ℕ)) → HasLines input left more → IfSome given (λ bytes. lines_of bytes ≡ lines ++ more)
+
+-- there are some lines to come
+some_lines : (input : InputParts) (left : Option (List ℕ)) → (lines : List (List ℕ)) × HasLines input left lines
+some_lines input None = ([], tt)
+some_lines input (Some bytes) = (lines_of (drop input.next input.read ++ bytes), refl)
+
+are_first : (given : Option (List ℕ)) (lines more : List (List ℕ)) → IfSome given (λ bytes. lines_of bytes ≡ lines ++ more) → AreFirst lines given
+are_first None lines more is = tt
+are_first (Some bytes) lines more is = (more, is)
+
+ToCome-first : (given : Option (List ℕ)) (lines : List (List ℕ)) (input : InputParts) (left : Option (List ℕ)) → ToCome given lines input left → AreFirst lines given
+ToCome-first given lines input left to_come =
+    let some = some_lines input left in
+    are_first given lines some.0 (to_come some.0 some.1)
+
+line_more : (given : Option (List ℕ)) (lines : List (List ℕ)) (line : List ℕ) (more : List (List ℕ)) → IfSome given (λ bytes. lines_of bytes ≡ lines ++ line ∷ more) → IfSome given (λ bytes. lines_of bytes ≡ (lines ++ line ∷ []) ++ more)
+line_more None lines line more is = tt
+line_more (Some bytes) lines line more is = is ∙ sym (append_assoc lines (line ∷ []) more)
+
+-- one more line was read
+ToCome-line : (given : Option (List ℕ)) (lines : List (List ℕ)) (old new : InputParts) (left left' : Option (List ℕ)) → ToCome given lines old left → TakesLine old new left left' → ToCome given (lines ++ new.line ∷ []) new left'
+ToCome-line given lines old new left left' to_come takes = λ more has. line_more given lines new.line more (to_come (new.line ∷ more) (takes.first more has))
+
+none_more : (given : Option (List ℕ)) (lines : List (List ℕ)) → IfSome given (λ bytes. lines_of bytes ≡ lines ++ []) → IfSome given (λ bytes. lines_of bytes ≡ lines)
+none_more None lines is = tt
+none_more (Some bytes) lines is = is ∙ append-nil lines
+
+-- what was read, and what a reader gave besides
+grown : (given left left' : Option (List ℕ)) (old new : List ℕ) → Consumes given left old → Grows old new left left' → Consumes given left' new
+grown given left left' old new consumes g = subst (Consumes given left') (sym g.read) (Consumes-trans given left left' old g.given consumes g.consumes)
+
+-- more was read than an input may have
+too_long : (given left : Option (List ℕ)) (read : List ℕ) → Consumes given left read → most_bytes < length read → IfSome given (λ bytes. most_bytes < length bytes)
+too_long None left read consumes long = tt
+too_long (Some bytes) None read consumes long = absurd consumes
+too_long (Some bytes) (Some rest) read consumes long = rw consumes (omega (arith, long, length-append read rest))
+
+module _ {F : Type 0} (trait : Ghosts F) (now : ℕ) where
+  -- one more line was handled
+  TalksOver-line : (number : ℕ) (lines : List (List ℕ)) (next : ℕ) (line : List ℕ) (old mid new : Talk F) → TalksOver trait now number lines old mid → next ≡ number + length lines
+      → Continues trait now next line mid new → TalksOver trait now number (lines ++ line ∷ []) old new
+  TalksOver-line number [] next line old mid new talked is continues =
+      let at : next ≡ number = omega (arith, is) in
+      (new, subst (λ (t : Talk F). Continues trait now number line t new) talked (subst (λ (n : ℕ). Continues trait now n line mid new) at continues), refl)
+  TalksOver-line number (first ∷ lines) next line old mid new talked is continues =
+      let after_first : next ≡ number + 1 + length lines = omega (arith, is) in
+      (talked.0, talked.1, TalksOver-line (number + 1) lines next line talked.0 mid new talked.2 after_first continues)
+
+-- lines were handled, and the run goes on
+pub record Underway {F : Type 0} (trait : Ghosts F) (now : ℕ) (given : Option (List ℕ)) (first : Talk F) (input : InputParts) (left : Option (List ℕ)) (number : ℕ) (talk : Talk F) : Type 0 where
+  pub lines : List (List ℕ)
+  pub talked : TalksOver trait now 1 lines first talk
+  pub counted : number ≡ length lines
+  pub to_come : ToCome given lines input left
+  pub consumes : Consumes given left input.read
+  pub within : IsWithin input
+  pub below : number ≤ input.next
+  pub well : IsFalse talk.out.failed
+
+-- nothing was read
+abbrev nothing : InputParts
+nothing = record { read = []; line = []; next = 0 }
+
+all_to_come : (given : Option (List ℕ)) → ToCome given [] nothing given
+all_to_come None more has = tt
+all_to_come (Some bytes) more has = has
+
+none_consumed : (given : Option (List ℕ)) → Consumes given given []
+none_consumed None = tt
+none_consumed (Some bytes) = refl
+
+module _ {F : Type 0} (trait : Ghosts F) (now : ℕ) (given : Option (List ℕ)) where
+  pub Underway-first : (first : Talk F) → IsFalse first.out.failed → (input : InputParts) → input ≡ nothing → Underway trait now given first input given 0 first
+  Underway-first first well input is =
+      subst (λ (i : InputParts). Underway trait now given first i given 0 first) (sym is) (record {
+        lines = [];
+        talked = refl;
+        counted = refl;
+        to_come = all_to_come given;
+        consumes = none_consumed given;
+        within = record { next = omega arith; most = omega arith };
+        below = omega arith;
+        well = well;
+      })
+
+  pub Underway-line : (first : Talk F) (old new : InputParts) (left left' : Option (List ℕ)) (number : ℕ) (talk talk' : Talk F) → Underway trait now given first old left number talk
+      → TakesLine old new left left' → Grows old.read new.read left left' → IsWithin new → Continues trait now (number + 1) new.line talk talk'
+      → Underway trait now given first new left' (number + 1) talk'
+  Underway-line first old new left left' number talk talk' u takes grows within continues =
+      let counted = u.counted in
+      let below = u.below in
+      let further = takes.further in
+      record {
+        lines = u.lines ++ new.line ∷ [];
+        talked = TalksOver-line trait now 1 u.lines (number + 1) new.line first talk talk' u.talked (omega (arith, counted)) continues;
+        counted = omega (arith, counted, length-append u.lines (new.line ∷ []));
+        to_come = ToCome-line given u.lines old new left left' u.to_come takes;
+        consumes = grown given left left' old.read new.read u.consumes grows;
+        within = within;
+        below = omega (arith, below, further);
+        well = continues.well;
+      }
+
+  -- what a run has taken of its input
+  taken : (left left' : Option (List ℕ)) (old new : InputParts) → Consumes given left old.read → Grows old.read new.read left left' → IsWithin new → ConsumesAtMost given left' (most_bytes + 1)
+  taken left left' old new consumes grows within = record {
+    taken = new.read;
+    consumes = grown given left left' old.read new.read consumes grows;
+    bound = within.most;
+  }
+
+  module _ (order : Order) (files : F) (out err : Watch) (old new : InputParts) (left left' : Option (List ℕ)) (number : ℕ) (talk : Talk F) (u : Underway trait now given (first_talk order files out err) old left number talk)
+      (grows : Grows old.read new.read left left') (within : IsWithin new) where
+    -- the input has ended
+    pub RunsKtutil-after : HasLines old left [] → RunsKtutil trait order now given left' files talk.files out talk.out err talk.err talk.status
+    RunsKtutil-after has = record {
+      lines = u.lines;
+      last = talk;
+      state = talk.state;
+      talked = u.talked;
+      ends = inl (record { all = none_more given u.lines (u.to_come [] has); same = refl });
+      taken = taken left left' old new u.consumes grows within;
+    }
+
+    -- a line was the last
+    pub RunsKtutil-in_line : (talk' : Talk F) → TakesLine old new left left' → Stops trait now (number + 1) new.line talk talk' → RunsKtutil trait order now given left' files talk'.files out talk'.out err talk'.err talk'.status
+    RunsKtutil-in_line talk' takes stops = record {
+      lines = u.lines;
+      last = talk;
+      state = talk'.state;
+      talked = u.talked;
+      ends = inr (inl (record {
+        line = new.line;
+        first = ToCome-first given (u.lines ++ new.line ∷ []) new left' (ToCome-line given u.lines old new left left' u.to_come takes);
+        stops = subst (λ (n : ℕ). Stops trait now (n + 1) new.line talk talk') u.counted stops;
+      }));
+      taken = taken left left' old new u.consumes grows within;
+    }
+
+    -- the input was not read further
+    pub RunsKtutil-unread : (fault : LoadFault) (err' : Watch) (status : ℕ) → KeepsLines old new left left' → fault ≢ Missing → (fault ≡ TooLarge → most_bytes < length new.read)
+        → Says talk.err err' (input_run fault).err → status ≡ max talk.status (input_run fault).status → RunsKtutil trait order now given left' files talk.files out talk.out err err' status
+    RunsKtutil-unread fault err' status keeps never too_large said worst = record {
+      lines = u.lines;
+      last = talk;
+      state = talk.state;
+      talked = u.talked;
+      ends = inr (inr (record {
+        fault = fault;
+        first = ToCome-first given u.lines new left' (λ more has. u.to_come more (keeps more has));
+        never = never;
+        too_large = λ e. too_long given left' new.read (grown given left left' old.read new.read u.consumes grows) (too_large e);
+        said = said;
+        worst = worst;
+        files = refl;
+        out = refl;
+      }));
+      taken = taken left left' old new u.consumes grows within;
+    }
