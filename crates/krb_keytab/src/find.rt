@@ -41,7 +41,9 @@ struct Looked<'a> {
 }
 
 impl<'a> Looked<'a> {
-    // Looks at the next entry that has the name.
+    // Looks at the next entry that has the name. It is not inlined, so that a loop over other names
+    // keeps none of this in registers.
+    #[inline(never)]
     fn look(&mut self, kvno: u32, enctype: u16, place: u32, entry: EntryView<'a>)
         ensures { (name : Parts) (xs : List PlacedEntry)
             → have_same_name name entry.entry.principal ≡ true
