@@ -40,7 +40,7 @@ fn plain_atom(byte: u8) -> Atom
 fn is_special(byte: u8) -> bool
     ensures { result ≡ is_special byte }
 {
-    (byte == b'/') | (byte == b'@') | (byte == b'\\')
+    matches!(byte, b'/' | b'@' | b'\\')
 }
 
 // Where the first special byte stands.
