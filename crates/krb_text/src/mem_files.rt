@@ -192,7 +192,6 @@ impl<A: Allocator + Copy> Files for MemFiles<A> {
 #[cfg(test)]
 mod tests {
     use super::*;
-    use refusing::refuse_each;
     use std::test::Fail;
 
     /// Three files, two of them with one name.
@@ -236,29 +235,6 @@ mod tests {
             for (call, is_ok) in (1..).zip(calls) {
                 assert_eq!(rt; is_ok, call != n && (call, n) != (4, 3), "{call} {n}");
             }
-        }
-        Ok(())
-    }
-
-    /// Where memory is refused, the files are as they were.
-    #[test]
-    fn saves_or_is_out_of_memory(rt: HostRuntime) -> Result<(), Fail> {
-        for (name, had) in [("k", Some(b"one".as_slice())), ("more", None)] {
-            let requests = refuse_each(rt.alloc(), 100, |heap, n| {
-                let mut files = three(heap)?;
-                heap.refuse(n);
-                let saved = files.save(name, b"new");
-                let want = if heap.refused() {
-                    assert!(rt; saved == Err(SaveFault::NoMemory));
-                    had
-                } else {
-                    assert!(rt; saved.is_ok());
-                    Some(b"new".as_slice())
-                };
-                assert!(rt; files.get(name) == want, "{name}");
-                Ok(())
-            })?;
-            assert!(rt; requests >= 1, "{requests}");
         }
         Ok(())
     }

@@ -1,5 +1,5 @@
 -- The parts of a name's text, atom by atom.
-use Rattle.std.proofs.Common.{◌≡◌, ℕ, Bool, true, false, List, [], ◌∷◌, ◌++◌, map, Option, Some, None, refl, sym, ap, ◌∙◌, append_assoc}
+use Rattle.std.proofs.Common.{◌≡◌, ℕ, List, [], ◌∷◌, ◌++◌, map, Option, Some, None, refl, sym, ap, ◌∙◌, append_assoc}
 use Rattle.std.proofs.lemmas.List.{map-append}
 use Rattle.std.specs.Prelude.{unwrap_or, option_map, IsOk, Ok, Vec}
 use Rattle.std.specs.Vec.{vec_items}
@@ -12,11 +12,6 @@ use Rattle.krb_wire.specs.Reading.{items_of}
 use Rattle.krb_wire.specs.Atoms.{byte_of, is_slash, before_at, after_at}
 use Rattle.krb_wire.specs.NameOf.{component_fault, realm_fault, faults_of, first_fault, components_of, realm_of, name_or_fault}
 use Rattle.krb_wire.specs.FirstComponent.{first_component, after_first}
-
--- what is wrong with the atoms that follow, where an `@` was seen or not
-abbrev pub faults_from : Bool → List Atom → List NameFault
-faults_from false text = faults_of text
-faults_from true text = filter_map realm_fault text
 
 -- a byte before the first part, and the bytes of each part
 map-onto_first : (a : Atom) (ps : List (List Atom)) → map (map byte_of) (onto_first a ps) ≡ onto_first (byte_of a) (map (map byte_of) ps)

@@ -8,4 +8,5 @@ pub mod WidthLemmas
 pub mod QuoteLemmas
 pub mod TextLemmas
 pub mod AtomLemmas
+pub mod PlainRuns
 pub mod RoundTrip

@@ -1,5 +1,5 @@
 -- The text of a name, cut from the left into atoms: a backslash and the byte after it, or one byte.
-use Rattle.std.specs.Prelude.{ℕ, Bool, true, false, List, [], ◌∷◌, Option, Some, None, if◌then◌else◌, ◌==◌}
+use Rattle.std.specs.Prelude.{ℕ, Bool, true, false, List, [], ◌∷◌, Option, Some, None, if◌then◌else◌, ◌==◌, ◌||◌}
 use Rattle.krb_wire.specs.declared.atom.Atom.{Atom}
 use Rattle.krb_wire.specs.declared.atom.Atom.TheVariants.{Byte, Slash, At, Lone}
 
@@ -14,6 +14,10 @@ meaning b =
 -- an unquoted byte
 abbrev pub unquoted_atom : ℕ → Atom
 unquoted_atom b = if b == 47 then Slash else (if b == 64 then At else Byte b)
+
+-- a byte that is more than itself where no backslash stands before it
+abbrev pub is_special : ℕ → Bool
+is_special b = b == 47 || b == 64 || b == 92
 
 -- the atoms of a text, after a backslash or not
 abbrev pub atoms_after : Bool → List ℕ → List Atom

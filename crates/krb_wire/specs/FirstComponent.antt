@@ -1,7 +1,10 @@
--- The first component of a text, for the readers of one component.
-use Rattle.std.specs.Prelude.{ℕ, List, [], ◌∷◌, Option, Some, None}
+-- The first component of a text, and what is wrong with the rest of one, for the steps of a reader.
+use Rattle.std.specs.Prelude.{ℕ, Bool, true, false, List, [], ◌∷◌, Option, Some, None}
+use Rattle.std.specs.List.{filter_map}
+use Rattle.krb_wire.specs.declared.name_fault.NameFault.{NameFault}
 use Rattle.krb_wire.specs.declared.atom.Atom.{Atom}
 use Rattle.krb_wire.specs.declared.atom.Atom.TheVariants.{Byte, Slash, At, Lone}
+use Rattle.krb_wire.specs.NameOf.{realm_fault, faults_of}
 
 -- the bytes up to the first `/` or `@`, or all where there is none
 abbrev pub first_component : List Atom → List ℕ
@@ -18,3 +21,8 @@ after_first (Byte b ∷ rest) = after_first rest
 after_first (Slash ∷ rest) = Some rest
 after_first (At ∷ rest) = None
 after_first (Lone ∷ rest) = after_first rest
+
+-- what is wrong with the atoms that follow, where an `@` was seen or not
+abbrev pub faults_from : Bool → List Atom → List NameFault
+faults_from false text = faults_of text
+faults_from true text = filter_map realm_fault text

@@ -1,7 +1,9 @@
 //! The text of a name, cut into atoms.
 
-ghost use Rattle.std.specs.Prelude.{◌≡◌, ◌<◌, [], ◌∷◌, length, MatchOption};
-ghost use Rattle.krb_wire.specs.Atoms.{atoms, meaning, unquoted_atom};
+ghost use Rattle.std.specs.Prelude.{◌≡◌, ◌<◌, ◌≤◌, [], ◌∷◌, ◌++◌, length, map, MatchOption};
+ghost use Rattle.std.specs.List.{position};
+ghost use Rattle.krb_wire.specs.declared.atom.Atom.TheVariants.{Byte};
+ghost use Rattle.krb_wire.specs.Atoms.{atoms, is_special, meaning, unquoted_atom};
 
 // A byte that stands for itself or is quoted, an unquoted `/` or `@`, or a backslash that ends the text.
 #[derive(Clone, Copy, PartialEq, Eq)]
@@ -31,6 +33,31 @@ fn plain_atom(byte: u8) -> Atom
         b'/' => Atom::Slash,
         b'@' => Atom::At,
         _ => Atom::Byte(byte),
+    }
+}
+
+// Whether a byte is more than itself where no backslash stands before it.
+fn is_special(byte: u8) -> bool
+    ensures { result ≡ is_special byte }
+{
+    matches!(byte, b'/' | b'@' | b'\\')
+}
+
+// Where the first special byte stands.
+fn plain_end(text: &[u8]) -> Option<usize>
+    ensures { result ≡ position is_special text.now }
+{
+    text.iter().position(|byte| is_special(*byte))
+}
+
+// The plain bytes that a text begins with, and the text after them.
+pub fn split_plain(text: &[u8]) -> (&[u8], &[u8])
+    ensures cut { atoms text.now ≡ map Byte result.0.now ++ atoms result.1.now }
+    ensures shorter { length result.1.now ≤ length text.now }
+{
+    match plain_end(text) {
+        Some(end) => text.split_at(end),
+        None => (text, &[]),
     }
 }
 

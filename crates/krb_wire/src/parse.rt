@@ -1,21 +1,31 @@
 //! Names from text, after krb5_parse_name.
 
-ghost use Rattle.std.specs.Prelude.{◌≡◌, ◌<◌, ◌⊎◌, length, Ok, Err, Some, None, IsOk, IfOk, IfErr, IfSome, MatchOption, option_map, option_copied};
+ghost use Rattle.std.specs.Prelude.{◌≡◌, ◌<◌, ◌≤◌, Bool, ◌⊎◌, length, Ok, Err, Some, None, IsOk, IfOk, IfErr, IfSome, MatchOption, option_map, option_copied};
 ghost use Rattle.krb_wire.specs.Reading.{items_of, principal_parts};
 ghost use Rattle.krb_wire.specs.Atoms.{atoms, after_at};
-ghost use Rattle.krb_wire.specs.FirstComponent.{first_component, after_first};
+ghost use Rattle.krb_wire.specs.FirstComponent.{first_component, after_first, faults_from};
 ghost use Rattle.krb_wire.specs.NameOf.{faults_of, first_fault, components_of, realm_of, name_of};
 
-use crate::atom::{Atom, next_atom};
+use crate::atom::{Atom, next_atom, split_plain};
 use crate::name_fault::NameFault;
 use crate::principal::Principal;
 use std::alloc::{AllocError, Allocator};
+
+// The text without the plain bytes that it begins with: nothing is wrong with them, and they begin no realm.
+fn from_special(text: &[u8]) -> &[u8]
+    ensures faults { (in_realm : Bool) → first_fault (faults_from in_realm (atoms result.now))
+        ≡ first_fault (faults_from in_realm (atoms text.now)) }
+    ensures realm { after_at (atoms result.now) ≡ after_at (atoms text.now) }
+    ensures shorter { length result.now ≤ length text.now }
+{
+    split_plain(text).1
+}
 
 // The fault furthest left. Where one is found, what follows it is not looked at.
 fn leftmost_fault(text: &[u8]) -> Option<NameFault>
     ensures { result ≡ first_fault (faults_of (atoms text.now)) }
 {
-    let mut rest = text;
+    let mut rest = from_special(text);
     let mut in_realm = false;
     while let Some((atom, more)) = next_atom(rest) {
         match (atom, in_realm) {
@@ -25,7 +35,7 @@ fn leftmost_fault(text: &[u8]) -> Option<NameFault>
             (Atom::At, false) => in_realm = true,
             _ => {}
         }
-        rest = more;
+        rest = from_special(more);
     }
     None
 }
@@ -34,12 +44,12 @@ fn leftmost_fault(text: &[u8]) -> Option<NameFault>
 fn realm_text(text: &[u8]) -> Option<&[u8]>
     ensures { option_map (λ realm. atoms realm.now) result ≡ after_at (atoms text.now) }
 {
-    let mut rest = text;
+    let mut rest = from_special(text);
     while let Some((atom, more)) = next_atom(rest) {
         if atom == Atom::At {
             return Some(more);
         }
-        rest = more;
+        rest = from_special(more);
     }
     None
 }
@@ -58,22 +68,6 @@ fn fault_of(text: &[u8], default_realm: Option<&[u8]>) -> Option<NameFault>
     None
 }
 
-// How many bytes the first component has.
-fn first_component_len(text: &[u8]) -> usize
-    ensures { result ≡ length (first_component (atoms text.now)) }
-{
-    let mut rest = text;
-    let mut len = 0;
-    while let Some((atom, more)) = next_atom(rest) {
-        match atom {
-            Atom::Byte(_) | Atom::Lone => len += 1,
-            Atom::Slash | Atom::At => return len,
-        }
-        rest = more;
-    }
-    len
-}
-
 // The first component, and the text after the `/` that ends it, if one does.
 fn read_first_component<A: Allocator>(
     alloc: A,
@@ -84,8 +78,9 @@ fn read_first_component<A: Allocator>(
         ≡ after_first (atoms text.now)) }
     ensures shorter { IfOk result (λ x. IfSome x.1 (λ rest. length rest.now < length text.now)) }
 {
-    let mut bytes = Vec::with_capacity(alloc, first_component_len(text))?;
-    let mut rest = text;
+    let (plain, special) = split_plain(text);
+    let mut bytes = Vec::from_slice(alloc, plain)?;
+    let mut rest = special;
     while let Some((atom, more)) = next_atom(rest) {
         let byte = match atom {
             Atom::Byte(byte) => byte,
@@ -99,7 +94,7 @@ fn read_first_component<A: Allocator>(
     Ok((bytes, None))
 }
 
-// The components one by one: each is counted once, and read into room for just that many bytes.
+// The components one by one.
 fn read_components<A: Allocator + Copy>(
     alloc: A,
     text: &[u8],

@@ -1,4 +1,4 @@
-use crate::{KtColumns, Watched, list_keytab};
+use crate::KtColumns;
 use krb_keytab::Keytab;
 use krb_wire::{Limits, Order};
 use std::alloc::Global;
@@ -32,19 +32,5 @@ pub fn opened(alloc: Global, pieces: &[&[u8]]) -> Result<Keytab<Global>, Fail> {
     match Keytab::open(image, Order::Little, Limits::usual()) {
         Ok(keytab) => Ok(keytab),
         Err(_) => Err(Fail::from("refused")),
-    }
-}
-
-/// What is listed of a keytab under that name.
-pub fn listed(
-    alloc: Global,
-    name: &str,
-    keytab: &Keytab<Global>,
-    columns: KtColumns,
-) -> Result<Vec<u8>, Fail> {
-    let mut out = Vec::new(alloc);
-    match list_keytab(alloc, name, keytab, columns, &mut Watched::new(&mut out)) {
-        Ok(()) => Ok(out),
-        Err(_) => Err(Fail::from("not listed")),
     }
 }

@@ -71,6 +71,13 @@ fn an_entry_is_added_saved_and_read(rt: HostRuntime) -> Result<(), Fail> {
             LineEnd::Done,
             "slot KVNO Principal\n---- ---- ---------\n   1    3 host/a@R\n",
         ),
+        (
+            "list -k -t",
+            LineEnd::Done,
+            "slot KVNO Timestamp            Principal\n\
+---- ---- -------------------- ---------\n\
+\x20  1    3 2023-11-14T22:13:20Z host/a@R (0x000102030405060708090a0b0c0d0e0f)\n",
+        ),
     ];
     talk(&rt, rt.alloc(), &mut files, &lines)
 }

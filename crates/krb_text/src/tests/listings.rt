@@ -1,30 +1,6 @@
-use super::keytabs::{ALL, HEAD, HOST, listed, opened};
-use crate::{KtColumns, Watched, list_keytab};
+use super::keytabs::{ALL, HEAD, HOST, opened};
+use crate::{Watched, list_keytab};
 use std::test::Fail;
-
-/// The name stands as it is given, and what a keytab has none of is not shown.
-#[test]
-fn headings(rt: HostRuntime) -> Result<(), Fail> {
-    let keytab = opened(rt.alloc(), &[HEAD])?;
-    for (name, columns, want) in [
-        (
-            "",
-            KtColumns::default(),
-            "Keytab name: FILE:\nKVNO Principal\n---- ---------\n",
-        ),
-        (
-            "/a b/\u{fc}\\.kt",
-            ALL,
-            "Keytab name: FILE:/a b/\u{fc}\\.kt\n\
-KVNO Timestamp            Principal\n\
----- -------------------- ---------\n",
-        ),
-    ] {
-        let text = listed(rt.alloc(), name, &keytab, columns)?;
-        assert!(rt; text.as_slice() == want.as_bytes(), "{name}");
-    }
-    Ok(())
-}
 
 /// Lines of more than one large write, behind what was written before.
 #[test]

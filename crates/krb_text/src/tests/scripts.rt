@@ -2,7 +2,6 @@ use super::keytabs::{HEAD, HOST, opened};
 use crate::{LineFault, ScriptRefusal, parse_script};
 use krb_keytab::NewEntry;
 use krb_walk::{Event, Session};
-use refusing::refuse_each;
 use std::alloc::{Allocator, Global};
 use std::test::Fail;
 
@@ -93,20 +92,4 @@ fn the_first_fault_of_the_first_faulty_line(rt: HostRuntime) {
             "{text}"
         );
     }
-}
-
-#[test]
-fn allocations_of_a_script(rt: HostRuntime) -> Result<(), Fail> {
-    let requests = refuse_each(rt.alloc(), 100, |heap, n| {
-        heap.refuse(n);
-        match parse_script(heap, ADD_HOST.as_bytes()) {
-            Ok(events) => assert!(rt; !heap.refused() && events.len() == 1),
-            Err(refusal) => {
-                assert!(rt; heap.refused() && refusal == ScriptRefusal::NoMemory);
-            }
-        }
-        Ok(())
-    })?;
-    assert!(rt; requests >= 4, "{requests}");
-    Ok(())
 }

@@ -1,0 +1,16 @@
+use Rattle.std.proofs.Common.{sym, ap, ◌∙◌, List}
+use Rattle.krb_wire.specs.declared.atom.Atom.{Atom}
+use Rattle.krb_wire.specs.Atoms.{atoms, after_at}
+use Rattle.krb_wire.specs.FirstComponent.{faults_from}
+use Rattle.krb_wire.specs.NameOf.{first_fault}
+use Rattle.krb_wire.proofs.PlainRuns.{faults_from-plain, after_at-plain}
+use Rattle.krb_wire.proofs.parse.from_special.Goals as goal
+
+pub returns-clause-faults : goal.returns-clause-faults
+returns-clause-faults c in_realm =
+    let run = c.split_plain.result.0.now in
+    let rest = atoms c.split_plain.result.1.now in
+    ap first_fault (sym (faults_from-plain in_realm run rest) ∙ ap (λ (text : List Atom). faults_from in_realm text) (sym c.split_plain.ensures.cut))
+
+pub returns-clause-realm : goal.returns-clause-realm
+returns-clause-realm c = sym (after_at-plain c.split_plain.result.0.now (atoms c.split_plain.result.1.now)) ∙ ap after_at (sym c.split_plain.ensures.cut)
