@@ -1,18 +1,18 @@
 -- A credential that is read is the credential that was written, and what was written is read again.
-use Rattle.std.proofs.Common.{◌≡◌, ℕ, ◌^◌, ◌<◌, List, [], ◌∷◌, ◌++◌, length, Option, Some, None, refl, sym, ap, subst, ◌∙◌, append_assoc, length-append, arith}
-use Rattle.std.specs.List.{flat_map, AllByRecursion}
+use Rattle.std.proofs.Common.{◌≡◌, ℕ, ◌^◌, ◌<◌, List, [], ◌∷◌, ◌++◌, length, Option, Some, refl, sym, ap, subst, ◌∙◌, append_assoc, length-append, arith}
+use Rattle.std.specs.List.{flat_map}
 use Rattle.std.specs.Int.{Width, w16, w32}
 use Rattle.krb_wire.specs.declared.format.Order.TheVariants.{Big}
-use Rattle.krb_wire.specs.Spelling.{Parts, digits, data32, cc_principal}
-use Rattle.krb_wire.specs.Reading.{◌>>=◌, byte_at, number_at, data32_at, list_at, cc_principal_at}
+use Rattle.krb_wire.specs.Spelling.{digits, data32}
+use Rattle.krb_wire.specs.Reading.{◌>>=◌, byte_at, number_at, data32_at}
 use Rattle.krb_wire.proofs.Fields.{IsBytes, IsBytes-drop, IsWide, bind_some, some_is, Takes, Takes-then, wide16, wide32, number_takes, number_again}
 use Rattle.krb_wire.proofs.ReadLists.{length_list, list_takes, list_again}
 use Rattle.krb_wire.proofs.Places.{IsField}
-use Rattle.krb_wire.proofs.Principals.{data32_field, cc_principal_field}
+use Rattle.krb_wire.proofs.Principals.{data32_field}
 use Rattle.krb_ccache.specs.declared.version.Version.{Version}
 use Rattle.krb_ccache.specs.declared.version.Version.TheVariants.{V3, V4}
 use Rattle.krb_ccache.specs.declared.times.Times.{Times}
-use Rattle.krb_ccache.specs.Credential.{Typed, Key, CredParts, number32, typed, typed_list, again_field, key, times, credential, FitsTyped, FitsTypedList, FitsAgain, FitsKey, FitsTimes, FitsCredential, typed_at, typed_list_at, again_at, key_at, times_at, credential_at}
+use Rattle.krb_ccache.specs.Credential.{Typed, Key, number32, typed, typed_list, again_field, key, times, FitsTyped, FitsTypedList, FitsAgain, FitsKey, FitsTimes, typed_at, typed_list_at, again_at, key_at, times_at}
 
 -- a number of so many bits
 pub number_field : (w : Width) (limit : ℕ) → IsWide Big w limit → (0 < length (digits Big w 0)) → IsField (number_at Big w) (digits Big w) (λ n. n < limit)
@@ -42,16 +42,20 @@ byte_field = record {
 }
 
 -- the first of two parts, before what follows
-push : (a b rest all : List ℕ) → b ++ rest ≡ all → (a ++ b) ++ rest ≡ a ++ all
-push a b rest all e = append_assoc a b rest ∙ ap (λ (t : List ℕ). a ++ t) e
-
--- a step that finds something, and the steps after it
-then_again : {A B : Type 0} (o : Option A) (x : A) (f : A → Option B) (r : Option B) → o ≡ Some x → f x ≡ r → (o >>= f) ≡ r
-then_again o x f r e h = rw e h
+pub part_first : (a b rest all : List ℕ) → b ++ rest ≡ all → (a ++ b) ++ rest ≡ a ++ all
+part_first a b rest all e = append_assoc a b rest ∙ ap (λ (t : List ℕ). a ++ t) e
 
 -- more than nothing, before what follows
-some_more : (a b : List ℕ) → 0 < length a → 0 < length (a ++ b)
+pub some_more : (a b : List ℕ) → 0 < length a → 0 < length (a ++ b)
 some_more a b some = omega (arith, some, length-append a b)
+
+-- a field that was read first, and the steps after it
+pub step : {A B R : Type 0} {read : List ℕ → Option (A × List ℕ)} {spell : A → List ℕ} {Fits : A → Type 0} → IsField read spell Fits → (bytes : List ℕ) (f : A × List ℕ → Option B) (y : B) → IsBytes bytes → (read bytes >>= f) ≡ Some y
+    → ((a : A) (rest : List ℕ) → Takes bytes (spell a) rest → Fits a → f (a, rest) ≡ Some y → R) → R
+step {read = read} field bytes f y fits e others =
+    let b = bind_some (read bytes) f y e in
+    let t = field.takes bytes b.0 fits b.1 in
+    others b.0.0 b.0.1 t.0 t.1 b.2
 
 -- ---- lists of typed bytes
 
@@ -125,7 +129,7 @@ key_takes v bytes x fits e =
 key_again : (v : Version) (k : Key) (rest : List ℕ) → FitsKey v k → key_at v (key v k ++ rest) ≡ Some (k, rest)
 unfolding key_at
 key_again v k rest fits =
-    ap (key_at v) (push (digits Big w16 k.enctype) (again_field v k.enctype_again ++ data32 Big k.bytes) rest _ (push (again_field v k.enctype_again) (data32 Big k.bytes) rest _ refl))
+    ap (key_at v) (part_first (digits Big w16 k.enctype) (again_field v k.enctype_again ++ data32 Big k.bytes) rest _ (part_first (again_field v k.enctype_again) (data32 Big k.bytes) rest _ refl))
     ∙ rw (field16.again k.enctype (again_field v k.enctype_again ++ (data32 Big k.bytes ++ rest)) fits.enctype, again_again v k.enctype_again (data32 Big k.bytes ++ rest) fits.enctype_again, (data32_field Big).again k.bytes rest fits.bytes) refl
 
 pub key_field : (v : Version) → IsField (key_at v) (key v) (FitsKey v)
@@ -140,17 +144,13 @@ key_field v = record {
 times_takes : (bytes : List ℕ) (x : Times × List ℕ) → IsBytes bytes → times_at bytes ≡ Some x → Takes bytes (times x.0) x.1 × FitsTimes x.0
 unfolding times_at
 times_takes bytes x fits e =
-    let a = bind_some (number_at Big w32 bytes) _ x e in
-    let b = bind_some (number_at Big w32 a.0.1) _ x a.2 in
-    let d = bind_some (number_at Big w32 b.0.1) _ x b.2 in
-    let f = bind_some (number_at Big w32 d.0.1) _ x d.2 in
-    let ta = field32.takes bytes a.0 fits a.1 in
-    let tb = field32.takes a.0.1 b.0 ta.0.rest_fits b.1 in
-    let td = field32.takes b.0.1 d.0 tb.0.rest_fits d.1 in
-    let tf = field32.takes d.0.1 f.0 td.0.rest_fits f.1 in
-    let made : Times = record { authtime = a.0.0; starttime = b.0.0; endtime = d.0.0; renew_till = f.0.0 } in
-    subst (λ (y : Times × List ℕ). Takes bytes (times y.0) y.1 × FitsTimes y.0) (some_is (made, f.0.1) x f.2)
-    (Takes-then _ _ _ _ _ ta.0 (Takes-then _ _ _ _ _ tb.0 (Takes-then _ _ _ _ _ td.0 tf.0)), record { authtime = ta.1; starttime = tb.1; endtime = td.1; renew_till = tf.1 })
+    step field32 bytes _ x fits e (λ authtime r1 t1 f1 e1.
+    step field32 r1 _ x t1.rest_fits e1 (λ starttime r2 t2 f2 e2.
+    step field32 r2 _ x t2.rest_fits e2 (λ endtime r3 t3 f3 e3.
+    step field32 r3 _ x t3.rest_fits e3 (λ renew_till r4 t4 f4 e4.
+    let P : Times × List ℕ → Type 0 = λ y. Takes bytes (times y.0) y.1 × FitsTimes y.0 in
+    let made : Times = record { authtime = authtime; starttime = starttime; endtime = endtime; renew_till = renew_till } in
+    subst P (some_is (made, r4) x e4) (Takes-then _ _ _ _ _ t1 (Takes-then _ _ _ _ _ t2 (Takes-then _ _ _ _ _ t3 t4)), record { authtime = f1; starttime = f2; endtime = f3; renew_till = f4 })))))
 
 times_again : (t : Times) (rest : List ℕ) → FitsTimes t → times_at (times t ++ rest) ≡ Some (t, rest)
 unfolding times_at
@@ -159,7 +159,7 @@ times_again t rest fits =
     let b = number32 t.starttime in
     let d = number32 t.endtime in
     let f = number32 t.renew_till in
-    ap times_at (push a (b ++ (d ++ f)) rest _ (push b (d ++ f) rest _ (push d f rest _ refl)))
+    ap times_at (part_first a (b ++ (d ++ f)) rest _ (part_first b (d ++ f) rest _ (part_first d f rest _ refl)))
     ∙ rw (field32.again t.authtime (b ++ (d ++ (f ++ rest))) fits.authtime, field32.again t.starttime (d ++ (f ++ rest)) fits.starttime, field32.again t.endtime (f ++ rest) fits.endtime, field32.again t.renew_till rest fits.renew_till) refl
 
 pub times_field : IsField times_at times FitsTimes

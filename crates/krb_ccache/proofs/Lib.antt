@@ -1,1 +1,4 @@
 pub mod Fields
+pub mod CredentialField
+pub mod HeaderFields
+pub mod CellLemmas

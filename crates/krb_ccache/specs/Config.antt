@@ -1,5 +1,5 @@
 -- Configuration entries: credentials that hold a value under a key, and perhaps a principal's text (MIT krb5, "Credential cache file format", section "Credential cache configuration entries").
-use Rattle.std.specs.Prelude.{ℕ, Bool, true, false, ◌&&◌, List, [], ◌∷◌, Option, Some, None, option_map, find, codes}
+use Rattle.std.specs.Prelude.{ℕ, Bool, false, ◌&&◌, List, [], ◌∷◌, Option, Some, None, option_map, find, codes}
 use Rattle.std.specs.Str.{bytes_eq}
 use Rattle.krb_wire.specs.Spelling.{Parts}
 use Rattle.krb_wire.specs.SameName.{have_same_name}

@@ -1,7 +1,7 @@
 -- Laws of the definitions.
 use Rattle.std.specs.Prelude.{◌≡◌, ℕ, ◌<◌, List, ◌++◌, get_or}
 use Rattle.std.specs.List.{flat_map, AllByRecursion}
-use Rattle.krb_walk.specs.Contents.{Contents, contents, spelling, IsCell, IsSound, IsSpelled}
+use Rattle.krb_walk.specs.Contents.{Contents, contents, spelling, IsSound, IsSpelled}
 use Rattle.krb_ccache.specs.declared.version.Version.{Version}
 use Rattle.krb_ccache.specs.Credential.{CredParts, credential, FitsCredential}
 use Rattle.krb_ccache.specs.Store.{credentials_format}

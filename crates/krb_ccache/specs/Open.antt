@@ -1,5 +1,5 @@
 -- The numbers of the faults that an image is refused for, and what is known of one that is not.
-use Rattle.std.specs.Prelude.{◌≡◌, ℕ, ◌≤◌, List, [], length, drop, map, slice_index, Option, Some, None, option_map, unwrap_or, Ok}
+use Rattle.std.specs.Prelude.{◌≡◌, ℕ, ◌≤◌, List, [], length, drop, map, slice_index, Some, option_map, unwrap_or, Ok}
 use Rattle.krb_wire.specs.Spelling.{Parts}
 use Rattle.krb_wire.specs.Reading.{cc_principal_at}
 use Rattle.krb_walk.specs.Contents.{contents}
