@@ -1,6 +1,6 @@
 -- The credentials of an image from a place on, removed ones too.
 use Rattle.std.specs.Prelude.{◌≡◌, ℕ, ◌+◌, ◌≤◌, ◌^◌, List, [], ◌∷◌, ◌++◌, length, map, filter, Option, Some, None}
-use Rattle.krb_walk.specs.Store.{end_from}
+use Rattle.krb_walk.specs.Store.{Store, Record, end_from}
 use Rattle.krb_ccache.specs.declared.version.Version.{Version}
 use Rattle.krb_ccache.specs.Credential.{CredParts, credential}
 use Rattle.krb_ccache.specs.Store.{CacheState, PlacedCredential, placed_from, is_live, store_cell, first_place}
@@ -38,3 +38,11 @@ pub record IsSuffix (cells rest : CellsFrom) : Type 0 where
 -- the live ones with their places
 abbrev pub live_from : CellsFrom → List PlacedCredential
 live_from c = filter is_live (placed_from c.version c.place c.cells)
+
+-- the store of the cells, without what ends them
+abbrev pub store_from : CellsFrom → Store
+store_from c = record { first = c.place; cells = map (store_cell c.version) c.cells; fault = None }
+
+-- where a record stands, and the place after it
+abbrev pub span : Record → ℕ × ℕ
+span r = (r.place, r.next)

@@ -1,5 +1,5 @@
 -- The header of a version 4 cache: tagged fields, of which one is the time offset of the KDC (MIT krb5, "Credential cache file format", section "Header").
-use Rattle.std.specs.Prelude.{ℕ, ◌<◌, ◌^◌, ◌==◌, ◌&&◌, List, [], ◌∷◌, ◌++◌, length, take, drop, Option, Some, None, if◌then◌else◌}
+use Rattle.std.specs.Prelude.{ℕ, ◌<◌, ◌^◌, ◌==◌, ◌&&◌, List, [], ◌∷◌, ◌++◌, length, take, drop, Option, Some, None, option_map, if◌then◌else◌}
 use Rattle.std.specs.List.{flat_map, filter_map}
 use Rattle.std.specs.Int.{w16, w32, from_be_bytes, cast_signed}
 use Rattle.krb_wire.specs.declared.format.Order.TheVariants.{Big}
@@ -80,3 +80,19 @@ first_of (x ∷ xs) = Some x
 -- the time offset that a header tells: the first of its fields that have one
 abbrev pub offset_in : List Field → Option Offset
 offset_in xs = first_of (filter_map offset_of xs)
+
+-- ---- for private contracts
+
+-- the bytes after the header that the bytes begin with
+abbrev pub header_end : Version → List ℕ → Option (List ℕ)
+header_end v bytes = option_map (λ x. x.1) (header_at v bytes)
+
+-- the first offset among the fields of those bytes, whether or not they fill them
+abbrev pub fields_offset : Option (List ℕ × List ℕ) → Option Offset
+fields_offset None = None
+fields_offset (Some x) = offset_in (contents fields_format x.0).cells
+
+-- that of the header that the bytes begin with
+abbrev pub header_offset : Version → List ℕ → Option Offset
+header_offset V3 bytes = None
+header_offset V4 bytes = fields_offset (data16_at Big bytes)

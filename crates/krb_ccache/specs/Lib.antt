@@ -1,7 +1,7 @@
 -- What the contracts of this crate say.
 pub mod Credential
-pub mod Typed
 pub mod Header
+pub mod Typed
 pub mod Store
 pub mod Config
 pub mod Open

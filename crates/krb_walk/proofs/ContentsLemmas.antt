@@ -1,5 +1,5 @@
 -- One reading: bytes have one list of cells and one end, in any format.
-use Rattle.std.proofs.Common.{◌≡◌, ℕ, zero, suc, ◌<◌, List, [], ◌∷◌, ◌++◌, length, Option, Some, None, refl, sym, ap, subst, ◌∙◌, append_assoc, arith}
+use Rattle.std.proofs.Common.{◌≡◌, ℕ, zero, suc, ◌+◌, ◌<◌, List, [], ◌∷◌, ◌++◌, length, Option, Some, None, refl, sym, ap, subst, ◌∙◌, append_assoc, arith}
 use Rattle.std.specs.List.{flat_map, AllByRecursion}
 use Rattle.std.proofs.lemmas.List.{append-nil, drop_at, length-append}
 use Rattle.std.proofs.lemmas.List.Concat.{flat_map-cons}
@@ -110,3 +110,27 @@ unframed_by field bytes (Some x) fits e = let t = field.takes bytes x fits e in 
 -- what is read so has a format
 pub unframed_format : {C : Type 0} {read : List ℕ → Option (C × List ℕ)} {spell : C → List ℕ} {Fits : C → Type 0} → IsField read spell Fits → IsFormat (unframed read spell)
 unframed_format {read = read} field = λ bytes fits. unframed_by field bytes (read bytes) fits refl
+
+-- one thing that was read from the front, and what is left
+pub record ReadsOne {C : Type 0} (f : Format C (List ℕ)) (bytes : List ℕ) (c : C) (after : List ℕ) : Type 0 where
+  pub cells : (contents f bytes).cells ≡ c ∷ (contents f after).cells
+  pub end : (contents f bytes).end ≡ (contents f after).end
+  pub len : length bytes ≡ length (f.cell c) + length after
+  pub some : 0 < length (f.cell c)
+  pub fits : IsBytes after
+
+pub reads_one : {C : Type 0} {read : List ℕ → Option (C × List ℕ)} {spell : C → List ℕ} {Fits : C → Type 0} → IsField read spell Fits → (bytes : List ℕ) (c : C) (after : List ℕ) → IsBytes bytes → read bytes ≡ Some (c, after) → ReadsOne (unframed read spell) bytes c after
+reads_one {C = C} {read = read} {spell = spell} field bytes c after fits e =
+    let t = field.takes bytes (c, after) fits e in
+    let is = contents_next (unframed read spell) bytes (More c after) (unframed_format field) fits (ap (next_by bytes) e) in
+    record {
+      cells = ap (λ (k : Contents C (List ℕ)). k.cells) is;
+      end = ap (λ (k : Contents C (List ℕ)). k.end) is;
+      len = ap length t.0.parts ∙ length-append (spell c) after;
+      some = field.nonempty c;
+      fits = t.0.rest_fits;
+    }
+
+-- nothing is read
+pub reads_none : {C : Type 0} {read : List ℕ → Option (C × List ℕ)} {spell : C → List ℕ} {Fits : C → Type 0} → IsField read spell Fits → (bytes : List ℕ) → IsBytes bytes → read bytes ≡ None → contents (unframed read spell) bytes ≡ record { cells = []; end = bytes }
+reads_none {read = read} {spell = spell} field bytes fits e = contents_next (unframed read spell) bytes (NoMore bytes) (unframed_format field) fits (ap (next_by bytes) e)
