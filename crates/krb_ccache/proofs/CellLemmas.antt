@@ -1,14 +1,14 @@
 -- The credentials of bytes, one after the other.
 use Rattle.std.proofs.Common.{◌≡◌, ℕ, ◌+◌, List, [], ◌∷◌, length, map, ap, ◌∙◌, length-append, arith, ◌-◌, ◌^◌, ◌<◌, ◌≤◌, true, Some, None, sym}
-use Rattle.std.specs.List.{flat_map}
+use Rattle.std.specs.List.{flat_map, AllByRecursion}
 use Rattle.std.proofs.lemmas.List.Concat.{flat_map-cons}
 use Rattle.krb_wire.proofs.Fields.{IsBytes}
-use Rattle.krb_walk.specs.Contents.{contents}
+use Rattle.krb_walk.specs.Contents.{contents, IsCell}
 use Rattle.krb_walk.specs.Store.{end_from, is_place}
 use Rattle.krb_walk.proofs.Stops.{is_place_from-first}
-use Rattle.krb_walk.proofs.ContentsLemmas.{ReadsOne, reads_one, reads_none, IsFormat, unframed_format}
+use Rattle.krb_walk.proofs.ContentsLemmas.{ReadsOne, reads_one, reads_none, IsFormat, unframed_cell, unframed_format}
 use Rattle.krb_ccache.specs.declared.version.Version.{Version}
-use Rattle.krb_ccache.specs.Credential.{CredParts, credential, credential_at}
+use Rattle.krb_ccache.specs.Credential.{CredParts, credential, credential_at, FitsCredential}
 use Rattle.krb_ccache.specs.Store.{credentials_format, store_cell}
 use Rattle.krb_ccache.specs.Cells.{CellsFrom, BeginsWith, store_from}
 use Rattle.krb_ccache.proofs.CredentialField.{credential_field}
@@ -52,3 +52,8 @@ fewer_left old new at c b = omega (arith, ap length b.cells)
 -- where they begin is a place
 pub is_first_place : (c : CellsFrom) (p : ℕ) → c.place ≡ p → true ≡ is_place (store_from c) p
 is_first_place c p e = sym (is_place_from-first c.place (map (store_cell c.version) c.cells)) ∙ ap (is_place (store_from c)) e
+
+-- credentials that fit are cells
+pub all_cells : (v : Version) (cs : List CredParts) → AllByRecursion (FitsCredential v) cs → AllByRecursion (IsCell (credentials_format v)) cs
+all_cells v [] fit = tt
+all_cells v (c ∷ cs) fit = (unframed_cell (credential_field v) c fit.0, all_cells v cs fit.1)

@@ -1,9 +1,9 @@
 -- The credentials of an image from a place on, removed ones too.
-use Rattle.std.specs.Prelude.{◌≡◌, ℕ, ◌+◌, ◌≤◌, ◌^◌, List, [], ◌∷◌, ◌++◌, length, map, filter, Option, Some, None}
+use Rattle.std.specs.Prelude.{◌≡◌, ℕ, ◌+◌, ◌≤◌, ◌^◌, List, [], ◌∷◌, ◌++◌, length, map, filter, find, ◌==◌, Option, Some, None}
 use Rattle.krb_walk.specs.Store.{Store, Record, end_from}
 use Rattle.krb_ccache.specs.declared.version.Version.{Version}
 use Rattle.krb_ccache.specs.Credential.{CredParts, credential}
-use Rattle.krb_ccache.specs.Store.{CacheState, PlacedCredential, placed_from, is_live, store_cell, first_place}
+use Rattle.krb_ccache.specs.Store.{CacheState, PlacedCredential, placed_from, is_live, live_of, store_cell, first_place}
 
 -- credentials of a version that begin at a place
 pub record CellsFrom : Type 0 where
@@ -46,3 +46,12 @@ store_from c = record { first = c.place; cells = map (store_cell c.version) c.ce
 -- where a record stands, and the place after it
 abbrev pub span : Record → ℕ × ℕ
 span r = (r.place, r.next)
+
+-- the live one at a place
+abbrev pub live_at : CellsFrom → ℕ → Option CredParts
+live_at c p = live_of (find (λ x. x.0 == p) (placed_from c.version c.place c.cells))
+
+-- the bytes of the first, if there is one
+abbrev pub first_text : Version → List CredParts → Option (List ℕ)
+first_text v [] = None
+first_text v (c ∷ cs) = Some (credential v c)

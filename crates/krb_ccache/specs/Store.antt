@@ -1,5 +1,5 @@
 -- What a credential cache holds, and the store that it is.
-use Rattle.std.specs.Prelude.{ℕ, ◌+◌, List, [], ◌∷◌, ◌++◌, length, drop, map, slice_index, Bool, true, false, not, filter, find, option_map, Option, Some, None, Result, Ok, Err, nat_lt, ◌==◌, if◌then◌else◌}
+use Rattle.std.specs.Prelude.{ℕ, ◌+◌, List, [], ◌∷◌, ◌++◌, length, drop, map, slice_index, Bool, true, false, not, filter, find, Option, Some, None, Result, Ok, Err, nat_lt, ◌==◌, if◌then◌else◌}
 use Rattle.krb_wire.specs.Spelling.{Parts, cc_principal}
 use Rattle.krb_wire.specs.Reading.{cc_principal_at}
 use Rattle.krb_walk.specs.declared.fault.FaultKind.{FaultKind}
@@ -103,6 +103,15 @@ is_live x = not (is_marked x.1)
 abbrev pub placed_credentials : CacheState → List PlacedCredential
 placed_credentials k = filter is_live (placed_from k.version (first_place k) k.contents.cells)
 
+-- a credential that bears no mark
+abbrev pub if_live : CredParts → Option CredParts
+if_live c = if is_marked c then None else Some c
+
+-- the credential of a cell, if there is one and it is live
+abbrev pub live_of : Option PlacedCredential → Option CredParts
+live_of None = None
+live_of (Some x) = if_live x.1
+
 -- the live credential at a place, if one stands there
 abbrev pub credential_at_place : CacheState → ℕ → Option CredParts
-credential_at_place k p = option_map (λ x. x.1) (find (λ x. x.0 == p) (placed_credentials k))
+credential_at_place k p = live_of (find (λ x. x.0 == p) (placed_from k.version (first_place k) k.contents.cells))

@@ -1,11 +1,12 @@
 //! The credentials of an image, one after the other.
 
-ghost use Rattle.std.specs.Prelude.{◌≡◌, ◌≤◌, ◌<◌, ◌^◌, ◌+◌, [], ◌∷◌, length, option_map, IfSome, MatchOption};
+ghost use Rattle.std.specs.Prelude.{◌≡◌, ◌≤◌, ◌<◌, ◌^◌, ◌+◌, [], ◌∷◌, length, option_map, IsSome, IfSome, Some, MatchOption};
 ghost use Rattle.std.specs.Iterator.{item_count};
 ghost use Rattle.krb_walk.specs.Contents.{contents};
 ghost use Rattle.krb_walk.specs.Store.{is_place, next_live};
 ghost use Rattle.krb_ccache.specs.Laws.{AreBytes};
-ghost use Rattle.krb_ccache.specs.Cells.{CellsFrom, GivesCell, store_from, live_from, span};
+ghost use Rattle.krb_ccache.specs.Store.{if_live};
+ghost use Rattle.krb_ccache.specs.Cells.{CellsFrom, GivesCell, store_from, live_from, live_at, first_text, span};
 
 use crate::credential::{CredView, split_credential};
 use crate::version::Version;
@@ -59,6 +60,16 @@ impl<'a> Iterator for Cells<'a> {
     }
 }
 
+// A credential that has no mark.
+fn live(credential: CredView<'_>) -> Option<CredView<'_>>
+    ensures { result ≡ if_live credential.entry }
+{
+    if credential.is_marked() {
+        return None;
+    }
+    Some(credential)
+}
+
 impl<'a> Cells<'a> {
     /// The place of the first.
     pub fn place(&self) -> usize
@@ -66,6 +77,18 @@ impl<'a> Cells<'a> {
         ensures small { result ≤ 2 ^ 30 }
     {
         self.place
+    }
+
+    /// The bytes of the first.
+    pub fn first_bytes(self) -> &'a [u8]
+        requires { IsSome (first_text self.version self.cells) }
+        ensures { Some result.now ≡ first_text self.entry.version self.entry.cells }
+    {
+        bytes_fit(self.bytes);
+        let Some((_, after)) = split_credential(self.version, self.bytes) else {
+            unreachable!()
+        };
+        self.bytes.split_at(self.bytes.len() - after.len()).0
     }
 
     /// Whether one of them stands at a place, or they end there.
@@ -103,6 +126,18 @@ impl<'a> Cells<'a> {
         while let Some((at, credential)) = self.next() {
             if !credential.is_marked() {
                 return Some((at as u32, credential));
+            }
+        }
+        None
+    }
+
+    /// The live one at a place.
+    pub fn find(self, place: usize) -> Option<CredView<'a>>
+        ensures { result ≡ live_at self.entry place }
+    {
+        for (at, credential) in self {
+            if at == place {
+                return live(credential);
             }
         }
         None

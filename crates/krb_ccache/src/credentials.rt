@@ -1,8 +1,7 @@
 //! The credentials of a cache, one after the other.
 
-ghost use Rattle.std.specs.Prelude.{◌≡◌, ◌==◌, find, option_map, IfSome, MatchOption};
+ghost use Rattle.std.specs.Prelude.{◌≡◌};
 ghost use Rattle.std.specs.Iterator.{YieldsFirst, item_count};
-ghost use Rattle.krb_ccache.specs.Store.{PlacedCredential};
 ghost use Rattle.krb_ccache.specs.Cells.{live_from};
 
 use crate::cells::Cells;
@@ -32,18 +31,6 @@ impl<'a> Credentials<'a> {
         ensures { result ≡ live_from cells.entry }
     {
         Credentials { cells }
-    }
-
-    /// The one at a place.
-    pub(crate) fn find(self, place: u32) -> Option<CredView<'a>>
-        ensures { result ≡ option_map (λ x. x.1) (find (λ x. x.0 == place) self.entry) }
-    {
-        for (at, credential) in self {
-            if at == place {
-                return Some(credential);
-            }
-        }
-        None
     }
 }
 
