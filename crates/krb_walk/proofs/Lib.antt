@@ -2,6 +2,7 @@ pub mod Stops
 pub mod Lists
 pub mod Cells
 pub mod Splits
+pub mod ContentsLemmas
 pub mod Places
 pub mod Effects
 pub mod Table

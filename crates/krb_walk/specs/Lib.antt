@@ -12,6 +12,7 @@
 pub mod Numbers
 pub mod Store
 pub mod Stops
+pub mod Contents
 pub mod Ranks
 pub mod Rules
 pub mod Said

@@ -7,8 +7,8 @@ use Rattle.std.proofs.lemmas.List.{take_at, drop_at, take-append-drop, length-ap
 use Rattle.std.proofs.lemmas.Nat.{be_bytes_2, be_bytes_4, le_bytes_2, le_bytes_4, from_be_bytes-to_be_bytes_2, from_be_bytes-to_be_bytes_4, from_le_bytes-to_le_bytes_2, from_le_bytes-to_le_bytes_4}
 use Rattle.krb_wire.specs.declared.format.Order.{Order}
 use Rattle.krb_wire.specs.declared.format.Order.TheVariants.{Big, Little}
-use Rattle.krb_wire.specs.Spelling.{digits, number, data16, IsShort}
-use Rattle.krb_wire.specs.Reading.{◌>>=◌, number_at, data16_at}
+use Rattle.krb_wire.specs.Spelling.{digits, number, counted, data16, data32, IsShort, IsLong}
+use Rattle.krb_wire.specs.Reading.{◌>>=◌, number_at, counted_at, data16_at, data32_at}
 
 abbrev pub IsBytes : List ℕ → Type 0
 IsBytes bytes = (i : ℕ) → get_or bytes i 0 < 256
@@ -104,23 +104,37 @@ number_again o w limit wide n rest lt =
 
 -- ---- counted data
 
-pub data16_takes : (o : Order) (bytes text rest : List ℕ) → IsBytes bytes → data16_at o bytes ≡ Some (text, rest) → Takes bytes (data16 o text) rest × IsShort text
-unfolding data16_at
-data16_takes o bytes text rest fits e =
-    let b = bind_some (number_at o w16 bytes) (λ n. cond (ltb (length n.1) n.0) None (Some (take n.0 n.1, drop n.0 n.1))) (text, rest) e in
+counted_takes : (o : Order) (w : Width) (limit : ℕ) (wide : IsWide o w limit) (bytes text rest : List ℕ) → IsBytes bytes → counted_at o w bytes ≡ Some (text, rest) → Takes bytes (counted o w text) rest × (length text < limit)
+counted_takes o w limit wide bytes text rest fits e =
+    let b = bind_some (number_at o w bytes) (λ n. cond (ltb (length n.1) n.0) None (Some (take n.0 n.1, drop n.0 n.1))) (text, rest) e in
     let n = b.0 in
-    let t = number_takes o w16 (2 ^ 16) (wide16 o) bytes n.0 n.1 fits b.1 in
+    let t = number_takes o w limit wide bytes n.0 n.1 fits b.1 in
     let g = guard_some (ltb (length n.1) n.0) (take n.0 n.1, drop n.0 n.1) (text, rest) b.2 in
     let long : n.0 ≤ length n.1 = ltb-false _ _ g.0 in
     let len : length (take n.0 n.1) ≡ n.0 = omega (arith, length-take n.0 n.1) in
     let second : Takes n.1 (take n.0 n.1) (drop n.0 n.1) = record { parts = sym (take-append-drop n.0 n.1); rest_fits = IsBytes-drop n.0 n.1 t.0.rest_fits } in
-    let both = Takes-then bytes (digits o w16 n.0) n.1 (take n.0 n.1) (drop n.0 n.1) t.0 second in
-    let whole : Takes bytes (data16 o (take n.0 n.1)) (drop n.0 n.1) = subst (λ (k : ℕ). Takes bytes (digits o w16 k ++ take n.0 n.1) (drop n.0 n.1)) (sym len) both in
-    subst (λ (p : List ℕ × List ℕ). Takes bytes (data16 o p.0) p.1 × (length p.0 < 2 ^ 16)) g.1 (whole, omega (arith, t.1))
+    let both = Takes-then bytes (digits o w n.0) n.1 (take n.0 n.1) (drop n.0 n.1) t.0 second in
+    let whole : Takes bytes (counted o w (take n.0 n.1)) (drop n.0 n.1) = subst (λ (k : ℕ). Takes bytes (digits o w k ++ take n.0 n.1) (drop n.0 n.1)) (sym len) both in
+    subst (λ (p : List ℕ × List ℕ). Takes bytes (counted o w p.0) p.1 × (length p.0 < limit)) g.1 (whole, omega (arith, t.1))
+
+counted_again : (o : Order) (w : Width) (limit : ℕ) (wide : IsWide o w limit) (text rest : List ℕ) → length text < limit → counted_at o w (counted o w text ++ rest) ≡ Some (text, rest)
+counted_again o w limit wide text rest lt =
+    let long : ltb (length (text ++ rest)) (length text) ≡ false = le-ltb _ _ (omega (arith, length-append text rest)) in
+    let grouped : (digits o w (length text) ++ text) ++ rest ≡ digits o w (length text) ++ (text ++ rest) = append_assoc (digits o w (length text)) text rest in
+    ap (counted_at o w) grouped ∙ rw (number_again o w limit wide (length text) (text ++ rest) lt, long, take_at text rest (length text) refl, drop_at text rest (length text) refl) refl
+
+pub data16_takes : (o : Order) (bytes text rest : List ℕ) → IsBytes bytes → data16_at o bytes ≡ Some (text, rest) → Takes bytes (data16 o text) rest × IsShort text
+unfolding data16_at
+data16_takes o bytes text rest fits e = counted_takes o w16 (2 ^ 16) (wide16 o) bytes text rest fits e
 
 pub data16_again : (o : Order) (text rest : List ℕ) → IsShort text → data16_at o (data16 o text ++ rest) ≡ Some (text, rest)
 unfolding data16_at
-data16_again o text rest lt =
-    let long : ltb (length (text ++ rest)) (length text) ≡ false = le-ltb _ _ (omega (arith, length-append text rest)) in
-    let grouped : (digits o w16 (length text) ++ text) ++ rest ≡ digits o w16 (length text) ++ (text ++ rest) = append_assoc (digits o w16 (length text)) text rest in
-    ap (data16_at o) grouped ∙ rw (number_again o w16 (2 ^ 16) (wide16 o) (length text) (text ++ rest) lt, long, take_at text rest (length text) refl, drop_at text rest (length text) refl) refl
+data16_again o text rest lt = counted_again o w16 (2 ^ 16) (wide16 o) text rest lt
+
+pub data32_takes : (o : Order) (bytes text rest : List ℕ) → IsBytes bytes → data32_at o bytes ≡ Some (text, rest) → Takes bytes (data32 o text) rest × IsLong text
+unfolding data32_at
+data32_takes o bytes text rest fits e = counted_takes o w32 (2 ^ 32) (wide32 o) bytes text rest fits e
+
+pub data32_again : (o : Order) (text rest : List ℕ) → IsLong text → data32_at o (data32 o text ++ rest) ≡ Some (text, rest)
+unfolding data32_at
+data32_again o text rest lt = counted_again o w32 (2 ^ 32) (wide32 o) text rest lt

@@ -1,5 +1,5 @@
 pub mod Fields
-pub mod ComponentLists
+pub mod ReadLists
 pub mod Places
 pub mod SpliceLemmas
 pub mod NamesTold

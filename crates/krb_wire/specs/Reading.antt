@@ -5,6 +5,8 @@ use Rattle.std.specs.Vec.{vec_items}
 use Rattle.krb_wire.specs.declared.format.Order.{Order}
 use Rattle.krb_wire.specs.declared.principal.Principal.{Principal}
 use Rattle.krb_wire.specs.declared.format.Order.TheVariants.{Big}
+use Rattle.krb_wire.specs.declared.format.Lengths.{Lengths}
+use Rattle.krb_wire.specs.declared.format.Lengths.TheVariants.{Bits16, Bits32}
 use Rattle.krb_wire.specs.declared.format.KtFormat.{KtFormat}
 use Rattle.krb_wire.specs.declared.format.KtFormat.TheVariants.{V1, V2}
 use Rattle.krb_wire.specs.Spelling.{Parts, number, order_of}
@@ -29,19 +31,48 @@ abbrev pub byte_at : List ℕ → Option (ℕ × List ℕ)
 byte_at [] = None
 byte_at (b ∷ rest) = Some (b, rest)
 
--- the counted data that the bytes begin with
-unfoldable pub data16_at : Order → List ℕ → Option (List ℕ × List ℕ)
-data16_at o bytes = do
-  n ← number_at o w16 bytes
-  if nat_lt (length n.1) n.0 then None else Some (take n.0 n.1, drop n.0 n.1)
+-- so many bytes from the front
+abbrev pub bytes_at : ℕ → List ℕ → Option (List ℕ × List ℕ)
+bytes_at n bytes = if nat_lt (length bytes) n then None else Some (take n bytes, drop n bytes)
 
--- that many components that the bytes begin with
-unfoldable pub components_at : Order → ℕ → List ℕ → Option (List (List ℕ) × List ℕ)
-components_at o zero bytes = Some ([], bytes)
-components_at o (suc n) bytes = do
-  first ← data16_at o bytes
-  others ← components_at o n first.1
+-- a length that the bytes begin with, and that many bytes
+abbrev pub counted_at : Order → Width → List ℕ → Option (List ℕ × List ℕ)
+counted_at o w bytes = do
+  n ← number_at o w bytes
+  bytes_at n.0 n.1
+
+-- the counted data that the bytes begin with, where its length has sixteen bits
+unfoldable pub data16_at : Order → List ℕ → Option (List ℕ × List ℕ)
+data16_at o bytes = counted_at o w16 bytes
+
+-- the same, where its length has thirty-two bits
+unfoldable pub data32_at : Order → List ℕ → Option (List ℕ × List ℕ)
+data32_at o bytes = counted_at o w32 bytes
+
+-- the counted data that the bytes begin with
+abbrev pub data_at : Lengths → List ℕ → Option (List ℕ × List ℕ)
+data_at (Bits16 o) = data16_at o
+data_at (Bits32 o) = data32_at o
+
+-- so many things that the bytes begin with, each read so
+abbrev pub list_at : {X : Type 0} → (List ℕ → Option (X × List ℕ)) → ℕ → List ℕ → Option (List X × List ℕ)
+list_at read zero bytes = Some ([], bytes)
+list_at read (suc n) bytes = do
+  first ← read bytes
+  others ← list_at read n first.1
   Some (first.0 ∷ others.0, others.1)
+
+-- those things, or none where the bytes begin with fewer
+abbrev pub list_in : {X : Type 0} → (List ℕ → Option (X × List ℕ)) → ℕ → List ℕ → List X
+list_in read n bytes = unwrap_or (option_map (λ x. x.0) (list_at read n bytes)) []
+
+-- the bytes after them
+abbrev pub list_end : {X : Type 0} → (List ℕ → Option (X × List ℕ)) → ℕ → List ℕ → Option (List ℕ)
+list_end read n bytes = option_map (λ x. x.1) (list_at read n bytes)
+
+-- that many components of a keytab's name that the bytes begin with
+unfoldable pub components_at : Order → ℕ → List ℕ → Option (List (List ℕ) × List ℕ)
+components_at o n bytes = list_at (data16_at o) n bytes
 
 -- how many components a count stands for
 abbrev pub components_of_count : KtFormat → ℕ → Option ℕ
@@ -64,13 +95,14 @@ kt_principal_at f bytes = do
   name_type ← name_type_at f components.1
   Some (record { name_type = name_type.0; realm = realm.0; components = components.0 }, name_type.1)
 
--- the components that stand in bytes
-abbrev pub components_in : Order → ℕ → List ℕ → List (List ℕ)
-components_in o n bytes = unwrap_or (option_map (λ x. x.0) (components_at o n bytes)) []
-
--- the bytes after the components
-abbrev pub components_end : Order → ℕ → List ℕ → Option (List ℕ)
-components_end o n bytes = option_map (λ x. x.1) (components_at o n bytes)
+-- the name that the bytes begin with, as a credential cache spells it
+unfoldable pub cc_principal_at : List ℕ → Option (Parts × List ℕ)
+cc_principal_at bytes = do
+  name_type ← number_at Big w32 bytes
+  count ← number_at Big w32 name_type.1
+  realm ← data32_at Big count.1
+  components ← list_at (data32_at Big) count.0 realm.1
+  Some (record { name_type = name_type.0; realm = realm.0; components = components.0 }, components.1)
 
 -- what a read at a place answered, its part seen by view: that part and the place after it
 abbrev pub ReadsAt : {X Y : Type 0} → (X → Y) → List ℕ → Option (X × ℕ) → Option (Y × List ℕ) → Type 0

@@ -1,6 +1,6 @@
 -- What names are, and the one spelling of each.
 use Rattle.std.specs.Prelude.{◌≡◌, ℕ, ◌+◌, ◌<◌, ◌^◌, ◌≤◌, List, [], ◌++◌, length, drop, Bool, ◌&&◌, nat_lt, IsTrue}
-use Rattle.std.specs.List.{flat_map, list_all}
+use Rattle.std.specs.List.{flat_map, list_all, AllByRecursion}
 use Rattle.std.specs.Int.{Width, w16, w32, to_be_bytes, to_le_bytes, from_be_bytes, from_le_bytes}
 use Rattle.krb_wire.specs.declared.format.Order.{Order}
 use Rattle.krb_wire.specs.declared.format.Order.TheVariants.{Big, Little}
@@ -23,9 +23,17 @@ abbrev pub number : Order → Width → List ℕ → ℕ
 number Big w bytes = from_be_bytes w bytes
 number Little w bytes = from_le_bytes w bytes
 
+-- a length of some bits, and that many bytes
+abbrev pub counted : Order → Width → List ℕ → List ℕ
+counted o w bytes = digits o w (length bytes) ++ bytes
+
 -- sixteen bits of length, and that many bytes
 abbrev pub data16 : Order → List ℕ → List ℕ
-data16 o bytes = digits o w16 (length bytes) ++ bytes
+data16 o bytes = counted o w16 bytes
+
+-- thirty-two bits of length, and that many bytes
+abbrev pub data32 : Order → List ℕ → List ℕ
+data32 o bytes = counted o w32 bytes
 
 -- the byte order of a format
 abbrev pub order_of : KtFormat → Order
@@ -70,6 +78,23 @@ name_fits f p = nat_lt (count_field f (length p.components)) (2 ^ 16) && (is_sho
 pub record FitsKt (f : KtFormat) (p : Parts) : Type 0 where
   pub lengths : IsTrue (name_fits f p)
   pub name_type : HasNameType f p.name_type
+
+-- the spelling of a name in a credential cache
+abbrev pub cc_principal : Parts → List ℕ
+cc_principal p =
+    digits Big w32 p.name_type
+    ++ (digits Big w32 (length p.components) ++ (data32 Big p.realm ++ flat_map (data32 Big) p.components))
+
+-- short enough for a length of thirty-two bits
+abbrev pub IsLong : List ℕ → Type 0
+IsLong bytes = length bytes < 2 ^ 32
+
+-- what has a spelling there
+pub record FitsCc (p : Parts) : Type 0 where
+  pub name_type : p.name_type < 2 ^ 32
+  pub count : length p.components < 2 ^ 32
+  pub realm : IsLong p.realm
+  pub components : AllByRecursion IsLong p.components
 
 -- a text stands in bytes, from a place to the next
 pub record Stands (bytes : List ℕ) (at next : ℕ) (text : List ℕ) : Type 0 where

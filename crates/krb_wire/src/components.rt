@@ -2,10 +2,10 @@
 
 ghost use Rattle.std.specs.Prelude.{◌≡◌, ◌<◌, ◌-◌, ◌++◌, ◌∷◌, [], ℕ, List, IsSome, MatchOption};
 ghost use Rattle.std.specs.Iterator.{YieldsFirstRef, item_count};
-ghost use Rattle.krb_wire.specs.Reading.{components_at, components_in, items_of};
+ghost use Rattle.krb_wire.specs.Reading.{data_at, list_at, list_in, items_of};
 
-use crate::counted::split_data16;
-use crate::format::Order;
+use crate::counted::split_data;
+use crate::format::{Lengths, Order};
 use std::alloc::Allocator;
 use std::marker::Model;
 
@@ -14,7 +14,7 @@ use std::marker::Model;
 #[derive(Drop)]
 pub struct Components<'a, A: Allocator> {
     kept: &'a [Vec<u8, A>],
-    order: Order,
+    lengths: Lengths,
     count: usize,
     spelled: &'a [u8],
 }
@@ -22,23 +22,23 @@ pub struct Components<'a, A: Allocator> {
 impl<'a, A: Allocator> Model for Components<'a, A> {
     ghost Value = { List (List ℕ) };
 
-    ghost view = { λ c. items_of c.kept.now ++ components_in c.order c.count c.spelled.now };
+    ghost view = { λ c. items_of c.kept.now ++ list_in (data_at c.lengths) c.count c.spelled.now };
 
-    ghost invariant = { λ c. IsSome (components_at c.order c.count c.spelled.now) };
+    ghost invariant = { λ c. IsSome (list_at (data_at c.lengths) c.count c.spelled.now) };
 }
 
 // The first of so many components that the bytes begin with, and the bytes after it.
-fn first_of(order: Order, count: usize, bytes: &[u8]) -> Option<(&[u8], &[u8])>
-    requires { IsSome (components_at order count bytes.now) }
-    ensures first { MatchOption result (components_in order count bytes.now ≡ [])
-        (λ x. components_in order count bytes.now ≡ x.0.now ∷ components_in order (count - 1) x.1.now) }
+fn first_of(lengths: Lengths, count: usize, bytes: &[u8]) -> Option<(&[u8], &[u8])>
+    requires { IsSome (list_at (data_at lengths) count bytes.now) }
+    ensures first { MatchOption result (list_in (data_at lengths) count bytes.now ≡ [])
+        (λ x. list_in (data_at lengths) count bytes.now ≡ x.0.now ∷ list_in (data_at lengths) (count - 1) x.1.now) }
     ensures others { MatchOption result (count ≡ 0)
-        (λ x. (0 < count) × IsSome (components_at order (count - 1) x.1.now)) }
+        (λ x. (0 < count) × IsSome (list_at (data_at lengths) (count - 1) x.1.now)) }
 {
     if count == 0 {
         return None;
     }
-    let Some((first, others)) = split_data16(order, bytes) else {
+    let Some((first, others)) = split_data(lengths, bytes) else {
         unreachable!()
     };
     Some((first, others))
@@ -46,26 +46,25 @@ fn first_of(order: Order, count: usize, bytes: &[u8]) -> Option<(&[u8], &[u8])>
 
 impl<'a, A: Allocator> Components<'a, A> {
     /// Those that are kept one by one.
-    #[tactic(auto, unfolding(crate::specs::Reading::components_at))]
     pub fn kept(components: &'a [Vec<u8, A>]) -> Components<'a, A>
         ensures { result ≡ items_of components.now }
     {
         Components {
             kept: components,
-            order: Order::Big,
+            lengths: Lengths::Bits16(Order::Big),
             count: 0,
             spelled: &[],
         }
     }
 
     /// Those that the bytes begin with.
-    pub fn spelled(order: Order, count: usize, bytes: &'a [u8]) -> Components<'a, A>
-        requires { IsSome (components_at order count bytes.now) }
-        ensures { result ≡ components_in order count bytes.now }
+    pub fn spelled(lengths: Lengths, count: usize, bytes: &'a [u8]) -> Components<'a, A>
+        requires { IsSome (list_at (data_at lengths) count bytes.now) }
+        ensures { result ≡ list_in (data_at lengths) count bytes.now }
     {
         Components {
             kept: &[],
-            order,
+            lengths,
             count,
             spelled: bytes,
         }
@@ -84,7 +83,7 @@ impl<'a, A: Allocator> Iterator for Components<'a, A> {
             self.kept = others;
             return Some(first);
         }
-        let (first, others) = first_of(self.order, self.count, self.spelled)?;
+        let (first, others) = first_of(self.lengths, self.count, self.spelled)?;
         self.count -= 1;
         self.spelled = others;
         Some(first)

@@ -1,24 +1,51 @@
-//! Counted data: a 16-bit length, and that many bytes.
+//! Counted data: a length of 16 or 32 bits, and that many bytes.
 
 ghost use Rattle.std.specs.Prelude.{◌≡◌, ◌≤◌, ◌+◌, ◌++◌, ℕ, List, length, drop, IfSome, Some};
 ghost use Rattle.std.specs.List.{splice};
-ghost use Rattle.krb_wire.specs.Spelling.{data16, IsShort, Stands};
-ghost use Rattle.krb_wire.specs.Reading.{Gives, ReadsAt, data16_at};
+ghost use Rattle.krb_wire.specs.Spelling.{data16, data32, IsShort, IsLong, Stands};
+ghost use Rattle.krb_wire.specs.Reading.{Gives, ReadsAt, bytes_at, data16_at, data32_at, data_at};
 
-use crate::format::Order;
-use crate::numbers::{put_u16, split_u16};
+use crate::format::{Lengths, Order};
+use crate::numbers::{put_u16, split_u16, split_u32};
 
-/// The counted data that the bytes begin with, without its length, and the bytes after it.
+// So many bytes from the front, and the bytes after them.
+#[inline(always)]
+fn split_len(len: usize, bytes: &[u8]) -> Option<(&[u8], &[u8])>
+    ensures { Gives (λ x. (x.0.now, x.1.now)) result (bytes_at len bytes.now) }
+{
+    if bytes.len() < len {
+        return None;
+    }
+    Some(bytes.split_at(len))
+}
+
+/// The counted data that the bytes begin with, without its length of 16 bits, and the bytes after it.
 #[tactic(auto, unfolding(crate::specs::Reading::data16_at))]
 pub fn split_data16(order: Order, bytes: &[u8]) -> Option<(&[u8], &[u8])>
     ensures { Gives (λ x. (x.0.now, x.1.now)) result (data16_at order bytes.now) }
 {
     let (len, rest) = split_u16(order, bytes)?;
-    let len = len as usize;
-    if rest.len() < len {
-        return None;
+    split_len(len as usize, rest)
+}
+
+/// The counted data that the bytes begin with, without its length of 32 bits, and the bytes after it.
+#[tactic(auto, unfolding(crate::specs::Reading::data32_at))]
+pub fn split_data32(order: Order, bytes: &[u8]) -> Option<(&[u8], &[u8])>
+    ensures { Gives (λ x. (x.0.now, x.1.now)) result (data32_at order bytes.now) }
+{
+    let (len, rest) = split_u32(order, bytes)?;
+    split_len(len as usize, rest)
+}
+
+/// The counted data that the bytes begin with, without its length, and the bytes after it.
+#[inline(always)]
+pub fn split_data(lengths: Lengths, bytes: &[u8]) -> Option<(&[u8], &[u8])>
+    ensures { Gives (λ x. (x.0.now, x.1.now)) result (data_at lengths bytes.now) }
+{
+    match lengths {
+        Lengths::Bits16(order) => split_data16(order, bytes),
+        Lengths::Bits32(order) => split_data32(order, bytes),
     }
-    Some(rest.split_at(len))
 }
 
 /// The bytes from a place on.
@@ -29,18 +56,20 @@ pub fn tail(bytes: &[u8], at: usize) -> &[u8]
     bytes.split_at(at).1
 }
 
-fn data16_from(order: Order, bytes: &[u8], at: usize) -> Option<(&[u8], usize)>
-    ensures { ReadsAt (λ v. v.now) bytes.now result (data16_at order (drop at bytes.now)) }
+// The counted data at a place, without its length, and the place after it.
+#[inline(always)]
+fn data_from(lengths: Lengths, bytes: &[u8], at: usize) -> Option<(&[u8], usize)>
+    ensures { ReadsAt (λ v. v.now) bytes.now result (data_at lengths (drop at bytes.now)) }
 {
     if at > bytes.len() {
         return None;
     }
     let rest = tail(bytes, at);
-    let (text, after) = split_data16(order, rest)?;
+    let (text, after) = split_data(lengths, rest)?;
     Some((text, bytes.len() - after.len()))
 }
 
-/// The counted data at a place, without its length, and the place after it.
+/// The counted data at a place, without its length of 16 bits, and the place after it.
 pub fn read_data16(order: Order, bytes: &[u8], at: usize) -> Option<(&[u8], usize)>
     // What is found is spelled so.
     ensures found { IfSome result (λ x. IsShort x.0.now
@@ -51,7 +80,21 @@ pub fn read_data16(order: Order, bytes: &[u8], at: usize) -> Option<(&[u8], usiz
         → ReadsAt (λ v. v.now) bytes.now result (Some (text, rest)) }
     ensures exact { ReadsAt (λ v. v.now) bytes.now result (data16_at order (drop at bytes.now)) }
 {
-    data16_from(order, bytes, at)
+    data_from(Lengths::Bits16(order), bytes, at)
+}
+
+/// The counted data at a place, without its length of 32 bits, and the place after it.
+pub fn read_data32(order: Order, bytes: &[u8], at: usize) -> Option<(&[u8], usize)>
+    // What is found is spelled so.
+    ensures found { IfSome result (λ x. IsLong x.0.now
+        × Stands bytes.now at x.1 (data32 order x.0.now)) }
+    // What is spelled so is found, and nothing else.
+    ensures only { (text rest : List ℕ) → IsLong text
+        → drop at bytes.now ≡ data32 order text ++ rest
+        → ReadsAt (λ v. v.now) bytes.now result (Some (text, rest)) }
+    ensures exact { ReadsAt (λ v. v.now) bytes.now result (data32_at order (drop at bytes.now)) }
+{
+    data_from(Lengths::Bits32(order), bytes, at)
 }
 
 // Writes bytes at a place; the answer is the place after them.

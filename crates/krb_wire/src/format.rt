@@ -10,6 +10,13 @@ pub enum Order {
     Little,
 }
 
+/// How wide the lengths of counted data are, and which byte of them comes first.
+#[derive(Clone, Copy, Debug, PartialEq, Eq)]
+pub enum Lengths {
+    Bits16(Order),
+    Bits32(Order),
+}
+
 /// The version of a keytab. Version 1 has the order of the machine that wrote it; version 2 is
 /// big-endian.
 #[derive(Clone, Copy, Debug, PartialEq, Eq)]

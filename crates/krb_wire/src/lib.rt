@@ -23,8 +23,8 @@ mod view;
 
 pub use components::Components;
 pub use copy::copy_name;
-pub use counted::{put_data16, read_data16, split_data16, tail};
-pub use format::{KtFormat, Order};
+pub use counted::{put_data16, read_data16, read_data32, split_data16, split_data32, tail};
+pub use format::{KtFormat, Lengths, Order};
 pub use laws::texts_name_their_names;
 pub use limits::Limits;
 pub use memory::NoMemory;
@@ -36,7 +36,9 @@ pub use principal::Principal;
 pub use same::same_name;
 pub use spelling::{kt_principal_len, put_kt_principal};
 pub use text::write_name;
-pub use view::{PrincipalView, read_kt_principal, split_kt_principal};
+pub use view::{
+    PrincipalView, read_cc_principal, read_kt_principal, split_cc_principal, split_kt_principal,
+};
 
 #[cfg(test)]
 mod tests;

@@ -2,12 +2,12 @@
 
 ghost use Rattle.std.specs.Prelude.{◌≡◌, ◌≤◌, ◌+◌, ◌++◌, ℕ, List, length, drop, IsSome, IfSome, Some, slice_get, option_copied};
 ghost use Rattle.std.specs.Int.{w16, w32};
-ghost use Rattle.krb_wire.specs.Spelling.{Parts, order_of, FitsKt, Stands, kt_principal};
-ghost use Rattle.krb_wire.specs.Reading.{Gives, ReadsAt, number_at, data16_at, components_at, components_in, components_end, components_of_count, name_type_at, kt_principal_at};
+ghost use Rattle.krb_wire.specs.Spelling.{Parts, order_of, FitsKt, FitsCc, Stands, kt_principal, cc_principal};
+ghost use Rattle.krb_wire.specs.Reading.{Gives, ReadsAt, number_at, data_at, list_at, list_in, list_end, components_of_count, name_type_at, kt_principal_at, cc_principal_at};
 
 use crate::components::Components;
-use crate::counted::{split_data16, tail};
-use crate::format::{KtFormat, Order};
+use crate::counted::{split_data, split_data16, split_data32, tail};
+use crate::format::{KtFormat, Lengths, Order};
 use crate::name::Name;
 use crate::numbers::{split_u16, split_u32};
 use std::alloc::Global;
@@ -16,7 +16,7 @@ use std::marker::Model;
 /// A name that borrows from an image.
 #[derive(Drop)]
 pub struct PrincipalView<'a> {
-    order: Order,
+    lengths: Lengths,
     name_type: u32,
     realm: &'a [u8],
     count: usize,
@@ -26,9 +26,9 @@ pub struct PrincipalView<'a> {
 impl<'a> Model for PrincipalView<'a> {
     ghost Value = { Parts };
 
-    ghost view = { λ v. record { name_type = v.name_type; realm = v.realm.now; components = components_in v.order v.count v.components.now } };
+    ghost view = { λ v. record { name_type = v.name_type; realm = v.realm.now; components = list_in (data_at v.lengths) v.count v.components.now } };
 
-    ghost invariant = { λ v. IsSome (components_at v.order v.count v.components.now) };
+    ghost invariant = { λ v. IsSome (list_at (data_at v.lengths) v.count v.components.now) };
 }
 
 // How many components a count stands for: version 1 counts the realm too.
@@ -58,32 +58,32 @@ fn name_type_of(format: KtFormat, bytes: &[u8]) -> Option<(u32, &[u8])>
 }
 
 // The bytes after so many components.
-fn skip_components(order: Order, count: usize, bytes: &[u8]) -> Option<&[u8]>
-    ensures { Gives (λ x. x.now) result (components_end order count bytes.now) }
+fn skip_components(lengths: Lengths, count: usize, bytes: &[u8]) -> Option<&[u8]>
+    ensures { Gives (λ x. x.now) result (list_end (data_at lengths) count bytes.now) }
 {
     let mut rest = bytes;
     for _ in 0..count {
-        let (_, after) = split_data16(order, rest)?;
+        let (_, after) = split_data(lengths, rest)?;
         rest = after;
     }
     Some(rest)
 }
 
-fn component_at(order: Order, count: usize, bytes: &[u8], i: usize) -> Option<&[u8]>
-    requires { IsSome (components_at order count bytes.now) }
-    ensures { option_copied result ≡ slice_get (components_in order count bytes.now) i }
+fn component_at(lengths: Lengths, count: usize, bytes: &[u8], i: usize) -> Option<&[u8]>
+    requires { IsSome (list_at (data_at lengths) count bytes.now) }
+    ensures { option_copied result ≡ slice_get (list_in (data_at lengths) count bytes.now) i }
 {
     if i >= count {
         return None;
     }
-    let rest = skip_components(order, i, bytes)?;
-    let (component, _) = split_data16(order, rest)?;
+    let rest = skip_components(lengths, i, bytes)?;
+    let (component, _) = split_data(lengths, rest)?;
     Some(component)
 }
 
 /// The name that the bytes begin with, as a keytab spells it, and the bytes after it.
 #[inline(always)]
-#[tactic(auto, unfolding(crate::specs::Reading::kt_principal_at))]
+#[tactic(auto, unfolding(crate::specs::Reading::kt_principal_at, crate::specs::Reading::components_at))]
 pub fn split_kt_principal(format: KtFormat, bytes: &[u8]) -> Option<(PrincipalView<'_>, &[u8])>
     ensures { Gives (λ x. (x.0, x.1.now)) result (kt_principal_at format bytes.now) }
 {
@@ -91,11 +91,36 @@ pub fn split_kt_principal(format: KtFormat, bytes: &[u8]) -> Option<(PrincipalVi
     let (field, rest) = split_u16(order, bytes)?;
     let count = component_count(format, field)?;
     let (realm, components) = split_data16(order, rest)?;
-    let after = skip_components(order, count, components)?;
+    let lengths = Lengths::Bits16(order);
+    let after = skip_components(lengths, count, components)?;
     let (name_type, after) = name_type_of(format, after)?;
     Some((
         PrincipalView {
-            order,
+            lengths,
+            name_type,
+            realm,
+            count,
+            components,
+        },
+        after,
+    ))
+}
+
+/// The name that the bytes begin with, as a credential cache spells it, and the bytes after it.
+#[inline(always)]
+#[tactic(auto, unfolding(crate::specs::Reading::cc_principal_at))]
+pub fn split_cc_principal(bytes: &[u8]) -> Option<(PrincipalView<'_>, &[u8])>
+    ensures { Gives (λ x. (x.0, x.1.now)) result (cc_principal_at bytes.now) }
+{
+    let (name_type, rest) = split_u32(Order::Big, bytes)?;
+    let (count, rest) = split_u32(Order::Big, rest)?;
+    let (realm, components) = split_data32(Order::Big, rest)?;
+    let lengths = Lengths::Bits32(Order::Big);
+    let count = count as usize;
+    let after = skip_components(lengths, count, components)?;
+    Some((
+        PrincipalView {
+            lengths,
             name_type,
             realm,
             count,
@@ -123,11 +148,11 @@ impl<'a> Name for PrincipalView<'a> {
     }
 
     fn component(&self, i: usize) -> Option<&[u8]> {
-        component_at(self.order, self.count, self.components, i)
+        component_at(self.lengths, self.count, self.components, i)
     }
 
     fn components(&self) -> Components<'_, Global> {
-        Components::spelled(self.order, self.count, self.components)
+        Components::spelled(self.lengths, self.count, self.components)
     }
 }
 
@@ -163,4 +188,30 @@ pub fn read_kt_principal(
         (kt_principal_at format (drop at bytes.now)) }
 {
     kt_principal_from(format, bytes, at)
+}
+
+fn cc_principal_from(bytes: &[u8], at: usize) -> Option<(PrincipalView<'_>, usize)>
+    ensures { ReadsAt (λ v. v) bytes.now result (cc_principal_at (drop at bytes.now)) }
+{
+    if at > bytes.len() {
+        return None;
+    }
+    let rest = tail(bytes, at);
+    let (name, after) = split_cc_principal(rest)?;
+    Some((name, bytes.len() - after.len()))
+}
+
+/// The name that a credential cache has at a place, and the place after it (MIT krb5, "Credential cache
+/// file format", section "Principal").
+pub fn read_cc_principal(bytes: &[u8], at: usize) -> Option<(PrincipalView<'_>, usize)>
+    // What is found is spelled so.
+    ensures found { IfSome result (λ x. FitsCc x.0
+        × Stands bytes.now at x.1 (cc_principal x.0)) }
+    // What is spelled so is found, and nothing else.
+    ensures only { (p : Parts) (rest : List ℕ) → FitsCc p
+        → drop at bytes.now ≡ cc_principal p ++ rest
+        → ReadsAt (λ v. v) bytes.now result (Some (p, rest)) }
+    ensures exact { ReadsAt (λ v. v) bytes.now result (cc_principal_at (drop at bytes.now)) }
+{
+    cc_principal_from(bytes, at)
 }

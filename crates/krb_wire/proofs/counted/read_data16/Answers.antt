@@ -4,7 +4,7 @@ use Rattle.krb_wire.proofs.Principals.{data16_field}
 use Rattle.krb_wire.proofs.counted.read_data16.Goals as goal
 
 pub returns-clause-found : goal.returns-clause-found
-returns-clause-found c = found_at (data16_field c.args.order) (λ v. v.now) c.args.bytes.now c.args.at c.data16_from.result (λ i. omega (arith, c.type_inv.bytes i)) c.data16_from.ensures
+returns-clause-found c = found_at (data16_field c.args.order) (λ v. v.now) c.args.bytes.now c.args.at c.data_from.result (λ i. omega (arith, c.type_inv.bytes i)) c.data_from.ensures
 
 pub returns-clause-only : goal.returns-clause-only
-returns-clause-only c = only_at (data16_field c.args.order) (λ v. v.now) c.args.bytes.now c.args.at c.data16_from.result c.data16_from.ensures
+returns-clause-only c = only_at (data16_field c.args.order) (λ v. v.now) c.args.bytes.now c.args.at c.data_from.result c.data_from.ensures

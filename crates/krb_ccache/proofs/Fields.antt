@@ -1,0 +1,170 @@
+-- A credential that is read is the credential that was written, and what was written is read again.
+use Rattle.std.proofs.Common.{◌≡◌, ℕ, ◌^◌, ◌<◌, List, [], ◌∷◌, ◌++◌, length, Option, Some, refl, sym, ap, subst, ◌∙◌, append_assoc, length-append, arith}
+use Rattle.std.specs.List.{flat_map}
+use Rattle.std.specs.Int.{Width, w16, w32}
+use Rattle.krb_wire.specs.declared.format.Order.TheVariants.{Big}
+use Rattle.krb_wire.specs.Spelling.{digits, data32}
+use Rattle.krb_wire.specs.Reading.{◌>>=◌, byte_at, number_at, data32_at}
+use Rattle.krb_wire.proofs.Fields.{IsBytes, IsBytes-drop, IsWide, bind_some, some_is, Takes, Takes-then, wide16, wide32, number_takes, number_again}
+use Rattle.krb_wire.proofs.ReadLists.{length_list, list_takes, list_again}
+use Rattle.krb_wire.proofs.Places.{IsField}
+use Rattle.krb_wire.proofs.Principals.{data32_field}
+use Rattle.krb_ccache.specs.declared.version.Version.{Version}
+use Rattle.krb_ccache.specs.declared.version.Version.TheVariants.{V3, V4}
+use Rattle.krb_ccache.specs.declared.times.Times.{Times}
+use Rattle.krb_ccache.specs.Credential.{Typed, Key, number32, typed, typed_list, again_field, key, times, FitsTyped, FitsTypedList, FitsAgain, FitsKey, FitsTimes, typed_at, typed_list_at, again_at, key_at, times_at}
+
+-- a number of so many bits
+pub number_field : (w : Width) (limit : ℕ) → IsWide Big w limit → (0 < length (digits Big w 0)) → IsField (number_at Big w) (digits Big w) (λ n. n < limit)
+number_field w limit wide some = record {
+  takes = λ bytes x fits e. number_takes Big w limit wide bytes x.0 x.1 fits e;
+  again = λ n rest lt. number_again Big w limit wide n rest lt;
+  nonempty = λ n. omega (arith, some, wide.len n, wide.len 0);
+}
+
+pub field16 : IsField (number_at Big w16) (digits Big w16) (λ n. n < 2 ^ 16)
+field16 = number_field w16 (2 ^ 16) (wide16 Big) (omega (arith, (wide16 Big).len 0))
+
+pub field32 : IsField (number_at Big w32) (digits Big w32) (λ n. n < 2 ^ 32)
+field32 = number_field w32 (2 ^ 32) (wide32 Big) (omega (arith, (wide32 Big).len 0))
+
+byte_takes : (bytes : List ℕ) (x : ℕ × List ℕ) → IsBytes bytes → byte_at bytes ≡ Some x → Takes bytes (x.0 ∷ []) x.1 × (x.0 < 256)
+byte_takes [] x fits e = absurd (cc e)
+byte_takes (b ∷ rest) x fits e =
+    let whole : Takes (b ∷ rest) (b ∷ []) rest = record { parts = refl; rest_fits = IsBytes-drop 1 (b ∷ rest) fits } in
+    subst (λ (y : ℕ × List ℕ). Takes (b ∷ rest) (y.0 ∷ []) y.1 × (y.0 < 256)) (some_is (b, rest) x e) (whole, fits 0)
+
+pub byte_field : IsField byte_at (λ n. n ∷ []) (λ n. n < 256)
+byte_field = record {
+  takes = λ bytes x fits e. byte_takes bytes x fits e;
+  again = λ n rest lt. refl;
+  nonempty = λ n. omega arith;
+}
+
+-- the first of two parts, before what follows
+pub part_first : (a b rest all : List ℕ) → b ++ rest ≡ all → (a ++ b) ++ rest ≡ a ++ all
+part_first a b rest all e = append_assoc a b rest ∙ ap (λ (t : List ℕ). a ++ t) e
+
+-- more than nothing, before what follows
+pub some_more : (a b : List ℕ) → 0 < length a → 0 < length (a ++ b)
+some_more a b some = omega (arith, some, length-append a b)
+
+-- a field that was read first, and the steps after it
+pub step : {A B R : Type 0} {read : List ℕ → Option (A × List ℕ)} {spell : A → List ℕ} {Fits : A → Type 0} → IsField read spell Fits → (bytes : List ℕ) (f : A × List ℕ → Option B) (y : B) → IsBytes bytes → (read bytes >>= f) ≡ Some y
+    → ((a : A) (rest : List ℕ) → Takes bytes (spell a) rest → Fits a → f (a, rest) ≡ Some y → R) → R
+step {read = read} field bytes f y fits e others =
+    let b = bind_some (read bytes) f y e in
+    let t = field.takes bytes b.0 fits b.1 in
+    others b.0.0 b.0.1 t.0 t.1 b.2
+
+-- ---- lists of typed bytes
+
+typed_takes : (bytes : List ℕ) (x : Typed × List ℕ) → IsBytes bytes → typed_at bytes ≡ Some x → Takes bytes (typed x.0) x.1 × FitsTyped x.0
+unfolding typed_at
+typed_takes bytes x fits e =
+    let k = bind_some (number_at Big w16 bytes) _ x e in
+    let t = bind_some (data32_at Big k.0.1) _ x k.2 in
+    let tk = field16.takes bytes k.0 fits k.1 in
+    let tt = (data32_field Big).takes k.0.1 t.0 tk.0.rest_fits t.1 in
+    subst (λ (y : Typed × List ℕ). Takes bytes (typed y.0) y.1 × FitsTyped y.0) (some_is (record { kind = k.0.0; bytes = t.0.0 }, t.0.1) x t.2)
+    (Takes-then _ _ _ _ _ tk.0 tt.0, record { kind = tk.1; bytes = tt.1 })
+
+typed_again : (x : Typed) (rest : List ℕ) → FitsTyped x → typed_at (typed x ++ rest) ≡ Some (x, rest)
+unfolding typed_at
+typed_again x rest fits =
+    ap typed_at (append_assoc (digits Big w16 x.kind) (data32 Big x.bytes) rest)
+    ∙ rw (field16.again x.kind (data32 Big x.bytes ++ rest) fits.kind, (data32_field Big).again x.bytes rest fits.bytes) refl
+
+pub typed_field : IsField typed_at typed FitsTyped
+typed_field = record {
+  takes = λ bytes x fits e. typed_takes bytes x fits e;
+  again = λ x rest fits. typed_again x rest fits;
+  nonempty = λ x. some_more (digits Big w16 x.kind) (data32 Big x.bytes) (field16.nonempty x.kind);
+}
+
+typed_list_takes : (bytes : List ℕ) (x : List Typed × List ℕ) → IsBytes bytes → typed_list_at bytes ≡ Some x → Takes bytes (typed_list x.0) x.1 × FitsTypedList x.0
+unfolding typed_list_at
+typed_list_takes bytes x fits e =
+    let n = bind_some (number_at Big w32 bytes) _ x e in
+    let tn = field32.takes bytes n.0 fits n.1 in
+    let tx = list_takes typed_field n.0.0 n.0.1 x tn.0.rest_fits n.2 in
+    let count : n.0.0 ≡ length x.0 = sym (length_list typed_at n.0.0 n.0.1 x n.2) in
+    (subst (λ (m : ℕ). Takes bytes (number32 m ++ flat_map typed x.0) x.1) count (Takes-then _ _ _ _ _ tn.0 tx.0), record { count = subst (λ (m : ℕ). m < 2 ^ 32) count tn.1; each = tx.1 })
+
+typed_list_again : (xs : List Typed) (rest : List ℕ) → FitsTypedList xs → typed_list_at (typed_list xs ++ rest) ≡ Some (xs, rest)
+unfolding typed_list_at
+typed_list_again xs rest fits =
+    ap typed_list_at (append_assoc (number32 (length xs)) (flat_map typed xs) rest)
+    ∙ rw (field32.again (length xs) (flat_map typed xs ++ rest) fits.count) (list_again typed_field xs rest fits.each)
+
+pub typed_list_field : IsField typed_list_at typed_list FitsTypedList
+typed_list_field = record {
+  takes = λ bytes x fits e. typed_list_takes bytes x fits e;
+  again = λ xs rest fits. typed_list_again xs rest fits;
+  nonempty = λ xs. some_more (number32 (length xs)) (flat_map typed xs) (field32.nonempty (length xs));
+}
+
+-- ---- keys
+
+again_takes : (v : Version) (bytes : List ℕ) (x : ℕ × List ℕ) → IsBytes bytes → again_at v bytes ≡ Some x → Takes bytes (again_field v x.0) x.1 × FitsAgain v x.0
+again_takes V3 bytes x fits e = field16.takes bytes x fits e
+again_takes V4 bytes x fits e = subst (λ (y : ℕ × List ℕ). Takes bytes [] y.1 × (y.0 ≡ 0)) (some_is (0, bytes) x e) (record { parts = refl; rest_fits = fits }, refl)
+
+again_again : (v : Version) (n : ℕ) (rest : List ℕ) → FitsAgain v n → again_at v (again_field v n ++ rest) ≡ Some (n, rest)
+again_again V3 n rest h = field16.again n rest h
+again_again V4 n rest h = ap (λ (m : ℕ). Some (m, rest)) (sym h)
+
+key_takes : (v : Version) (bytes : List ℕ) (x : Key × List ℕ) → IsBytes bytes → key_at v bytes ≡ Some x → Takes bytes (key v x.0) x.1 × FitsKey v x.0
+unfolding key_at
+key_takes v bytes x fits e =
+    let n = bind_some (number_at Big w16 bytes) _ x e in
+    let m = bind_some (again_at v n.0.1) _ x n.2 in
+    let t = bind_some (data32_at Big m.0.1) _ x m.2 in
+    let tn = field16.takes bytes n.0 fits n.1 in
+    let tm = again_takes v n.0.1 m.0 tn.0.rest_fits m.1 in
+    let tt = (data32_field Big).takes m.0.1 t.0 tm.0.rest_fits t.1 in
+    subst (λ (y : Key × List ℕ). Takes bytes (key v y.0) y.1 × FitsKey v y.0) (some_is (record { enctype = n.0.0; enctype_again = m.0.0; bytes = t.0.0 }, t.0.1) x t.2)
+    (Takes-then _ _ _ _ _ tn.0 (Takes-then _ _ _ _ _ tm.0 tt.0), record { enctype = tn.1; enctype_again = tm.1; bytes = tt.1 })
+
+key_again : (v : Version) (k : Key) (rest : List ℕ) → FitsKey v k → key_at v (key v k ++ rest) ≡ Some (k, rest)
+unfolding key_at
+key_again v k rest fits =
+    ap (key_at v) (part_first (digits Big w16 k.enctype) (again_field v k.enctype_again ++ data32 Big k.bytes) rest _ (part_first (again_field v k.enctype_again) (data32 Big k.bytes) rest _ refl))
+    ∙ rw (field16.again k.enctype (again_field v k.enctype_again ++ (data32 Big k.bytes ++ rest)) fits.enctype, again_again v k.enctype_again (data32 Big k.bytes ++ rest) fits.enctype_again, (data32_field Big).again k.bytes rest fits.bytes) refl
+
+pub key_field : (v : Version) → IsField (key_at v) (key v) (FitsKey v)
+key_field v = record {
+  takes = λ bytes x fits e. key_takes v bytes x fits e;
+  again = λ k rest fits. key_again v k rest fits;
+  nonempty = λ k. some_more (digits Big w16 k.enctype) (again_field v k.enctype_again ++ data32 Big k.bytes) (field16.nonempty k.enctype);
+}
+
+-- ---- times
+
+times_takes : (bytes : List ℕ) (x : Times × List ℕ) → IsBytes bytes → times_at bytes ≡ Some x → Takes bytes (times x.0) x.1 × FitsTimes x.0
+unfolding times_at
+times_takes bytes x fits e =
+    step field32 bytes _ x fits e (λ authtime r1 t1 f1 e1.
+    step field32 r1 _ x t1.rest_fits e1 (λ starttime r2 t2 f2 e2.
+    step field32 r2 _ x t2.rest_fits e2 (λ endtime r3 t3 f3 e3.
+    step field32 r3 _ x t3.rest_fits e3 (λ renew_till r4 t4 f4 e4.
+    let P : Times × List ℕ → Type 0 = λ y. Takes bytes (times y.0) y.1 × FitsTimes y.0 in
+    let made : Times = record { authtime = authtime; starttime = starttime; endtime = endtime; renew_till = renew_till } in
+    subst P (some_is (made, r4) x e4) (Takes-then _ _ _ _ _ t1 (Takes-then _ _ _ _ _ t2 (Takes-then _ _ _ _ _ t3 t4)), record { authtime = f1; starttime = f2; endtime = f3; renew_till = f4 })))))
+
+times_again : (t : Times) (rest : List ℕ) → FitsTimes t → times_at (times t ++ rest) ≡ Some (t, rest)
+unfolding times_at
+times_again t rest fits =
+    let a = number32 t.authtime in
+    let b = number32 t.starttime in
+    let d = number32 t.endtime in
+    let f = number32 t.renew_till in
+    ap times_at (part_first a (b ++ (d ++ f)) rest _ (part_first b (d ++ f) rest _ (part_first d f rest _ refl)))
+    ∙ rw (field32.again t.authtime (b ++ (d ++ (f ++ rest))) fits.authtime, field32.again t.starttime (d ++ (f ++ rest)) fits.starttime, field32.again t.endtime (f ++ rest) fits.endtime, field32.again t.renew_till rest fits.renew_till) refl
+
+pub times_field : IsField times_at times FitsTimes
+times_field = record {
+  takes = λ bytes x fits e. times_takes bytes x fits e;
+  again = λ t rest fits. times_again t rest fits;
+  nonempty = λ t. some_more (number32 t.authtime) (number32 t.starttime ++ (number32 t.endtime ++ number32 t.renew_till)) (field32.nonempty t.authtime);
+}

@@ -1,0 +1,126 @@
+-- A header that is read is the header that was written.
+use Rattle.std.proofs.Common.{◌≡◌, ℕ, zero, suc, ◌<◌, List, [], ◌∷◌, ◌++◌, length, Some, refl, ap, subst, ◌∙◌, append_assoc, arith, Option, None}
+use Rattle.std.specs.Prelude.{is_some, ◌==◌}
+use Rattle.std.specs.List.{flat_map, filter_map, cons_option}
+use Rattle.std.proofs.lemmas.Bool.Decides.{nat_tests}
+use Rattle.std.proofs.lemmas.List.{append-nil}
+use Rattle.std.specs.Int.{w16}
+use Rattle.krb_wire.specs.declared.format.Order.TheVariants.{Big}
+use Rattle.krb_wire.specs.Spelling.{digits, data16}
+use Rattle.krb_wire.specs.Reading.{number_at, data16_at}
+use Rattle.krb_wire.proofs.Fields.{IsBytes, bind_some, some_is, Takes, Takes-then}
+use Rattle.krb_wire.proofs.Places.{IsField}
+use Rattle.krb_wire.proofs.Principals.{data16_field}
+use Rattle.krb_walk.specs.Contents.{Contents, contents}
+use Rattle.krb_walk.proofs.ContentsLemmas.{IsFormat, contents_spelled, unframed_format, reads_one, reads_none}
+use Rattle.krb_ccache.specs.declared.version.Version.{Version}
+use Rattle.krb_ccache.specs.declared.version.Version.TheVariants.{V3, V4}
+use Rattle.krb_ccache.specs.declared.offset.Offset.{Offset}
+use Rattle.krb_ccache.specs.Header.{Field, field, FitsField, header, field_at, fields_format, whole, fields_in, header_at, offset_of, first_of}
+use Rattle.krb_ccache.proofs.Fields.{field16, some_more}
+
+field_takes : (bytes : List ℕ) (x : Field × List ℕ) → IsBytes bytes → field_at bytes ≡ Some x → Takes bytes (field x.0) x.1 × FitsField x.0
+unfolding field_at
+field_takes bytes x fits e =
+    let t = bind_some (number_at Big w16 bytes) _ x e in
+    let u = bind_some (data16_at Big t.0.1) _ x t.2 in
+    let tt = field16.takes bytes t.0 fits t.1 in
+    let tu = (data16_field Big).takes t.0.1 u.0 tt.0.rest_fits u.1 in
+    subst (λ (y : Field × List ℕ). Takes bytes (field y.0) y.1 × FitsField y.0) (some_is (record { tag = t.0.0; value = u.0.0 }, u.0.1) x u.2)
+    (Takes-then _ _ _ _ _ tt.0 tu.0, record { tag = tt.1; value = tu.1 })
+
+field_again : (x : Field) (rest : List ℕ) → FitsField x → field_at (field x ++ rest) ≡ Some (x, rest)
+unfolding field_at
+field_again x rest fits =
+    ap field_at (append_assoc (digits Big w16 x.tag) (data16 Big x.value) rest)
+    ∙ rw (field16.again x.tag (data16 Big x.value ++ rest) fits.tag, (data16_field Big).again x.value rest fits.value) refl
+
+pub field_field : IsField field_at field FitsField
+field_field = record {
+  takes = λ bytes x fits e. field_takes bytes x fits e;
+  again = λ x rest fits. field_again x rest fits;
+  nonempty = λ x. some_more (digits Big w16 x.tag) (data16 Big x.value) (field16.nonempty x.tag);
+}
+
+pub fields_are : IsFormat fields_format
+fields_are = unframed_format field_field
+
+whole_by : (bytes : List ℕ) (cells : List Field) (end : List ℕ) (xs : List Field) → bytes ≡ flat_map field cells ++ end → whole cells end ≡ Some xs → bytes ≡ flat_map field xs
+whole_by bytes cells [] xs parts e = parts ∙ append-nil (flat_map field cells) ∙ ap (flat_map field) (some_is cells xs e)
+whole_by bytes cells (b ∷ bs) xs parts e = absurd cc
+
+-- the fields spell the bytes that they fill
+pub fields_spell : (bytes : List ℕ) (xs : List Field) → IsBytes bytes → fields_in bytes ≡ Some xs → bytes ≡ flat_map field xs
+fields_spell bytes xs fits e =
+    let k = contents fields_format bytes in
+    whole_by bytes k.cells k.end xs (contents_spelled fields_format bytes fields_are fits).parts e
+
+IsBytes-back : (a b : List ℕ) → IsBytes (a ++ b) → IsBytes b
+IsBytes-back [] b fits = fits
+IsBytes-back (x ∷ a) b fits = IsBytes-back a b (λ i. fits (suc i))
+
+IsBytes-front : (a b : List ℕ) → IsBytes (a ++ b) → IsBytes a
+IsBytes-front [] b fits i = omega arith
+IsBytes-front (x ∷ a) b fits zero = fits 0
+IsBytes-front (x ∷ a) b fits (suc i) = IsBytes-front a b (λ j. fits (suc j)) i
+
+-- the header spells what it takes
+pub header_takes : (v : Version) (bytes : List ℕ) (x : List Field × List ℕ) → IsBytes bytes → header_at v bytes ≡ Some x → Takes bytes (header v x.0) x.1
+unfolding header_at
+header_takes V3 bytes x fits e = subst (λ (y : List Field × List ℕ). Takes bytes [] y.1) (some_is ([], bytes) x e) (record { parts = refl; rest_fits = fits })
+header_takes V4 bytes x fits e =
+    let a = bind_some (data16_at Big bytes) _ x e in
+    let b = bind_some (fields_in a.0.0) _ x a.2 in
+    let ta = (data16_field Big).takes bytes a.0 fits a.1 in
+    let inner : IsBytes a.0.0 = IsBytes-back (digits Big w16 (length a.0.0)) a.0.0 (IsBytes-front (data16 Big a.0.0) a.0.1 (subst IsBytes ta.0.parts fits)) in
+    let same = fields_spell a.0.0 b.0 inner b.1 in
+    subst (λ (y : List Field × List ℕ). Takes bytes (header V4 y.0) y.1) (some_is (b.0, a.0.1) x b.2) (subst (λ (t : List ℕ). Takes bytes (data16 Big t) a.0.1) same ta.0)
+
+-- ---- one field after the other
+
+some_whole : (x : Field) (xs : List Field) (end : List ℕ) → is_some (whole (x ∷ xs) end) ≡ is_some (whole xs end)
+some_whole x xs [] = refl
+some_whole x xs (b ∷ bs) = refl
+
+pub fill_step : (bytes : List ℕ) (x : Field) (after : List ℕ) → IsBytes bytes → field_at bytes ≡ Some (x, after) → is_some (fields_in bytes) ≡ is_some (fields_in after)
+fill_step bytes x after fits e =
+    let r = reads_one field_field bytes x after fits e in
+    ap (λ (cs : List Field). is_some (whole cs (contents fields_format bytes).end)) r.cells ∙ ap (λ (b : List ℕ). is_some (whole (x ∷ (contents fields_format after).cells) b)) r.end
+    ∙ some_whole x (contents fields_format after).cells (contents fields_format after).end
+
+none_whole : (bytes : List ℕ) → is_some (whole (let none : List Field = [] in none) bytes) ≡ (length bytes == 0)
+none_whole [] = refl
+none_whole (b ∷ bs) = grind (arith, nat_tests)
+
+pub fill_end : (bytes : List ℕ) → IsBytes bytes → field_at bytes ≡ None → is_some (fields_in bytes) ≡ (length bytes == 0)
+fill_end bytes fits e = ap (λ (k : Contents Field (List ℕ)). is_some (whole k.cells k.end)) (reads_none field_field bytes fits e) ∙ none_whole bytes
+
+pub field_shrinks : (bytes : List ℕ) (x : Field) (after : List ℕ) → IsBytes bytes → field_at bytes ≡ Some (x, after) → length after < length bytes
+field_shrinks bytes x after fits e = let r = reads_one field_field bytes x after fits e in let len = r.len in let some = r.some in omega (arith, len, some)
+
+pub field_left : (bytes : List ℕ) (x : Field) (after : List ℕ) → IsBytes bytes → field_at bytes ≡ Some (x, after) → IsBytes after
+field_left bytes x after fits e = (reads_one field_field bytes x after fits e).fits
+
+-- the first offset among the fields of bytes
+abbrev pub offset_among : List ℕ → Option Offset
+offset_among bytes = first_of (filter_map offset_of (contents fields_format bytes).cells)
+
+first_by : (o : Option Offset) (os : List Offset) (p : Offset) → o ≡ Some p → first_of (cons_option o os) ≡ Some p
+first_by (Some q) os p e = e
+first_by None os p e = absurd cc
+
+none_by : (o : Option Offset) (os : List Offset) → o ≡ None → first_of (cons_option o os) ≡ first_of os
+none_by (Some q) os e = absurd cc
+none_by None os e = refl
+
+offset_cons : (bytes : List ℕ) (x : Field) (after : List ℕ) → IsBytes bytes → field_at bytes ≡ Some (x, after) → offset_among bytes ≡ first_of (cons_option (offset_of x) (filter_map offset_of (contents fields_format after).cells))
+offset_cons bytes x after fits e = ap (λ (cs : List Field). first_of (filter_map offset_of cs)) (reads_one field_field bytes x after fits e).cells
+
+pub offset_found : (bytes : List ℕ) (x : Field) (after : List ℕ) (p : Offset) → IsBytes bytes → field_at bytes ≡ Some (x, after) → offset_of x ≡ Some p → offset_among bytes ≡ Some p
+offset_found bytes x after p fits e is = offset_cons bytes x after fits e ∙ first_by (offset_of x) _ p is
+
+pub offset_step : (bytes : List ℕ) (x : Field) (after : List ℕ) → IsBytes bytes → field_at bytes ≡ Some (x, after) → offset_of x ≡ None → offset_among bytes ≡ offset_among after
+offset_step bytes x after fits e is = offset_cons bytes x after fits e ∙ none_by (offset_of x) _ is
+
+pub offset_end : (bytes : List ℕ) → IsBytes bytes → field_at bytes ≡ None → offset_among bytes ≡ None
+offset_end bytes fits e = ap (λ (k : Contents Field (List ℕ)). first_of (filter_map offset_of k.cells)) (reads_none field_field bytes fits e)

@@ -1,0 +1,7 @@
+pub mod Fields
+pub mod CredentialField
+pub mod HeaderFields
+pub mod CellLemmas
+pub mod PlaceLemmas
+pub mod Splits
+pub mod Held

@@ -1,0 +1,123 @@
+-- Where the parts of an image stand.
+use Rattle.std.proofs.Common.{◌≡◌, ℕ, ◌+◌, ◌-◌, ◌<◌, ◌≤◌, List, [], ◌++◌, length, take, drop, Option, Some, None, Ok, Err, refl, sym, ap, subst, ◌∙◌, append_assoc, length-append, arith}
+use Rattle.std.specs.Prelude.{option_map, unwrap_or}
+use Rattle.std.specs.List.{flat_map}
+use Rattle.std.proofs.lemmas.List.{drop_at, take-append-drop}
+use Rattle.std.proofs.lemmas.List.Concat.{flat_map-cons}
+use Rattle.krb_wire.specs.Spelling.{Parts, cc_principal}
+use Rattle.krb_wire.specs.Reading.{cc_principal_at}
+use Rattle.krb_wire.proofs.Fields.{IsBytes, IsBytes-drop, Takes}
+use Rattle.krb_wire.proofs.Principals.{cc_principal_field}
+use Rattle.krb_walk.specs.Contents.{Contents, contents}
+use Rattle.krb_ccache.specs.declared.version.Version.{Version}
+use Rattle.krb_ccache.specs.declared.open.CcOpenFault.TheVariants.{BadHeader, BadDefault}
+use Rattle.krb_ccache.specs.declared.open.Places.{Places}
+use Rattle.krb_ccache.specs.Credential.{CredParts, credential, credential_at}
+use Rattle.krb_ccache.specs.Header.{Field, header, header_at, header_end}
+use Rattle.krb_ccache.specs.Store.{credentials_format, open_default, open_header}
+use Rattle.krb_ccache.specs.Open.{header_held, no_name, name_held, held, cells_len, ArePlaces}
+use Rattle.krb_ccache.proofs.HeaderFields.{header_takes}
+use Rattle.krb_ccache.proofs.CellLemmas.{read_one, read_none, end_is}
+
+-- ---- how many bytes the credentials take
+
+pub len_step : (v : Version) (bytes : List ℕ) (c : CredParts) (after : List ℕ) → IsBytes bytes → credential_at v bytes ≡ Some (c, after) → cells_len v bytes + length after ≡ length bytes + cells_len v after
+len_step v bytes c after fits e =
+    let r = read_one v bytes c after fits e in
+    let len = r.len in
+    let cons : cells_len v bytes ≡ length (credential v c) + cells_len v after = ap (λ (cs : List CredParts). length (flat_map (credential v) cs)) r.cells ∙ ap length (flat_map-cons (credential v) c _) ∙ length-append (credential v c) _ in
+    omega (arith, cons, len)
+
+pub len_less : (v : Version) (bytes : List ℕ) (c : CredParts) (after : List ℕ) → IsBytes bytes → credential_at v bytes ≡ Some (c, after) → length after < length bytes
+len_less v bytes c after fits e = let r = read_one v bytes c after fits e in let len = r.len in let some = r.some in omega (arith, len, some)
+
+pub left_fits : (v : Version) (bytes : List ℕ) (c : CredParts) (after : List ℕ) → IsBytes bytes → credential_at v bytes ≡ Some (c, after) → IsBytes after
+left_fits v bytes c after fits e = (read_one v bytes c after fits e).fits
+
+pub len_end : (v : Version) (bytes : List ℕ) → IsBytes bytes → credential_at v bytes ≡ None → cells_len v bytes ≡ 0
+len_end v bytes fits e = ap (λ (k : Contents CredParts (List ℕ)). length (flat_map (credential v) k.cells)) (read_none v bytes fits e)
+
+-- ---- what is left of an image
+
+-- bytes that an image ends with
+pub record EndsWith (image after : List ℕ) : Type 0 where
+  pub before : List ℕ
+  pub parts : image ≡ before ++ after
+
+pub tail_is : (image after : List ℕ) → EndsWith image after → (length after ≤ length image) × (drop (length image - length after) image ≡ after)
+tail_is image after e =
+    let len = ap length e.parts ∙ length-append e.before after in
+    let at : length image - length after ≡ length e.before = omega (arith, len) in
+    (omega (arith, len), ap (λ (n : ℕ). drop n image) at ∙ ap (drop (length e.before)) e.parts ∙ drop_at e.before after (length e.before) refl)
+
+after_takes : (image a text b : List ℕ) → EndsWith image a → Takes a text b → EndsWith image b
+after_takes image a text b e t = record { before = e.before ++ text; parts = e.parts ∙ ap (λ (x : List ℕ). e.before ++ x) t.parts ∙ sym (append_assoc e.before text b) }
+
+-- a header that was passed was read
+pub record PassedHeader (v : Version) (rest after : List ℕ) : Type 0 where
+  pub fields : List Field
+  pub read : header_at v rest ≡ Some (fields, after)
+
+passed_by : (o : Option (List Field × List ℕ)) (after : List ℕ) → option_map (λ x. x.1) o ≡ Some after → (xs : List Field) × (o ≡ Some (xs, after))
+passed_by (Some x) after e = (x.0, ap (λ (b : List ℕ). Some (x.0, b)) cc)
+passed_by None after e = absurd cc
+
+pub passed : (v : Version) (rest after : List ℕ) → header_end v rest ≡ Some after → PassedHeader v rest after
+passed v rest after e = let h = passed_by (header_at v rest) after e in record { fields = h.0; read = h.1 }
+
+none_by : (o : Option (List Field × List ℕ)) → option_map (λ x. x.1) o ≡ None → o ≡ None
+none_by (Some x) e = absurd cc
+none_by None e = refl
+
+pub no_header : (v : Version) (rest : List ℕ) (limit : ℕ) → header_end v rest ≡ None → open_header v limit (header_at v rest) ≡ Err BadHeader
+no_header v rest limit e = ap (open_header v limit) (none_by (header_at v rest) e)
+
+pub no_default : (v : Version) (rest after : List ℕ) (limit : ℕ) → header_end v rest ≡ Some after → cc_principal_at after ≡ None → open_header v limit (header_at v rest) ≡ Err BadDefault
+no_default v rest after limit e none = let p = passed v rest after e in ap (open_header v limit) p.read ∙ ap (open_default v limit p.fields) none
+
+-- what was read before the credentials
+pub record IsFront (v : Version) (image rest after cells : List ℕ) : Type 0 where
+  pub rest_ends : EndsWith image rest
+  pub after_ends : EndsWith image after
+  pub cells_end : EndsWith image cells
+
+pub front_is : (v : Version) (image rest after : List ℕ) (p : Parts) (cells : List ℕ) → IsBytes image → rest ≡ drop 2 image → header_end v rest ≡ Some after → cc_principal_at after ≡ Some (p, cells) → IsFront v image rest after cells
+front_is v image rest after p cells fits is_rest passes read =
+    let h = passed v rest after passes in
+    let start : EndsWith image rest = record { before = take 2 image; parts = sym (take-append-drop 2 image) ∙ ap (λ (b : List ℕ). take 2 image ++ b) (sym is_rest) } in
+    let rest_fits : IsBytes rest = subst IsBytes (sym is_rest) (IsBytes-drop 2 image fits) in
+    let th = header_takes v rest (h.fields, after) rest_fits h.read in
+    let tp = cc_principal_field.takes after (p, cells) th.rest_fits read in
+    let two = after_takes image rest (header v h.fields) after start th in
+    record { rest_ends = start; after_ends = two; cells_end = after_takes image after (cc_principal p) cells two tp.0 }
+
+header_is : (v : Version) (image after : List ℕ) (xs : List Field) → header_at v (drop 2 image) ≡ Some (xs, after) → header_held v image ≡ xs
+header_is v image after xs e = ap (λ (o : Option (List Field × List ℕ)). unwrap_or (option_map (λ x. x.0) o) []) e
+
+name_is : (bytes after : List ℕ) (p : Parts) → cc_principal_at bytes ≡ Some (p, after) → name_held bytes ≡ p
+name_is bytes after p e = ap (λ (o : Option (Parts × List ℕ)). unwrap_or (option_map (λ x. x.0) o) no_name) e
+
+pub places_are : (v : Version) (image rest after : List ℕ) (p : Parts) (cells : List ℕ) (n : ℕ) → IsBytes image → rest ≡ drop 2 image → header_end v rest ≡ Some after → cc_principal_at after ≡ Some (p, cells) → n ≡ cells_len v cells → n ≤ length cells
+    → ArePlaces v image (record { principal = length image - length after; first = length image - length cells; end = length image - length cells + n })
+places_are v image rest after p cells n fits is_rest passes read is_n le =
+    let h = passed v rest after passes in
+    let front = front_is v image rest after p cells fits is_rest passes read in
+    let ta = tail_is image after front.after_ends in
+    let tc = tail_is image cells front.cells_end in
+    let there : header_at v (drop 2 image) ≡ Some (h.fields, after) = ap (header_at v) (sym is_rest) ∙ h.read in
+    let named : cc_principal_at (drop (length image - length after) image) ≡ Some (p, cells) = ap cc_principal_at ta.1 ∙ read in
+    let lc = tc.0 in
+    record {
+      header = there ∙ ap (λ (xs : List Field). Some (xs, after)) (sym (header_is v image after h.fields there)) ∙ ap (λ (b : List ℕ). Some (header_held v image, b)) (sym ta.1);
+      principal_within = omega arith;
+      principal = named ∙ ap (λ (q : Parts). Some (q, cells)) (sym (name_is _ cells p named)) ∙ ap (λ (b : List ℕ). Some (name_held (drop (length image - length after) image), b)) (sym tc.1);
+      first_within = omega arith;
+      end =
+          ap (λ (m : ℕ). length image - length cells + m) (is_n ∙ ap (cells_len v) (sym tc.1))
+          ∙ sym (end_is v (length image - length cells) (contents (credentials_format v) (drop (length image - length cells) image)).cells);
+      end_within = omega (arith, lc, le);
+    }
+
+-- such an image is opened as what it holds
+pub opens : (v : Version) (limit : ℕ) (image : List ℕ) (places : Places) → ArePlaces v image places → open_header v limit (header_at v (drop 2 image)) ≡ Ok (held v limit image places)
+opens v limit image places are = ap (open_header v limit) are.header ∙ ap (open_default v limit (header_held v image)) are.principal

@@ -1,0 +1,56 @@
+-- Configuration entries: credentials that hold a value under a key, and perhaps a principal's text (MIT krb5, "Credential cache file format", section "Credential cache configuration entries").
+use Rattle.std.specs.Prelude.{ℕ, Bool, true, false, ◌&&◌, List, [], ◌∷◌, Option, Some, None, is_some, option_map, find, codes, if◌then◌else◌}
+use Rattle.std.specs.Str.{bytes_eq}
+use Rattle.krb_wire.specs.Spelling.{Parts}
+use Rattle.krb_wire.specs.SameName.{have_same_name}
+use Rattle.krb_ccache.specs.Credential.{CredParts}
+use Rattle.krb_ccache.specs.Store.{CacheState, PlacedCredential, placed_credentials}
+
+-- what a value is held under: a key, and perhaps a principal's text
+pub record ConfigParts : Type 0 where
+  pub key : List ℕ
+  pub principal : Option (List ℕ)
+
+-- the components after the first: one, or two
+abbrev pub config_under : List (List ℕ) → Option ConfigParts
+config_under [] = None
+config_under (key ∷ []) = Some (record { key = key; principal = None })
+config_under (key ∷ text ∷ []) = Some (record { key = key; principal = Some text })
+config_under (key ∷ text ∷ other ∷ others) = None
+
+-- the components of a configuration entry: the first is `krb5_ccache_conf_data`
+abbrev pub config_among : List (List ℕ) → Option ConfigParts
+config_among [] = None
+config_among (first ∷ others) = if bytes_eq first (codes "krb5_ccache_conf_data") then config_under others else None
+
+-- what the server of a configuration entry names; no other field is looked at
+abbrev pub config_name : Parts → Option ConfigParts
+config_name p = if bytes_eq p.realm (codes "X-CACHECONF:") then config_among p.components else None
+
+-- it is a configuration entry
+abbrev pub is_config : CredParts → Bool
+is_config c = is_some (config_name c.server)
+
+-- the same principal's text, or none on both sides
+abbrev pub same_text : Option (List ℕ) → Option (List ℕ) → Bool
+same_text None None = true
+same_text (Some a) (Some b) = bytes_eq a b
+same_text None (Some b) = false
+same_text (Some a) None = false
+
+-- what is held is asked for
+abbrev pub is_under : List ℕ → Option (List ℕ) → Option ConfigParts → Bool
+is_under key text None = false
+is_under key text (Some x) = bytes_eq x.key key && same_text x.principal text
+
+-- a configuration entry of the default principal, for that key and principal
+abbrev pub is_asked : Parts → List ℕ → Option (List ℕ) → CredParts → Bool
+is_asked owner key text c = is_under key text (config_name c.server) && have_same_name owner c.client
+
+-- the value of the first such entry
+abbrev pub value_among : Parts → List ℕ → Option (List ℕ) → List PlacedCredential → Option (List ℕ)
+value_among owner key text xs = option_map (λ x. x.1.ticket) (find (λ x. is_asked owner key text x.1) xs)
+
+-- that of the live entries of a cache
+abbrev pub config_of : CacheState → List ℕ → Option (List ℕ) → Option (List ℕ)
+config_of k key text = value_among k.principal key text (placed_credentials k)

@@ -1,0 +1,181 @@
+-- Credentials: what they are, how they are spelled, how they are read (MIT krb5, "Credential cache file format", section "Credential format").
+use Rattle.std.specs.Prelude.{◌≡◌, ℕ, ◌<◌, ◌^◌, ◌==◌, Bool, ◌&&◌, List, [], ◌∷◌, ◌++◌, length, Option, Some}
+use Rattle.std.specs.List.{flat_map, AllByRecursion}
+use Rattle.std.specs.Int.{w16, w32}
+use Rattle.krb_wire.specs.declared.format.Order.TheVariants.{Big}
+use Rattle.krb_wire.specs.Spelling.{Parts, digits, data32, cc_principal, IsLong, FitsCc}
+use Rattle.krb_wire.specs.Reading.{◌>>=◌, byte_at, number_at, data32_at, list_at, cc_principal_at}
+use Rattle.krb_ccache.specs.declared.version.Version.{Version}
+use Rattle.krb_ccache.specs.declared.version.Version.TheVariants.{V3, V4}
+use Rattle.krb_ccache.specs.declared.times.Times.{Times}
+
+-- an address, or an element of the authorization data: what kind it is, and its bytes
+pub record Typed : Type 0 where
+  pub kind : ℕ
+  pub bytes : List ℕ
+
+-- a key and its enctype; version 3 writes an enctype twice, and the second is read and asked for nowhere
+pub record Key : Type 0 where
+  pub enctype : ℕ
+  pub enctype_again : ℕ
+  pub bytes : List ℕ
+
+-- a credential without where it lies in memory
+pub record CredParts : Type 0 where
+  pub client : Parts
+  pub server : Parts
+  pub key : Key
+  pub times : Times
+  pub is_skey : ℕ
+  pub flags : ℕ
+  pub addresses : List Typed
+  pub authdata : List Typed
+  pub ticket : List ℕ
+  pub second_ticket : List ℕ
+
+-- the removed mark, which is this project's own: endtime 0 and the greatest authtime
+abbrev pub is_marked : CredParts → Bool
+is_marked c = c.times.endtime == 0 && c.times.authtime == 4294967295
+
+-- ---- spelling
+
+-- a big-endian number of thirty-two bits
+abbrev pub number32 : ℕ → List ℕ
+number32 n = digits Big w32 n
+
+-- the kind, and the bytes after their length
+abbrev pub typed : Typed → List ℕ
+typed x = digits Big w16 x.kind ++ data32 Big x.bytes
+
+-- how many there are, and each of them
+abbrev pub typed_list : List Typed → List ℕ
+typed_list xs = number32 (length xs) ++ flat_map typed xs
+
+-- the second enctype, which version 4 does not have
+abbrev pub again_field : Version → ℕ → List ℕ
+again_field V3 n = digits Big w16 n
+again_field V4 n = []
+
+-- the enctype, in version 3 twice, and the key
+abbrev pub key : Version → Key → List ℕ
+key v k = digits Big w16 k.enctype ++ (again_field v k.enctype_again ++ data32 Big k.bytes)
+
+-- the four times
+abbrev pub times : Times → List ℕ
+times t = number32 t.authtime ++ (number32 t.starttime ++ (number32 t.endtime ++ number32 t.renew_till))
+
+-- the spelling of a credential
+abbrev pub credential : Version → CredParts → List ℕ
+credential v c =
+    cc_principal c.client ++ (cc_principal c.server ++ (key v c.key ++ (times c.times
+    ++ ((c.is_skey ∷ []) ++ (number32 c.flags ++ (typed_list c.addresses ++ (typed_list c.authdata
+    ++ (data32 Big c.ticket ++ data32 Big c.second_ticket))))))))
+
+-- ---- what has a spelling
+
+-- its numbers and lengths fit their fields
+pub record FitsTyped (x : Typed) : Type 0 where
+  pub kind : x.kind < 2 ^ 16
+  pub bytes : IsLong x.bytes
+
+-- so do those of each, and their number
+pub record FitsTypedList (xs : List Typed) : Type 0 where
+  pub count : length xs < 2 ^ 32
+  pub each : AllByRecursion FitsTyped xs
+
+-- a second enctype that the version can write: in version 4 it is 0
+abbrev pub FitsAgain : Version → ℕ → Type 0
+FitsAgain V3 n = n < 2 ^ 16
+FitsAgain V4 n = n ≡ 0
+
+-- its numbers and its length fit their fields
+pub record FitsKey (v : Version) (k : Key) : Type 0 where
+  pub enctype : k.enctype < 2 ^ 16
+  pub enctype_again : FitsAgain v k.enctype_again
+  pub bytes : IsLong k.bytes
+
+-- its numbers fit their fields
+pub record FitsTimes (t : Times) : Type 0 where
+  pub authtime : t.authtime < 2 ^ 32
+  pub starttime : t.starttime < 2 ^ 32
+  pub endtime : t.endtime < 2 ^ 32
+  pub renew_till : t.renew_till < 2 ^ 32
+
+-- all numbers, lengths and counts of a credential fit their fields
+pub record FitsCredential (v : Version) (c : CredParts) : Type 0 where
+  pub client : FitsCc c.client
+  pub server : FitsCc c.server
+  pub key : FitsKey v c.key
+  pub times : FitsTimes c.times
+  pub is_skey : c.is_skey < 256
+  pub flags : c.flags < 2 ^ 32
+  pub addresses : FitsTypedList c.addresses
+  pub authdata : FitsTypedList c.authdata
+  pub ticket : IsLong c.ticket
+  pub second_ticket : IsLong c.second_ticket
+
+-- ---- reading
+
+-- the typed bytes that the bytes begin with
+unfoldable pub typed_at : List ℕ → Option (Typed × List ℕ)
+typed_at bytes = do
+  kind ← number_at Big w16 bytes
+  text ← data32_at Big kind.1
+  Some (record { kind = kind.0; bytes = text.0 }, text.1)
+
+-- the list of them that the bytes begin with
+unfoldable pub typed_list_at : List ℕ → Option (List Typed × List ℕ)
+typed_list_at bytes = do
+  count ← number_at Big w32 bytes
+  list_at typed_at count.0 count.1
+
+-- the second enctype that the bytes begin with; version 4 has none, and it reads as 0
+abbrev pub again_at : Version → List ℕ → Option (ℕ × List ℕ)
+again_at V3 bytes = number_at Big w16 bytes
+again_at V4 bytes = Some (0, bytes)
+
+-- the key that the bytes begin with
+unfoldable pub key_at : Version → List ℕ → Option (Key × List ℕ)
+key_at v bytes = do
+  enctype ← number_at Big w16 bytes
+  again ← again_at v enctype.1
+  text ← data32_at Big again.1
+  Some (record { enctype = enctype.0; enctype_again = again.0; bytes = text.0 }, text.1)
+
+-- the four times that the bytes begin with
+unfoldable pub times_at : List ℕ → Option (Times × List ℕ)
+times_at bytes = do
+  authtime ← number_at Big w32 bytes
+  starttime ← number_at Big w32 authtime.1
+  endtime ← number_at Big w32 starttime.1
+  renew_till ← number_at Big w32 endtime.1
+  Some (record { authtime = authtime.0; starttime = starttime.0; endtime = endtime.0; renew_till = renew_till.0 }, renew_till.1)
+
+-- the credential that the bytes begin with
+unfoldable pub credential_at : Version → List ℕ → Option (CredParts × List ℕ)
+credential_at v bytes = do
+  client ← cc_principal_at bytes
+  server ← cc_principal_at client.1
+  key ← key_at v server.1
+  times ← times_at key.1
+  is_skey ← byte_at times.1
+  flags ← number_at Big w32 is_skey.1
+  addresses ← typed_list_at flags.1
+  authdata ← typed_list_at addresses.1
+  ticket ← data32_at Big authdata.1
+  second ← data32_at Big ticket.1
+  Some (
+    record {
+      client = client.0;
+      server = server.0;
+      key = key.0;
+      times = times.0;
+      is_skey = is_skey.0;
+      flags = flags.0;
+      addresses = addresses.0;
+      authdata = authdata.0;
+      ticket = ticket.0;
+      second_ticket = second.0;
+    },
+    second.1,
+  )

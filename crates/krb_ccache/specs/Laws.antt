@@ -1,0 +1,24 @@
+-- Laws of the definitions.
+use Rattle.std.specs.Prelude.{◌≡◌, ℕ, ◌<◌, List, ◌++◌, get_or}
+use Rattle.std.specs.List.{flat_map, AllByRecursion}
+use Rattle.krb_walk.specs.Contents.{Contents, contents, spelling, IsSound, IsSpelled}
+use Rattle.krb_ccache.specs.declared.version.Version.{Version}
+use Rattle.krb_ccache.specs.Credential.{CredParts, credential, FitsCredential}
+use Rattle.krb_ccache.specs.Store.{credentials_format}
+
+-- numbers below 256
+abbrev pub AreBytes : List ℕ → Type 0
+AreBytes bytes = (i : ℕ) → get_or bytes i 0 < 256
+
+-- any bytes are what their contents spell
+abbrev pub IsAlwaysSpelled : Type 0
+IsAlwaysSpelled = (v : Version) (bytes : List ℕ) → AreBytes bytes → IsSpelled (credentials_format v) bytes (contents (credentials_format v) bytes)
+
+-- credentials whose spelling is a prefix of the bytes are the first: no list of them is longer
+abbrev pub IsLongest : Type 0
+IsLongest = (v : Version) (cells : List CredParts) (rest : List ℕ) → AllByRecursion (FitsCredential v) cells → AreBytes (flat_map (credential v) cells ++ rest)
+    → contents (credentials_format v) (flat_map (credential v) cells ++ rest) ≡ record { cells = cells ++ (contents (credentials_format v) rest).cells; end = (contents (credentials_format v) rest).end }
+
+-- sound contents are the only ones with their spelling
+abbrev pub IsOnlyOne : Type 0
+IsOnlyOne = (v : Version) (k : Contents CredParts (List ℕ)) → IsSound (credentials_format v) k → AreBytes (spelling (credentials_format v) k) → contents (credentials_format v) (spelling (credentials_format v) k) ≡ k

@@ -1,0 +1,10 @@
+-- What the contracts of this crate say.
+pub mod Credential
+pub mod Header
+pub mod Store
+pub mod Config
+pub mod Typed
+pub mod Open
+pub mod Laws
+-- For private contracts alone.
+pub mod Cells

@@ -1,0 +1,117 @@
+-- What a credential cache holds, and the store that it is.
+use Rattle.std.specs.Prelude.{ℕ, ◌+◌, List, [], ◌∷◌, ◌++◌, length, drop, map, slice_index, Bool, true, false, not, filter, find, Option, Some, None, Result, Ok, Err, nat_lt, ◌==◌, if◌then◌else◌}
+use Rattle.krb_wire.specs.Spelling.{Parts, cc_principal}
+use Rattle.krb_wire.specs.Reading.{cc_principal_at}
+use Rattle.krb_walk.specs.declared.fault.FaultKind.{FaultKind}
+use Rattle.krb_walk.specs.declared.fault.FaultKind.TheVariants.{BadCredential}
+use Rattle.krb_walk.specs.Contents.{Contents, Format, contents, spelling, unframed}
+use Rattle.krb_walk.specs.Store.{Cell, Store}
+use Rattle.krb_ccache.specs.declared.version.Version.{Version}
+use Rattle.krb_ccache.specs.declared.version.Version.TheVariants.{V3, V4}
+use Rattle.krb_ccache.specs.declared.open.CcOpenFault.{CcOpenFault}
+use Rattle.krb_ccache.specs.declared.open.CcOpenFault.TheVariants.{TooShort, BadVersion, TooLarge, BadHeader, BadDefault}
+use Rattle.krb_ccache.specs.Credential.{CredParts, credential, credential_at, is_marked}
+use Rattle.krb_ccache.specs.Header.{Field, header, header_at}
+
+-- credentials one after the other, until none begins the bytes that are left
+abbrev pub credentials_format : Version → Format CredParts (List ℕ)
+credentials_format v = unframed (credential_at v) (credential v)
+
+-- a cache: its version, the greatest length of its image, its header and default principal, and its credentials, removed ones too, with the bytes after them
+pub record CacheState : Type 0 where
+  pub version : Version
+  pub limit : ℕ
+  pub header : List Field
+  pub principal : Parts
+  pub contents : Contents CredParts (List ℕ)
+
+-- the second byte of an image
+abbrev pub version_byte : Version → ℕ
+version_byte V3 = 3
+version_byte V4 = 4
+
+-- the bytes that spell a cache
+abbrev pub image_of : CacheState → List ℕ
+image_of k = 5 ∷ version_byte k.version ∷ (header k.version k.header ++ (cc_principal k.principal ++ spelling (credentials_format k.version) k.contents))
+
+-- the version that the two first bytes tell
+abbrev pub version_of : List ℕ → Option Version
+version_of bytes =
+    if slice_index bytes 0 == 5
+    then (if slice_index bytes 1 == 3 then Some V3 else (if slice_index bytes 1 == 4 then Some V4 else None))
+    else None
+
+-- the cache whose header was read, by the default principal that stands after it
+abbrev pub open_default : Version → ℕ → List Field → Option (Parts × List ℕ) → Result CacheState CcOpenFault
+open_default v limit xs None = Err BadDefault
+open_default v limit xs (Some p) = Ok (record { version = v; limit = limit; header = xs; principal = p.0; contents = contents (credentials_format v) p.1 })
+
+-- the cache of a version, by the header that was read
+abbrev pub open_header : Version → ℕ → Option (List Field × List ℕ) → Result CacheState CcOpenFault
+open_header v limit None = Err BadHeader
+open_header v limit (Some h) = open_default v limit h.0 (cc_principal_at h.1)
+
+-- the cache of a version, if its image is not too long
+abbrev pub open_version : ℕ → List ℕ → Option Version → Result CacheState CcOpenFault
+open_version limit bytes None = Err BadVersion
+open_version limit bytes (Some v) = if nat_lt limit (length bytes) then Err TooLarge else open_header v limit (header_at v (drop 2 bytes))
+
+-- the cache that an image is: fewer than two bytes are too short, then the version counts, the length, the header, and the default principal
+abbrev pub open_result : ℕ → List ℕ → Result CacheState CcOpenFault
+open_result limit bytes = if nat_lt (length bytes) 2 then Err TooShort else open_version limit bytes (version_of bytes)
+
+-- ---- as a store
+
+-- the bytes of a live cell, by whether it is marked as removed
+abbrev pub live_by : Bool → List ℕ → Option (List ℕ)
+live_by true bytes = None
+live_by false bytes = Some bytes
+
+-- a credential as a store has it: free exactly where it is marked
+abbrev pub store_cell : Version → CredParts → Cell
+store_cell v c = record { width = length (credential v c); live = live_by (is_marked c) (credential v c) }
+
+-- what is wrong where the credentials end: bytes that begin with none
+abbrev pub kind_of : List ℕ → Option FaultKind
+kind_of [] = None
+kind_of (b ∷ bs) = Some BadCredential
+
+-- the place after the default principal
+abbrev pub first_place : CacheState → ℕ
+first_place k = 2 + length (header k.version k.header) + length (cc_principal k.principal)
+
+-- the store that a cache is
+abbrev pub store_of : CacheState → Store
+store_of k = record { first = first_place k; cells = map (store_cell k.version) k.contents.cells; fault = kind_of k.contents.end }
+
+-- ---- its credentials
+
+-- the place of a credential, and the credential
+abbrev pub PlacedCredential : Type 0
+PlacedCredential = ℕ × CredParts
+
+-- credentials with their places, where the first has that one
+abbrev pub placed_from : Version → ℕ → List CredParts → List PlacedCredential
+placed_from v at [] = []
+placed_from v at (c ∷ cs) = (at, c) ∷ placed_from v (at + length (credential v c)) cs
+
+-- it bears no mark
+abbrev pub is_live : PlacedCredential → Bool
+is_live x = not (is_marked x.1)
+
+-- the live credentials with their places, in file order
+abbrev pub placed_credentials : CacheState → List PlacedCredential
+placed_credentials k = filter is_live (placed_from k.version (first_place k) k.contents.cells)
+
+-- a credential that bears no mark
+abbrev pub if_live : CredParts → Option CredParts
+if_live c = if is_marked c then None else Some c
+
+-- the credential of a cell, if there is one and it is live
+abbrev pub live_of : Option PlacedCredential → Option CredParts
+live_of None = None
+live_of (Some x) = if_live x.1
+
+-- the live credential at a place, if one stands there
+abbrev pub credential_at_place : CacheState → ℕ → Option CredParts
+credential_at_place k p = live_of (find (λ x. x.0 == p) (placed_from k.version (first_place k) k.contents.cells))

@@ -1,0 +1,189 @@
+//! Caches, kept as their images.
+
+ghost use Rattle.std.specs.Prelude.{◌≡◌, IsSome, IfOk, IfErr, IfSome, IfNone, Ok, Err, Some, None, option_copied, vec_capacity};
+ghost use Rattle.krb_wire.specs.Reading.{Gives};
+ghost use Rattle.krb_walk.specs.Store.{end_of, fault_of, is_place, stop_at, live_bytes, IsPlace, IsSound as IsSoundStore};
+ghost use Rattle.krb_ccache.specs.Credential.{credential};
+ghost use Rattle.krb_ccache.specs.Header.{offset_in};
+ghost use Rattle.krb_ccache.specs.Store.{open_result, image_of, store_of, placed_credentials, credential_at_place};
+ghost use Rattle.krb_ccache.specs.Config.{config_of};
+ghost use Rattle.krb_ccache.specs.Open.{InMemory, Reopens};
+
+use crate::config::is_asked;
+use crate::credential::CredView;
+use crate::credentials::Credentials;
+use crate::offset::Offset;
+use crate::open::{CcOpenRefused, Head, read_head, spelled_of};
+use crate::view::CacheView;
+use krb_walk::{Fault, Stop};
+use krb_wire::{Limits, PrincipalView};
+use std::alloc::Allocator;
+use std::marker::Model;
+
+/// A cache: the bytes of its image, and where its parts stand. Contracts see its state, which is its version,
+/// its limit, and the one header, default principal and list of credentials that the image spells; and beside it
+/// how many bytes it has room for. A call that takes no memory keeps the room.
+#[derive(Drop)]
+pub struct Ccache<A: Allocator> {
+    image: Vec<u8, A>,
+    head: Head,
+}
+
+impl<A: Allocator> Model for Ccache<A> {
+    ghost use Rattle.std.specs.Prelude.{vec_capacity};
+    ghost use Rattle.krb_ccache.specs.Config.{config_of};
+    ghost use Rattle.krb_ccache.specs.Open.{InMemory, IsImage, held};
+
+    ghost Value = { InMemory };
+
+    ghost view = { λ k. record {
+      state = held k.head.version k.head.limit k.image.items k.head.places;
+      room = vec_capacity k.image;
+    } };
+
+    ghost invariant = { λ k. IsImage k.head.version k.head.limit k.image.items k.head.places };
+}
+
+impl<A: Allocator> Ccache<A> {
+    /// The cache that an image is. A damaged one opens too, with the credentials before its fault. Each
+    /// credential is read once, and no memory is taken.
+    pub fn open(image: Vec<u8, A>, limits: Limits) -> Result<Ccache<A>, CcOpenRefused<A>>
+        ensures ok { IfOk result (λ k. open_result limits image.items ≡ Ok k.state) }
+        // The bytes are kept as they are.
+        ensures kept { IfOk result (λ k. image_of k.state ≡ image.items) }
+        ensures room { IfOk result (λ k. k.room ≡ vec_capacity image) }
+        ensures err { IfErr result (λ e. (open_result limits image.items ≡ Err e.why)
+            × (e.image ≡ image)) }
+    {
+        match read_head(limits.image(), &image) {
+            Ok(head) => {
+                let _ = spelled_of(head, &image);
+                Ok(Ccache { image, head })
+            }
+            Err(why) => Err(CcOpenRefused { why, image }),
+        }
+    }
+
+    // Its image, and what is known of it.
+    pub(crate) fn view(&self) -> CacheView<'_>
+        ensures { result ≡ self.now.state }
+    {
+        CacheView {
+            head: self.head,
+            image: &self.image,
+        }
+    }
+
+    /// The bytes that spell it.
+    pub fn image(&self) -> &[u8]
+        ensures spelled { result.now ≡ image_of self.now.state }
+        // It is opened as this cache again.
+        ensures reopens { Reopens self.now.state result.now }
+    {
+        self.view().spelled()
+    }
+
+    /// The bytes that spell it, in the memory that they were opened in.
+    pub fn into_image(self) -> Vec<u8, A>
+        ensures spelled { result.items ≡ image_of self.state }
+        ensures reopens { Reopens self.state result.items }
+        ensures room { vec_capacity result ≡ self.room }
+    {
+        let _ = spelled_of(self.head, &self.image);
+        let Ccache { image, head: _ } = self;
+        image
+    }
+
+    /// Whose cache it is.
+    pub fn default_principal(&self) -> PrincipalView<'_>
+        ensures { result ≡ self.now.state.principal }
+    {
+        self.view().default_principal()
+    }
+
+    /// The time offset of the KDC, where a version 4 header tells it.
+    pub fn offset(&self) -> Option<Offset>
+        ensures { result ≡ offset_in self.now.state.header }
+    {
+        self.view().offset()
+    }
+
+    /// The place after the default principal.
+    pub fn first(&self) -> u32
+        ensures first { result ≡ (store_of self.now.state).first }
+        ensures sound { IsSoundStore (store_of self.now.state) }
+    {
+        self.view().first()
+    }
+
+    /// The place after the last credential.
+    pub fn end(&self) -> u32
+        ensures { result ≡ end_of (store_of self.now.state) }
+    {
+        self.view().end()
+    }
+
+    /// Bytes that begin with no credential, after the last one.
+    pub fn fault(&self) -> Option<Fault>
+        ensures { result ≡ fault_of (store_of self.now.state) }
+    {
+        self.view().fault()
+    }
+
+    /// Is true of the place of each credential, removed ones too, and of `end()`. It reads from the front.
+    pub fn is_place(&self, place: u32) -> bool
+        ensures { result ≡ is_place (store_of self.now.state) place }
+    {
+        self.view().cells().is_place(place as usize)
+    }
+
+    /// The first credential at or after a place that is not removed, or what ends the credentials. It reads from
+    /// that place on.
+    pub fn stop_at(&self, place: u32) -> Stop
+        requires { IsPlace (store_of self.now.state) place }
+        ensures { result ≡ stop_at (store_of self.now.state) place }
+    {
+        self.view().stop_at(place)
+    }
+
+    /// The bytes of the credential at a place, which is not removed. It reads that one.
+    pub fn bytes_at(&self, place: u32) -> &[u8]
+        requires { IsSome (live_bytes (store_of self.now.state) place) }
+        ensures { live_bytes (store_of self.now.state) place ≡ Some result.now }
+    {
+        self.view().bytes_at(place)
+    }
+
+    /// The credentials with their places, in file order, up to the end or the fault, without those that are
+    /// removed.
+    pub fn credentials(&self) -> Credentials<'_>
+        ensures { result ≡ placed_credentials self.now.state }
+    {
+        Credentials::of(self.view().cells())
+    }
+
+    /// The credential at a place: none exactly where no live cell stands. It reads from the front; to go through
+    /// all, take `credentials`.
+    pub fn cred_at(&self, place: u32) -> Option<CredView<'_>>
+        ensures none { IfNone result (live_bytes (store_of self.now.state) place ≡ None) }
+        ensures found { IfSome result (λ c. live_bytes (store_of self.now.state) place
+            ≡ Some (credential self.now.state.version c)) }
+        ensures exact { result ≡ credential_at_place self.now.state place }
+    {
+        self.view().cells().find(place as usize)
+    }
+
+    /// The value of the first configuration entry of the default principal for a key and a principal's text, or
+    /// for the key alone. One pass, without copies.
+    pub fn config(&self, key: &[u8], principal: Option<&[u8]>) -> Option<&[u8]>
+        ensures { option_copied result ≡ config_of self.now.state key.now (option_copied principal.entry) }
+    {
+        let owner = self.default_principal();
+        for (_, credential) in self.credentials() {
+            if is_asked(&owner, key, principal, &credential) {
+                return Some(credential.ticket());
+            }
+        }
+        None
+    }
+}

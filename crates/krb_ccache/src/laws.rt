@@ -1,0 +1,11 @@
+//! Laws of the definitions that the contracts cite.
+
+ghost use Rattle.krb_ccache.specs.Laws.{IsAlwaysSpelled, IsLongest, IsOnlyOne};
+
+/// The credentials of a cache and what follows them are one list and one end, and no longer list of credentials
+/// stands at its front.
+pub fn one_reading()
+    ensures spelled { IsAlwaysSpelled }
+    ensures longest { IsLongest }
+    ensures only { IsOnlyOne }
+{}

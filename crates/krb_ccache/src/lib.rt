@@ -1,0 +1,30 @@
+//! Credential cache images: a cache is a header, a default principal and a list of credentials.
+#![tactic(auto)]
+
+mod ccache;
+mod cells;
+mod config;
+mod credential;
+mod credentials;
+mod header;
+mod key;
+mod laws;
+mod offset;
+mod open;
+mod times;
+mod typed;
+mod version;
+mod view;
+
+pub use ccache::Ccache;
+pub use config::is_config;
+pub use credential::CredView;
+pub use credentials::Credentials;
+pub use laws::one_reading;
+pub use offset::Offset;
+pub use open::{CcOpenFault, CcOpenRefused};
+pub use times::Times;
+pub use version::Version;
+
+#[cfg(test)]
+mod tests;

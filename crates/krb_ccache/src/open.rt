@@ -1,0 +1,154 @@
+//! Which images are caches.
+
+ghost use Rattle.std.specs.Prelude.{◌≡◌, ◌≤◌, ℕ, length, drop, IfOk, IfErr, Ok, Err};
+ghost use Rattle.krb_ccache.specs.Header.{header_at};
+ghost use Rattle.krb_ccache.specs.Store.{version_of, open_header, open_result, image_of};
+ghost use Rattle.krb_ccache.specs.Open.{open_fault_number, held, cells_len, ArePlaces, IsImage, Reopens};
+
+use crate::cells::bytes_fit;
+use crate::credential::split_credential;
+use crate::header::skip_header;
+use crate::version::Version;
+use krb_wire::{split_cc_principal, tail};
+use std::alloc::Allocator;
+
+/// Why an image is no cache.
+#[derive(Clone, Copy, Debug, PartialEq, Eq)]
+pub enum CcOpenFault {
+    /// It has fewer than two bytes.
+    TooShort,
+    /// Its first byte is not 5, or its second neither 3 nor 4.
+    BadVersion,
+    /// It is longer than the limit.
+    TooLarge,
+    /// Its header does not fit it, or fields do not fill the header exactly.
+    BadHeader,
+    /// No default principal stands after the header.
+    BadDefault,
+}
+
+impl CcOpenFault {
+    /// Its number, as messages have it.
+    pub fn number(self) -> u32
+        ensures { result ≡ open_fault_number self }
+    {
+        match self {
+            CcOpenFault::TooShort => 1,
+            CcOpenFault::BadVersion => 2,
+            CcOpenFault::TooLarge => 3,
+            CcOpenFault::BadHeader => 4,
+            CcOpenFault::BadDefault => 5,
+        }
+    }
+}
+
+/// An image that is no cache, handed back as it was.
+#[derive(Drop)]
+pub struct CcOpenRefused<A: Allocator> {
+    pub why: CcOpenFault,
+    pub image: Vec<u8, A>,
+}
+
+/// Where the default principal and the first credential of an image stand, and where the credentials end.
+#[derive(Clone, Copy, Debug, PartialEq, Eq)]
+pub struct Places {
+    pub principal: usize,
+    pub first: usize,
+    pub end: usize,
+}
+
+/// What is known of an image that is a cache.
+#[derive(Clone, Copy, Debug, PartialEq, Eq)]
+pub struct Head {
+    pub version: Version,
+    pub limit: u32,
+    pub places: Places,
+}
+
+// The version that the two first bytes tell.
+fn version_in(image: &[u8]) -> Option<Version>
+    requires { 2 ≤ length image.now }
+    ensures { result ≡ version_of image.now }
+{
+    if image[0] != 5 {
+        return None;
+    }
+    match image[1] {
+        3 => Some(Version::V3),
+        4 => Some(Version::V4),
+        _ => None,
+    }
+}
+
+// How many bytes the credentials take that the bytes begin with. Each is read once.
+fn len_of_cells(version: Version, bytes: &[u8]) -> usize
+    ensures value { result ≡ cells_len version bytes.now }
+    ensures within { result ≤ length bytes.now }
+{
+    let mut rest = bytes;
+    while let Some((_, after)) = split_credential(version, rest) {
+        rest = after;
+    }
+    bytes.len() - rest.len()
+}
+
+// Where the parts of an image of a version stand.
+fn read_places(version: Version, image: &[u8]) -> Result<Places, CcOpenFault>
+    requires { 2 ≤ length image.now }
+    ensures ok { IfOk result (ArePlaces version image.now) }
+    ensures err { IfErr result (λ why. (limit : ℕ)
+        → open_header version limit (header_at version (drop 2 image.now)) ≡ Err why) }
+{
+    bytes_fit(image);
+    let rest = tail(image, 2);
+    let Some(after) = skip_header(version, rest) else {
+        return Err(CcOpenFault::BadHeader);
+    };
+    let Some((_, cells)) = split_cc_principal(after) else {
+        return Err(CcOpenFault::BadDefault);
+    };
+    let len = len_of_cells(version, cells);
+    let principal = image.len() - after.len();
+    let first = image.len() - cells.len();
+    Ok(Places {
+        principal,
+        first,
+        end: first + len,
+    })
+}
+
+/// Reads an image. Each credential is read once; there are only bytes here, and nothing to take memory from.
+pub fn read_head(limit: u32, image: &[u8]) -> Result<Head, CcOpenFault>
+    requires { limit ≤ 1073741824 }
+    ensures ok { IfOk result (λ h. open_result limit image.now
+        ≡ Ok (held h.version h.limit image.now h.places)) }
+    ensures kept { IfOk result (λ h. IsImage h.version h.limit image.now h.places) }
+    ensures err { IfErr result (λ why. open_result limit image.now ≡ Err why) }
+{
+    if image.len() < 2 {
+        return Err(CcOpenFault::TooShort);
+    }
+    let Some(version) = version_in(image) else {
+        return Err(CcOpenFault::BadVersion);
+    };
+    if image.len() > limit as usize {
+        return Err(CcOpenFault::TooLarge);
+    }
+    let places = read_places(version, image)?;
+    Ok(Head {
+        version,
+        limit,
+        places,
+    })
+}
+
+/// The image, as what it spells.
+pub fn spelled_of(head: Head, image: &[u8]) -> &[u8]
+    requires { IsImage head.version head.limit image.now head.places }
+    ensures same { result.now ≡ image.now }
+    ensures spelled { result.now ≡ image_of (held head.version head.limit image.now head.places) }
+    ensures reopens { Reopens (held head.version head.limit image.now head.places) result.now }
+{
+    bytes_fit(image);
+    image
+}
