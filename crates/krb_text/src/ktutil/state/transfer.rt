@@ -49,8 +49,8 @@ impl<A: Allocator + Copy> Ktutil<A> {
         }
     }
 
-    /// Appends the entries of a file.
-    pub fn read<F: Files>(&mut self, files: &mut F, name: &str) -> LineEnd
+    // Appends the entries of a file.
+    pub(crate) fn read<F: Files>(&mut self, files: &mut F, name: &str) -> LineEnd
         ensures { HandlesQuietly F.Files (command_plan self.old (Ok (ReadFile name.now)))
             files.old files.new self.old self.new result }
     {
@@ -66,8 +66,8 @@ impl<A: Allocator + Copy> Ktutil<A> {
         }
     }
 
-    /// Adds the list to a file.
-    pub fn write<F: Files>(&self, files: &mut F, name: &str) -> LineEnd
+    // Adds the list to a file.
+    pub(crate) fn write<F: Files>(&self, files: &mut F, name: &str) -> LineEnd
         ensures { HandlesQuietly F.Files (command_plan self.now (Ok (WriteFile name.now)))
             files.old files.new self.now self.now result }
     {
