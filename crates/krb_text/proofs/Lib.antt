@@ -18,3 +18,4 @@ pub mod WordLemmas
 pub mod KtutilLists
 pub mod KtutilHandles
 pub mod KtutilOptions
+pub mod KtutilDue

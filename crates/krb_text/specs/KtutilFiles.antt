@@ -1,5 +1,5 @@
 -- What the plan of a line of ktutil comes to with files, honest or not.
-use Rattle.std.specs.Prelude.{◌≡◌, ◌⊎◌, ℕ, List, [], ◌++◌, Result, Err, OnOk, OnErr}
+use Rattle.std.specs.Prelude.{◌≡◌, ◌⊎◌, ◌≤◌, ℕ, List, [], ◌++◌, Result, Err, OnOk, OnErr}
 use Rattle.krb_wire.specs.declared.format.Order.{Order}
 use Rattle.krb_walk.specs.declared.refusal.Code.{Code}
 use Rattle.krb_walk.specs.declared.refusal.Refusal.{Refusal}
@@ -58,6 +58,7 @@ module _ {F : Type 0} (trait : Ghosts F) where
   pub record LoadsFile (old : F) (name : List ℕ) (answer : Result (List ℕ) LoadFault) (new : F) : Type 0 where
     pub answered : trait.answers old name most_bytes answer new
     pub failed : answer ≡ Err load.Failed → CountsFailure (trait.failure_count old) (trait.failure_count new)
+    pub count : trait.failure_count old ≤ trait.failure_count new
     pub honest : trait.is_honest old → trait.is_honest new
     pub same : trait.is_honest old → SameFiles (trait.file old) (trait.file new)
     pub stands : trait.is_honest old → (answer ≡ Err load.Failed) ⊎ (answer ≡ Err load.NoMemory) ⊎ (answer ≡ loaded (trait.file old name) most_bytes)
@@ -66,6 +67,7 @@ module _ {F : Type 0} (trait : Ghosts F) where
   pub record SavesFile (old : F) (name bytes : List ℕ) (answer : Result (Unit {0}) SaveFault) (new : F) : Type 0 where
     pub answered : trait.saves old name bytes answer new
     pub failed : answer ≡ Err save.Failed → CountsFailure (trait.failure_count old) (trait.failure_count new)
+    pub count : trait.failure_count old ≤ trait.failure_count new
     pub honest : trait.is_honest old → trait.is_honest new
     pub sets : trait.is_honest old → OnOk answer (SetsFile (trait.file old) name bytes (trait.file new))
     pub same : trait.is_honest old → OnErr answer (SameFiles (trait.file old) (trait.file new))

@@ -21,3 +21,4 @@ pub mod KtutilWords
 pub mod KtutilCommand
 pub mod Ktutil
 pub mod KtutilFiles
+pub mod KtutilHonest

@@ -1,9 +1,10 @@
-//! Listings, found entries, replies and scripts. Images and texts are spelled out by hand.
+//! Listings, found entries, replies, scripts and the lines of ktutil. Images and texts are spelled out by hand.
 
 mod allocations;
 mod columns;
 mod found;
 mod keytabs;
+mod ktutil;
 mod listings;
 mod replies;
 mod scripts;

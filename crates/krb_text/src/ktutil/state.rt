@@ -1,25 +1,25 @@
 //! The list of entries that the lines of ktutil change.
 
-ghost use Rattle.std.specs.Prelude.{Some, IsSome, IfSome, ◌≡◌, [], None, is_some, length};
+mod transfer;
+
+ghost use Rattle.std.specs.Prelude.{Some, IsSome, IfSome, ◌≡◌, ◌≤◌, [], None, is_some, length};
 ghost use Rattle.krb_text.specs.KtutilWords.{words};
-ghost use Rattle.krb_text.specs.KtutilCommand.{ReadFile, WriteFile, ClearList, Quit, alone, listing, addition, deletion, command_by, command_of};
-ghost use Rattle.krb_text.specs.Ktutil.{KtutilState, with_entries, written_to, with_key, command_plan, plan_of};
-ghost use Rattle.krb_text.specs.KtutilFiles.{Ended, EndsAt, Finishes, GoesOn, Handles, HandlesQuietly};
+ghost use Rattle.krb_text.specs.KtutilCommand.{ClearList, Quit, alone, listing, addition, deletion, command_by, command_of};
+ghost use Rattle.krb_text.specs.Ktutil.{KtutilState, with_key, command_plan, plan_of};
+ghost use Rattle.krb_text.specs.KtutilFiles.{Ended, EndsAt, Finishes, Handles};
+ghost use Rattle.krb_text.specs.KtutilHonest.{HandlesHonestly, Spares};
 
 use crate::files::Files;
 use crate::ktutil::addition::Addition;
 use crate::ktutil::command::{columns, file_name, is_bare, slot};
-use crate::ktutil::entries::{add_all, copy_entries};
 use crate::ktutil::key::key_of;
 use crate::ktutil::line_end::LineEnd;
-use crate::ktutil::load::{load_keytab, load_or_new, save_keytab};
 use crate::ktutil::options::addition;
 use crate::ktutil::verb::{Verb, verb_of};
 use crate::ktutil::words::next_word;
 use crate::line_fault::{LineFault, LineRefusal};
 use crate::slots::list_slots;
-use krb_keytab::{Keytab, NewEntry};
-use krb_walk::{Code, Refusal};
+use krb_keytab::NewEntry;
 use krb_wire::Order;
 use std::alloc::Allocator;
 use std::marker::Model;
@@ -168,70 +168,6 @@ impl<A: Allocator + Copy> Ktutil<A> {
     }
 }
 
-// Adds entries to a keytab, and saves it under a name.
-fn write_to<A: Allocator, B: Allocator, F: Files>(
-    entries: &[NewEntry<A>],
-    files: &mut F,
-    name: &str,
-    keytab: Keytab<B>,
-) -> LineEnd
-    ensures { (s : KtutilState) → s.entries ≡ entries.now →
-        GoesOn F.Files (written_to s name.now (Ok keytab.state)) files.old files.new s s result }
-{
-    let mut keytab = keytab;
-    match add_all(&mut keytab, entries) {
-        Ok(()) => save_keytab(files, name, &keytab),
-        Err(Refusal::Code(code)) => LineEnd::Refused(code),
-        Err(Refusal::NoMemory) => LineEnd::NoMemory,
-    }
-}
-
-impl<A: Allocator + Copy> Ktutil<A> {
-    // Appends the entries of a keytab, each with memory of its own; a damaged one gives none.
-    fn take_entries<B: Allocator>(&mut self, keytab: &Keytab<B>) -> LineEnd
-        ensures { Finishes (with_entries self.old (Ok keytab.now.state)) self.old self.new result }
-    {
-        if keytab.fault().is_some() {
-            return LineEnd::Refused(Code::Damaged);
-        }
-        let Ok(mut copies) = copy_entries(self.alloc, keytab) else {
-            return LineEnd::NoMemory;
-        };
-        match self.entries.append(&mut copies) {
-            Ok(()) => LineEnd::Done,
-            Err(_) => LineEnd::NoMemory,
-        }
-    }
-
-    // Appends the entries of a file.
-    fn read<F: Files>(&mut self, files: &mut F, name: &str) -> LineEnd
-        ensures { HandlesQuietly F.Files (command_plan self.old (Ok (ReadFile name.now)))
-            files.old files.new self.old self.new result }
-    {
-        let loaded: Result<Keytab<A>, LineEnd> = load_keytab(
-            self.alloc,
-            self.v1_order,
-            files,
-            name,
-        );
-        match loaded {
-            Ok(keytab) => self.take_entries(&keytab),
-            Err(ending) => ending,
-        }
-    }
-
-    // Adds the list to a file.
-    fn write<F: Files>(&self, files: &mut F, name: &str) -> LineEnd
-        ensures { HandlesQuietly F.Files (command_plan self.now (Ok (WriteFile name.now)))
-            files.old files.new self.now self.now result }
-    {
-        match load_or_new(self.alloc, self.v1_order, files, name) {
-            Ok(keytab) => write_to(&self.entries, files, name, keytab),
-            Err(ending) => ending,
-        }
-    }
-}
-
 // Ends the lines.
 fn quit(rest: &[u8]) -> LineEnd
     ensures { (s : KtutilState) → Ended (command_plan s (alone Quit (words rest.now))) s result }
@@ -295,8 +231,13 @@ impl<A: Allocator + Copy> Ktutil<A> {
         now: u32,
         out: &mut Vec<u8, A>,
     ) -> LineEnd
-        ensures { Handles F.Files (plan_of self.old now line.now)
+        ensures handles { Handles F.Files (plan_of self.old now line.now)
             files.old files.new self.old self.new out.old.items out.new.items result }
+        ensures honest { F.Files.is_honest files.old
+            → HandlesHonestly F.Files (plan_of self.old now line.now)
+            files.old files.new self.old self.new out.old.items out.new.items result }
+        ensures spared { Spares F.Files files.old files.new self.old self.new result }
+        ensures count { F.Files.failure_count files.old ≤ F.Files.failure_count files.new }
     {
         if self.pending() {
             return self.take_key(line, now);
