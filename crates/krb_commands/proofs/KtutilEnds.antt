@@ -18,7 +18,8 @@ use Rattle.krb_text.specs.KtutilWords.{words, second}
 use Rattle.krb_text.specs.KtutilCommand.{Awaited, Command, Skip, ListSlots, ReadFile, WriteFile, AwaitKey, DeleteSlot, ClearList, Quit, command_of}
 use Rattle.krb_text.specs.Ktutil.{KtutilState, Plan, Ends, Loads, Saves, most_bytes, opened, keytab_of, keytab_or_new, with_entries, with_added, saved_as, save_end, written_to, with_key, key_line, command_plan, plan_by, plan_of}
 use Rattle.krb_text.specs.KtutilFiles.{Shows, Follows, Handles}
-use Rattle.krb_commands.specs.Ktutil.{ending_run, line_end_run, goes_on, HandlesLine, HandlesNext, Talk}
+use Rattle.krb_commands.specs.KtutilTalk.{ending_run, line_end_run, goes_on, HandlesLine, Talk}
+use Rattle.krb_commands.specs.Ktutil.{HandlesNext}
 use Rattle.krb_commands.specs.Runs.{EndsRun}
 
 -- an end that is told as want of memory only where it is one

@@ -10,7 +10,9 @@ use Rattle.krb_text.specs.Bytes.{Watch}
 use Rattle.krb_commands.specs.Input.{input_run}
 use Rattle.krb_commands.specs.InputLines.{InputParts, lines_of, HasLines, KeepsLines, TakesLine, Grows, IsWithin}
 use Rattle.krb_commands.specs.KeytabFile.{most_bytes}
-use Rattle.krb_commands.specs.Ktutil.{Talk, first_talk, AreFirst, Continues, Stops, TalksOver, RunsKtutil}
+use Rattle.krb_commands.specs.KtutilTalk.{Talk, first_talk, AreFirst, Continues, Stops, TalksOver}
+use Rattle.krb_commands.specs.Ktutil.{RunsKtutil}
+use Rattle.krb_commands.proofs.KtutilHonestly.{honest_after, honest_in_line, honest_unread}
 use Rattle.krb_commands.specs.Reader.{ConsumesAtMost}
 use Rattle.krb_commands.specs.Runs.{Says}
 use Rattle.krb_commands.proofs.Reading.{Consumes-trans}
@@ -139,6 +141,7 @@ module _ {F : Type 0} (trait : Ghosts F) (now : ℕ) (given : Option (List ℕ))
       state = talk.state;
       talked = u.talked;
       ends = inl (record { all = none_more given u.lines (u.to_come [] has); same = refl });
+      honest = honest_after trait now given u.lines (first_talk order files out err) talk u.talked (u.to_come [] has);
       taken = taken left left' old new u.consumes grows within;
     }
 
@@ -154,6 +157,8 @@ module _ {F : Type 0} (trait : Ghosts F) (now : ℕ) (given : Option (List ℕ))
         first = ToCome-first given (u.lines ++ new.line ∷ []) new left' (ToCome-line given u.lines old new left left' u.to_come takes);
         stops = subst (λ (n : ℕ). Stops trait now (n + 1) new.line talk talk') u.counted stops;
       }));
+      honest = honest_in_line trait now given u.lines (first_talk order files out err) talk u.talked new.line talk' (ToCome-first given (u.lines ++ new.line ∷ []) new left' (ToCome-line given u.lines old new left left' u.to_come takes))
+          (subst (λ (n : ℕ). Stops trait now (n + 1) new.line talk talk') u.counted stops);
       taken = taken left left' old new u.consumes grows within;
     }
 
@@ -175,5 +180,6 @@ module _ {F : Type 0} (trait : Ghosts F) (now : ℕ) (given : Option (List ℕ))
         files = refl;
         out = refl;
       }));
+      honest = honest_unread trait now given u.lines (first_talk order files out err) talk u.talked fault (ToCome-first given u.lines new left' (λ more has. u.to_come more (keeps more has))) err' status said worst;
       taken = taken left left' old new u.consumes grows within;
     }

@@ -7,4 +7,5 @@ pub mod Ends
 pub mod KeytabFile
 pub mod EditLemmas
 pub mod KtutilEnds
+pub mod KtutilHonestly
 pub mod KtutilLemmas

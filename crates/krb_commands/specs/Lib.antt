@@ -8,6 +8,8 @@ pub mod InputLines
 pub mod Klist
 pub mod Ktfind
 pub mod Ktedit
+pub mod KtutilTalk
+pub mod KtutilDue
 pub mod Ktutil
 pub mod Edits
 pub mod Options

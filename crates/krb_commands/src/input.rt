@@ -2,7 +2,7 @@
 
 ghost use Rattle.std.specs.Prelude.{◌≡◌};
 ghost use Rattle.krb_commands.specs.Input.{input_run, line_run, refusal_run};
-ghost use Rattle.krb_commands.specs.Ktutil.{refused_run};
+ghost use Rattle.krb_commands.specs.KtutilTalk.{refused_run};
 ghost use Rattle.krb_commands.specs.Runs.{Says};
 
 use crate::messages::{complain, complain_of_line};

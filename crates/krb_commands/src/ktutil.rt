@@ -2,7 +2,8 @@
 
 ghost use Rattle.std.specs.Prelude.{◌≡◌, [], None, IsFalse};
 ghost use Rattle.krb_text.specs.KtutilWords.{words, second};
-ghost use Rattle.krb_commands.specs.Ktutil.{ending_run, line_end_run, goes_on, HandlesNext, RunsKtutil};
+ghost use Rattle.krb_commands.specs.Ktutil.{HandlesNext, RunsKtutil};
+ghost use Rattle.krb_commands.specs.KtutilTalk.{ending_run, line_end_run, goes_on};
 ghost use Rattle.krb_commands.specs.Runs.{EndsRun, Says};
 
 use crate::input::{refuse_input, refuse_line, refuse_line_code};

@@ -1,6 +1,6 @@
 use Rattle.std.proofs.Common.{ap, ◌∙◌}
 use Rattle.std.specs.Prelude.{max, Err}
-use Rattle.krb_commands.specs.Ktutil.{first_talk}
+use Rattle.krb_commands.specs.KtutilTalk.{first_talk}
 use Rattle.krb_commands.proofs.KtutilLemmas.{Underway-first, Underway-line, RunsKtutil-after, RunsKtutil-in_line, RunsKtutil-unread}
 use Rattle.krb_commands.proofs.ktutil.run_ktutil.Goals as goal
 

@@ -1,5 +1,5 @@
 use Rattle.std.proofs.Common.{◌-◌}
-use Rattle.krb_commands.specs.Ktutil.{first_talk}
+use Rattle.krb_commands.specs.KtutilTalk.{first_talk}
 use Rattle.krb_commands.proofs.KtutilLemmas.{Underway}
 use Rattle.krb_commands.proofs.ktutil.run_ktutil.Given as goal
 

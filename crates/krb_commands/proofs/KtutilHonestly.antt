@@ -1,0 +1,223 @@
+-- What the lines of ktutil come to over honest files.
+use Rattle.std.proofs.Common.{◌≡◌, ◌≢◌, ◌⊎◌, inl, inr, ℕ, ◌+◌, ◌<◌, ◌≤◌, ◌-◌, ◌^◌, Bool, true, false, List, [], ◌∷◌, ◌++◌, length, refl, sym, ap, subst, ◌∙◌, append_assoc, append-nil, arith}
+use Rattle.std.specs.Prelude.{IsTrue, IsFalse, max, if◌then◌else◌, Option, None, Some, IfSome}
+use Rattle.std.specs.Io.KnownBytes.{Appends}
+use Rattle.std.proofs.lemmas.Bool.{false≢true, cases_lt, cases_eq}
+use mathlib.Core.Path.{fun_ext}
+use Rattle.krb_text.specs.declared.files.Files.{Ghosts}
+use Rattle.krb_text.specs.declared.ktutil.line_end.LineEnd.{LineEnd}
+use Rattle.krb_text.specs.declared.ktutil.line_end.LineEnd.TheVariants as end
+use Rattle.krb_text.specs.Bytes.{Watch}
+use Rattle.krb_text.specs.Files.{FileMap, CountsFailure}
+use Rattle.krb_text.specs.Ktutil.{KtutilState, plan_of}
+use Rattle.krb_text.specs.KtutilHonest.{Followed, follow, ShowsDue, HandlesHonestly}
+use Rattle.krb_text.proofs.Prefixes.{Appends-nil, Appends-trans}
+use Rattle.krb_text.proofs.KtutilDue.{handles_honestly, handles_count}
+use Rattle.krb_text.specs.declared.files.LoadFault.{LoadFault}
+use Rattle.krb_commands.specs.Input.{input_run}
+use Rattle.krb_commands.specs.InputLines.{lines_of}
+use Rattle.krb_commands.specs.KtutilTalk.{Talk, quiet_run, line_end_run, goes_on, AreFirst, Continues, Stops, TalksOver}
+use Rattle.krb_commands.specs.KtutilDue.{TalkDue, last_due, due_after, talk_due, GivesLines, LeavesDue, LeavesDueUnlessFailed, TalksHonestly}
+use Rattle.krb_commands.specs.Runs.{Run, Says, EndsRun}
+use Rattle.krb_commands.proofs.Ends.{Says-nothing}
+use Rattle.krb_commands.proofs.EditLemmas.{unread_is_told}
+
+-- a failure that was counted later counts, and one that was counted before
+counts_split : (a b c : ℕ) → a ≤ b → b ≤ c → b ≡ 2 ^ 64 - 1 → (a < b) ⊎ (b ≤ a) → CountsFailure a c
+counts_split a b c le le' most (inl lt) = inl (omega (arith, lt, le'))
+counts_split a b c le le' most (inr ge) = inr (omega (arith, le, ge, most))
+
+counts_later : (a b c : ℕ) → a ≤ b → b ≤ c → CountsFailure b c → CountsFailure a c
+counts_later a b c le le' (inl lt) = inl (omega (arith, le, lt))
+counts_later a b c le le' (inr most) = counts_split a b c le le' most (cases_lt a b)
+
+counts_before : (a b c : ℕ) → b ≤ c → CountsFailure a b → CountsFailure a c
+counts_before a b c le (inl lt) = inl (omega (arith, le, lt))
+counts_before a b c le (inr most) = inr most
+
+-- a line that quits or misses memory is the last
+memory_stops : (ending : LineEnd) → ending ≡ end.NoMemory → IsTrue (goes_on ending) → ⊥
+memory_stops ending is goes = false≢true (subst (λ (e : LineEnd). IsTrue (goes_on e)) is goes)
+
+-- what a plan comes to, by its parts
+followed_is : (f : Followed) (state : KtutilState) (text : List ℕ) (ending : LineEnd) (files : FileMap) → state ≡ f.outcome.state → text ≡ f.outcome.text → ending ≡ f.outcome.ending → files ≡ f.files
+    → f ≡ record { outcome = record { state = state; text = text; ending = ending }; files = files }
+followed_is f state text ending files state_is text_is ending_is files_are =
+    ap (λ (s : KtutilState). record { outcome = record { state = s; text = f.outcome.text; ending = f.outcome.ending }; files = f.files }) (sym state_is)
+    ∙ ap (λ (t : List ℕ). record { outcome = record { state = state; text = t; ending = f.outcome.ending }; files = f.files }) (sym text_is)
+    ∙ ap (λ (e : LineEnd). record { outcome = record { state = state; text = text; ending = e }; files = f.files }) (sym ending_is)
+    ∙ ap (λ (m : FileMap). record { outcome = record { state = state; text = text; ending = ending }; files = m }) (sym files_are)
+
+module _ {F : Type 0} (trait : Ghosts F) (now : ℕ) (final : Run) where
+  -- what is due of a line that comes to that, and of those after it
+  abbrev NextDue : ℕ → List ℕ → List (List ℕ) → Followed → TalkDue
+  NextDue number line more f =
+      if goes_on f.outcome.ending
+      then due_after (line_end_run number line f.outcome.ending f.outcome.text) (talk_due final now (number + 1) more f.outcome.state f.files)
+      else last_due (line_end_run number line f.outcome.ending f.outcome.text) f.files
+
+  choose : (goes b : Bool) (x y : TalkDue) → goes ≡ b → (if goes then x else y) ≡ (if b then x else y)
+  choose goes b x y is = ap (λ (g : Bool). if g then x else y) is
+
+  module _ (number : ℕ) (line : List ℕ) (more : List (List ℕ)) (old : KtutilState) (before : FileMap) (files : F) (new : KtutilState) (text : List ℕ) (ending : LineEnd)
+      (shows : ShowsDue trait files new [] text ending (follow before (plan_of old now line))) where
+    next_is : NextDue number line more (follow before (plan_of old now line)) ≡ NextDue number line more (record { outcome = record { state = new; text = text; ending = ending }; files = trait.file files })
+    next_is = ap (NextDue number line more) (followed_is (follow before (plan_of old now line)) new text ending (trait.file files) shows.shows.state_is shows.shows.appended shows.shows.ending_is (fun_ext shows.files_are))
+
+    due_goes_on : IsTrue (goes_on ending) → talk_due final now number (line ∷ more) old before ≡ due_after (line_end_run number line ending text) (talk_due final now (number + 1) more new (trait.file files))
+    due_goes_on goes = next_is ∙ choose (goes_on ending) true _ _ goes
+
+    due_stops : IsFalse (goes_on ending) → talk_due final now number (line ∷ more) old before ≡ last_due (line_end_run number line ending text) (trait.file files)
+    due_stops stops = next_is ∙ choose (goes_on ending) false _ _ stops
+
+  -- lines let the count of failures fall nowhere
+  talk_count : (number : ℕ) (lines : List (List ℕ)) (old new : Talk F) → TalksOver trait now number lines old new → trait.failure_count old.files ≤ trait.failure_count new.files
+  talk_count number [] old new talked = subst (λ (t : Talk F). trait.failure_count old.files ≤ trait.failure_count t.files) (sym talked) (omega arith)
+  talk_count number (line ∷ lines) old new talked =
+      let handles = talked.1.handles in
+      let first = handles_count trait (plan_of old.state now line) old.files talked.0.files old.state talked.0.state [] handles.text talked.1.ending handles.handled in
+      let others = talk_count (number + 1) lines talked.0 new talked.2 in
+      omega (arith, first, others)
+
+  worst_after : (a b run due status new : ℕ) → new ≡ max b due → b ≡ max a status → status ≡ run → new ≡ max a (max run due)
+  worst_after a b run due status new new_is b_is is = omega (arith, new_is, b_is, is)
+
+  -- a line was handled, and what is due of those after it was left
+  leaves_after : (run : Run) (status : ℕ) (old mid new : Talk F) (due : TalkDue) → EndsRun run old.out mid.out old.err mid.err status → status ≢ 4 → IsFalse mid.out.failed → mid.status ≡ max old.status status
+      → trait.failure_count old.files ≤ trait.failure_count mid.files → trait.failure_count mid.files ≤ trait.failure_count new.files
+      → LeavesDueUnlessFailed trait due mid new → LeavesDueUnlessFailed trait (due_after run due) old new
+  leaves_after run status old mid new due ends not4 well worst le le' (inl counts) = inl (counts_later (trait.failure_count old.files) (trait.failure_count mid.files) (trait.failure_count new.files) le le' counts)
+  leaves_after run status old mid new due ends not4 well worst le le' (inr (inl failed)) = inr (inl failed)
+  leaves_after run status old mid new due ends not4 well worst le le' (inr (inr (inl four))) = inr (inr (inl four))
+  leaves_after run status old mid new due ends not4 well worst le le' (inr (inr (inr leaves))) =
+      let done = ends.done well not4 in
+      inr (inr (inr (record {
+        files = leaves.files;
+        out = Appends-trans old.out.contents mid.out.contents new.out.contents run.out due.out done.1 leaves.out;
+        err = (mid.err, done.2, leaves.err);
+        status = worst_after old.status mid.status run.status due.status status new.status leaves.status worst done.0;
+      })))
+
+  -- a line was handled and goes on
+  line_honestly : (number : ℕ) (line : List ℕ) (more : List (List ℕ)) (old mid new : Talk F) (continues : Continues trait now number line old mid)
+      → HandlesHonestly trait (plan_of old.state now line) old.files mid.files old.state mid.state [] continues.handles.text continues.ending
+      → trait.failure_count old.files ≤ trait.failure_count mid.files → trait.failure_count mid.files ≤ trait.failure_count new.files
+      → LeavesDueUnlessFailed trait (talk_due final now (number + 1) more mid.state (trait.file mid.files)) mid new
+      → LeavesDueUnlessFailed trait (talk_due final now number (line ∷ more) old.state (trait.file old.files)) old new
+  line_honestly number line more old mid new continues honestly le le' rest =
+      let handles = continues.handles in
+      let due = talk_due final now number (line ∷ more) old.state (trait.file old.files) in
+      let run = line_end_run number line continues.ending handles.text in
+      let others = talk_due final now (number + 1) more mid.state (trait.file mid.files) in
+      elim honestly.comes [
+        | inl shows ↦ subst (λ (d : TalkDue). LeavesDueUnlessFailed trait d old new)
+            (sym (due_goes_on number line more old.state (trait.file old.files) mid.files mid.state handles.text continues.ending shows continues.goes_on))
+            (leaves_after run handles.status old mid new others handles.ends (handles.spared (λ is. memory_stops continues.ending is continues.goes_on)) continues.well handles.worst le le' rest)
+        | inr other ↦ elim other [
+          | inl fails ↦ inl (counts_before (trait.failure_count old.files) (trait.failure_count mid.files) (trait.failure_count new.files) le' fails.counts)
+          | inr spends ↦ absurd (memory_stops continues.ending spends.runs_out.ending_is continues.goes_on)
+        ]
+      ]
+
+  -- lines were handled, and what is due of those after them was left
+  talk_honestly : (lines : List (List ℕ)) (number : ℕ) (more : List (List ℕ)) (old last new : Talk F) → TalksOver trait now number lines old last → trait.is_honest old.files
+      → trait.failure_count last.files ≤ trait.failure_count new.files
+      → ((next : ℕ) → next ≡ number + length lines → trait.is_honest last.files → LeavesDueUnlessFailed trait (talk_due final now next more last.state (trait.file last.files)) last new)
+      → LeavesDueUnlessFailed trait (talk_due final now number (lines ++ more) old.state (trait.file old.files)) old new
+  talk_honestly [] number more old last new talked honest le rest =
+      subst (λ (t : Talk F). trait.is_honest t.files → LeavesDueUnlessFailed trait (talk_due final now number more t.state (trait.file t.files)) t new) talked (rest number (omega arith)) honest
+  talk_honestly (line ∷ lines) number more old last new talked honest le rest =
+      let mid = talked.0 in
+      let handles = talked.1.handles in
+      let honestly = handles_honestly trait now line old.files mid.files old.state mid.state [] handles.text talked.1.ending handles.handled honest in
+      let first = handles_count trait (plan_of old.state now line) old.files mid.files old.state mid.state [] handles.text talked.1.ending handles.handled in
+      let others = talk_count (number + 1) lines mid last talked.2 in
+      line_honestly number line (lines ++ more) old mid new talked.1 honestly first (omega (arith, others, le))
+      (talk_honestly lines (number + 1) more mid last new talked.2 honestly.honest le (λ next is. rest next (omega (arith, is))))
+
+  -- a line was the last: it left what was due of it, or it failed
+  close_by : (run : Run) (status : ℕ) (last end : Talk F) → EndsRun run last.out end.out last.err end.err status → end.status ≡ max last.status status
+      → (failed : Bool) → failed ≡ end.out.failed → (status ≡ 4) ⊎ (status ≡ 4 → ⊥) → LeavesDueUnlessFailed trait (last_due run (trait.file end.files)) last end
+  close_by run status last end ends worst true is four = inr (inl (sym is))
+  close_by run status last end ends worst false is (inl four) = inr (inr (inl (omega (arith, four, worst))))
+  close_by run status last end ends worst false is (inr not4) =
+      let done = ends.done (sym is) not4 in
+      inr (inr (inr (record { files = λ name. refl; out = done.1; err = (end.err, done.2, refl); status = worst ∙ ap (max last.status) done.0 })))
+
+  -- it missed memory
+  spent_by : (due : TalkDue) (number : ℕ) (line text : List ℕ) (ending : LineEnd) (status : ℕ) (last new : Talk F) → EndsRun (line_end_run number line ending text) last.out new.out last.err new.err status → new.status ≡ max last.status status
+      → ending ≡ end.NoMemory → (failed : Bool) → failed ≡ new.out.failed → (status ≡ 4) ⊎ (status ≡ 4 → ⊥) → LeavesDueUnlessFailed trait due last new
+  spent_by due number line text ending status last new ends worst memory true is four = inr (inl (sym is))
+  spent_by due number line text ending status last new ends worst memory false is (inl four) = inr (inr (inl (omega (arith, four, worst))))
+  spent_by due number line text ending status last new ends worst memory false is (inr not4) =
+      absurd (not4 ((ends.done (sym is) not4).0 ∙ ap (λ (e : LineEnd). (line_end_run number line e text).status) memory))
+
+  stop_honestly : (number : ℕ) (line : List ℕ) (more : List (List ℕ)) (last end : Talk F) → Stops trait now number line last end → trait.is_honest last.files
+      → LeavesDueUnlessFailed trait (talk_due final now number (line ∷ more) last.state (trait.file last.files)) last end
+  stop_honestly number line more last end stops honest =
+      let handles = stops.handles in
+      let honestly = handles_honestly trait now line last.files end.files last.state end.state [] handles.text stops.ending handles.handled honest in
+      let run = line_end_run number line stops.ending handles.text in
+      let due = talk_due final now number (line ∷ more) last.state (trait.file last.files) in
+      elim honestly.comes [
+        | inl shows ↦ elim stops.why [
+          | inl not ↦ subst (λ (d : TalkDue). LeavesDueUnlessFailed trait d last end)
+              (sym (due_stops number line more last.state (trait.file last.files) end.files end.state handles.text stops.ending shows not))
+              (close_by run handles.status last end handles.ends handles.worst end.out.failed refl (cases_eq handles.status 4))
+          | inr failed ↦ inr (inl failed)
+        ]
+        | inr other ↦ elim other [
+          | inl fails ↦ inl fails.counts
+          | inr spends ↦ spent_by due number line handles.text stops.ending handles.status last end handles.ends handles.worst spends.runs_out.ending_is end.out.failed refl (cases_eq handles.status 4)
+        ]
+      ]
+
+-- the lines that an input has from its first ones and a further one on
+rest_of : (given : Option (List ℕ)) (lines : List (List ℕ)) (line : List ℕ) → AreFirst (lines ++ line ∷ []) given → (more : List (List ℕ)) × GivesLines given (lines ++ line ∷ more) quiet_run
+rest_of None lines line first = ([], record { gives = inl (tt, refl) })
+rest_of (Some bytes) lines line first = (first.0, record { gives = inl (first.1 ∙ append_assoc lines (line ∷ []) first.0, refl) })
+
+module _ {F : Type 0} (trait : Ghosts F) (now : ℕ) (given : Option (List ℕ)) (lines : List (List ℕ)) (first last : Talk F) (talked : TalksOver trait now 1 lines first last) where
+  -- what was due after the lines was left
+  leaves_final : (final : Run) (end : Talk F) → GivesLines given (lines ++ []) final → trait.failure_count last.files ≤ trait.failure_count end.files → LeavesDue trait (last_due final (trait.file last.files)) last end
+      → trait.is_honest first.files → TalksHonestly trait now given first end
+  leaves_final final end gives le leaves honest = record {
+    lines = lines ++ [];
+    final = final;
+    given_lines = gives;
+    leaves = talk_honestly trait now final lines 1 [] first last end talked honest le (λ next is h. inr (inr (inr leaves)));
+  }
+
+  pub honest_after : IfSome given (λ bytes. lines_of bytes ≡ lines ++ []) → trait.is_honest first.files → TalksHonestly trait now given first last
+  honest_after all =
+      leaves_final quiet_run last (record { gives = inl (all, refl) }) (omega arith) (record {
+        files = λ name. refl;
+        out = Appends-nil last.out.contents;
+        err = (last.err, Says-nothing last.err, refl);
+        status = omega arith;
+      })
+
+  pub honest_unread : (fault : LoadFault) → AreFirst lines given → (err' : Watch) (status : ℕ) → Says last.err err' (input_run fault).err → status ≡ max last.status (input_run fault).status → trait.is_honest first.files
+      → TalksHonestly trait now given first (record { files = last.files; state = last.state; out = last.out; err = err'; status = status })
+  honest_unread fault are_first err' status said worst =
+      let none = (unread_is_told fault).0 in
+      leaves_final (input_run fault) (record { files = last.files; state = last.state; out = last.out; err = err'; status = status })
+      (record { gives = inr (subst (λ (l : List (List ℕ)). AreFirst l given) (sym (append-nil lines)) are_first, (fault, refl)) }) (omega arith) (record {
+        files = λ name. refl;
+        out = subst (λ (text : List ℕ). Appends last.out.contents last.out.contents text) (sym none) (Appends-nil last.out.contents);
+        err = (err', said, refl);
+        status = worst;
+      })
+
+  pub honest_in_line : (line : List ℕ) (end : Talk F) → AreFirst (lines ++ line ∷ []) given → Stops trait now (length lines + 1) line last end → trait.is_honest first.files → TalksHonestly trait now given first end
+  honest_in_line line end are_first stops honest =
+      let rest = rest_of given lines line are_first in
+      let handles = stops.handles in
+      let le = handles_count trait (plan_of last.state now line) last.files end.files last.state end.state [] handles.text stops.ending handles.handled in
+      record {
+        lines = lines ++ line ∷ rest.0;
+        final = quiet_run;
+        given_lines = rest.1;
+        leaves = talk_honestly trait now quiet_run lines 1 (line ∷ rest.0) first last end talked honest le
+            (λ next is h. let at : next ≡ length lines + 1 = omega (arith, is) in stop_honestly trait now quiet_run next line rest.0 last end (subst (λ (n : ℕ). Stops trait now n line last end) (sym at) stops) h);
+      }

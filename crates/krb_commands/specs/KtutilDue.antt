@@ -1,0 +1,68 @@
+-- What is due of the lines of ktutil where the files are honest.
+use Rattle.std.specs.Prelude.{◌≡◌, ◌⊎◌, ℕ, ◌+◌, ◌≤◌, max, IsTrue, List, [], ◌∷◌, ◌++◌, if◌then◌else◌, Option, IfSome}
+use Rattle.std.specs.Io.KnownBytes.{Appends}
+use Rattle.krb_text.specs.declared.files.Files.{Ghosts}
+use Rattle.krb_text.specs.declared.files.LoadFault.{LoadFault}
+use Rattle.krb_text.specs.Bytes.{Watch}
+use Rattle.krb_text.specs.Files.{FileMap, SameFiles, CountsFailure}
+use Rattle.krb_text.specs.Ktutil.{KtutilState, plan_of}
+use Rattle.krb_text.specs.KtutilHonest.{follow}
+use Rattle.krb_commands.specs.Input.{input_run}
+use Rattle.krb_commands.specs.InputLines.{lines_of}
+use Rattle.krb_commands.specs.KtutilTalk.{Talk, quiet_run, line_end_run, goes_on, AreFirst}
+use Rattle.krb_commands.specs.Runs.{Run, Says}
+
+-- what lines come to: the files after them, what is printed, the messages one by one, and the worst status
+pub record TalkDue : Type 0 where
+  pub files : FileMap
+  pub out : List ℕ
+  pub messages : List (List ℕ)
+  pub status : ℕ
+
+-- one run, and then no line
+abbrev pub last_due : Run → FileMap → TalkDue
+last_due run files = record { files = files; out = run.out; messages = run.err ∷ []; status = run.status }
+
+-- one run, and then what is due after it
+abbrev pub due_after : Run → TalkDue → TalkDue
+due_after run due = record { files = due.files; out = run.out ++ due.out; messages = run.err ∷ due.messages; status = max run.status due.status }
+
+-- lines are followed one after the other, the first with that number, up to one that is the last; what is due after all of them is final
+abbrev pub talk_due : Run → ℕ → ℕ → List (List ℕ) → KtutilState → FileMap → TalkDue
+talk_due final now number [] state files = last_due final files
+talk_due final now number (line ∷ lines) state files =
+    let followed = follow files (plan_of state now line) in
+    let run = line_end_run number line followed.outcome.ending followed.outcome.text in
+    if goes_on followed.outcome.ending
+    then due_after run (talk_due final now (number + 1) lines followed.outcome.state followed.files)
+    else last_due run followed.files
+
+-- messages were said one after the other, each of them whole unless the writer has failed
+abbrev pub SaysInTurn : Watch → Watch → List (List ℕ) → Type 0
+SaysInTurn old new [] = new ≡ old
+SaysInTurn old new (message ∷ messages) = (between : Watch) × Says old between message × SaysInTurn between new messages
+
+-- the lines of an input, and what is due after them: nothing at its end, or else it is said why it was not read further
+pub record GivesLines (given : Option (List ℕ)) (lines : List (List ℕ)) (final : Run) : Type 0 where
+  pub gives : (IfSome given (λ bytes. lines_of bytes ≡ lines) × (final ≡ quiet_run)) ⊎ (AreFirst lines given × ((fault : LoadFault) × (final ≡ input_run fault)))
+
+module _ {F : Type 0} (trait : Ghosts F) where
+  -- a run left what was due
+  pub record LeavesDue (due : TalkDue) (old new : Talk F) : Type 0 where
+    pub files : SameFiles due.files (trait.file new.files)
+    pub out : Appends old.out.contents new.out.contents due.out
+    pub err : SaysInTurn old.err new.err due.messages
+    pub status : new.status ≡ max old.status due.status
+
+  -- unless a file call failed, which is counted, or the output failed, or memory ran out
+  abbrev pub LeavesDueUnlessFailed : TalkDue → Talk F → Talk F → Type 0
+  LeavesDueUnlessFailed due old new =
+      CountsFailure (trait.failure_count old.files) (trait.failure_count new.files)
+      ⊎ (IsTrue new.out.failed ⊎ ((4 ≤ new.status) ⊎ LeavesDue due old new))
+
+  -- over honest files a run leaves what is due of the lines of its input
+  pub record TalksHonestly (now : ℕ) (given : Option (List ℕ)) (old new : Talk F) : Type 0 where
+    pub lines : List (List ℕ)
+    pub final : Run
+    pub given_lines : GivesLines given lines final
+    pub leaves : LeavesDueUnlessFailed (talk_due final now 1 lines old.state (trait.file old.files)) old new
