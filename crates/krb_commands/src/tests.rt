@@ -1,12 +1,6 @@
-//! Runs over files in memory. Images and texts are spelled out by hand.
+//! Runs over files in memory, of which one part fails.
 
-mod columns;
-mod finds;
-mod listings;
 mod loads;
 mod messages;
-mod outputs;
 mod responses;
-mod samples;
-mod saves;
-mod words;
+mod runs;
