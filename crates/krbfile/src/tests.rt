@@ -1,5 +1,4 @@
-//! What is found in the words of a command line, and a disk that fails.
+//! A disk whose calls fail in turn.
 
+mod calls;
 mod disks;
-mod lines;
-mod lookups;

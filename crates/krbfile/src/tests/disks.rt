@@ -1,32 +1,62 @@
 ghost use Rattle.std.specs.Prelude.{IsErr};
 
-mod saves;
-
-use crate::disk::{DiskFiles, SetOwner};
-use krb_text::{Files, LoadFault};
-use std::alloc::Allocator;
-use std::cell::Cell;
-use std::fs::{Metadata, OpenFile, OpenOptions};
+use crate::disk::SetOwner;
+use std::alloc::{Allocator, Global};
+use std::cell::{Cell, RefCell};
+use std::fs::{Metadata, OpenFile, OpenOptions, Permissions};
 use std::io::{self, Empty, ErrorKind, Read, Seek, SeekFrom, Write};
+use std::os::unix::fs::PermissionsExt;
+use std::path::PathBuf;
 use std::rt;
-use std::test::Fail;
-use streams::FailingReader;
 
-/// A disk with one file, `k`. It counts its calls, of which the first opens the file, the second tells
-/// its length and the others read it, and fails at one of them.
+/// The calls of a disk, one a line, of which one fails.
 #[derive(Drop)]
-struct Disk<'a> {
-    bytes: &'a [u8],
+pub struct Calls {
+    lines: RefCell<String>,
+    pub count: Cell<u64>,
     failing: u64,
-    calls: &'a Cell<u64>,
 }
 
-/// The file, opened.
+impl Calls {
+    pub fn new(alloc: Global, failing: u64) -> Calls {
+        Calls {
+            lines: RefCell::new(String::new(alloc)),
+            count: Cell::new(0),
+            failing,
+        }
+    }
+
+    fn add(&self, what: &str, path: &str) -> io::Result<()> {
+        self.count.set(self.count.get().saturating_add(1));
+        if let Ok(mut lines) = self.lines.try_borrow_mut() {
+            lines.push_str(what)?;
+            lines.push_str(path)?;
+            lines.push_str("\n")?;
+        }
+        if self.count.get() == self.failing {
+            return Err(io::Error::from(ErrorKind::Other));
+        }
+        Ok(())
+    }
+
+    pub fn are(&self, lines: &str) -> bool {
+        match self.lines.try_borrow() {
+            Ok(made) => made.as_str() == lines,
+            Err(_) => false,
+        }
+    }
+}
+
+/// A disk with an empty file `k`, a folder `d` and a link `loop` to itself.
 #[derive(Drop)]
-struct Opened<'a> {
-    reader: FailingReader<'a>,
-    tells_len: bool,
-    calls: &'a Cell<u64>,
+pub struct Disk<'a> {
+    pub calls: &'a Calls,
+}
+
+/// A file or a folder, opened.
+#[derive(Drop)]
+pub struct Opened<'a> {
+    calls: &'a Calls,
 }
 
 fn unsupported<T>() -> io::Result<T>
@@ -35,20 +65,17 @@ fn unsupported<T>() -> io::Result<T>
     Err(io::Error::from(ErrorKind::Unsupported))
 }
 
-fn count(calls: &Cell<u64>) {
-    calls.set(calls.get().saturating_add(1));
-}
-
 impl Read for Opened<'_> {
-    fn read(&mut self, buf: &mut [u8]) -> io::Result<usize> {
-        count(self.calls);
-        self.reader.read(buf)
+    fn read(&mut self, _buf: &mut [u8]) -> io::Result<usize> {
+        self.calls.add("read", "")?;
+        Ok(0)
     }
 }
 
 impl Write for Opened<'_> {
-    fn write(&mut self, _buf: &[u8]) -> io::Result<usize> {
-        unsupported()
+    fn write(&mut self, buf: &[u8]) -> io::Result<usize> {
+        self.calls.add("write", "")?;
+        Ok(buf.len())
     }
 
     fn flush(&mut self) -> io::Result<()> {
@@ -64,11 +91,8 @@ impl Seek for Opened<'_> {
 
 impl OpenFile for Opened<'_> {
     fn metadata(&self) -> io::Result<Metadata> {
-        count(self.calls);
-        if !self.tells_len {
-            return unsupported();
-        }
-        Ok(Metadata::of_file(self.reader.rest.len() as u64))
+        self.calls.add("tell", "")?;
+        Ok(Metadata::of_file(0))
     }
 
     fn set_len(&self, _size: u64) -> io::Result<()> {
@@ -76,17 +100,26 @@ impl OpenFile for Opened<'_> {
     }
 
     fn sync_all(&self) -> io::Result<()> {
-        unsupported()
+        self.calls.add("sync", "")
     }
 
     fn sync_data(&self) -> io::Result<()> {
         unsupported()
     }
+
+    fn set_permissions(&self, perm: Permissions) -> io::Result<()> {
+        // The mode of a file on this disk.
+        if perm.mode() != 0o644 {
+            return unsupported();
+        }
+        self.calls.add("permit", "")
+    }
 }
 
 impl SetOwner for Opened<'_> {
-    fn set_owner(&self, _owner: Option<u32>, _group: Option<u32>) -> io::Result<()> {
-        unsupported()
+    fn set_owner(&self, owner: Option<u32>, _group: Option<u32>) -> io::Result<()> {
+        self.calls
+            .add("own", if owner.is_none() { " the group" } else { "" })
     }
 }
 
@@ -96,20 +129,15 @@ impl<'a> rt::Files for Disk<'a> {
     type Dir = Empty;
 
     fn open_file(&self, how: &OpenOptions, path: &str) -> io::Result<Opened<'a>> {
-        count(self.calls);
-        if self.failing == 1 || how.asks_write() || how.asks_append() {
-            return Err(io::Error::from(ErrorKind::PermissionDenied));
-        }
-        if path != "k" {
-            return Err(io::Error::from(ErrorKind::NotFound));
-        }
-        let mut reader = FailingReader::new(self.bytes, usize::MAX);
-        reader.fail_at_call(self.failing.saturating_sub(2));
-        Ok(Opened {
-            reader,
-            tells_len: self.failing != 2,
-            calls: self.calls,
-        })
+        self.calls.add(
+            if how.asks_create_new() {
+                "make "
+            } else {
+                "open "
+            },
+            path,
+        )?;
+        Ok(Opened { calls: self.calls })
     }
 
     fn open_dir(&self, _path: &str) -> io::Result<Empty> {
@@ -120,20 +148,30 @@ impl<'a> rt::Files for Disk<'a> {
         unsupported()
     }
 
-    fn symlink_metadata(&self, _path: &str) -> io::Result<Metadata> {
-        unsupported()
+    fn symlink_metadata(&self, path: &str) -> io::Result<Metadata> {
+        self.calls.add("look ", path)?;
+        match path {
+            "k" => Ok(Metadata::of_file(0)),
+            "d" => Ok(Metadata::of_dir()),
+            "loop" => Ok(Metadata::of_symlink(4)),
+            _ => Err(io::Error::from(ErrorKind::NotFound)),
+        }
     }
 
     fn copy(&self, _from: &str, _to: &str) -> io::Result<u64> {
         unsupported()
     }
 
-    fn rename(&self, _from: &str, _to: &str) -> io::Result<()> {
-        unsupported()
+    fn rename(&self, from: &str, to: &str) -> io::Result<()> {
+        if to != "k" {
+            return unsupported();
+        }
+        self.calls.add("rename ", from)
     }
 
-    fn remove_file(&self, _path: &str) -> io::Result<()> {
-        unsupported()
+    fn remove_file(&self, path: &str) -> io::Result<()> {
+        self.calls.add("remove ", path)?;
+        Err(io::Error::from(ErrorKind::NotFound))
     }
 
     fn create_dir(&self, _path: &str) -> io::Result<()> {
@@ -147,68 +185,9 @@ impl<'a> rt::Files for Disk<'a> {
     fn remove_dir_all<B: Allocator>(&self, _alloc: B, _path: &str) -> io::Result<()> {
         unsupported()
     }
-}
 
-/// A load of 70,000 bytes opens the file, asks how long it is, and reads it twice, the second time at its
-/// end. Where it is not opened or a read fails, no call comes after that, and the failure is counted.
-#[test]
-fn each_call_fails(rt: HostRuntime) -> Result<(), Fail> {
-    let bytes = vec![in rt.alloc(); 7u8; 70_000]?;
-    for failing in [1u64, 3, 4] {
-        let calls = Cell::new(0u64);
-        let disk = Disk {
-            bytes: &bytes,
-            failing,
-            calls: &calls,
-        };
-        let disk = (disk, rt.alloc());
-        let mut files = DiskFiles::new(&disk);
-        for nth in 1..=2u64 {
-            calls.set(0);
-            let loaded = files.load(rt.alloc(), "k", 70_000);
-            assert!(rt; loaded == Err(LoadFault::Failed), "at {failing}");
-            assert_eq!(rt; calls.get(), failing);
-            assert_eq!(rt; files.failures(), nth);
-        }
+    fn read_link<B: Allocator>(&self, alloc: B, path: &str) -> io::Result<PathBuf<B>> {
+        self.calls.add("follow ", path)?;
+        Ok(PathBuf::from_str(alloc, "loop")?)
     }
-    Ok(())
-}
-
-/// A file that does not tell its length is read all the same.
-#[test]
-fn a_length_that_is_not_told(rt: HostRuntime) -> Result<(), Fail> {
-    let bytes = vec![in rt.alloc(); 7u8; 70_000]?;
-    for failing in [0u64, 2] {
-        let calls = Cell::new(0u64);
-        let disk = Disk {
-            bytes: &bytes,
-            failing,
-            calls: &calls,
-        };
-        let disk = (disk, rt.alloc());
-        let mut files = DiskFiles::new(&disk);
-        let loaded = files.load(rt.alloc(), "k", 70_000);
-        assert!(rt; loaded.is_ok_and(|all| all.as_slice() == bytes.as_slice()));
-        assert_eq!(rt; calls.get(), 4);
-        assert_eq!(rt; files.failures(), 0);
-    }
-    Ok(())
-}
-
-/// A file that is too large, and one that is missing, do not count as failures.
-#[test]
-fn no_call_fails(rt: HostRuntime) -> Result<(), Fail> {
-    let bytes = vec![in rt.alloc(); 7u8; 70_000]?;
-    let calls = Cell::new(0u64);
-    let disk = Disk {
-        bytes: &bytes,
-        failing: 0,
-        calls: &calls,
-    };
-    let disk = (disk, rt.alloc());
-    let mut files = DiskFiles::new(&disk);
-    assert!(rt; files.load(rt.alloc(), "k", 69_999) == Err(LoadFault::TooLarge));
-    assert!(rt; files.load(rt.alloc(), "no", 70_000) == Err(LoadFault::Missing));
-    assert_eq!(rt; files.failures(), 0);
-    Ok(())
 }
