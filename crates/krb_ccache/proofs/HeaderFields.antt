@@ -55,11 +55,11 @@ fields_spell bytes xs fits e =
     let k = contents fields_format bytes in
     whole_by bytes k.cells k.end xs (contents_spelled fields_format bytes fields_are fits).parts e
 
-IsBytes-back : (a b : List ℕ) → IsBytes (a ++ b) → IsBytes b
+pub IsBytes-back : (a b : List ℕ) → IsBytes (a ++ b) → IsBytes b
 IsBytes-back [] b fits = fits
 IsBytes-back (x ∷ a) b fits = IsBytes-back a b (λ i. fits (suc i))
 
-IsBytes-front : (a b : List ℕ) → IsBytes (a ++ b) → IsBytes a
+pub IsBytes-front : (a b : List ℕ) → IsBytes (a ++ b) → IsBytes a
 IsBytes-front [] b fits i = omega arith
 IsBytes-front (x ∷ a) b fits zero = fits 0
 IsBytes-front (x ∷ a) b fits (suc i) = IsBytes-front a b (λ j. fits (suc j)) i

@@ -5,3 +5,4 @@ pub mod CellLemmas
 pub mod PlaceLemmas
 pub mod Splits
 pub mod Held
+pub mod Again

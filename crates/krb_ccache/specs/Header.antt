@@ -1,6 +1,6 @@
 -- The header of a version 4 cache: tagged fields, of which one is the time offset of the KDC (MIT krb5, "Credential cache file format", section "Header").
-use Rattle.std.specs.Prelude.{ℕ, ◌<◌, ◌^◌, ◌==◌, ◌&&◌, List, [], ◌∷◌, ◌++◌, length, take, drop, Option, Some, None, option_map, if◌then◌else◌}
-use Rattle.std.specs.List.{flat_map, filter_map}
+use Rattle.std.specs.Prelude.{◌≡◌, ℕ, ◌<◌, ◌^◌, ◌==◌, ◌&&◌, List, [], ◌∷◌, ◌++◌, length, take, drop, Option, Some, None, option_map, if◌then◌else◌}
+use Rattle.std.specs.List.{flat_map, filter_map, AllByRecursion}
 use Rattle.std.specs.Int.{w16, w32, from_be_bytes, cast_signed}
 use Rattle.krb_wire.specs.declared.format.Order.TheVariants.{Big}
 use Rattle.krb_wire.specs.Spelling.{digits, data16, IsShort}
@@ -28,6 +28,11 @@ pub record FitsField (x : Field) : Type 0 where
 abbrev pub header : Version → List Field → List ℕ
 header V3 xs = []
 header V4 xs = data16 Big (flat_map field xs)
+
+-- what has a spelling: version 3 has no fields
+abbrev pub FitsHeader : Version → List Field → Type 0
+FitsHeader V3 xs = xs ≡ []
+FitsHeader V4 xs = AllByRecursion FitsField xs × IsShort (flat_map field xs)
 
 -- ---- reading
 

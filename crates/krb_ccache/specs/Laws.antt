@@ -1,10 +1,12 @@
 -- Laws of the definitions.
-use Rattle.std.specs.Prelude.{◌≡◌, ℕ, ◌<◌, List, ◌++◌, get_or}
+use Rattle.std.specs.Prelude.{◌≡◌, ℕ, ◌<◌, ◌≤◌, List, ◌++◌, length, get_or, Ok}
 use Rattle.std.specs.List.{flat_map, AllByRecursion}
+use Rattle.krb_wire.specs.Spelling.{FitsCc}
 use Rattle.krb_walk.specs.Contents.{Contents, contents, spelling, IsSound, IsSpelled}
 use Rattle.krb_ccache.specs.declared.version.Version.{Version}
 use Rattle.krb_ccache.specs.Credential.{CredParts, credential, FitsCredential}
-use Rattle.krb_ccache.specs.Store.{credentials_format}
+use Rattle.krb_ccache.specs.Header.{FitsHeader}
+use Rattle.krb_ccache.specs.Store.{CacheState, credentials_format, image_of, open_result}
 
 -- numbers below 256
 abbrev pub AreBytes : List ℕ → Type 0
@@ -22,3 +24,14 @@ IsLongest = (v : Version) (cells : List CredParts) (rest : List ℕ) → AllByRe
 -- sound contents are the only ones with their spelling
 abbrev pub IsOnlyOne : Type 0
 IsOnlyOne = (v : Version) (k : Contents CredParts (List ℕ)) → IsSound (credentials_format v) k → AreBytes (spelling (credentials_format v) k) → contents (credentials_format v) (spelling (credentials_format v) k) ≡ k
+
+-- a cache whose parts have spellings, and whose image is not too long
+pub record IsSoundCache (k : CacheState) : Type 0 where
+  pub header : FitsHeader k.version k.header
+  pub principal : FitsCc k.principal
+  pub contents : IsSound (credentials_format k.version) k.contents
+  pub within : length (image_of k) ≤ k.limit
+
+-- such a cache is the only one with its spelling: it is what its image is opened as
+abbrev pub IsOpenedAgain : Type 0
+IsOpenedAgain = (k : CacheState) → IsSoundCache k → AreBytes (image_of k) → open_result k.limit (image_of k) ≡ Ok k

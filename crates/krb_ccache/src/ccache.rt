@@ -7,6 +7,7 @@ ghost use Rattle.krb_ccache.specs.Credential.{credential};
 ghost use Rattle.krb_ccache.specs.Header.{offset_in};
 ghost use Rattle.krb_ccache.specs.Store.{open_result, image_of, store_of, placed_credentials, credential_at_place};
 ghost use Rattle.krb_ccache.specs.Config.{config_of};
+ghost use Rattle.krb_ccache.specs.Laws.{AreBytes};
 ghost use Rattle.krb_ccache.specs.Open.{InMemory, Reopens};
 
 use crate::config::is_asked;
@@ -32,6 +33,7 @@ pub struct Ccache<A: Allocator> {
 impl<A: Allocator> Model for Ccache<A> {
     ghost use Rattle.std.specs.Prelude.{vec_capacity};
     ghost use Rattle.krb_ccache.specs.Config.{config_of};
+    ghost use Rattle.krb_ccache.specs.Laws.{AreBytes};
     ghost use Rattle.krb_ccache.specs.Open.{InMemory, IsImage, held};
 
     ghost Value = { InMemory };
@@ -77,6 +79,7 @@ impl<A: Allocator> Ccache<A> {
     /// The bytes that spell it.
     pub fn image(&self) -> &[u8]
         ensures spelled { result.now ≡ image_of self.now.state }
+        ensures bytes { AreBytes result.now }
         // It is opened as this cache again.
         ensures reopens { Reopens self.now.state result.now }
     {

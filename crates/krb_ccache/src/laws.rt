@@ -1,6 +1,6 @@
 //! Laws of the definitions that the contracts cite.
 
-ghost use Rattle.krb_ccache.specs.Laws.{IsAlwaysSpelled, IsLongest, IsOnlyOne};
+ghost use Rattle.krb_ccache.specs.Laws.{IsAlwaysSpelled, IsLongest, IsOnlyOne, IsOpenedAgain};
 
 /// The credentials of a cache and what follows them are one list and one end, and no longer list of credentials
 /// stands at its front.
@@ -8,4 +8,9 @@ pub fn one_reading()
     ensures spelled { IsAlwaysSpelled }
     ensures longest { IsLongest }
     ensures only { IsOnlyOne }
+{}
+
+/// A cache is what its image is opened as, and no other cache has that image.
+pub fn caches_are_opened_again()
+    ensures { IsOpenedAgain }
 {}

@@ -20,7 +20,7 @@ pub use ccache::Ccache;
 pub use config::is_config;
 pub use credential::CredView;
 pub use credentials::Credentials;
-pub use laws::one_reading;
+pub use laws::{caches_are_opened_again, one_reading};
 pub use offset::Offset;
 pub use open::{CcOpenFault, CcOpenRefused};
 pub use times::Times;

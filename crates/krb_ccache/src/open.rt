@@ -2,6 +2,7 @@
 
 ghost use Rattle.std.specs.Prelude.{◌≡◌, ◌≤◌, ℕ, length, drop, IfOk, IfErr, Ok, Err};
 ghost use Rattle.krb_ccache.specs.Header.{header_at};
+ghost use Rattle.krb_ccache.specs.Laws.{AreBytes};
 ghost use Rattle.krb_ccache.specs.Store.{version_of, open_header, open_result, image_of};
 ghost use Rattle.krb_ccache.specs.Open.{open_fault_number, held, cells_len, ArePlaces, IsImage, Reopens};
 
@@ -147,6 +148,7 @@ pub fn spelled_of(head: Head, image: &[u8]) -> &[u8]
     requires { IsImage head.version head.limit image.now head.places }
     ensures same { result.now ≡ image.now }
     ensures spelled { result.now ≡ image_of (held head.version head.limit image.now head.places) }
+    ensures bytes { AreBytes result.now }
     ensures reopens { Reopens (held head.version head.limit image.now head.places) result.now }
 {
     bytes_fit(image);

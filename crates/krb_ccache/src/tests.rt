@@ -136,7 +136,8 @@ fn an_address_count_without_addresses_is_a_fault(rt: HostRuntime) -> Result<(), 
         place: 40,
         kind: FaultKind::BadCredential,
     };
-    assert!(rt; cache.fault() == Some(bad) && cache.stop_at(40) == Stop::Fault(bad));
+    assert!(rt; cache.fault() == Some(bad) && cache.is_place(40));
+    assert!(rt; cache.stop_at(40) == Stop::Fault(bad));
     Ok(())
 }
 

@@ -7,6 +7,7 @@ ghost use Rattle.krb_walk.specs.Store.{end_of, fault_of, is_place, stop_at, live
 ghost use Rattle.krb_ccache.specs.Header.{offset_in};
 ghost use Rattle.krb_ccache.specs.Store.{CacheState, store_of, image_of, placed_credentials, credential_at_place};
 ghost use Rattle.krb_ccache.specs.Open.{Reopens};
+ghost use Rattle.krb_ccache.specs.Laws.{AreBytes};
 ghost use Rattle.krb_ccache.specs.Cells.{cells_of, IsSuffix};
 
 use crate::cells::{Cells, bytes_fit};
@@ -48,6 +49,7 @@ impl<'a> CacheView<'a> {
     /// The bytes that spell it.
     pub fn spelled(&self) -> &'a [u8]
         ensures spelled { result.now ≡ image_of self.now }
+        ensures bytes { AreBytes result.now }
         ensures reopens { Reopens self.now result.now }
     {
         spelled_of(self.head, self.image)
