@@ -55,9 +55,7 @@ impl Command {
             }
             Command::Ktfind => "found 2 kvno 3 etype 17 host/a@R\n",
             Command::Ktedit => "gone 2\n",
-            Command::Ktutil => {
-                "slot KVNO Principal\n---- ---- ---------\n   1    3 host/a@R\n"
-            }
+            Command::Ktutil => { "slot KVNO Principal\n---- ---- ---------\n   1    3 host/a@R\n" }
         }
     }
 }
