@@ -20,7 +20,7 @@ use Rattle.krb_commands.specs.KtutilTalk.{Talk, quiet_run, line_end_run, goes_on
 use Rattle.krb_commands.specs.KtutilDue.{TalkDue, last_due, due_after, talk_due, GivesLines, LeavesDue, LeavesDueUnlessFailed, TalksHonestly}
 use Rattle.krb_commands.specs.Runs.{Run, Says, EndsRun}
 use Rattle.krb_commands.proofs.Ends.{Says-nothing}
-use Rattle.krb_commands.proofs.EditLemmas.{unread_is_told}
+use Rattle.krb_commands.proofs.QuietRuns.{unread_is_told}
 
 -- a failure that was counted later counts, and one that was counted before
 counts_split : (a b c : ℕ) → a ≤ b → b ≤ c → b ≡ 2 ^ 64 - 1 → (a < b) ⊎ (b ≤ a) → CountsFailure a c

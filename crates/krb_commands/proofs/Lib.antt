@@ -5,6 +5,8 @@ pub mod Faults
 pub mod Pieces
 pub mod Ends
 pub mod KeytabFile
+pub mod EditReplies
+pub mod QuietRuns
 pub mod EditLemmas
 pub mod KtutilEnds
 pub mod KtutilHonestly

@@ -3,7 +3,7 @@ use Rattle.krb_walk.specs.Said.{said}
 use Rattle.krb_walk.specs.Events.{session_of}
 use Rattle.krb_keytab.specs.Store.{InMemory, image_of}
 use Rattle.krb_commands.specs.Ktedit.{is_change, is_trouble}
-use Rattle.krb_commands.proofs.EditLemmas.{any_said, IsEdited-by}
+use Rattle.krb_commands.proofs.EditReplies.{any_said, IsEdited-by}
 use Rattle.krb_commands.proofs.ktedit.edit.Goals as goal
 
 -- what the session did, and what was told of it

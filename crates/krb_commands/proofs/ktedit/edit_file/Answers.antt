@@ -1,4 +1,5 @@
-use Rattle.krb_commands.proofs.EditLemmas.{IsEdited-low, EditsFile-edited, EditsFile-memory, EditsFile-without}
+use Rattle.krb_commands.proofs.EditLemmas.{EditsFile-edited, EditsFile-memory, EditsFile-without}
+use Rattle.krb_commands.proofs.EditReplies.{IsEdited-low}
 use Rattle.krb_commands.proofs.ktedit.edit_file.Goals as goal
 
 -- there is no keytab

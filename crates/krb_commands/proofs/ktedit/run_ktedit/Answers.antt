@@ -2,7 +2,8 @@ use Rattle.std.proofs.Common.{◌≡◌, refl, ap, inr}
 use Rattle.std.specs.Prelude.{Ok, Err}
 use Rattle.krb_text.specs.Script.{script}
 use Rattle.krb_commands.specs.Input.{input_run}
-use Rattle.krb_commands.proofs.EditLemmas.{EndsRun-said, GivesInput-err, GivesInput-ok, RunsEdit-by, refused, unread_is_told}
+use Rattle.krb_commands.proofs.EditLemmas.{RunsEdit-by, refused}
+use Rattle.krb_commands.proofs.QuietRuns.{EndsRun-said, GivesInput-err, GivesInput-ok, unread_is_told}
 use Rattle.krb_commands.proofs.ktedit.run_ktedit.Goals as goal
 
 -- no script was given

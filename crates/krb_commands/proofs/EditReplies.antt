@@ -1,0 +1,130 @@
+-- What events leave and reply: the format along them, the text of the replies, and the status.
+use Rattle.std.proofs.Common.{◌≡◌, ℕ, ◌<◌, Bool, true, false, List, [], ◌∷◌, ◌++◌, map, refl, sym, ap, subst, ◌∙◌, arith}
+use Rattle.std.specs.Prelude.{if◌then◌else◌, cond, ◌||◌, is_some, nat_lt, length, slice_get, Option, None, Some, Result, Ok, Err}
+use Rattle.std.specs.List.{flat_map, list_any}
+use Rattle.krb_wire.specs.declared.format.KtFormat.{KtFormat}
+use Rattle.krb_walk.specs.declared.event.Event.{Event}
+use Rattle.krb_walk.specs.declared.event.Event.TheVariants.{Start, Resume, Step, Put, Cut, Rewrite}
+use Rattle.krb_walk.specs.declared.fault.FaultKind.{FaultKind}
+use Rattle.krb_walk.specs.declared.refusal.Code.{Code}
+use Rattle.krb_walk.specs.declared.refusal.Code.TheVariants as code
+use Rattle.krb_walk.specs.Store.{Store, Record, end_of, fault_of, is_place, live_bytes, next_live}
+use Rattle.krb_walk.specs.Said.{Said, Started, Refused}
+use Rattle.krb_walk.specs.Events.{SessionState, reply_to, after, store_after, step_said, stop_said, end_said, put_said, put_store, cut_said, cut_store, rewrite_said}
+use Rattle.krb_walk.specs.History.{history, replies, state_after}
+use Rattle.krb_walk.specs.Ran.{Ran}
+use Rattle.krb_keytab.specs.Changes.{PlacedCell, put_result, put_bytes_result, put_result_into, first_hole, with_hole, with_last}
+use Rattle.krb_keytab.specs.Edit.{new_session}
+use Rattle.krb_keytab.specs.Entry.{EntryParts}
+use Rattle.krb_keytab.specs.Rewrite.{rewrite_of}
+use Rattle.krb_keytab.specs.Store.{KeytabState, image_of, store_of}
+use Rattle.krb_keytab.specs.Placed.{keytab_rules}
+use Rattle.krb_keytab.specs.Form.{fits, written_form}
+use Rattle.krb_text.specs.Reply.{reply_text, reply_texts, format_after}
+use Rattle.krb_commands.specs.declared.ktedit.Edited.{Edited}
+use Rattle.krb_commands.specs.Edits.{IsEdited}
+use Rattle.krb_commands.specs.Ktedit.{moments, is_change, is_trouble}
+
+-- ---- the format after an event
+
+-- an addition keeps the format
+abbrev KeepsFormat : KeytabState → Result (ℕ × KeytabState) Code → Type 0
+KeepsFormat k (Ok given) = given.1.format ≡ k.format
+KeepsFormat k (Err refused) = Unit {0}
+
+if_keeps : (k : KeytabState) (b : Bool) (x y : Result (ℕ × KeytabState) Code) → KeepsFormat k x → KeepsFormat k y → KeepsFormat k (if b then x else y)
+if_keeps k true x y hx hy = hx
+if_keeps k false x y hx hy = hy
+
+into_keeps : (k : KeytabState) (bytes : List ℕ) (hole : Option PlacedCell) → KeepsFormat k (put_result_into k bytes hole)
+into_keeps k bytes (Some hole) = refl
+into_keeps k bytes None = if_keeps k (nat_lt k.limit (length (image_of (with_last k bytes)))) (Err code.Full) (Ok (end_of (store_of k), with_last k bytes)) tt refl
+
+put_keeps : (k : KeytabState) (e : EntryParts) → KeepsFormat k (put_result k e)
+put_keeps k e =
+    if_keeps k (is_some (fault_of (store_of k))) (Err code.Damaged) (if fits k.format e then put_bytes_result k (written_form k.format e) else Err code.TooLong) tt
+    (if_keeps k (fits k.format e) (put_bytes_result k (written_form k.format e)) (Err code.TooLong) (into_keeps k (written_form k.format e) (first_hole 2 (length (written_form k.format e)) k.contents.cells)) tt)
+
+-- the format that a reply leaves is that of the keytab after its event
+of_put : (k : KeytabState) (given : Result (ℕ × KeytabState) Code) → KeepsFormat k given → (put_store k given).format ≡ format_after k.format (put_said given)
+of_put k (Ok given) keeps = keeps
+of_put k (Err refused) keeps = refl
+
+of_cond : (f : KtFormat) (b : Bool) (x y : Said) → format_after f x ≡ f → format_after f y ≡ f → f ≡ format_after f (cond b x y)
+of_cond f true x y hx hy = sym hx
+of_cond f false x y hx hy = sym hy
+
+of_resume : (f : KtFormat) (a b : Bool) (x y z : Said) → format_after f x ≡ f → format_after f y ≡ f → format_after f z ≡ f → f ≡ format_after f (cond a (cond b x y) z)
+of_resume f true b x y z hx hy hz = of_cond f b x y hx hy
+of_resume f false b x y z hx hy hz = sym hz
+
+of_end : (f : KtFormat) (w end : ℕ) (fault : Option FaultKind) → f ≡ format_after f (end_said w end fault)
+of_end f w end None = refl
+of_end f w end (Some kind) = refl
+
+of_stop : (f : KtFormat) (s : Store) (w : ℕ) (next : Option Record) → f ≡ format_after f (stop_said s w next)
+of_stop f s w (Some r) = refl
+of_stop f s w None = of_end f w (end_of s) s.fault
+
+of_step : (f : KtFormat) (s : Store) (w : ℕ) (cursor : Option ℕ) → f ≡ format_after f (step_said s w cursor)
+of_step f s w None = refl
+of_step f s w (Some c) = of_stop f s w (next_live s c)
+
+of_cut_if : (k : KeytabState) (p : ℕ) (a b : Bool) (r s : Code) → (cut_store k (if a then Err r else (if b then Ok (with_hole k p) else Err s))).format
+    ≡ format_after k.format (cut_said p (if a then Err r else (if b then Ok (with_hole k p) else Err s)))
+of_cut_if k p true b r s = refl
+of_cut_if k p false true r s = refl
+of_cut_if k p false false r s = refl
+
+of_rewrite_if : (k : KeytabState) (a b : Bool) (r s : Code) → (cut_store k (if a then Err r else (if b then Err s else Ok (rewrite_of k)))).format
+    ≡ format_after k.format (rewrite_said store_of (if a then Err r else (if b then Err s else Ok (rewrite_of k))))
+of_rewrite_if k true b r s = refl
+of_rewrite_if k false true r s = refl
+of_rewrite_if k false false r s = refl
+
+format_of_event : (s : SessionState KeytabState) (e : Event EntryParts) → (store_after keytab_rules s e).format ≡ format_after s.store.format (reply_to keytab_rules s e)
+format_of_event s Start = of_cond s.store.format (nat_lt (length s.cursors) 1024) (Started (length s.cursors) 2) (Refused code.TooManyWalks) refl refl
+format_of_event s (Resume p) = of_resume s.store.format (nat_lt (length s.cursors) 1024) (is_place (store_of s.store) p) (Started (length s.cursors) p) (Refused code.NotAPlace) (Refused code.TooManyWalks) refl refl refl
+format_of_event s (Step w) = of_step s.store.format (store_of s.store) w (slice_get s.cursors w)
+format_of_event s (Put e) = of_put s.store (put_result s.store e) (put_keeps s.store e)
+format_of_event s (Cut p) = of_cut_if s.store p (is_some (fault_of (store_of s.store))) (is_some (live_bytes (store_of s.store) p)) code.Damaged code.NotLive
+format_of_event s Rewrite = of_rewrite_if s.store (is_some (fault_of (store_of s.store))) (nat_lt s.store.limit (length (image_of (rewrite_of s.store)))) code.Damaged code.Full
+
+-- the lines of replies, each in the format that the keytab then had
+lines_of : (s : SessionState KeytabState) (events : List (Event EntryParts))
+    → flat_map (λ m. reply_text m.before.store.format m.reply) (history keytab_rules s events) ≡ reply_texts s.store.format (replies (history keytab_rules s events))
+lines_of s [] = refl
+lines_of s (e ∷ es) =
+    let next = after keytab_rules s e in
+    ap (λ (t : List ℕ). reply_text s.store.format (reply_to keytab_rules s e) ++ t)
+    (lines_of next es ∙ ap (λ (f : KtFormat). reply_texts f (replies (history keytab_rules next es))) (format_of_event s e))
+
+-- ---- what was made of a keytab
+
+pub any_said : {A B : Type 0} (f : A → B) (test : B → Bool) (xs : List A) → list_any (λ x. test (f x)) xs ≡ list_any test (map f xs)
+any_said f test [] = refl
+any_said f test (x ∷ xs) = ap (λ (b : Bool). test (f x) || b) (any_said f test xs)
+
+pub IsEdited-by : {A : Type 0} (keytab : KeytabState) (events : List (Event EntryParts)) (old new : SessionState KeytabState) (told : List Said) (e : Edited A)
+    → old ≡ new_session keytab → Ran keytab_rules old new events [] told → e.image.items ≡ image_of new.store → e.text.items ≡ reply_texts keytab.format told
+    → e.is_changed ≡ list_any is_change told → e.status ≡ (if list_any is_trouble told then 1 else 0) → IsEdited keytab events e
+IsEdited-by keytab events old new told e begins ran image text changed status =
+    let from_new : Ran keytab_rules (new_session keytab) new events [] told = subst (λ (s : SessionState KeytabState). Ran keytab_rules s new events [] told) begins ran in
+    let told_is : told ≡ replies (moments keytab events) = from_new.replies_are in
+    let new_is : new ≡ state_after keytab_rules (new_session keytab) events = from_new.state in
+    record {
+      ran = subst (λ (t : List Said). Ran keytab_rules (new_session keytab) (state_after keytab_rules (new_session keytab) events) events [] t) told_is
+          (subst (λ (s : SessionState KeytabState). Ran keytab_rules (new_session keytab) s events [] told) new_is from_new);
+      image = image ∙ ap (λ (s : SessionState KeytabState). image_of s.store) new_is;
+      text = text ∙ ap (reply_texts keytab.format) told_is ∙ sym (lines_of (new_session keytab) events);
+      is_changed = changed ∙ ap (list_any is_change) told_is;
+      status = status ∙ ap (λ (t : List Said). if list_any is_trouble t then 1 else 0) told_is;
+    }
+
+one_at_most : (b : Bool) → ◌<◌ (if b then 1 else 0) 3
+one_at_most true = omega arith
+one_at_most false = omega arith
+
+-- its status is that of no failure
+pub IsEdited-low : {A : Type 0} (keytab : KeytabState) (events : List (Event EntryParts)) (e : Edited A) → IsEdited keytab events e → e.status < 3
+IsEdited-low keytab events e is = subst (λ (n : ℕ). n < 3) (sym is.status) (one_at_most (list_any is_trouble (replies (moments keytab events))))
