@@ -38,18 +38,16 @@ class KeytabEntry:
 
     def text(self) -> bytes:
         """The text of the name."""
-        parts = [quoted(part) for part in self.name]
-        return b"/".join(parts[:-1]) + b"@" + parts[-1]
+        return name_text(self.name)
 
     def line(self, columns: str) -> bytes:
         """The line of a listing."""
         shown = b"%4d " % self.kvno
         if "t" in columns:
-            time = FIRST_SECOND + timedelta(seconds=self.timestamp)
-            shown += time.strftime("%Y-%m-%dT%H:%M:%SZ ").encode()
+            shown += time_text(self.timestamp) + b" "
         shown += self.text()
         if "e" in columns:
-            shown += b" (" + NAMES.get(self.enctype, b"etype %d" % self.enctype) + b")"
+            shown += b" (" + etype_text(self.enctype) + b")"
         if "K" in columns:
             shown += b" (0x" + self.key.hex().encode() + b")"
         return shown
@@ -93,6 +91,23 @@ class Fields:
 def quoted(part: bytes) -> bytes:
     """A component or realm as a name's text has it."""
     return b"".join(QUOTES.get(byte, bytes([byte])) for byte in part)
+
+
+def name_text(name: tuple[bytes, ...]) -> bytes:
+    """The text of a name, which is its components and then its realm."""
+    *components, realm = map(quoted, name)
+    return b"/".join(components) + b"@" + realm
+
+
+def time_text(seconds: int) -> bytes:
+    """The text of a time."""
+    time = FIRST_SECOND + timedelta(seconds=seconds)
+    return time.strftime("%Y-%m-%dT%H:%M:%SZ").encode()
+
+
+def etype_text(enctype: int) -> bytes:
+    """The text of an enctype."""
+    return NAMES.get(enctype, b"etype %d" % enctype)
 
 
 def read_entry(data: bytes, version: int, order: str) -> KeytabEntry:

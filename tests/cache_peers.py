@@ -1,0 +1,73 @@
+"""What MIT's klist tells of a cache, and what ours does, in one form."""
+from __future__ import annotations
+
+import re
+import time
+from dataclasses import dataclass
+
+STAMP = rb"\d\d/\d\d/\d\d \d\d:\d\d:\d\d"
+MIT_TICKET = re.compile(rb"(" + STAMP + rb")  (" + STAMP + rb")  (.*)")
+OUR_TICKET = re.compile(rb"(\S{20}) (\S{20}) (.*)")
+
+# What stands under a ticket. MIT's klist puts several on a line, and leaves out what is not there.
+MIT_PARTS = {
+    "renew_till": re.compile(rb"renew until (" + STAMP + rb")"),
+    "flags": re.compile(rb"Flags: (\w+)"),
+    "etype": re.compile(rb"Etype \(skey, tkt\): (?:DEPRECATED:)?(\S+), "),
+}
+OUR_PARTS = {
+    "renew_till": re.compile(rb"    renew until (\S{20})"),
+    "flags": re.compile(rb"    Flags: (\w*)"),
+    "etype": re.compile(rb"    Etype: (.*)"),
+}
+
+
+@dataclass
+class Shown:
+    """A ticket as a listing shows it; a time as MIT prints it, in UTC."""
+
+    starttime: bytes
+    endtime: bytes
+    server: bytes
+    renew_till: bytes = b""
+    flags: bytes = b""
+    etype: bytes = b""
+
+
+# A ticket, or the line of a configuration entry.
+Told = Shown | bytes
+
+
+def as_mit(text: bytes) -> bytes:
+    """A time of ours as MIT prints it."""
+    if not text.endswith(b"Z"):
+        return text
+    return time.strftime("%m/%d/%y %H:%M:%S", time.strptime(text.decode(), "%Y-%m-%dT%H:%M:%SZ")).encode()
+
+
+def told(listed: bytes, ticket: re.Pattern[bytes], parts: dict[str, re.Pattern[bytes]]) -> list[Told]:
+    """What the lines after the heading tell."""
+    found: list[Told] = []
+    for line in listed.splitlines()[4:]:
+        begun = ticket.fullmatch(line)
+        if begun:
+            start, end, server = begun.groups()
+            found.append(Shown(as_mit(start), as_mit(end), server))
+        elif line[:1] not in (b" ", b"\t") or not found or not isinstance(found[-1], Shown):
+            found.append(line)
+        else:
+            for name, pattern in parts.items():
+                part = pattern.search(line)
+                if part:
+                    setattr(found[-1], name, as_mit(part[1]))
+    return found
+
+
+def told_by_mit(listed: bytes) -> list[Told]:
+    """What MIT's klist tells."""
+    return told(listed, MIT_TICKET, MIT_PARTS)
+
+
+def told_by_us(listed: bytes) -> list[Told]:
+    """What ours tells."""
+    return told(listed, OUR_TICKET, OUR_PARTS)
