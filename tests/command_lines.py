@@ -90,17 +90,6 @@ NO_ETYPE += "aes128-cts", "rc4-hmac", "etype 17", "etype 1", "17,18"
 # Texts that are no name with a realm.
 NO_NAME = "", "b", "host/a", "b\\@R", "\\", "b@R\\", "b\\", "b@R@S", "b@R@", "@@", "b@R/x", "b@/"
 
-# Lines that are refused as long as these options and commands are not there. Whoever adds one of
-# them takes its lines out.
-NOT_THERE_YET: list[Line] = [
-    ("klist", "k"),
-    ("klist", "-c", "k"),
-    ("klist", "-f", "k"),
-    ("klist", "-C", "k"),
-    ("klist", "-e", "k"),
-    ("klist", "-efC", "k"),
-]
-
 # Lines that list `k`, each with the letters of its columns.
 TAKEN: list[tuple[Line, str]] = [
     (("klist", "-k", "k"), ""),
@@ -203,7 +192,6 @@ def cases() -> list[Case]:
     found = Outcome(0, b"found 53 kvno 3 etype 17 b@R\n")
     wanted = [
         *(("refused", words, bad) for words in [*REFUSED, *unreadable()]),
-        *(("not there yet", words, bad) for words in NOT_THERE_YET),
         *(("taken", words, Outcome(0, sample(letters))) for words, letters in TAKEN),
         *(("finding", words, found) for words in FINDING),
         *(("editing", words, Outcome(0, b"walk 0 at 2\n")) for words in EDITING),

@@ -13,6 +13,7 @@ import json
 import os
 import re
 
+from cache_command_lines import are_known
 from harness import Case, Outcome, Report, check_case, knows
 
 # The lines that the program knows, as words with a space between. What the program learns is
@@ -22,8 +23,9 @@ KNOWN = re.compile(
     r"|(ktfind|ktedit) .*"
 )
 
-# Those that it knows where it has ktutil.
+# Those that it knows where it has ktutil, and where it lists caches.
 OF_KTUTIL = re.compile(r"ktutil( .*)?")
+OF_CACHES = re.compile(r"klist( (-[cefC]+|[^ -][^ ]*))+")
 
 
 def given(value: dict) -> bytes:
@@ -66,7 +68,9 @@ def check(report: Report, program: str, folder: str) -> None:
         return
     with open(path, encoding="utf-8") as file:
         cases = [json.loads(line) for line in file]
-    patterns = [KNOWN, OF_KTUTIL] if knows(program, "ktutil") else [KNOWN]
+    patterns = [KNOWN]
+    patterns += [OF_KTUTIL] if knows(program, "ktutil") else []
+    patterns += [OF_CACHES] if are_known(program) else []
     known = [
         fields for fields in cases
         if any(pattern.fullmatch(" ".join(fields["argv"])) for pattern in patterns)

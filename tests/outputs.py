@@ -5,20 +5,35 @@ import os
 import resource
 import signal
 import subprocess
+from dataclasses import dataclass
 
 from harness import SECONDS, Case, Outcome, Report, faults_of, folder_of, message, run, run_case
 from images import TWO, Entry, entries
 from listings import B_LINE, HOST_LINE, listed
 
-KLIST = ("klist", "-k", "k")
 KTFIND = ("ktfind", "k", "0", "0", "b@R")
-TEXT = listed(HOST_LINE, B_LINE)
 FAILED = message(3, "cannot write output")
+
+
+@dataclass(frozen=True)
+class Listing:
+    """The words of a listing, the file that they name, and the text."""
+
+    words: tuple[str, ...]
+    image: bytes
+    text: bytes
+
+    def files(self) -> dict[str, bytes]:
+        """The file by its name."""
+        return {self.words[-1]: self.image}
+
+
+KLIST = Listing(("klist", "-k", "k"), TWO, listed(HOST_LINE, B_LINE))
 
 # More than a pipe holds: 300 lines of 1000 bytes.
 LONG_NAME = b"x" * 992
-LONG_IMAGE = entries(*[Entry((LONG_NAME,))] * 300)
-LONG_TEXT = listed(*[b"   3 " + LONG_NAME + b"@R"] * 300)
+LONG = Listing(KLIST.words, entries(*[Entry((LONG_NAME,))] * 300),
+               listed(*[b"   3 " + LONG_NAME + b"@R"] * 300))
 
 
 def check_lost(report: Report, program: str, stream: str, cases: list[Case]) -> None:
@@ -36,7 +51,7 @@ def check_lost(report: Report, program: str, stream: str, cases: list[Case]) -> 
 def check_no_output(report: Report, program: str) -> None:
     """The output fails: for listings, for help, and where nothing is printed."""
     files = {"k": TWO, "damaged": TWO[:-1]}
-    lines = [KLIST, ("klist", "-k", "damaged"), KTFIND, ("--help",), ("klist", "--help")]
+    lines = [KLIST.words, ("klist", "-k", "damaged"), KTFIND, ("--help",), ("klist", "--help")]
     wanted = [*((words, FAILED) for words in lines),
               (("klist", "-k", "no"), message(1, "no: no such file"))]
     check_lost(report, program, "stdout", [Case("", *one, files) for one in wanted])
@@ -45,7 +60,7 @@ def check_no_output(report: Report, program: str) -> None:
 def check_no_error_output(report: Report, program: str) -> None:
     """A failure of the error output changes neither the status nor what is printed."""
     wanted = [
-        (KLIST, Outcome(0, TEXT)),
+        (KLIST.words, Outcome(0, KLIST.text)),
         (KTFIND, Outcome(0, b"found 53 kvno 3 etype 17 b@R\n")),
         (("klist", "-k", "no"), Outcome(1)),
         (("frob",), Outcome(2)),
@@ -53,7 +68,7 @@ def check_no_error_output(report: Report, program: str) -> None:
     check_lost(report, program, "stderr", [Case("", *one, {"k": TWO}) for one in wanted])
 
 
-def limited(program: str, folder: str, most: int) -> Outcome:
+def limited(program: str, words: tuple[str, ...], folder: str, most: int) -> Outcome:
     """A run whose output is a file of at most so many bytes: the write that passes them is cut."""
 
     def limit() -> None:
@@ -62,25 +77,27 @@ def limited(program: str, folder: str, most: int) -> Outcome:
 
     path = os.path.join(folder, "out")
     with open(path, "wb") as out:
-        got = run(program, KLIST, folder, stdout=out, preexec_fn=limit)
+        got = run(program, words, folder, stdout=out, preexec_fn=limit)
     with open(path, "rb") as out:
         return Outcome(got.status, out.read(), got.err)
 
 
-def check_each_byte(report: Report, program: str) -> None:
+def check_each_byte(report: Report, program: str, listing: Listing) -> None:
     """The output takes each number of bytes that is less than the text has, and then all."""
-    with folder_of({"k": TWO}) as folder:
-        for most in range(len(TEXT)):
-            wanted = Outcome(FAILED.status, TEXT[:most], FAILED.err)
-            got = limited(program, folder, most)
-            report.compare(f"room for {most} of {len(TEXT)} bytes", wanted, got)
-        report.compare("room for each byte", Outcome(0, TEXT), limited(program, folder, len(TEXT)))
+    words, text = listing.words, listing.text
+    with folder_of(listing.files()) as folder:
+        for most in range(len(text)):
+            wanted = Outcome(FAILED.status, text[:most], FAILED.err)
+            got = limited(program, words, folder, most)
+            report.compare(f"room for {most} of {len(text)} bytes: {' '.join(words)}", wanted, got)
+        got = limited(program, words, folder, len(text))
+        report.compare(f"room for each byte: {' '.join(words)}", Outcome(0, text), got)
 
 
-def piped(program: str, folder: str, **more: object) -> subprocess.Popen[bytes]:
+def piped(program: str, words: tuple[str, ...], folder: str, **more) -> subprocess.Popen[bytes]:
     """A run whose outputs are pipes."""
     return subprocess.Popen(
-        [program, *KLIST],
+        [program, *words],
         cwd=folder,
         stdin=subprocess.DEVNULL,
         stdout=subprocess.PIPE,
@@ -89,39 +106,48 @@ def piped(program: str, folder: str, **more: object) -> subprocess.Popen[bytes]:
     )
 
 
-def closed_pipe(program: str, folder: str, taken: int, action: signal.Handlers) -> Outcome:
+def closed_pipe(
+    program: str, words: tuple[str, ...], folder: str, taken: int, action: signal.Handlers
+) -> Outcome:
     """A run into a pipe whose reader closes it after so many bytes, and what SIGPIPE then does."""
-    with piped(program, folder, preexec_fn=lambda: signal.signal(signal.SIGPIPE, action)) as started:
+    with piped(program, words, folder,
+               preexec_fn=lambda: signal.signal(signal.SIGPIPE, action)) as started:
         out = started.stdout.read(taken)
         started.stdout.close()
         err = started.stderr.read()
         return Outcome(started.wait(SECONDS), out, err)
 
 
-def check_closed_pipe(report: Report, program: str) -> None:
+def check_closed_pipe(report: Report, program: str, long: Listing) -> None:
     """A reader that goes away: the write fails, for the program ignores SIGPIPE in each case."""
-    with folder_of({"k": LONG_IMAGE}) as folder:
+    with folder_of(long.files()) as folder:
         for action in (signal.SIG_DFL, signal.SIG_IGN):
             for taken in (0, 1, 20, 1000, 70_000):
-                wanted = Outcome(FAILED.status, LONG_TEXT[:taken], FAILED.err)
-                got = closed_pipe(program, folder, taken, action)
-                report.compare(f"pipe closed after {taken} bytes, {action.name}", wanted, got)
+                wanted = Outcome(FAILED.status, long.text[:taken], FAILED.err)
+                got = closed_pipe(program, long.words, folder, taken, action)
+                name = f"pipe closed after {taken} bytes, {action.name}: {' '.join(long.words)}"
+                report.compare(name, wanted, got)
 
 
-def check_slow_pipe(report: Report, program: str) -> None:
+def check_slow_pipe(report: Report, program: str, listing: Listing) -> None:
     """A reader that takes one byte at a time gets the whole text."""
-    with folder_of({"k": TWO}) as folder:
-        with piped(program, folder, bufsize=0) as started:
+    with folder_of(listing.files()) as folder:
+        with piped(program, listing.words, folder, bufsize=0) as started:
             out = b"".join(iter(lambda: started.stdout.read(1), b""))
             err = started.stderr.read()
             got = Outcome(started.wait(SECONDS), out, err)
-    report.compare("a byte at a time", Outcome(0, TEXT), got)
+    report.compare(f"a byte at a time: {' '.join(listing.words)}", Outcome(0, listing.text), got)
+
+
+def check_listing(report: Report, program: str, listing: Listing, long: Listing) -> None:
+    """A short listing and a long one, into files and pipes that take less than all."""
+    check_each_byte(report, program, listing)
+    check_closed_pipe(report, program, long)
+    check_slow_pipe(report, program, listing)
 
 
 def check(report: Report, program: str) -> None:
     """Runs all of this topic."""
     check_no_output(report, program)
     check_no_error_output(report, program)
-    check_each_byte(report, program)
-    check_closed_pipe(report, program)
-    check_slow_pipe(report, program)
+    check_listing(report, program, KLIST, LONG)
