@@ -11,10 +11,11 @@ QUOTED = b"/@\\\n\t\b\0"  # the bytes that a printed name quotes
 
 
 class Case(NamedTuple):
-    """A keytab file to make: its group, its size in the group's own unit, and its bytes."""
+    """A file to make: its group, its size in the group's own unit, and its bytes."""
 
     group: str
     size: int
+    unit: str
     image: bytes
 
 
@@ -93,14 +94,10 @@ GROUPS = [
 ]
 
 
-def unit(group):
-    return next(row[1] for row in GROUPS if row[0] == group)
-
-
-def cases(quick):
+def cases_of(groups, quick):
     """The cases one by one, so that one image at a time is in memory."""
-    for group, _, make, sizes, quick_sizes in GROUPS:
+    for group, unit, make, sizes, quick_sizes in groups:
         for size in quick_sizes if quick else sizes:
             image = make(size)
             assert len(image) <= LIMIT, (group, size, len(image))
-            yield Case(group, size, image)
+            yield Case(group, size, unit, image)

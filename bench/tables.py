@@ -2,7 +2,6 @@
 
 import statistics
 
-import keytabs
 import processes
 
 MEGA = 1_000_000
@@ -13,7 +12,7 @@ def ratio(part, whole, form="{:.3f}"):
 
 
 def name_of(row):
-    return f"{row.size:,} {keytabs.unit(row.group)}"
+    return f"{row.size:,} {row.unit}"
 
 
 def beside(row, ours, theirs):
