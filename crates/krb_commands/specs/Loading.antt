@@ -1,9 +1,12 @@
--- From a file's name to its keytab.
+-- From a file's name to what is done with its image.
 use Rattle.std.specs.Prelude.{◌≡◌, ◌⊎◌, ℕ, List, [], ◌++◌, Result, Ok, Err, IsFalse, codes, decimal}
 use Rattle.krb_wire.specs.declared.format.Order.{Order}
 use Rattle.krb_keytab.specs.declared.open.KtOpenFault.{KtOpenFault}
 use Rattle.krb_keytab.specs.Open.{open_fault_number}
 use Rattle.krb_keytab.specs.Store.{KeytabState, open_result}
+use Rattle.krb_ccache.specs.declared.open.CcOpenFault.{CcOpenFault}
+use Rattle.krb_ccache.specs.Open.{open_fault_number as cache_fault_number}
+use Rattle.krb_ccache.specs.Store.{CacheState, open_result as cache_result}
 use Rattle.krb_text.specs.declared.files.LoadFault.{LoadFault}
 use Rattle.krb_text.specs.declared.files.LoadFault.TheVariants as load
 use Rattle.krb_text.specs.declared.files.SaveFault.{SaveFault}
@@ -36,23 +39,39 @@ load_status load.NoMemory = 4
 abbrev pub open_message : List ℕ → KtOpenFault → List ℕ
 open_message file fault = file_message file (codes "not a keytab (" ++ decimal (open_fault_number fault) ++ codes ")")
 
+-- what is said of a file that is no cache
+abbrev pub cache_message : List ℕ → CcOpenFault → List ℕ
+cache_message file fault = file_message file (codes "not a cache (" ++ decimal (cache_fault_number fault) ++ codes ")")
+
 -- a run that ends with an image that is no keytab
 abbrev pub open_fault_run : List ℕ → KtOpenFault → Run
 open_fault_run file fault = record { out = []; err = open_message file fault; status = 1 }
+
+-- a run that ends with an image that is no cache
+abbrev pub cache_fault_run : List ℕ → CcOpenFault → Run
+cache_fault_run file fault = record { out = []; err = cache_message file fault; status = 1 }
 
 -- a run that ends with a file that was not loaded
 abbrev pub load_fault_run : List ℕ → LoadFault → Run
 load_fault_run file fault = record { out = []; err = load_message file fault; status = load_status fault }
 
--- an image was opened, and something is done with the keytab, or it was not
-abbrev pub opening_run : (KeytabState → Run) → List ℕ → Result KeytabState KtOpenFault → Run
-opening_run then_ file (Ok keytab) = then_ keytab
-opening_run then_ file (Err fault) = open_fault_run file fault
+-- an image was opened, and something is done with what it holds, or it was not
+abbrev pub opening_run : {X E : Type 0} → (X → Run) → (E → Run) → Result X E → Run
+opening_run then_ refuse (Ok x) = then_ x
+opening_run then_ refuse (Err fault) = refuse fault
 
--- a file was loaded, or not
-abbrev pub load_run : (KeytabState → Run) → Order → List ℕ → Result (List ℕ) LoadFault → Run
-load_run then_ order file (Ok image) = opening_run then_ file (open_result order most_bytes image)
-load_run then_ order file (Err fault) = load_fault_run file fault
+-- what is done with the keytab of an image
+abbrev pub keytab_run : (KeytabState → Run) → Order → List ℕ → List ℕ → Run
+keytab_run then_ order file image = opening_run then_ (open_fault_run file) (open_result order most_bytes image)
+
+-- what is done with the cache of an image
+abbrev pub cache_run : (CacheState → Run) → List ℕ → List ℕ → Run
+cache_run then_ file image = opening_run then_ (cache_fault_run file) (cache_result most_bytes image)
+
+-- a file was loaded, and something is done with its image, or it was not
+abbrev pub load_run : (List ℕ → Run) → List ℕ → Result (List ℕ) LoadFault → Run
+load_run then_ file (Ok image) = then_ image
+load_run then_ file (Err fault) = load_fault_run file fault
 
 -- a run that ends with a file that was not saved
 abbrev pub save_fault_run : List ℕ → SaveFault → Run
@@ -77,15 +96,13 @@ module _ {F : Type 0} (trait : Ghosts F) (old new : F) where
     pub cause : HasCause (trait.failure_count old) (trait.failure_count new) out' err err' status
     pub files : KeepsFiles
 
-  -- the keytab of a file: its image was loaded and opened, and nothing is said
-  pub record OpensKeytab (file : List ℕ) (order : Order) (err err' : Watch) (keytab : KeytabState) : Type 0 where
-    pub image : List ℕ
+  -- the image of a file was loaded, and nothing is said
+  pub record LoadsImage (file : List ℕ) (err err' : Watch) (image : List ℕ) : Type 0 where
     pub answered : trait.answers old file most_bytes (Ok image) new
     pub stands : trait.is_honest old → loaded (trait.file old file) most_bytes ≡ Ok image
-    pub opened : open_result order most_bytes image ≡ Ok keytab
     pub quiet : err' ≡ err
     pub files : KeepsFiles
 
-  -- a file without a keytab: why is said, and a run ends with that status, whatever was to be done with the keytab
-  abbrev pub EndsUnopened : List ℕ → Order → Watch → Watch → ℕ → Type 0
-  EndsUnopened file order err err' status = (then_ : KeytabState → Run) (out : Watch) → IsFalse out.failed → RunsOver file (load_run then_ order file) out out err err' status
+  -- a file was not loaded: why is said, and a run ends with that status, whatever was to be done with the image
+  abbrev pub EndsUnloaded : List ℕ → Watch → Watch → ℕ → Type 0
+  EndsUnloaded file err err' status = (then_ : List ℕ → Run) (out : Watch) → IsFalse out.failed → RunsOver file (load_run then_ file) out out err err' status
