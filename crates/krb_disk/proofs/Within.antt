@@ -2,7 +2,7 @@
 use Rattle.std.proofs.Common.{◌≡◌, ℕ, Bool, true, false, arith, sym, ap, ◌∙◌, subst, bit_and}
 use Rattle.std.specs.Int.Bits.{and_self}
 use Rattle.std.proofs.lemmas.Nat.{and_assoc, and_comm, and_le_l}
-use Rattle.krbfile.specs.Mode.{IsWithin, IsNewMode, GivesNoMore, owner_rights, group_rights, other_rights}
+use Rattle.krb_disk.specs.Mode.{IsWithin, IsNewMode, GivesNoMore, owner_rights, group_rights, other_rights}
 
 -- what two have in common is among those of the first
 within_first : (a b : ℕ) → IsWithin (bit_and a b) a

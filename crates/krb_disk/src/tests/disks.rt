@@ -1,6 +1,6 @@
 ghost use Rattle.std.specs.Prelude.{IsErr};
 
-use crate::disk::SetOwner;
+use crate::SetOwner;
 use std::alloc::{Allocator, Global};
 use std::cell::{Cell, RefCell};
 use std::fs::{Metadata, OpenFile, OpenOptions, Permissions};

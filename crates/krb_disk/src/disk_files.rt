@@ -2,23 +2,20 @@
 
 ghost use Rattle.std.specs.Prelude.{◌≡◌, ◌≤◌, ℕ, None};
 ghost use Rattle.krb_text.specs.Files.{CountsFailure};
-ghost use Rattle.krbfile.specs.Disk.{AnswersFromDisk, SavesToDisk};
+ghost use Rattle.krb_disk.specs.DiskFiles.{AnswersFromDisk, SavesToDisk};
 
-mod mode;
-mod owner;
-mod save;
-mod target;
-
+use crate::owner::SetOwner;
+use crate::save::save_file;
 use krb_commands::load;
 use krb_text::{Files, LoadFault, SaveFault};
-pub use owner::SetOwner;
-use save::save_file;
 use std::alloc::Allocator;
 use std::fs::OpenFile;
 use std::marker::Model;
 use std::{fs, io, rt};
 
-/// The files of a disk. Nothing is known of what they hold; contracts see how many calls failed.
+/// The files of a disk. Nothing is known of what they hold; contracts see how many calls failed. A load
+/// reads the whole file. A save makes a new file of the bytes, which then takes the name: whatever fails,
+/// the file is the old or the new one.
 #[derive(Drop)]
 pub struct DiskFiles<'a, R> {
     rt: &'a R,
@@ -32,6 +29,7 @@ impl<'a, R> Model for DiskFiles<'a, R> {
 }
 
 impl<'a, R: rt::Files> DiskFiles<'a, R> {
+    /// The files that `rt` reaches, of which no call failed yet.
     pub fn new(rt: &'a R) -> DiskFiles<'a, R>
         ensures { result ≡ 0 }
     {

@@ -1,7 +1,7 @@
 //! The mode of a file that takes another's place.
 
 ghost use Rattle.std.specs.Prelude.{◌≡◌, ◌<◌};
-ghost use Rattle.krbfile.specs.Mode.{IsNewMode, GivesNoMore};
+ghost use Rattle.krb_disk.specs.Mode.{IsNewMode, GivesNoMore};
 
 /// Whether a new file has the owner and the group of the old one.
 #[derive(Clone, Copy)]
@@ -23,7 +23,7 @@ struct Rights {
 
 impl Rights {
     ghost use Rattle.std.specs.Prelude.{bit_and};
-    ghost use Rattle.krbfile.specs.Mode.{owner_rights, group_rights, other_rights};
+    ghost use Rattle.krb_disk.specs.Mode.{owner_rights, group_rights, other_rights};
 
     fn of_mode(mode: u32) -> Rights
         ensures owner { result.owner ≡ owner_rights mode }

@@ -3,9 +3,9 @@
 ghost use Rattle.std.specs.Prelude.{OnOk};
 ghost use Rattle.std.specs.Io.KnownBytes.{Appends};
 
-use crate::disk::mode::{Inheritance, new_mode};
-use crate::disk::owner::SetOwner;
-use crate::disk::target::{Target, find_target};
+use crate::mode::{Inheritance, new_mode};
+use crate::owner::SetOwner;
+use crate::target::{Target, find_target};
 use krb_commands::save;
 use std::fs::{self, Metadata, OpenFile, OpenOptions, Permissions};
 use std::io::{self, ErrorKind, Write};

@@ -1,5 +1,5 @@
 use super::disks::{Calls, Disk};
-use crate::disk::DiskFiles;
+use crate::DiskFiles;
 use krb_text::{Files, LoadFault, SaveFault};
 use std::alloc::Global;
 use std::test::Fail;

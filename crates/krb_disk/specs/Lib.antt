@@ -1,3 +1,3 @@
 -- What the contracts of this crate say.
-pub mod Disk
+pub mod DiskFiles
 pub mod Mode
