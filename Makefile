@@ -1,22 +1,26 @@
 # make            proves and builds the program, crates/krbfile/out/krbfile
 # make run        the same, and lists the sample keytab
-# make test       proves every crate from nothing, runs all tests, and then the built program's
+# make test       proves every crate from nothing, runs all tests, and then those of the program that this built
 # make install    puts the program into PREFIX/bin, and its manual page into PREFIX/share/man/man1
 
 PREFIX ?= /usr/local
 PROGRAM = crates/krbfile/out/krbfile
+SOURCES = crates.txt $(shell find crates/*/src crates/*/specs crates/*/proofs -type f)
 
 .PHONY: all run test install
 
-all:
+all: $(PROGRAM)
+
+$(PROGRAM): $(SOURCES)
 	cd crates/krbfile && rt run -- --help > /dev/null
+	touch $@
 
 run: all
 	$(PROGRAM) klist -k crates/krbfile/data/k
 
 test:
 	rt ci
-	$(MAKE) --no-print-directory all
+	$(MAKE) --no-print-directory $(PROGRAM)
 	tests/run $(PROGRAM)
 
 install: all

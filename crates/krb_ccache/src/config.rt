@@ -11,8 +11,15 @@ const REALM: &[u8] = b"X-CACHECONF:";
 
 const FIRST: &[u8] = b"krb5_ccache_conf_data";
 
-// The key and perhaps the principal's text that the server of a configuration entry names.
-fn config_name<N: Name>(server: &N) -> Option<(&[u8], Option<&[u8]>)>
+/// What a configuration entry holds its value under: a key, and perhaps a principal's text.
+#[derive(Clone, Copy)]
+pub struct ConfigName<'a> {
+    pub key: &'a [u8],
+    pub principal: Option<&'a [u8]>,
+}
+
+// What the server of a configuration entry names.
+fn name_in<N: Name>(server: &N) -> Option<ConfigName<'_>>
     ensures { option_map config_parts result ≡ config_name (N.parts server.now) }
 {
     if server.realm() != REALM {
@@ -28,7 +35,14 @@ fn config_name<N: Name>(server: &N) -> Option<(&[u8], Option<&[u8]>)>
     if components.next().is_some() {
         return None;
     }
-    Some((key, principal))
+    Some(ConfigName { key, principal })
+}
+
+/// What a credential holds its value under, if it is a configuration entry.
+pub fn config_name<'a>(credential: &'a CredView<'_>) -> Option<ConfigName<'a>>
+    ensures { option_map config_parts result ≡ config_name credential.now.server }
+{
+    name_in(credential.server())
 }
 
 /// Whether it is a configuration entry: its server's realm is `X-CACHECONF:`, and its server has two or three
@@ -36,7 +50,7 @@ fn config_name<N: Name>(server: &N) -> Option<(&[u8], Option<&[u8]>)>
 pub fn is_config(credential: &CredView<'_>) -> bool
     ensures { result ≡ is_config credential.now }
 {
-    config_name(credential.server()).is_some()
+    config_name(credential).is_some()
 }
 
 // Whether two texts are the same, or neither is there.
@@ -59,8 +73,10 @@ pub fn is_asked(
 ) -> bool
     ensures { result ≡ is_asked owner.now key.now (option_copied principal.entry) credential.now }
 {
-    let Some((held, text)) = config_name(credential.server()) else {
+    let Some(name) = config_name(credential) else {
         return false;
     };
-    held == key && same_text(text, principal) && same_name(owner, credential.client())
+    name.key == key
+        && same_text(name.principal, principal)
+        && same_name(owner, credential.client())
 }

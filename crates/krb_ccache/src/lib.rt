@@ -17,7 +17,7 @@ mod version;
 mod view;
 
 pub use ccache::Ccache;
-pub use config::is_config;
+pub use config::{ConfigName, config_name, is_config};
 pub use credential::CredView;
 pub use credentials::Credentials;
 pub use laws::{caches_are_opened_again, one_reading};

@@ -21,7 +21,7 @@ use Rattle.krb_text.specs.Files.{SameFiles, SetsFile, CountsFailure, loaded}
 use Rattle.krb_text.specs.Script.{ScriptFault, RefusesScript, script}
 use Rattle.krb_commands.specs.declared.ktedit.Edited.{Edited}
 use Rattle.krb_commands.specs.Edits.{saved_of, run_of, IsEdited, OpensToEdit, EndsUnedited, SaysWhy}
-use Rattle.krb_commands.specs.KeytabFile.{most_bytes, load_message, load_status, load_fault_run, save_fault_run, saved_run}
+use Rattle.krb_commands.specs.Loading.{most_bytes, load_message, load_status, load_fault_run, save_fault_run, saved_run}
 use Rattle.krb_commands.specs.Input.{GivesInput, input_run, line_run, refusal_run}
 use Rattle.krb_commands.specs.Ktedit.{is_changed, reply_lines, edit_run, keytab_loaded, edit_keytab, RunsFairly, Edit, no_edit, edit_script, edit_input, FileAfter, Loads, LoadsHonestly, RunsOutFirst, LeavesFiles, SavesDue, SavesFile, EditsFile, EndsScript, EndsInput, EndsHonestly, RunsEdit}
 use Rattle.krb_commands.specs.Messages.{message}

@@ -3,17 +3,15 @@ use Rattle.std.proofs.Common.{◌≡◌, ◌≢◌, ℕ, List, [], rules, refl, 
 use Rattle.std.specs.Prelude.{IsTrue, IsFalse, Result, Ok, Err, is_ok, codes, Option}
 use Rattle.std.specs.Io.KnownBytes.{Appends}
 use Rattle.std.proofs.lemmas.Bool.{false≢true, true≢false}
-use Rattle.krb_wire.specs.declared.format.Order.{Order}
 use Rattle.krb_walk.specs.declared.refusal.Code.{Code}
 use Rattle.krb_keytab.specs.Find.{PlacedEntry}
-use Rattle.krb_keytab.specs.Store.{KeytabState}
 use Rattle.krb_text.specs.declared.files.LoadFault.{LoadFault}
 use Rattle.krb_text.specs.declared.files.LoadFault.TheVariants as load
 use Rattle.krb_text.specs.Bytes.{Watch, AppendsPrefix}
 use Rattle.krb_text.specs.Files.{CountsFailure, loaded}
 use Rattle.krb_text.proofs.Prefixes.{AppendsPrefix-all, AppendsPrefix-none, Appends-nil}
 use Rattle.krb_commands.specs.Messages.{message}
-use Rattle.krb_commands.specs.KeytabFile.{load_run, load_message, load_status, most_bytes}
+use Rattle.krb_commands.specs.Loading.{load_run, load_message, load_status, most_bytes}
 use Rattle.krb_commands.specs.Ktfind.{found_run, refused_message}
 use Rattle.krb_commands.specs.Runs.{Run, Says, EndsRun, EndsLoaded, FailsToRead}
 
@@ -54,21 +52,21 @@ EndsRun-failed due out out' err err' failed prefix says =
     }
 
 -- with a file that was not loaded
-pub EndsRun-unloaded : (then_ : KeytabState → Run) (order : Order) (file : List ℕ) (fault : LoadFault) (out err err' : Watch)
-    → IsFalse out.failed → Says err err' (load_message file fault) → EndsRun (load_run then_ order file (Err fault)) out out err err' (load_status fault)
-EndsRun-unloaded then_ order file load.Missing out err err' well says =
-    let not4 : 1 ≢ 4 = search rules in EndsRun-done (load_run then_ order file (Err load.Missing)) out out err err' 1 well not4 refl (Appends-nil out.contents) says
-EndsRun-unloaded then_ order file load.TooLarge out err err' well says =
-    let not4 : 1 ≢ 4 = search rules in EndsRun-done (load_run then_ order file (Err load.TooLarge)) out out err err' 1 well not4 refl (Appends-nil out.contents) says
-EndsRun-unloaded then_ order file load.Failed out err err' well says =
-    let not4 : 3 ≢ 4 = search rules in EndsRun-done (load_run then_ order file (Err load.Failed)) out out err err' 3 well not4 refl (Appends-nil out.contents) says
-EndsRun-unloaded then_ order file load.NoMemory out err err' well says =
-    EndsRun-no_memory (load_run then_ order file (Err load.NoMemory)) out out err err' well (AppendsPrefix-none out.contents _) says
+pub EndsRun-unloaded : (then_ : List ℕ → Run) (file : List ℕ) (fault : LoadFault) (out err err' : Watch)
+    → IsFalse out.failed → Says err err' (load_message file fault) → EndsRun (load_run then_ file (Err fault)) out out err err' (load_status fault)
+EndsRun-unloaded then_ file load.Missing out err err' well says =
+    let not4 : 1 ≢ 4 = search rules in EndsRun-done (load_run then_ file (Err load.Missing)) out out err err' 1 well not4 refl (Appends-nil out.contents) says
+EndsRun-unloaded then_ file load.TooLarge out err err' well says =
+    let not4 : 1 ≢ 4 = search rules in EndsRun-done (load_run then_ file (Err load.TooLarge)) out out err err' 1 well not4 refl (Appends-nil out.contents) says
+EndsRun-unloaded then_ file load.Failed out err err' well says =
+    let not4 : 3 ≢ 4 = search rules in EndsRun-done (load_run then_ file (Err load.Failed)) out out err err' 3 well not4 refl (Appends-nil out.contents) says
+EndsRun-unloaded then_ file load.NoMemory out err err' well says =
+    EndsRun-no_memory (load_run then_ file (Err load.NoMemory)) out out err err' well (AppendsPrefix-none out.contents _) says
 
 -- a file was loaded
-pub EndsLoaded-ok : (Answered : Result (List ℕ) LoadFault → Type 0) (then_ : KeytabState → Run) (order : Order) (file bytes : List ℕ) (failures failures' : ℕ) (out out' err err' : Watch) (status : ℕ)
-    → Answered (Ok bytes) → EndsRun (load_run then_ order file (Ok bytes)) out out' err err' status → EndsLoaded Answered (load_run then_ order file) failures failures' out out' err err' status
-EndsLoaded-ok Answered then_ order file bytes failures failures' out out' err err' status answered ends = record {
+pub EndsLoaded-ok : (Answered : Result (List ℕ) LoadFault → Type 0) (then_ : List ℕ → Run) (file bytes : List ℕ) (failures failures' : ℕ) (out out' err err' : Watch) (status : ℕ)
+    → Answered (Ok bytes) → EndsRun (load_run then_ file (Ok bytes)) out out' err err' status → EndsLoaded Answered (load_run then_ file) failures failures' out out' err err' status
+EndsLoaded-ok Answered then_ file bytes failures failures' out out' err err' status answered ends = record {
   loaded = Ok bytes;
   answered = answered;
   counted = λ e. absurd (true≢false (ap is_ok e));
@@ -80,29 +78,29 @@ fault_in (Ok x) = load.Missing
 fault_in (Err fault) = fault
 
 -- a file was not loaded
-pub EndsLoaded-err : (Answered : Result (List ℕ) LoadFault → Type 0) (then_ : KeytabState → Run) (order : Order) (file : List ℕ) (fault : LoadFault) (failures failures' : ℕ) (out err err' : Watch)
+pub EndsLoaded-err : (Answered : Result (List ℕ) LoadFault → Type 0) (then_ : List ℕ → Run) (file : List ℕ) (fault : LoadFault) (failures failures' : ℕ) (out err err' : Watch)
     → Answered (Err fault) → (fault ≡ load.Failed → CountsFailure failures failures') → IsFalse out.failed → Says err err' (load_message file fault)
-    → EndsLoaded Answered (load_run then_ order file) failures failures' out out err err' (load_status fault)
-EndsLoaded-err Answered then_ order file fault failures failures' out err err' answered counts well says = record {
+    → EndsLoaded Answered (load_run then_ file) failures failures' out out err err' (load_status fault)
+EndsLoaded-err Answered then_ file fault failures failures' out err err' answered counts well says = record {
   loaded = Err fault;
   answered = answered;
   counted = λ e. counts (ap fault_in e);
-  ends = EndsRun-unloaded then_ order file fault out err err' well says;
+  ends = EndsRun-unloaded then_ file fault out err err' well says;
 }
 
 -- and what stands under its name is known
-pub EndsRun-honest : (then_ : KeytabState → Run) (order : Order) (file : List ℕ) (content : Option (List ℕ)) (fault : LoadFault) (failures failures' : ℕ) (out err err' : Watch)
+pub EndsRun-honest : (then_ : List ℕ → Run) (file : List ℕ) (content : Option (List ℕ)) (fault : LoadFault) (failures failures' : ℕ) (out err err' : Watch)
     → (fault ≡ load.Failed) ⊎ (fault ≡ load.NoMemory) ⊎ (loaded content most_bytes ≡ Err fault)
     → (fault ≡ load.Failed → CountsFailure failures failures') → IsFalse out.failed → Says err err' (load_message file fault)
-    → FailsToRead file failures failures' out out err err' (load_status fault) ⊎ EndsRun (load_run then_ order file (loaded content most_bytes)) out out err err' (load_status fault)
-EndsRun-honest then_ order file content fault failures failures' out err err' (inl e) counts well says =
+    → FailsToRead file failures failures' out out err err' (load_status fault) ⊎ EndsRun (load_run then_ file (loaded content most_bytes)) out out err err' (load_status fault)
+EndsRun-honest then_ file content fault failures failures' out err err' (inl e) counts well says =
     inl (record { counted = counts e; ends = ap load_status e; kept = refl; said = subst (λ f. Says err err' (load_message file f)) e says })
-EndsRun-honest then_ order file content fault failures failures' out err err' (inr (inl e)) counts well says =
+EndsRun-honest then_ file content fault failures failures' out err err' (inr (inl e)) counts well says =
     let said : Says err err' (message (codes "out of memory")) = subst (λ f. Says err err' (load_message file f)) e says in
-    let ends = EndsRun-no_memory (load_run then_ order file (loaded content most_bytes)) out out err err' well (AppendsPrefix-none out.contents _) said in
-    inr (subst (λ s. EndsRun (load_run then_ order file (loaded content most_bytes)) out out err err' s) (sym (ap load_status e)) ends)
-EndsRun-honest then_ order file content fault failures failures' out err err' (inr (inr e)) counts well says =
-    inr (subst (λ l. EndsRun (load_run then_ order file l) out out err err' (load_status fault)) (sym e) (EndsRun-unloaded then_ order file fault out err err' well says))
+    let ends = EndsRun-no_memory (load_run then_ file (loaded content most_bytes)) out out err err' well (AppendsPrefix-none out.contents _) said in
+    inr (subst (λ s. EndsRun (load_run then_ file (loaded content most_bytes)) out out err err' s) (sym (ap load_status e)) ends)
+EndsRun-honest then_ file content fault failures failures' out err err' (inr (inr e)) counts well says =
+    inr (subst (λ l. EndsRun (load_run then_ file l) out out err err' (load_status fault)) (sym e) (EndsRun-unloaded then_ file fault out err err' well says))
 
 -- with a look-up that was refused
 pub EndsRun-not_found : (file : List ℕ) (found : Result PlacedEntry Code) (code : Code) (out err err' : Watch) → found ≡ Err code

@@ -9,7 +9,7 @@ use Rattle.krb_text.specs.declared.files.LoadFault.TheVariants.{Missing, TooLarg
 use Rattle.krb_text.specs.Bytes.{Watch}
 use Rattle.krb_commands.specs.Input.{input_run}
 use Rattle.krb_commands.specs.InputLines.{InputParts, lines_of, HasLines, KeepsLines, TakesLine, Grows, IsWithin}
-use Rattle.krb_commands.specs.KeytabFile.{most_bytes}
+use Rattle.krb_commands.specs.Loading.{most_bytes}
 use Rattle.krb_commands.specs.KtutilTalk.{Talk, first_talk, AreFirst, Continues, Stops, TalksOver}
 use Rattle.krb_commands.specs.Ktutil.{RunsKtutil}
 use Rattle.krb_commands.proofs.KtutilHonestly.{honest_after, honest_in_line, honest_unread}

@@ -4,7 +4,7 @@ pub mod InputLemmas
 pub mod Faults
 pub mod Pieces
 pub mod Ends
-pub mod KeytabFile
+pub mod FileRuns
 pub mod EditReplies
 pub mod QuietRuns
 pub mod EditLemmas

@@ -9,7 +9,7 @@ use Rattle.krb_text.specs.declared.files.SaveFault.{SaveFault}
 use Rattle.krb_text.specs.declared.files.SaveFault.TheVariants as save
 use Rattle.krb_text.specs.Bytes.{Watch}
 use Rattle.krb_text.proofs.Prefixes.{AppendsPrefix-none, Appends-nil}
-use Rattle.krb_commands.specs.KeytabFile.{most_bytes, load_fault_run, save_fault_run}
+use Rattle.krb_commands.specs.Loading.{most_bytes, load_fault_run, save_fault_run}
 use Rattle.krb_commands.specs.Input.{GivesInput, input_run}
 use Rattle.krb_commands.specs.Messages.{message}
 use Rattle.krb_commands.specs.Reader.{ConsumesAtMost}

@@ -6,7 +6,7 @@ use Rattle.krb_commands.specs.declared.action.Action.{Action}
 use Rattle.krb_commands.specs.declared.action.Action.TheVariants.{Klist, Ktedit, Ktfind, Ktutil, Help}
 use Rattle.krb_commands.specs.declared.action.WordFault.{WordFault}
 use Rattle.krb_commands.specs.declared.action.WordFault.TheVariants.{BadLine, NoMemory}
-use Rattle.krb_commands.specs.KeytabFile.{RunsOver}
+use Rattle.krb_commands.specs.Loading.{RunsOver}
 use Rattle.krb_commands.specs.Klist.{listing_loaded}
 use Rattle.krb_commands.specs.Ktedit.{RunsEdit}
 use Rattle.krb_commands.specs.Ktfind.{finding_loaded}

@@ -7,7 +7,7 @@ use Rattle.krb_text.specs.declared.script.ScriptRefusal.{ScriptRefusal}
 use Rattle.krb_text.specs.declared.script.ScriptRefusal.TheVariants as refusal
 use Rattle.krb_text.specs.declared.script.ScriptRefusal.TheVariants.{Fault}
 use Rattle.krb_text.specs.LineFault.{line_fault_number}
-use Rattle.krb_commands.specs.KeytabFile.{most_bytes}
+use Rattle.krb_commands.specs.Loading.{most_bytes}
 use Rattle.krb_commands.specs.Messages.{message, line_message}
 use Rattle.krb_commands.specs.Reader.{ConsumesAtMost}
 use Rattle.krb_commands.specs.Runs.{Run, memory_run}

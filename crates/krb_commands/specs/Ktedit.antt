@@ -22,7 +22,7 @@ use Rattle.krb_text.specs.Files.{FileMap, SameFiles, SetsFile, CountsFailure, lo
 use Rattle.krb_text.specs.Reply.{reply_text}
 use Rattle.krb_text.specs.Script.{ScriptFault, script}
 use Rattle.krb_commands.specs.Input.{GivesInput, input_run, line_run}
-use Rattle.krb_commands.specs.KeytabFile.{most_bytes, load_fault_run, open_fault_run, save_fault_run, saved_run}
+use Rattle.krb_commands.specs.Loading.{most_bytes, load_fault_run, open_fault_run, save_fault_run, saved_run}
 use Rattle.krb_commands.specs.Runs.{Run, EndsRun, RunsOut, memory_run}
 
 -- a reply that tells of a change of the keytab

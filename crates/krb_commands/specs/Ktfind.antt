@@ -9,7 +9,7 @@ use Rattle.krb_text.specs.declared.files.LoadFault.{LoadFault}
 use Rattle.krb_text.specs.Found.{found_line}
 use Rattle.krb_commands.specs.declared.action.FindOptions.{FindOptions}
 use Rattle.krb_commands.specs.Messages.{file_message}
-use Rattle.krb_commands.specs.KeytabFile.{load_run}
+use Rattle.krb_commands.specs.Loading.{keytab_run, load_run}
 use Rattle.krb_commands.specs.Runs.{Run}
 
 -- what is said of a look-up that was refused
@@ -27,4 +27,4 @@ finding_run options file keytab = found_run file (find_result keytab (principal_
 
 -- the look-up in what was loaded under a name
 abbrev pub finding_loaded : {A : Type 0} → FindOptions A → List ℕ → Result (List ℕ) LoadFault → Run
-finding_loaded options file = load_run (finding_run options file) options.v1_order file
+finding_loaded options file = load_run (keytab_run (finding_run options file) options.v1_order file) file

@@ -4,7 +4,7 @@ use Rattle.krb_wire.specs.declared.format.Order.{Order}
 use Rattle.krb_text.specs.declared.files.Files.{Ghosts}
 use Rattle.krb_text.specs.Bytes.{Watch}
 use Rattle.krb_text.specs.Ktutil.{KtutilState}
-use Rattle.krb_commands.specs.KeytabFile.{most_bytes}
+use Rattle.krb_commands.specs.Loading.{most_bytes}
 use Rattle.krb_commands.specs.KtutilTalk.{Talk, first_talk, Continues, Stops, TalksOver, EndsTalk}
 use Rattle.krb_commands.specs.KtutilDue.{TalksHonestly}
 use Rattle.krb_commands.specs.Reader.{ConsumesAtMost}

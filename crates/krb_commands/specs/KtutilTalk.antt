@@ -14,7 +14,7 @@ use Rattle.krb_text.specs.Ktutil.{KtutilState, plan_of}
 use Rattle.krb_text.specs.KtutilFiles.{Handles}
 use Rattle.krb_commands.specs.Input.{input_run, line_run}
 use Rattle.krb_commands.specs.InputLines.{lines_of}
-use Rattle.krb_commands.specs.KeytabFile.{most_bytes, open_fault_run, load_fault_run, save_fault_run}
+use Rattle.krb_commands.specs.Loading.{most_bytes, open_fault_run, load_fault_run, save_fault_run}
 use Rattle.krb_commands.specs.Messages.{line_message}
 use Rattle.krb_commands.specs.Runs.{Run, Says, EndsRun, memory_run}
 

@@ -2,7 +2,7 @@
 pub mod Reader
 pub mod Messages
 pub mod Runs
-pub mod KeytabFile
+pub mod Loading
 pub mod Input
 pub mod InputLines
 pub mod Klist

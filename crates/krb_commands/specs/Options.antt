@@ -1,5 +1,5 @@
 -- What the words of a command ask for.
-use Rattle.std.specs.Prelude.{◌≡◌, ◌⊎◌, List, ℕ, Bool, if◌then◌else◌, None, Some, IsSome, IsNone, Ok, IsOk, IsErr, string_bytes}
+use Rattle.std.specs.Prelude.{◌≡◌, ◌⊎◌, List, ℕ, Bool, ◌||◌, if◌then◌else◌, None, Some, IsSome, IsNone, Ok, IsOk, IsErr, string_bytes}
 use Rattle.krb_wire.specs.declared.format.Order.{Order}
 use Rattle.krb_wire.specs.declared.format.Order.TheVariants.{Big, Little}
 use Rattle.krb_wire.specs.NameOf.{name_of}
@@ -10,7 +10,8 @@ use Rattle.krb_commands.specs.declared.action.Action.{Action}
 use Rattle.krb_commands.specs.declared.action.Action.TheVariants.{Klist, Ktedit, Ktfind}
 use Rattle.krb_commands.specs.declared.action.FindOptions.{FindOptions}
 use Rattle.krb_commands.specs.declared.action.KlistOptions.{KlistOptions}
-use Rattle.krb_commands.specs.declared.action.ListKind.TheVariants.{Keytab}
+use Rattle.krb_commands.specs.declared.action.ListKind.{ListKind}
+use Rattle.krb_commands.specs.declared.action.ListKind.TheVariants.{Keytab, Cache}
 use Rattle.krb_commands.specs.declared.options.KlistWords.{KlistWords}
 use Rattle.krb_commands.specs.declared.options.KtfindWords.{KtfindWords}
 
@@ -18,12 +19,20 @@ use Rattle.krb_commands.specs.declared.options.KtfindWords.{KtfindWords}
 abbrev pub order_of : Bool → Order
 order_of v1_big = if v1_big then Big else Little
 
--- the options of a listing: each column by its own word
+-- words that do not go together: those of a cache beside the word for a keytab, or those of a keytab without it
+abbrev pub are_at_odds : KlistWords → Bool
+are_at_odds words = if words.keytab then words.cache || words.flags || words.configs else words.times || words.keys || words.v1_big
+
+-- the kind of file: a cache, unless the words name a keytab; each column has a word of its own
+abbrev pub list_kind : KlistWords → ListKind
+list_kind words =
+    if words.keytab
+    then Keytab (record { times = words.times; etypes = words.etypes; keys = words.keys })
+    else Cache (record { flags = words.flags; etypes = words.etypes; configs = words.configs })
+
+-- the options of a listing
 abbrev pub list_options : KlistWords → KlistOptions
-list_options words = record {
-  kind = Keytab (record { times = words.times; etypes = words.etypes; keys = words.keys });
-  v1_order = order_of words.v1_big;
-}
+list_options words = record { kind = list_kind words; v1_order = order_of words.v1_big }
 
 -- to list the file of that name so
 abbrev pub AsksToList : Action → KlistOptions → List ℕ → Type 0

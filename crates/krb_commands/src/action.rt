@@ -3,7 +3,7 @@
 ghost use Rattle.std.specs.Prelude.{◌≡◌};
 ghost use Rattle.krb_commands.specs.declared.action.WordFault.TheVariants.{NoMemory};
 
-use krb_text::KtColumns;
+use krb_text::{CcColumns, KtColumns};
 use krb_wire::{Order, Principal};
 use std::alloc::{AllocError, Allocator, Global};
 use thiserror::Error;
@@ -12,6 +12,7 @@ use thiserror::Error;
 #[derive(Clone, Copy, Debug, PartialEq, Eq)]
 pub enum ListKind {
     Keytab(KtColumns),
+    Cache(CcColumns),
 }
 
 /// The options of klist.

@@ -6,16 +6,16 @@ ghost use Rattle.krb_wire.specs.declared.format.KtFormat.TheVariants.{V2};
 ghost use Rattle.krb_walk.specs.Said.{said};
 ghost use Rattle.krb_keytab.specs.Store.{empty};
 ghost use Rattle.krb_commands.specs.Edits.{saved_of, run_of, IsEdited, OpensToEdit, EndsUnedited};
-ghost use Rattle.krb_commands.specs.KeytabFile.{most_bytes};
+ghost use Rattle.krb_commands.specs.Loading.{most_bytes};
 ghost use Rattle.krb_commands.specs.Ktedit.{is_change, is_trouble, SavesDue, EditsFile, RunsEdit};
 ghost use Rattle.krb_commands.specs.Messages.{message};
 ghost use Rattle.krb_commands.specs.Runs.{EndsRun, Says};
 
 use crate::input::{MOST_INPUT, refuse_input, refuse_script};
-use crate::keytab_file::MOST_BYTES;
+use crate::loading::MOST_BYTES;
 use crate::messages::complain;
 use crate::reader::load;
-use crate::refuse::{refuse_image, refuse_load, refuse_save};
+use crate::refuse::{refuse_keytab, refuse_load, refuse_save};
 use krb_keytab::{Keytab, NewEntry};
 use krb_text::{Files, LoadFault, Watched, parse_script, put, reply_lines};
 use krb_walk::{Event, Reply, Session};
@@ -165,7 +165,7 @@ fn open_or_create<A: Allocator + Copy, F: Files, E: Write>(
         Ok(image) => match Keytab::open(image, v1_order, Limits::usual()) {
             Ok(keytab) => Ok(keytab),
             Err(refused) => {
-                refuse_image(file.as_bytes(), refused.why, err);
+                refuse_keytab(file.as_bytes(), refused.why, err);
                 Err(1)
             }
         },

@@ -2,16 +2,17 @@
 
 ghost use Rattle.std.specs.Prelude.{[], IsFalse};
 ghost use Rattle.krb_text.specs.Found.{found_line};
-ghost use Rattle.krb_commands.specs.KeytabFile.{RunsOver};
+ghost use Rattle.krb_commands.specs.Loading.{RunsOver, keytab_run};
 ghost use Rattle.krb_commands.specs.Ktfind.{finding_loaded, finding_run};
 ghost use Rattle.krb_commands.specs.Runs.{EndsRun};
 
 use crate::action::FindOptions;
-use crate::keytab_file::open_keytab;
+use crate::loading::load_image;
 use crate::messages::complain;
-use crate::refuse::refuse_code;
+use crate::refuse::{refuse_code, refuse_keytab};
 use krb_keytab::{EntryView, Keytab};
 use krb_text::{Files, Watched, found_text, put};
+use krb_wire::Limits;
 use std::alloc::Allocator;
 use std::io::Write;
 
@@ -60,6 +61,28 @@ fn find_opened<A: Allocator, B: Allocator, C: Allocator, W: Write, E: Write>(
     }
 }
 
+// Looks up an entry in the keytab that an image is, or says why it is none.
+fn find_in_image<A: Allocator + Copy, B: Allocator, W: Write, E: Write>(
+    alloc: A,
+    options: &FindOptions<B>,
+    file: &str,
+    image: Vec<u8, A>,
+    out: &mut Watched<W>,
+    err: &mut Watched<E>,
+) -> u8
+    requires { IsFalse out.old.failed }
+    ensures { EndsRun (keytab_run (finding_run options.now file.now) options.now.v1_order
+        file.now image.items) out.old out.new err.old err.new result }
+{
+    match Keytab::open(image, options.v1_order, Limits::usual()) {
+        Ok(keytab) => find_opened(alloc, options, file, &keytab, out, err),
+        Err(refused) => {
+            refuse_keytab(file.as_bytes(), refused.why, err);
+            1
+        }
+    }
+}
+
 /// Looks up an entry in the file of that name and shows it on `out`, and answers the status. What goes
 /// wrong is said on `err`; a failure of `err` changes nothing else.
 pub fn run_ktfind<A: Allocator + Copy, B: Allocator, F: Files, W: Write, E: Write>(
@@ -74,8 +97,8 @@ pub fn run_ktfind<A: Allocator + Copy, B: Allocator, F: Files, W: Write, E: Writ
     ensures { RunsOver F.Files files.old files.new file.now (finding_loaded options.now file.now)
         out.old out.new err.old err.new result }
 {
-    match open_keytab(alloc, file, options.v1_order, files, err) {
-        Ok(keytab) => find_opened(alloc, options, file, &keytab, out, err),
+    match load_image(alloc, file, files, err) {
+        Ok(image) => find_in_image(alloc, options, file, image, out, err),
         Err(status) => status,
     }
 }

@@ -9,7 +9,7 @@ ghost use Rattle.krb_commands.specs.Runs.{EndsRun, Says};
 use crate::input::{refuse_input, refuse_line, refuse_line_code};
 use crate::input_lines::InputLines;
 use crate::messages::complain;
-use crate::refuse::{refuse_image, refuse_load, refuse_save};
+use crate::refuse::{refuse_keytab, refuse_load, refuse_save};
 use krb_text::{Files, Ktutil, LineEnd, Watched, file_word, put};
 use krb_wire::Order;
 use std::alloc::Allocator;
@@ -42,7 +42,7 @@ fn tell_end<E: Write>(number: u64, line: &[u8], ending: LineEnd, err: &mut Watch
         LineEnd::Fault(fault) => refuse_line(number, fault, err),
         LineEnd::Refused(code) => refuse_line_code(number, code, err),
         LineEnd::NotAKeytab(fault) => {
-            refuse_image(file_word(line), fault, err);
+            refuse_keytab(file_word(line), fault, err);
             1
         }
         LineEnd::Load(fault) => refuse_load(file_word(line), fault, err),

@@ -4,11 +4,11 @@
 mod action;
 mod input;
 mod input_lines;
-mod keytab_file;
 mod klist;
 mod ktedit;
 mod ktfind;
 mod ktutil;
+mod loading;
 mod messages;
 mod options;
 mod reader;
@@ -19,7 +19,6 @@ mod tests;
 mod writer;
 
 pub use action::{Action, FindOptions, KlistOptions, ListKind, WordFault};
-pub use keytab_file::open_keytab;
 pub use klist::run_klist;
 pub use ktedit::run_ktedit;
 pub use ktfind::run_ktfind;

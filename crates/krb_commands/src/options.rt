@@ -4,20 +4,23 @@ ghost use Rattle.std.specs.Prelude.{◌≡◌, ◌↔◌, IsTrue, IsFalse, IsOk,
 ghost use Rattle.krb_wire.specs.NameOf.{name_of};
 ghost use Rattle.krb_wire.specs.Reading.{principal_parts};
 ghost use Rattle.krb_commands.specs.declared.action.Action.TheVariants.{Ktutil};
-ghost use Rattle.krb_commands.specs.Options.{order_of, list_options, Spells, IsReadable, IsUnreadable, AsksToList, AsksToEdit, AsksToFind};
+ghost use Rattle.krb_commands.specs.Options.{order_of, are_at_odds, list_kind, list_options, Spells, IsReadable, IsUnreadable, AsksToList, AsksToEdit, AsksToFind};
 
 use crate::action::{Action, FindOptions, KlistOptions, ListKind, WordFault};
-use krb_text::{KtColumns, etype_of, parse_u32};
+use krb_text::{CcColumns, KtColumns, etype_of, parse_u32};
 use krb_wire::{NameFault, Order, Principal, parse_name};
 use std::alloc::Global;
 
 /// What the words of klist say.
 #[derive(Clone, Copy)]
 pub struct KlistWords<'a> {
+    pub cache: bool,
     pub keytab: bool,
     pub times: bool,
     pub etypes: bool,
     pub keys: bool,
+    pub flags: bool,
+    pub configs: bool,
     pub v1_big: bool,
     pub file: &'a str,
 }
@@ -51,27 +54,53 @@ fn order_of(v1_big: bool) -> Order
     if v1_big { Order::Big } else { Order::Little }
 }
 
+// Whether the words do not go together: each kind of file has options of its own.
+fn are_at_odds(words: &KlistWords<'_>) -> bool
+    ensures { result ≡ are_at_odds words.now }
+{
+    if words.keytab {
+        words.cache || words.flags || words.configs
+    } else {
+        words.times || words.keys || words.v1_big
+    }
+}
+
+// The kind of file: a cache, unless the words name a keytab. Each column has a word of its own.
+fn list_kind(words: &KlistWords<'_>) -> ListKind
+    ensures { result ≡ list_kind words.now }
+{
+    if words.keytab {
+        ListKind::Keytab(KtColumns {
+            times: words.times,
+            etypes: words.etypes,
+            keys: words.keys,
+        })
+    } else {
+        ListKind::Cache(CcColumns {
+            flags: words.flags,
+            etypes: words.etypes,
+            configs: words.configs,
+        })
+    }
+}
+
 fn list_options(words: &KlistWords<'_>) -> KlistOptions
     ensures { result ≡ list_options words.now }
 {
-    let columns = KtColumns {
-        times: words.times,
-        etypes: words.etypes,
-        keys: words.keys,
-    };
     KlistOptions {
-        kind: ListKind::Keytab(columns),
+        kind: list_kind(words),
         v1_order: order_of(words.v1_big),
     }
 }
 
-/// What the words of klist ask for. They have to name the kind of file.
+/// What the words of klist ask for. They have to go together: the options of a keytab with the word for it, and
+/// those of a cache without.
 pub fn klist_action(alloc: Global, words: &KlistWords<'_>) -> Result<Action, WordFault>
     ensures ok { IfOk result (λ action. AsksToList action (list_options words.now) words.now.file.now) }
-    ensures named { OnOk result (IsTrue words.now.keytab) }
-    ensures unnamed { IsErrOf result WordFault.BadLine ↔ IsFalse words.now.keytab }
+    ensures together { OnOk result (IsFalse (are_at_odds words.now)) }
+    ensures bad { IsErrOf result WordFault.BadLine ↔ IsTrue (are_at_odds words.now) }
 {
-    if !words.keytab {
+    if are_at_odds(words) {
         return Err(WordFault::BadLine);
     }
     let file = String::from_str(alloc, words.file)?;

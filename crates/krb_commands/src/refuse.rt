@@ -2,11 +2,12 @@
 
 ghost use Rattle.std.specs.Prelude.{◌≡◌, ◌++◌, codes, decimal};
 ghost use Rattle.krb_walk.specs.Numbers.{code_number};
-ghost use Rattle.krb_commands.specs.KeytabFile.{load_message, load_status, open_message, save_fault_run};
+ghost use Rattle.krb_commands.specs.Loading.{load_message, load_status, open_message, cache_message, save_fault_run};
 ghost use Rattle.krb_commands.specs.Ktfind.{refused_message};
 ghost use Rattle.krb_commands.specs.Runs.{Says};
 
 use crate::messages::{complain, complain_number_of, complain_of};
+use krb_ccache::CcOpenFault;
 use krb_keytab::KtOpenFault;
 use krb_text::{LoadFault, SaveFault, Watched};
 use krb_walk::Code;
@@ -54,11 +55,18 @@ pub fn refuse_save<E: Write>(file: &[u8], fault: SaveFault, err: &mut Watched<E>
     }
 }
 
-/// Says why an image was not opened.
-pub fn refuse_image<E: Write>(file: &[u8], fault: KtOpenFault, err: &mut Watched<E>)
+/// Says why an image is no keytab.
+pub fn refuse_keytab<E: Write>(file: &[u8], fault: KtOpenFault, err: &mut Watched<E>)
     ensures { Says err.old err.new (open_message file.now fault) }
 {
     complain_number_of(err, file, "not a keytab (", fault.number(), ")");
+}
+
+/// Says why an image is no cache.
+pub fn refuse_cache<E: Write>(file: &[u8], fault: CcOpenFault, err: &mut Watched<E>)
+    ensures { Says err.old err.new (cache_message file.now fault) }
+{
+    complain_number_of(err, file, "not a cache (", fault.number(), ")");
 }
 
 /// Says why a keytab refused.

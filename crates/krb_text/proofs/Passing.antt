@@ -1,5 +1,5 @@
 -- How a text passes to a writer: what was gathered, what was sent, and what a failure leaves.
-use Rattle.std.proofs.Common.{◌≡◌, ℕ, List, [], ◌++◌, Option, sym, ap, ◌∙◌, append_assoc, append-nil}
+use Rattle.std.proofs.Common.{◌≡◌, ℕ, List, [], ◌++◌, Option, refl, sym, ap, ◌∙◌, append_assoc, append-nil}
 use Rattle.std.specs.Io.KnownBytes.{Appends}
 use Rattle.krb_text.specs.Bytes.{AppendsPrefix}
 use Rattle.krb_text.specs.Gathered.{Sent, Passed}
@@ -9,6 +9,10 @@ use Rattle.krb_text.proofs.Prefixes.{Appends-nil, Appends-trans, AppendsPrefix-l
 pub gathered_three : (a b c d x y z : List ℕ) → b ≡ a ++ x → c ≡ b ++ y → d ≡ c ++ z → d ≡ a ++ (x ++ (y ++ z))
 gathered_three a b c d x y z is_b is_c is_d =
     is_d ∙ ap (λ (t : List ℕ). t ++ z) (is_c ∙ ap (λ (t : List ℕ). t ++ y) is_b) ∙ append_assoc (a ++ x) y z ∙ append_assoc a x (y ++ z)
+
+-- a piece is gathered, and then others
+pub gathered_then : (a b c x y : List ℕ) → b ≡ a ++ x → c ≡ b ++ y → c ≡ a ++ (x ++ y)
+gathered_then a b c x y is_b is_c = is_c ∙ ap (λ (t : List ℕ). t ++ y) is_b ∙ append_assoc a x y
 
 -- nothing was sent yet
 pub passed_none : (o : Option (List ℕ)) (whole rest b : List ℕ) → whole ≡ b ++ rest → Passed o o whole rest b
@@ -63,8 +67,14 @@ prefix_of_three o p b first second third is f =
     let same : AppendsPrefix o p (first ++ second) = rw (sym is) f in
     rw (sym (append_assoc first second third)) (AppendsPrefix-longer o p (first ++ second) third same)
 
--- the first two of three pieces passed, and the third is gathered
-pub passed_three : (o p : Option (List ℕ)) (b first second third more last : List ℕ) → b ≡ first → Passed o p (b ++ second) [] more → last ≡ more ++ third → Passed o p (first ++ (second ++ third)) [] last
-passed_three o p b first second third more last is h e =
+-- the first two of three pieces passed, and what is gathered is sent with the third
+pub passed_end : (o p q : Option (List ℕ)) (b first second third more : List ℕ) → b ≡ first → Passed o p (b ++ second) [] more → Appends p q (more ++ third) → Appends o q (first ++ (second ++ third))
+passed_end o p q b first second third more is h s =
     let same : Passed o p (first ++ second) [] more = rw (sym is) h in
-    rw (sym (append_assoc first second third)) (passed_last o p (first ++ second) third more last same e)
+    rw (sym (append_assoc first second third)) (passed_all o p q _ _ (passed_last o p (first ++ second) third more (more ++ third) same refl) s)
+
+-- or a prefix of that
+pub failed_end : (o p q : Option (List ℕ)) (b first second third more : List ℕ) → b ≡ first → Passed o p (b ++ second) [] more → AppendsPrefix p q (more ++ third) → AppendsPrefix o q (first ++ (second ++ third))
+failed_end o p q b first second third more is h s =
+    let same : Passed o p (first ++ second) [] more = rw (sym is) h in
+    rw (sym (append_assoc first second third)) (passed_fail o p q _ _ _ (passed_last o p (first ++ second) third more (more ++ third) same refl) s)

@@ -12,6 +12,10 @@ pub mod Time
 pub mod Calendar
 pub mod Line
 pub mod Listing
+pub mod Flags
+pub mod Escape
+pub mod Credential
+pub mod CacheListing
 pub mod Slots
 pub mod Found
 pub mod Reply

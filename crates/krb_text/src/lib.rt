@@ -1,13 +1,17 @@
-//! Keytabs as text, and files by name.
+//! Keytabs and credential caches as text, and files by name.
 #![tactic(auto)]
 
 mod addition;
 mod append;
+mod cache_listing;
 mod columns;
 mod command;
+mod credential;
+mod escape;
 mod etype;
 mod files;
 mod find_line;
+mod flags;
 mod gather;
 mod key;
 mod ktutil;
@@ -27,10 +31,12 @@ mod time;
 mod watched;
 mod word;
 
-pub use columns::KtColumns;
+pub use cache_listing::list_cache;
+pub use columns::{CcColumns, KtColumns};
 pub use etype::{etype_of, etype_text, key_size};
 pub use files::{Files, LoadFault, SaveFault};
 pub use find_line::found_text;
+pub use flags::flag_letters;
 pub use key::{key_text, parse_key};
 pub use ktutil::{Ktutil, LineEnd, file_word};
 pub use line_fault::{LineFault, LineRefusal};

@@ -87,6 +87,23 @@ fn append_fault_line<A: Allocator>(
     }
 }
 
+/// Writes what is gathered, and behind it the line of a fault, if there is one.
+pub fn send_last<A: Allocator, W: Write>(
+    fault: Option<Fault>,
+    gathered: &mut Vec<u8, A>,
+    out: &mut Watched<W>,
+) -> Result<(), OutFault>
+    requires { IsFalse out.old.failed }
+    ensures ok { OnOk result (Appends out.old.contents out.new.contents
+        (gathered.old.items ++ fault_line fault)) }
+    ensures prefix { OnErr result (AppendsPrefix out.old.contents out.new.contents
+        (gathered.old.items ++ fault_line fault)) }
+    ensures failed { out.new.failed ≡ is_write_fault result }
+{
+    append_fault_line(fault, gathered)?;
+    put(out, gathered)
+}
+
 /// Writes the listing of a keytab under that name: a heading, a line for each record in file order, and
 /// where the image is damaged its fault. It is gathered into large writes; where one fails, what went
 /// out is a prefix of the text.
@@ -109,6 +126,5 @@ pub fn list_keytab<A: Allocator, B: Allocator, W: Write>(
     };
     append_heading(name, columns.times, &mut gathered)?;
     list_entries(keytab, columns, &mut gathered, out)?;
-    append_fault_line(keytab.fault(), &mut gathered)?;
-    put(out, &gathered)
+    send_last(keytab.fault(), &mut gathered, out)
 }

@@ -2,14 +2,11 @@
 #![tactic(auto)]
 
 mod clock;
-mod disk;
 mod run;
-#[cfg(test)]
-mod tests;
 mod words;
 
 use clock::seconds_now;
-use disk::DiskFiles;
+use krb_disk::DiskFiles;
 use krb_text::Watched;
 use std::process::ExitCode;
 

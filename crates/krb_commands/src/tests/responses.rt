@@ -41,6 +41,7 @@ fn each_load_and_save_fails(rt: HostRuntime) -> Result<(), Fail> {
     let listed = Command::Ktutil.text();
     for (command, file_call, text, message) in [
         (Command::Klist, 1, "", "krbfile: k: cannot read\n"),
+        (Command::KlistCache, 1, "", "krbfile: c: cannot read\n"),
         (Command::Ktfind, 1, "", "krbfile: k: cannot read\n"),
         (Command::Ktedit, 1, "", "krbfile: k: cannot read\n"),
         (Command::Ktedit, 2, "", "krbfile: k: cannot write\n"),

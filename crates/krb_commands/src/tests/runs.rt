@@ -1,6 +1,6 @@
 use crate::action::{Action, FindOptions, KlistOptions, ListKind, WordFault};
 use crate::response::respond;
-use krb_text::{KtColumns, MemFiles, Watched};
+use krb_text::{CcColumns, KtColumns, MemFiles, Watched};
 use krb_wire::{Order, parse_name};
 use refusing::Refusing;
 use std::alloc::{AllocError, Global};
@@ -12,6 +12,15 @@ const IMAGE: &[u8] =
     b"\x05\x02\0\0\0\x2f\0\x02\0\x01R\0\x04host\0\x01a\0\0\0\x01\x65\x53\xf1\0\x03\0\x11\0\x10\
 \0\x01\x02\x03\x04\x05\x06\x07\x08\x09\x0a\x0b\x0c\x0d\x0e\x0f\0\0\0\x03";
 
+/// A cache of version 4 with a ticket and a configuration entry, after MIT's description of the format.
+const CACHE: &[u8] = b"\x05\x04\0\0\0\0\0\x01\0\0\0\x01\0\0\0\x01R\0\0\0\x01u\
+\0\0\0\x01\0\0\0\x01\0\0\0\x01R\0\0\0\x01u\0\0\0\x02\0\0\0\x02\0\0\0\x01R\0\0\0\x06krbtgt\0\0\0\x01R\
+\0\x11\0\0\0\x10\0\x01\x02\x03\x04\x05\x06\x07\x08\x09\x0a\x0b\x0c\x0d\x0e\x0f\
+\x65\x53\xf1\0\0\0\0\0\x65\x54\x7d\xa0\x65\x5d\x2b\x80\0\x40\xe0\0\0\0\0\0\0\0\0\0\0\0\0\0\x03tkt\0\0\0\0\
+\0\0\0\x01\0\0\0\x01\0\0\0\x01R\0\0\0\x01u\0\0\0\x01\0\0\0\x03\0\0\0\x0cX-CACHECONF:\
+\0\0\0\x15krb5_ccache_conf_data\0\0\0\x07pa_type\0\0\0\x0akrbtgt/R@R\
+\0\0\0\0\0\0\0\0\0\0\0\0\0\0\0\0\0\0\0\0\0\0\0\0\0\0\0\0\0\0\0\0\0\0\0\0\0\0\x03\\\x7f2\0\0\0\0";
+
 /// More bytes than any run prints.
 const AMPLE: usize = 1000;
 
@@ -19,14 +28,16 @@ const AMPLE: usize = 1000;
 #[derive(Clone, Copy)]
 pub enum Command {
     Klist,
+    KlistCache,
     Ktfind,
     Ktedit,
     Ktutil,
 }
 
 /// All of them.
-pub const COMMANDS: [Command; 4] = [
+pub const COMMANDS: [Command; 5] = [
     Command::Klist,
+    Command::KlistCache,
     Command::Ktfind,
     Command::Ktedit,
     Command::Ktutil,
@@ -36,15 +47,24 @@ pub const COMMANDS: [Command; 4] = [
 pub const NO_SLOTS: &str = "slot KVNO Principal\n---- ---- ---------\n";
 
 impl Command {
-    /// The command over the file `k`.
+    /// The command over the keytab `k`, or the cache `c`.
     pub fn asked(self, alloc: Global) -> Result<Result<Action, WordFault>, Fail> {
-        let file = String::from_str(alloc, "k")?;
+        let file = String::from_str(alloc, self.file())?;
         Ok(Ok(match self {
-            Command::Klist => Action::Klist(listing(), file),
+            Command::Klist => Action::Klist(listing(ListKind::Keytab(KtColumns::default())), file),
+            Command::KlistCache => Action::Klist(listing(ListKind::Cache(ALL)), file),
             Command::Ktfind => Action::Ktfind(look_up(alloc)?, file),
             Command::Ktedit => Action::Ktedit(Order::Little, file),
             Command::Ktutil => Action::Ktutil(Order::Little),
         }))
+    }
+
+    /// The file that it loads.
+    fn file(self) -> &'static str {
+        match self {
+            Command::KlistCache => "c",
+            _ => "k",
+        }
     }
 
     /// What it prints where nothing fails.
@@ -53,6 +73,13 @@ impl Command {
             Command::Klist => {
                 "Keytab name: FILE:k\nKVNO Principal\n---- ---------\n   3 host/a@R\n"
             }
+            Command::KlistCache => {
+                "Ticket cache: FILE:c\nDefault principal: u@R\n\n\
+Valid starting       Expires              Service principal\n\
+2023-11-14T22:13:20Z 2023-11-15T08:13:20Z krbtgt/R@R\n    \
+renew until 2023-11-21T22:13:20Z\n    Flags: FRIA\n    Etype: aes128-cts-hmac-sha1-96\n\
+config: pa_type(krbtgt/R@R) = \\\\\\x7f2\n"
+            }
             Command::Ktfind => "found 2 kvno 3 etype 17 host/a@R\n",
             Command::Ktedit => "gone 2\n",
             Command::Ktutil => { "slot KVNO Principal\n---- ---- ---------\n   1    3 host/a@R\n" }
@@ -60,10 +87,17 @@ impl Command {
     }
 }
 
-/// A listing of versions and names alone.
-fn listing() -> KlistOptions {
+/// All that is shown of a cache.
+const ALL: CcColumns = CcColumns {
+    flags: true,
+    etypes: true,
+    configs: true,
+};
+
+/// A listing of that kind of file.
+fn listing(kind: ListKind) -> KlistOptions {
     KlistOptions {
-        kind: ListKind::Keytab(KtColumns::default()),
+        kind,
         v1_order: Order::Little,
     }
 }
@@ -115,13 +149,15 @@ impl Outcome {
     }
 }
 
-/// A file `k`, the keytab.
+/// A file `k`, the keytab, and a file `c`, the cache.
 fn files(alloc: Global) -> Result<MemFiles<Global>, AllocError> {
     let mut files = Vec::new(alloc);
-    files.push((
-        String::from_str(alloc, "k")?,
-        Vec::from_slice(alloc, IMAGE)?,
-    ))?;
+    for (name, image) in [("k", IMAGE), ("c", CACHE)] {
+        files.push((
+            String::from_str(alloc, name)?,
+            Vec::from_slice(alloc, image)?,
+        ))?;
+    }
     Ok(MemFiles::of(alloc, files))
 }
 

@@ -18,7 +18,7 @@ returns-in-Err-open-clause-err g c =
     let no : 1 ≢ 4 = search rules in
     record {
       loads = Loads-ok g.F.Files c.args.file.now c.args.files.now c.load.new.self c.load.ensures.honest c.load.ensures.same c.load.ensures.count c.in-Ok.image.items c.in-Ok.ensures.answered c.in-Ok.ensures.ok;
-      why = inr (rw (rw c.usual.ensures at c.in-Err-open.ensures.err.0) (refl, refl, (rw c.as_bytes.ensures.value at c.refuse_image.ensures), λ e. absurd (no e)));
+      why = inr (rw (rw c.usual.ensures at c.in-Err-open.ensures.err.0) (refl, refl, (rw c.as_bytes.ensures.value at c.refuse_keytab.ensures), λ e. absurd (no e)));
     }
 
 -- a missing file begins as an empty keytab

@@ -1,9 +1,9 @@
-use Rattle.std.proofs.Common.{◌++◌, [], List, ℕ, ap, ◌∙◌}
+use Rattle.std.proofs.Common.{◌++◌, List, ℕ, ap, ◌∙◌}
 use Rattle.std.proofs.lemmas.Result.{err_from_is_err_and, on_ok_weaker, on_err_weaker}
 use Rattle.krb_walk.specs.Store.{fault_of}
 use Rattle.krb_keytab.specs.Store.{store_of}
 use Rattle.krb_text.specs.Listing.{heading, entry_lines, fault_line}
-use Rattle.krb_text.proofs.Passing.{prefix_of_three, passed_three, passed_prefix, passed_fail, passed_all}
+use Rattle.krb_text.proofs.Passing.{prefix_of_three, passed_end, failed_end}
 use Rattle.krb_text.proofs.listing.list_keytab.Goals as goal
 
 pub returns-in_err-list_entries-clause-prefix : goal.returns-in_err-list_entries-clause-prefix
@@ -13,25 +13,14 @@ returns-in_err-list_entries-clause-prefix g c =
     let first = c.in_ok-append_heading.ensures ∙ ap (λ (t : List ℕ). t ++ heading c.args.name.now c.args.columns.times) c.in-Ok.ensures.items in
     rw p.1 (prefix_of_three _ _ _ (heading c.args.name.now c.args.columns.times) (entry_lines c.args.columns k) (fault_line (fault_of (store_of k))) first c.in_err-list_entries.ensures.prefix)
 
-pub returns-in_err-append_fault_line-clause-prefix : goal.returns-in_err-append_fault_line-clause-prefix
-returns-in_err-append_fault_line-clause-prefix g c =
-    let p = err_from_is_err_and c.from_residual-in_err-append_fault_line.result c.from_residual-in_err-append_fault_line.ensures.1 in
-    let k = c.args.keytab.now.state in
-    let first = c.in_ok-append_heading.ensures ∙ ap (λ (t : List ℕ). t ++ heading c.args.name.now c.args.columns.times) c.in-Ok.ensures.items in
-    rw p.1 (prefix_of_three _ _ _ (heading c.args.name.now c.args.columns.times) (entry_lines c.args.columns k) (fault_line (fault_of (store_of k))) first (passed_prefix _ _ _ [] _ c.in_ok-list_entries.ensures.ok))
-
 pub returns-clause-ok : goal.returns-clause-ok
 returns-clause-ok g c =
     let k = c.args.keytab.now.state in
     let first = c.in_ok-append_heading.ensures ∙ ap (λ (t : List ℕ). t ++ heading c.args.name.now c.args.columns.times) c.in-Ok.ensures.items in
-    let last = rw c.fault.ensures at c.in_ok-append_fault_line.ensures in
-    let passed = passed_three _ _ _ (heading c.args.name.now c.args.columns.times) (entry_lines c.args.columns k) (fault_line (fault_of (store_of k))) _ _ first c.in_ok-list_entries.ensures.ok last in
-    on_ok_weaker c.put.result (λ sent. passed_all _ _ _ _ _ passed (rw c.deref.ensures.value at sent)) c.put.ensures.ok
+    on_ok_weaker c.send_last.result (λ sent. passed_end _ _ _ _ (heading c.args.name.now c.args.columns.times) (entry_lines c.args.columns k) (fault_line (fault_of (store_of k))) _ first c.in_ok-list_entries.ensures.ok (rw c.fault.ensures at sent)) c.send_last.ensures.ok
 
 pub returns-clause-prefix : goal.returns-clause-prefix
 returns-clause-prefix g c =
     let k = c.args.keytab.now.state in
     let first = c.in_ok-append_heading.ensures ∙ ap (λ (t : List ℕ). t ++ heading c.args.name.now c.args.columns.times) c.in-Ok.ensures.items in
-    let last = rw c.fault.ensures at c.in_ok-append_fault_line.ensures in
-    let passed = passed_three _ _ _ (heading c.args.name.now c.args.columns.times) (entry_lines c.args.columns k) (fault_line (fault_of (store_of k))) _ _ first c.in_ok-list_entries.ensures.ok last in
-    on_err_weaker c.put.result (λ sent. passed_fail _ _ _ _ _ _ passed (rw c.deref.ensures.value at sent)) c.put.ensures.prefix
+    on_err_weaker c.send_last.result (λ sent. failed_end _ _ _ _ (heading c.args.name.now c.args.columns.times) (entry_lines c.args.columns k) (fault_line (fault_of (store_of k))) _ first c.in_ok-list_entries.ensures.ok (rw c.fault.ensures at sent)) c.send_last.ensures.prefix

@@ -1,0 +1,8 @@
+use Rattle.std.proofs.Common.{◌≡◌, ◌++◌, drop}
+use Rattle.krb_text.specs.Escape.{escaped_text}
+use Rattle.krb_text.proofs.escape.append_escaped.Given as goal
+
+abbrev pub invariant-bytes : goal.invariant-bytes
+invariant-bytes g l = record {
+  text : l.fn.out.items ++ escaped_text l.bytes ≡ l.out.items ++ escaped_text (drop l.byte-index l.bytes);
+}

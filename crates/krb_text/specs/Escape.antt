@@ -1,0 +1,16 @@
+-- Any bytes as printable text.
+use Rattle.std.specs.Prelude.{ℕ, ◌==◌, List, [], ◌∷◌, ◌++◌, codes, Bool, ◌&&◌, if◌then◌else◌, nat_le}
+use Rattle.std.specs.List.{flat_map}
+use Rattle.hex.specs.Hex.{encode_lower}
+
+-- from the space to `~`
+abbrev pub is_printable : ℕ → Bool
+is_printable b = nat_le 32 b && nat_le b 126
+
+-- a backslash is doubled; a byte that is not printable is `\x` and its two hexadecimal digits in lower case
+abbrev pub escaped : ℕ → List ℕ
+escaped b = if b == 92 then codes "\\\\" else (if is_printable b then b ∷ [] else codes "\\x" ++ encode_lower (b ∷ []))
+
+-- each byte so, in order
+abbrev pub escaped_text : List ℕ → List ℕ
+escaped_text bytes = flat_map escaped bytes

@@ -1,0 +1,87 @@
+//! The listing of a credential cache.
+
+ghost use Rattle.std.specs.Prelude.{◌≡◌, ◌++◌, [], OnOk, OnErr, IsFalse};
+ghost use Rattle.std.specs.Io.KnownBytes.{Appends};
+ghost use Rattle.krb_ccache.specs.Store.{placed_credentials};
+ghost use Rattle.krb_text.specs.Bytes.{AppendsPrefix, is_write_fault};
+ghost use Rattle.krb_text.specs.CacheListing.{title, owner, lines_of_credentials, cache_text};
+ghost use Rattle.krb_text.specs.Gathered.{Passed};
+
+use crate::append::append;
+use crate::columns::CcColumns;
+use crate::credential::append_credential;
+use crate::gather::{FULL, send_if_full};
+use crate::listing::send_last;
+use crate::output::OutFault;
+use crate::watched::Watched;
+use krb_ccache::Ccache;
+use krb_wire::{Name, NoMemory, write_name};
+use std::alloc::Allocator;
+use std::io::Write;
+
+fn append_title<A: Allocator>(name: &str, out: &mut Vec<u8, A>) -> Result<(), NoMemory>
+    ensures { OnOk result (out.new.items ≡ out.old.items ++ title name.now) }
+{
+    append(b"Ticket cache: FILE:", out)?;
+    append(name.as_bytes(), out)?;
+    append(b"\n", out)
+}
+
+fn append_owner<N: Name, A: Allocator>(principal: &N, out: &mut Vec<u8, A>) -> Result<(), NoMemory>
+    ensures { OnOk result (out.new.items ≡ out.old.items ++ owner (N.parts principal.now)) }
+{
+    append(b"Default principal: ", out)?;
+    write_name(principal, out)?;
+    append(
+        b"\n\nValid starting       Expires              Service principal\n",
+        out,
+    )
+}
+
+// The lines of all credentials.
+fn list_credentials<A: Allocator, B: Allocator, W: Write>(
+    cache: &Ccache<B>,
+    columns: CcColumns,
+    gathered: &mut Vec<u8, A>,
+    out: &mut Watched<W>,
+) -> Result<(), OutFault>
+    requires { IsFalse out.old.failed }
+    ensures ok { OnOk result (Passed out.old.contents out.new.contents
+        (gathered.old.items ++ lines_of_credentials columns (placed_credentials cache.now.state))
+        [] gathered.new.items) }
+    ensures prefix { OnErr result (AppendsPrefix out.old.contents out.new.contents
+        (gathered.old.items ++ lines_of_credentials columns (placed_credentials cache.now.state))) }
+    ensures failed { out.new.failed ≡ is_write_fault result }
+{
+    'credentials: for (_, credential) in cache.credentials() {
+        append_credential(columns, &credential, gathered)?;
+        send_if_full(gathered, out)?;
+    }
+    Ok(())
+}
+
+/// Writes the listing of a cache under that name: whose it is, the lines of each credential in file order, and
+/// where the image is damaged its fault. It is gathered into large writes; where one fails, what went out is a
+/// prefix of the text.
+pub fn list_cache<A: Allocator, B: Allocator, W: Write>(
+    alloc: A,
+    name: &str,
+    cache: &Ccache<B>,
+    columns: CcColumns,
+    out: &mut Watched<W>,
+) -> Result<(), OutFault>
+    requires { IsFalse out.old.failed }
+    ensures ok { OnOk result (Appends out.old.contents out.new.contents
+        (cache_text columns name.now cache.now.state)) }
+    ensures prefix { OnErr result (AppendsPrefix out.old.contents out.new.contents
+        (cache_text columns name.now cache.now.state)) }
+    ensures failed { out.new.failed ≡ is_write_fault result }
+{
+    let Ok(mut gathered) = Vec::with_capacity(alloc, 2 * FULL) else {
+        return Err(OutFault::NoMemory);
+    };
+    append_title(name, &mut gathered)?;
+    append_owner(&cache.default_principal(), &mut gathered)?;
+    list_credentials(cache, columns, &mut gathered, out)?;
+    send_last(cache.fault(), &mut gathered, out)
+}

@@ -1,0 +1,61 @@
+//! Ticket flags as letters.
+
+ghost use Rattle.std.specs.Prelude.{◌≡◌, ◌++◌, OnOk, OnErr};
+ghost use Rattle.krb_wire.specs.Text.{Grew};
+ghost use Rattle.krb_text.specs.Flags.{letters_among, flag_letters_of};
+
+use crate::append::append_byte;
+use krb_wire::NoMemory;
+use std::alloc::Allocator;
+
+// The flags that have a letter, in the order in which they are shown.
+const FLAGS: [(u32, u8); 14] = [
+    (0x4000_0000, b'F'),
+    (0x2000_0000, b'f'),
+    (0x1000_0000, b'P'),
+    (0x0800_0000, b'p'),
+    (0x0400_0000, b'D'),
+    (0x0200_0000, b'd'),
+    (0x0100_0000, b'i'),
+    (0x0080_0000, b'R'),
+    (0x0040_0000, b'I'),
+    (0x0010_0000, b'H'),
+    (0x0020_0000, b'A'),
+    (0x0008_0000, b'T'),
+    (0x0004_0000, b'O'),
+    (0x0000_8000, b'a'),
+];
+
+// The letters of those of some flags that are set.
+fn append_letters<A: Allocator>(
+    table: &[(u32, u8)],
+    flags: u32,
+    out: &mut Vec<u8, A>,
+) -> Result<(), NoMemory>
+    ensures ok { OnOk result (out.new.items ≡ out.old.items ++ letters_among flags table.now) }
+    ensures err { OnErr result (Grew out.old.items out.new.items) }
+{
+    'flags: for &(bit, letter) in table {
+        if flags & bit != 0 {
+            append_byte(letter, out)?;
+        }
+    }
+    Ok(())
+}
+
+/// Appends a letter for each ticket flag that is set and has one: forwardable `F`, forwarded `f`, proxiable `P`,
+/// proxy `p`, postdateable `D`, postdated `d`, invalid `i`, renewable `R`, initial `I`, hardware authenticated `H`,
+/// preauthenticated `A`, transit policy checked `T`, ok as delegate `O`, anonymous `a`.
+pub fn flag_letters<A: Allocator>(flags: u32, out: &mut Vec<u8, A>) -> Result<(), NoMemory>
+    ensures ok { OnOk result (out.new.items ≡ out.old.items ++ flag_letters_of flags) }
+    ensures err { OnErr result (out.new.items ≡ out.old.items) }
+{
+    let len = out.len();
+    match append_letters(&FLAGS, flags, out) {
+        Ok(()) => Ok(()),
+        Err(_) => {
+            out.truncate(len);
+            Err(NoMemory)
+        }
+    }
+}
