@@ -42,10 +42,13 @@ def as_mit(text: bytes) -> bytes:
     """A time of ours as MIT prints it."""
     if not text.endswith(b"Z"):
         return text
-    return time.strftime("%m/%d/%y %H:%M:%S", time.strptime(text.decode(), "%Y-%m-%dT%H:%M:%SZ")).encode()
+    then = time.strptime(text.decode(), "%Y-%m-%dT%H:%M:%SZ")
+    return time.strftime("%m/%d/%y %H:%M:%S", then).encode()
 
 
-def told(listed: bytes, ticket: re.Pattern[bytes], parts: dict[str, re.Pattern[bytes]]) -> list[Told]:
+def told(
+    listed: bytes, ticket: re.Pattern[bytes], parts: dict[str, re.Pattern[bytes]]
+) -> list[Told]:
     """What the lines after the heading tell."""
     found: list[Told] = []
     for line in listed.splitlines()[4:]:

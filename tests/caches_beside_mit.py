@@ -8,18 +8,23 @@ import os
 import shutil
 import socket
 import subprocess
+import sys
 import time
 from collections.abc import Iterator
 from contextlib import contextmanager
 from dataclasses import replace
 from random import Random
 
-from cache_images import credentials, offset
+from cache_images import PA_TYPE, TICKET, config, credentials, offset
+from cache_listings import HOST_LINE, of_host
 from cache_peers import told_by_mit, told_by_us
-from harness import SECONDS, Report, folder_of, run
+from cache_reading import listed
+from harness import SECONDS, Outcome, Report, differences, folder_of, run
 from images import Entry, entries
 from random_caches import random_credential, random_name
 from reading import read_image
+
+REMOVER = os.path.join(os.path.dirname(os.path.abspath(__file__)), "remove_credentials.py")
 
 # MIT's programs; those of the KDC may be where the path of a plain user does not lead.
 TOOLS = ("klist", "kinit", "kvno", "kdb5_util", "krb5kdc")
@@ -198,6 +203,7 @@ def check_filled(report: Report, program: str, realm_of: Realm) -> None:
             for words in commands:
                 realm_of.call(*words, folder=folder, version=version)
             found = differences_of(program, realm_of, folder, "-f", "-e", "-C")
+            found += [] if b"CACHE.TEST" in realm_of.klist(folder) else ["MIT's lists nothing"]
             with open(os.path.join(folder, "c"), "rb") as file:
                 found += [] if file.read(2)[1] == version else ["it has another version"]
         report.check(f"MIT's klist and ours: {name}", found)
@@ -213,7 +219,8 @@ def random_sound(random: Random) -> bytes:
 
 
 def check_random(report: Report, program: str, realm_of: Realm) -> None:
-    """Random caches tell the same. MIT's klist needs a real ticket to show enctypes: ours shows none."""
+    """Random caches tell the same but for enctypes, which MIT's klist tells of real tickets alone.
+    """
     wrong = []
     for seed in range(RANDOM_CACHES):
         image = random_sound(Random(seed))
@@ -223,12 +230,25 @@ def check_random(report: Report, program: str, realm_of: Realm) -> None:
     report.check("MIT's klist and ours: random caches", wrong[:3])
 
 
+def check_removed(report: Report, program: str, realm_of: Realm) -> None:
+    """What MIT's library has removed is not listed; what it has left is."""
+    image = credentials(TICKET, of_host(), PA_TYPE, config(b"k", b"v"), config(b"l", b"w"))
+    with folder_of({"c": image}) as folder:
+        realm_of.call(sys.executable, REMOVER, "c", folder=folder)
+        found = differences_of(program, realm_of, folder, "-f", "-C")
+        got = run(program, ("klist", "-C", "c"), folder)
+    wanted = Outcome(0, listed(b"u@R", HOST_LINE, b"config: l = w"))
+    report.check("what MIT's library has removed", found + differences(wanted, got))
+
+
 def check(report: Report, program: str) -> None:
     """Runs all of this topic where MIT's programs are there."""
     missing = [name for name in TOOLS if shutil.which(name, path=PATHS) is None]
     if missing:
-        report.skip("caches beside MIT's programs", f"{missing[0]} (krb5-user, krb5-kdc) is not there")
+        why = f"{missing[0]} is not there (Debian: krb5-user, krb5-kdc)"
+        report.skip("caches beside MIT's programs", why)
         return
     with realm() as made:
         check_filled(report, program, made)
         check_random(report, program, made)
+        check_removed(report, program, made)
