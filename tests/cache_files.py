@@ -4,7 +4,7 @@ from __future__ import annotations
 import os
 from dataclasses import replace
 
-from cache_images import TICKET, USUAL, Credential, Name, config, credentials
+from cache_images import TICKET, USUAL, Credential, Name, U, cache, config, credentials
 from cache_listings import TICKET_LINE
 from cache_reading import listed
 from file_names import LIMIT, NAMES
@@ -47,21 +47,23 @@ def sizes() -> list[Case]:
 
 def large() -> list[Case]:
     """Files of some 16,000,000 bytes made of small things, or of what is printed as more."""
-    parts = replace(TICKET, client=Name((b"",) * 4_000_000))
-    value = config(b"k", b"\xff" * 16_000_000)
+    count = 4_000_000
+    client = Name((), count=count).spelled() + bytes(4 * count)
+    parts = client + TICKET.spelled()[len(U.spelled()):]
+    value = config(b"k", b"\xff" * 16_000_000).spelled()
+    escaped = b"config: k = " + b"\\xff" * 16_000_000
     smallest = Credential(Name((), b""), Name((), b""), 0, None, b"", 0, 0, 0, flags=0, ticket=b"")
     line = b"1970-01-01T00:00:00Z 1970-01-01T00:00:00Z @"
-    escaped = b"config: k = " + b"\\xff" * 16_000_000
 
-    def of(name: str, cells: list[Credential], *lines: bytes) -> Case:
+    def of(name: str, cells: bytes, *lines: bytes) -> Case:
         wanted = Outcome(0, listed(b"u@R", *lines))
-        return Case(name, ("klist", "-C", "c"), wanted, {"c": credentials(*cells)})
+        return Case(name, ("klist", "-C", "c"), wanted, {"c": cache(cells)})
 
     return [
-        of("4,000,000 components", [parts], TICKET_LINE),
-        of("a value of 16,000,000 bytes", [value], escaped),
-        of("225,000 credentials of 71 bytes", [smallest] * 225_000, *[line] * 225_000),
-        of("as many that were removed", [smallest.removed()] * 225_000),
+        of("4,000,000 components", parts, TICKET_LINE),
+        of("a value of 16,000,000 bytes", value, escaped),
+        of("225,000 credentials of 71 bytes", smallest.spelled() * 225_000, *[line] * 225_000),
+        of("as many that were removed", smallest.removed().spelled() * 225_000),
     ]
 
 
