@@ -60,6 +60,7 @@ fn read_to_newline<A: Allocator, R: Read>(
 {
     let most = MOST_INPUT as usize;
     let mut seen = next;
+    let mut last = 0;
     'reads: loop {
         if let Some(end) = newline_from(bytes, seen) {
             if end < most {
@@ -71,8 +72,9 @@ fn read_to_newline<A: Allocator, R: Read>(
         if seen > most {
             return Err(LoadFault::TooLarge);
         }
-        let room = next_read(bytes).min(most - seen + 1);
-        if append_read(bytes, reader, room)? == 0 {
+        let room = next_read(bytes, last).min(most - seen + 1);
+        last = append_read(bytes, reader, room)?;
+        if last == 0 {
             return Ok(None);
         }
     }

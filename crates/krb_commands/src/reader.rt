@@ -9,7 +9,10 @@ use std::alloc::Allocator;
 use std::io::Read;
 
 /// How many bytes one read asks for at most.
-const MOST_READ: usize = 128 * 1024;
+pub const MOST_READ: usize = 128 * 1024;
+
+// How many it asks for at least, where there is room.
+const LEAST_READ: usize = 4096;
 
 // One read into the bytes from a place on.
 fn read_into<R: Read>(reader: &mut R, bytes: &mut [u8], at: usize) -> Result<usize, LoadFault>
@@ -59,13 +62,15 @@ pub fn append_read<A: Allocator, R: Read>(
     }
 }
 
-// How many bytes are read next: the room that is there is filled before more is taken.
-pub fn next_read<A: Allocator>(bytes: &Vec<u8, A>) -> usize
+// How many bytes are read next, by how many the last read gave: room is cleared before a read, so a reader that
+// gives little is asked for little. The room that is there is filled before more is taken.
+pub fn next_read<A: Allocator>(bytes: &Vec<u8, A>, last: usize) -> usize
     ensures { (0 < result) × (result ≤ 131072) }
 {
+    let wanted = last.saturating_mul(2).clamp(LEAST_READ, MOST_READ);
     match bytes.capacity() - bytes.len() {
-        0 => MOST_READ,
-        spare => spare.min(MOST_READ),
+        0 => wanted,
+        spare => spare.min(wanted),
     }
 }
 
@@ -99,10 +104,11 @@ pub fn load<A: Allocator, R: Read>(
     let Ok(mut bytes) = Vec::with_capacity(alloc, first_room(expected, limit)) else {
         return Err(LoadFault::NoMemory);
     };
+    let mut last = MOST_READ;
     loop {
-        let room = next_read(&bytes).min(most - bytes.len() + 1);
-        let count = append_read(&mut bytes, reader, room)?;
-        if count == 0 {
+        let room = next_read(&bytes, last).min(most - bytes.len() + 1);
+        last = append_read(&mut bytes, reader, room)?;
+        if last == 0 {
             return Ok(bytes);
         }
         if bytes.len() > most {

@@ -80,6 +80,7 @@ impl<'a> EntryView<'a> {
     }
 
     /// Its fields. What was read fits version 2.
+    #[inline]
     pub fn fields(&self) -> Fields<'_, PrincipalView<'a>>
         ensures is { result ≡ self.now }
         ensures fits { IsTrue (fits V2 result) }

@@ -1,4 +1,4 @@
-//! Shows and edits Kerberos keytabs.
+//! Shows Kerberos keytabs and credential caches, and edits keytabs.
 #![tactic(auto)]
 
 mod clock;

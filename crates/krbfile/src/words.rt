@@ -8,6 +8,11 @@ use krb_commands::{
 };
 use std::alloc::{AllocError, Global};
 
+/// The two forms of klist.
+const KLIST_USAGE: &str = "\
+krbfile klist [-c] [-e] [-f] [-C] FILE
+       krbfile klist -k [-t] [-K] [-e] [--v1-big] FILE";
+
 /// The lines of a script.
 const SCRIPT: &str = "\
 Lines of the script, of which empty ones and those that begin with # ask for nothing:
@@ -53,12 +58,15 @@ fn word<'a>(alloc: Global, id: &'a str, shown: &'a str, help: &'a str) -> Arg<'a
 
 fn klist_command<'a>(alloc: Global) -> Result<Command<'a>, AllocError> {
     Command::new(alloc, "klist")
-        .about("Lists a keytab")
-        .override_usage("krbfile klist -k [-t] [-K] [-e] [--v1-big] FILE")
+        .about("Lists a keytab or a credential cache")
+        .override_usage(KLIST_USAGE)
         .args_override_self(true)
+        .arg(flag(alloc, "cache", 'c', "List a credential cache (the default)"))?
+        .arg(flag(alloc, "flags", 'f', "Show the flags of tickets"))?
+        .arg(flag(alloc, "configs", 'C', "Show configuration entries"))?
         .arg(flag(alloc, "keytab", 'k', "List a keytab"))?
-        .arg(flag(alloc, "times", 't', "Show times"))?
-        .arg(flag(alloc, "keys", 'K', "Show keys"))?
+        .arg(flag(alloc, "times", 't', "Show the times of entries"))?
+        .arg(flag(alloc, "keys", 'K', "Show the keys of entries"))?
         .arg(flag(alloc, "etypes", 'e', "Show encryption types"))?
         .arg(v1_big(alloc))?
         .arg(word(alloc, "file", "FILE", "The file to list"))
@@ -107,7 +115,7 @@ fn ktutil_command<'a>(alloc: Global) -> Result<Command<'a>, AllocError> {
 
 fn krbfile_command<'a>(alloc: Global) -> Result<Command<'a>, AllocError> {
     Command::new(alloc, "krbfile")
-        .about("Reads and edits Kerberos keytabs")
+        .about("Lists Kerberos keytabs and credential caches, and edits keytabs")
         .subcommand_required(true)
         .subcommand(klist_command(alloc)?)?
         .subcommand(ktedit_command(alloc)?)?
@@ -118,10 +126,13 @@ fn krbfile_command<'a>(alloc: Global) -> Result<Command<'a>, AllocError> {
 // The words of klist that were found.
 fn klist_words<'a>(matches: &ArgMatches<'a>) -> Option<KlistWords<'a>> {
     Some(KlistWords {
+        cache: matches.get_flag("cache"),
         keytab: matches.get_flag("keytab"),
         times: matches.get_flag("times"),
         etypes: matches.get_flag("etypes"),
         keys: matches.get_flag("keys"),
+        flags: matches.get_flag("flags"),
+        configs: matches.get_flag("configs"),
         v1_big: matches.get_flag("v1-big"),
         file: matches.get_str("file")?,
     })

@@ -9,40 +9,40 @@ returns-then-end-most-clause-ok g c =
     IsFirst-earlier c.reads.bytes.items c.args.next c.reads.seen c.in-Some.end c.reads.invariant.ahead.0 c.reads.invariant.none (rw (c.deref.ensures.value) at c.in-Some.ensures)
 
 -- a read that failed has changed nothing
-pub returns-in_err-append_read-clause-grows : goal.returns-in_err-append_read-clause-grows
-returns-in_err-append_read-clause-grows g c =
+pub returns-in_err-last-clause-grows : goal.returns-in_err-last-clause-grows
+returns-in_err-last-clause-grows g c =
     Grows-trans c.args.bytes.now.items c.reads.bytes.items c.append_read.new.bytes.items (g.R.Read.remaining c.args.reader.now) (g.R.Read.remaining c.reads.reader) (g.R.Read.remaining c.append_read.new.reader)
     c.reads.invariant.grows
-    (Grows-none c.reads.bytes.items c.append_read.new.bytes.items (g.R.Read.remaining c.reads.reader) (g.R.Read.remaining c.append_read.new.reader) c.in_err-append_read.ensures.same c.in_err-append_read.ensures.err)
+    (Grows-none c.reads.bytes.items c.append_read.new.bytes.items (g.R.Read.remaining c.reads.reader) (g.R.Read.remaining c.append_read.new.reader) c.in_err-last.ensures.same c.in_err-last.ensures.err)
 
-pub returns-in_err-append_read-clause-within : goal.returns-in_err-append_read-clause-within
-returns-in_err-append_read-clause-within g c =
-    let same = ap length c.in_err-append_read.ensures.same in
+pub returns-in_err-last-clause-within : goal.returns-in_err-last-clause-within
+returns-in_err-last-clause-within g c =
+    let same = ap length c.in_err-last.ensures.same in
     let old = c.reads.bytes.ok.0 in
     let new = c.append_read.new.bytes.ok.0 in
     let within = c.reads.invariant.within in
     omega (arith, same, old, new, within)
 
 -- nothing was given, and no newline was there before
-pub returns-then-branch-eq0-clause-ok : goal.returns-then-branch-eq0-clause-ok
-returns-then-branch-eq0-clause-ok g c =
+pub returns-then-last-eq0-clause-ok : goal.returns-then-last-eq0-clause-ok
+returns-then-last-eq0-clause-ok g c =
     let old = c.reads.bytes in
-    let given = c.in_ok-append_read.ensures.given in
-    let len = c.in_ok-append_read.ensures.len.0 in
+    let given = c.in_ok-last.ensures.given in
+    let len = c.in_ok-last.ensures.len.0 in
     let none : HasNone (drop c.args.next old.items) =
     HasNone-earlier old.items c.args.next c.reads.seen c.reads.invariant.ahead.0 c.reads.invariant.none (rw (c.deref.ensures.value) at c.in_default.ensures) in
     let as_long : length c.append_read.new.bytes.items ≡ length old.items =
-    (let was = old.ok.0 in let now = c.append_read.new.bytes.ok.0 in let is = c.if-branch-eq0.true in omega (arith, was, now, is, len)) in
+    (let was = old.ok.0 in let now = c.append_read.new.bytes.ok.0 in let is = c.if-last-eq0.true in omega (arith, was, now, is, len)) in
     let same : c.append_read.new.bytes.items ≡ old.items = none-given old.items c.append_read.new.bytes.items given.0 given.1 as_long in
-    (rw same none, c.in_ok-append_read.ensures.end c.if-branch-eq0.true)
+    (rw same none, c.in_ok-last.ensures.end c.if-last-eq0.true)
 
 -- more was given
 pub reads-preserved : goal.reads-preserved
 reads-preserved g c =
     let old = c.reads.bytes in
     let new = c.append_read.new.bytes in
-    let given = c.in_ok-append_read.ensures.given in
-    let len = c.in_ok-append_read.ensures.len in
+    let given = c.in_ok-last.ensures.given in
+    let len = c.in_ok-last.ensures.len in
     let was = old.ok.0 in
     let seen = c.len-seen.ensures in
     let ahead = c.reads.invariant.ahead in
