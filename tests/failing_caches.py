@@ -19,9 +19,9 @@ LONG_NAME = b"x" * 955
 LONG = Listing(("klist", "c"), credentials(*[replace(TICKET, server=Name((LONG_NAME,)))] * 300),
                listed(b"u@R", *[TIMES + LONG_NAME + b"@R"] * 300))
 
-# A cache of some 600 kB, of which no buffer takes the whole text, with a fault at its end.
+# A cache of some 130 kB, of which no buffer takes the whole text, with a fault at its end.
 ODD_TICKET = Credential(server=Name((b"/@\\\n\t\b\0" * 9, b"x" * 99)), renew_till=1)
-ODD = credentials(*[ODD_TICKET, config(b"k", bytes(range(256)), b"\\")] * 1000, PA_TYPE) + b"\0"
+ODD = credentials(*[ODD_TICKET, config(b"k", bytes(range(256)), b"\\")] * 200, PA_TYPE) + b"\0"
 FILES = {"c": USUAL, "odd": ODD}
 
 PLAIN = Line(("klist", "c"))
