@@ -84,6 +84,10 @@ REALM = b"CACHE.TEST"
 RANDOM_CACHES = 60
 
 
+class Failed(Exception):
+    """One of MIT's programs did not do what it had to."""
+
+
 class Realm:
     """A realm in a folder, whose KDC runs."""
 
@@ -112,7 +116,7 @@ class Realm:
                               stdin=subprocess.DEVNULL, capture_output=True, timeout=SECONDS,
                               check=False)
         if done.returncode != 0:
-            raise RuntimeError(f"{' '.join(words)}: {done.stderr.decode(errors='replace').strip()}")
+            raise Failed(f"{' '.join(words)}: {done.stderr.decode(errors='replace').strip()}")
         return done.stdout
 
     def fill(self) -> None:
@@ -165,7 +169,7 @@ def wait_for(port: int, started: subprocess.Popen[bytes]) -> None:
         if started.poll() is not None:
             break
         time.sleep(0.1)
-    raise RuntimeError("krb5kdc does not listen")
+    raise Failed("krb5kdc does not listen")
 
 
 @contextmanager
@@ -248,7 +252,10 @@ def check(report: Report, program: str) -> None:
         why = f"{missing[0]} is not there (Debian: krb5-user, krb5-kdc)"
         report.skip("caches beside MIT's programs", why)
         return
-    with realm() as made:
-        check_filled(report, program, made)
-        check_random(report, program, made)
-        check_removed(report, program, made)
+    try:
+        with realm() as made:
+            check_filled(report, program, made)
+            check_random(report, program, made)
+            check_removed(report, program, made)
+    except Failed as failed:
+        report.check("MIT's programs in a realm made here", [str(failed)])

@@ -168,11 +168,11 @@ def columns_in(words: tuple[str, ...]) -> str:
     return "".join(word[1:] for word in words if word.startswith("-"))
 
 
-def kept(image: bytes, seed: int) -> str:
-    """Keeps the image that a seed has made, and says where."""
+def kept(seed: int) -> str:
+    """Keeps the image that a seed makes, and says where."""
     path = os.path.join(tempfile.gettempdir(), f"krbfile-cache-{seed}")
     with open(path, "wb") as file:
-        file.write(image)
+        file.write(random_image(Random(seed)))
     return path
 
 
@@ -188,18 +188,21 @@ def faults_of(program: str, folder: str, seed: int, seen: Counter[str]) -> list[
         seen.update(kinds_of(wanted))
         found = differences(wanted, run(program, ("klist", *words), folder))
         if found:
-            wrong.append(f"{kept(image, seed)} by {' '.join(words)}: {', '.join(found)}")
+            wrong.append(f"{' '.join(words)}: {', '.join(found)}")
     return wrong
 
 
 def check(report: Report, program: str, times: int = 1, seed: int = 5) -> None:
     """Lists each image by two lines. All of them are one case, and that each kind came another."""
     seen: Counter[str] = Counter()
-    wrong = []
+    wrong = {}
     with folder_of({}) as folder:
-        for number_of in range(seed, seed + CACHES * times):
-            wrong += faults_of(program, folder, number_of, seen)
-    rest = [f"and {len(wrong) - 3} more"] if len(wrong) > 3 else []
-    report.check(f"random caches from seed {seed} on", wrong[:3] + rest)
+        for each in range(seed, seed + CACHES * times):
+            found = faults_of(program, folder, each, seen)
+            if found:
+                wrong[each] = "; ".join(found)
+    told = [f"{kept(each)} by {wrong[each]}" for each in list(wrong)[:3]]
+    told += [f"and {len(wrong) - 3} images more"] if len(wrong) > 3 else []
+    report.check(f"random caches from seed {seed} on", told)
     missing = [f"no {kind}" for kind in KINDS if seen[kind] < FEWEST]
     report.check("random caches: each kind", missing)
