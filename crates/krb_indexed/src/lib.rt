@@ -1,0 +1,7 @@
+//! A keytab with a table of its cells, and a tree that finds the first hole.
+#![tactic(auto)]
+
+mod height;
+mod nodes;
+mod slot;
+mod tree;

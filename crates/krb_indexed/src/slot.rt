@@ -1,0 +1,42 @@
+//! What a table knows of one cell.
+
+ghost use Rattle.std.specs.Prelude.{◌≡◌, ◌<◌, ◌≤◌, ◌^◌};
+ghost use Rattle.krb_indexed.specs.Slot.{free_size, is_free, size};
+
+/// The place of a cell, and its length as the image has it: how many bytes are after it, in two's complement
+/// negated where the cell is free.
+#[derive(Clone, Copy, Debug, PartialEq, Eq)]
+pub struct Slot {
+    pub place: u32,
+    pub length: u32,
+}
+
+impl Slot {
+    /// Whether its cell is free.
+    pub fn is_free(self) -> bool
+        ensures { result ≡ is_free self }
+    {
+        self.length >= 0x8000_0000
+    }
+
+    /// How many bytes its cell has after its length.
+    pub fn size(self) -> u32
+        ensures size { result ≡ size self }
+        ensures small { result ≤ 2 ^ 31 }
+    {
+        if self.is_free() {
+            return (0x1_0000_0000 - self.length as u64) as u32;
+        }
+        self.length
+    }
+
+    /// How many bytes an entry may take in its cell: none where it is live.
+    pub fn free_size(self) -> u32
+        ensures { result ≡ free_size self }
+    {
+        if self.is_free() {
+            return self.size();
+        }
+        0
+    }
+}

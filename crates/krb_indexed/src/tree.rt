@@ -1,0 +1,1 @@
+//! A tree over a row of sizes.
