@@ -1,1 +1,2 @@
 pub mod NodeLemmas
+pub mod SizeLemmas

@@ -1,5 +1,5 @@
 -- A tree over a row of sizes, which finds the first of them that is large enough.
-use Rattle.std.specs.Prelude.{ℕ, ◌+◌, ◌^◌, ◌<◌, ◌≤◌, List, Option, Some, None, nat_le}
+use Rattle.std.specs.Prelude.{ℕ, ◌+◌, ◌*◌, ◌^◌, ◌<◌, ◌≤◌, List, Option, Some, None, nat_le}
 use Rattle.std.specs.List.{position}
 
 -- the sizes, as many as a power of two; how many levels of nodes stand over them; and how many numbers there is room for
@@ -20,3 +20,7 @@ looks_for height None = 1
 -- the least number of levels that have so many leaves under them
 abbrev pub IsHeightFor : ℕ → ℕ → Type 0
 IsHeightFor count height = (count ≤ 2 ^ height) × ((lower : ℕ) → lower < height → 2 ^ lower < count)
+
+-- there is room for so many sizes, and the nodes over them
+abbrev pub HasRoomFor : ℕ → SizeTree → Type 0
+HasRoomFor count t = (height : ℕ) → IsHeightFor count height → 2 * 2 ^ height ≤ t.room
