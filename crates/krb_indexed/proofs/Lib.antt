@@ -1,2 +1,3 @@
 pub mod NodeLemmas
 pub mod SizeLemmas
+pub mod SlotLemmas

@@ -144,7 +144,7 @@ none_fits height nodes need tree small =
     let xs = drop n nodes in
     let len : length xs ≡ n = omega (arith, length-drop n nodes, tree.len) in
     let none : (k : ℕ) → k < length xs → nat_le need (get_or xs k 0) ≡ false = λ k lt.
-      let le = under nodes n tree.inner height 1 (n + k) (omega arith) (omega arith) (omega arith) (omega (arith, lt, len)) in
-      rw (get_or-drop n nodes k 0) (lt-leb need (get_or nodes (n + k) 0) (omega (arith, le, small))) in
+    let le = under nodes n tree.inner height 1 (n + k) (omega arith) (omega arith) (omega arith) (omega (arith, lt, len)) in
+    rw (get_or-drop n nodes k 0) (lt-leb need (get_or nodes (n + k) 0) (omega (arith, le, small))) in
     let is = position_or_len_is (λ (m : ℕ). nat_le need m) xs (length xs) 0 (omega arith) none (λ lt. absurd (omega (arith, lt))) in
     rw (is, le-ltb (length xs) (length xs) (omega arith)) refl

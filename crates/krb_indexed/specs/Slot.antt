@@ -1,5 +1,7 @@
 -- What a table knows of one cell.
-use Rattle.std.specs.Prelude.{ℕ, ◌-◌, ◌^◌, Bool, nat_le, if◌then◌else◌}
+use Rattle.std.specs.Prelude.{ℕ, ◌-◌, ◌^◌, ◌<◌, ◌≤◌, Bool, List, length, map, nat_le, slice_index, if◌then◌else◌}
+use Rattle.krb_keytab.specs.Cells.{Cell, Live, Free, length_field}
+use Rattle.krb_keytab.specs.Changes.{PlacedCell, placed_cells}
 use Rattle.krb_indexed.specs.declared.slot.Slot.{Slot}
 
 -- its length is that of a free cell
@@ -13,3 +15,30 @@ size s = if is_free s then 2 ^ 32 - s.length else s.length
 -- how many bytes an entry may take there: none where the cell is live
 abbrev pub free_size : Slot → ℕ
 free_size s = if is_free s then 2 ^ 32 - s.length else 0
+
+-- its length is not 0, and fits its field
+abbrev pub IsShort : Cell → Type 0
+IsShort (Live b) = (0 < length b) × (length b < 2 ^ 31)
+IsShort (Free b) = (0 < length b) × (length b ≤ 2 ^ 31)
+
+-- what is known of a cell that stands at a place
+abbrev pub slot_of : PlacedCell → Slot
+slot_of x = record { place = x.0; length = length_field x.1 }
+
+-- what is known of cells that begin at a place
+abbrev pub slots_from : ℕ → List Cell → List Slot
+slots_from at cells = map slot_of (placed_cells at cells)
+
+-- the places of cells, in order
+abbrev pub places : List Slot → List ℕ
+places slots = map (λ s. s.place) slots
+
+-- each number is less than those after it
+abbrev pub IsRising : List ℕ → Type 0
+IsRising xs = (i j : ℕ) → i < j → j < length xs → slice_index xs i < slice_index xs j
+
+-- so many of the numbers are less than one, and the others are not
+pub record IsRank (xs : List ℕ) (p rank : ℕ) : Type 0 where
+  pub within : rank ≤ length xs
+  pub below : (i : ℕ) → i < rank → slice_index xs i < p
+  pub rest : (i : ℕ) → rank ≤ i → i < length xs → p ≤ slice_index xs i

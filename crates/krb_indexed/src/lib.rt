@@ -4,4 +4,5 @@
 mod height;
 mod nodes;
 mod slot;
+mod table;
 mod tree;

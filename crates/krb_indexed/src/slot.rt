@@ -1,7 +1,10 @@
 //! What a table knows of one cell.
 
 ghost use Rattle.std.specs.Prelude.{◌≡◌, ◌<◌, ◌≤◌, ◌^◌};
-ghost use Rattle.krb_indexed.specs.Slot.{free_size, is_free, size};
+ghost use Rattle.krb_indexed.specs.Slot.{free_size, is_free, size, slot_of, IsShort};
+ghost use Rattle.krb_keytab.specs.CellView.{cell_of};
+
+use krb_keytab::CellView;
 
 /// The place of a cell, and its length as the image has it: how many bytes are after it, in two's complement
 /// negated where the cell is free.
@@ -12,6 +15,25 @@ pub struct Slot {
 }
 
 impl Slot {
+    /// What is known of a cell at a place.
+    pub fn of(place: usize, cell: CellView<'_>) -> Slot
+        requires place { place < 2 ^ 32 }
+        requires cell { IsShort (cell_of cell) }
+        ensures { result ≡ slot_of (place, cell_of cell.entry) }
+    {
+        let place = place as u32;
+        match cell {
+            CellView::Live(bytes) => Slot {
+                place,
+                length: bytes.len() as u32,
+            },
+            CellView::Free(bytes) => Slot {
+                place,
+                length: (0x1_0000_0000 - bytes.len() as u64) as u32,
+            },
+        }
+    }
+
     /// Whether its cell is free.
     pub fn is_free(self) -> bool
         ensures { result ≡ is_free self }

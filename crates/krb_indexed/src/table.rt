@@ -1,0 +1,52 @@
+//! A table of cells, in order.
+
+ghost use Rattle.std.specs.Prelude.{◌≡◌, ◌<◌, ◌≤◌, ◌+◌, ◌^◌, length, IfOk, vec_len, vec_capacity};
+ghost use Rattle.krb_indexed.specs.Slot.{slots_from, places, IsRising, IsRank};
+
+use crate::slot::Slot;
+use krb_keytab::{CellView, Keytab};
+use krb_wire::NoMemory;
+use std::alloc::Allocator;
+
+// How many cells a keytab has.
+fn count_cells<A: Allocator>(keytab: &Keytab<A>) -> usize
+    ensures count { result ≡ length keytab.now.state.contents.cells }
+    ensures small { result < 2 ^ 30 }
+{
+    let mut count: usize = 0;
+    for _cell in keytab.cells() {
+        count += 1;
+    }
+    count
+}
+
+/// The table of a keytab's cells. There is room for one more.
+pub fn table_of<A: Allocator, B: Allocator>(
+    alloc: A,
+    keytab: &Keytab<B>,
+) -> Result<Vec<Slot, A>, NoMemory>
+    ensures slots { IfOk result (λ t. t.items ≡ slots_from 2 keytab.now.state.contents.cells) }
+    ensures room { IfOk result (λ t. vec_len t < vec_capacity t) }
+{
+    let count = count_cells(keytab);
+    let Ok(mut slots) = Vec::with_capacity(alloc, count + 1) else {
+        return Err(NoMemory);
+    };
+    for (place, cell) in keytab.cells() {
+        let Ok(()) = slots.push(Slot::of(place, cell)) else {
+            return Err(NoMemory);
+        };
+    }
+    match slots.reserve(1) {
+        Ok(()) => Ok(slots),
+        Err(_) => Err(NoMemory),
+    }
+}
+
+/// How many cells stand before a place, found by halving.
+pub fn rank(slots: &[Slot], place: u32) -> usize
+    requires { IsRising (places slots.now) }
+    ensures { IsRank (places slots.now) place result }
+{
+    slots.partition_point(|slot| slot.place < place)
+}
