@@ -11,7 +11,7 @@ use Rattle.krb_indexed.specs.Slot.{places, slots_from, slot_of, IsRising, IsRank
 
 -- ---- the rank of a place
 
-place_at : (slots : List Slot) (i : ℕ) (d : Slot) → i < length slots → slice_index (places slots) i ≡ (get_or slots i d).place
+pub place_at : (slots : List Slot) (i : ℕ) (d : Slot) → i < length slots → slice_index (places slots) i ≡ (get_or slots i d).place
 place_at slots i d lt = get_or-map (λ (s : Slot). s.place) slots i d 0 lt
 
 -- a smaller place stands before a greater one

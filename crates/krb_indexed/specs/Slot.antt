@@ -1,5 +1,10 @@
 -- What a table knows of one cell.
-use Rattle.std.specs.Prelude.{ℕ, ◌-◌, ◌^◌, ◌<◌, ◌≤◌, Bool, List, length, map, nat_le, slice_index, if◌then◌else◌}
+use Rattle.std.specs.Prelude.{◌+◌, Option, Some, None, find, not, ℕ, ◌-◌, ◌^◌, ◌<◌, ◌≤◌, Bool, List, length, map, nat_le, slice_index, if◌then◌else◌}
+use Rattle.krb_walk.specs.declared.fault.FaultKind.{FaultKind}
+use Rattle.krb_walk.specs.declared.stop.Stop.{Stop}
+use Rattle.krb_walk.specs.declared.stop.Stop.TheVariants.{Live as Live_at}
+use Rattle.krb_walk.specs.Store.{end_stop}
+use Rattle.krb_keytab.specs.declared.hole.Hole.{Hole}
 use Rattle.krb_keytab.specs.Cells.{Cell, Live, Free, length_field}
 use Rattle.krb_keytab.specs.Changes.{PlacedCell, placed_cells}
 use Rattle.krb_indexed.specs.declared.slot.Slot.{Slot}
@@ -42,3 +47,16 @@ pub record IsRank (xs : List ℕ) (p rank : ℕ) : Type 0 where
   pub within : rank ≤ length xs
   pub below : (i : ℕ) → i < rank → slice_index xs i < p
   pub rest : (i : ℕ) → rank ≤ i → i < length xs → p ≤ slice_index xs i
+
+-- the first slot of a live cell
+abbrev pub first_live : List Slot → Option Slot
+first_live slots = find (λ s. not (is_free s)) slots
+
+-- where a walk stops that finds this live cell, or none
+abbrev pub stop_of_slot : ℕ → Option FaultKind → Option Slot → Stop
+stop_of_slot end kind (Some s) = Live_at s.place (s.place + 4 + size s)
+stop_of_slot end kind None = end_stop end kind
+
+-- a hole by its slot
+abbrev pub hole_of_slot : Slot → Hole
+hole_of_slot s = record { place = s.place; size = size s }

@@ -2,7 +2,10 @@
 #![tactic(auto)]
 
 mod height;
+mod indexed;
 mod nodes;
 mod slot;
 mod table;
 mod tree;
+
+pub use indexed::Indexed;

@@ -1,7 +1,7 @@
 //! A table of cells, in order.
 
 ghost use Rattle.std.specs.Prelude.{◌≡◌, ◌<◌, ◌≤◌, ◌+◌, ◌^◌, length, IfOk, vec_len, vec_capacity};
-ghost use Rattle.krb_indexed.specs.Slot.{slots_from, places, IsRising, IsRank};
+ghost use Rattle.krb_indexed.specs.Slot.{first_live, slots_from, places, IsRising, IsRank};
 
 use crate::slot::Slot;
 use krb_keytab::{CellView, Keytab};
@@ -27,6 +27,7 @@ pub fn table_of<A: Allocator, B: Allocator>(
 ) -> Result<Vec<Slot, A>, NoMemory>
     ensures slots { IfOk result (λ t. t.items ≡ slots_from 2 keytab.now.state.contents.cells) }
     ensures room { IfOk result (λ t. vec_len t < vec_capacity t) }
+    ensures few { IfOk result (λ t. vec_len t < 2 ^ 30) }
 {
     let count = count_cells(keytab);
     let Ok(mut slots) = Vec::with_capacity(alloc, count + 1) else {
@@ -49,4 +50,16 @@ pub fn rank(slots: &[Slot], place: u32) -> usize
     ensures { IsRank (places slots.now) place result }
 {
     slots.partition_point(|slot| slot.place < place)
+}
+
+/// The first live cell.
+pub fn first_live(slots: &[Slot]) -> Option<Slot>
+    ensures { result ≡ first_live slots.now }
+{
+    for slot in slots {
+        if !slot.is_free() {
+            return Some(*slot);
+        }
+    }
+    None
 }
