@@ -93,9 +93,12 @@ impl<A: Allocator> Keytab<A> {
     pub fn record_len<B: Allocator>(&self, entry: &NewEntry<B>) -> Option<usize>
         ensures fits { is_some result ≡ fits self.now.state.format entry.now }
         ensures len { IfSome result (λ n. n ≡ length (written_form self.now.state.format entry.now)) }
-        ensures small { IfSome result (λ n. n < 2 ^ 34) }
+        ensures some { IfSome result (λ n. (0 < n) × (n < 2 ^ 34)) }
+        ensures numbers { IsEntry entry.now }
     {
-        let form = Form::of(self.format(), entry.fields())?;
+        let fields = entry.fields();
+        fields.numbers_fit();
+        let form = Form::of(self.format(), fields)?;
         Some(form.len())
     }
 
@@ -103,7 +106,8 @@ impl<A: Allocator> Keytab<A> {
     pub fn has_room(&self, need: usize) -> bool
         requires whole { fault_of (store_of self.now.state) ≡ None }
         requires small { need < 2 ^ 34 }
-        ensures { (bytes : List ℕ) → length bytes ≡ need
+        ensures small { result ≡ true → need < 2 ^ 30 }
+        ensures fits { (bytes : List ℕ) → length bytes ≡ need
             → result ≡ nat_le (length (image_of (with_last self.now.state bytes))) self.now.state.limit }
     {
         len_with(self.end, need) <= self.limit as usize
