@@ -1,22 +1,19 @@
 -- The first hole, by the sizes of the leaves.
-use Rattle.std.proofs.Common.{◌≡◌, ℕ, zero, suc, ◌+◌, ◌-◌, ◌^◌, ◌<◌, ◌≤◌, true, false, List, [], ◌∷◌, ◌++◌, length, map, take, drop, get_or, replicate, Option, Some, None, refl, sym, ap, subst, ◌∙◌, arith, inl, inr}
-use Rattle.std.specs.Prelude.{slice_index, find, nat_le, nat_lt, not, option_map, MatchOption}
+use Rattle.std.proofs.Common.{◌≡◌, ℕ, zero, suc, ◌+◌, ◌-◌, ◌<◌, ◌≤◌, true, false, List, [], ◌∷◌, ◌++◌, length, map, get_or, replicate, Some, None, refl, sym, ap, ◌∙◌, arith, inl, inr}
+use Rattle.std.specs.Prelude.{nat_le, nat_lt, not}
 use Rattle.std.specs.List.{AllByRecursion}
 use Rattle.std.proofs.lemmas.Bool.{le-leb, lt-leb, lt-ltb, leb-true, cases_lt}
 use Rattle.std.proofs.lemmas.List.{length-map, length-append, length-replicate, get_or-map, get_or_append_left, get_or-append_right, get_or-replicate, get_or_past}
 use Rattle.std.proofs.lemmas.List.Quantifiers.{position-Some}
 use Rattle.std.proofs.lemmas.List.Sums.{prefix_len_passes}
-use Rattle.std.specs.List.{position, position_or_len}
-use Rattle.std.proofs.lemmas.Bool.{cases_Bool, not-true, ltb-true}
+use Rattle.std.specs.List.{position_or_len}
+use Rattle.std.proofs.lemmas.Bool.{not-true}
 use Rattle.std.proofs.lemmas.Bool.Decides.{leb_tells}
 use Rattle.krb_wire.specs.declared.format.KtFormat.{KtFormat}
-use Rattle.krb_keytab.specs.declared.hole.Hole.{Hole}
 use Rattle.krb_keytab.specs.Cells.{Cell, Live, Free, IsCell}
-use Rattle.krb_keytab.specs.Cells as cells
-use Rattle.krb_keytab.specs.Changes.{first_hole, placed_cells}
-use Rattle.krb_keytab.specs.Hole.{hole_from, hole_of}
+use Rattle.krb_keytab.specs.Hole.{hole_from}
 use Rattle.krb_indexed.specs.declared.slot.Slot.{Slot}
-use Rattle.krb_indexed.specs.Slot.{is_free, size, free_size, slots_from, slot_of, hole_of_slot}
+use Rattle.krb_indexed.specs.Slot.{free_size, slots_from, hole_of_slot}
 use Rattle.krb_indexed.specs.Tree.{first_fit}
 use Rattle.krb_indexed.proofs.PlaceLemmas.{slots_len}
 use Rattle.krb_indexed.proofs.StopLemmas.{live_slot, free_slot, free_size_is}

@@ -1,24 +1,23 @@
 -- What a keytab answers, by its table.
-use Rattle.std.proofs.Common.{◌≡◌, ℕ, zero, suc, ◌+◌, ◌-◌, ◌^◌, ◌<◌, ◌≤◌, Bool, true, false, eqb, List, [], ◌∷◌, ◌++◌, length, map, take, drop, get_or, Option, Some, None, refl, sym, ap, subst, ◌∙◌, arith, inl, inr}
-use Rattle.std.specs.Prelude.{slice_index, IfSome, option_map, max}
-use Rattle.std.specs.List.{AllByRecursion}
+use Rattle.std.proofs.Common.{◌≡◌, ℕ, ◌+◌, ◌-◌, ◌^◌, ◌<◌, ◌≤◌, eqb, List, length, take, drop, Option, Some, None, refl, sym, ap, subst, ◌∙◌, arith, inl, inr}
+use Rattle.std.specs.Prelude.{IfSome, option_map, max}
 use Rattle.std.proofs.lemmas.Bool.{eqb-true, eq-eqb, ne_eqb, cases_lt}
 use Rattle.std.proofs.lemmas.Bool.Decides.{eqb_tells}
 use Rattle.std.proofs.lemmas.List.{take_all}
-use Rattle.krb_walk.specs.Store.{end_of, fault_of, stop_at, is_place, IsPlace}
-use Rattle.krb_keytab.specs.Cells.{Cell, End, IsSound, kind_of}
+use Rattle.krb_walk.specs.Store.{end_of, stop_at, is_place, IsPlace}
+use Rattle.krb_keytab.specs.Cells.{IsSound, kind_of}
 use Rattle.krb_keytab.specs.Changes.{PlacedCell, first_hole}
 use Rattle.krb_keytab.specs.Hole.{hole_from, hole_of}
-use Rattle.krb_keytab.specs.Questions.{end_place, stop_in, is_place_in}
+use Rattle.krb_keytab.specs.Questions.{end_place}
 use Rattle.krb_keytab.specs.Store.{KeytabState, store_of}
 use Rattle.krb_keytab.specs.declared.hole.Hole.{Hole}
 use Rattle.krb_keytab.proofs.Stores.{is_place_in-store, stop_in-store, end_place-store}
 use Rattle.krb_indexed.specs.declared.slot.Slot.{Slot}
-use Rattle.krb_indexed.specs.Slot.{size, places, slots_from, first_live, stop_of_slot, hole_of_slot, free_size, IsRank}
+use Rattle.krb_indexed.specs.Slot.{size, places, slots_from, first_live, stop_of_slot, IsRank}
 use Rattle.krb_indexed.specs.Tree.{SizeTree, first_fit, looks_for, IsHeightFor}
 use Rattle.krb_indexed.specs.Index.{IsIndex, IsFit, fit_of, slot_at}
 use Rattle.krb_indexed.proofs.SlotLemmas.{place_at}
-use Rattle.krb_indexed.proofs.PlaceLemmas.{slots_len, places_len, place_is, place_by_rank}
+use Rattle.krb_indexed.proofs.PlaceLemmas.{slots_len, place_is, place_by_rank}
 use Rattle.krb_indexed.proofs.StopLemmas.{stop_by_rank, slot_within}
 use Rattle.krb_indexed.proofs.FitLemmas.{found_hole, no_hole, leaves_of}
 

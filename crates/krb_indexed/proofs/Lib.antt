@@ -5,3 +5,6 @@ pub mod PlaceLemmas
 pub mod StopLemmas
 pub mod FitLemmas
 pub mod IndexLemmas
+pub mod ChangeLemmas
+pub mod AppendLemmas
+pub mod RewriteLemmas

@@ -1,16 +1,15 @@
 -- The places of cells in a table.
-use Rattle.std.proofs.Common.{◌≡◌, ℕ, zero, suc, ◌+◌, ◌-◌, ◌*◌, ◌<◌, ◌≤◌, true, false, eqb, List, [], ◌∷◌, ◌++◌, length, map, take, drop, get_or, Option, Some, None, refl, sym, ap, subst, ◌∙◌, arith, inl, inr}
-use Rattle.std.specs.Prelude.{slice_index, find, ◌==◌}
-use Rattle.std.specs.List.{AllByRecursion}
+use Rattle.std.proofs.Common.{◌≡◌, ℕ, zero, suc, ◌+◌, ◌<◌, ◌≤◌, false, eqb, List, [], ◌∷◌, ◌++◌, length, take, drop, refl, sym, ap, ◌∙◌, arith, inl, inr}
+use Rattle.std.specs.Prelude.{slice_index, ◌==◌}
 use Rattle.std.proofs.lemmas.Bool.{ne_eqb, cases_Bool}
 use Rattle.std.proofs.lemmas.Bool.Decides.{eqb_tells}
 use Rattle.std.proofs.lemmas.List.{length-map, take-append-drop}
-use Rattle.krb_keytab.specs.Cells.{Cell, Live, Free, size}
-use Rattle.krb_keytab.specs.Questions.{end_place, is_place_in, live_bytes_in, stop_in}
-use Rattle.krb_keytab.proofs.Cuts.{far, live_behind, stop_behind}
+use Rattle.krb_keytab.specs.Cells.{Cell, size}
+use Rattle.krb_keytab.specs.Questions.{end_place, is_place_in}
+use Rattle.krb_keytab.proofs.Cuts.{far}
 use Rattle.krb_keytab.proofs.Given.{place_ge}
 use Rattle.krb_indexed.specs.declared.slot.Slot.{Slot}
-use Rattle.krb_indexed.specs.Slot.{places, slots_from, slot_of, IsRising, IsRank}
+use Rattle.krb_indexed.specs.Slot.{places, slots_from, IsRising, IsRank}
 
 pub slots_len : (at : ℕ) (cs : List Cell) → length (slots_from at cs) ≡ length cs
 slots_len at [] = refl
@@ -25,7 +24,7 @@ place_is at [] i lt = absurd (omega arith)
 place_is at (c ∷ cs) zero lt = refl
 place_is at (c ∷ cs) (suc i) lt = place_is (at + 4 + size c) cs i (omega arith)
 
-end_rises : (at : ℕ) (cs : List Cell) (i j : ℕ) → i < j → j ≤ length cs → end_place at (take i cs) < end_place at (take j cs)
+pub end_rises : (at : ℕ) (cs : List Cell) (i j : ℕ) → i < j → j ≤ length cs → end_place at (take i cs) < end_place at (take j cs)
 end_rises at [] i j lt le = absurd (omega arith)
 end_rises at (c ∷ cs) i zero lt le = absurd (omega arith)
 end_rises at (c ∷ cs) zero (suc j) lt le = omega (arith, far (take j cs) (at + 4 + size c))

@@ -3,7 +3,7 @@ use Rattle.std.proofs.Common.{◌≡◌, ℕ, suc, ◌+◌, ◌-◌, ◌*◌, �
 use Rattle.std.proofs.Math.ListN.{set}
 use Rattle.std.proofs.Math.Seq.{take-suc, set-append_seam, drop-append-add}
 use Rattle.std.proofs.Math.Nat.{pow-suc}
-use Rattle.std.proofs.lemmas.List.{take_at, take_all, length-take, length-drop, length-map, map-append, drop-append-le, drop-replicate}
+use Rattle.std.proofs.lemmas.List.{take_at, length-take, length-drop, length-map, map-append, drop-append-le, drop-replicate}
 
 -- one more size is written
 pub write_next : {X : Type 0} (f : X → ℕ) (xs : List X) (old sizes : List ℕ) (i : ℕ) (d : X) → sizes ≡ map f (take i xs) ++ drop i old → i < length xs → length xs ≤ length old → set sizes i (f (get_or xs i d)) ≡ map f (take (i + 1) xs) ++ drop (i + 1) old
@@ -22,16 +22,12 @@ write_next {X} f xs old sizes i d is lt room =
 pub zeros_after : (sizes : List ℕ) (leaves n : ℕ) → sizes ++ drop (leaves + n) (replicate (2 * leaves) 0) ≡ sizes ++ replicate (leaves - n) 0
 zeros_after sizes leaves n = ap (λ (t : List ℕ). sizes ++ t) (drop-replicate (leaves + n) (2 * leaves) 0 ∙ ap (λ (k : ℕ). replicate k 0) (omega arith))
 
-take_none : (n : ℕ) → take {A = ℕ} n [] ≡ []
-take_none n = take_all n [] (omega arith)
-
 -- the leaves of new nodes, where sizes were written over the first of zeros
-pub filled : (power leaves n held used : ℕ) (front old items now new rest : List ℕ) → leaves ≡ power → old ≡ [] → held ≡ 0 → items ≡ take (2 * leaves) old ++ replicate (2 * leaves - held) 0 → now ≡ items → length new ≡ length now → length now ≡ used → drop leaves new ≡ front ++ drop (leaves + n) now → drop power (take used (new ++ rest)) ≡ front ++ replicate (power - n) 0
-filled power leaves n held used front old items now new rest same none empty zeros is len uses leaves_are =
-    let all : items ≡ replicate (2 * leaves) 0 = zeros ∙ ap (λ (t : List ℕ). t ++ replicate (2 * leaves - held) 0) (ap (take (2 * leaves)) none ∙ take_none (2 * leaves)) ∙ ap (λ (k : ℕ). replicate k 0) (omega (arith, empty)) in
+pub filled : (power leaves n used : ℕ) (front items now new rest : List ℕ) → leaves ≡ power → items ≡ replicate (2 * leaves) 0 → now ≡ items → length new ≡ length now → length now ≡ used → drop leaves new ≡ front ++ drop (leaves + n) now → drop power (take used (new ++ rest)) ≡ front ++ replicate (power - n) 0
+filled power leaves n used front items now new rest same zeros is len uses leaves_are =
     ap (drop power) (take_at new rest used (len ∙ uses))
     ∙ ap (λ (m : ℕ). drop m new) (sym same) ∙ leaves_are
-    ∙ ap (λ (t : List ℕ). front ++ drop (leaves + n) t) (is ∙ all)
+    ∙ ap (λ (t : List ℕ). front ++ drop (leaves + n) t) (is ∙ zeros)
     ∙ zeros_after front leaves n
     ∙ ap (λ (m : ℕ). front ++ replicate (m - n) 0) same
 

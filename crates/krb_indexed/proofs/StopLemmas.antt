@@ -1,16 +1,15 @@
 -- Where a walk stops, by the table.
-use Rattle.std.proofs.Common.{◌≡◌, ℕ, zero, suc, ◌+◌, ◌-◌, ◌^◌, ◌<◌, ◌≤◌, true, false, List, [], ◌∷◌, ◌++◌, length, map, take, drop, get_or, Option, Some, None, refl, sym, ap, subst, ◌∙◌, arith, inl, inr}
-use Rattle.std.specs.Prelude.{slice_index, find, nat_le, nat_lt, IfSome}
+use Rattle.std.proofs.Common.{◌≡◌, ℕ, zero, suc, ◌+◌, ◌-◌, ◌^◌, ◌<◌, ◌≤◌, true, false, List, [], ◌∷◌, ◌++◌, length, take, drop, refl, sym, ap, subst, ◌∙◌, arith}
+use Rattle.std.specs.Prelude.{nat_lt, IfSome}
 use Rattle.std.specs.List.{AllByRecursion}
 use Rattle.std.proofs.lemmas.Bool.{le-leb, lt-leb, le-ltb}
 use Rattle.krb_wire.specs.declared.format.KtFormat.{KtFormat}
 use Rattle.krb_walk.specs.declared.stop.Stop.TheVariants as stop
 use Rattle.krb_keytab.specs.Cells.{Cell, Live, Free, End, IsCell, kind_of, length_field}
 use Rattle.krb_keytab.specs.Cells as cells
-use Rattle.krb_keytab.specs.Questions.{end_place, stop_in, live_bytes_in}
+use Rattle.krb_keytab.specs.Questions.{end_place, stop_in}
 use Rattle.krb_keytab.proofs.Cuts.{all_back, end_place-append, far, stop_behind}
-use Rattle.krb_indexed.specs.declared.slot.Slot.{Slot}
-use Rattle.krb_indexed.specs.Slot.{is_free, size, free_size, places, slots_from, slot_of, first_live, stop_of_slot, IsRising, IsRank}
+use Rattle.krb_indexed.specs.Slot.{is_free, size, slots_from, slot_of, first_live, stop_of_slot}
 use Rattle.krb_indexed.proofs.PlaceLemmas.{cells_at_rank, slots_drop}
 
 -- ---- a cell by its slot

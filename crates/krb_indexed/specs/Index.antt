@@ -1,9 +1,10 @@
 -- A table of a keytab's cells, and a tree over what may be taken in each.
-use Rattle.std.specs.Prelude.{◌≡◌, ℕ, ◌+◌, ◌-◌, ◌^◌, ◌<◌, ◌≤◌, List, ◌++◌, length, map, max, replicate, slice_index_or, Option, Some, None, option_map}
+use Rattle.std.specs.Prelude.{◌≡◌, ℕ, ◌+◌, ◌-◌, ◌^◌, ◌<◌, List, ◌++◌, length, map, max, replicate, slice_index_or, Option, Some, None, option_map, IsSome}
+use Rattle.krb_walk.specs.Store.{live_bytes}
 use Rattle.krb_keytab.specs.Changes.{first_hole}
 use Rattle.krb_keytab.specs.Hole.{hole_from}
 use Rattle.krb_keytab.specs.Questions.{end_place}
-use Rattle.krb_keytab.specs.Store.{KeytabState, image_of}
+use Rattle.krb_keytab.specs.Store.{KeytabState, image_of, store_of}
 use Rattle.krb_indexed.specs.declared.slot.Slot.{Slot}
 use Rattle.krb_indexed.specs.Slot.{slots_from, free_size, hole_of_slot}
 use Rattle.krb_indexed.specs.Tree.{SizeTree, IsHeightFor, HasRoomFor}
@@ -15,6 +16,12 @@ fit_of k need = option_map (λ x. x.0) (first_hole 2 (max need 1) k.contents.cel
 -- what the table knows of the cell of a number
 abbrev pub slot_at : KeytabState → ℕ → Slot
 slot_at k number = slice_index_or (slots_from 2 k.contents.cells) number (record { place = 0; length = 0 })
+
+-- the cell of a number stands at a place, and is live
+pub record IsLiveNumber (k : KeytabState) (p number : ℕ) : Type 0 where
+  pub inside : number < length k.contents.cells
+  pub place : (slot_at k number).place ≡ p
+  pub live : IsSome (live_bytes (store_of k) p)
 
 -- the first hole that is large enough, by the number of its cell
 abbrev pub IsFit : KeytabState → ℕ → Option ℕ → Type 0

@@ -21,6 +21,10 @@ size s = if is_free s then 2 ^ 32 - s.length else s.length
 abbrev pub free_size : Slot → ℕ
 free_size s = if is_free s then 2 ^ 32 - s.length else 0
 
+-- the cell is live if it was free, and free if it was live
+abbrev pub turned : Slot → Slot
+turned s = record { place = s.place; length = 2 ^ 32 - s.length }
+
 -- its length is not 0, and fits its field
 abbrev pub IsShort : Cell → Type 0
 IsShort (Live b) = (0 < length b) × (length b < 2 ^ 31)

@@ -1,5 +1,5 @@
 -- A tree over a row of sizes, which finds the first of them that is large enough.
-use Rattle.std.specs.Prelude.{ℕ, ◌+◌, ◌*◌, ◌^◌, ◌<◌, ◌≤◌, List, Option, Some, None, nat_le}
+use Rattle.std.specs.Prelude.{◌≡◌, ℕ, ◌+◌, ◌-◌, ◌*◌, ◌^◌, ◌<◌, ◌≤◌, List, ◌++◌, replicate, Option, Some, None, nat_le}
 use Rattle.std.specs.List.{position}
 
 -- the sizes, as many as a power of two; how many levels of nodes stand over them; and how many numbers there is room for
@@ -24,3 +24,9 @@ IsHeightFor count height = (count ≤ 2 ^ height) × ((lower : ℕ) → lower < 
 -- there is room for so many sizes, and the nodes over them
 abbrev pub HasRoomFor : ℕ → SizeTree → Type 0
 HasRoomFor count t = (height : ℕ) → IsHeightFor count height → 2 * 2 ^ height ≤ t.room
+
+-- a tree over so many cells after one more, whose leaf is 0: the sizes are as before, and zeros after them
+pub record IsGrown (count : ℕ) (old new : SizeTree) : Type 0 where
+  pub sizes : new.sizes ≡ old.sizes ++ replicate (2 ^ new.height - 2 ^ old.height) 0
+  pub height : IsHeightFor (count + 1) new.height
+  pub higher : old.height ≤ new.height

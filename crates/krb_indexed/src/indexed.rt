@@ -1,5 +1,8 @@
 //! Keytabs with a table of their cells.
 
+mod changes;
+mod rewriting;
+
 ghost use Rattle.std.specs.Prelude.{◌≡◌, IsSome, IfOk, IfErr, IfSome, IfNone, ℕ, Some, None, ◌+◌, ◌<◌, ◌≤◌, length, take, vec_capacity};
 ghost use Rattle.krb_wire.specs.Reading.{Gives};
 ghost use Rattle.krb_walk.specs.Store.{end_of, fault_of, is_place, stop_at, live_bytes, IsPlace, IsSound as IsSoundStore};
@@ -9,7 +12,7 @@ ghost use Rattle.krb_keytab.specs.Questions.{end_place};
 ghost use Rattle.krb_keytab.specs.Laws.{AreBytes};
 ghost use Rattle.krb_keytab.specs.Find.{find_result};
 ghost use Rattle.krb_keytab.specs.Store.{image_of, store_of, entry_at_place, Reopens};
-ghost use Rattle.krb_indexed.specs.Index.{fit_of, slot_at, IsFit};
+ghost use Rattle.krb_indexed.specs.Index.{fit_of, slot_at, IsFit, IsLiveNumber};
 ghost use Rattle.krb_indexed.specs.Slot.{places, slots_from, size, stop_of_slot, IsRank};
 ghost use Rattle.krb_indexed.specs.Tree.{looks_for, IsHeightFor};
 
@@ -211,6 +214,46 @@ impl<A: Allocator> Indexed<A> {
             Some(number) => (Some(self.slot(number).place), looks),
             None => (None, looks),
         }
+    }
+
+    // The number of the live cell at a place, if one stands there.
+    fn live(&self, place: u32) -> Option<usize>
+        ensures none { IfNone result (live_bytes (store_of self.now.state) place ≡ None) }
+        ensures some { IfSome result (λ number. IsLiveNumber self.now.state place number) }
+    {
+        let _ = self.image();
+        let number = self.rank(place);
+        if number >= self.slots.len() {
+            return None;
+        }
+        let slot = self.slot(number);
+        if slot.place != place {
+            return None;
+        }
+        if slot.is_free() {
+            return None;
+        }
+        Some(number)
+    }
+
+    /// The bytes of the record at a place, after its length: an entry, and what is after it.
+    pub fn bytes_at(&self, place: u32) -> &[u8]
+        requires { IsSome (live_bytes (store_of self.now.state) place) }
+        ensures bytes { live_bytes (store_of self.now.state) place ≡ Some result.now }
+        ensures entry { IsSome (entry_at self.now.state.format result.now) }
+    {
+        self.keytab.bytes_at(place)
+    }
+
+    /// The entry of the record at a place: none exactly where no live cell stands.
+    pub fn entry_at(&self, place: u32) -> Option<EntryView<'_>>
+        ensures none { IfNone result (live_bytes (store_of self.now.state) place ≡ None) }
+        ensures found { IfSome result (λ e. IfSome (live_bytes (store_of self.now.state) place)
+            (λ b. Spells self.now.state.format e b)) }
+        ensures exact { Gives (λ e. e) result (entry_at_place self.now.state place) }
+    {
+        let _ = self.live(place)?;
+        read_entry(self.format(), self.bytes_at(place))
     }
 
     /// The entry of that name, version and enctype, with its place: version 0 asks for the highest,

@@ -1,7 +1,7 @@
 //! What a table knows of one cell.
 
 ghost use Rattle.std.specs.Prelude.{◌≡◌, ◌<◌, ◌≤◌, ◌^◌};
-ghost use Rattle.krb_indexed.specs.Slot.{free_size, is_free, size, slot_of, IsShort};
+ghost use Rattle.krb_indexed.specs.Slot.{free_size, is_free, size, slot_of, turned, IsShort};
 ghost use Rattle.krb_keytab.specs.CellView.{cell_of};
 
 use krb_keytab::CellView;
@@ -60,5 +60,16 @@ impl Slot {
             return self.size();
         }
         0
+    }
+
+    /// The same, where its cell is live if it was free, and free if it was live.
+    pub fn turned(self) -> Slot
+        requires { 0 < self.length }
+        ensures { result ≡ turned self }
+    {
+        Slot {
+            place: self.place,
+            length: (0x1_0000_0000 - self.length as u64) as u32,
+        }
     }
 }

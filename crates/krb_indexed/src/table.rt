@@ -1,6 +1,6 @@
 //! A table of cells, in order.
 
-ghost use Rattle.std.specs.Prelude.{◌≡◌, ◌<◌, ◌≤◌, ◌+◌, ◌^◌, length, IfOk, vec_len, vec_capacity};
+ghost use Rattle.std.specs.Prelude.{◌≡◌, ◌<◌, ◌≤◌, ◌+◌, ◌^◌, [], length, IfOk, vec_len, vec_capacity};
 ghost use Rattle.krb_indexed.specs.Slot.{first_live, slots_from, places, IsRising, IsRank};
 
 use crate::slot::Slot;
@@ -20,6 +20,19 @@ fn count_cells<A: Allocator>(keytab: &Keytab<A>) -> usize
     count
 }
 
+// Fills an empty table with a keytab's cells, for which there is room.
+fn fill<A: Allocator, B: Allocator>(slots: &mut Vec<Slot, A>, keytab: &Keytab<B>)
+    requires empty { slots.old.items ≡ [] }
+    requires room { length keytab.now.state.contents.cells ≤ vec_capacity slots.old }
+    ensures slots { slots.new.items ≡ slots_from 2 keytab.now.state.contents.cells }
+    ensures len { vec_len slots.new ≡ length keytab.now.state.contents.cells }
+    ensures room { vec_capacity slots.new ≡ vec_capacity slots.old }
+{
+    for (place, cell) in keytab.cells() {
+        slots.push_reserved(Slot::of(place, cell));
+    }
+}
+
 /// The table of a keytab's cells. There is room for one more.
 pub fn table_of<A: Allocator, B: Allocator>(
     alloc: A,
@@ -33,15 +46,19 @@ pub fn table_of<A: Allocator, B: Allocator>(
     let Ok(mut slots) = Vec::with_capacity(alloc, count + 1) else {
         return Err(NoMemory);
     };
-    for (place, cell) in keytab.cells() {
-        let Ok(()) = slots.push(Slot::of(place, cell)) else {
-            return Err(NoMemory);
-        };
-    }
-    match slots.reserve(1) {
-        Ok(()) => Ok(slots),
-        Err(_) => Err(NoMemory),
-    }
+    fill(&mut slots, keytab);
+    Ok(slots)
+}
+
+/// Makes a table that of a keytab which has no more cells than there is room for.
+pub fn refill<A: Allocator, B: Allocator>(slots: &mut Vec<Slot, A>, keytab: &Keytab<B>)
+    requires { length keytab.now.state.contents.cells ≤ vec_capacity slots.old }
+    ensures slots { slots.new.items ≡ slots_from 2 keytab.now.state.contents.cells }
+    ensures few { length slots.new.items < 2 ^ 30 }
+{
+    let _ = count_cells(keytab);
+    slots.clear();
+    fill(slots, keytab);
 }
 
 /// How many cells stand before a place, found by halving.

@@ -1,6 +1,6 @@
 //! A tree over a row of sizes.
 
-ghost use Rattle.std.specs.Prelude.{◌≡◌, ◌<◌, ◌≤◌, ◌+◌, ◌-◌, ◌*◌, ◌^◌, ◌++◌, length, map, drop, take, replicate, slice_set, IfOk, IsOk, OnOk, vec_len, vec_capacity};
+ghost use Rattle.std.specs.Prelude.{◌≡◌, ◌<◌, ◌≤◌, ◌+◌, ◌-◌, ◌*◌, ◌^◌, ◌++◌, [], length, map, drop, take, replicate, slice_set, IfOk, IsOk, OnOk, vec_len, vec_capacity};
 ghost use Rattle.krb_indexed.specs.Nodes.{AreNodes};
 ghost use Rattle.krb_indexed.specs.Slot.{free_size};
 ghost use Rattle.krb_indexed.specs.Tree.{first_fit, looks_for, IsHeightFor, HasRoomFor};
@@ -59,6 +59,17 @@ fn put_sizes(sizes: &mut [u32], slots: &[Slot])
     }
 }
 
+// Puts so many zeros into an empty vector, for which there is room.
+fn make_zeros<A: Allocator>(nodes: &mut Vec<u32, A>, len: usize)
+    requires empty { nodes.old.items ≡ [] }
+    requires room { len ≤ vec_capacity nodes.old }
+    ensures items { nodes.new.items ≡ replicate len 0 }
+    ensures len { vec_len nodes.new ≡ len }
+    ensures room { vec_capacity nodes.old ≤ vec_capacity nodes.new }
+{
+    let _ = nodes.resize(len, 0);
+}
+
 // Appends twice as many zeros as there are leaves, for which there is room.
 fn append_zeros<A: Allocator>(nodes: &mut Vec<u32, A>, leaves: usize)
     requires len { vec_len nodes.old ≡ 2 * leaves }
@@ -96,9 +107,7 @@ impl<A: Allocator> Tree<A> {
         let Ok(mut nodes) = Vec::with_capacity(alloc, 2 * more.leaves) else {
             return Err(NoMemory);
         };
-        let Ok(()) = nodes.resize(2 * height.leaves, 0) else {
-            return Err(NoMemory);
-        };
+        make_zeros(&mut nodes, 2 * height.leaves);
         fill(&mut nodes, height.leaves, slots);
         Ok(Tree {
             nodes,
@@ -106,11 +115,27 @@ impl<A: Allocator> Tree<A> {
         })
     }
 
-    // How many sizes there are.
-    fn leaves(&self) -> usize
+    /// Makes it the tree over what may be taken in each of other cells, for which there is room.
+    pub fn refill(&mut self, slots: &[Slot])
+        requires few { length slots.now < 2 ^ 30 }
+        requires room { HasRoomFor (length slots.now) self.old }
+        ensures sizes { self.new.sizes
+            ≡ map free_size slots.now ++ replicate (2 ^ self.new.height - length slots.now) 0 }
+        ensures height { IsHeightFor (length slots.now) self.new.height }
+    {
+        let height = height_for(slots.len());
+        self.nodes.clear();
+        make_zeros(&mut self.nodes, 2 * height.leaves);
+        fill(&mut self.nodes, height.leaves, slots);
+        self.height = height.levels;
+    }
+
+    /// How many sizes there are.
+    pub fn leaves(&self) -> usize
         ensures leaves { result ≡ length self.now.sizes }
         ensures power { result ≡ 2 ^ self.now.height }
         ensures low { self.now.height ≤ 30 }
+        ensures room { 2 * result ≤ self.now.room }
     {
         self.nodes.len() / 2
     }
@@ -141,6 +166,7 @@ impl<A: Allocator> Tree<A> {
         ensures height { self.new.height ≡ self.old.height }
         ensures room { OnOk result (HasRoomFor count self.new) }
         ensures memory { HasRoomFor count self.old → IsOk result }
+        ensures grows { self.old.room ≤ self.new.room }
         ensures kept { HasRoomFor count self.old → self.new.room ≡ self.old.room }
     {
         let nodes = 2 * height_for(count).leaves;

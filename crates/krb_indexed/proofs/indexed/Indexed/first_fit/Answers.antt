@@ -1,4 +1,4 @@
-use Rattle.std.proofs.Common.{◌≡◌, ◌∙◌, ℕ, Some, None, ap, sym, subst, arith}
+use Rattle.std.proofs.Common.{◌∙◌, ℕ, Some, None, ap, subst}
 use Rattle.std.specs.Prelude.{Option}
 use Rattle.krb_indexed.specs.declared.slot.Slot.{Slot}
 use Rattle.krb_indexed.specs.Slot.{hole_of_slot}

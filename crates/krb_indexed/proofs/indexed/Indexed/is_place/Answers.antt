@@ -1,4 +1,4 @@
-use Rattle.std.proofs.Common.{◌≡◌, ◌∙◌, arith}
+use Rattle.std.proofs.Common.{arith}
 use Rattle.krb_indexed.proofs.IndexLemmas.{is_place_by_rank}
 use Rattle.krb_indexed.proofs.PlaceLemmas.{places_len}
 use Rattle.krb_indexed.proofs.indexed.Indexed.is_place.Goals as goal

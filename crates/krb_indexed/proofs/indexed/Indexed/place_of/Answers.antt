@@ -1,4 +1,4 @@
-use Rattle.std.proofs.Common.{◌≡◌, ◌<◌, ◌∙◌, ap, arith, length, List, refl}
+use Rattle.std.proofs.Common.{◌<◌, ◌∙◌, ap, arith, length, refl}
 use Rattle.krb_keytab.proofs.Stores.{state_is}
 use Rattle.krb_indexed.specs.declared.slot.Slot.{Slot}
 use Rattle.krb_indexed.proofs.IndexLemmas.{table_held, slot_place, end_by_table}

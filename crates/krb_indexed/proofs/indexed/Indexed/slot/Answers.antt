@@ -1,4 +1,4 @@
-use Rattle.std.proofs.Common.{◌≡◌, ◌<◌, ◌∙◌, ap, arith, get_or, length, List, refl}
+use Rattle.std.proofs.Common.{◌<◌, ◌∙◌, ap, arith, get_or, length, List, refl}
 use Rattle.std.proofs.lemmas.List.{get_or_default}
 use Rattle.krb_keytab.proofs.Stores.{state_is}
 use Rattle.krb_indexed.specs.declared.slot.Slot.{Slot}
