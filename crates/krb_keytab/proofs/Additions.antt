@@ -63,10 +63,10 @@ appends f limit bytes x k e n need known is whole len is_need = record {
   len = len ∙ ap (len_with e) is_need;
 }
 
-same_len : (f : KtFormat) (limit : ℕ) (bytes x : List ℕ) (k : KeytabState) (e : CellsEnd) (n : ℕ) → Appends f limit bytes x k e n → length (image_of (with_last k x)) ≡ n
+pub same_len : (f : KtFormat) (limit : ℕ) (bytes x : List ℕ) (k : KeytabState) (e : CellsEnd) (n : ℕ) → Appends f limit bytes x k e n → length (image_of (with_last k x)) ≡ n
 same_len f limit bytes x k e n a = ap (λ (y : KeytabState). length (image_of (with_last y x))) (sym a.is) ∙ last_len f limit bytes x e a.known a.whole ∙ sym a.len
 
-same_limit : (f : KtFormat) (limit : ℕ) (bytes x : List ℕ) (k : KeytabState) (e : CellsEnd) (n : ℕ) → Appends f limit bytes x k e n → k.limit ≡ limit
+pub same_limit : (f : KtFormat) (limit : ℕ) (bytes x : List ℕ) (k : KeytabState) (e : CellsEnd) (n : ℕ) → Appends f limit bytes x k e n → k.limit ≡ limit
 same_limit f limit bytes x k e n a = ap (λ (y : KeytabState). y.limit) (sym a.is)
 
 pub append_full : (f : KtFormat) (limit : ℕ) (bytes x : List ℕ) (k : KeytabState) (e : CellsEnd) (n : ℕ) → Appends f limit bytes x k e n → limit < n → append_result k x ≡ Err code.Full

@@ -26,10 +26,10 @@ pub enum CellView<'a> {
 /// no entry is read again.
 #[derive(Drop)]
 pub struct Cells<'a> {
-    pub format: KtFormat,
-    pub image: &'a [u8],
-    pub end: CellsEnd,
-    pub place: usize,
+    pub(crate) format: KtFormat,
+    pub(crate) image: &'a [u8],
+    pub(crate) end: CellsEnd,
+    pub(crate) place: usize,
 }
 
 impl<'a> CellView<'a> {
@@ -86,7 +86,7 @@ impl<'a> Iterator for Cells<'a> {
 impl<'a> Cells<'a> {
     /// The next cell, for a format that is known where this is inlined.
     #[inline(always)]
-    pub fn next_in(&mut self, format: KtFormat) -> Option<(usize, CellView<'a>)>
+    pub(crate) fn next_in(&mut self, format: KtFormat) -> Option<(usize, CellView<'a>)>
         requires { format ≡ self.old.format }
         ensures { GivesCell self.old result self.new }
     {
@@ -107,7 +107,7 @@ impl<'a> Cells<'a> {
     }
 
     /// The place of the first.
-    pub fn place(&self) -> usize
+    pub(crate) fn place(&self) -> usize
         ensures place { result ≡ self.now.place }
         ensures small { result ≤ 2 ^ 30 }
     {
@@ -115,7 +115,7 @@ impl<'a> Cells<'a> {
     }
 
     /// Where they end, and by what.
-    pub fn end(&self) -> CellsEnd
+    pub(crate) fn end(&self) -> CellsEnd
         ensures place { end_place self.now.place self.now.contents.cells ≡ result.place }
         ensures kind { kind_of self.now.contents.end ≡ ending_kind result.ending }
         ensures small { result.place ≤ 2 ^ 30 }
@@ -124,7 +124,7 @@ impl<'a> Cells<'a> {
     }
 
     /// Whether one of them stands at a place, or they end there.
-    pub fn is_place(self, place: usize) -> bool
+    pub(crate) fn is_place(self, place: usize) -> bool
         ensures { result ≡ is_place_in self.entry.place self.entry.contents.cells place }
     {
         let end = self.end();
@@ -137,7 +137,7 @@ impl<'a> Cells<'a> {
     }
 
     /// Those from a place on.
-    pub fn from(self, place: usize) -> Cells<'a>
+    pub(crate) fn from(self, place: usize) -> Cells<'a>
         requires { is_place_in self.place self.contents.cells place ≡ true }
         ensures suffix { IsSuffix self.entry result }
         ensures place { result.place ≡ place }
@@ -152,7 +152,7 @@ impl<'a> Cells<'a> {
     }
 
     /// The first live one at or after a place, or what ends them.
-    pub fn stop_at(self, place: usize) -> Stop
+    pub(crate) fn stop_at(self, place: usize) -> Stop
         requires { is_place_in self.place self.contents.cells place ≡ true }
         ensures { result ≡ stop_in self.entry.place self.entry.contents.cells self.entry.contents.end place }
     {
@@ -170,7 +170,7 @@ impl<'a> Cells<'a> {
     }
 
     /// The bytes of the live one at a place, looked for from the front.
-    pub fn find_live(self, place: usize) -> Option<&'a [u8]>
+    pub(crate) fn find_live(self, place: usize) -> Option<&'a [u8]>
         ensures { option_copied result ≡ live_bytes_in self.entry.place self.entry.contents.cells place }
     {
         for (at, cell) in self {
@@ -182,7 +182,7 @@ impl<'a> Cells<'a> {
     }
 
     /// The bytes of the live one that stands at a place.
-    pub fn live_at(self, place: usize) -> &'a [u8]
+    pub(crate) fn live_at(self, place: usize) -> &'a [u8]
         requires { IsSome (live_bytes_in self.place self.contents.cells place) }
         ensures { Some result.now ≡ live_bytes_in self.entry.place self.entry.contents.cells place }
     {

@@ -162,8 +162,8 @@ impl<A: Allocator> Keytab<A> {
         }
     }
 
-    // Its cells.
-    pub(crate) fn cells(&self) -> Cells<'_>
+    /// Its cells with their places, in file order, up to the end or the fault.
+    pub fn cells(&self) -> Cells<'_>
         ensures { result ≡ cells_of self.now.state }
     {
         self.cells_in(self.format())

@@ -26,10 +26,12 @@ mod step;
 mod tests;
 mod turn;
 
+pub use cells::{CellView, Cells};
 pub use edit::{EditRefused, edit_image};
 pub use entries::Entries;
 pub use entry::{EntryView, read_entry};
 pub use fields::Fields;
+pub use hole::Hole;
 pub use keytab::Keytab;
 pub use laws::{changes_are_seen, one_reading, written_is_read_back};
 pub use new_entry::NewEntry;

@@ -1,12 +1,12 @@
 //! Changes of a keytab: each is one of its image, in place.
 
-ghost use Rattle.std.specs.Prelude.{◌≡◌, ◌<◌, ◌^◌, true, length, Some, None, IsSome, IfSome, IfOk, OnOk};
+ghost use Rattle.std.specs.Prelude.{◌≡◌, ◌<◌, ◌^◌, ℕ, List, true, nat_le, length, Some, None, is_some, IsSome, IfSome, IfOk, OnOk};
 ghost use Rattle.krb_walk.specs.Rules.{PutGives, CutGives};
 ghost use Rattle.krb_walk.specs.Memory.{HadMemory};
 ghost use Rattle.krb_walk.specs.Store.{fault_of, live_bytes};
-ghost use Rattle.krb_keytab.specs.Store.{store_of, entry_at_place};
-ghost use Rattle.krb_keytab.specs.Form.{read_back, IsEntry};
-ghost use Rattle.krb_keytab.specs.Changes.{cut_result, put_result, takes_none, with_record_in, with_hole};
+ghost use Rattle.krb_keytab.specs.Store.{image_of, store_of, entry_at_place};
+ghost use Rattle.krb_keytab.specs.Form.{fits, read_back, written_form, IsEntry};
+ghost use Rattle.krb_keytab.specs.Changes.{cut_result, put_result, takes_none, with_last, with_record_in, with_hole};
 ghost use Rattle.krb_keytab.specs.Hole.{hole_from};
 ghost use Rattle.krb_keytab.specs.Append.{AnswersAppend, KeepsRoom};
 
@@ -22,8 +22,8 @@ use krb_wire::Name;
 use std::alloc::Allocator;
 
 impl<A: Allocator> Keytab<A> {
-    // Makes the record at a place a hole.
-    fn free(&mut self, place: u32)
+    /// Makes the record that stands at a place a hole of its size, all zeros. It looks at that place alone.
+    pub fn free_at(&mut self, place: u32)
         requires { IsSome (live_bytes (store_of self.old.state) place) }
         ensures freed { self.new.state ≡ with_hole self.old.state place }
         ensures room { self.new.room ≡ self.old.room }
@@ -45,7 +45,7 @@ impl<A: Allocator> Keytab<A> {
         if self.record(place).is_none() {
             return Err(Code::NotLive);
         }
-        self.free(place);
+        self.free_at(place);
         Ok(())
     }
 
@@ -88,6 +88,72 @@ impl<A: Allocator> Keytab<A> {
         }
     }
 
+    /// How many bytes the record of an entry takes after its length: none where a part of the entry is too long
+    /// for its length.
+    pub fn record_len<B: Allocator>(&self, entry: &NewEntry<B>) -> Option<usize>
+        ensures fits { is_some result ≡ fits self.now.state.format entry.now }
+        ensures len { IfSome result (λ n. n ≡ length (written_form self.now.state.format entry.now)) }
+        ensures some { IfSome result (λ n. (0 < n) × (n < 2 ^ 34)) }
+        ensures numbers { IsEntry entry.now }
+    {
+        let fields = entry.fields();
+        fields.numbers_fit();
+        let form = Form::of(self.format(), fields)?;
+        Some(form.len())
+    }
+
+    /// Whether the limit allows a record of so many bytes after the cells of a keytab that is whole.
+    pub fn has_room(&self, need: usize) -> bool
+        requires whole { fault_of (store_of self.now.state) ≡ None }
+        requires small { need < 2 ^ 34 }
+        ensures small { result ≡ true → need < 2 ^ 30 }
+        ensures fits { (bytes : List ℕ) → length bytes ≡ need
+            → result ≡ nat_le (length (image_of (with_last self.now.state bytes))) self.now.state.limit }
+    {
+        len_with(self.end, need) <= self.limit as usize
+    }
+
+    /// Adds an entry as `add` does, where the first hole that is large enough is known.
+    pub fn add_at<B: Allocator>(
+        &mut self,
+        entry: &NewEntry<B>,
+        hole: Option<Hole>,
+    ) -> Result<u32, Refusal>
+        requires first { fits self.old.state.format entry.now ≡ true
+            → hole ≡ hole_from 2 (length (written_form self.old.state.format entry.now)) self.old.state.contents.cells }
+        requires within { IfSome hole (λ h. h.place < 2 ^ 32) }
+        ensures gives { PutGives (put_result self.old.state entry.now) self.old.state result self.new.state }
+        ensures memory { takes_none self.old.state entry.now ≡ true → HadMemory result }
+        ensures room { takes_none self.old.state entry.now ≡ true → self.new.room ≡ self.old.room }
+        ensures read { IfOk result (λ place. entry_at_place self.new.state place
+            ≡ Some (read_back self.old.state.format entry.now)) }
+        ensures numbers { IsEntry entry.now }
+    {
+        let fields = entry.fields();
+        fields.numbers_fit();
+        if self.fault().is_some() {
+            return Err(Refusal::Code(Code::Damaged));
+        }
+        let Some(form) = Form::of(self.format(), fields) else {
+            return Err(Refusal::Code(Code::TooLong));
+        };
+        let Some(hole) = hole else {
+            return self.append(&form);
+        };
+        self.fill(hole, &form);
+        Ok(hole.place as u32)
+    }
+
+    // The first hole that takes an entry.
+    fn hole_for<B: Allocator>(&self, entry: &NewEntry<B>) -> Option<Hole>
+        ensures first { fits self.now.state.format entry.now ≡ true
+            → result ≡ hole_from 2 (length (written_form self.now.state.format entry.now)) self.now.state.contents.cells }
+        ensures within { IfSome result (λ h. h.place < 2 ^ 32) }
+    {
+        let need = self.record_len(entry)?;
+        self.hole(need)
+    }
+
     /// Puts an entry into the first hole that is large enough, or else after the cells, and answers
     /// its place. A damaged keytab refuses it, and then so does an entry with a part too long for its
     /// length, and then a limit that the image would pass. Memory is taken only where the image
@@ -101,18 +167,6 @@ impl<A: Allocator> Keytab<A> {
             ≡ Some (read_back self.old.state.format entry.now)) }
         ensures numbers { IsEntry entry.now }
     {
-        let fields = entry.fields();
-        fields.numbers_fit();
-        if self.fault().is_some() {
-            return Err(Refusal::Code(Code::Damaged));
-        }
-        let Some(form) = Form::of(self.format(), fields) else {
-            return Err(Refusal::Code(Code::TooLong));
-        };
-        let Some(hole) = self.hole(form.len()) else {
-            return self.append(&form);
-        };
-        self.fill(hole, &form);
-        Ok(hole.place as u32)
+        self.add_at(entry, self.hole_for(entry))
     }
 }

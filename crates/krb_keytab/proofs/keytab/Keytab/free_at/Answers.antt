@@ -1,7 +1,7 @@
 use Rattle.std.proofs.Common.{ℕ, List, Option, sym, subst}
 use Rattle.std.specs.Prelude.{IsSome}
 use Rattle.krb_keytab.proofs.Stores.{state_is, live_held, known_held}
-use Rattle.krb_keytab.proofs.keytab.Keytab.free.Goals as goal
+use Rattle.krb_keytab.proofs.keytab.Keytab.free_at.Goals as goal
 
 pub free_cell-requires-clause-known : goal.free_cell-requires-clause-known
 free_cell-requires-clause-known g c = known_held c.self.inside.format c.self.inside.limit c.self.inside.image.items c.deref_mut.result.now c.self.inside.end c.deref_mut.ensures.value c.self.invariant.0 c.self.invariant.1

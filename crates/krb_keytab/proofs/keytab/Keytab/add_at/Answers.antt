@@ -9,7 +9,7 @@ use Rattle.krb_keytab.specs.Append.{AnswersAppend, KeepsRoom}
 use Rattle.krb_keytab.proofs.Additions.{gives_put, put_wants, put_keeps, put_after_all, none_large, put_in_hole}
 use Rattle.krb_keytab.proofs.FoundAgain.{added_reads}
 use Rattle.krb_keytab.proofs.StoreChanges.{addition_read}
-use Rattle.krb_keytab.proofs.keytab.Keytab.add.Goals as goal
+use Rattle.krb_keytab.proofs.keytab.Keytab.add_at.Goals as goal
 
 pub returns-in_default-hole : goal.returns-in_default-hole
 returns-in_default-hole g c =
@@ -20,7 +20,7 @@ returns-in_default-hole g c =
     let form = rw (c.fields-fields.ensures, c.format.ensures) at c.in-Some.ensures.bytes in
     let bytes : c.in-Some.form.bytes ≡ written_form k.format e = ap (λ (w : FormParts). w.bytes) form in
     let none : hole_from 2 (length (written_form k.format e)) k.contents.cells ≡ None =
-    ap (λ (n : ℕ). hole_from 2 n k.contents.cells) (sym (c.len.ensures.len ∙ ap (λ (b : List ℕ). length b) bytes)) ∙ sym c.hole.ensures.first ∙ c.in_default-hole.is in
+    sym (c.requires.first fit) ∙ c.in_default-hole.is in
     let no_hole = none_large k (length (written_form k.format e)) none in
     let after = put_after_all k e whole fit no_hole in
     let answer = subst (λ (b : List ℕ). AnswersAppend k b c.append.result c.append.new.self.state) bytes c.append.ensures.appended in
@@ -45,7 +45,7 @@ returns g c =
     let form = rw (c.fields-fields.ensures, c.format.ensures) at c.in-Some.ensures.bytes in
     let bytes : c.in-Some.form.bytes ≡ written_form k.format e = ap (λ (w : FormParts). w.bytes) form in
     let hole : hole_from 2 (length (written_form k.format e)) k.contents.cells ≡ Some h =
-    ap (λ (n : ℕ). hole_from 2 n k.contents.cells) (sym (c.len.ensures.len ∙ ap (λ (b : List ℕ). length b) bytes)) ∙ sym c.in-Some-hole.ensures.first in
+    sym (c.requires.first fit) ∙ c.in-Some-hole.is in
     let is = subst IsEntry c.fields-fields.ensures c.numbers_fit.ensures in
     let gives = put_in_hole k e h whole fit hole ∙ ap (λ (b : List ℕ). Ok (h.place, with_record_in k b h.place)) (sym bytes) ∙ ap (λ (y : KeytabState). Ok (h.place, y)) (sym c.fill.ensures.filled) in
     record {

@@ -1,0 +1,10 @@
+pub mod NodeLemmas
+pub mod SizeLemmas
+pub mod SlotLemmas
+pub mod PlaceLemmas
+pub mod StopLemmas
+pub mod FitLemmas
+pub mod IndexLemmas
+pub mod ChangeLemmas
+pub mod AppendLemmas
+pub mod RewriteLemmas

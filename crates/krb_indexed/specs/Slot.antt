@@ -1,0 +1,66 @@
+-- What a table knows of one cell.
+use Rattle.std.specs.Prelude.{◌+◌, Option, Some, None, find, not, ℕ, ◌-◌, ◌^◌, ◌<◌, ◌≤◌, Bool, List, length, map, nat_le, slice_index, if◌then◌else◌}
+use Rattle.krb_walk.specs.declared.fault.FaultKind.{FaultKind}
+use Rattle.krb_walk.specs.declared.stop.Stop.{Stop}
+use Rattle.krb_walk.specs.declared.stop.Stop.TheVariants.{Live as Live_at}
+use Rattle.krb_walk.specs.Store.{end_stop}
+use Rattle.krb_keytab.specs.declared.hole.Hole.{Hole}
+use Rattle.krb_keytab.specs.Cells.{Cell, Live, Free, length_field}
+use Rattle.krb_keytab.specs.Changes.{PlacedCell, placed_cells}
+use Rattle.krb_indexed.specs.declared.slot.Slot.{Slot}
+
+-- its length is that of a free cell
+abbrev pub is_free : Slot → Bool
+is_free s = nat_le (2 ^ 31) s.length
+
+-- how many bytes the cell has after its length
+abbrev pub size : Slot → ℕ
+size s = if is_free s then 2 ^ 32 - s.length else s.length
+
+-- how many bytes an entry may take there: none where the cell is live
+abbrev pub free_size : Slot → ℕ
+free_size s = if is_free s then 2 ^ 32 - s.length else 0
+
+-- the cell is live if it was free, and free if it was live
+abbrev pub turned : Slot → Slot
+turned s = record { place = s.place; length = 2 ^ 32 - s.length }
+
+-- its length is not 0, and fits its field
+abbrev pub IsShort : Cell → Type 0
+IsShort (Live b) = (0 < length b) × (length b < 2 ^ 31)
+IsShort (Free b) = (0 < length b) × (length b ≤ 2 ^ 31)
+
+-- what is known of a cell that stands at a place
+abbrev pub slot_of : PlacedCell → Slot
+slot_of x = record { place = x.0; length = length_field x.1 }
+
+-- what is known of cells that begin at a place
+abbrev pub slots_from : ℕ → List Cell → List Slot
+slots_from at cells = map slot_of (placed_cells at cells)
+
+-- the places of cells, in order
+abbrev pub places : List Slot → List ℕ
+places slots = map (λ s. s.place) slots
+
+-- each number is less than those after it
+abbrev pub IsRising : List ℕ → Type 0
+IsRising xs = (i j : ℕ) → i < j → j < length xs → slice_index xs i < slice_index xs j
+
+-- so many of the numbers are less than one, and the others are not
+pub record IsRank (xs : List ℕ) (p rank : ℕ) : Type 0 where
+  pub within : rank ≤ length xs
+  pub below : (i : ℕ) → i < rank → slice_index xs i < p
+  pub rest : (i : ℕ) → rank ≤ i → i < length xs → p ≤ slice_index xs i
+
+-- the first slot of a live cell
+abbrev pub first_live : List Slot → Option Slot
+first_live slots = find (λ s. not (is_free s)) slots
+
+-- where a walk stops that finds this live cell, or none
+abbrev pub stop_of_slot : ℕ → Option FaultKind → Option Slot → Stop
+stop_of_slot end kind (Some s) = Live_at s.place (s.place + 4 + size s)
+stop_of_slot end kind None = end_stop end kind
+
+-- a hole by its slot
+abbrev pub hole_of_slot : Slot → Hole
+hole_of_slot s = record { place = s.place; size = size s }

@@ -1,0 +1,41 @@
+//! Writing a keytab anew, and its table and tree with it.
+
+ghost use Rattle.std.specs.Prelude.{◌≡◌, map, OnOk, OnErr};
+ghost use Rattle.std.specs.List.{AllByRecursion};
+ghost use Rattle.krb_walk.specs.Rules.{RewriteGives};
+ghost use Rattle.krb_walk.specs.Store.{IsPlace};
+ghost use Rattle.krb_walk.specs.Ranks.{carry, Rewrites};
+ghost use Rattle.krb_keytab.specs.Store.{store_of, entries};
+ghost use Rattle.krb_keytab.specs.Rewrite.{rewrite_result};
+
+use super::Indexed;
+use crate::table::refill;
+use krb_walk::Refusal;
+use std::alloc::Allocator;
+
+impl<A: Allocator + Copy> Indexed<A> {
+    /// Writes the records anew, in version 2: each entry in order in its written form, with its name type,
+    /// which is 0 from version 1, without holes, and with nothing after them. Each cursor is carried to
+    /// the new place of the first record at or after it, or to the new end. A damaged keytab refuses, and
+    /// then so does a limit that the new image would pass. Memory is taken once, for the new image: table
+    /// and tree are made anew where they are.
+    pub fn rewrite(&mut self, cursors: &mut [u32]) -> Result<(), Refusal>
+        requires { AllByRecursion (IsPlace (store_of self.old.state)) cursors.old }
+        ensures gives { RewriteGives (rewrite_result self.old.state) self.old.state result self.new.state }
+        ensures rewrites { OnOk result (Rewrites (store_of self.old.state) (store_of self.new.state)) }
+        ensures entries { OnOk result (entries self.new.state ≡ entries self.old.state) }
+        ensures carries { OnOk result (cursors.new ≡ map (carry (store_of self.old.state) (store_of self.new.state)) cursors.old) }
+        ensures keeps { OnErr result (cursors.new ≡ cursors.old) }
+        ensures room { OnErr result (self.new.room ≡ self.old.room) }
+    {
+        let _ = self.tree.leaves();
+        match self.keytab.rewrite(cursors) {
+            Ok(()) => {
+                refill(&mut self.slots, &self.keytab);
+                self.tree.refill(&self.slots);
+                Ok(())
+            }
+            Err(refusal) => Err(refusal),
+        }
+    }
+}

@@ -1,0 +1,13 @@
+//! A keytab with a table of its cells, and a tree that finds the first hole.
+#![tactic(auto)]
+
+mod grow;
+mod height;
+mod indexed;
+mod nodes;
+mod placed;
+mod slot;
+mod table;
+mod tree;
+
+pub use indexed::Indexed;

@@ -1,0 +1,82 @@
+//! A table of cells, in order.
+
+ghost use Rattle.std.specs.Prelude.{◌≡◌, ◌<◌, ◌≤◌, ◌+◌, ◌^◌, [], length, IfOk, vec_len, vec_capacity};
+ghost use Rattle.krb_indexed.specs.Slot.{first_live, slots_from, places, IsRising, IsRank};
+
+use crate::slot::Slot;
+use krb_keytab::{CellView, Keytab};
+use krb_wire::NoMemory;
+use std::alloc::Allocator;
+
+// How many cells a keytab has.
+fn count_cells<A: Allocator>(keytab: &Keytab<A>) -> usize
+    ensures count { result ≡ length keytab.now.state.contents.cells }
+    ensures small { result < 2 ^ 30 }
+{
+    let mut count: usize = 0;
+    for _cell in keytab.cells() {
+        count += 1;
+    }
+    count
+}
+
+// Fills an empty table with a keytab's cells, for which there is room.
+fn fill<A: Allocator, B: Allocator>(slots: &mut Vec<Slot, A>, keytab: &Keytab<B>)
+    requires empty { slots.old.items ≡ [] }
+    requires room { length keytab.now.state.contents.cells ≤ vec_capacity slots.old }
+    ensures slots { slots.new.items ≡ slots_from 2 keytab.now.state.contents.cells }
+    ensures len { vec_len slots.new ≡ length keytab.now.state.contents.cells }
+    ensures room { vec_capacity slots.new ≡ vec_capacity slots.old }
+{
+    for (place, cell) in keytab.cells() {
+        slots.push_reserved(Slot::of(place, cell));
+    }
+}
+
+/// The table of a keytab's cells. There is room for one more.
+pub fn table_of<A: Allocator, B: Allocator>(
+    alloc: A,
+    keytab: &Keytab<B>,
+) -> Result<Vec<Slot, A>, NoMemory>
+    ensures slots { IfOk result (λ t. t.items ≡ slots_from 2 keytab.now.state.contents.cells) }
+    ensures room { IfOk result (λ t. vec_len t < vec_capacity t) }
+    ensures few { IfOk result (λ t. vec_len t < 2 ^ 30) }
+{
+    let count = count_cells(keytab);
+    let Ok(mut slots) = Vec::with_capacity(alloc, count + 1) else {
+        return Err(NoMemory);
+    };
+    fill(&mut slots, keytab);
+    Ok(slots)
+}
+
+/// Makes a table that of a keytab which has no more cells than there is room for.
+pub fn refill<A: Allocator, B: Allocator>(slots: &mut Vec<Slot, A>, keytab: &Keytab<B>)
+    requires { length keytab.now.state.contents.cells ≤ vec_capacity slots.old }
+    ensures slots { slots.new.items ≡ slots_from 2 keytab.now.state.contents.cells }
+    ensures few { length slots.new.items < 2 ^ 30 }
+{
+    let _ = count_cells(keytab);
+    slots.clear();
+    fill(slots, keytab);
+}
+
+/// How many cells stand before a place, found by halving.
+pub fn rank(slots: &[Slot], place: u32) -> usize
+    requires { IsRising (places slots.now) }
+    ensures { IsRank (places slots.now) place result }
+{
+    slots.partition_point(|slot| slot.place < place)
+}
+
+/// The first live cell.
+pub fn first_live(slots: &[Slot]) -> Option<Slot>
+    ensures { result ≡ first_live slots.now }
+{
+    for slot in slots {
+        if !slot.is_free() {
+            return Some(*slot);
+        }
+    }
+    None
+}
