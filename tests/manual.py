@@ -5,7 +5,9 @@ import os
 import re
 import shutil
 import subprocess
+from dataclasses import replace
 
+from cache_images import PA_TYPE, TICKET, credentials
 from harness import Outcome, Report, folder_of, knows
 from images import TWO, Entry, entries
 
@@ -20,6 +22,7 @@ FILES = {
     "other.keytab": entries(
         Entry((b"nfs", b"a"), version8=5, enctype=18, key=bytes(32), version32=5)
     ),
+    "krb5cc_0": credentials(replace(TICKET, renew_till=1_700_604_800), PA_TYPE),
 }
 
 
