@@ -16,6 +16,7 @@ use crate::loading::MOST_BYTES;
 use crate::messages::complain;
 use crate::reader::load;
 use crate::refuse::{refuse_keytab, refuse_load, refuse_save};
+use krb_indexed::Indexed;
 use krb_keytab::{Keytab, NewEntry};
 use krb_text::{Files, LoadFault, Watched, parse_script, put, reply_lines};
 use krb_walk::{Event, Reply, Session};
@@ -72,7 +73,7 @@ fn status_of(is_trouble: bool) -> u8
     if is_trouble { 1 } else { 0 }
 }
 
-// Runs events over a keytab in a session, and gathers the replies' lines.
+// Runs events over a keytab, by a table of its cells, in a session, and gathers the replies' lines.
 fn edit<A: Allocator + Copy>(
     alloc: A,
     keytab: Keytab<A>,
@@ -81,6 +82,9 @@ fn edit<A: Allocator + Copy>(
     ensures { IfOk result (IsEdited keytab.state events.now) }
 {
     let format = keytab.format();
+    let Ok(keytab) = Indexed::of(alloc, keytab) else {
+        return Err(NoMemory);
+    };
     let mut session = Session::new(alloc, keytab);
     let mut replies = Vec::new(alloc);
     session.run(events, &mut replies)?;

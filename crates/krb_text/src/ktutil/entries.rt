@@ -5,6 +5,7 @@ ghost use Rattle.krb_keytab.specs.Store.{entries};
 ghost use Rattle.krb_text.specs.Ktutil.{with_added};
 ghost use Rattle.krb_text.specs.KtutilFiles.{RefusesAdded};
 
+use krb_indexed::Indexed;
 use krb_keytab::{Keytab, NewEntry};
 use krb_walk::Refusal;
 use krb_wire::NoMemory;
@@ -28,7 +29,7 @@ pub fn copy_entries<A: Allocator + Copy, B: Allocator>(
 
 /// Adds entries to a keytab, one after the other, up to the first that is refused.
 pub fn add_all<A: Allocator, B: Allocator>(
-    keytab: &mut Keytab<B>,
+    keytab: &mut Indexed<B>,
     entries: &[NewEntry<A>],
 ) -> Result<(), Refusal>
     ensures ok { OnOk result (with_added entries.now (Ok keytab.old.state) ≡ Ok keytab.new.state) }

@@ -8,6 +8,7 @@ ghost use Rattle.krb_text.specs.KtutilFiles.{GivesKeytab, GivesKeytabOrNew, Give
 
 use crate::files::{Files, LoadFault, SaveFault};
 use crate::ktutil::line_end::LineEnd;
+use krb_indexed::Indexed;
 use krb_keytab::Keytab;
 use krb_wire::{KtFormat, Limits, Order};
 use std::alloc::Allocator;
@@ -79,7 +80,11 @@ pub fn load_or_new<A: Allocator + Copy, F: Files>(
 }
 
 /// Saves a keytab under a name.
-pub fn save_keytab<A: Allocator, F: Files>(files: &mut F, name: &str, keytab: &Keytab<A>) -> LineEnd
+pub fn save_keytab<A: Allocator, F: Files>(
+    files: &mut F,
+    name: &str,
+    keytab: &Indexed<A>,
+) -> LineEnd
     ensures { SavesKeytab F.Files files.old name.now keytab.now.state result files.new }
 {
     match files.save(name, keytab.image()) {

@@ -1,6 +1,7 @@
 use Rattle.std.proofs.Common.{map, ap, ◌∙◌}
 use Rattle.krb_walk.specs.Said.{said}
 use Rattle.krb_walk.specs.Events.{session_of}
+use Rattle.krb_keytab.specs.Edit.{new_session}
 use Rattle.krb_keytab.specs.Store.{InMemory, image_of}
 use Rattle.krb_commands.specs.Ktedit.{is_change, is_trouble}
 use Rattle.krb_commands.proofs.EditReplies.{any_said, IsEdited-by}
@@ -16,6 +17,6 @@ returns g c =
     let trouble = rw (c.deref-3.ensures.value, any_said said is_trouble c.run.new.replies.items) at c.are_trouble.ensures in
     IsEdited-by c.args.keytab.state c.args.events.now (session_of (λ (k : InMemory). k.state) c.new-session.result) (session_of (λ (k : InMemory). k.state) c.run.new.self) told
     (record { image = c.into_image.result; text = c.reply_lines.new.out; is_changed = c.are_changes.result; status = c.status_of.result })
-    (ap (session_of (λ (k : InMemory). k.state)) c.new-session.ensures.is) ran
+    (ap (session_of (λ (k : InMemory). k.state)) c.new-session.ensures.is ∙ ap (λ (k : InMemory). new_session k.state) c.in-Ok.ensures.ok) ran
     (c.into_image.ensures.spelled ∙ ap (λ (k : InMemory). image_of k.state) c.into_store.ensures)
     text changed (rw trouble at c.status_of.ensures)

@@ -10,12 +10,14 @@ use crate::files::Files;
 use crate::ktutil::entries::{add_all, copy_entries};
 use crate::ktutil::line_end::LineEnd;
 use crate::ktutil::load::{load_keytab, load_or_new, save_keytab};
+use krb_indexed::Indexed;
 use krb_keytab::{Keytab, NewEntry};
 use krb_walk::{Code, Refusal};
 use std::alloc::Allocator;
 
-// Adds entries to a keytab, and saves it under a name.
-fn write_to<A: Allocator, B: Allocator, F: Files>(
+// Adds entries to a keytab, by a table of its cells, and saves it under a name.
+fn write_to<A: Allocator, B: Allocator + Copy, F: Files>(
+    alloc: B,
     entries: &[NewEntry<A>],
     files: &mut F,
     name: &str,
@@ -24,7 +26,9 @@ fn write_to<A: Allocator, B: Allocator, F: Files>(
     ensures { (s : KtutilState) → s.entries ≡ entries.now →
         GoesOn F.Files (written_to s name.now (Ok keytab.state)) files.old files.new s s result }
 {
-    let mut keytab = keytab;
+    let Ok(mut keytab) = Indexed::of(alloc, keytab) else {
+        return LineEnd::NoMemory;
+    };
     match add_all(&mut keytab, entries) {
         Ok(()) => save_keytab(files, name, &keytab),
         Err(Refusal::Code(code)) => LineEnd::Refused(code),
@@ -72,7 +76,7 @@ impl<A: Allocator + Copy> Ktutil<A> {
             files.old files.new self.now self.now result }
     {
         match load_or_new(self.alloc, self.v1_order, files, name) {
-            Ok(keytab) => write_to(&self.entries, files, name, keytab),
+            Ok(keytab) => write_to(self.alloc, &self.entries, files, name, keytab),
             Err(ending) => ending,
         }
     }
