@@ -8,6 +8,8 @@ mod nodes;
 mod placed;
 mod slot;
 mod table;
+#[cfg(test)]
+mod tests;
 mod tree;
 
 pub use indexed::Indexed;
