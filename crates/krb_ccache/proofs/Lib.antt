@@ -5,4 +5,5 @@ pub mod CellLemmas
 pub mod PlaceLemmas
 pub mod Splits
 pub mod Held
+pub mod WrittenLemmas
 pub mod Again

@@ -4,6 +4,7 @@ pub mod Header
 pub mod Store
 pub mod Config
 pub mod Typed
+pub mod Cred
 pub mod Open
 pub mod Laws
 -- For private contracts alone.

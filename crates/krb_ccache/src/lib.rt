@@ -4,6 +4,7 @@
 mod ccache;
 mod cells;
 mod config;
+mod cred;
 mod credential;
 mod credentials;
 mod header;
@@ -15,12 +16,14 @@ mod times;
 mod typed;
 mod version;
 mod view;
+mod written;
 
 pub use ccache::Ccache;
 pub use config::is_config;
+pub use cred::Cred;
 pub use credential::CredView;
 pub use credentials::Credentials;
-pub use laws::{caches_are_opened_again, one_reading};
+pub use laws::{caches_are_opened_again, credentials_are_read_back, one_reading};
 pub use offset::Offset;
 pub use open::{CcOpenFault, CcOpenRefused};
 pub use times::Times;

@@ -1,13 +1,19 @@
 -- What the tests of names tell: whether one fits its spelling, and whether two are the same.
-use Rattle.std.proofs.Common.{◌≡◌, ℕ, ◌^◌, ◌<◌, Bool, true, false, ltb, List, [], ◌∷◌, length, refl, sym}
+use Rattle.std.proofs.Common.{◌≡◌, ℕ, ◌^◌, ◌<◌, ◌≤◌, Bool, true, false, ltb, List, [], ◌∷◌, length, refl, sym, ap, arith}
 use Rattle.std.specs.Prelude.{◌&&◌}
-use Rattle.std.specs.List.{list_all, AllByRecursion}
+use Rattle.std.specs.List.{flat_map, list_all, AllByRecursion}
+use Rattle.std.specs.Int.{w32}
+use Rattle.std.proofs.lemmas.List.{length-append}
+use Rattle.std.proofs.lemmas.List.Concat.{flat_map-cons}
+use Rattle.krb_wire.specs.declared.format.Order.{Order}
+use Rattle.krb_wire.specs.declared.format.Order.TheVariants.{Big}
+use Rattle.krb_wire.proofs.Fields.{wide32}
 use Rattle.std.specs.Cmp.Lexicographic.{pointwise}
 use Rattle.std.specs.Str.{bytes_eq}
 use Rattle.std.proofs.lemmas.Bool.{ltb-true, lt-ltb}
 use Rattle.std.proofs.lemmas.Slice.Eq.{bytes_eq-Decides, slice_eq-Decides}
 use Rattle.krb_wire.specs.declared.format.KtFormat.{KtFormat}
-use Rattle.krb_wire.specs.Spelling.{Parts, count_field, IsShort, is_short, name_fits, IsLong, is_long, cc_name_fits, cc_principal}
+use Rattle.krb_wire.specs.Spelling.{Parts, digits, data32, count_field, IsShort, is_short, name_fits, IsLong, is_long, cc_name_fits, cc_principal}
 use Rattle.krb_wire.specs.SameName.{have_same_name}
 
 -- ---- tests
@@ -97,6 +103,16 @@ no_cc_len p not_so =
 
 pub some_cc_len : (p : Parts) → LongLengths p → length (cc_principal p) < 2 ^ 64 → true ≡ has_cc_len p
 some_cc_len p h lt = sym (both_and (cc_name_fits p) (ltb (length (cc_principal p)) (2 ^ 64)) (long_lengths_fit p h) (lt-ltb (length (cc_principal p)) (2 ^ 64) lt))
+
+-- each component takes a byte at least
+pub count_le : (o : Order) (cs : List (List ℕ)) → length cs ≤ length (flat_map (data32 o) cs)
+count_le o [] = omega arith
+count_le o (c ∷ cs) = omega (arith, count_le o cs, ap length (flat_map-cons (data32 o) c cs), length-append (data32 o c) (flat_map (data32 o) cs), length-append (digits o w32 (length c)) c, (wide32 o).len (length c))
+
+-- so many components are too long
+pub many_long : (p : Parts) → 2 ^ 32 ≤ length p.components → 2 ^ 32 ≤ length (cc_principal p)
+many_long p many =
+    omega (arith, many, count_le Big p.components, length-append p.realm (flat_map (data32 Big) p.components))
 
 -- ---- the same name
 

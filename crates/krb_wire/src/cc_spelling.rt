@@ -1,6 +1,6 @@
 //! Names as a credential cache spells them.
 
-ghost use Rattle.std.specs.Prelude.{◌≡◌, ◌≤◌, ◌^◌, ◌+◌, ◌&&◌, length, is_some, nat_lt, IsTrue, IfSome};
+ghost use Rattle.std.specs.Prelude.{◌≡◌, ◌≤◌, ◌^◌, ◌+◌, ◌&&◌, length, is_some, nat_lt, IsTrue, IfSome, IfNone};
 ghost use Rattle.std.specs.List.{splice};
 ghost use Rattle.krb_wire.specs.Spelling.{cc_name_fits, cc_principal};
 
@@ -16,6 +16,8 @@ pub fn cc_principal_len<N: Name>(name: &N) -> Option<u64>
     ensures some { is_some result ≡ (cc_name_fits (N.parts name.now)
         && nat_lt (length (cc_principal (N.parts name.now))) (2 ^ 64)) }
     ensures len { IfSome result (λ n. n ≡ length (cc_principal (N.parts name.now))) }
+    // Without an answer it is too long for any cache.
+    ensures none { IfNone result (2 ^ 32 ≤ length (cc_principal (N.parts name.now))) }
 {
     if name.count() > u32::MAX as usize {
         return None;

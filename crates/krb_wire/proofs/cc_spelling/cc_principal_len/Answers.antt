@@ -2,7 +2,7 @@ use Rattle.std.proofs.Common.{ℕ, List, ◌<◌, ◌^◌, length, ap, sym, subs
 use Rattle.std.specs.List.{flat_map, AllByRecursion}
 use Rattle.krb_wire.specs.declared.format.Order.TheVariants.{Big}
 use Rattle.krb_wire.specs.Spelling.{data32, IsLong, cc_principal}
-use Rattle.krb_wire.proofs.NamesTold.{no_cc_len, some_cc_len}
+use Rattle.krb_wire.proofs.NamesTold.{no_cc_len, some_cc_len, many_long}
 use Rattle.krb_wire.proofs.cc_spelling.cc_principal_len.Goals as goal
 
 pub returns-then-component-clause-some : goal.returns-then-component-clause-some
@@ -25,3 +25,8 @@ returns-clause-some g c =
       realm = omega (arith, realm, ap length c.realm-realm.ensures);
       components = c.loop-component.invariant.long.1 (subst (AllByRecursion IsLong) (sym none) tt);
     }) (let lt : length (cc_principal p) < 2 ^ 64 = omega (arith, len, small, ap (λ (cs : List (List ℕ)). length (flat_map (data32 Big) cs)) none) in lt)
+
+pub returns-then-count-clause-none : goal.returns-then-count-clause-none
+returns-then-count-clause-none g c =
+    let long = c.if-count.true in
+    many_long (g.N.Name.parts c.args.name.now) (omega (arith, long, c.count.ensures))
