@@ -5,5 +5,8 @@ pub mod CellLemmas
 pub mod PlaceLemmas
 pub mod Splits
 pub mod Held
+pub mod Kept
+pub mod MarkLemmas
+pub mod Replaced
 pub mod WrittenLemmas
 pub mod Again

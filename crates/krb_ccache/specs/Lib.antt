@@ -6,6 +6,8 @@ pub mod Config
 pub mod Typed
 pub mod Cred
 pub mod Open
+pub mod Changes
 pub mod Laws
 -- For private contracts alone.
 pub mod Cells
+pub mod Mark

@@ -9,6 +9,7 @@ mod credential;
 mod credentials;
 mod header;
 mod key;
+mod mark;
 mod laws;
 mod offset;
 mod open;
