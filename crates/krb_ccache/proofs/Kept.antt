@@ -16,9 +16,9 @@ use Rattle.krb_ccache.specs.declared.version.Version.TheVariants.{V3, V4}
 use Rattle.krb_ccache.specs.declared.open.Head.{Head}
 use Rattle.krb_ccache.specs.declared.open.Places.{Places}
 use Rattle.krb_ccache.specs.Credential.{CredParts, credential, credential_at, FitsCredential}
-use Rattle.krb_ccache.specs.Header.{Field, field, header, header_at, fields_in}
+use Rattle.krb_ccache.specs.Header.{Field, header, header_at, fields_in}
 use Rattle.krb_ccache.specs.Store.{CacheState, credentials_format, version_byte, image_of, store_cell, store_of, first_place}
-use Rattle.krb_ccache.specs.Open.{header_held, name_held, held, ArePlaces, IsImage, held_by, Holds}
+use Rattle.krb_ccache.specs.Open.{header_held, name_held, IsImage, held_by, Holds}
 use Rattle.krb_ccache.proofs.CredentialField.{credential_field}
 use Rattle.krb_ccache.proofs.HeaderFields.{fields_spell, header_takes, IsBytes-front, IsBytes-back}
 use Rattle.krb_ccache.proofs.CellLemmas.{credentials_are, end_is, all_cells}

@@ -8,5 +8,8 @@ pub mod Held
 pub mod Kept
 pub mod MarkLemmas
 pub mod Replaced
+pub mod Appended
 pub mod WrittenLemmas
 pub mod Again
+pub mod FrontLemmas
+pub mod StoreChanges

@@ -1,30 +1,22 @@
 -- A credential that is marked in place.
-use Rattle.std.proofs.Common.{◌≡◌, ℕ, ◌+◌, ◌-◌, ◌^◌, ◌<◌, ◌≤◌, Bool, true, false, List, [], ◌∷◌, ◌++◌, length, take, drop, map, Option, Some, None, refl, sym, ap, subst, ◌∙◌, append_assoc, length-append, arith}
-use Rattle.std.specs.Prelude.{◌==◌, find, IsSome}
-use Rattle.std.specs.List.{flat_map, splice, AllByRecursion}
+use Rattle.std.proofs.Common.{◌≡◌, ℕ, ◌+◌, ◌<◌, ◌≤◌, Bool, true, false, List, [], ◌∷◌, ◌++◌, length, take, drop, map, Option, Some, None, refl, sym, ap, ◌∙◌, append_assoc, length-append, arith}
+use Rattle.std.specs.Prelude.{◌==◌, find}
+use Rattle.std.specs.List.{splice}
 use Rattle.std.proofs.lemmas.Bool.Decides.{nat_tests}
-use Rattle.std.proofs.lemmas.Grind.{flat_map-append}
 use Rattle.std.proofs.lemmas.List.{take_at, drop_at, drop-drop, take-append-drop, length-take, length-drop}
-use Rattle.std.proofs.lemmas.List.Concat.{flat_map-cons}
 use Rattle.krb_wire.specs.declared.format.Order.TheVariants.{Big}
 use Rattle.krb_wire.specs.Spelling.{cc_principal, data32}
-use Rattle.krb_wire.specs.Reading.{cc_principal_at}
-use Rattle.krb_wire.proofs.Fields.{IsBytes, IsBytes-drop, bind_some, some_is, Takes}
+use Rattle.krb_wire.proofs.Fields.{IsBytes, IsBytes-drop, some_is}
 use Rattle.krb_wire.proofs.Principals.{cc_principal_field}
-use Rattle.krb_walk.specs.Contents.{contents, spelling}
 use Rattle.krb_walk.specs.Store.{end_from}
 use Rattle.krb_ccache.specs.declared.version.Version.{Version}
-use Rattle.krb_ccache.specs.declared.open.Head.{Head}
-use Rattle.krb_ccache.specs.Credential.{CredParts, number32, typed_list, key, key_at, times, times_at, credential, credential_at, is_marked, FitsCredential, FitsTimes}
-use Rattle.krb_ccache.specs.Header.{header}
+use Rattle.krb_ccache.specs.Credential.{CredParts, number32, typed_list, key, times, credential, credential_at, is_marked, FitsCredential}
 use Rattle.krb_ccache.specs.Mark.{times_from}
-use Rattle.krb_ccache.specs.Store.{CacheState, PlacedCredential, placed_from, live_of, if_live, store_cell, credentials_format, credential_at_place, first_place, image_of}
-use Rattle.krb_ccache.specs.Changes.{marked, marked_at, with_mark}
-use Rattle.krb_ccache.specs.Open.{IsImage, held_by, Holds}
+use Rattle.krb_ccache.specs.Store.{placed_from, live_of, if_live, store_cell}
+use Rattle.krb_ccache.specs.Changes.{marked, marked_at}
 use Rattle.krb_ccache.proofs.CredentialField.{credential_field}
-use Rattle.krb_ccache.proofs.Fields.{key_field, step}
+use Rattle.krb_ccache.proofs.Fields.{key_field}
 use Rattle.krb_ccache.proofs.CellLemmas.{end_is}
-use Rattle.krb_ccache.proofs.Kept.{IsKept, held_kept, holds, head_is, head_of}
 
 -- ---- one credential
 

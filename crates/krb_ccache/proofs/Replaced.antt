@@ -1,23 +1,23 @@
 -- The image of a cache whose credentials are replaced by others of their lengths.
-use Rattle.std.proofs.Common.{◌≡◌, ℕ, ◌+◌, ◌≤◌, List, [], ◌∷◌, ◌++◌, length, take, drop, map, Some, refl, sym, ap, subst, ◌∙◌, append_assoc, length-append, arith}
+use Rattle.std.proofs.Common.{◌≡◌, ℕ, ◌+◌, ◌≤◌, List, [], ◌∷◌, ◌++◌, length, drop, Some, refl, sym, ap, subst, ◌∙◌, append_assoc, length-append, arith}
 use Rattle.std.specs.List.{flat_map, splice, AllByRecursion}
 use Rattle.std.proofs.lemmas.Grind.{flat_map-append}
-use Rattle.std.proofs.lemmas.List.{drop_at, drop-drop}
+use Rattle.std.proofs.lemmas.List.{drop_at}
 use Rattle.krb_wire.specs.Spelling.{cc_principal}
 use Rattle.krb_wire.proofs.Fields.{IsBytes}
 use Rattle.krb_walk.specs.Contents.{spelling}
-use Rattle.krb_walk.specs.Store.{end_from, end_of}
+use Rattle.krb_walk.specs.Store.{end_of}
 use Rattle.krb_ccache.specs.declared.version.Version.{Version}
 use Rattle.krb_ccache.specs.declared.open.Head.{Head}
 use Rattle.krb_ccache.specs.Credential.{CredParts, credential, credential_at, FitsCredential}
 use Rattle.krb_ccache.specs.Header.{header}
-use Rattle.krb_ccache.specs.Store.{CacheState, credentials_format, version_byte, image_of, store_cell, store_of, first_place, credential_at_place}
+use Rattle.krb_ccache.specs.Store.{CacheState, credentials_format, version_byte, image_of, store_of, first_place, credential_at_place}
 use Rattle.krb_ccache.specs.Changes.{marked, marked_at, with_mark}
 use Rattle.krb_ccache.specs.Open.{IsImage, held_by, Holds}
 use Rattle.krb_ccache.proofs.CredentialField.{credential_field}
 use Rattle.krb_ccache.proofs.CellLemmas.{end_is}
 use Rattle.krb_ccache.proofs.Held.{is_held}
-use Rattle.krb_ccache.proofs.Kept.{IsKept, held_kept, head_of, holds, head_is}
+use Rattle.krb_ccache.proofs.Kept.{IsKept, held_kept, holds, head_is}
 use Rattle.krb_ccache.proofs.MarkLemmas.{StandsAt, stands, marked_one, marked_len, splice_part}
 
 -- the bytes before the credentials

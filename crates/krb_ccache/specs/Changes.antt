@@ -1,15 +1,17 @@
 -- Making a cache, adding a credential to it, and removing one. A cache is a store for walks: `store_of` is how it is seen, `put_result` what an addition gives, and `cut_result` what a removal gives.
-use Rattle.std.specs.Prelude.{◌≡◌, ℕ, List, [], ◌∷◌, ◌++◌, length, map, Option, Some, None, is_some, Result, Ok, Err, Bool, true, false, nat_lt, ◌==◌, if◌then◌else◌}
+use Rattle.std.specs.Prelude.{◌≡◌, ℕ, List, [], ◌∷◌, ◌++◌, length, map, Option, Some, None, is_some, Result, Ok, Err, IsOk, Bool, true, false, nat_lt, ◌==◌, if◌then◌else◌}
 use Rattle.std.specs.Int.{w32, cast_unsigned}
-use Rattle.krb_wire.specs.Spelling.{Parts}
+use Rattle.krb_wire.specs.Spelling.{Parts, cc_principal}
 use Rattle.krb_walk.specs.declared.refusal.Code.{Code}
 use Rattle.krb_walk.specs.declared.refusal.Code.TheVariants as code
+use Rattle.krb_walk.specs.declared.refusal.Refusal.{Refusal}
+use Rattle.krb_walk.specs.declared.refusal.Refusal.TheVariants.{Code as ByCode, NoMemory}
 use Rattle.krb_walk.specs.Store.{end_of, fault_of, live_bytes}
 use Rattle.krb_ccache.specs.declared.version.Version.{Version}
 use Rattle.krb_ccache.specs.declared.version.Version.TheVariants.{V3, V4}
 use Rattle.krb_ccache.specs.declared.offset.Offset.{Offset}
 use Rattle.krb_ccache.specs.Credential.{CredParts, is_marked, number32}
-use Rattle.krb_ccache.specs.Header.{Field}
+use Rattle.krb_ccache.specs.Header.{Field, header}
 use Rattle.krb_ccache.specs.Store.{CacheState, first_place, placed_from, image_of, store_of}
 
 -- a cache of version 3 refuses additions and removals
@@ -28,6 +30,10 @@ abbrev pub new_header : Option Offset → List Field
 new_header None = []
 new_header (Some o) = offset_field o ∷ []
 
+-- what stands before the credentials of a version 4 image
+abbrev pub new_front : Parts → Option Offset → List ℕ
+new_front p offset = 5 ∷ 4 ∷ (header V4 (new_header offset) ++ cc_principal p)
+
 -- a cache of version 4 without credentials
 abbrev pub empty : Parts → Option Offset → ℕ → CacheState
 empty principal offset limit = record {
@@ -37,6 +43,17 @@ empty principal offset limit = record {
   principal = principal;
   contents = record { cells = []; end = [] };
 }
+
+-- what making a cache gives: a limit that its image would pass refuses it
+abbrev pub create_result : Parts → Option Offset → ℕ → Result CacheState Code
+create_result principal offset limit =
+    if nat_lt limit (length (image_of (empty principal offset limit))) then Err code.Full
+    else Ok (empty principal offset limit)
+
+-- it is refused as it is said, and memory is asked for only where nothing refuses
+abbrev pub RefusesAs : {S : Type 0} → Result S Code → Refusal → Type 0
+RefusesAs given (ByCode refused) = given ≡ Err refused
+RefusesAs given NoMemory = IsOk given
 
 -- ---- removing
 

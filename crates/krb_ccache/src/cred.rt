@@ -1,6 +1,7 @@
 //! Credentials with memory of their own.
 
 ghost use Rattle.std.specs.Prelude.{◌≡◌, IfOk};
+ghost use Rattle.krb_ccache.specs.Credential.{is_marked};
 ghost use Rattle.krb_ccache.specs.Cred.{owned_list, in_version_4};
 
 use crate::credential::CredView;
@@ -66,6 +67,15 @@ impl<A: Allocator> Cred<A> {
             endtime: self.endtime,
             renew_till: self.renew_till,
         }
+    }
+}
+
+impl<A: Allocator> Cred<A> {
+    /// Whether it has the removed mark: endtime 0, and the greatest authtime.
+    pub fn is_marked(&self) -> bool
+        ensures { result ≡ is_marked self.now }
+    {
+        self.endtime == 0 && self.authtime == u32::MAX
     }
 }
 

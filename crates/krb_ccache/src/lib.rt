@@ -1,16 +1,18 @@
 //! Credential cache images: a cache is a header, a default principal and a list of credentials.
 #![tactic(auto)]
 
+mod append;
 mod ccache;
 mod cells;
 mod config;
 mod cred;
 mod credential;
 mod credentials;
+mod front;
 mod header;
 mod key;
-mod mark;
 mod laws;
+mod mark;
 mod offset;
 mod open;
 mod times;

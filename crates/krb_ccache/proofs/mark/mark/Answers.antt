@@ -1,4 +1,4 @@
-use Rattle.std.proofs.Common.{length, arith}
+use Rattle.std.proofs.Common.{arith}
 use Rattle.krb_wire.proofs.Fields.{is_some_has}
 use Rattle.krb_ccache.proofs.MarkLemmas.{around, marked_is, times_left, times_there}
 use Rattle.krb_ccache.proofs.mark.mark.Goals as goal

@@ -1,5 +1,5 @@
 use Rattle.std.proofs.Common.{ap}
-use Rattle.std.specs.Prelude.{Some, is_some}
+use Rattle.std.specs.Prelude.{is_some}
 use Rattle.krb_wire.proofs.Fields.{is_some_has}
 use Rattle.krb_ccache.proofs.Replaced.{live_in, marked_held}
 use Rattle.krb_ccache.proofs.mark.mark_cell.Goals as goal
