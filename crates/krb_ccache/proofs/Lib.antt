@@ -13,3 +13,4 @@ pub mod WrittenLemmas
 pub mod Again
 pub mod FrontLemmas
 pub mod StoreChanges
+pub mod AnewLemmas

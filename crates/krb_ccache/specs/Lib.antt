@@ -11,3 +11,4 @@ pub mod Laws
 -- For private contracts alone.
 pub mod Cells
 pub mod Mark
+pub mod Rewrite

@@ -1,6 +1,7 @@
 //! Credential cache images: a cache is a header, a default principal and a list of credentials.
 #![tactic(auto)]
 
+mod anew;
 mod append;
 mod ccache;
 mod cells;
