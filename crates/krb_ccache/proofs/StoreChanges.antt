@@ -29,7 +29,7 @@ whole_end k h = no_rest k.contents.end (whole_of (end_of (store_of k)) (kind_of 
 
 -- ---- removals
 
-live_cell : (v : Version) (c : CredParts) → is_marked c ≡ false → ◌≡◌ {A = Cell} (store_cell v c) (record { width = length (credential v c); live = Some (credential v c) })
+pub live_cell : (v : Version) (c : CredParts) → is_marked c ≡ false → ◌≡◌ {A = Cell} (store_cell v c) (record { width = length (credential v c); live = Some (credential v c) })
 live_cell v c live = ap (λ (b : Bool). record { width = length (credential v c); live = live_by b (credential v c) }) live
 
 free_cell : (v : Version) (c : CredParts) → ◌≡◌ {A = Cell} (store_cell v (marked c)) (record { width = length (credential v c); live = None })
@@ -59,7 +59,7 @@ mark_cuts k p c whole there =
       };
     }
 
-cells_wide : (v : Version) (cs : List CredParts) → AllByRecursion (λ (c : Cell). 0 < c.width) (map (store_cell v) cs)
+pub cells_wide : (v : Version) (cs : List CredParts) → AllByRecursion (λ (c : Cell). 0 < c.width) (map (store_cell v) cs)
 cells_wide v [] = tt
 cells_wide v (c ∷ cs) = ((credential_field v).nonempty c, cells_wide v cs)
 

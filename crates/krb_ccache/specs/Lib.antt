@@ -12,3 +12,4 @@ pub mod Laws
 pub mod Cells
 pub mod Mark
 pub mod Rewrite
+pub mod Carry

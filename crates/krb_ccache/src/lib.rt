@@ -3,6 +3,7 @@
 
 mod anew;
 mod append;
+mod carry;
 mod ccache;
 mod cells;
 mod config;
