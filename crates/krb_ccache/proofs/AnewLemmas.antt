@@ -1,19 +1,17 @@
 -- Credentials that are written anew.
-use Rattle.std.proofs.Common.{◌≡◌, ℕ, ◌+◌, ◌-◌, ◌<◌, ◌≤◌, Bool, true, false, List, [], ◌∷◌, ◌++◌, length, take, drop, map, Some, None, refl, sym, ap, subst, ◌∙◌, append_assoc, length-append, arith}
-use Rattle.std.specs.Prelude.{not, filter}
+use Rattle.std.proofs.Common.{◌≡◌, ℕ, ◌+◌, ◌-◌, ◌<◌, ◌≤◌, Bool, true, false, List, [], ◌∷◌, ◌++◌, length, take, drop, Some, None, refl, sym, ap, ◌∙◌, append_assoc, length-append, arith}
 use Rattle.std.specs.List.{flat_map, splice}
 use Rattle.std.specs.Int.{w16}
 use Rattle.std.proofs.lemmas.List.{append-nil, take_at, drop_at, drop-drop, take-append-drop}
 use Rattle.krb_wire.specs.declared.format.Order.TheVariants.{Big}
 use Rattle.krb_wire.specs.Spelling.{digits, data32, cc_principal}
-use Rattle.krb_wire.proofs.Fields.{IsBytes, some_is, wide16, Takes}
+use Rattle.krb_wire.proofs.Fields.{IsBytes, some_is, wide16}
 use Rattle.krb_wire.proofs.Principals.{cc_principal_field}
-use Rattle.krb_walk.specs.Contents.{Contents, contents}
+use Rattle.krb_walk.specs.Contents.{Contents}
 use Rattle.krb_ccache.specs.declared.version.Version.{Version}
 use Rattle.krb_ccache.specs.declared.version.Version.TheVariants.{V3, V4}
-use Rattle.krb_ccache.specs.Credential.{CredParts, number32, typed_list, key, times, credential, credential_at, is_marked, FitsCredential}
+use Rattle.krb_ccache.specs.Credential.{CredParts, number32, typed_list, times, credential, credential_at, is_marked, FitsCredential}
 use Rattle.krb_ccache.specs.Cred.{in_version_4}
-use Rattle.krb_ccache.specs.Store.{credentials_format}
 use Rattle.krb_ccache.specs.Rewrite.{new_cells, text_anew, texts_anew, again_from, ReadsAnew}
 use Rattle.krb_ccache.proofs.CredentialField.{credential_field}
 use Rattle.krb_ccache.proofs.Fields.{field16}

@@ -1,5 +1,5 @@
 -- Each credential of the old image is given the place that it goes to.
-use Rattle.std.proofs.Common.{◌≡◌, ℕ, ◌+◌, ◌-◌, ◌^◌, ◌<◌, ◌≤◌, true, false, eqb, List, [], ◌∷◌, ◌++◌, length, take, drop, map, Some, None, inl, inr, refl, sym, ap, subst, ◌∙◌, append_assoc, arith}
+use Rattle.std.proofs.Common.{◌≡◌, ℕ, ◌+◌, ◌-◌, ◌<◌, ◌≤◌, true, false, eqb, List, [], ◌∷◌, ◌++◌, length, take, drop, map, Some, None, inl, inr, refl, sym, ap, subst, ◌∙◌, append_assoc, arith}
 use Rattle.std.specs.Prelude.{nat_le}
 use Rattle.std.specs.List.{splice, flat_map}
 use Rattle.std.proofs.lemmas.Bool.{ne_eqb, cases_lt}
@@ -14,7 +14,7 @@ use Rattle.krb_ccache.specs.declared.version.Version.{Version}
 use Rattle.krb_ccache.specs.Credential.{CredParts, number32, credential, credential_at}
 use Rattle.krb_ccache.specs.Store.{credentials_format, store_cell}
 use Rattle.krb_ccache.specs.Rewrite.{text_anew, texts_anew, new_place}
-use Rattle.krb_ccache.specs.Carry.{HasLens, Tells, AreGiven}
+use Rattle.krb_ccache.specs.Carry.{HasLens, AreGiven}
 use Rattle.krb_ccache.proofs.CredentialField.{credential_field}
 use Rattle.krb_ccache.proofs.CellLemmas.{read_one, read_none}
 use Rattle.krb_ccache.proofs.AnewLemmas.{anew_first}

@@ -17,3 +17,4 @@ pub mod AnewLemmas
 pub mod Given
 pub mod CursorLemmas
 pub mod Rewrites
+pub mod RewriteHeld

@@ -1,5 +1,5 @@
 -- A cache that is written anew, as a store.
-use Rattle.std.proofs.Common.{◌≡◌, ◌≢◌, ℕ, suc, ◌+◌, ◌^◌, ◌<◌, ◌≤◌, Bool, true, false, cond, Result, Ok, Err, Some, None, List, [], ◌∷◌, ◌++◌, length, map, inl, inr, refl, sym, ap, subst, ◌∙◌, append_assoc, length-append, arith}
+use Rattle.std.proofs.Common.{◌≡◌, ◌≢◌, ℕ, suc, ◌+◌, ◌^◌, ◌<◌, ◌≤◌, Bool, true, false, cond, Ok, Err, Some, None, List, [], ◌∷◌, ◌++◌, length, map, inl, inr, refl, sym, ap, subst, ◌∙◌, append_assoc, length-append, arith}
 use Rattle.std.specs.Prelude.{nat_le, nat_lt, is_some}
 use Rattle.std.specs.List.{flat_map, AllByRecursion}
 use Rattle.std.proofs.lemmas.Bool.{cases_lt, lt-ltb, le-ltb}
@@ -9,8 +9,8 @@ use Rattle.krb_wire.specs.Spelling.{cc_principal}
 use Rattle.krb_wire.proofs.Fields.{IsBytes}
 use Rattle.krb_walk.specs.Contents.{next_by, spelling}
 use Rattle.krb_walk.specs.declared.refusal.Code.TheVariants.{Full}
-use Rattle.krb_walk.specs.Store.{Cell, IsPlace, end_from, end_of, fault_of, is_place_from}
-use Rattle.krb_walk.specs.Ranks.{nth_or, carry, live_places, Rewrites}
+use Rattle.krb_walk.specs.Store.{Cell, end_from, end_of, fault_of, is_place_from}
+use Rattle.krb_walk.specs.Ranks.{nth_or, carry, Rewrites}
 use Rattle.krb_walk.proofs.Lives.{lives}
 use Rattle.krb_walk.proofs.Places.{place_in}
 use Rattle.krb_walk.proofs.Carries.{lives_rise, below, below_none, below_some}
@@ -23,7 +23,7 @@ use Rattle.krb_ccache.specs.Store.{CacheState, credentials_format, image_of, sto
 use Rattle.krb_ccache.specs.Changes.{new_header, new_front}
 use Rattle.krb_ccache.specs.Open.{Holds}
 use Rattle.krb_ccache.specs.Rewrite.{new_cells, rewrite_of, rewrite_result, text_anew, new_place}
-use Rattle.krb_ccache.specs.Carry.{Tells, AreGiven, HasGiven, GoesBy}
+use Rattle.krb_ccache.specs.Carry.{AreGiven, HasGiven, GoesBy}
 use Rattle.krb_ccache.proofs.HeaderFields.{IsBytes-front, IsBytes-back}
 use Rattle.krb_ccache.proofs.Splits.{no_credential}
 use Rattle.krb_ccache.proofs.CellLemmas.{end_is}
@@ -240,3 +240,6 @@ all_go v image at cs to end last (p ∷ ps) given is is_last small h = (
 pub map_same : (f g : ℕ → ℕ) (xs : List ℕ) → ((x : ℕ) → f x ≡ g x) → map f xs ≡ map g xs
 map_same f g [] same = refl
 map_same f g (x ∷ xs) same = ap (λ (n : ℕ). n ∷ map f xs) (same x) ∙ ap (λ (ys : List ℕ). g x ∷ ys) (map_same f g xs same)
+
+pub first_anew : (k : CacheState) (n : ℕ) → n ≡ length (new_front k.principal (offset_in k.header)) → n ≡ first_place (rewrite_of k)
+first_anew k n is = omega (arith, is, length-append (header V4 (new_header (offset_in k.header))) (cc_principal k.principal))

@@ -13,3 +13,5 @@ pub mod Cells
 pub mod Mark
 pub mod Rewrite
 pub mod Carry
+pub mod Placed
+pub mod Edit

@@ -1,5 +1,5 @@
 -- Writing a cache anew.
-use Rattle.std.specs.Prelude.{◌≡◌, ℕ, List, [], ◌++◌, length, map, filter, not, is_some, Option, Some, Result, Ok, Err, nat_lt, nat_le, ◌+◌, ◌∷◌, if◌then◌else◌}
+use Rattle.std.specs.Prelude.{◌≡◌, ℕ, List, [], length, map, filter, not, is_some, Option, Some, Result, Ok, Err, nat_lt, nat_le, ◌+◌, ◌∷◌, if◌then◌else◌}
 use Rattle.std.specs.List.{flat_map}
 use Rattle.std.specs.Int.{w16}
 use Rattle.krb_wire.specs.declared.format.Order.TheVariants.{Big}

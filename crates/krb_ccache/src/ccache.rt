@@ -1,6 +1,7 @@
 //! Caches, kept as their images.
 
 mod changes;
+mod rewriting;
 
 ghost use Rattle.std.specs.Prelude.{◌≡◌, IsSome, IfOk, IfErr, IfSome, IfNone, Ok, Err, Some, None, option_copied, vec_capacity};
 ghost use Rattle.krb_wire.specs.Reading.{Gives};

@@ -1,14 +1,19 @@
 //! What stands before the credentials of a version 4 image.
 
-ghost use Rattle.std.specs.Prelude.{◌≡◌, ◌≤◌, ◌<◌, ◌^◌, ◌+◌, length, IsTrue, IfSome, IfNone, vec_len};
+ghost use Rattle.std.specs.Prelude.{◌≡◌, ◌≤◌, ◌<◌, ◌^◌, ◌+◌, ◌++◌, length, IfOk, IsTrue, IfSome, IfNone, vec_len};
 ghost use Rattle.std.specs.List.{splice};
 ghost use Rattle.krb_wire.specs.Spelling.{FitsCc};
 ghost use Rattle.krb_ccache.specs.declared.version.Version.TheVariants.{V4};
 ghost use Rattle.krb_ccache.specs.Header.{header};
 ghost use Rattle.krb_ccache.specs.Changes.{new_header, new_front};
+ghost use Rattle.krb_ccache.specs.Rewrite.{texts_anew};
 
+use crate::anew::put_cells_anew;
 use crate::offset::Offset;
-use krb_wire::{Name, Order, cc_principal_len, put_cc_principal, put_u8, put_u16, put_u32};
+use crate::version::Version;
+use krb_wire::{
+    Name, NoMemory, Order, cc_principal_len, put_cc_principal, put_u8, put_u16, put_u32,
+};
 use std::alloc::Allocator;
 
 // How many bytes a header takes.
@@ -79,4 +84,55 @@ pub fn spell_front<N: Name, A: Allocator>(
     ensures { image.new.items ≡ new_front (N.parts principal.now) offset }
 {
     let _ = put_front(principal, offset, image);
+}
+
+/// Writes them, and then the credentials that the bytes begin with anew, as the whole of an image.
+pub fn spell_anew<N: Name>(
+    principal: &N,
+    offset: Option<Offset>,
+    version: Version,
+    cells: &[u8],
+    out: &mut [u8],
+)
+    requires fits { FitsCc (N.parts principal.now) }
+    requires len { length out.old ≡ length (new_front (N.parts principal.now) offset) + length (texts_anew version cells.now) }
+    ensures { out.new ≡ new_front (N.parts principal.now) offset ++ texts_anew version cells.now }
+{
+    let at = put_front(principal, offset, out);
+    put_cells_anew(version, cells, out, at);
+}
+
+// The same in a vector.
+fn spell_anew_into<N: Name, A: Allocator>(
+    principal: &N,
+    offset: Option<Offset>,
+    version: Version,
+    cells: &[u8],
+    image: &mut Vec<u8, A>,
+)
+    requires fits { FitsCc (N.parts principal.now) }
+    requires len { vec_len image.old ≡ length (new_front (N.parts principal.now) offset) + length (texts_anew version cells.now) }
+    ensures { image.new.items ≡ new_front (N.parts principal.now) offset ++ texts_anew version cells.now }
+{
+    spell_anew(principal, offset, version, cells, image);
+}
+
+/// Such an image, in memory of exactly its length.
+pub fn image_anew<N: Name, A: Allocator>(
+    alloc: A,
+    principal: &N,
+    offset: Option<Offset>,
+    version: Version,
+    cells: &[u8],
+    len: usize,
+) -> Result<Vec<u8, A>, NoMemory>
+    requires fits { FitsCc (N.parts principal.now) }
+    requires len { len ≡ length (new_front (N.parts principal.now) offset) + length (texts_anew version cells.now) }
+    ensures { IfOk result (λ v. v.items ≡ new_front (N.parts principal.now) offset ++ texts_anew version cells.now) }
+{
+    let Ok(mut image) = Vec::from_elem(alloc, 0, len) else {
+        return Err(NoMemory);
+    };
+    spell_anew_into(principal, offset, version, cells, &mut image);
+    Ok(image)
 }

@@ -1,4 +1,5 @@
-//! Credential cache images: a cache is a header, a default principal and a list of credentials.
+//! Credential cache images: a cache is a header, a default principal and a list of credentials, which is walked
+//! while it is changed.
 #![tactic(auto)]
 
 mod anew;
@@ -10,6 +11,7 @@ mod config;
 mod cred;
 mod credential;
 mod credentials;
+mod edit;
 mod front;
 mod header;
 mod key;
@@ -17,6 +19,7 @@ mod laws;
 mod mark;
 mod offset;
 mod open;
+mod placed;
 mod times;
 mod typed;
 mod version;
@@ -28,6 +31,7 @@ pub use config::is_config;
 pub use cred::Cred;
 pub use credential::CredView;
 pub use credentials::Credentials;
+pub use edit::{EditRefused, edit_cache};
 pub use laws::{caches_are_opened_again, credentials_are_read_back, one_reading};
 pub use offset::Offset;
 pub use open::{CcOpenFault, CcOpenRefused};

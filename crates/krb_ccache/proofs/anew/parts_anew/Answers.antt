@@ -1,8 +1,7 @@
-use Rattle.std.proofs.Common.{◌≡◌, ◌+◌, ◌++◌, ℕ, List, [], length, take, drop, Some, sym, ap, subst, ◌∙◌, arith}
+use Rattle.std.proofs.Common.{◌≡◌, ◌+◌, ◌++◌, ℕ, List, [], length, take, drop, sym, ap, ◌∙◌, arith}
 use Rattle.std.proofs.lemmas.List.{take-append-drop}
-use Rattle.krb_wire.proofs.Fields.{is_some_has, some_is}
+use Rattle.krb_wire.proofs.Fields.{is_some_has}
 use Rattle.krb_ccache.specs.declared.version.Version.{Version}
-use Rattle.krb_ccache.specs.declared.version.Version.TheVariants.{V3, V4}
 use Rattle.krb_ccache.specs.Credential.{credential_at}
 use Rattle.krb_ccache.proofs.AnewLemmas.{around_again, whole_again, whole_same, again_there, again_left, front_text}
 use Rattle.krb_ccache.proofs.anew.parts_anew.Goals as goal

@@ -1,4 +1,4 @@
-use Rattle.std.proofs.Common.{◌++◌, length, ◌∙◌, arith}
+use Rattle.std.proofs.Common.{◌++◌, arith}
 use Rattle.krb_wire.proofs.SpliceLemmas.{splice-step}
 use Rattle.krb_ccache.specs.Rewrite.{texts_anew}
 use Rattle.krb_ccache.proofs.AnewLemmas.{anew_step, anew_none, all_written}

@@ -1,4 +1,4 @@
-use Rattle.std.proofs.Common.{length-append, arith}
+use Rattle.std.proofs.Common.{arith}
 use Rattle.krb_wire.proofs.SpliceLemmas.{splice-then}
 use Rattle.krb_ccache.proofs.anew.put_parts.Goals as goal
 

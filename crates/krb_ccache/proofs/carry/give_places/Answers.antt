@@ -1,4 +1,4 @@
-use Rattle.std.proofs.Common.{◌≡◌, ℕ, ◌+◌, length, ap, ◌∙◌, arith}
+use Rattle.std.proofs.Common.{ℕ, ap, ◌∙◌, arith}
 use Rattle.std.specs.List.{splice}
 use Rattle.krb_ccache.specs.Credential.{number32}
 use Rattle.krb_ccache.proofs.Given.{given_first, old_cell, given_next, all_given}

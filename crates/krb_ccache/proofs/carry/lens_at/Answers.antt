@@ -1,4 +1,4 @@
-use Rattle.std.proofs.Common.{◌≡◌, ◌-◌, ℕ, List, length, length-append, sym, ap, ◌∙◌, arith}
+use Rattle.std.proofs.Common.{◌≡◌, ◌-◌, length, length-append, sym, ap, ◌∙◌, arith}
 use Rattle.krb_ccache.specs.Credential.{credential, credential_at}
 use Rattle.krb_ccache.proofs.AnewLemmas.{first_text}
 use Rattle.krb_ccache.proofs.carry.lens_at.Goals as goal
