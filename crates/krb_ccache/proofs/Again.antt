@@ -37,7 +37,7 @@ fields_again xs fit fits =
     let again = contents_again fields_format k fields_are (record { cells = all_fields xs fit; end = end }) (subst IsBytes text fits) in
     ap (λ (b : List ℕ). whole (contents fields_format b).cells (contents fields_format b).end) text ∙ ap (λ (c : Contents Field (List ℕ)). whole c.cells c.end) again
 
-header_again : (v : Version) (xs : List Field) (rest : List ℕ) → FitsHeader v xs → IsBytes (header v xs) → header_at v (header v xs ++ rest) ≡ Some (xs, rest)
+pub header_again : (v : Version) (xs : List Field) (rest : List ℕ) → FitsHeader v xs → IsBytes (header v xs) → header_at v (header v xs ++ rest) ≡ Some (xs, rest)
 unfolding header_at
 header_again V3 xs rest fit fits = ap (λ (y : List Field). Some (y, rest)) (sym fit)
 header_again V4 xs rest fit fits =

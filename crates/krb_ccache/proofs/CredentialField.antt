@@ -1,5 +1,5 @@
 -- A credential that is read is the credential that was written, and what was written is read again.
-use Rattle.std.proofs.Common.{◌≡◌, ℕ, List, [], ◌∷◌, ◌++◌, Some, refl, ap, subst, ◌∙◌}
+use Rattle.std.proofs.Common.{◌≡◌, ℕ, List, [], ◌∷◌, ◌++◌, Some, refl, sym, ap, subst, ◌∙◌}
 use Rattle.krb_wire.specs.declared.format.Order.TheVariants.{Big}
 use Rattle.krb_wire.specs.Spelling.{data32, cc_principal}
 use Rattle.krb_wire.proofs.Fields.{IsBytes, some_is, Takes, Takes-then}
@@ -94,3 +94,9 @@ credential_field v = record {
   again = λ c rest fits. credential_again v c rest fits;
   nonempty = λ c. some_more (cc_principal c.client) _ (cc_principal_field.nonempty c.client);
 }
+
+-- what has the same spelling is the same credential
+pub same_spelling : (v : Version) (c d : CredParts) → FitsCredential v c → FitsCredential v d → credential v c ≡ credential v d → c ≡ d
+same_spelling v c d fit_c fit_d same =
+    let read : Some (c, []) ≡ Some (d, []) = sym (credential_again v c [] fit_c) ∙ ap (λ (b : List ℕ). credential_at v (b ++ [])) same ∙ credential_again v d [] fit_d in
+    ap (λ (x : CredParts × List ℕ). x.0) (some_is (c, []) (d, []) read)

@@ -5,4 +5,16 @@ pub mod CellLemmas
 pub mod PlaceLemmas
 pub mod Splits
 pub mod Held
+pub mod Kept
+pub mod MarkLemmas
+pub mod Replaced
+pub mod Appended
+pub mod WrittenLemmas
 pub mod Again
+pub mod FrontLemmas
+pub mod StoreChanges
+pub mod AnewLemmas
+pub mod Given
+pub mod CursorLemmas
+pub mod Rewrites
+pub mod RewriteHeld

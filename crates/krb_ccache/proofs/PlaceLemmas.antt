@@ -91,10 +91,10 @@ front_is v image rest after p cells fits is_rest passes read =
     let two = after_takes image rest (header v h.fields) after start th in
     record { rest_ends = start; after_ends = two; cells_end = after_takes image after (cc_principal p) cells two tp.0 }
 
-header_is : (v : Version) (image after : List ℕ) (xs : List Field) → header_at v (drop 2 image) ≡ Some (xs, after) → header_held v image ≡ xs
+pub header_is : (v : Version) (image after : List ℕ) (xs : List Field) → header_at v (drop 2 image) ≡ Some (xs, after) → header_held v image ≡ xs
 header_is v image after xs e = ap (λ (o : Option (List Field × List ℕ)). unwrap_or (option_map (λ x. x.0) o) []) e
 
-name_is : (bytes after : List ℕ) (p : Parts) → cc_principal_at bytes ≡ Some (p, after) → name_held bytes ≡ p
+pub name_is : (bytes after : List ℕ) (p : Parts) → cc_principal_at bytes ≡ Some (p, after) → name_held bytes ≡ p
 name_is bytes after p e = ap (λ (o : Option (Parts × List ℕ)). unwrap_or (option_map (λ x. x.0) o) no_name) e
 
 pub places_are : (v : Version) (image rest after : List ℕ) (p : Parts) (cells : List ℕ) (n : ℕ) → IsBytes image → rest ≡ drop 2 image → header_end v rest ≡ Some after → cc_principal_at after ≡ Some (p, cells) → n ≡ cells_len v cells → n ≤ length cells

@@ -49,7 +49,7 @@ all_after P [] after all = all
 all_after P (c ∷ before) after all = all_after P before after all.1
 
 -- no bytes begin with no credential
-no_credential : (v : Version) → credential_at v [] ≡ None
+pub no_credential : (v : Version) → credential_at v [] ≡ None
 unfolding credential_at
 no_credential v = rw no_cc_principal refl
 

@@ -1,10 +1,10 @@
 -- Laws of the definitions.
-use Rattle.std.specs.Prelude.{◌≡◌, ℕ, ◌<◌, ◌≤◌, List, ◌++◌, length, get_or, Ok}
+use Rattle.std.specs.Prelude.{◌≡◌, ℕ, ◌<◌, ◌≤◌, List, ◌++◌, length, get_or, Some, Ok}
 use Rattle.std.specs.List.{flat_map, AllByRecursion}
 use Rattle.krb_wire.specs.Spelling.{FitsCc}
 use Rattle.krb_walk.specs.Contents.{Contents, contents, spelling, IsSound, IsSpelled}
 use Rattle.krb_ccache.specs.declared.version.Version.{Version}
-use Rattle.krb_ccache.specs.Credential.{CredParts, credential, FitsCredential}
+use Rattle.krb_ccache.specs.Credential.{CredParts, credential, credential_at, FitsCredential}
 use Rattle.krb_ccache.specs.Header.{FitsHeader}
 use Rattle.krb_ccache.specs.Store.{CacheState, credentials_format, image_of, open_result}
 
@@ -24,6 +24,14 @@ IsLongest = (v : Version) (cells : List CredParts) (rest : List ℕ) → AllByRe
 -- sound contents are the only ones with their spelling
 abbrev pub IsOnlyOne : Type 0
 IsOnlyOne = (v : Version) (k : Contents CredParts (List ℕ)) → IsSound (credentials_format v) k → AreBytes (spelling (credentials_format v) k) → contents (credentials_format v) (spelling (credentials_format v) k) ≡ k
+
+-- a credential that fits is read where it is spelled
+abbrev pub IsAlwaysReadBack : Type 0
+IsAlwaysReadBack = (v : Version) (c : CredParts) (rest : List ℕ) → FitsCredential v c → credential_at v (credential v c ++ rest) ≡ Some (c, rest)
+
+-- and no other has that spelling
+abbrev pub HasOwnSpelling : Type 0
+HasOwnSpelling = (v : Version) (c d : CredParts) → FitsCredential v c → FitsCredential v d → credential v c ≡ credential v d → c ≡ d
 
 -- a cache whose parts have spellings, and whose image is not too long
 pub record IsSoundCache (k : CacheState) : Type 0 where

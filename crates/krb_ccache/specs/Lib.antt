@@ -4,7 +4,14 @@ pub mod Header
 pub mod Store
 pub mod Config
 pub mod Typed
+pub mod Cred
 pub mod Open
+pub mod Changes
 pub mod Laws
 -- For private contracts alone.
 pub mod Cells
+pub mod Mark
+pub mod Rewrite
+pub mod Carry
+pub mod Placed
+pub mod Edit

@@ -9,6 +9,7 @@ use Rattle.krb_ccache.specs.declared.version.Version.{Version}
 use Rattle.krb_ccache.specs.declared.open.CcOpenFault.{CcOpenFault}
 use Rattle.krb_ccache.specs.declared.open.CcOpenFault.TheVariants.{TooShort, BadVersion, TooLarge, BadHeader, BadDefault}
 use Rattle.krb_ccache.specs.declared.open.Places.{Places}
+use Rattle.krb_ccache.specs.declared.open.Head.{Head}
 use Rattle.krb_ccache.specs.Credential.{credential}
 use Rattle.krb_ccache.specs.Header.{Field, header_at}
 use Rattle.krb_ccache.specs.Store.{CacheState, credentials_format, version_byte, store_cell, open_result}
@@ -65,6 +66,15 @@ pub record IsImage (v : Version) (limit : ℕ) (image : List ℕ) (places : Plac
   pub within : length image ≤ limit
   pub limit_fits : limit ≤ 1073741824
   pub parts : ArePlaces v image places
+
+-- the cache that an image is, by what is known of it
+abbrev pub held_by : Head → List ℕ → CacheState
+held_by h image = held h.version h.limit image h.places
+
+-- the image is kept, with what is known of it, and is this cache
+pub record Holds (h : Head) (image : List ℕ) (k : CacheState) : Type 0 where
+  pub kept : IsImage h.version h.limit image h.places
+  pub state : held_by h image ≡ k
 
 -- the image is opened as the cache that it is, with any limit that is no smaller
 abbrev pub Reopens : CacheState → List ℕ → Type 0

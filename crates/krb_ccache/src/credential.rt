@@ -147,11 +147,25 @@ impl<'a> CredView<'a> {
         self.flags
     }
 
+    // Its addresses.
+    pub(crate) fn addresses(&self) -> &TypedList<'a>
+        ensures { result.now ≡ self.now.addresses }
+    {
+        &self.addresses
+    }
+
+    // Its authorization data.
+    pub(crate) fn authorizations(&self) -> &TypedList<'a>
+        ensures { result.now ≡ self.now.authdata }
+    {
+        &self.authdata
+    }
+
     /// How many addresses it has.
     pub fn address_count(&self) -> usize
         ensures { result ≡ length self.now.addresses }
     {
-        self.addresses.count()
+        self.addresses.len()
     }
 
     /// The type and the bytes of an address. Those before it are passed.
@@ -165,7 +179,7 @@ impl<'a> CredView<'a> {
     pub fn authdata_count(&self) -> usize
         ensures { result ≡ length self.now.authdata }
     {
-        self.authdata.count()
+        self.authdata.len()
     }
 
     /// The type and the bytes of an element of authorization data. Those before it are passed.

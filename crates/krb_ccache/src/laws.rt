@@ -1,6 +1,6 @@
 //! Laws of the definitions that the contracts cite.
 
-ghost use Rattle.krb_ccache.specs.Laws.{IsAlwaysSpelled, IsLongest, IsOnlyOne, IsOpenedAgain};
+ghost use Rattle.krb_ccache.specs.Laws.{IsAlwaysSpelled, IsLongest, IsOnlyOne, IsOpenedAgain, IsAlwaysReadBack, HasOwnSpelling};
 
 /// The credentials of a cache and what follows them are one list and one end, and no longer list of credentials
 /// stands at its front.
@@ -13,4 +13,10 @@ pub fn one_reading()
 /// A cache is what its image is opened as, and no other cache has that image.
 pub fn caches_are_opened_again()
     ensures { IsOpenedAgain }
+{}
+
+/// A credential whose numbers and lengths fit is read where it is spelled, and no other is spelled so.
+pub fn credentials_are_read_back()
+    ensures read { IsAlwaysReadBack }
+    ensures own { HasOwnSpelling }
 {}

@@ -1,26 +1,38 @@
-//! Credential cache images: a cache is a header, a default principal and a list of credentials.
+//! Credential cache images: a cache is a header, a default principal and a list of credentials, which is walked
+//! while it is changed.
 #![tactic(auto)]
 
+mod anew;
+mod append;
+mod carry;
 mod ccache;
 mod cells;
 mod config;
+mod cred;
 mod credential;
 mod credentials;
+mod edit;
+mod front;
 mod header;
 mod key;
 mod laws;
+mod mark;
 mod offset;
 mod open;
+mod placed;
 mod times;
 mod typed;
 mod version;
 mod view;
+mod written;
 
 pub use ccache::Ccache;
 pub use config::{ConfigName, config_name, is_config};
+pub use cred::Cred;
 pub use credential::CredView;
 pub use credentials::Credentials;
-pub use laws::{caches_are_opened_again, one_reading};
+pub use edit::{EditRefused, edit_cache};
+pub use laws::{caches_are_opened_again, credentials_are_read_back, one_reading};
 pub use offset::Offset;
 pub use open::{CcOpenFault, CcOpenRefused};
 pub use times::Times;

@@ -1,6 +1,7 @@
 //! Addresses and authorization data: lists of bytes that each have a type.
 
-ghost use Rattle.std.specs.Prelude.{◌≡◌, length, IsSome, option_map, slice_get};
+ghost use Rattle.std.specs.Prelude.{◌≡◌, ◌<◌, ◌-◌, ◌∷◌, [], length, IsSome, MatchOption, option_map, slice_get};
+ghost use Rattle.std.specs.Iterator.{YieldsFirstBy, item_count};
 ghost use Rattle.krb_wire.specs.Reading.{Gives, list_at, list_in, list_end};
 ghost use Rattle.krb_ccache.specs.Credential.{Typed, typed_at, typed_list_at};
 ghost use Rattle.krb_ccache.specs.Typed.{typed_of};
@@ -37,6 +38,23 @@ fn split_typed(bytes: &[u8]) -> Option<((u16, &[u8]), &[u8])>
     let (kind, rest) = split_u16(Order::Big, bytes)?;
     let (text, rest) = split_data32(Order::Big, rest)?;
     Some(((kind, text), rest))
+}
+
+// The first of so many items that the bytes begin with, and the bytes after it.
+fn first_of(count: u32, bytes: &[u8]) -> Option<((u16, &[u8]), &[u8])>
+    requires { IsSome (list_at typed_at count bytes.now) }
+    ensures first { MatchOption result (list_in typed_at count bytes.now ≡ [])
+        (λ x. list_in typed_at count bytes.now ≡ typed_of x.0 ∷ list_in typed_at (count - 1) x.1.now) }
+    ensures others { MatchOption result (count ≡ 0)
+        (λ x. (0 < count) × IsSome (list_at typed_at (count - 1) x.1.now)) }
+{
+    if count == 0 {
+        return None;
+    }
+    let Some((first, others)) = split_typed(bytes) else {
+        unreachable!()
+    };
+    Some((first, others))
 }
 
 // The bytes after so many items.
@@ -76,7 +94,7 @@ pub fn split_typed_list(bytes: &[u8]) -> Option<(TypedList<'_>, &[u8])>
 
 impl<'a> TypedList<'a> {
     /// How many there are.
-    pub fn count(&self) -> usize
+    pub fn len(&self) -> usize
         ensures { result ≡ length self.now }
     {
         self.count as usize
@@ -87,5 +105,30 @@ impl<'a> TypedList<'a> {
         ensures { option_map typed_of result ≡ slice_get self.now i }
     {
         item_at(self.count, self.items, i)
+    }
+
+    /// All of them, one after the other, in one pass.
+    pub fn items(&self) -> TypedList<'a>
+        ensures { result ≡ self.now }
+    {
+        TypedList {
+            count: self.count,
+            items: self.items,
+        }
+    }
+}
+
+impl<'a> Iterator for TypedList<'a> {
+    type Item = (u16, &'a [u8]);
+
+    ghost next_gives = { YieldsFirstBy typed_of (λ s. s) };
+
+    ghost remaining = { item_count (λ s. s) };
+
+    fn next(&mut self) -> Option<(u16, &'a [u8])> {
+        let (first, others) = first_of(self.count, self.items)?;
+        self.count -= 1;
+        self.items = others;
+        Some(first)
     }
 }

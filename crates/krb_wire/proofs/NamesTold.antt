@@ -1,13 +1,19 @@
 -- What the tests of names tell: whether one fits its spelling, and whether two are the same.
-use Rattle.std.proofs.Common.{◌≡◌, ℕ, ◌^◌, ◌<◌, Bool, true, false, ltb, List, [], ◌∷◌, length, refl, sym}
+use Rattle.std.proofs.Common.{◌≡◌, ℕ, ◌^◌, ◌<◌, ◌≤◌, Bool, true, false, ltb, List, [], ◌∷◌, length, refl, sym, ap, arith}
 use Rattle.std.specs.Prelude.{◌&&◌}
-use Rattle.std.specs.List.{list_all, AllByRecursion}
+use Rattle.std.specs.List.{flat_map, list_all, AllByRecursion}
+use Rattle.std.specs.Int.{w32}
+use Rattle.std.proofs.lemmas.List.{length-append}
+use Rattle.std.proofs.lemmas.List.Concat.{flat_map-cons}
+use Rattle.krb_wire.specs.declared.format.Order.{Order}
+use Rattle.krb_wire.specs.declared.format.Order.TheVariants.{Big}
+use Rattle.krb_wire.proofs.Fields.{wide32}
 use Rattle.std.specs.Cmp.Lexicographic.{pointwise}
 use Rattle.std.specs.Str.{bytes_eq}
 use Rattle.std.proofs.lemmas.Bool.{ltb-true, lt-ltb}
 use Rattle.std.proofs.lemmas.Slice.Eq.{bytes_eq-Decides, slice_eq-Decides}
 use Rattle.krb_wire.specs.declared.format.KtFormat.{KtFormat}
-use Rattle.krb_wire.specs.Spelling.{Parts, count_field, IsShort, is_short, name_fits}
+use Rattle.krb_wire.specs.Spelling.{Parts, digits, data32, count_field, IsShort, is_short, name_fits, IsLong, is_long, cc_name_fits, cc_principal}
 use Rattle.krb_wire.specs.SameName.{have_same_name}
 
 -- ---- tests
@@ -36,15 +42,15 @@ pub record Lengths (f : KtFormat) (p : Parts) : Type 0 where
   pub realm : IsShort p.realm
   pub components : AllByRecursion IsShort p.components
 
-all_short : (cs : List (List ℕ)) → list_all is_short cs ≡ true → AllByRecursion IsShort cs
-all_short [] e = tt
-all_short (c ∷ cs) e =
-    let both = and_both (is_short c) (list_all is_short cs) e in
-    (ltb-true (length c) (2 ^ 16) both.0, all_short cs both.1)
+all_fit : (n : ℕ) (cs : List (List ℕ)) → list_all (λ c. ltb (length c) n) cs ≡ true → AllByRecursion (λ c. length c < n) cs
+all_fit n [] e = tt
+all_fit n (c ∷ cs) e =
+    let both = and_both (ltb (length c) n) (list_all (λ c. ltb (length c) n) cs) e in
+    (ltb-true (length c) n both.0, all_fit n cs both.1)
 
-short_all : (cs : List (List ℕ)) → AllByRecursion IsShort cs → list_all is_short cs ≡ true
-short_all [] h = refl
-short_all (c ∷ cs) h = both_and (is_short c) (list_all is_short cs) (lt-ltb (length c) (2 ^ 16) h.0) (short_all cs h.1)
+fit_all : (n : ℕ) (cs : List (List ℕ)) → AllByRecursion (λ c. length c < n) cs → list_all (λ c. ltb (length c) n) cs ≡ true
+fit_all n [] h = refl
+fit_all n (c ∷ cs) h = both_and (ltb (length c) n) (list_all (λ c. ltb (length c) n) cs) (lt-ltb (length c) n h.0) (fit_all n cs h.1)
 
 pub lengths_of : (f : KtFormat) (p : Parts) → name_fits f p ≡ true → Lengths f p
 lengths_of f p e =
@@ -53,16 +59,60 @@ lengths_of f p e =
     record {
       count = ltb-true (count_field f (length p.components)) (2 ^ 16) count.0;
       realm = ltb-true (length p.realm) (2 ^ 16) realm.0;
-      components = all_short p.components realm.1;
+      components = all_fit (2 ^ 16) p.components realm.1;
     }
 
 pub lengths_fit : (f : KtFormat) (p : Parts) → Lengths f p → name_fits f p ≡ true
 lengths_fit f p h =
     both_and (ltb (count_field f (length p.components)) (2 ^ 16)) (is_short p.realm && list_all is_short p.components) (lt-ltb (count_field f (length p.components)) (2 ^ 16) h.count)
-    (both_and (is_short p.realm) (list_all is_short p.components) (lt-ltb (length p.realm) (2 ^ 16) h.realm) (short_all p.components h.components))
+    (both_and (is_short p.realm) (list_all is_short p.components) (lt-ltb (length p.realm) (2 ^ 16) h.realm) (fit_all (2 ^ 16) p.components h.components))
 
 pub fits_not : (f : KtFormat) (p : Parts) → (Lengths f p → ⊥) → false ≡ name_fits f p
 fits_not f p not_so = no_test (name_fits f p) (λ e. not_so (lengths_of f p e))
+
+-- the same in a credential cache
+pub record LongLengths (p : Parts) : Type 0 where
+  pub count : length p.components < 2 ^ 32
+  pub realm : IsLong p.realm
+  pub components : AllByRecursion IsLong p.components
+
+pub long_lengths_of : (p : Parts) → cc_name_fits p ≡ true → LongLengths p
+long_lengths_of p e =
+    let count = and_both (ltb (length p.components) (2 ^ 32)) (is_long p.realm && list_all is_long p.components) e in
+    let realm = and_both (is_long p.realm) (list_all is_long p.components) count.1 in
+    record {
+      count = ltb-true (length p.components) (2 ^ 32) count.0;
+      realm = ltb-true (length p.realm) (2 ^ 32) realm.0;
+      components = all_fit (2 ^ 32) p.components realm.1;
+    }
+
+pub long_lengths_fit : (p : Parts) → LongLengths p → cc_name_fits p ≡ true
+long_lengths_fit p h =
+    both_and (ltb (length p.components) (2 ^ 32)) (is_long p.realm && list_all is_long p.components) (lt-ltb (length p.components) (2 ^ 32) h.count)
+    (both_and (is_long p.realm) (list_all is_long p.components) (lt-ltb (length p.realm) (2 ^ 32) h.realm) (fit_all (2 ^ 32) p.components h.components))
+
+-- the length is told
+abbrev pub has_cc_len : Parts → Bool
+has_cc_len p = cc_name_fits p && ltb (length (cc_principal p)) (2 ^ 64)
+
+pub no_cc_len : (p : Parts) → (LongLengths p → length (cc_principal p) < 2 ^ 64 → ⊥) → false ≡ has_cc_len p
+no_cc_len p not_so =
+    no_test (has_cc_len p) (λ e.
+    let both = and_both (cc_name_fits p) (ltb (length (cc_principal p)) (2 ^ 64)) e in
+    not_so (long_lengths_of p both.0) (ltb-true (length (cc_principal p)) (2 ^ 64) both.1))
+
+pub some_cc_len : (p : Parts) → LongLengths p → length (cc_principal p) < 2 ^ 64 → true ≡ has_cc_len p
+some_cc_len p h lt = sym (both_and (cc_name_fits p) (ltb (length (cc_principal p)) (2 ^ 64)) (long_lengths_fit p h) (lt-ltb (length (cc_principal p)) (2 ^ 64) lt))
+
+-- each component takes a byte at least
+pub count_le : (o : Order) (cs : List (List ℕ)) → length cs ≤ length (flat_map (data32 o) cs)
+count_le o [] = omega arith
+count_le o (c ∷ cs) = omega (arith, count_le o cs, ap length (flat_map-cons (data32 o) c cs), length-append (data32 o c) (flat_map (data32 o) cs), length-append (digits o w32 (length c)) c, (wide32 o).len (length c))
+
+-- so many components are too long
+pub many_long : (p : Parts) → 2 ^ 32 ≤ length p.components → 2 ^ 32 ≤ length (cc_principal p)
+many_long p many =
+    omega (arith, many, count_le Big p.components, length-append p.realm (flat_map (data32 Big) p.components))
 
 -- ---- the same name
 

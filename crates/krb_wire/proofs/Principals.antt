@@ -9,7 +9,7 @@ use Rattle.krb_wire.specs.declared.format.Lengths.{Lengths}
 use Rattle.krb_wire.specs.declared.format.Lengths.TheVariants.{Bits16, Bits32}
 use Rattle.krb_wire.specs.declared.format.KtFormat.{KtFormat}
 use Rattle.krb_wire.specs.declared.format.KtFormat.TheVariants.{V1, V2}
-use Rattle.krb_wire.specs.Spelling.{Parts, digits, data16, data32, order_of, count_field, name_type_field, kt_principal, cc_principal, HasNameType, IsShort, IsLong, FitsKt, FitsCc}
+use Rattle.krb_wire.specs.Spelling.{Parts, digits, data16, data32, order_of, count_field, name_type_field, kt_principal, cc_principal, HasNameType, IsShort, IsLong, FitsKt, FitsCc, data_text, FitsLength}
 use Rattle.krb_wire.specs.Reading.{◌>>=◌, number_at, data16_at, data32_at, data_at, list_at, components_at, components_of_count, name_type_at, kt_principal_at, cc_principal_at}
 use Rattle.krb_wire.proofs.Fields.{IsBytes, bind_some, some_is, Takes, Takes-then, wide16, wide32, number_takes, number_again, data16_takes, data16_again, data32_takes, data32_again}
 use Rattle.krb_wire.proofs.NamesTold.{lengths_of, lengths_fit}
@@ -56,15 +56,6 @@ data32_field o = record {
   again = λ text rest long. data32_again o text rest long;
   nonempty = λ text. omega (arith, (wide32 o).len (length text), length-append (digits o w32 (length text)) text);
 }
-
--- the spelling of counted data, and what is short enough for it
-abbrev pub data_text : Lengths → List ℕ → List ℕ
-data_text (Bits16 o) = data16 o
-data_text (Bits32 o) = data32 o
-
-abbrev pub FitsLength : Lengths → List ℕ → Type 0
-FitsLength (Bits16 o) = IsShort
-FitsLength (Bits32 o) = IsLong
 
 pub no_data : (l : Lengths) → data_at l [] ≡ None
 no_data (Bits16 o) = no_data16 o

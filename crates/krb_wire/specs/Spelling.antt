@@ -4,6 +4,8 @@ use Rattle.std.specs.List.{flat_map, list_all, AllByRecursion}
 use Rattle.std.specs.Int.{Width, w16, w32, to_be_bytes, to_le_bytes, from_be_bytes, from_le_bytes}
 use Rattle.krb_wire.specs.declared.format.Order.{Order}
 use Rattle.krb_wire.specs.declared.format.Order.TheVariants.{Big, Little}
+use Rattle.krb_wire.specs.declared.format.Lengths.{Lengths}
+use Rattle.krb_wire.specs.declared.format.Lengths.TheVariants.{Bits16, Bits32}
 use Rattle.krb_wire.specs.declared.format.KtFormat.{KtFormat}
 use Rattle.krb_wire.specs.declared.format.KtFormat.TheVariants.{V1, V2}
 
@@ -89,12 +91,30 @@ cc_principal p =
 abbrev pub IsLong : List ℕ → Type 0
 IsLong bytes = length bytes < 2 ^ 32
 
+-- the length of the bytes fits thirty-two bits
+abbrev pub is_long : List ℕ → Bool
+is_long bytes = nat_lt (length bytes) (2 ^ 32)
+
+-- so does each length and count of a name: then it can be written
+abbrev pub cc_name_fits : Parts → Bool
+cc_name_fits p = nat_lt (length p.components) (2 ^ 32) && (is_long p.realm && list_all is_long p.components)
+
 -- what has a spelling there
 pub record FitsCc (p : Parts) : Type 0 where
   pub name_type : p.name_type < 2 ^ 32
   pub count : length p.components < 2 ^ 32
   pub realm : IsLong p.realm
   pub components : AllByRecursion IsLong p.components
+
+-- a length of these bits, and that many bytes
+abbrev pub data_text : Lengths → List ℕ → List ℕ
+data_text (Bits16 o) = data16 o
+data_text (Bits32 o) = data32 o
+
+-- short enough for a length of these bits
+abbrev pub FitsLength : Lengths → List ℕ → Type 0
+FitsLength (Bits16 o) = IsShort
+FitsLength (Bits32 o) = IsLong
 
 -- a text stands in bytes, from a place to the next
 pub record Stands (bytes : List ℕ) (at next : ℕ) (text : List ℕ) : Type 0 where

@@ -2,11 +2,11 @@
 
 ghost use Rattle.std.specs.Prelude.{◌≡◌, ◌≤◌, ◌+◌, ◌++◌, ℕ, List, length, drop, IfSome, Some};
 ghost use Rattle.std.specs.List.{splice};
-ghost use Rattle.krb_wire.specs.Spelling.{data16, data32, IsShort, IsLong, Stands};
+ghost use Rattle.krb_wire.specs.Spelling.{data16, data32, data_text, FitsLength, IsShort, IsLong, Stands};
 ghost use Rattle.krb_wire.specs.Reading.{Gives, ReadsAt, bytes_at, data16_at, data32_at, data_at};
 
 use crate::format::{Lengths, Order};
-use crate::numbers::{put_u16, split_u16, split_u32};
+use crate::numbers::{put_u16, put_u32, split_u16, split_u32};
 
 // So many bytes from the front, and the bytes after them.
 #[inline(always)]
@@ -108,7 +108,7 @@ fn put_bytes(bytes: &[u8], out: &mut [u8], at: usize) -> usize
     next
 }
 
-/// Writes counted data at a place, its length first; the answer is the place after it.
+/// Writes counted data at a place, its length of 16 bits first; the answer is the place after it.
 pub fn put_data16(order: Order, text: &[u8], out: &mut [u8], at: usize) -> usize
     requires short { IsShort text.now }
     requires room { at + length (data16 order text.now) ≤ length out.old }
@@ -117,4 +117,29 @@ pub fn put_data16(order: Order, text: &[u8], out: &mut [u8], at: usize) -> usize
 {
     let next = put_u16(order, text.len() as u16, out, at);
     put_bytes(text, out, next)
+}
+
+/// Writes counted data at a place, its length of 32 bits first; the answer is the place after it.
+pub fn put_data32(order: Order, text: &[u8], out: &mut [u8], at: usize) -> usize
+    requires long { IsLong text.now }
+    requires room { at + length (data32 order text.now) ≤ length out.old }
+    ensures next { result ≡ at + length (data32 order text.now) }
+    ensures written { out.new ≡ splice out.old at result (data32 order text.now) }
+{
+    let next = put_u32(order, text.len() as u32, out, at);
+    put_bytes(text, out, next)
+}
+
+/// Writes counted data at a place, its length first; the answer is the place after it.
+#[inline(always)]
+pub fn put_data(lengths: Lengths, text: &[u8], out: &mut [u8], at: usize) -> usize
+    requires fits { FitsLength lengths text.now }
+    requires room { at + length (data_text lengths text.now) ≤ length out.old }
+    ensures next { result ≡ at + length (data_text lengths text.now) }
+    ensures written { out.new ≡ splice out.old at result (data_text lengths text.now) }
+{
+    match lengths {
+        Lengths::Bits16(order) => put_data16(order, text, out, at),
+        Lengths::Bits32(order) => put_data32(order, text, out, at),
+    }
 }

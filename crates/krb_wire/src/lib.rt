@@ -3,6 +3,7 @@
 #![tactic(auto)]
 
 mod atom;
+mod cc_spelling;
 mod components;
 mod copy;
 mod counted;
@@ -21,9 +22,12 @@ mod spelling;
 mod text;
 mod view;
 
+pub use cc_spelling::{cc_principal_len, put_cc_principal};
 pub use components::Components;
 pub use copy::copy_name;
-pub use counted::{put_data16, read_data16, read_data32, split_data16, split_data32, tail};
+pub use counted::{
+    put_data16, put_data32, read_data16, read_data32, split_data16, split_data32, tail,
+};
 pub use format::{KtFormat, Lengths, Order};
 pub use laws::texts_name_their_names;
 pub use limits::Limits;

@@ -2,10 +2,10 @@
 
 ghost use Rattle.std.specs.Prelude.{◌≡◌, ◌≤◌, ◌<◌, ◌^◌, ◌+◌, ◌↔◌, ℕ, length, is_some, IsTrue, IsSome, IfSome};
 ghost use Rattle.std.specs.List.{flat_map, splice, AllByRecursion};
-ghost use Rattle.krb_wire.specs.Spelling.{name_fits, IsShort, count_field, data16, kt_principal, name_type_field};
+ghost use Rattle.krb_wire.specs.Spelling.{name_fits, count_field, data_text, FitsLength, kt_principal, name_type_field};
 
-use crate::counted::put_data16;
-use crate::format::{KtFormat, Order};
+use crate::counted::{put_data, put_data16};
+use crate::format::{KtFormat, Lengths, Order};
 use crate::name::Name;
 use crate::numbers::{put_u16, put_u32};
 
@@ -66,16 +66,16 @@ pub fn kt_principal_len<N: Name>(format: KtFormat, name: &N) -> Option<u64>
     Some(len)
 }
 
-// Writes the components at a place; the answer is the place after them.
-fn put_components<N: Name>(order: Order, name: &N, out: &mut [u8], at: usize) -> usize
-    requires short { AllByRecursion IsShort (N.parts name.now).components }
-    requires room { at + length (flat_map (data16 order) (N.parts name.now).components) ≤ length out.old }
-    ensures next { result ≡ at + length (flat_map (data16 order) (N.parts name.now).components) }
-    ensures written { out.new ≡ splice out.old at result (flat_map (data16 order) (N.parts name.now).components) }
+/// Writes the components at a place; the answer is the place after them.
+pub fn put_components<N: Name>(lengths: Lengths, name: &N, out: &mut [u8], at: usize) -> usize
+    requires fits { AllByRecursion (FitsLength lengths) (N.parts name.now).components }
+    requires room { at + length (flat_map (data_text lengths) (N.parts name.now).components) ≤ length out.old }
+    ensures next { result ≡ at + length (flat_map (data_text lengths) (N.parts name.now).components) }
+    ensures written { out.new ≡ splice out.old at result (flat_map (data_text lengths) (N.parts name.now).components) }
 {
     let mut next = at;
     for component in name.components() {
-        next = put_data16(order, component, out, next);
+        next = put_data(lengths, component, out, next);
     }
     next
 }
@@ -106,6 +106,6 @@ pub fn put_kt_principal<N: Name>(format: KtFormat, name: &N, out: &mut [u8], at:
     };
     let realm = put_u16(order, count, out, at);
     let components = put_data16(order, name.realm(), out, realm);
-    let name_type = put_components(order, name, out, components);
+    let name_type = put_components(Lengths::Bits16(order), name, out, components);
     put_name_type(format, name.name_type(), out, name_type)
 }

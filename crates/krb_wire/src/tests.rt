@@ -1,3 +1,4 @@
+mod cc_spelled;
 mod spelled;
 
 use crate::{Name, Principal, copy_name, parse_name, write_name};

@@ -26,6 +26,6 @@ returns-clause-written g c =
     c.put_u16-realm.ensures.written c.put_data16-components.ensures.written c.put_components-name_type.ensures.written c.put_name_type.ensures.written
     ∙ ap (splice c.args.out.now c.args.at c.put_name_type.result) spelled
 
-pub put_components-name_type-requires-clause-short :
-    goal.put_components-name_type-requires-clause-short
-put_components-name_type-requires-clause-short g c = (lengths_of c.args.format (g.N.Name.parts c.args.name.now) c.requires.spelled).components
+pub put_components-name_type-requires-clause-fits :
+    goal.put_components-name_type-requires-clause-fits
+put_components-name_type-requires-clause-fits g c = (lengths_of c.args.format (g.N.Name.parts c.args.name.now) c.requires.spelled).components

@@ -1,0 +1,99 @@
+-- An addition to a cache, and a removal from it, change one cell of the store that it is.
+use Rattle.std.proofs.Common.{◌≡◌, ℕ, ◌<◌, Bool, true, false, List, [], ◌∷◌, ◌++◌, length, map, Option, Some, None, inr, refl, sym, ap, ◌∙◌}
+use Rattle.std.specs.Prelude.{is_some}
+use Rattle.std.specs.List.{AllByRecursion}
+use Rattle.std.proofs.lemmas.List.{map-append}
+use Rattle.krb_walk.specs.declared.fault.FaultKind.{FaultKind}
+use Rattle.krb_walk.specs.Store.{Cell, end_of, fault_from, fault_of, live_bytes}
+use Rattle.krb_walk.specs.Changes.{Puts, Cuts}
+use Rattle.krb_walk.proofs.Stops.{bytes_from}
+use Rattle.krb_walk.proofs.Splits.{bytes_here}
+use Rattle.krb_ccache.specs.declared.version.Version.{Version}
+use Rattle.krb_ccache.specs.Credential.{CredParts, credential, is_marked}
+use Rattle.krb_ccache.specs.Store.{CacheState, live_by, store_cell, store_of, kind_of, first_place, credential_at_place}
+use Rattle.krb_ccache.specs.Changes.{marked, marked_at, with_mark, with_last}
+use Rattle.krb_ccache.proofs.CredentialField.{credential_field}
+use Rattle.krb_ccache.proofs.MarkLemmas.{stands, marked_one, marked_len}
+
+pub whole_of : (place : ℕ) (kind : Option FaultKind) → is_some (fault_from place kind) ≡ false → kind ≡ None
+whole_of place None h = refl
+whole_of place (Some kind) h = absurd cc
+
+pub no_rest : (rest : List ℕ) → kind_of rest ≡ None → rest ≡ []
+no_rest [] h = refl
+no_rest (b ∷ bs) h = absurd cc
+
+-- where no fault is told, nothing stands after the last credential
+pub whole_end : (k : CacheState) → is_some (fault_of (store_of k)) ≡ false → k.contents.end ≡ []
+whole_end k h = no_rest k.contents.end (whole_of (end_of (store_of k)) (kind_of k.contents.end) h)
+
+-- ---- removals
+
+pub live_cell : (v : Version) (c : CredParts) → is_marked c ≡ false → ◌≡◌ {A = Cell} (store_cell v c) (record { width = length (credential v c); live = Some (credential v c) })
+live_cell v c live = ap (λ (b : Bool). record { width = length (credential v c); live = live_by b (credential v c) }) live
+
+free_cell : (v : Version) (c : CredParts) → ◌≡◌ {A = Cell} (store_cell v (marked c)) (record { width = length (credential v c); live = None })
+free_cell v c = ap (λ (n : ℕ). record { width = n; live = None }) (marked_len v c)
+
+pub mark_cuts : (k : CacheState) (p : ℕ) (c : CredParts) → is_some (fault_of (store_of k)) ≡ false → credential_at_place k p ≡ Some c → Cuts (store_of k) (store_of (with_mark k p)) p
+mark_cuts k p c whole there =
+    let v = k.version in
+    let seen = store_cell v in
+    let s = stands v (first_place k) p k.contents.cells c there in
+    record {
+      whole = whole_of (end_of (store_of k)) (kind_of k.contents.end) whole;
+      how = record {
+        width = length (credential v c);
+        bytes = credential v c;
+        cell = record {
+          before = map seen s.before;
+          after = map seen s.after;
+          place = s.place;
+          old_cells = ap (map seen) s.parts ∙ map-append seen s.before (c ∷ s.after) ∙ ap (λ (x : Cell). map seen s.before ++ x ∷ map seen s.after) (live_cell v c s.live);
+          new_cells =
+              ap (λ cs. map seen (marked_at v (first_place k) p cs)) s.parts ∙ ap (map seen) (marked_one v (first_place k) p s.before s.after c s.place)
+              ∙ map-append seen s.before (marked c ∷ s.after) ∙ ap (λ (x : Cell). map seen s.before ++ x ∷ map seen s.after) (free_cell v c);
+          first = refl;
+          fault = refl;
+        };
+      };
+    }
+
+pub cells_wide : (v : Version) (cs : List CredParts) → AllByRecursion (λ (c : Cell). 0 < c.width) (map (store_cell v) cs)
+cells_wide v [] = tt
+cells_wide v (c ∷ cs) = ((credential_field v).nonempty c, cells_wide v cs)
+
+pub mark_gone : (k : CacheState) (p : ℕ) (c : CredParts) → credential_at_place k p ≡ Some c → live_bytes (store_of (with_mark k p)) p ≡ None
+mark_gone k p c there =
+    let v = k.version in
+    let seen = store_cell v in
+    let s = stands v (first_place k) p k.contents.cells c there in
+    let cells : map seen (with_mark k p).contents.cells ≡ map seen s.before ++ record { width = length (credential v (marked c)); live = None } ∷ map seen s.after =
+    ap (λ cs. map seen (marked_at v (first_place k) p cs)) s.parts ∙ ap (map seen) (marked_one v (first_place k) p s.before s.after c s.place) ∙ map-append seen s.before (marked c ∷ s.after) in
+    ap (λ (cs : List Cell). bytes_from (first_place k) cs p) cells
+    ∙ ap (bytes_from (first_place k) (map seen s.before ++ record { width = length (credential v (marked c)); live = None } ∷ map seen s.after)) s.place
+    ∙ bytes_here (first_place k) (length (credential v (marked c))) None (map seen s.before) (map seen s.after) (cells_wide v s.before)
+
+-- ---- additions
+
+pub last_puts : (k : CacheState) (c : CredParts) → is_some (fault_of (store_of k)) ≡ false → is_marked c ≡ false → Puts (store_of k) (store_of (with_last k c)) (end_of (store_of k))
+last_puts k c whole live =
+    let v = k.version in
+    let seen = store_cell v in
+    record {
+      whole = whole_of (end_of (store_of k)) (kind_of k.contents.end) whole;
+      how = inr (record {
+        width = length (credential v c);
+        bytes = credential v c;
+        some_width = (credential_field v).nonempty c;
+        place = refl;
+        cells = map-append seen k.contents.cells (c ∷ []) ∙ ap (λ (x : Cell). map seen k.contents.cells ++ x ∷ []) (live_cell v c live);
+        first = refl;
+        fault = refl;
+      });
+    }
+
+-- a credential that was found
+pub there : (found read : Option CredParts) → found ≡ read → is_some found ≡ true → (c : CredParts) × (read ≡ Some c)
+there (Some c) read e h = (c, sym e)
+there None read e h = absurd cc

@@ -1,0 +1,42 @@
+use Rattle.std.proofs.Common.{◌≡◌, ◌+◌, ◌<◌, ◌≤◌, ℕ, length, Ok, refl, sym, ap, ◌∙◌, arith}
+use Rattle.krb_wire.proofs.Fields.{IsBytes}
+use Rattle.krb_ccache.specs.declared.version.Version.TheVariants.{V4}
+use Rattle.krb_ccache.specs.Credential.{credential}
+use Rattle.krb_ccache.specs.Store.{CacheState}
+use Rattle.krb_ccache.specs.Changes.{with_last, is_refused}
+use Rattle.krb_ccache.specs.Open.{InMemory, held_by}
+use Rattle.krb_ccache.proofs.Appended.{append_full, append_fits}
+use Rattle.krb_ccache.proofs.ccache.Ccache.append.Goals as goal
+
+pub returns-in_default-clause-gives : goal.returns-in_default-clause-gives
+returns-in_default-clause-gives g c =
+    let i = c.self.inside in
+    let k = c.args.self.now.state in
+    let fits : IsBytes i.image.items = rw c.deref.ensures.value at c.bytes_fit.ensures in
+    let same : held_by i.head i.image.items ≡ k = ap (λ (m : InMemory). m.state) c.self.view_is in
+    let long : i.head.limit < length i.image.items + length (credential V4 c.args.cred.now) = let ok = i.image.ok.0 in let none = c.in_default.ensures.none in omega (arith, ok, none, c.len.ensures) in
+    (append_full i.head i.image.items k c.args.cred.now fits c.self.invariant same c.requires.whole c.requires.version long, refl)
+
+pub returns-in-Ok-clause-gives : goal.returns-in-Ok-clause-gives
+returns-in-Ok-clause-gives g c =
+    let i = c.self.inside in
+    let k = c.args.self.now.state in
+    let x = c.args.cred.now in
+    let fits : IsBytes i.image.items = rw c.deref.ensures.value at c.bytes_fit.ensures in
+    let same : held_by i.head i.image.items ≡ k = ap (λ (m : InMemory). m.state) c.self.view_is in
+    let short : length i.image.items + length (credential V4 x) ≤ i.head.limit = let ok = i.image.ok.0 in let len = c.in-Some.ensures.some in let within = c.in-Some.ensures.within in let all = c.self.invariant.within in omega (arith, ok, len, within, all, c.len.ensures) in
+    append_fits i.head i.image.items k x fits c.self.invariant same c.requires.whole c.requires.version short
+    ∙ ap (λ (n : ℕ). Ok (n, with_last k x)) (sym c.end-place.ensures)
+    ∙ ap (λ (s : CacheState). Ok (c.end-place.result, s)) (ap (λ (s : CacheState). with_last s x) (sym same) ∙ sym c.in-Ok.ensures.ok.state)
+
+pub returns-in-Err-clause-memory : goal.returns-in-Err-clause-memory
+returns-in-Err-clause-memory g c = λ refused.
+    let i = c.self.inside in
+    let k = c.args.self.now.state in
+    let x = c.args.cred.now in
+    let fits : IsBytes i.image.items = rw c.deref.ensures.value at c.bytes_fit.ensures in
+    let same : held_by i.head i.image.items ≡ k = ap (λ (m : InMemory). m.state) c.self.view_is in
+    let short : length i.image.items + length (credential V4 x) ≤ i.head.limit = let ok = i.image.ok.0 in let len = c.in-Some.ensures.some in let within = c.in-Some.ensures.within in let all = c.self.invariant.within in omega (arith, ok, len, within, all, c.len.ensures) in
+    let no = ap is_refused (append_fits i.head i.image.items k x fits c.self.invariant same c.requires.whole c.requires.version short) in
+    let never = sym no ∙ refused in
+    absurd cc

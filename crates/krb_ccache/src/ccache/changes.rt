@@ -1,0 +1,140 @@
+//! Caches that are made, added to and removed from, each in place.
+
+ghost use Rattle.std.specs.Prelude.{◌≡◌, [], true, None, Some, IsSome, IfOk, IfErr, OnOk, Ok};
+ghost use Rattle.krb_walk.specs.Rules.{PutGives, CutGives};
+ghost use Rattle.krb_walk.specs.Memory.{HadMemory};
+ghost use Rattle.krb_walk.specs.Changes.{Puts, Cuts};
+ghost use Rattle.krb_walk.specs.Store.{live_bytes};
+ghost use Rattle.krb_ccache.specs.Store.{store_of, credential_at_place};
+ghost use Rattle.krb_ccache.specs.declared.version.Version.TheVariants.{V4};
+ghost use Rattle.krb_ccache.specs.Changes.{create_result, RefusesAs, append_result, is_refused, is_read_only, put_result, cut_result, takes_none, with_mark};
+
+use super::Ccache;
+use crate::append::append_credential;
+use crate::cells::bytes_fit;
+use crate::cred::Cred;
+use crate::front::{front_len, header_len, spell_front};
+use crate::mark::mark_cell;
+use crate::offset::Offset;
+use crate::open::{Head, Places};
+use crate::version::Version;
+use krb_walk::{Code, Refusal};
+use krb_wire::{Limits, Name};
+use std::alloc::Allocator;
+
+impl<A: Allocator> Ccache<A> {
+    /// A cache of version 4 without credentials. A limit that its image would pass refuses it.
+    pub fn create<N: Name>(
+        alloc: A,
+        default: &N,
+        offset: Option<Offset>,
+        limits: Limits,
+    ) -> Result<Ccache<A>, Refusal>
+        ensures ok { IfOk result (λ k. create_result (N.parts default.now) offset limits ≡ Ok k.state) }
+        ensures err { IfErr result (RefusesAs (create_result (N.parts default.now) offset limits)) }
+    {
+        let limit = limits.image();
+        let Some(len) = front_len(default, offset, limit as usize) else {
+            return Err(Refusal::Code(Code::Full));
+        };
+        let Ok(mut image) = Vec::from_elem(alloc, 0, len) else {
+            return Err(Refusal::NoMemory);
+        };
+        spell_front(default, offset, &mut image);
+        bytes_fit(&image);
+        let head = Head {
+            version: Version::V4,
+            limit,
+            places: Places {
+                principal: 2 + header_len(offset),
+                first: len,
+                end: len,
+            },
+        };
+        Ok(Ccache { image, head })
+    }
+
+    // Whether it refuses additions and removals.
+    fn is_read_only(&self) -> bool
+        ensures { result ≡ is_read_only self.now.state.version }
+    {
+        match self.head.version {
+            Version::V3 => true,
+            Version::V4 => false,
+        }
+    }
+
+    // Marks the live credential at a place.
+    fn mark(&mut self, place: u32)
+        requires { IsSome (credential_at_place self.old.state place) }
+        ensures marked { self.new.state ≡ with_mark self.old.state place }
+        ensures room { self.new.room ≡ self.old.room }
+    {
+        mark_cell(self.head, &mut self.image, place as usize);
+    }
+
+    /// Marks the credential at a place as removed: endtime 0 and the greatest authtime are written, and no other
+    /// byte; the mark is this project's own. A cache of version 3 refuses, then a damaged one, and then each number
+    /// where no live credential stands.
+    pub fn remove_at(&mut self, place: u32) -> Result<(), Code>
+        ensures gives { CutGives (cut_result self.old.state place) self.old.state result self.new.state }
+        ensures cuts { OnOk result (Cuts (store_of self.old.state) (store_of self.new.state) place) }
+        // No credential stands there any more.
+        ensures gone { OnOk result (live_bytes (store_of self.new.state) place ≡ None) }
+        ensures room { self.new.room ≡ self.old.room }
+    {
+        if self.is_read_only() {
+            return Err(Code::ReadOnly);
+        }
+        if self.fault().is_some() {
+            return Err(Code::Damaged);
+        }
+        if self.cred_at(place).is_none() {
+            return Err(Code::NotLive);
+        }
+        self.mark(place);
+        Ok(())
+    }
+
+    // Puts a credential after the last of a cache that is whole.
+    fn append<B: Allocator>(&mut self, cred: &Cred<B>) -> Result<u32, Refusal>
+        requires whole { (self.old.state).contents.end ≡ [] }
+        requires version { self.old.state.version ≡ V4 }
+        ensures gives { PutGives (append_result self.old.state cred.now) self.old.state result self.new.state }
+        ensures memory { is_refused (append_result self.old.state cred.now) ≡ true → HadMemory result }
+    {
+        bytes_fit(&self.image);
+        let place = self.end();
+        let room = self.head.limit as usize - self.image.len();
+        let Some(len) = cred.len_within(room) else {
+            return Err(Refusal::Code(Code::Full));
+        };
+        match append_credential(&mut self.image, self.head, cred, len) {
+            Ok(head) => {
+                self.head = head;
+                Ok(place)
+            }
+            Err(_) => Err(Refusal::NoMemory),
+        }
+    }
+
+    /// Puts a credential after the last, and answers its place. The place of a removed one is never used again. A
+    /// cache of version 3 refuses, then a damaged one, then a credential that has the removed mark, and then a limit
+    /// that the image would pass.
+    pub fn store<B: Allocator>(&mut self, cred: &Cred<B>) -> Result<u32, Refusal>
+        ensures gives { PutGives (put_result self.old.state cred.now) self.old.state result self.new.state }
+        ensures puts { IfOk result (Puts (store_of self.old.state) (store_of self.new.state)) }
+        ensures memory { takes_none self.old.state cred.now ≡ true → HadMemory result }
+    {
+        if self.is_read_only() {
+            return Err(Refusal::Code(Code::ReadOnly));
+        }
+        if self.fault().is_some() {
+            return Err(Refusal::Code(Code::Damaged));
+        }
+        if cred.is_marked() {
+            return Err(Refusal::Code(Code::Marked));
+        }
+        self.append(cred)
+    }
+}

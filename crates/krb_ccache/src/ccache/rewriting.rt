@@ -1,0 +1,97 @@
+//! Writing a cache anew.
+
+ghost use Rattle.std.specs.Prelude.{◌≡◌, ◌<◌, ◌≤◌, length, map, IfSome, IfNone, IfOk, OnOk, OnErr};
+ghost use Rattle.std.specs.List.{AllByRecursion};
+ghost use Rattle.krb_wire.specs.Spelling.{FitsCc};
+ghost use Rattle.krb_walk.specs.Rules.{RewriteGives};
+ghost use Rattle.krb_walk.specs.Store.{IsPlace};
+ghost use Rattle.krb_walk.specs.Ranks.{carry, Rewrites};
+ghost use Rattle.krb_ccache.specs.Header.{offset_in};
+ghost use Rattle.krb_ccache.specs.Store.{image_of, store_of};
+ghost use Rattle.krb_ccache.specs.Changes.{new_front};
+ghost use Rattle.krb_ccache.specs.Rewrite.{rewrite_of, rewrite_result};
+
+use super::Ccache;
+use crate::anew::room_after_anew;
+use crate::carry::carry_cursors;
+use crate::cells::bytes_fit;
+use crate::front::{front_len, header_len, image_anew};
+use crate::open::{Head, Places};
+use crate::version::Version;
+use krb_walk::{Code, Refusal};
+use krb_wire::{NoMemory, tail};
+use std::alloc::Allocator;
+
+impl<A: Allocator> Ccache<A> {
+    // Where the credentials begin in the new image, and how long it is, if it is not too long.
+    fn lens_anew(&self) -> Option<(usize, usize)>
+        ensures first { IfSome result (λ x. x.0 ≡ length (new_front self.now.state.principal (offset_in self.now.state.header))) }
+        ensures len { IfSome result (λ x. x.1 ≡ length (image_of (rewrite_of self.now.state))) }
+        ensures within { IfSome result (λ x. x.1 ≤ self.now.state.limit) }
+        ensures none { IfNone result (self.now.state.limit < length (image_of (rewrite_of self.now.state))) }
+    {
+        let limit = self.head.limit as usize;
+        let front = front_len(&self.default_principal(), self.offset(), limit)?;
+        let cells = tail(&self.image, self.head.places.first);
+        let room = room_after_anew(self.head.version, cells, limit - front)?;
+        Some((front, limit - room))
+    }
+}
+
+impl<A: Allocator + Copy> Ccache<A> {
+    // The new image, in memory of exactly its length.
+    fn spelled_anew(&self, len: usize) -> Result<Vec<u8, A>, NoMemory>
+        requires { len ≡ length (image_of (rewrite_of self.now.state)) }
+        ensures { IfOk result (λ v. v.items ≡ image_of (rewrite_of self.now.state)) }
+    {
+        bytes_fit(&self.image);
+        let cells = tail(&self.image, self.head.places.first);
+        image_anew(
+            *self.image.allocator(),
+            &self.default_principal(),
+            self.offset(),
+            self.head.version,
+            cells,
+            len,
+        )
+    }
+
+    /// Writes the live credentials anew, in version 4 and in order, after a header that has the time offset alone,
+    /// if there is one, and the default principal. Each cursor is carried to the new place of the first live
+    /// credential at or after it, or to the new end. A damaged cache refuses, and then so does a limit that the new
+    /// image would pass. Memory is taken once, for the new image.
+    pub fn rewrite(&mut self, cursors: &mut [u32]) -> Result<(), Refusal>
+        requires { AllByRecursion (IsPlace (store_of self.old.state)) cursors.old }
+        ensures gives { RewriteGives (rewrite_result self.old.state) self.old.state result self.new.state }
+        ensures rewrites { OnOk result (Rewrites (store_of self.old.state) (store_of self.new.state)) }
+        ensures carries { OnOk result (cursors.new ≡ map (carry (store_of self.old.state) (store_of self.new.state)) cursors.old) }
+        ensures keeps { OnErr result (cursors.new ≡ cursors.old) }
+        ensures room { OnErr result (self.new.room ≡ self.old.room) }
+    {
+        if self.fault().is_some() {
+            return Err(Refusal::Code(Code::Damaged));
+        }
+        let Some((first, len)) = self.lens_anew() else {
+            return Err(Refusal::Code(Code::Full));
+        };
+        let Ok(image) = self.spelled_anew(len) else {
+            return Err(Refusal::NoMemory);
+        };
+        bytes_fit(&self.image);
+        bytes_fit(&image);
+        let principal = 2 + header_len(self.offset());
+        let old = self.head;
+        carry_cursors(old, &mut self.image, first, cursors);
+        self.image = image;
+        self.head = Head {
+            version: Version::V4,
+            limit: old.limit,
+            places: Places {
+                principal,
+                first,
+                end: len,
+            },
+        };
+        Ok(())
+    }
+}

@@ -1,0 +1,12 @@
+use Rattle.std.proofs.Common.{◌≡◌, ◌+◌, ◌^◌, ◌<◌, ◌↔◌, length}
+use Rattle.std.specs.List.{flat_map, AllByRecursion}
+use Rattle.krb_wire.specs.declared.format.Order.TheVariants.{Big}
+use Rattle.krb_wire.specs.Spelling.{data32, IsLong, cc_principal}
+use Rattle.krb_wire.proofs.cc_spelling.cc_principal_len.Given as goal
+
+abbrev pub invariant-loop-component : goal.invariant-loop-component
+invariant-loop-component g l = record {
+  len : l.len + length (flat_map (data32 Big) l.component-iterator) ≡ length (cc_principal (g.N.Name.parts l.name));
+  small : l.len < 2 ^ 64;
+  long : AllByRecursion IsLong (g.N.Name.parts l.name).components ↔ AllByRecursion IsLong l.component-iterator;
+}
