@@ -1,7 +1,10 @@
+mod changes;
+mod sessions;
+
 use crate::{CcOpenFault, Ccache, is_config};
 use krb_walk::{Fault, FaultKind, Stop};
 use krb_wire::{Limits, write_name};
-use std::alloc::Global;
+use std::alloc::{Allocator, Global};
 use std::test::Fail;
 
 // Written out by hand from MIT's description of the cache file format.
@@ -59,7 +62,7 @@ const VERSION_3: [&[u8]; 7] = [
     TICKET,
 ];
 
-fn joined(alloc: Global, parts: &[&[u8]]) -> Result<Vec<u8>, Fail> {
+fn joined<A: Allocator>(alloc: A, parts: &[&[u8]]) -> Result<Vec<u8, A>, Fail> {
     let mut bytes = Vec::new(alloc);
     for part in parts {
         bytes.extend_from_slice(part)?;
