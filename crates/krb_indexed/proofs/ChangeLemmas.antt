@@ -192,6 +192,7 @@ pub record LiveAt (k : KeytabState) (number place : ℕ) : Type 0 where
   pub stands : StandsAt k.contents.cells 2 place (Live bytes)
   pub count : length stands.front ≡ number
   pub slot : slot_at k number ≡ slot_of (end_place 2 stands.front, Live bytes)
+  pub is : live_bytes (store_of k) place ≡ Some bytes
 
 pub live_at : (k : KeytabState) (number place : ℕ) → IsLiveNumber k place number → LiveAt k number place
 live_at k number place h =
@@ -199,9 +200,9 @@ live_at k number place h =
     let b = bytes_of_live (live_bytes (store_of k) place) h.live in
     let s = live_stands cs 2 place b.0 (live_bytes_in-store 2 place cs ∙ b.1) in
     let count = number_is cs s.front (Live b.0 ∷ s.back) number s.parts h.inside (sym s.place ∙ sym h.place ∙ slot_place k number h.inside) in
-    record { bytes = b.0; stands = s; count = count; slot = ap (slot_at k) (sym count) ∙ slot_seam k s.front s.back (Live b.0) s.parts }
+    record { bytes = b.0; stands = s; count = count; slot = ap (slot_at k) (sym count) ∙ slot_seam k s.front s.back (Live b.0) s.parts; is = b.1 }
 
-stands_sound : (k : KeytabState) (p : ℕ) (c : Cell) → IsSound k.format k.contents → StandsAt k.contents.cells 2 p c → IsCell k.format c
+pub stands_sound : (k : KeytabState) (p : ℕ) (c : Cell) → IsSound k.format k.contents → StandsAt k.contents.cells 2 p c → IsCell k.format c
 stands_sound k p c sound s = (all_back (IsCell k.format) s.front (c ∷ s.back) (subst (AllByRecursion (IsCell k.format)) s.parts sound.cells)).0
 
 pub live_length : (k : KeytabState) (number place : ℕ) → IsSound k.format k.contents → IsLiveNumber k place number → 0 < (slot_at k number).length

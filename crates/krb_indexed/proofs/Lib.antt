@@ -8,3 +8,4 @@ pub mod IndexLemmas
 pub mod ChangeLemmas
 pub mod AppendLemmas
 pub mod RewriteLemmas
+pub mod BytesLemmas

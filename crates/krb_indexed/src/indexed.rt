@@ -17,7 +17,7 @@ ghost use Rattle.krb_indexed.specs.Slot.{places, slots_from, size, stop_of_slot,
 ghost use Rattle.krb_indexed.specs.Tree.{looks_for, IsHeightFor};
 
 use crate::slot::Slot;
-use crate::table::{first_live, rank, table_of};
+use crate::table::{first_live, rank, record_bytes, table_of};
 use crate::tree::Tree;
 use krb_keytab::{EntryView, Keytab, read_entry};
 use krb_walk::{Code, Fault, Stop};
@@ -242,7 +242,11 @@ impl<A: Allocator> Indexed<A> {
         ensures bytes { live_bytes (store_of self.now.state) place ≡ Some result.now }
         ensures entry { IsSome (entry_at self.now.state.format result.now) }
     {
-        self.keytab.bytes_at(place)
+        let image = self.image();
+        let Some(number) = self.live(place) else {
+            return &[];
+        };
+        record_bytes(image, place, self.slot(number).size())
     }
 
     /// The entry of the record at a place: none exactly where no live cell stands.

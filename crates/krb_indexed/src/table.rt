@@ -1,6 +1,6 @@
 //! A table of cells, in order.
 
-ghost use Rattle.std.specs.Prelude.{◌≡◌, ◌<◌, ◌≤◌, ◌+◌, ◌^◌, [], length, IfOk, vec_len, vec_capacity};
+ghost use Rattle.std.specs.Prelude.{◌≡◌, ◌<◌, ◌≤◌, ◌+◌, ◌^◌, [], length, take, drop, IfOk, vec_len, vec_capacity};
 ghost use Rattle.krb_indexed.specs.Slot.{first_live, slots_from, places, IsRising, IsRank};
 
 use crate::slot::Slot;
@@ -79,4 +79,14 @@ pub fn first_live(slots: &[Slot]) -> Option<Slot>
         }
     }
     None
+}
+
+/// The bytes of a record at a place of an image, after its length.
+pub fn record_bytes(image: &[u8], place: u32, size: u32) -> &[u8]
+    requires { place + 4 + size ≤ length image.now }
+    ensures { result.now ≡ take size (drop (place + 4) image.now) }
+{
+    let (_, rest) = image.split_at(place as usize + 4);
+    let (bytes, _) = rest.split_at(size as usize);
+    bytes
 }
