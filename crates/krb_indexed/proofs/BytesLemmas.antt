@@ -1,5 +1,5 @@
 -- The bytes of a record, where the table says that it stands.
-use Rattle.std.proofs.Common.{◌≡◌, ℕ, ◌+◌, ◌≤◌, List, [], ◌∷◌, ◌++◌, length, take, drop, refl, ap, ◌∙◌, arith, append_assoc, length-append}
+use Rattle.std.proofs.Common.{◌≡◌, ℕ, ◌+◌, ◌≤◌, List, [], ◌∷◌, ◌++◌, length, take, drop, sym, refl, ap, ◌∙◌, arith, append_assoc, length-append}
 use Rattle.std.specs.Int.{w32}
 use Rattle.std.specs.List.{flat_map}
 use Rattle.std.proofs.lemmas.Grind.{flat_map-append}
@@ -7,11 +7,15 @@ use Rattle.std.proofs.lemmas.List.{drop_at, take_at}
 use Rattle.std.proofs.lemmas.List.Concat.{flat_map-cons}
 use Rattle.krb_wire.specs.Spelling.{order_of, digits}
 use Rattle.krb_wire.proofs.Fields.{wide32}
+use Rattle.krb_walk.specs.Store.{live_bytes}
 use Rattle.krb_keytab.specs.Cells.{Live, IsSound, cell, end_bytes, version_byte}
-use Rattle.krb_keytab.specs.Store.{KeytabState, image_of}
+use Rattle.krb_keytab.specs.Store.{KeytabState, image_of, store_of}
 use Rattle.krb_keytab.specs.Questions.{end_place}
 use Rattle.krb_keytab.proofs.Cuts.{end_place_is}
 use Rattle.krb_keytab.proofs.Replaced.{StandsAt}
+use Rattle.std.specs.Prelude.{Option, IfSome}
+use Rattle.std.proofs.Common.{subst}
+use Rattle.krb_indexed.specs.declared.slot.Slot.{Slot}
 use Rattle.krb_indexed.specs.Slot.{size}
 use Rattle.krb_indexed.specs.Index.{slot_at, IsLiveNumber}
 use Rattle.krb_indexed.proofs.ChangeLemmas.{live_at, stands_sound}
@@ -48,3 +52,11 @@ number_bytes k number p image is sound h =
     let l = live_at k number p h in
     let small = (stands_sound k p (Live l.bytes) sound l.stands).1 in
     (bytes_stand k p l.bytes image is l.stands, ap size l.slot ∙ live_size (end_place 2 l.stands.front) l.bytes small)
+
+-- how many bytes it has
+pub live_count : (k : KeytabState) (number p : ℕ) (slot : Slot) → IsSound k.format k.contents → IsLiveNumber k p number → slot ≡ slot_at k number → IfSome (live_bytes (store_of k) p) (λ b. length b ≡ size slot)
+live_count k number p slot sound h is =
+    let l = live_at k number p h in
+    let small = (stands_sound k p (Live l.bytes) sound l.stands).1 in
+    let count : length l.bytes ≡ size slot = sym (ap size is ∙ ap size l.slot ∙ live_size (end_place 2 l.stands.front) l.bytes small) in
+    subst (λ (o : Option (List ℕ)). IfSome o (λ b. length b ≡ size slot)) (sym l.is) count

@@ -1,6 +1,6 @@
 //! One cell of an image turned into another of its size.
 
-ghost use Rattle.std.specs.Prelude.{◌≡◌, length, drop, IsSome, Some};
+ghost use Rattle.std.specs.Prelude.{◌≡◌, length, drop, IfSome, IsSome, Some};
 ghost use Rattle.krb_keytab.specs.Cells.{contents};
 ghost use Rattle.krb_keytab.specs.Questions.{live_bytes_in};
 ghost use Rattle.krb_keytab.specs.CellsFrom.{AreKnown};
@@ -8,17 +8,17 @@ ghost use Rattle.krb_keytab.specs.Image.{IsChanged};
 ghost use Rattle.krb_keytab.specs.Changes.{turned_at, zero_hole, record_in};
 ghost use Rattle.krb_keytab.specs.Hole.{hole_from};
 
-use crate::cells::Cells;
 use crate::form::Form;
 use crate::hole::Hole;
 use crate::image::CellsEnd;
 use crate::put::{bytes_fit, put_hole, put_record};
 use krb_wire::{KtFormat, Name};
 
-/// Makes the live cell at a place a hole of zeros.
-pub fn free_cell(format: KtFormat, image: &mut [u8], end: CellsEnd, place: usize)
+/// Makes the live cell of so many bytes at a place a hole of zeros.
+pub fn free_cell(format: KtFormat, image: &mut [u8], end: CellsEnd, place: usize, size: usize)
     requires known { AreKnown format image.old 2 end }
     requires live { IsSome (live_bytes_in 2 (contents format (drop 2 image.old)).cells place) }
+    requires size { IfSome (live_bytes_in 2 (contents format (drop 2 image.old)).cells place) (λ b. length b ≡ size) }
     ensures len { length image.new ≡ length image.old }
     ensures changed { IsChanged format image.old image.new (record {
       cells = turned_at 2 zero_hole place (contents format (drop 2 image.old)).cells;
@@ -26,13 +26,7 @@ pub fn free_cell(format: KtFormat, image: &mut [u8], end: CellsEnd, place: usize
     }) end }
 {
     bytes_fit(image);
-    let cells = Cells {
-        format,
-        image,
-        end,
-        place: 2,
-    };
-    let size = cells.live_at(place).len();
+    let _ = end;
     put_hole(format, image, place, size);
 }
 

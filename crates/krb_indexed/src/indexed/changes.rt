@@ -27,10 +27,11 @@ impl<A: Allocator> Indexed<A> {
         ensures room { self.new.room ≡ self.old.room }
     {
         let _ = self.image();
-        let slot = self.slot(number).turned();
-        self.keytab.free_at(place);
-        self.slots[number] = slot;
-        self.tree.set(number, slot.free_size());
+        let record = self.slot(number);
+        let hole = record.turned();
+        self.keytab.free_at(place, record.size() as usize);
+        self.slots[number] = hole;
+        self.tree.set(number, hole.free_size());
     }
 
     // Puts an entry into the first hole that takes it, which is the cell of a number.

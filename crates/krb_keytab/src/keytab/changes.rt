@@ -22,13 +22,24 @@ use krb_wire::Name;
 use std::alloc::Allocator;
 
 impl<A: Allocator> Keytab<A> {
-    /// Makes the record that stands at a place a hole of its size, all zeros. It looks at that place alone.
-    pub fn free_at(&mut self, place: u32)
+    /// Makes the record of so many bytes that stands at a place a hole of its size, all zeros. Nothing is read.
+    pub fn free_at(&mut self, place: u32, size: usize)
+        requires live { IsSome (live_bytes (store_of self.old.state) place) }
+        requires size { IfSome (live_bytes (store_of self.old.state) place) (λ b. length b ≡ size) }
+        ensures freed { self.new.state ≡ with_hole self.old.state place }
+        ensures room { self.new.room ≡ self.old.room }
+    {
+        free_cell(self.format, &mut self.image, self.end, place as usize, size);
+    }
+
+    // Makes the record at a place a hole.
+    fn free(&mut self, place: u32)
         requires { IsSome (live_bytes (store_of self.old.state) place) }
         ensures freed { self.new.state ≡ with_hole self.old.state place }
         ensures room { self.new.room ≡ self.old.room }
     {
-        free_cell(self.format, &mut self.image, self.end, place as usize);
+        let size = self.bytes_at(place).len();
+        self.free_at(place, size);
     }
 
     /// Makes the record at a place a hole of its size, all zeros (MIT krb5, "Keytab file format"). A
@@ -45,7 +56,7 @@ impl<A: Allocator> Keytab<A> {
         if self.record(place).is_none() {
             return Err(Code::NotLive);
         }
-        self.free_at(place);
+        self.free(place);
         Ok(())
     }
 

@@ -9,10 +9,10 @@ copied_some : (bytes : Option (Bor (List ℕ))) → is_some bytes ≡ true → I
 copied_some (Some b) e = refl
 copied_some None e = absurd cc
 
-pub free_at-requires : goal.free_at-requires
-free_at-requires g c = subst (λ (o : Option (List ℕ)). IsSome o) c.record.ensures (copied_some c.record.result c.if-is_none.ensures)
+pub free-requires : goal.free-requires
+free-requires g c = subst (λ (o : Option (List ℕ)). IsSome o) c.record.ensures (copied_some c.record.result c.if-is_none.ensures)
 
 pub returns-clause-gone : goal.returns-clause-gone
 returns-clause-gone g c =
-    let gives : cut_result c.args.self.now.state c.args.place ≡ Ok c.free_at.new.self.state = search rules in
-    removed_none c.args.self.now.state c.args.place c.free_at.new.self.state gives
+    let gives : cut_result c.args.self.now.state c.args.place ≡ Ok c.free.new.self.state = search rules in
+    removed_none c.args.self.now.state c.args.place c.free.new.self.state gives
