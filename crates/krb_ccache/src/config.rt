@@ -76,7 +76,5 @@ pub fn is_asked(
     let Some(name) = config_name(credential) else {
         return false;
     };
-    name.key == key
-        && same_text(name.principal, principal)
-        && same_name(owner, credential.client())
+    name.key == key && same_text(name.principal, principal) && same_name(owner, credential.client())
 }
