@@ -55,6 +55,14 @@ def instructions(words, env, longest, note, **streams):
     return int(found.group(1)) if found else None
 
 
+def peak(words, env, longest, note, **streams):
+    """Peak resident bytes, from time(1): a child of Python would count Python's own."""
+    if not os.path.exists("/usr/bin/time"):
+        return None
+    run(["/usr/bin/time", "-q", "-f", "%M", "-o", str(note), *words], env, longest, **streams)
+    return int(Path(note).read_text().split()[-1]) * 1024
+
+
 def mit(program):
     """MIT's program of that name on the path, and the version of its klist."""
     path, klist = shutil.which(program), shutil.which("klist")
