@@ -55,12 +55,13 @@ def instructions(words, env, longest, note, **streams):
     return int(found.group(1)) if found else None
 
 
-def peak(words, env, longest, note, **streams):
-    """Peak resident bytes, from time(1): a child of Python would count Python's own."""
-    if not os.path.exists("/usr/bin/time"):
+def heap(words, env, longest, note, **streams):
+    """The most bytes that a program holds at a time of what it takes by malloc."""
+    if shutil.which("valgrind") is None:
         return None
-    run(["/usr/bin/time", "-q", "-f", "%M", "-o", str(note), *words], env, longest, **streams)
-    return int(Path(note).read_text().split()[-1]) * 1024
+    grind = ["valgrind", "--tool=massif", "--peak-inaccuracy=0.0", f"--massif-out-file={note}"]
+    run(grind + words, env, longest, **streams)
+    return max(map(int, re.findall(r"mem_heap_B=(\d+)", Path(note).read_text())))
 
 
 def mit(program):
