@@ -37,16 +37,30 @@ def key_of(number, length):
     return (number * 0x9E3779B97F4A7C15 % 2**64).to_bytes(8, "big") * (length // 8)
 
 
+def service(number):
+    """The entry of that number: each server has two, enctype 17 with 16 key bytes and 18 with 32."""
+    server = number // 2
+    host = b"server%05d.ad.test" % server
+    enctype, length = ((17, 16), (18, 32))[number % 2]
+    key = key_of(number, length)
+    return record(b"AD.TEST", [b"host", host], server % 300 + 1, enctype, key)
+
+
 def services(entries):
-    """Two entries for each server: enctype 17 with 16 key bytes and 18 with 32."""
+    """So many entries of services."""
+    return HEAD + b"".join(map(service, range(entries)))
+
+
+def hole(size):
+    return struct.pack(">i", -size) + bytes(size)
+
+
+def mixed(cells, fitting, size):
+    """So many cells. Each fourth is a hole, of 1 to SIZE - 1 bytes, and the last FITTING are holes of SIZE."""
     made = [HEAD]
-    for number in range(entries):
-        server = number // 2
-        host = b"server%05d.ad.test" % server
-        enctype, length = ((17, 16), (18, 32))[number % 2]
-        key = key_of(number, length)
-        made.append(record(b"AD.TEST", [b"host", host], server % 300 + 1, enctype, key))
-    return b"".join(made)
+    for number in range(cells - fitting):
+        made.append(hole(number * 7 % (size - 1) + 1) if number % 4 == 3 else service(number))
+    return b"".join(made) + hole(size) * fitting
 
 
 def last_service(entries):
@@ -66,9 +80,8 @@ def components(count):
 
 def holes(count):
     """COUNT holes of one byte, with an entry before each tenth of them and one at the end."""
-    hole = struct.pack(">i", -1) + b"\0"
     entry = record(b"R", [b"host", b"a"], 1, 17, bytes(16))
-    return HEAD + (entry + hole * (count // 10)) * 10 + entry
+    return HEAD + (entry + hole(1) * (count // 10)) * 10 + entry
 
 
 def quoted(entries):

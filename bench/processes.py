@@ -55,6 +55,15 @@ def instructions(words, env, longest, note, **streams):
     return int(found.group(1)) if found else None
 
 
+def heap(words, env, longest, note, **streams):
+    """The most bytes that a program holds at a time of what it takes by malloc."""
+    if shutil.which("valgrind") is None:
+        return None
+    grind = ["valgrind", "--tool=massif", "--peak-inaccuracy=0.0", f"--massif-out-file={note}"]
+    run(grind + words, env, longest, **streams)
+    return max(map(int, re.findall(r"mem_heap_B=(\d+)", Path(note).read_text())))
+
+
 def mit(program):
     """MIT's program of that name on the path, and the version of its klist."""
     path, klist = shutil.which(program), shutil.which("klist")

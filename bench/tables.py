@@ -11,6 +11,21 @@ def ratio(part, whole, form="{:.3f}"):
     return "-" if part is None or not whole else form.format(part / whole)
 
 
+def error(values):
+    """The standard error of their median, as for normal values, from their middle half."""
+    low, _, high = statistics.quantiles(values, n=4)
+    return 1.253 * (high - low) / 1.349 / len(values) ** 0.5
+
+
+def digits(value):
+    return f"{value:,.1f}" if value < 100 else f"{value:,.0f}"
+
+
+def shown(value, error):
+    """A time for each operation; where it is within its error, a bound."""
+    return digits(value) if value > 2 * error else f"< {digits(max(value, 0) + 2 * error)}"
+
+
 def name_of(row):
     return f"{row.size:,} {row.unit}"
 

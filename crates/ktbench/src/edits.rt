@@ -6,7 +6,7 @@ ghost use Rattle.krb_keytab.specs.Store.{store_of};
 
 use crate::fault::Fault;
 use krb_keytab::{Keytab, NewEntry};
-use krb_walk::Stop;
+use krb_walk::{Placed, Stop};
 use krb_wire::parse_name;
 use std::alloc::{Allocator, Global};
 
@@ -31,13 +31,13 @@ fn entry(alloc: Global, number: u32) -> Result<NewEntry<Global>, Fault>
 }
 
 /// Adds that many entries, each with a name of its own.
-pub fn add_all<A: Allocator>(
+pub fn add_all<P: Placed<Item = NewEntry<Global>>>(
     alloc: Global,
-    keytab: &mut Keytab<A>,
+    keytab: &mut P,
     additions: u32,
 ) -> Result<(), Fault> {
     for number in 0..additions {
-        if keytab.add(&entry(alloc, number)?).is_err() {
+        if keytab.put(&entry(alloc, number)?).is_err() {
             return Err(Fault::Refused);
         }
     }
@@ -77,9 +77,9 @@ pub fn last_records<A: Allocator>(
 }
 
 /// Removes the records at those places.
-pub fn remove_all<A: Allocator>(keytab: &mut Keytab<A>, places: &[u32]) -> Result<(), Fault> {
+pub fn remove_all<P: Placed>(keytab: &mut P, places: &[u32]) -> Result<(), Fault> {
     for place in places {
-        if keytab.remove_at(*place).is_err() {
+        if keytab.cut(*place).is_err() {
             return Err(Fault::Refused);
         }
     }

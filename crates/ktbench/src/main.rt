@@ -1,4 +1,4 @@
-//! Changes a keytab file for the benchmark alone: `ktbench FILE ADDITIONS REMOVALS`.
+//! Changes a keytab file for the benchmark alone: `ktbench FILE ADDITIONS REMOVALS [indexed]`.
 #![tactic(auto)]
 
 mod edits;
@@ -7,8 +7,11 @@ mod task;
 
 use edits::{add_all, last_records, remove_all};
 use fault::Fault;
-use krb_keytab::Keytab;
+use krb_indexed::Indexed;
+use krb_keytab::{Keytab, NewEntry};
+use krb_walk::Placed;
 use krb_wire::{Limits, Order};
+use std::alloc::Global;
 use std::fs::OpenFile;
 use std::io::Write;
 use std::{fs, rt};
@@ -24,6 +27,31 @@ fn write_over<R: rt::Files>(rt: &R, name: &str, bytes: &[u8]) -> Result<(), Faul
         .map_err(|_| Fault::Write)
 }
 
+// Adds that many entries, and removes the records at those places.
+fn change<P: Placed<Item = NewEntry<Global>>>(
+    alloc: Global,
+    keytab: &mut P,
+    additions: u32,
+    places: &[u32],
+) -> Result<(), Fault> {
+    add_all(alloc, keytab, additions)?;
+    remove_all(keytab, places)
+}
+
+// The keytab after the same changes, which a table of its cells made.
+fn changed_by_table(
+    alloc: Global,
+    keytab: Keytab<Global>,
+    additions: u32,
+    places: &[u32],
+) -> Result<Keytab<Global>, Fault> {
+    let Ok(mut indexed) = Indexed::of(alloc, keytab) else {
+        return Err(Fault::NoMemory);
+    };
+    change(alloc, &mut indexed, additions, places)?;
+    Ok(indexed.into_keytab())
+}
+
 // Reads the file, changes the keytab in memory and writes it back; the answer is its length then. What
 // is removed are the records that stood last before the additions.
 fn edit<R: rt::Files + AllocGlobal>(rt: &R, task: &Task) -> Result<usize, Fault> {
@@ -34,8 +62,11 @@ fn edit<R: rt::Files + AllocGlobal>(rt: &R, task: &Task) -> Result<usize, Fault>
         return Err(Fault::NotAKeytab);
     };
     let last = last_records(rt.alloc(), &keytab, task.removals)?;
-    add_all(rt.alloc(), &mut keytab, task.additions)?;
-    remove_all(&mut keytab, &last)?;
+    if task.indexed {
+        keytab = changed_by_table(rt.alloc(), keytab, task.additions, &last)?;
+    } else {
+        change(rt.alloc(), &mut keytab, task.additions, &last)?;
+    }
     write_over(rt, task.file.as_str(), keytab.image())?;
     Ok(keytab.image().len())
 }
