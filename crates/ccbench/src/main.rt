@@ -1,0 +1,48 @@
+//! Changes a credential cache file for the benchmark alone: `ccbench FILE STORES REMOVALS`.
+#![tactic(auto)]
+
+mod changes;
+mod fault;
+mod task;
+
+use changes::{last_places, remove_all, store_all};
+use fault::Fault;
+use krb_ccache::Ccache;
+use krb_wire::Limits;
+use std::fs::OpenFile;
+use std::io::Write;
+use std::{fs, rt};
+use task::Task;
+
+// Writes a file over, and waits until the disk has it.
+fn write_over<R: rt::Files>(rt: &R, name: &str, bytes: &[u8]) -> Result<(), Fault> {
+    fs::create(rt, name)
+        .and_then(|mut file| {
+            file.write_all(bytes)?;
+            file.sync_all()
+        })
+        .map_err(|_| Fault::Write)
+}
+
+// Reads the file, changes the cache in memory and writes it back; the answer is its length then. What is
+// removed are the credentials that stood last before the stores.
+fn change<R: rt::Files + AllocGlobal>(rt: &R, task: &Task) -> Result<usize, Fault> {
+    let Ok(image) = fs::read(rt, task.file.as_str()) else {
+        return Err(Fault::Read);
+    };
+    let Ok(mut cache) = Ccache::open(image, Limits::usual()) else {
+        return Err(Fault::NotACache);
+    };
+    let last = last_places(rt.alloc(), &cache, task.removals)?;
+    store_all(rt.alloc(), &mut cache, task.stores)?;
+    remove_all(&mut cache, &last)?;
+    write_over(rt, task.file.as_str(), cache.image())?;
+    Ok(cache.image().len())
+}
+
+fn main(rt: HostRuntime) -> Result<(), Fault> {
+    let task = Task::of(&rt)?;
+    let len = change(&rt, &task)?;
+    let (stored, removed) = (task.stores, task.removals);
+    println!(rt; "{stored} stored, {removed} removed, {len} bytes").map_err(|_| Fault::Write)
+}

@@ -1,0 +1,34 @@
+//! What the command line asks for.
+
+use crate::fault::Fault;
+use std::{env, rt};
+
+/// What the command line asks for.
+#[derive(Drop)]
+pub struct Task {
+    pub file: String,
+    pub stores: u32,
+    pub removals: u32,
+}
+
+fn number(word: &str) -> Result<u32, Fault> {
+    word.parse::<u32>().map_err(|_| Fault::BadLine)
+}
+
+impl Task {
+    /// What stands behind the program's name: a file and two numbers.
+    pub fn of<R: rt::Env + AllocGlobal>(rt: &R) -> Result<Task, Fault> {
+        let Ok(words) = env::args(rt) else {
+            return Err(Fault::BadLine);
+        };
+        let words: Vec<String> = words.collect(rt.alloc())?;
+        let [_, file, stores, removals] = words.as_slice() else {
+            return Err(Fault::BadLine);
+        };
+        Ok(Task {
+            file: file.clone()?,
+            stores: number(stores.as_str())?,
+            removals: number(removals.as_str())?,
+        })
+    }
+}
