@@ -18,7 +18,7 @@ use Rattle.std.proofs.Common.{subst}
 use Rattle.krb_indexed.specs.declared.slot.Slot.{Slot}
 use Rattle.krb_indexed.specs.Slot.{size}
 use Rattle.krb_indexed.specs.Index.{slot_at, IsLiveNumber}
-use Rattle.krb_indexed.proofs.ChangeLemmas.{live_at, stands_sound}
+use Rattle.krb_indexed.proofs.LiveLemmas.{live_at, stands_sound}
 use Rattle.krb_indexed.proofs.StopLemmas.{live_size}
 
 regroup : (h f d b g e : List ℕ) → h ++ ((f ++ ((d ++ b) ++ g)) ++ e) ≡ (h ++ (f ++ d)) ++ (b ++ (g ++ e))

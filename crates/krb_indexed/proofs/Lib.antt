@@ -5,6 +5,7 @@ pub mod PlaceLemmas
 pub mod StopLemmas
 pub mod FitLemmas
 pub mod IndexLemmas
+pub mod LiveLemmas
 pub mod ChangeLemmas
 pub mod AppendLemmas
 pub mod RewriteLemmas

@@ -5,7 +5,7 @@ use Rattle.krb_keytab.specs.Store.{store_of}
 use Rattle.krb_keytab.proofs.Stores.{entry_held}
 use Rattle.krb_indexed.specs.Slot.{size}
 use Rattle.krb_indexed.proofs.BytesLemmas.{number_bytes}
-use Rattle.krb_indexed.proofs.ChangeLemmas.{live_at}
+use Rattle.krb_indexed.proofs.LiveLemmas.{live_at}
 use Rattle.krb_indexed.proofs.indexed.Indexed.bytes_at.Goals as goal
 
 pub record_bytes-requires : goal.record_bytes-requires

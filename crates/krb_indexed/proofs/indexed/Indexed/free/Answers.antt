@@ -9,7 +9,8 @@ use Rattle.krb_keytab.proofs.Stores.{state_is}
 use Rattle.krb_indexed.specs.declared.slot.Slot.{Slot}
 use Rattle.krb_indexed.specs.Slot.{turned, free_size}
 use Rattle.krb_indexed.specs.Index.{slot_at}
-use Rattle.krb_indexed.proofs.ChangeLemmas.{IsKept, live_length, freed_kept}
+use Rattle.krb_indexed.proofs.LiveLemmas.{live_length}
+use Rattle.krb_indexed.proofs.ChangeLemmas.{IsKept, freed_kept}
 use Rattle.krb_indexed.proofs.indexed.Indexed.free.Goals as goal
 
 pub turned-hole-requires : goal.turned-hole-requires

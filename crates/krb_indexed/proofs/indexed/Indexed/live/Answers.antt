@@ -4,7 +4,7 @@ use Rattle.krb_indexed.specs.declared.slot.Slot.{Slot}
 use Rattle.krb_indexed.specs.Slot.{is_free}
 use Rattle.krb_indexed.proofs.IndexLemmas.{table_held}
 use Rattle.krb_indexed.proofs.PlaceLemmas.{slots_len}
-use Rattle.krb_indexed.proofs.ChangeLemmas.{live_after_all, live_elsewhere, live_free, live_number}
+use Rattle.krb_indexed.proofs.LiveLemmas.{live_after_all, live_elsewhere, live_free, live_number}
 use Rattle.krb_indexed.proofs.indexed.Indexed.live.Goals as goal
 
 pub returns-then-number-len-clause-none : goal.returns-then-number-len-clause-none
