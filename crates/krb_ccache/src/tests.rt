@@ -1,3 +1,4 @@
+mod as_mit;
 mod changes;
 mod sessions;
 

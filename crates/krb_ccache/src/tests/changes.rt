@@ -14,7 +14,7 @@ const OFFSET: Offset = Offset {
     micros: -10,
 };
 
-fn created<A: Allocator + Copy>(
+pub fn created<A: Allocator + Copy>(
     alloc: A,
     names: Global,
     offset: Option<Offset>,
