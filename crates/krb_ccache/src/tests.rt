@@ -1,5 +1,6 @@
 mod as_mit;
 mod changes;
+mod refusals;
 mod sessions;
 
 use crate::{CcOpenFault, Ccache, is_config};
