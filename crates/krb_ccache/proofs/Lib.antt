@@ -18,3 +18,8 @@ pub mod Given
 pub mod CursorLemmas
 pub mod Rewrites
 pub mod RewriteHeld
+pub mod AskedLemmas
+pub mod LastPlaced
+pub mod ConfigHeld
+pub mod SettingLemmas
+pub mod SettingHeld

@@ -53,7 +53,7 @@ all_here P [] after c all = all.0
 all_here P (x ∷ before) after c all = all_here P before after c all.1
 
 -- a mark keeps a credential's numbers in their range
-fits_marked : (k : CacheState) (c : CredParts) → FitsCredential k.version c → FitsCredential k.version (marked c)
+pub fits_marked : (k : CacheState) (c : CredParts) → FitsCredential k.version c → FitsCredential k.version (marked c)
 fits_marked k c fit = record {
   client = fit.client;
   server = fit.server;

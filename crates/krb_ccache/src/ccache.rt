@@ -2,6 +2,7 @@
 
 mod changes;
 mod rewriting;
+mod settings;
 
 ghost use Rattle.std.specs.Prelude.{◌≡◌, IsSome, IfOk, IfErr, IfSome, IfNone, Ok, Err, Some, None, option_copied, vec_capacity};
 ghost use Rattle.krb_wire.specs.Reading.{Gives};

@@ -7,9 +7,11 @@ ghost use Rattle.krb_ccache.specs.Typed.{config_parts};
 use crate::credential::CredView;
 use krb_wire::{Name, PrincipalView, same_name};
 
-const REALM: &[u8] = b"X-CACHECONF:";
+/// The realm of the server of each configuration entry.
+pub const REALM: &[u8] = b"X-CACHECONF:";
 
-const FIRST: &[u8] = b"krb5_ccache_conf_data";
+/// The first component of that server.
+pub const FIRST: &[u8] = b"krb5_ccache_conf_data";
 
 /// What a configuration entry holds its value under: a key, and perhaps a principal's text.
 #[derive(Clone, Copy)]

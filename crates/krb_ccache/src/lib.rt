@@ -4,6 +4,7 @@
 
 mod anew;
 mod append;
+mod asked;
 mod carry;
 mod ccache;
 mod cells;
@@ -20,6 +21,8 @@ mod mark;
 mod offset;
 mod open;
 mod placed;
+mod replace;
+mod setting;
 mod times;
 mod typed;
 mod version;

@@ -55,7 +55,7 @@ impl<A: Allocator> Ccache<A> {
     }
 
     // Whether it refuses additions and removals.
-    fn is_read_only(&self) -> bool
+    pub(super) fn is_read_only(&self) -> bool
         ensures { result ≡ is_read_only self.now.state.version }
     {
         match self.head.version {

@@ -1,0 +1,84 @@
+//! A configuration entry that takes the place of others, in place.
+
+ghost use Rattle.std.specs.Prelude.{◌≡◌, ◌≤◌, ◌+◌, ◌++◌, [], length, take, IfOk, OnErr, vec_len};
+ghost use Rattle.krb_ccache.specs.declared.version.Version.TheVariants.{V4};
+ghost use Rattle.krb_ccache.specs.Credential.{credential, FitsCredential};
+ghost use Rattle.krb_ccache.specs.Store.{image_of};
+ghost use Rattle.krb_ccache.specs.Changes.{with_last};
+ghost use Rattle.krb_ccache.specs.Open.{held_by, Holds, IsImage};
+ghost use Rattle.krb_ccache.specs.SetConfig.{setting_entry, without_asked};
+
+use crate::append::grow;
+use crate::asked::mark_asked;
+use crate::cells::bytes_fit;
+use crate::open::{Head, Places};
+use crate::setting::Setting;
+use krb_wire::{split_cc_principal, tail};
+use std::alloc::{AllocError, Allocator};
+
+// Marks the entries of an image that hold a value under the name of a setting, and writes its entry into the room
+// after the image.
+fn write_over(head: Head, image: &mut [u8], room: &mut [u8], setting: &Setting<'_>)
+    requires kept { IsImage head.version head.limit image.old head.places }
+    requires version { head.version ≡ V4 }
+    requires fits { FitsCredential V4 (setting_entry (held_by head image.old).principal setting.now) }
+    requires room { length room.old ≡ length (credential V4 (setting_entry (held_by head image.old).principal setting.now)) }
+    ensures marked { image.new ≡ image_of (without_asked (held_by head image.old) setting.now.key setting.now.principal) }
+    ensures written { room.new ≡ credential V4 (setting_entry (held_by head image.old).principal setting.now) }
+{
+    bytes_fit(image);
+    let (front, cells) = image.split_at_mut(head.places.first);
+    let Some((owner, _)) = split_cc_principal(tail(front, head.places.principal)) else {
+        unreachable!()
+    };
+    mark_asked(head.version, &owner, setting.key, setting.principal, cells);
+    let _ = setting.put(&owner, room, 0);
+}
+
+// The same in an image whose room stands from a place on.
+fn write_into<A: Allocator>(head: Head, image: &mut Vec<u8, A>, end: usize, setting: &Setting<'_>)
+    requires end { end ≤ vec_len image.old }
+    requires kept { IsImage head.version head.limit (take end image.old.items) head.places }
+    requires version { head.version ≡ V4 }
+    requires fits { FitsCredential V4 (setting_entry (held_by head (take end image.old.items)).principal setting.now) }
+    requires room { vec_len image.old ≡ end + length (credential V4 (setting_entry (held_by head (take end image.old.items)).principal setting.now)) }
+    ensures { image.new.items ≡ image_of (without_asked (held_by head (take end image.old.items)) setting.now.key setting.now.principal)
+        ++ credential V4 (setting_entry (held_by head (take end image.old.items)).principal setting.now) }
+{
+    let (image, room) = image.split_at_mut(end);
+    write_over(head, image, room, setting);
+}
+
+/// Puts the entry of a setting after the last credential, and marks all that hold a value under its name. Memory is
+/// asked for first. The answer is what is known of the image then.
+pub fn replace_settings<A: Allocator>(
+    image: &mut Vec<u8, A>,
+    head: Head,
+    setting: &Setting<'_>,
+    len: usize,
+) -> Result<Head, AllocError>
+    requires kept { IsImage head.version head.limit image.old.items head.places }
+    requires version { head.version ≡ V4 }
+    requires whole { (held_by head image.old.items).contents.end ≡ [] }
+    requires fits { FitsCredential V4 (setting_entry (held_by head image.old.items).principal setting.now) }
+    requires len { len ≡ length (credential V4 (setting_entry (held_by head image.old.items).principal setting.now)) }
+    requires room { vec_len image.old + len ≤ head.limit }
+    ensures ok { IfOk result (λ h. Holds h image.new.items
+        (with_last (without_asked (held_by head image.old.items) setting.now.key setting.now.principal) (setting_entry (held_by head image.old.items).principal setting.now))) }
+    ensures err { OnErr result (image.new.items ≡ image.old.items) }
+{
+    bytes_fit(image);
+    let end = image.len();
+    grow(image, len)?;
+    write_into(head, image, end, setting);
+    bytes_fit(image);
+    Ok(Head {
+        version: head.version,
+        limit: head.limit,
+        places: Places {
+            principal: head.places.principal,
+            first: head.places.first,
+            end: end + len,
+        },
+    })
+}
