@@ -84,3 +84,83 @@ fn a_removed_configuration_entry_keeps_its_realm(rt: HostRuntime) -> Result<(), 
     assert!(rt; cache.image() == after.as_slice());
     Ok(())
 }
+
+// A value that is set; the count of its server's components, those after the first, and the value's length as MIT's
+// library wrote them.
+struct Set {
+    key: &'static [u8],
+    principal: Option<&'static [u8]>,
+    value: &'static [u8],
+    count: &'static [u8],
+    components: &'static [u8],
+    len: &'static [u8],
+}
+
+const SETS: [Set; 5] = [
+    Set {
+        key: b"k",
+        principal: None,
+        value: b"",
+        count: b"\0\0\0\x02",
+        components: b"\0\0\0\x01k",
+        len: b"\0\0\0\0",
+    },
+    Set {
+        key: b"sp",
+        principal: None,
+        value: b"a b",
+        count: b"\0\0\0\x02",
+        components: b"\0\0\0\x02sp",
+        len: b"\0\0\0\x03",
+    },
+    Set {
+        key: b"nl",
+        principal: None,
+        value: b"x\ny\x7f\xc3\xbc\\z",
+        count: b"\0\0\0\x02",
+        components: b"\0\0\0\x02nl",
+        len: b"\0\0\0\x08",
+    },
+    Set {
+        key: b"long",
+        principal: None,
+        value: &[b'v'; 200],
+        count: b"\0\0\0\x02",
+        components: b"\0\0\0\x04long",
+        len: b"\0\0\0\xc8",
+    },
+    Set {
+        key: b"odd=key(x)",
+        principal: Some(b"a/b@R"),
+        value: b"1",
+        count: b"\0\0\0\x03",
+        components: b"\0\0\0\x0aodd=key(x)\0\0\0\x05a/b@R",
+        len: b"\0\0\0\x01",
+    },
+];
+
+const CONFIG_REALM: &[u8] = b"\0\0\0\x0cX-CACHECONF:\0\0\0\x15krb5_ccache_conf_data";
+
+#[test]
+fn configuration_values_are_set(rt: HostRuntime) -> Result<(), Fail> {
+    let Ok(mut cache) = created(rt.alloc(), rt.alloc(), None)? else {
+        return Err(Fail::from("no cache"));
+    };
+    let mut image = joined(rt.alloc(), &[FRONT, OWNER])?;
+    for set in &SETS {
+        let place = image.len() as u32;
+        assert!(rt; cache.set_config(set.key, set.principal, set.value) == Ok(place));
+        let server = [
+            OWNER,
+            b"\0\0\0\x01",
+            set.count,
+            CONFIG_REALM,
+            set.components,
+        ];
+        image.extend_from_slice(&joined(rt.alloc(), &server)?)?;
+        let rest = [&[0; 35], set.len, set.value, b"\0\0\0\0"];
+        image.extend_from_slice(&joined(rt.alloc(), &rest)?)?;
+        assert!(rt; cache.image() == image.as_slice());
+    }
+    Ok(())
+}
