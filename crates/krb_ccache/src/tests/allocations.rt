@@ -5,8 +5,9 @@ use super::{
     CACHE, CONFIG, CONFIG_SERVER, KEY, KRBTGT, KRBTGT_TEXT, OWNER, PA_TYPE, TICKET, TIMES, joined,
     opened,
 };
-use crate::{Ccache, Cred};
-use krb_walk::{Event, Refusal, Session, Stop};
+use crate::{Ccache, Cred, EditRefused, edit_cache};
+use krb_walk::{Event, Refusal, Reply, Session, Stop};
+use krb_wire::Limits;
 use refusing::{Refusing, refuse_each};
 use std::alloc::{Allocator, Global};
 use std::process::Abort;
@@ -66,12 +67,23 @@ fn set<R: Abort + AllocGlobal>(rt: &R, heap: &Refusing<Global>, n: u64) -> Resul
     Ok(())
 }
 
+// The image after events, and whether memory ran out.
+fn edited<A: Allocator + Copy>(
+    alloc: A,
+    image: Vec<u8, A>,
+    events: &[Event<Cred<A>>],
+    replies: &mut Vec<Reply<A>, A>,
+) -> Result<(Vec<u8, A>, bool), Fail> {
+    match edit_cache(alloc, image, Limits::usual(), events, replies) {
+        Ok(image) => Ok((image, false)),
+        Err(EditRefused::NoMemory(image)) => Ok((image, true)),
+        Err(EditRefused::NotACache(_)) => Err(Fail::from("no cache")),
+    }
+}
+
 // After a refusal the events that have no reply yet lead to the image that they lead to without one.
 fn run<R: Abort + AllocGlobal>(rt: &R, heap: &Refusing<Global>, n: u64) -> Result<(), Fail> {
-    let Some(ticket) = ticket(heap, rt.alloc())? else {
-        return Err(Fail::from("out of memory"));
-    };
-    let mut session = Session::new(heap, exact(heap, rt.alloc())?);
+    let ticket = ticket(heap, rt.alloc())?.ok_or("out of memory")?;
     let events = [
         Event::Start,
         Event::Step(0),
@@ -79,21 +91,30 @@ fn run<R: Abort + AllocGlobal>(rt: &R, heap: &Refusing<Global>, n: u64) -> Resul
         Event::Cut(40),
         Event::Rewrite,
     ];
+    let image = Vec::from_slice(heap, &joined(rt.alloc(), &CACHE)?)?;
     let mut replies = Vec::new(heap);
     heap.refuse(n);
-    let ran = session.run(&events, &mut replies);
-    assert!(rt; ran.is_err() == heap.refused());
+    let (image, ran_out) = edited(heap, image, &events, &mut replies)?;
+    assert!(rt; ran_out == heap.refused());
     if replies.len() < 3 {
-        assert!(rt; is_unchanged(session.store(), rt.alloc())?);
+        assert!(rt; image.as_slice() == joined(rt.alloc(), &CACHE)?.as_slice());
     }
     let rest = events.get(replies.len()..).ok_or("too many replies")?;
-    assert!(rt; session.run(rest, &mut replies).is_ok() && replies.len() == 5);
+    let (image, _) = edited(heap, image, rest, &mut replies)?;
     let front = b"\x05\x04\0\x0c\0\x01\0\x08\0\0\0\x05\xff\xff\xff\xf6".as_slice();
     let entry = &[front, OWNER, OWNER, CONFIG_SERVER, CONFIG];
-    let mut image = joined(rt.alloc(), entry)?;
-    image.extend_from_slice(&joined(rt.alloc(), &[OWNER, KRBTGT, KEY, TIMES, TICKET])?)?;
-    assert!(rt; session.store().image() == image.as_slice());
+    let mut after = joined(rt.alloc(), entry)?;
+    after.extend_from_slice(&joined(rt.alloc(), &[OWNER, KRBTGT, KEY, TIMES, TICKET])?)?;
+    assert!(rt; replies.len() == 5 && image.as_slice() == after.as_slice());
     Ok(())
+}
+
+// Where a walk stops at its first two steps.
+fn two_stops<A: Allocator + Copy>(alloc: A, cache: Ccache<A>) -> Option<(Stop, Stop)> {
+    let mut session = Session::new(alloc, cache);
+    session.apply(&Event::Start).ok()?;
+    let first = session.step(0).ok()?;
+    Some((first, session.step(0).ok()?))
 }
 
 #[test]
@@ -118,13 +139,11 @@ fn what_takes_no_memory_succeeds_where_all_is_refused(rt: HostRuntime) -> Result
     assert!(rt; cache.config(PA_TYPE, KRBTGT_TEXT) == Some(b"2".as_slice()));
     // There is room for the entry.
     assert!(rt; cache.set_config(PA_TYPE, KRBTGT_TEXT, b"3") == Ok(392));
-    let mut session = Session::new(&heap, cache);
-    assert!(rt; session.apply(&Event::Start).is_ok());
     let live = Stop::Live {
         place: 392,
         next: 528,
     };
-    assert!(rt; session.step(0) == Ok(live) && session.step(0) == Ok(Stop::End { next: 528 }));
+    assert!(rt; two_stops(&heap, cache) == Some((live, Stop::End { next: 528 })));
     assert!(rt; !heap.refused());
     Ok(())
 }

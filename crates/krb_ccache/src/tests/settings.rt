@@ -97,22 +97,28 @@ fn all_values_under_a_name_are_replaced(rt: HostRuntime) -> Result<(), Fail> {
     Ok(())
 }
 
+// Entries, without the client, of a file that the library of MIT 1.20.1 wrote.
+const MIT_EMPTY: &[u8] =
+    b"\0\0\0\x01\0\0\0\x02\0\0\0\x0cX-CACHECONF:\0\0\0\x15krb5_ccache_conf_data\0\0\0\x01k\0\0\0\0\0\0\0\0\0\0\0\0\0\0\0\0\0\0\0\0\0\0\0\0\0\0\0\0\0\0\0\0\0\0\0\0\0\0\0\0\0\0\0";
+
+const MIT_SPACED: &[u8] =
+    b"\0\0\0\x01\0\0\0\x02\0\0\0\x0cX-CACHECONF:\0\0\0\x15krb5_ccache_conf_data\0\0\0\x02sp\0\0\0\0\0\0\0\0\0\0\0\0\0\0\0\0\0\0\0\0\0\0\0\0\0\0\0\0\0\0\0\0\0\0\0\0\0\0\x03a b\0\0\0\0";
+
+const MIT_ODD: &[u8] =
+    b"\0\0\0\x01\0\0\0\x03\0\0\0\x0cX-CACHECONF:\0\0\0\x15krb5_ccache_conf_data\0\0\0\x0aodd=key(x)\0\0\0\x05a/b@R\0\0\0\0\0\0\0\0\0\0\0\0\0\0\0\0\0\0\0\0\0\0\0\0\0\0\0\0\0\0\0\0\0\0\0\0\0\0\x011\0\0\0\0";
+
 #[test]
-fn a_value_is_set_for_a_key_alone(rt: HostRuntime) -> Result<(), Fail> {
+fn entries_are_spelled_as_mit_spells_them(rt: HostRuntime) -> Result<(), Fail> {
     let mut cache = opened(joined(rt.alloc(), &[NO_HEADER, OWNER])?)?;
-    assert!(rt; cache.set_config(PA_TYPE, None, b"3") == Ok(22));
+    let are_placed = cache.set_config(b"k", None, b"") == Ok(22)
+        && cache.set_config(b"sp", None, b"a b") == Ok(137)
+        && cache.set_config(b"odd=key(x)", Some(b"a/b@R"), b"1") == Ok(256);
     let image = joined(
         rt.alloc(),
         &[
-            NO_HEADER,
-            OWNER,
-            OWNER,
-            SERVER_WITHOUT_PRINCIPAL,
-            NO_KEY,
-            NO_TIMES,
-            THREE,
+            NO_HEADER, OWNER, OWNER, MIT_EMPTY, OWNER, MIT_SPACED, OWNER, MIT_ODD,
         ],
     )?;
-    assert!(rt; cache.image() == image.as_slice());
+    assert!(rt; are_placed && cache.image() == image.as_slice());
     Ok(())
 }
