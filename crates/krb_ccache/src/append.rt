@@ -1,6 +1,6 @@
 //! Credentials put after the last of an image.
 
-ghost use Rattle.std.specs.Prelude.{◌≡◌, ◌≤◌, ◌^◌, ◌+◌, ◌++◌, [], length, replicate, IfOk, OnOk, OnErr, vec_len, vec_capacity};
+ghost use Rattle.std.specs.Prelude.{◌≡◌, ◌≤◌, ◌<◌, ◌^◌, ◌+◌, ◌++◌, [], length, replicate, IfOk, OnOk, OnErr, vec_len, vec_capacity};
 ghost use Rattle.std.specs.List.{splice};
 ghost use Rattle.krb_ccache.specs.declared.version.Version.TheVariants.{V4};
 ghost use Rattle.krb_ccache.specs.Credential.{credential, FitsCredential};
@@ -17,6 +17,7 @@ pub fn grow<A: Allocator>(image: &mut Vec<u8, A>, more: usize) -> Result<(), All
     requires { vec_len image.old + more ≤ 2 ^ 30 }
     ensures ok { OnOk result (image.new.items ≡ image.old.items ++ replicate more 0) }
     ensures err { OnErr result (image.new.items ≡ image.old.items) }
+    ensures full { OnErr result (vec_capacity image.old < vec_len image.old + more) }
 {
     let len = image.len();
     image.resize(len + more, 0)
@@ -46,6 +47,7 @@ pub fn append_credential<A: Allocator, B: Allocator>(
     requires room { vec_len image.old + len ≤ head.limit }
     ensures ok { IfOk result (λ h. Holds h image.new.items (with_last (held_by head image.old.items) cred.now)) }
     ensures err { OnErr result (image.new.items ≡ image.old.items) }
+    ensures full { OnErr result (vec_capacity image.old < vec_len image.old + len) }
 {
     bytes_fit(image);
     let end = image.len();

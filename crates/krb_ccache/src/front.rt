@@ -4,7 +4,7 @@ ghost use Rattle.std.specs.Prelude.{◌≡◌, ◌≤◌, ◌<◌, ◌^◌, ◌+
 ghost use Rattle.std.specs.List.{splice};
 ghost use Rattle.krb_wire.specs.Spelling.{FitsCc};
 ghost use Rattle.krb_ccache.specs.declared.version.Version.TheVariants.{V4};
-ghost use Rattle.krb_ccache.specs.Header.{header};
+ghost use Rattle.krb_ccache.specs.Header.{header, offset_in};
 ghost use Rattle.krb_ccache.specs.Changes.{new_header, new_front};
 ghost use Rattle.krb_ccache.specs.Rewrite.{texts_anew};
 
@@ -23,6 +23,16 @@ pub fn header_len(offset: Option<Offset>) -> usize
     match offset {
         None => 2,
         Some(_) => 14,
+    }
+}
+
+/// A new header tells the offset that it is made for.
+pub fn tells_offset(offset: Option<Offset>)
+    ensures { offset_in (new_header offset) ≡ offset }
+{
+    if let Some(offset) = offset {
+        let _seconds = offset.seconds;
+        let _micros = offset.micros;
     }
 }
 

@@ -1,6 +1,6 @@
 //! A configuration entry that takes the place of others, in place.
 
-ghost use Rattle.std.specs.Prelude.{◌≡◌, ◌≤◌, ◌+◌, ◌++◌, [], length, take, IfOk, OnErr, vec_len};
+ghost use Rattle.std.specs.Prelude.{◌≡◌, ◌≤◌, ◌<◌, ◌+◌, ◌++◌, [], length, take, IfOk, OnErr, vec_len, vec_capacity};
 ghost use Rattle.krb_ccache.specs.declared.version.Version.TheVariants.{V4};
 ghost use Rattle.krb_ccache.specs.Credential.{credential, FitsCredential};
 ghost use Rattle.krb_ccache.specs.Store.{image_of};
@@ -66,6 +66,7 @@ pub fn replace_settings<A: Allocator>(
     ensures ok { IfOk result (λ h. Holds h image.new.items
         (with_last (without_asked (held_by head image.old.items) setting.now.key setting.now.principal) (setting_entry (held_by head image.old.items).principal setting.now))) }
     ensures err { OnErr result (image.new.items ≡ image.old.items) }
+    ensures full { OnErr result (vec_capacity image.old < vec_len image.old + len) }
 {
     bytes_fit(image);
     let end = image.len();

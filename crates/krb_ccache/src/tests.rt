@@ -1,7 +1,9 @@
+mod allocations;
 mod as_mit;
 mod changes;
 mod refusals;
 mod sessions;
+mod settings;
 
 use crate::{CcOpenFault, Ccache, is_config};
 use krb_walk::{Fault, FaultKind, Stop};
@@ -33,6 +35,10 @@ const CONFIG_SERVER: &[u8] =
 
 const CONFIG: &[u8] =
     b"\0\0\0\0\0\0\0\0\0\0\0\0\0\0\0\0\0\0\0\0\0\0\0\0\0\0\0\0\0\0\0\0\0\0\0\0\0\0\x012\0\0\0\0";
+
+const PA_TYPE: &[u8] = b"pa_type";
+
+const KRBTGT_TEXT: Option<&[u8]> = Some(b"krbtgt/R@R");
 
 // A ticket, the configuration entry `pa_type` for `krbtgt/R@R`, and a ticket that is removed.
 const CACHE: [&[u8]; 15] = [
@@ -72,8 +78,16 @@ fn joined<A: Allocator>(alloc: A, parts: &[&[u8]]) -> Result<Vec<u8, A>, Fail> {
     Ok(bytes)
 }
 
-fn opened(image: Vec<u8>) -> Result<Ccache<Global>, Fail> {
+fn opened<A: Allocator>(image: Vec<u8, A>) -> Result<Ccache<A>, Fail> {
     match Ccache::open(image, Limits::usual()) {
+        Ok(cache) => Ok(cache),
+        Err(_) => Err(Fail::from("no cache")),
+    }
+}
+
+fn opened_within(image: Vec<u8>, limit: u32) -> Result<Ccache<Global>, Fail> {
+    let limits = Limits::of(limit).ok_or("no limits")?;
+    match Ccache::open(image, limits) {
         Ok(cache) => Ok(cache),
         Err(_) => Err(Fail::from("no cache")),
     }
@@ -101,9 +115,9 @@ fn a_cache_is_read(rt: HostRuntime) -> Result<(), Fail> {
         return Err(Fail::from("no entry"));
     };
     assert!(rt; is_config(&entry) && cache.cred_at(284).is_none());
-    let held = cache.config(b"pa_type", Some(b"krbtgt/R@R"));
+    let held = cache.config(PA_TYPE, KRBTGT_TEXT);
     assert!(rt; held == Some(b"2".as_slice()));
-    assert!(rt; cache.config(b"pa_type", None).is_none());
+    assert!(rt; cache.config(PA_TYPE, None).is_none());
     Ok(())
 }
 

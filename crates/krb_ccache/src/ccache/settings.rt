@@ -1,10 +1,11 @@
 //! Configuration values that are set in a cache.
 
-ghost use Rattle.std.specs.Prelude.{◌≡◌, [], true, Some, IfOk, option_copied};
+ghost use Rattle.std.specs.Prelude.{◌≡◌, ◌≤◌, ◌+◌, [], length, true, Some, IfOk, option_copied};
 ghost use Rattle.krb_walk.specs.Rules.{PutGives};
 ghost use Rattle.krb_walk.specs.Memory.{HadMemory};
 ghost use Rattle.krb_ccache.specs.declared.version.Version.TheVariants.{V4};
-ghost use Rattle.krb_ccache.specs.Store.{credential_at_place};
+ghost use Rattle.krb_ccache.specs.Credential.{credential};
+ghost use Rattle.krb_ccache.specs.Store.{image_of, credential_at_place};
 ghost use Rattle.krb_ccache.specs.Changes.{append_result, is_refused};
 ghost use Rattle.krb_ccache.specs.SetConfig.{without_asked, config_entry, setting_entry, set_config_result, HoldsConfig};
 
@@ -23,6 +24,8 @@ impl<A: Allocator> Ccache<A> {
         ensures gives { PutGives (append_result (without_asked self.old.state setting.now.key setting.now.principal) (setting_entry self.old.state.principal setting.now))
             self.old.state result self.new.state }
         ensures memory { is_refused (append_result (without_asked self.old.state setting.now.key setting.now.principal) (setting_entry self.old.state.principal setting.now)) ≡ true
+            → HadMemory result }
+        ensures room { length (image_of self.old.state) + length (credential V4 (setting_entry self.old.state.principal setting.now)) ≤ self.old.room
             → HadMemory result }
     {
         bytes_fit(&self.image);
@@ -55,6 +58,9 @@ impl<A: Allocator> Ccache<A> {
         ensures there { IfOk result (λ place. credential_at_place self.new.state place
             ≡ Some (config_entry self.old.state.principal key.now (option_copied principal.entry) value.now)) }
         ensures memory { is_refused (set_config_result self.old.state key.now (option_copied principal.entry) value.now) ≡ true
+            → HadMemory result }
+        // Nor is memory asked for where there is room for the entry.
+        ensures room { length (image_of self.old.state) + length (credential V4 (config_entry self.old.state.principal key.now (option_copied principal.entry) value.now)) ≤ self.old.room
             → HadMemory result }
     {
         if self.is_read_only() {

@@ -2,9 +2,10 @@ use Rattle.std.proofs.Common.{◌≡◌, ◌+◌, ◌<◌, ◌≤◌, ℕ, lengt
 use Rattle.krb_wire.proofs.Fields.{IsBytes}
 use Rattle.krb_ccache.specs.declared.version.Version.TheVariants.{V4}
 use Rattle.krb_ccache.specs.Credential.{credential}
-use Rattle.krb_ccache.specs.Store.{CacheState}
+use Rattle.krb_ccache.specs.Store.{CacheState, image_of}
 use Rattle.krb_ccache.specs.Changes.{with_last, is_refused}
 use Rattle.krb_ccache.specs.Open.{InMemory, held_by}
+use Rattle.krb_ccache.proofs.Held.{is_held}
 use Rattle.krb_ccache.proofs.Appended.{append_full, append_fits}
 use Rattle.krb_ccache.proofs.ccache.Ccache.append.Goals as goal
 
@@ -40,3 +41,15 @@ returns-in-Err-clause-memory g c = λ refused.
     let no = ap is_refused (append_fits i.head i.image.items k x fits c.self.invariant same c.requires.whole c.requires.version short) in
     let never = sym no ∙ refused in
     absurd cc
+
+pub returns-in-Err-clause-room : goal.returns-in-Err-clause-room
+returns-in-Err-clause-room g c = λ room.
+    let i = c.self.inside in
+    let fits : IsBytes i.image.items = rw c.deref.ensures.value at c.bytes_fit.ensures in
+    let same : held_by i.head i.image.items ≡ c.args.self.now.state = ap (λ (m : InMemory). m.state) c.self.view_is in
+    let spells = ap length ((is_held i.head.version i.head.limit i.image.items i.head.places fits c.self.invariant).spells ∙ ap image_of same) in
+    let known = ap (λ (m : InMemory). m.room) c.self.view_is in
+    let ok = i.image.ok.0 in
+    let len = c.in-Some.ensures.some in
+    let full = c.in-Err.ensures.full in
+    absurd (omega (arith, room, spells, known, ok, len, full))

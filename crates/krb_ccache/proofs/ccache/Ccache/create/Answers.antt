@@ -1,5 +1,6 @@
 use Rattle.std.proofs.Common.{ℕ, ◌+◌, ◌≤◌, Ok, sym, ap, ◌∙◌, arith, length}
 use Rattle.krb_wire.proofs.Fields.{IsBytes}
+use Rattle.krb_ccache.specs.Header.{offset_in}
 use Rattle.krb_ccache.specs.Store.{CacheState}
 use Rattle.krb_ccache.specs.Changes.{create_result, new_front}
 use Rattle.krb_ccache.proofs.FrontLemmas.{empty_held, create_fits}
@@ -24,3 +25,13 @@ returns-clause-ok g c =
     let held = empty_held p c.args.offset c.image-limit.result c.spell_front.new.image.items (2 + c.header_len.result) c.in-Some.len c.in-Some.ensures.fits fits c.spell_front.ensures
     short c.image-limit.ensures.most (ap (λ (n : ℕ). 2 + n) c.header_len.ensures) len in
     ap (create_result p c.args.offset) (sym c.image-limit.ensures.value) ∙ create_fits p c.args.offset c.image-limit.result short ∙ ap (λ (s : CacheState). Ok s) (sym held.state)
+
+pub returns-clause-offset : goal.returns-clause-offset
+returns-clause-offset g c =
+    let p = g.N.Name.parts c.args.default.now in
+    let fits : IsBytes c.spell_front.new.image.items = rw c.deref.ensures.value at c.bytes_fit.ensures in
+    let len = c.in-Some.ensures.some in
+    let within = c.in-Some.ensures.within in
+    let held = empty_held p c.args.offset c.image-limit.result c.spell_front.new.image.items (2 + c.header_len.result) c.in-Some.len c.in-Some.ensures.fits fits c.spell_front.ensures
+    (omega (arith, len, within)) c.image-limit.ensures.most (ap (λ (n : ℕ). 2 + n) c.header_len.ensures) len in
+    ap (λ (s : CacheState). offset_in s.header) held.state ∙ c.tells_offset.ensures

@@ -3,10 +3,11 @@ use Rattle.krb_wire.specs.Spelling.{Parts}
 use Rattle.krb_wire.proofs.Fields.{IsBytes}
 use Rattle.krb_ccache.specs.declared.version.Version.TheVariants.{V4}
 use Rattle.krb_ccache.specs.Credential.{credential}
-use Rattle.krb_ccache.specs.Store.{CacheState}
+use Rattle.krb_ccache.specs.Store.{CacheState, image_of}
 use Rattle.krb_ccache.specs.Changes.{with_last, is_refused}
 use Rattle.krb_ccache.specs.SetConfig.{without_asked, setting_entry}
 use Rattle.krb_ccache.specs.Open.{InMemory, held_by}
+use Rattle.krb_ccache.proofs.Held.{is_held}
 use Rattle.krb_ccache.proofs.SettingHeld.{set_full, set_fits}
 use Rattle.krb_ccache.proofs.ccache.Ccache.replace.Goals as goal
 
@@ -48,3 +49,17 @@ returns-in-Err-clause-memory g c = λ refused.
     let fitting = ap is_refused (set_fits i.head i.image.items k s x fits c.self.invariant same c.requires.whole c.requires.version short) in
     let never = sym fitting ∙ refused in
     absurd cc
+
+pub returns-in-Err-clause-room : goal.returns-in-Err-clause-room
+returns-in-Err-clause-room g c = λ room.
+    let i = c.self.inside in
+    let s = c.args.setting.now in
+    let fits : IsBytes i.image.items = rw c.deref.ensures.value at c.bytes_fit.ensures in
+    let same : held_by i.head i.image.items ≡ c.args.self.now.state = ap (λ (m : InMemory). m.state) c.self.view_is in
+    let text = ap (λ (p : Parts). length (credential V4 (setting_entry p s))) c.default_principal.ensures in
+    let spells = ap length ((is_held i.head.version i.head.limit i.image.items i.head.places fits c.self.invariant).spells ∙ ap image_of same) in
+    let known = ap (λ (m : InMemory). m.room) c.self.view_is in
+    let ok = i.image.ok.0 in
+    let len = c.in-Some.ensures.some in
+    let full = c.in-Err.ensures.full in
+    absurd (omega (arith, room, spells, known, ok, len, full, text))
