@@ -1,0 +1,11 @@
+use Rattle.std.proofs.Common.{◌≡◌, ℕ, length, take, drop, map}
+use Rattle.std.specs.List.{AllByRecursion}
+use Rattle.krb_walk.specs.Carry.{GoesBy}
+use Rattle.krb_walk.proofs.carry.carry_all.Given as goal
+
+abbrev pub invariant-loop-cursor : goal.invariant-loop-cursor
+invariant-loop-cursor l = record {
+  len : length l.cursors ≡ length l.fn.cursors;
+  behind : drop l.cursor-index l.cursors ≡ drop l.cursor-index l.fn.cursors;
+  new_place : (go : ℕ → ℕ) → AllByRecursion (GoesBy l.image l.end l.last go) l.fn.cursors → take l.cursor-index l.cursors ≡ map go (take l.cursor-index l.fn.cursors);
+}
