@@ -14,7 +14,6 @@ pub mod Again
 pub mod FrontLemmas
 pub mod StoreChanges
 pub mod AnewLemmas
-pub mod Given
-pub mod CursorLemmas
 pub mod Rewrites
+pub mod Passed
 pub mod RewriteHeld
