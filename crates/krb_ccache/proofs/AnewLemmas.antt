@@ -36,9 +36,6 @@ pub flat_anew : (cs : List CredParts) → flat_map text_anew cs ≡ flat_map (cr
 flat_anew [] = refl
 flat_anew (c ∷ cs) = flat_by c cs (is_marked c) refl (flat_anew cs)
 
-pub removed_text : (c : CredParts) → is_marked c ≡ true → [] ≡ text_anew c
-removed_text c e = rw e refl
-
 pub live_text : (c : CredParts) → is_marked c ≡ false → credential V4 (in_version_4 c) ≡ text_anew c
 live_text c e = rw e refl
 

@@ -14,9 +14,8 @@ pub mod Again
 pub mod FrontLemmas
 pub mod StoreChanges
 pub mod AnewLemmas
-pub mod Given
-pub mod CursorLemmas
 pub mod Rewrites
+pub mod Passed
 pub mod RewriteHeld
 pub mod AskedLemmas
 pub mod LastPlaced

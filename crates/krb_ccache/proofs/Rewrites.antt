@@ -1,19 +1,15 @@
 -- A cache that is written anew, as a store.
-use Rattle.std.proofs.Common.{◌≡◌, ◌≢◌, ℕ, suc, ◌+◌, ◌^◌, ◌<◌, ◌≤◌, Bool, true, false, cond, Ok, Err, Some, None, List, [], ◌∷◌, ◌++◌, length, map, inl, inr, refl, sym, ap, subst, ◌∙◌, append_assoc, length-append, arith}
-use Rattle.std.specs.Prelude.{nat_le, nat_lt, is_some}
+use Rattle.std.proofs.Common.{◌≡◌, ℕ, suc, ◌+◌, ◌≤◌, Bool, true, false, Ok, Some, None, List, [], ◌∷◌, ◌++◌, length, map, refl, sym, ap, subst, ◌∙◌, append_assoc, length-append, arith}
+use Rattle.std.specs.Prelude.{nat_lt, is_some}
 use Rattle.std.specs.List.{flat_map, AllByRecursion}
-use Rattle.std.proofs.lemmas.Bool.{cases_lt, lt-ltb, le-ltb}
-use Rattle.std.proofs.lemmas.Bool.Decides.{nat_tests}
+use Rattle.std.proofs.lemmas.Bool.{le-ltb}
 use Rattle.std.proofs.lemmas.List.{append-nil}
 use Rattle.krb_wire.specs.Spelling.{cc_principal}
 use Rattle.krb_wire.proofs.Fields.{IsBytes}
 use Rattle.krb_walk.specs.Contents.{next_by, spelling}
-use Rattle.krb_walk.specs.declared.refusal.Code.TheVariants.{Full}
-use Rattle.krb_walk.specs.Store.{Cell, end_from, end_of, fault_of, is_place_from}
-use Rattle.krb_walk.specs.Ranks.{nth_or, carry, Rewrites}
+use Rattle.krb_walk.specs.Store.{Cell, end_of, fault_of}
+use Rattle.krb_walk.specs.Ranks.{Rewrites}
 use Rattle.krb_walk.proofs.Lives.{lives}
-use Rattle.krb_walk.proofs.Places.{place_in}
-use Rattle.krb_walk.proofs.Carries.{lives_rise, below, below_none, below_some}
 use Rattle.krb_ccache.specs.declared.version.Version.{Version}
 use Rattle.krb_ccache.specs.declared.version.Version.TheVariants.{V4}
 use Rattle.krb_ccache.specs.Credential.{CredParts, credential, is_marked, FitsCredential}
@@ -22,14 +18,13 @@ use Rattle.krb_ccache.specs.Header.{header, offset_in}
 use Rattle.krb_ccache.specs.Store.{CacheState, credentials_format, image_of, store_cell, store_of, kind_of, first_place, live_by}
 use Rattle.krb_ccache.specs.Changes.{new_header, new_front}
 use Rattle.krb_ccache.specs.Open.{Holds}
-use Rattle.krb_ccache.specs.Rewrite.{new_cells, rewrite_of, rewrite_result, text_anew, new_place}
-use Rattle.krb_ccache.specs.Carry.{AreGiven, HasGiven, GoesBy}
+use Rattle.krb_ccache.specs.Rewrite.{new_cells, rewrite_of, rewrite_result, text_anew}
 use Rattle.krb_ccache.proofs.HeaderFields.{IsBytes-front, IsBytes-back}
 use Rattle.krb_ccache.proofs.Splits.{no_credential}
 use Rattle.krb_ccache.proofs.CellLemmas.{end_is}
 use Rattle.krb_ccache.proofs.Kept.{IsKept, holds}
 use Rattle.krb_ccache.proofs.FrontLemmas.{header_kept}
-use Rattle.krb_ccache.proofs.AnewLemmas.{flat_anew, removed_text, live_text}
+use Rattle.krb_ccache.proofs.AnewLemmas.{flat_anew}
 use Rattle.krb_ccache.proofs.StoreChanges.{cells_wide, whole_of, live_cell}
 
 -- ---- the new image
@@ -92,9 +87,6 @@ rewrite_held k image limit principal first end kept fits is is_limit within is_p
 pub rewrite_fits : (k : CacheState) → is_some (fault_of (store_of k)) ≡ false → length (image_of (rewrite_of k)) ≤ k.limit → rewrite_result k ≡ Ok (rewrite_of k)
 rewrite_fits k whole short = let room : nat_lt k.limit (length (image_of (rewrite_of k))) ≡ false = le-ltb _ _ short in rw (whole, room) refl
 
-pub rewrite_full : (k : CacheState) → is_some (fault_of (store_of k)) ≡ false → k.limit < length (image_of (rewrite_of k)) → rewrite_result k ≡ Err Full
-rewrite_full k whole long = let full : nat_lt k.limit (length (image_of (rewrite_of k))) ≡ true = lt-ltb _ _ long in rw (whole, full) refl
-
 -- ---- its store
 
 -- a removed credential is left out, and a live one is a live cell
@@ -144,102 +136,6 @@ rewrites_store k whole = record {
   all_live = all_live k.contents.cells;
   as_many = as_many k.version k.contents.cells (first_place k) (first_place (rewrite_of k));
 }
-
--- ---- where a place is carried
-
--- told by the ranks of live cells, among these and the new ones
-abbrev among : ℕ → List Cell → ℕ → List Cell → ℕ → ℕ
-among at xs to ys p = nth_or (end_from to ys) (lives to ys) (below p (lives at xs))
-
-abbrev by_rank : Version → ℕ → List CredParts → ℕ → ℕ → ℕ
-by_rank v at cs to p = among at (map (store_cell v) cs) to (map (store_cell V4) (new_cells cs)) p
-
-abbrev first_among : ℕ → List Cell → ℕ
-first_among to ys = nth_or (end_from to ys) (lives to ys) 0
-
-first_by : (c : CredParts) (cs : List CredParts) (to : ℕ) (b : Bool) → is_marked c ≡ b → first_among to (map (store_cell V4) (new_cells cs)) ≡ to → first_among to (map (store_cell V4) (new_cells (c ∷ cs))) ≡ to
-first_by c cs to true e ih = ap (first_among to) (cells_removed c cs e) ∙ ih
-first_by c cs to false e ih = ap (first_among to) (cells_live c cs e)
-
-first_of : (cs : List CredParts) (to : ℕ) → first_among to (map (store_cell V4) (new_cells cs)) ≡ to
-first_of [] to = refl
-first_of (c ∷ cs) to = first_by c cs to (is_marked c) refl (first_of cs to)
-
-at_or_after : (v : Version) (at to p : ℕ) (cs : List CredParts) → p ≤ at → by_rank v at cs to p ≡ to
-at_or_after v at to p cs le =
-    let ps = lives at (map (store_cell v) cs) in
-    let none : below p ps ≡ 0 = below_none p at (end_from at (map (store_cell v) cs)) ps le (lives_rise at (map (store_cell v) cs) (cells_wide v cs)) in
-    ap (nth_or (end_from to (map (store_cell V4) (new_cells cs))) (lives to (map (store_cell V4) (new_cells cs)))) none ∙ first_of cs to
-
-later_by : (v : Version) (at to p : ℕ) (c : CredParts) (cs : List CredParts) (b : Bool) → is_marked c ≡ b → at < p → by_rank v at (c ∷ cs) to p ≡ by_rank v (at + length (credential v c)) cs (to + length (text_anew c)) p
-later_by v at to p c cs true e lt =
-    let none : length (text_anew c) ≡ 0 = ap length (sym (removed_text c e)) in
-    ap (λ (xs : List Cell). among at xs to (map (store_cell V4) (new_cells (c ∷ cs))) p) (old_removed v c cs e)
-    ∙ ap (λ (ys : List Cell). among (at + length (credential v c)) (map (store_cell v) cs) to ys p) (cells_removed c cs e)
-    ∙ ap (λ (n : ℕ). by_rank v (at + length (credential v c)) cs n p) (let same : to ≡ to + length (text_anew c) = omega (arith, none) in same)
-later_by v at to p c cs false e lt =
-    let ds = map (store_cell V4) (new_cells cs) in
-    let to2 = to + length (credential V4 (in_version_4 c)) in
-    let old = map (store_cell v) cs in
-    ap (λ (xs : List Cell). among at xs to (map (store_cell V4) (new_cells (c ∷ cs))) p) (old_live v c cs e)
-    ∙ ap (λ (ys : List Cell). among at (record { width = length (credential v c); live = Some (credential v c) } ∷ old) to ys p) (cells_live c cs e)
-    ∙ ap (nth_or (end_from to2 ds) (to ∷ lives to2 ds)) (below_some p at (lives (at + length (credential v c)) old) lt)
-    ∙ ap (λ (t : List ℕ). by_rank v (at + length (credential v c)) cs (to + length t) p) (live_text c e)
-
-carried_by : (v : Version) (at to p : ℕ) (c : CredParts) (cs : List CredParts) (n : ℕ) → (p ≤ at → n ≡ to) → (at < p → n ≡ new_place v (at + length (credential v c)) cs (to + length (text_anew c)) p) → new_place v at (c ∷ cs) to p ≡ n
-carried_by v at to p c cs n here later = elim (cases_lt at p) [
-  | inl lt ↦ let no : nat_le p at ≡ false = grind (arith, nat_tests) in rw no (sym (later lt))
-  | inr le ↦ let yes : nat_le p at ≡ true = grind (arith, nat_tests) in rw yes (sym (here le))
-]
-
-carried_is : (v : Version) (cs : List CredParts) (at to p : ℕ) → new_place v at cs to p ≡ by_rank v at cs to p
-carried_is v [] at to p = refl
-carried_is v (c ∷ cs) at to p =
-    carried_by v at to p c cs (by_rank v at (c ∷ cs) to p) (λ le. at_or_after v at to p (c ∷ cs) le)
-    (λ lt. later_by v at to p c cs (is_marked c) refl lt ∙ sym (carried_is v cs (at + length (credential v c)) (to + length (text_anew c)) p))
-
-pub carry_is : (k : CacheState) (p : ℕ) → new_place k.version (first_place k) k.contents.cells (first_place (rewrite_of k)) p ≡ carry (store_of k) (store_of (rewrite_of k)) p
-carry_is k p = carried_is k.version k.contents.cells (first_place k) (first_place (rewrite_of k)) p
-
-one_of : (b : Bool) (m n end : ℕ) → m ≤ end → n ≤ end → cond b m n ≤ end
-one_of true m n end x y = x
-one_of false m n end x y = y
-
--- a place goes no farther than the new end
-pub carried_le : (v : Version) (cs : List CredParts) (at to p : ℕ) → new_place v at cs to p ≤ to + length (flat_map text_anew cs)
-carried_le v [] at to p = omega arith
-carried_le v (c ∷ cs) at to p =
-    let len = length-append (text_anew c) (flat_map text_anew cs) in
-    one_of (nat_le p at) to (new_place v (at + length (credential v c)) cs (to + length (text_anew c)) p) _ (omega arith)
-    (omega (arith, carried_le v cs (at + length (credential v c)) (to + length (text_anew c)) p, len))
-
--- ---- cursors
-
-place_before : (v : Version) (at : ℕ) (cs : List CredParts) (p end : ℕ) → is_place_from at (map (store_cell v) cs) p ≡ true → end_from at (map (store_cell v) cs) ≡ end → p ≢ end → p < end
-place_before v at cs p end h is ne = elim (cases_lt p end) [
-  | inl lt ↦ lt
-  | inr le ↦ absurd (ne (omega (arith, le, is, place_in at (map (store_cell v) cs) p h)))
-]
-
-pub all_given : (v : Version) (image : List ℕ) (at : ℕ) (cs : List CredParts) (to end : ℕ) (cursors : List ℕ) → AreGiven v image at cs to → end_from at (map (store_cell v) cs) ≡ end → AllByRecursion (λ p. is_place_from at (map (store_cell v) cs) p ≡ true) cursors → AllByRecursion (HasGiven image end) cursors
-all_given v image at cs to end [] given is h = tt
-all_given v image at cs to end (p ∷ ps) given is h = (λ ne. (given p h.0 (let lt = place_before v at cs p end h.0 is ne in omega (arith, lt, is))).within, all_given v image at cs to end ps given is h.1)
-
-pub all_go : (v : Version) (image : List ℕ) (at : ℕ) (cs : List CredParts) (to end last : ℕ) (cursors : List ℕ) → AreGiven v image at cs to → end_from at (map (store_cell v) cs) ≡ end → last ≡ new_place v at cs to (end_from at (map (store_cell v) cs)) → to + length (flat_map text_anew cs) < 2 ^ 32
-    → AllByRecursion (λ p. is_place_from at (map (store_cell v) cs) p ≡ true) cursors → AllByRecursion (GoesBy image end last (new_place v at cs to)) cursors
-all_go v image at cs to end last [] given is is_last small h = tt
-all_go v image at cs to end last (p ∷ ps) given is is_last small h = (
-  record {
-    small = omega (arith, carried_le v cs at to p, small);
-    ends = λ e. is_last ∙ ap (new_place v at cs to) (is ∙ sym e);
-    told = λ ne. given p h.0 (let lt = place_before v at cs p end h.0 is ne in omega (arith, lt, is));
-  },
-  all_go v image at cs to end last ps given is is_last small h.1,
-)
-
-pub map_same : (f g : ℕ → ℕ) (xs : List ℕ) → ((x : ℕ) → f x ≡ g x) → map f xs ≡ map g xs
-map_same f g [] same = refl
-map_same f g (x ∷ xs) same = ap (λ (n : ℕ). n ∷ map f xs) (same x) ∙ ap (λ (ys : List ℕ). g x ∷ ys) (map_same f g xs same)
 
 pub first_anew : (k : CacheState) (n : ℕ) → n ≡ length (new_front k.principal (offset_in k.header)) → n ≡ first_place (rewrite_of k)
 first_anew k n is = omega (arith, is, length-append (header V4 (new_header (offset_in k.header))) (cc_principal k.principal))

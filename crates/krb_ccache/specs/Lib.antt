@@ -13,6 +13,5 @@ pub mod Laws
 pub mod Cells
 pub mod Mark
 pub mod Rewrite
-pub mod Carry
 pub mod Placed
 pub mod Edit

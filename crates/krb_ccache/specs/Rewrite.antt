@@ -1,5 +1,5 @@
 -- Writing a cache anew.
-use Rattle.std.specs.Prelude.{◌≡◌, ℕ, List, [], length, map, filter, not, is_some, Option, Some, Result, Ok, Err, nat_lt, nat_le, ◌+◌, ◌∷◌, if◌then◌else◌}
+use Rattle.std.specs.Prelude.{◌≡◌, ℕ, List, [], length, map, filter, not, is_some, Option, Some, Result, Ok, Err, nat_lt, if◌then◌else◌}
 use Rattle.std.specs.List.{flat_map}
 use Rattle.std.specs.Int.{w16}
 use Rattle.krb_wire.specs.declared.format.Order.TheVariants.{Big}
@@ -59,8 +59,3 @@ pub record ReadsAnew (v : Version) (bytes put after : List ℕ) : Type 0 where
   pub cell : CredParts
   pub read : credential_at v bytes ≡ Some (cell, after)
   pub text : put ≡ text_anew cell
-
--- where a place goes: to the place of what is written anew for the first credential at or after it; those from at on are written from to on
-abbrev pub new_place : Version → ℕ → List CredParts → ℕ → ℕ → ℕ
-new_place v at [] to p = to
-new_place v at (c ∷ cs) to p = if nat_le p at then to else new_place v (at + length (credential v c)) cs (to + length (text_anew c)) p

@@ -19,6 +19,5 @@ pub mod WrittenLemmas
 pub mod FoundAgain
 pub mod AnewLemmas
 pub mod Given
-pub mod CursorLemmas
 pub mod Rewrites
 pub mod CarryLemmas

@@ -136,10 +136,6 @@ pub is_place_held : (f : KtFormat) (limit : ℕ) (image bytes : List ℕ) (k : K
 is_place_held f limit image bytes k p answer same is said =
     said ∙ ap (λ (b : List ℕ). is_place_in 2 (contents f (drop 2 b)).cells p) same ∙ is_place_in-store 2 p (contents f (drop 2 image)).cells ∙ ap (λ (x : KeytabState). is_store_place (store_of x) p) is
 
-pub place_held : (f : KtFormat) (limit : ℕ) (image bytes : List ℕ) (k : KeytabState) (p : ℕ) → bytes ≡ image → keytab_of f limit image ≡ k → is_store_place (store_of k) p ≡ true → is_place_in 2 (contents f (drop 2 bytes)).cells p ≡ true
-place_held f limit image bytes k p same is h =
-    is_place_held f limit image bytes k p (is_place_in 2 (contents f (drop 2 bytes)).cells p) same is refl ∙ h
-
 pub live_held : (f : KtFormat) (limit : ℕ) (image bytes : List ℕ) (k : KeytabState) (p : ℕ) → bytes ≡ image → keytab_of f limit image ≡ k → live_bytes_in 2 (contents f (drop 2 bytes)).cells p ≡ store_bytes (store_of k) p
 live_held f limit image bytes k p same is =
     ap (λ (b : List ℕ). live_bytes_in 2 (contents f (drop 2 b)).cells p) same ∙ live_bytes_in-store 2 p (contents f (drop 2 image)).cells ∙ ap (λ (x : KeytabState). store_bytes (store_of x) p) is

@@ -43,6 +43,13 @@ impl<'a> CellView<'a> {
         }
     }
 
+    /// How wide it is, with its length.
+    pub(crate) fn width(self) -> usize
+        ensures { result ≡ (store_cell (cell_of self.entry)).width }
+    {
+        4 + self.bytes().len()
+    }
+
     // Its bytes, if it is live.
     fn live(self) -> Option<&'a [u8]>
         ensures { option_copied result ≡ (store_cell (cell_of self.entry)).live }

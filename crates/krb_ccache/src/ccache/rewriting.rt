@@ -13,12 +13,12 @@ ghost use Rattle.krb_ccache.specs.Rewrite.{rewrite_of, rewrite_result};
 
 use super::Ccache;
 use crate::anew::room_after_anew;
-use crate::carry::carry_cursors;
+use crate::carry::OldCells;
 use crate::cells::bytes_fit;
 use crate::front::{front_len, header_len, image_anew};
 use crate::open::{Head, Places};
 use crate::version::Version;
-use krb_walk::{Code, Refusal};
+use krb_walk::{Code, Refusal, carry_cursors};
 use krb_wire::{NoMemory, tail};
 use std::alloc::Allocator;
 
@@ -81,7 +81,16 @@ impl<A: Allocator + Copy> Ccache<A> {
         bytes_fit(&image);
         let principal = 2 + header_len(self.offset());
         let old = self.head;
-        carry_cursors(old, &mut self.image, first, cursors);
+        let mut cells = OldCells {
+            version: old.version,
+        };
+        carry_cursors(
+            &mut cells,
+            &mut self.image,
+            old.places.first,
+            first,
+            cursors,
+        );
         self.image = image;
         self.head = Head {
             version: Version::V4,

@@ -10,11 +10,11 @@ ghost use Rattle.krb_keytab.specs.Rewrite.{rewrite_result};
 
 use super::Keytab;
 use crate::anew::{anew_is_sound, image_anew, len_anew};
-use crate::carry::carry_cursors;
+use crate::carry::OldCells;
 use crate::cells::Cells;
 use crate::image::CellsEnd;
 use crate::step::Ending;
-use krb_walk::{Code, Refusal};
+use krb_walk::{Code, Refusal, carry_cursors};
 use krb_wire::KtFormat;
 use std::alloc::Allocator;
 
@@ -52,7 +52,12 @@ impl<A: Allocator + Copy> Keytab<A> {
             end,
             place: 2,
         };
-        carry_cursors(self.format, &mut self.image, self.end, new, cursors);
+        let mut old = OldCells {
+            format: self.format,
+            end: self.end,
+            new,
+        };
+        carry_cursors(&mut old, &mut self.image, 2, 2, cursors);
         self.image = image;
         self.format = KtFormat::V2;
         self.end = end;

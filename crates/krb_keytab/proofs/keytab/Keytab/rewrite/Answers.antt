@@ -1,22 +1,38 @@
-use Rattle.std.proofs.Common.{◌≡◌, ◌≤◌, ◌∙◌, ℕ, List, false, Ok, sym, ap, subst, arith}
+use Rattle.std.proofs.Common.{◌≡◌, ◌≤◌, ◌∙◌, ℕ, List, false, Ok, refl, sym, ap, subst, arith}
 use Rattle.std.specs.Prelude.{is_some, drop}
 use Rattle.krb_keytab.specs.Cells.{contents}
 use Rattle.krb_wire.specs.declared.format.KtFormat.TheVariants.{V2}
 use Rattle.krb_walk.specs.Store.{fault_of}
 use Rattle.krb_walk.specs.Ranks.{Rewrites}
 use Rattle.krb_keytab.specs.Store.{KeytabState, store_of, entries}
-use Rattle.krb_keytab.proofs.Stores.{state_is, keytab_of, known_held}
-use Rattle.krb_keytab.proofs.CarryLemmas.{all_places, all_carried}
+use Rattle.krb_keytab.specs.Rewrite.{rewrite_of}
+use Rattle.krb_keytab.proofs.Stores.{state_is, keytab_of, known_held, end_held}
+use Rattle.krb_keytab.proofs.CarryLemmas.{are_images, is_replaced, all_carried}
 use Rattle.krb_keytab.proofs.Rewrites.{held_anew, rewriting_done, rewrites_store, is_image, whole_kind}
 use Rattle.krb_keytab.proofs.keytab.Keytab.rewrite.Goals as goal
 
-pub carry_cursors-requires-clause-known : goal.carry_cursors-requires-clause-known
-carry_cursors-requires-clause-known g c = known_held c.self.inside.format c.self.inside.limit c.self.inside.image.items c.deref_mut.result.now c.self.inside.end c.deref_mut.ensures.value c.self.invariant.0 c.self.invariant.1
+pub carry_cursors-requires-clause-within : goal.carry_cursors-requires-clause-within
+carry_cursors-requires-clause-within g c = (known_held c.self.inside.format c.self.inside.limit c.self.inside.image.items c.deref_mut.result.now c.self.inside.end c.deref_mut.ensures.value c.self.invariant.0 c.self.invariant.1).within
 
-pub carry_cursors-requires-clause-places : goal.carry_cursors-requires-clause-places
-carry_cursors-requires-clause-places g c =
+pub carry_cursors-requires-clause-cells : goal.carry_cursors-requires-clause-cells
+carry_cursors-requires-clause-cells g c = record {
+  image = c.deref_mut.result.now;
+  rest = refl;
+  known = known_held c.self.inside.format c.self.inside.limit c.self.inside.image.items c.deref_mut.result.now c.self.inside.end c.deref_mut.ensures.value c.self.invariant.0 c.self.invariant.1;
+}
+
+pub carry_cursors-requires-clause-replaces : goal.carry_cursors-requires-clause-replaces
+carry_cursors-requires-clause-replaces g c =
     let i = c.self.inside in
-    all_places i.format i.limit i.image.items c.deref_mut.result.now c.args.self.now.state c.args.cursors.now c.deref_mut.ensures.value (state_is c.self.view_is) c.requires
+    let k = c.args.self.now.state in
+    let whole : is_some (fault_of (store_of k)) ≡ false = let a = c.fault.ensures in let b = c.is_some.ensures in let d = c.if-is_some.false in cc in
+    let spelled = ap (λ (b : List ℕ). contents V2 (drop 2 b)) c.deref.ensures.value ∙ c.in-Ok.ensures.contents in
+    let held = held_anew i.format i.limit i.image.items c.in-Ok.image.items k (state_is c.self.view_is) c.in-Ok.ensures.contents in
+    let end = end_held V2 i.limit c.in-Ok.image.items (rewrite_of k) _ c.in-Ok.ensures.known held in
+    let within = c.in-Some.ensures.within in
+    let limit = c.self.invariant.0.limit_fits in
+    is_replaced i.format c.deref_mut.result.now c.deref.result.now k c.args.cursors.now (are_images i.format i.limit i.image.items c.deref_mut.result.now c.deref.result.now k c.deref_mut.ensures.value (state_is c.self.view_is) spelled)
+    c.anew_is_sound.ensures.was (rewrites_store k c.anew_is_sound.ensures.was c.anew_is_sound.ensures.sound (whole_kind k whole)) (omega (arith, end, within, limit)) c.requires
 
 pub invariant_of-self : goal.invariant_of-self
 invariant_of-self g c =
@@ -53,4 +69,4 @@ returns-clause-carries g c =
     let done = held_anew i.format i.limit i.image.items c.in-Ok.image.items k (state_is c.self.view_is) c.in-Ok.ensures.contents in
     let spelled = ap (λ (b : List ℕ). contents V2 (drop 2 b)) c.deref.ensures.value ∙ c.in-Ok.ensures.contents in
     c.carry_cursors.ensures
-    ∙ all_carried i.format i.limit i.image.items c.deref_mut.result.now c.deref.result.now k (keytab_of V2 i.limit c.in-Ok.image.items) c.args.cursors.now c.deref_mut.ensures.value (state_is c.self.view_is) c.anew_is_sound.ensures.was.cells spelled done
+    ∙ all_carried i.format c.deref_mut.result.now c.deref.result.now k (keytab_of V2 i.limit c.in-Ok.image.items) c.args.cursors.now (are_images i.format i.limit i.image.items c.deref_mut.result.now c.deref.result.now k c.deref_mut.ensures.value (state_is c.self.view_is) spelled) done

@@ -3,8 +3,7 @@ use Rattle.std.proofs.Common.{◌≡◌, ℕ, zero, suc, ◌+◌, ◌<◌, List,
 use Rattle.std.specs.Prelude.{slice_set}
 use Rattle.std.specs.List.{AllByRecursion}
 use Rattle.std.proofs.lemmas.List.{map-append, drop-drop, at_drop_more}
-use Rattle.std.proofs.lemmas.Grind.{take-set_at, drop-set_at, take_at_read}
-use Rattle.krb_keytab.proofs.Given.{drop_more}
+use Rattle.std.proofs.lemmas.Grind.{take-set_at, drop-set_at, take_at_read, drop_more_same}
 
 pub all_at : (P : ℕ → Type 0) (xs : List ℕ) (i : ℕ) → i < length xs → AllByRecursion P xs → P (get_or xs i 0)
 all_at P [] i lt h = absurd (omega (arith, lt))
@@ -21,4 +20,4 @@ carried_more go xs ys i v lx ly so_far is =
 
 pub behind_more : (xs ys : List ℕ) (i v : ℕ) → i < length xs → drop i xs ≡ drop i ys → drop (i + 1) (slice_set xs i v) ≡ drop (i + 1) ys
 behind_more xs ys i v lx same =
-    sym (drop-drop 1 i (slice_set xs i v)) ∙ ap (drop 1) (drop-set_at xs i i v refl lx) ∙ drop_more xs ys i (i + 1) same (omega arith)
+    sym (drop-drop 1 i (slice_set xs i v)) ∙ ap (drop 1) (drop-set_at xs i i v refl lx) ∙ drop_more_same xs ys i same

@@ -1,0 +1,125 @@
+-- Where a place goes, told cell by cell, is where a rewrite carries it.
+use Rattle.std.proofs.Common.{◌≡◌, ◌≢◌, ℕ, ◌+◌, ◌^◌, ◌<◌, ◌≤◌, Bool, true, false, cond, List, [], ◌∷◌, length, map, Option, Some, None, inl, inr, refl, sym, ap, subst, ◌∙◌, arith}
+use Rattle.std.specs.Prelude.{nat_le, is_some}
+use Rattle.std.specs.List.{AllByRecursion}
+use Rattle.std.proofs.lemmas.Bool.{cases_lt}
+use Rattle.std.proofs.lemmas.Bool.Decides.{nat_tests}
+use Rattle.krb_walk.specs.Store.{Cell, Store, end_from, end_of, is_place_from, IsPlace, IsSound}
+use Rattle.krb_walk.specs.Ranks.{nth_or, carry, Rewrites}
+use Rattle.krb_walk.specs.Carry.{whole, Replaces, width_anew, after_anew, new_place, Tells, AreGiven, HasGiven, GoesBy}
+use Rattle.krb_walk.proofs.Stops.{end_from-ge}
+use Rattle.krb_walk.proofs.Lives.{lives}
+use Rattle.krb_walk.proofs.Places.{place_in}
+use Rattle.krb_walk.proofs.Carries.{lives_rise, below, below_none, below_some}
+use Rattle.krb_walk.proofs.Given.{end_after}
+
+-- told by the ranks of live cells
+abbrev by_rank : ℕ → List Cell → ℕ → List Cell → ℕ → ℕ
+by_rank at cs to ds p = nth_or (end_from to ds) (lives to ds) (below p (lives at cs))
+
+abbrev AreLive : List Cell → Type 0
+AreLive ds = AllByRecursion (λ (d : Cell). is_some d.live ≡ true) ds
+
+abbrev AreSound : List Cell → Type 0
+AreSound cs = AllByRecursion (λ (c : Cell). 0 < c.width) cs
+
+first_by : (to w : ℕ) (live : Option (List ℕ)) (ds : List Cell) → is_some live ≡ true → nth_or (end_from (to + w) ds) (lives to (record { width = w; live = live } ∷ ds)) 0 ≡ to
+first_by to w None ds some = cc
+first_by to w (Some bytes) ds some = refl
+
+first_of : (to : ℕ) (ds : List Cell) → AreLive ds → nth_or (end_from to ds) (lives to ds) 0 ≡ to
+first_of to [] live = refl
+first_of to (d ∷ ds) live = first_by to d.width d.live ds live.0
+
+at_or_after : (cs ds : List Cell) (at to p : ℕ) → AreSound cs → AreLive ds → p ≤ at → by_rank at cs to ds p ≡ to
+at_or_after cs ds at to p sound live le =
+    let none : below p (lives at cs) ≡ 0 = below_none p at (end_from at cs) (lives at cs) le (lives_rise at cs sound) in
+    ap (nth_or (end_from to ds) (lives to ds)) none ∙ first_of to ds live
+
+goes_by : (cs ds : List Cell) (c : Cell) (at to p n : ℕ) → (p ≤ at → n ≡ to) → (at < p → n ≡ new_place (at + c.width) cs (to + width_anew (is_some c.live) ds) (after_anew (is_some c.live) ds) p) → new_place at (c ∷ cs) to ds p ≡ n
+goes_by cs ds c at to p n here later = elim (cases_lt at p) [
+  | inl lt ↦ let no : nat_le p at ≡ false = grind (arith, nat_tests) in rw no (sym (later lt))
+  | inr le ↦ let yes : nat_le p at ≡ true = grind (arith, nat_tests) in rw yes (sym (here le))
+]
+
+-- where the cells after the first are told so
+abbrev AreTold : ℕ → List Cell → ℕ → Type 0
+AreTold at cs p = (to : ℕ) (ds : List Cell) → AreLive ds → length (lives to ds) ≡ length (lives at cs) → new_place at cs to ds p ≡ by_rank at cs to ds p
+
+after_live : (cs ds : List Cell) (at w to v p : ℕ) (bytes : List ℕ) (live : Option (List ℕ)) → at < p → is_some live ≡ true → AreLive ds
+    → length (lives to (record { width = v; live = live } ∷ ds)) ≡ length (lives at (record { width = w; live = Some bytes } ∷ cs)) → AreTold (at + w) cs p
+    → by_rank at (record { width = w; live = Some bytes } ∷ cs) to (record { width = v; live = live } ∷ ds) p ≡ new_place (at + w) cs (to + v) ds p
+after_live cs ds at w to v p bytes None lt some lives_on many told = cc
+after_live cs ds at w to v p bytes (Some new) lt some lives_on many told =
+    ap (nth_or (end_from (to + v) ds) (to ∷ lives (to + v) ds)) (below_some p at (lives (at + w) cs) lt)
+    ∙ sym (told (to + v) ds lives_on (let same : length (lives (to + v) ds) ≡ length (lives (at + w) cs) = omega (arith, many) in same))
+
+after_cell : (cs ds : List Cell) (at w to p : ℕ) (live : Option (List ℕ)) → at < p → AreLive ds → length (lives to ds) ≡ length (lives at (record { width = w; live = live } ∷ cs)) → AreTold (at + w) cs p
+    → by_rank at (record { width = w; live = live } ∷ cs) to ds p ≡ new_place (at + w) cs (to + width_anew (is_some live) ds) (after_anew (is_some live) ds) p
+after_cell cs ds at w to p None lt lives_on many told = let same : to ≡ to + 0 = omega arith in sym (told to ds lives_on many) ∙ ap (λ (n : ℕ). new_place (at + w) cs n ds p) same
+after_cell cs [] at w to p (Some bytes) lt lives_on many told = cc
+after_cell cs (d ∷ ds) at w to p (Some bytes) lt lives_on many told = after_live cs ds at w to d.width p bytes d.live lt lives_on.0 lives_on.1 many told
+
+goes_to : (cs : List Cell) (at p : ℕ) → AreSound cs → AreTold at cs p
+goes_to [] at p sound to ds live many = sym (first_of to ds live)
+goes_to (c ∷ cs) at p sound to ds live many = goes_by cs ds c at to p (by_rank at (c ∷ cs) to ds p) (λ le. at_or_after (c ∷ cs) ds at to p sound live le)
+    (λ lt. after_cell cs ds at c.width to p c.live lt live many (goes_to cs (at + c.width) p sound.1))
+
+carry_is : (cs ds : List Cell) (first to p : ℕ) → IsSound (whole first cs) → Rewrites (whole first cs) (whole to ds) → new_place first cs to ds p ≡ carry (whole first cs) (whole to ds) p
+carry_is cs ds first to p sound r = goes_to cs first p sound to ds r.all_live r.as_many
+
+one_of : (b : Bool) (m n end : ℕ) → m ≤ end → n ≤ end → cond b m n ≤ end
+one_of true m n end x y = x
+one_of false m n end x y = y
+
+-- a place goes no farther than the new end
+goes_within : (cs ds : List Cell) (at to p : ℕ) → new_place at cs to ds p ≤ end_from to ds
+goes_within [] ds at to p = end_from-ge to ds
+goes_within (c ∷ cs) ds at to p =
+    one_of (nat_le p at) to (new_place (at + c.width) cs (to + width_anew (is_some c.live) ds) (after_anew (is_some c.live) ds) p) _ (end_from-ge to ds)
+    (omega (arith, goes_within cs (after_anew (is_some c.live) ds) (at + c.width) (to + width_anew (is_some c.live) ds) p, end_after (is_some c.live) to ds))
+
+-- ---- cursors
+
+place_before : (at : ℕ) (cs : List Cell) (p end : ℕ) → is_place_from at cs p ≡ true → end ≡ end_from at cs → p ≢ end → p < end
+place_before at cs p end h is ne = elim (cases_lt p end) [
+  | inl lt ↦ lt
+  | inr le ↦ absurd (ne (omega (arith, le, is, place_in at cs p h)))
+]
+
+-- each cursor was given a place
+pub have_given : (image : List ℕ) (cs ds : List Cell) (at to end : ℕ) (cursors : List ℕ) → AreGiven image at cs to ds → end ≡ end_from at cs → AllByRecursion (IsPlace (whole at cs)) cursors → AllByRecursion (HasGiven image end) cursors
+have_given image cs ds at to end [] given is h = tt
+have_given image cs ds at to end (p ∷ ps) given is h = (λ ne. (given p h.0 (let lt = place_before at cs p end h.0 is ne in omega (arith, lt, is))).within, have_given image cs ds at to end ps given is h.1)
+
+-- and goes where it is carried
+pub all_go : (image : List ℕ) (cs ds : List Cell) (at to end last : ℕ) (cursors : List ℕ) → AreGiven image at cs to ds → end ≡ end_from at cs → last ≡ new_place at cs to ds end → end_from to ds < 2 ^ 32
+    → IsSound (whole at cs) → Rewrites (whole at cs) (whole to ds)
+    → AllByRecursion (IsPlace (whole at cs)) cursors → AllByRecursion (GoesBy image end last (carry (whole at cs) (whole to ds))) cursors
+all_go image cs ds at to end last [] given is is_last small sound rewrites h = tt
+all_go image cs ds at to end last (p ∷ ps) given is is_last small sound rewrites h =
+    let carries = carry_is cs ds at to p sound rewrites in (
+      record {
+        small = omega (arith, goes_within cs ds at to p, carries, small);
+        ends = λ e. is_last ∙ ap (new_place at cs to ds) (sym e) ∙ carries;
+        told = λ ne. subst (Tells image p) carries (given p h.0 (let lt = place_before at cs p end h.0 is ne in omega (arith, lt, is)));
+      },
+      all_go image cs ds at to end last ps given is is_last small sound rewrites h.1,
+    )
+
+-- ---- the stores of two images
+
+-- the cells of a store, and those of the one that it is rewritten to
+pub replaces : (old new : Store) (first to : ℕ) (cs ds : List Cell) (cursors : List ℕ) → first ≡ old.first → cs ≡ old.cells → to ≡ new.first → ds ≡ new.cells → IsSound old → Rewrites old new → end_of new < 2 ^ 32 → AllByRecursion (IsPlace old) cursors → Replaces first cs to ds cursors
+replaces old new first to cs ds cursors is_first is_cs is_to is_ds sound r small places = rw (is_first, is_cs, is_to, is_ds) (
+    record {
+      sound = sound;
+      rewrites = record { whole = refl; fault = refl; sound = r.sound; all_live = r.all_live; as_many = r.as_many };
+      small = small;
+      places = places;
+    }
+    )
+
+-- what is carried from the one to the other
+pub carries : (old new : Store) (first to : ℕ) (cs ds : List Cell) (cursors : List ℕ) → first ≡ old.first → cs ≡ old.cells → to ≡ new.first → ds ≡ new.cells → map (carry (whole first cs) (whole to ds)) cursors ≡ map (carry old new) cursors
+carries old new first to cs ds cursors is_first is_cs is_to is_ds = rw (is_first, is_cs, is_to, is_ds) refl
