@@ -26,6 +26,7 @@ use Rattle.krb_commands.specs.Input.{GivesInput, input_run, line_run, refusal_ru
 use Rattle.krb_commands.specs.Ktedit.{is_changed, reply_lines, edit_run, keytab_loaded, edit_keytab, RunsFairly, Edit, no_edit, edit_script, edit_input, FileAfter, Loads, LoadsHonestly, RunsOutFirst, LeavesFiles, SavesDue, SavesFile, EditsFile, EndsScript, EndsInput, EndsHonestly, RunsEdit}
 use Rattle.krb_commands.specs.Messages.{message}
 use Rattle.krb_commands.specs.Runs.{Run, Says, EndsRun, memory_run}
+use Rattle.krb_commands.proofs.EditMemory.{input_memory}
 use Rattle.krb_commands.proofs.QuietRuns.{EndsRun-said, unloaded_is_told, unsaved_is_told, fault_in, save_fault_in}
 
 -- ---- the steps of an edit
@@ -105,7 +106,7 @@ module _ {F : Type 0} (trait : Ghosts F) (file : List ℕ) (out err : Watch) (we
   without_keytab : (events : List (Event EntryParts)) (new : F) (err' : Watch) (status : ℕ) (old : F) (order : Order) (opened : Result KeytabState Run) → SaysWhy trait file order old new err err' opened status
       → RunsFairly events opened × SavesDue trait file out out err err' status (edit_keytab events opened).saved (edit_keytab events opened).run new new
   without_keytab events new err' status old order (Ok keytab) why = absurd why
-  without_keytab events new err' status old order (Err due) why = (tt, (refl, EndsRun-said due out err err' status well why.0 why.1 why.2 why.3))
+  without_keytab events new err' status old order (Err due) why = (tt, ((refl, EndsRun-said due out err err' status well why.0 why.1 why.2 why.3), λ not4 is4. not4 (sym why.1 ∙ is4)))
 
   why_not : (events : List (Event EntryParts)) (new : F) (err' : Watch) (status : ℕ) (old : F) (order : Order) (opened : Result KeytabState Run)
       → ((status ≡ 4) × Says err err' (message (codes "out of memory"))) ⊎ SaysWhy trait file order old new err err' opened status
@@ -176,7 +177,7 @@ module _ {F : Type 0} (trait : Ghosts F) (file : List ℕ) (out out' err err' : 
   -- what was due was saved, if something was
   due_honestly : (saved : Option (List ℕ)) (due : Run) (old files new : F) → trait.is_honest files → SameFiles (trait.file old) (trait.file files) → trait.failure_count old ≤ trait.failure_count files
       → SavesDue trait file out out' err err' status saved due files new → EndsHonestly trait file out out' err err' status (record { saved = saved; run = due }) old new
-  due_honestly None due old files new honest same le left = left_honestly due old files new same left
+  due_honestly None due old files new honest same le left = left_honestly due old files new same left.0
   due_honestly (Some bytes) due old files new honest same le s = saved_honestly bytes due old files new s.saved same le (s.stands honest).1 s.counted s.count s.ends
 
   -- what was loaded is what stands there, unless the load failed or memory ran out
@@ -186,7 +187,7 @@ module _ {F : Type 0} (trait : Ghosts F) (file : List ℕ) (out out' err err' : 
       → EndsHonestly trait file out out' err err' status (edit_keytab events (keytab_loaded order file (loaded (trait.file old file) most_bytes))) old new
   loaded_honestly order events old files new loads honest same (inl failed) saves =
       let left : LeavesFiles trait file out out' err err' status (load_fault_run file load.Failed) files new =
-      subst (λ (answer : Result (List ℕ) LoadFault). SavesDue trait file out out' err err' status (edit_keytab events (keytab_loaded order file answer)).saved (edit_keytab events (keytab_loaded order file answer)).run files new) failed saves in
+      (subst (λ (answer : Result (List ℕ) LoadFault). SavesDue trait file out out' err err' status (edit_keytab events (keytab_loaded order file answer)).saved (edit_keytab events (keytab_loaded order file answer)).run files new) failed saves).0 in
       inr (inl (record {
         counted = subst (λ (f : F). CountsFailure (trait.failure_count old) (trait.failure_count f)) (sym left.0) (loads.counted failed);
         same = subst (λ (f : F). SameFiles (trait.file old) (trait.file f)) (sym left.0) same;
@@ -194,7 +195,7 @@ module _ {F : Type 0} (trait : Ghosts F) (file : List ℕ) (out out' err err' : 
       }))
   loaded_honestly order events old files new loads honest same (inr (inl no_memory)) saves =
       let left : LeavesFiles trait file out out' err err' status (load_fault_run file load.NoMemory) files new =
-      subst (λ (answer : Result (List ℕ) LoadFault). SavesDue trait file out out' err err' status (edit_keytab events (keytab_loaded order file answer)).saved (edit_keytab events (keytab_loaded order file answer)).run files new) no_memory saves in
+      (subst (λ (answer : Result (List ℕ) LoadFault). SavesDue trait file out out' err err' status (edit_keytab events (keytab_loaded order file answer)).saved (edit_keytab events (keytab_loaded order file answer)).run files new) no_memory saves).0 in
       inl (subst (λ (f : F). SameFiles (trait.file old) (trait.file f)) (sym left.0) same, left.1)
   loaded_honestly order events old files new loads honest same (inr (inr stands)) saves =
       let due = edit_keytab events (keytab_loaded order file (loaded (trait.file old file) most_bytes)) in
@@ -239,6 +240,7 @@ module _ {F : Type 0} (trait : Ghosts F) (file : List ℕ) (out out' err err' : 
     read = read;
     ends = ends;
     honest = λ honest. input_honestly order input old new honest ends;
+    memory = input_memory trait file out out' err err' status well order input old new ends;
   }
 
 -- ---- what is due of an edited keytab

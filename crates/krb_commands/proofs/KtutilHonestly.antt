@@ -7,19 +7,21 @@ use mathlib.Core.Path.{fun_ext}
 use Rattle.krb_text.specs.declared.files.Files.{Ghosts}
 use Rattle.krb_text.specs.declared.ktutil.line_end.LineEnd.{LineEnd}
 use Rattle.krb_text.specs.declared.ktutil.line_end.LineEnd.TheVariants as end
-use Rattle.krb_text.specs.Bytes.{Watch}
-use Rattle.krb_text.specs.Files.{FileMap, CountsFailure}
+use Rattle.krb_text.specs.Bytes.{Watch, AppendsPrefix}
+use Rattle.krb_text.specs.Files.{FileMap, SameFiles, CountsFailure}
 use Rattle.krb_text.specs.Ktutil.{KtutilState, plan_of}
 use Rattle.krb_text.specs.KtutilHonest.{Followed, follow, ShowsDue, HandlesHonestly}
 use Rattle.krb_text.proofs.Prefixes.{Appends-nil, Appends-trans}
-use Rattle.krb_text.proofs.KtutilDue.{handles_honestly, handles_count}
+use Rattle.krb_text.proofs.KtutilDue.{handles_honestly, handles_spares, handles_count}
+use Rattle.krb_text.specs.declared.files.LoadFault.TheVariants as load
 use Rattle.krb_text.specs.declared.files.LoadFault.{LoadFault}
 use Rattle.krb_commands.specs.Input.{input_run}
 use Rattle.krb_commands.specs.InputLines.{lines_of}
 use Rattle.krb_commands.specs.KtutilTalk.{Talk, quiet_run, line_end_run, goes_on, AreFirst, Continues, Stops, TalksOver}
 use Rattle.krb_commands.specs.KtutilDue.{TalkDue, last_due, due_after, talk_due, GivesLines, LeavesDue, LeavesDueUnlessFailed, TalksHonestly}
-use Rattle.krb_commands.specs.Runs.{Run, Says, EndsRun}
+use Rattle.krb_commands.specs.Runs.{Run, Says, EndsRun, memory_run}
 use Rattle.krb_commands.proofs.Ends.{Says-nothing}
+use Rattle.krb_commands.proofs.KtutilMemory.{spent_or, spent_is_not_done, spent_prints_nothing}
 use Rattle.krb_commands.proofs.QuietRuns.{unread_is_told}
 
 -- a failure that was counted later counts, and one that was counted before
@@ -88,15 +90,14 @@ module _ {F : Type 0} (trait : Ghosts F) (now : ℕ) (final : Run) where
       → LeavesDueUnlessFailed trait due mid new → LeavesDueUnlessFailed trait (due_after run due) old new
   leaves_after run status old mid new due ends not4 well worst le le' (inl counts) = inl (counts_later (trait.failure_count old.files) (trait.failure_count mid.files) (trait.failure_count new.files) le le' counts)
   leaves_after run status old mid new due ends not4 well worst le le' (inr (inl failed)) = inr (inl failed)
-  leaves_after run status old mid new due ends not4 well worst le le' (inr (inr (inl four))) = inr (inr (inl four))
-  leaves_after run status old mid new due ends not4 well worst le le' (inr (inr (inr leaves))) =
+  leaves_after run status old mid new due ends not4 well worst le le' (inr (inr leaves)) =
       let done = ends.done well not4 in
-      inr (inr (inr (record {
+      inr (inr (record {
         files = leaves.files;
         out = Appends-trans old.out.contents mid.out.contents new.out.contents run.out due.out done.1 leaves.out;
         err = (mid.err, done.2, leaves.err);
         status = worst_after old.status mid.status run.status due.status status new.status leaves.status worst done.0;
-      })))
+      }))
 
   -- a line was handled and goes on
   line_honestly : (number : ℕ) (line : List ℕ) (more : List (List ℕ)) (old mid new : Talk F) (continues : Continues trait now number line old mid)
@@ -135,89 +136,139 @@ module _ {F : Type 0} (trait : Ghosts F) (now : ℕ) (final : Run) where
       line_honestly number line (lines ++ more) old mid new talked.1 honestly first (omega (arith, others, le))
       (talk_honestly lines (number + 1) more mid last new talked.2 honestly.honest le (λ next is. rest next (omega (arith, is))))
 
-  -- a line was the last: it left what was due of it, or it failed
+  -- a line was the last: it left what was due of it, or the output failed
   close_by : (run : Run) (status : ℕ) (last end : Talk F) → EndsRun run last.out end.out last.err end.err status → end.status ≡ max last.status status
-      → (failed : Bool) → failed ≡ end.out.failed → (status ≡ 4) ⊎ (status ≡ 4 → ⊥) → LeavesDueUnlessFailed trait (last_due run (trait.file end.files)) last end
-  close_by run status last end ends worst true is four = inr (inl (sym is))
-  close_by run status last end ends worst false is (inl four) = inr (inr (inl (omega (arith, four, worst))))
-  close_by run status last end ends worst false is (inr not4) =
+      → (failed : Bool) → failed ≡ end.out.failed → status ≢ 4 → LeavesDueUnlessFailed trait (last_due run (trait.file end.files)) last end
+  close_by run status last end ends worst true is not4 = inr (inl (sym is))
+  close_by run status last end ends worst false is not4 =
       let done = ends.done (sym is) not4 in
-      inr (inr (inr (record { files = λ name. refl; out = done.1; err = (end.err, done.2, refl); status = worst ∙ ap (max last.status) done.0 })))
+      inr (inr (record { files = λ name. refl; out = done.1; err = (end.err, done.2, refl); status = worst ∙ ap (max last.status) done.0 }))
 
-  -- it missed memory
-  spent_by : (due : TalkDue) (number : ℕ) (line text : List ℕ) (ending : LineEnd) (status : ℕ) (last new : Talk F) → EndsRun (line_end_run number line ending text) last.out new.out last.err new.err status → new.status ≡ max last.status status
-      → ending ≡ end.NoMemory → (failed : Bool) → failed ≡ new.out.failed → (status ≡ 4) ⊎ (status ≡ 4 → ⊥) → LeavesDueUnlessFailed trait due last new
-  spent_by due number line text ending status last new ends worst memory true is four = inr (inl (sym is))
-  spent_by due number line text ending status last new ends worst memory false is (inl four) = inr (inr (inl (omega (arith, four, worst))))
-  spent_by due number line text ending status last new ends worst memory false is (inr not4) =
-      absurd (not4 ((ends.done (sym is) not4).0 ∙ ap (λ (e : LineEnd). (line_end_run number line e text).status) memory))
-
-  stop_honestly : (number : ℕ) (line : List ℕ) (more : List (List ℕ)) (last end : Talk F) → Stops trait now number line last end → trait.is_honest last.files
-      → LeavesDueUnlessFailed trait (talk_due final now number (line ∷ more) last.state (trait.file last.files)) last end
-  stop_honestly number line more last end stops honest =
+  stop_honestly : (number : ℕ) (line : List ℕ) (more : List (List ℕ)) (last new : Talk F) (stops : Stops trait now number line last new) → stops.ending ≢ end.NoMemory → trait.is_honest last.files
+      → LeavesDueUnlessFailed trait (talk_due final now number (line ∷ more) last.state (trait.file last.files)) last new
+  stop_honestly number line more last new stops unspent honest =
       let handles = stops.handles in
-      let honestly = handles_honestly trait now line last.files end.files last.state end.state [] handles.text stops.ending handles.handled honest in
+      let honestly = handles_honestly trait now line last.files new.files last.state new.state [] handles.text stops.ending handles.handled honest in
       let run = line_end_run number line stops.ending handles.text in
-      let due = talk_due final now number (line ∷ more) last.state (trait.file last.files) in
       elim honestly.comes [
         | inl shows ↦ elim stops.why [
-          | inl not ↦ subst (λ (d : TalkDue). LeavesDueUnlessFailed trait d last end)
-              (sym (due_stops number line more last.state (trait.file last.files) end.files end.state handles.text stops.ending shows not))
-              (close_by run handles.status last end handles.ends handles.worst end.out.failed refl (cases_eq handles.status 4))
+          | inl not ↦ subst (λ (d : TalkDue). LeavesDueUnlessFailed trait d last new)
+              (sym (due_stops number line more last.state (trait.file last.files) new.files new.state handles.text stops.ending shows not))
+              (close_by run handles.status last new handles.ends handles.worst new.out.failed refl (handles.spared unspent))
           | inr failed ↦ inr (inl failed)
         ]
         | inr other ↦ elim other [
           | inl fails ↦ inl fails.counts
-          | inr spends ↦ spent_by due number line handles.text stops.ending handles.status last end handles.ends handles.worst spends.runs_out.ending_is end.out.failed refl (cases_eq handles.status 4)
+          | inr spends ↦ absurd (unspent spends.runs_out.ending_is)
         ]
       ]
+
+-- nothing was written
+abbrev is_none : List ℕ → Bool
+is_none [] = true
+is_none (b ∷ bytes) = false
+
+prefix_of_none : (prefix rest : List ℕ) → [] ≡ prefix ++ rest → prefix ≡ []
+prefix_of_none [] rest is = refl
+prefix_of_none (b ∷ prefix) rest is = absurd (false≢true (ap is_none (sym is)))
+
+nothing_written : (old new : Option (List ℕ)) (text : List ℕ) → text ≡ [] → AppendsPrefix old new text → Appends old new []
+nothing_written old new text none written =
+    let nothing : written.prefix ≡ [] = prefix_of_none written.prefix written.rest (sym none ∙ written.splits) in
+    subst (λ (bytes : List ℕ). Appends old new bytes) nothing written.appends
+
+module _ {F : Type 0} (trait : Ghosts F) (now : ℕ) where
+  -- a line was the last since memory ran out: what was due of those before it was left, and that is said
+  spent_by : (run : Run) (status : ℕ) (last end : Talk F) → EndsRun run last.out end.out last.err end.err status → end.status ≡ max last.status status → run.out ≡ [] → run.status ≡ 4
+      → SameFiles (trait.file last.files) (trait.file end.files) → (failed : Bool) → failed ≡ end.out.failed → (status ≡ 4) ⊎ (status ≡ 4 → ⊥)
+      → LeavesDueUnlessFailed trait (last_due memory_run (trait.file last.files)) last end
+  spent_by run status last end ends worst none memory same true is four = inr (inl (sym is))
+  spent_by run status last end ends worst none memory same false is (inr not4) = absurd (not4 ((ends.done (sym is) not4).0 ∙ memory))
+  spent_by run status last end ends worst none memory same false is (inl four) = inr (inr (record {
+    files = same;
+    out = nothing_written last.out.contents end.out.contents run.out none ends.prefix;
+    err = (end.err, (ends.no_memory four).1, refl);
+    status = worst ∙ ap (max last.status) four;
+  }))
+
+  spend_honestly : (number : ℕ) (line : List ℕ) (last new : Talk F) (stops : Stops trait now number line last new) → stops.ending ≡ end.NoMemory → trait.is_honest last.files
+      → LeavesDueUnlessFailed trait (last_due memory_run (trait.file last.files)) last new
+  spend_honestly number line last new stops spent honest =
+      let handles = stops.handles in
+      let same = (handles_spares trait now line last.files new.files last.state new.state [] handles.text stops.ending handles.handled).files_are honest (spent_is_not_done stops.ending spent) in
+      let none = spent_prints_nothing trait now line last.files new.files last.state new.state handles.text stops.ending spent handles.handled in
+      spent_by (line_end_run number line stops.ending handles.text) handles.status last new handles.ends handles.worst none (ap (λ (e : LineEnd). (line_end_run number line e handles.text).status) spent)
+      same new.out.failed refl (cases_eq handles.status 4)
 
 -- the lines that an input has from its first ones and a further one on
 rest_of : (given : Option (List ℕ)) (lines : List (List ℕ)) (line : List ℕ) → AreFirst (lines ++ line ∷ []) given → (more : List (List ℕ)) × GivesLines given (lines ++ line ∷ more) quiet_run
 rest_of None lines line first = ([], record { gives = inl (tt, refl) })
 rest_of (Some bytes) lines line first = (first.0, record { gives = inl (first.1 ∙ append_assoc lines (line ∷ []) first.0, refl) })
 
+-- the lines before it are the first too
+before_last : (given : Option (List ℕ)) (lines : List (List ℕ)) (line : List ℕ) → AreFirst (lines ++ line ∷ []) given → AreFirst lines given
+before_last None lines line first = tt
+before_last (Some bytes) lines line first = (line ∷ first.0, first.1 ∙ append_assoc lines (line ∷ []) first.0)
+
 module _ {F : Type 0} (trait : Ghosts F) (now : ℕ) (given : Option (List ℕ)) (lines : List (List ℕ)) (first last : Talk F) (talked : TalksOver trait now 1 lines first last) where
   -- what was due after the lines was left
-  leaves_final : (final : Run) (end : Talk F) → GivesLines given (lines ++ []) final → trait.failure_count last.files ≤ trait.failure_count end.files → LeavesDue trait (last_due final (trait.file last.files)) last end
-      → trait.is_honest first.files → TalksHonestly trait now given first end
+  leaves_final : (final : Run) (end : Talk F) → GivesLines given (lines ++ []) final → trait.failure_count last.files ≤ trait.failure_count end.files
+      → (trait.is_honest last.files → LeavesDueUnlessFailed trait (last_due final (trait.file last.files)) last end) → trait.is_honest first.files → TalksHonestly trait now given first end
   leaves_final final end gives le leaves honest = record {
     lines = lines ++ [];
     final = final;
     given_lines = gives;
-    leaves = talk_honestly trait now final lines 1 [] first last end talked honest le (λ next is h. inr (inr (inr leaves)));
+    leaves = talk_honestly trait now final lines 1 [] first last end talked honest le (λ next is h. leaves h);
   }
 
   pub honest_after : IfSome given (λ bytes. lines_of bytes ≡ lines ++ []) → trait.is_honest first.files → TalksHonestly trait now given first last
   honest_after all =
-      leaves_final quiet_run last (record { gives = inl (all, refl) }) (omega arith) (record {
+      leaves_final quiet_run last (record { gives = inl (all, refl) }) (omega arith) (λ h. inr (inr (record {
         files = λ name. refl;
         out = Appends-nil last.out.contents;
         err = (last.err, Says-nothing last.err, refl);
         status = omega arith;
-      })
+      })))
+
+  -- no line after these was read
+  GivesLines-unread : (fault : LoadFault) → AreFirst lines given → GivesLines given (lines ++ []) (input_run fault)
+  GivesLines-unread fault are_first = record { gives = inr (subst (λ (l : List (List ℕ)). AreFirst l given) (sym (append-nil lines)) are_first, (fault, refl)) }
 
   pub honest_unread : (fault : LoadFault) → AreFirst lines given → (err' : Watch) (status : ℕ) → Says last.err err' (input_run fault).err → status ≡ max last.status (input_run fault).status → trait.is_honest first.files
       → TalksHonestly trait now given first (record { files = last.files; state = last.state; out = last.out; err = err'; status = status })
   honest_unread fault are_first err' status said worst =
       let none = (unread_is_told fault).0 in
       leaves_final (input_run fault) (record { files = last.files; state = last.state; out = last.out; err = err'; status = status })
-      (record { gives = inr (subst (λ (l : List (List ℕ)). AreFirst l given) (sym (append-nil lines)) are_first, (fault, refl)) }) (omega arith) (record {
+      (GivesLines-unread fault are_first) (omega arith) (λ h. inr (inr (record {
         files = λ name. refl;
         out = subst (λ (text : List ℕ). Appends last.out.contents last.out.contents text) (sym none) (Appends-nil last.out.contents);
         err = (err', said, refl);
         status = worst;
-      })
+      })))
 
-  pub honest_in_line : (line : List ℕ) (end : Talk F) → AreFirst (lines ++ line ∷ []) given → Stops trait now (length lines + 1) line last end → trait.is_honest first.files → TalksHonestly trait now given first end
-  honest_in_line line end are_first stops honest =
+  -- a line was the last, and memory did not run out
+  in_line_unspent : (line : List ℕ) (new : Talk F) → AreFirst (lines ++ line ∷ []) given → (stops : Stops trait now (length lines + 1) line last new) → stops.ending ≢ end.NoMemory → trait.is_honest first.files
+      → TalksHonestly trait now given first new
+  in_line_unspent line new are_first stops unspent honest =
       let rest = rest_of given lines line are_first in
       let handles = stops.handles in
-      let le = handles_count trait (plan_of last.state now line) last.files end.files last.state end.state [] handles.text stops.ending handles.handled in
+      let le = handles_count trait (plan_of last.state now line) last.files new.files last.state new.state [] handles.text stops.ending handles.handled in
       record {
         lines = lines ++ line ∷ rest.0;
         final = quiet_run;
         given_lines = rest.1;
-        leaves = talk_honestly trait now quiet_run lines 1 (line ∷ rest.0) first last end talked honest le
-            (λ next is h. let at : next ≡ length lines + 1 = omega (arith, is) in stop_honestly trait now quiet_run next line rest.0 last end (subst (λ (n : ℕ). Stops trait now n line last end) (sym at) stops) h);
+        leaves = talk_honestly trait now quiet_run lines 1 (line ∷ rest.0) first last new talked honest le
+            (λ next is h. let at : length lines + 1 ≡ next = omega (arith, is) in
+            subst (λ (n : ℕ). LeavesDueUnlessFailed trait (talk_due quiet_run now n (line ∷ rest.0) last.state (trait.file last.files)) last new) at (stop_honestly trait now quiet_run (length lines + 1) line rest.0 last new stops unspent h));
       }
+
+  in_line : (line : List ℕ) (new : Talk F) → AreFirst (lines ++ line ∷ []) given → (stops : Stops trait now (length lines + 1) line last new) → (stops.ending ≡ end.NoMemory) ⊎ (stops.ending ≢ end.NoMemory) → trait.is_honest first.files
+      → TalksHonestly trait now given first new
+  in_line line new are_first stops (inr unspent) honest = in_line_unspent line new are_first stops unspent honest
+  in_line line new are_first stops (inl spent) honest =
+      let handles = stops.handles in
+      let le = handles_count trait (plan_of last.state now line) last.files new.files last.state new.state [] handles.text stops.ending handles.handled in
+      leaves_final memory_run new (GivesLines-unread load.NoMemory (before_last given lines line are_first)) le (spend_honestly trait now (length lines + 1) line last new stops spent) honest
+
+  pub honest_in_line : (line : List ℕ) (end : Talk F) → AreFirst (lines ++ line ∷ []) given → Stops trait now (length lines + 1) line last end → trait.is_honest first.files → TalksHonestly trait now given first end
+  honest_in_line line end are_first stops honest = in_line line end are_first stops (spent_or stops.ending) honest

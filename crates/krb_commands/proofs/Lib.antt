@@ -7,7 +7,9 @@ pub mod Ends
 pub mod FileRuns
 pub mod EditReplies
 pub mod QuietRuns
+pub mod EditMemory
 pub mod EditLemmas
 pub mod KtutilEnds
+pub mod KtutilMemory
 pub mod KtutilHonestly
 pub mod KtutilLemmas

@@ -147,9 +147,9 @@ module _ {F : Type 0} (trait : Ghosts F) (file : List ℕ) (out out' err err' : 
     -- once they are saved no memory is needed
     pub spared : IsOk saved → status ≢ 4
 
-  -- what is due is saved, if something is, and the run ends so
+  -- what is due is saved, if something is, and the run ends so; memory is missed only where that is due, or in the save
   abbrev pub SavesDue : Option (List ℕ) → Run → F → F → Type 0
-  SavesDue None due old new = LeavesFiles due old new
+  SavesDue None due old new = LeavesFiles due old new × (due.status ≢ 4 → status ≢ 4)
   SavesDue (Some bytes) due old new = SavesFile bytes due old new
 
   -- memory ran out before anything was saved
@@ -192,9 +192,15 @@ module _ {F : Type 0} (trait : Ghosts F) (file : List ℕ) (out out' err err' : 
       ⊎ FailsOverFile old new
       ⊎ (FilesAfter due.saved old new × EndsRun due.run out out' err err' status)
 
+  -- memory ran out: nothing is out, it is said, and honest files are the same
+  pub record RunsOutUnsaved (old new : F) : Type 0 where
+    pub ends : EndsRun memory_run out out' err err' status
+    pub same : trait.is_honest old → SameFiles (trait.file old) (trait.file new)
+
   -- a run of ktedit: what the reader gives as a script, and what the files answer, decide it
   pub record RunsEdit (order : Order) (given given' : Option (List ℕ)) (old new : F) : Type 0 where
     pub input : Result (List ℕ) LoadFault
     pub read : GivesInput given given' input
     pub ends : EndsInput order old new input
     pub honest : trait.is_honest old → EndsHonestly (edit_input order file (loaded (trait.file old file) most_bytes) input) old new
+    pub memory : status ≡ 4 → RunsOutUnsaved old new

@@ -1,5 +1,5 @@
 -- What is due of the lines of ktutil where the files are honest.
-use Rattle.std.specs.Prelude.{◌≡◌, ◌⊎◌, ℕ, ◌+◌, ◌≤◌, max, IsTrue, List, [], ◌∷◌, ◌++◌, if◌then◌else◌, Option, IfSome}
+use Rattle.std.specs.Prelude.{◌≡◌, ◌⊎◌, ℕ, ◌+◌, max, IsTrue, List, [], ◌∷◌, ◌++◌, if◌then◌else◌, Option, IfSome}
 use Rattle.std.specs.Io.KnownBytes.{Appends}
 use Rattle.krb_text.specs.declared.files.Files.{Ghosts}
 use Rattle.krb_text.specs.declared.files.LoadFault.{LoadFault}
@@ -42,7 +42,7 @@ abbrev pub SaysInTurn : Watch → Watch → List (List ℕ) → Type 0
 SaysInTurn old new [] = new ≡ old
 SaysInTurn old new (message ∷ messages) = (between : Watch) × Says old between message × SaysInTurn between new messages
 
--- the lines of an input, and what is due after them: nothing at its end, or else it is said why it was not read further
+-- the lines of an input, and what is due after them: nothing at its end, or else it is said why it was not read further, or that memory ran out in the next line
 pub record GivesLines (given : Option (List ℕ)) (lines : List (List ℕ)) (final : Run) : Type 0 where
   pub gives : (IfSome given (λ bytes. lines_of bytes ≡ lines) × (final ≡ quiet_run)) ⊎ (AreFirst lines given × ((fault : LoadFault) × (final ≡ input_run fault)))
 
@@ -54,13 +54,13 @@ module _ {F : Type 0} (trait : Ghosts F) where
     pub err : SaysInTurn old.err new.err due.messages
     pub status : new.status ≡ max old.status due.status
 
-  -- unless a file call failed, which is counted, or the output failed, or memory ran out
+  -- unless a file call failed, which is counted, or the output failed
   abbrev pub LeavesDueUnlessFailed : TalkDue → Talk F → Talk F → Type 0
   LeavesDueUnlessFailed due old new =
       CountsFailure (trait.failure_count old.files) (trait.failure_count new.files)
-      ⊎ (IsTrue new.out.failed ⊎ ((4 ≤ new.status) ⊎ LeavesDue due old new))
+      ⊎ (IsTrue new.out.failed ⊎ LeavesDue due old new)
 
-  -- over honest files a run leaves what is due of the lines of its input
+  -- over honest files a run leaves what is due of the lines of its input; where memory runs out, of those before it
   pub record TalksHonestly (now : ℕ) (given : Option (List ℕ)) (old new : Talk F) : Type 0 where
     pub lines : List (List ℕ)
     pub final : Run

@@ -1,5 +1,7 @@
 //! Runs over files in memory, of which one part fails.
 
+mod commands;
+mod images;
 mod loads;
 mod messages;
 mod responses;

@@ -1,5 +1,5 @@
 -- Lists from an index on, and the texts of their elements.
-use Rattle.std.proofs.Common.{◌≡◌, ℕ, suc, ◌+◌, ◌<◌, List, [], ◌∷◌, ◌++◌, length, get_or, drop, sym, ap, ◌∙◌, append_assoc, append-nil, drop-cons, add-one}
+use Rattle.std.proofs.Common.{◌≡◌, ℕ, suc, ◌+◌, ◌<◌, ◌≤◌, List, [], ◌∷◌, ◌++◌, length, get_or, drop, sym, ap, ◌∙◌, append_assoc, append-nil, drop-cons, add-one, length-append, arith}
 use Rattle.krb_wire.specs.declared.format.KtFormat.{KtFormat}
 use Rattle.krb_wire.specs.Text.{Grew}
 use Rattle.krb_walk.specs.Said.{Said}
@@ -21,6 +21,12 @@ slots_step columns whole out more n rest e others is next written =
 pub replies_step : (f : KtFormat) (whole out more : List ℕ) (rest : List Said) (r : Said) (others : List Said) → whole ≡ out ++ reply_texts f rest → rest ≡ r ∷ others → more ≡ out ++ reply_text f r → whole ≡ more ++ reply_texts (format_after f r) others
 replies_step f whole out more rest r others is next written =
     is ∙ ap (λ (rs : List Said). out ++ reply_texts f rs) next ∙ sym (append_assoc out (reply_text f r) (reply_texts (format_after f r) others)) ∙ ap (λ (t : List ℕ). t ++ reply_texts (format_after f r) others) (sym written)
+
+-- what is written and one reply more are no longer than all
+pub replies_room : (f : KtFormat) (old out all : List ℕ) (rest : List Said) (r : Said) (others : List Said) → old ++ all ≡ out ++ reply_texts f rest → rest ≡ r ∷ others → length out + length (reply_text f r) ≤ length old + length all
+replies_room f old out all rest r others is next =
+    let text : old ++ all ≡ out ++ (reply_text f r ++ reply_texts (format_after f r) others) = is ∙ ap (λ (rs : List Said). out ++ reply_texts f rs) next in
+    omega (arith, ap length text, length-append old all, length-append out (reply_text f r ++ reply_texts (format_after f r) others), length-append (reply_text f r) (reply_texts (format_after f r) others))
 
 -- nothing was appended
 pub Grew-none : (a : List ℕ) → Grew a a

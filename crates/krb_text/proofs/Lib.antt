@@ -9,6 +9,7 @@ pub mod Items
 pub mod Aligned
 pub mod Found
 pub mod Etypes
+pub mod Letters
 pub mod Numerals
 pub mod Digits
 pub mod NameFaults

@@ -25,6 +25,8 @@ pub fn append<A: Allocator>(bytes: &[u8], out: &mut Vec<u8, A>) -> Result<(), No
 pub fn append_byte<A: Allocator>(byte: u8, out: &mut Vec<u8, A>) -> Result<(), NoMemory>
     ensures ok { OnOk result (out.new.items ≡ out.old.items ++ byte ∷ []) }
     ensures err { OnErr result (out.new.items ≡ out.old.items) }
+    ensures capacity { vec_capacity out.old ≤ vec_capacity out.new }
+    ensures full { OnErr result (HadNoRoom out.old (byte ∷ [])) }
 {
     match out.push(byte) {
         Ok(()) => Ok(()),
@@ -36,6 +38,8 @@ pub fn append_byte<A: Allocator>(byte: u8, out: &mut Vec<u8, A>) -> Result<(), N
 pub fn append_number<A: Allocator>(number: u32, out: &mut Vec<u8, A>) -> Result<(), NoMemory>
     ensures ok { OnOk result (out.new.items ≡ out.old.items ++ decimal number) }
     ensures err { OnErr result (out.new.items ≡ out.old.items) }
+    ensures capacity { vec_capacity out.old ≤ vec_capacity out.new }
+    ensures full { OnErr result (HadNoRoom out.old (decimal number)) }
 {
     let mut buffer = Buffer::new();
     append(buffer.format(number).as_bytes(), out)

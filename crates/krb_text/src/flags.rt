@@ -1,6 +1,7 @@
 //! Ticket flags as letters.
 
-ghost use Rattle.std.specs.Prelude.{◌≡◌, ◌++◌, OnOk, OnErr};
+ghost use Rattle.std.specs.Prelude.{◌≡◌, ◌++◌, ◌≤◌, OnOk, OnErr, vec_capacity};
+ghost use Rattle.krb_wire.specs.Names.{HadNoRoom};
 ghost use Rattle.krb_wire.specs.Text.{Grew};
 ghost use Rattle.krb_text.specs.Flags.{letters_among, flag_letters_of};
 
@@ -34,6 +35,8 @@ fn append_letters<A: Allocator>(
 ) -> Result<(), NoMemory>
     ensures ok { OnOk result (out.new.items ≡ out.old.items ++ letters_among flags table.now) }
     ensures err { OnErr result (Grew out.old.items out.new.items) }
+    ensures capacity { vec_capacity out.old ≤ vec_capacity out.new }
+    ensures full { OnErr result (HadNoRoom out.old (letters_among flags table.now)) }
 {
     'flags: for &(bit, letter) in table {
         if flags & bit != 0 {
@@ -49,6 +52,10 @@ fn append_letters<A: Allocator>(
 pub fn flag_letters<A: Allocator>(flags: u32, out: &mut Vec<u8, A>) -> Result<(), NoMemory>
     ensures ok { OnOk result (out.new.items ≡ out.old.items ++ flag_letters_of flags) }
     ensures err { OnErr result (out.new.items ≡ out.old.items) }
+    ensures capacity { vec_capacity out.old ≤ vec_capacity out.new }
+
+    // It is out of memory only where the letters do not fit into the room that there was.
+    ensures full { OnErr result (HadNoRoom out.old (flag_letters_of flags)) }
 {
     let len = out.len();
     match append_letters(&FLAGS, flags, out) {

@@ -1,6 +1,7 @@
 //! Lines of entries and of faults. Where an allocation failed, some of a line may stand there.
 
-ghost use Rattle.std.specs.Prelude.{◌≡◌, ◌++◌, OnOk, OnErr};
+ghost use Rattle.std.specs.Prelude.{◌≡◌, ◌++◌, ◌≤◌, OnOk, OnErr, vec_capacity};
+ghost use Rattle.krb_wire.specs.Names.{HadNoRoom};
 ghost use Rattle.krb_wire.specs.Text.{Grew};
 ghost use Rattle.krb_text.specs.Line.{entry_line, time_column, etype_column, key_column, entry_tail, fault_text};
 
@@ -89,6 +90,8 @@ pub fn append_tail<N: Name, A: Allocator>(
 ) -> Result<(), NoMemory>
     ensures ok { OnOk result (out.new.items ≡ out.old.items ++ entry_tail entry.now) }
     ensures err { OnErr result (Grew out.old.items out.new.items) }
+    ensures capacity { vec_capacity out.old ≤ vec_capacity out.new }
+    ensures full { OnErr result (HadNoRoom out.old (entry_tail entry.now)) }
 {
     append(b" kvno ", out)?;
     append_number(entry.kvno, out)?;
@@ -103,6 +106,8 @@ pub fn append_tail<N: Name, A: Allocator>(
 pub fn append_fault<A: Allocator>(fault: Fault, out: &mut Vec<u8, A>) -> Result<(), NoMemory>
     ensures ok { OnOk result (out.new.items ≡ out.old.items ++ fault_text fault) }
     ensures err { OnErr result (Grew out.old.items out.new.items) }
+    ensures capacity { vec_capacity out.old ≤ vec_capacity out.new }
+    ensures full { OnErr result (HadNoRoom out.old (fault_text fault)) }
 {
     append(b"fault ", out)?;
     append_number(fault.kind.number(), out)?;

@@ -1,6 +1,7 @@
 //! The lines of replies.
 
-ghost use Rattle.std.specs.Prelude.{◌≡◌, ◌++◌, decimal, codes, map, OnOk, OnErr};
+ghost use Rattle.std.specs.Prelude.{◌≡◌, ◌++◌, ◌≤◌, decimal, codes, map, OnOk, OnErr, vec_capacity};
+ghost use Rattle.krb_wire.specs.Names.{HadNoRoom};
 ghost use Rattle.krb_wire.specs.Text.{Grew};
 ghost use Rattle.krb_walk.specs.Said.{said};
 ghost use Rattle.krb_keytab.specs.Entry.{entry_at};
@@ -22,6 +23,8 @@ fn append_number_line<A: Allocator>(
 ) -> Result<(), NoMemory>
     ensures ok { OnOk result (out.new.items ≡ out.old.items ++ number_line label.now number) }
     ensures err { OnErr result (Grew out.old.items out.new.items) }
+    ensures capacity { vec_capacity out.old ≤ vec_capacity out.new }
+    ensures full { OnErr result (HadNoRoom out.old (number_line label.now number)) }
 {
     append(label, out)?;
     append_number(number, out)?;
@@ -31,6 +34,8 @@ fn append_number_line<A: Allocator>(
 fn append_walk<A: Allocator>(walk: u32, out: &mut Vec<u8, A>) -> Result<(), NoMemory>
     ensures ok { OnOk result (out.new.items ≡ out.old.items ++ (codes "walk " ++ decimal walk)) }
     ensures err { OnErr result (Grew out.old.items out.new.items) }
+    ensures capacity { vec_capacity out.old ≤ vec_capacity out.new }
+    ensures full { OnErr result (HadNoRoom out.old (codes "walk " ++ decimal walk)) }
 {
     append(b"walk ", out)?;
     append_number(walk, out)
@@ -46,6 +51,8 @@ fn append_place<A: Allocator>(
     ensures ok { OnOk result
         (out.new.items ≡ out.old.items ++ walk_line walk (number_line label.now next)) }
     ensures err { OnErr result (Grew out.old.items out.new.items) }
+    ensures capacity { vec_capacity out.old ≤ vec_capacity out.new }
+    ensures full { OnErr result (HadNoRoom out.old (walk_line walk (number_line label.now next))) }
 {
     append_walk(walk, out)?;
     append_number_line(label, next, out)
@@ -60,6 +67,8 @@ fn append_walk_fault<A: Allocator>(
     ensures ok { OnOk result
         (out.new.items ≡ out.old.items ++ walk_line walk (codes " " ++ fault_text fault)) }
     ensures err { OnErr result (Grew out.old.items out.new.items) }
+    ensures capacity { vec_capacity out.old ≤ vec_capacity out.new }
+    ensures full { OnErr result (HadNoRoom out.old (walk_line walk (codes " " ++ fault_text fault))) }
 {
     append_walk(walk, out)?;
     append_byte(b' ', out)?;
@@ -75,6 +84,8 @@ fn append_given<A: Allocator>(
     ensures ok { OnOk result
         (out.new.items ≡ out.old.items ++ given_tail (entry_at format bytes.now)) }
     ensures err { OnErr result (Grew out.old.items out.new.items) }
+    ensures capacity { vec_capacity out.old ≤ vec_capacity out.new }
+    ensures full { OnErr result (HadNoRoom out.old (given_tail (entry_at format bytes.now))) }
 {
     match read_entry(format, bytes) {
         Some(entry) => append_tail(&entry.fields(), out),
@@ -95,6 +106,10 @@ fn append_gave<A: Allocator>(
         ++ walk_line walk (codes " gave " ++ (decimal place ++ (codes " next "
         ++ (decimal next ++ given_tail (entry_at format bytes.now)))))) }
     ensures err { OnErr result (Grew out.old.items out.new.items) }
+    ensures capacity { vec_capacity out.old ≤ vec_capacity out.new }
+    ensures full { OnErr result (HadNoRoom out.old
+        (walk_line walk (codes " gave " ++ (decimal place ++ (codes " next "
+        ++ (decimal next ++ given_tail (entry_at format bytes.now))))))) }
 {
     append_walk(walk, out)?;
     append(b" gave ", out)?;
@@ -112,6 +127,8 @@ fn append_reply<A: Allocator, B: Allocator>(
     ensures ok { OnOk result
         (out.new.items ≡ out.old.items ++ reply_text format (said reply.now)) }
     ensures err { OnErr result (Grew out.old.items out.new.items) }
+    ensures capacity { vec_capacity out.old ≤ vec_capacity out.new }
+    ensures full { OnErr result (HadNoRoom out.old (reply_text format (said reply.now))) }
 {
     match reply {
         Reply::Started { walk, next } => append_place(*walk, b" at ", *next, out),
@@ -148,6 +165,8 @@ fn append_replies<A: Allocator, B: Allocator>(
     ensures ok { OnOk result
         (out.new.items ≡ out.old.items ++ reply_texts format (map said replies.now)) }
     ensures err { OnErr result (Grew out.old.items out.new.items) }
+    ensures capacity { vec_capacity out.old ≤ vec_capacity out.new }
+    ensures full { OnErr result (HadNoRoom out.old (reply_texts format (map said replies.now))) }
 {
     let mut now = format;
     'replies: for reply in replies {
@@ -166,6 +185,10 @@ pub fn reply_line<A: Allocator, B: Allocator>(
     ensures ok { OnOk result
         (out.new.items ≡ out.old.items ++ reply_text format (said reply.now)) }
     ensures err { OnErr result (out.new.items ≡ out.old.items) }
+    ensures capacity { vec_capacity out.old ≤ vec_capacity out.new }
+
+    // It is out of memory only where the text does not fit into the room that there was.
+    ensures full { OnErr result (HadNoRoom out.old (reply_text format (said reply.now))) }
 {
     let len = out.len();
     match append_reply(format, reply, out) {
@@ -186,6 +209,10 @@ pub fn reply_lines<A: Allocator, B: Allocator>(
     ensures ok { OnOk result
         (out.new.items ≡ out.old.items ++ reply_texts format (map said replies.now)) }
     ensures err { OnErr result (out.new.items ≡ out.old.items) }
+    ensures capacity { vec_capacity out.old ≤ vec_capacity out.new }
+
+    // It is out of memory only where the text does not fit into the room that there was.
+    ensures full { OnErr result (HadNoRoom out.old (reply_texts format (map said replies.now))) }
 {
     let len = out.len();
     match append_replies(format, replies, out) {

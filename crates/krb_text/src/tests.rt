@@ -1,5 +1,6 @@
 //! Listings, found entries, replies, scripts and the lines of ktutil. Images and texts are spelled out by hand.
 
+mod allocations;
 mod found;
 mod keytabs;
 mod ktutil;

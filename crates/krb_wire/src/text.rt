@@ -60,6 +60,7 @@ fn push_name<N: Name, A: Allocator>(name: &N, out: &mut Vec<u8, A>) -> Result<()
 pub fn write_name<N: Name, A: Allocator>(name: &N, out: &mut Vec<u8, A>) -> Result<(), NoMemory>
     ensures ok { OnOk result (out.new.items ≡ out.old.items ++ name_text (N.parts name.now)) }
     ensures err { OnErr result (out.new.items ≡ out.old.items) }
+    ensures capacity { vec_capacity out.old ≤ vec_capacity out.new }
     // It runs out of memory only where the text does not fit the room that there is.
     ensures full { OnErr result (HadNoRoom out.old (name_text (N.parts name.now))) }
 {

@@ -1,4 +1,5 @@
-use super::runs::{COMMANDS, Command, Failure, NO_SLOTS, NONE, run};
+use super::commands::{COMMANDS, Command, NO_SLOTS};
+use super::runs::{Failure, NONE, respond_to, run};
 use crate::action::{Action, WordFault};
 use refusing::{Refusing, refuse_each};
 use std::process::Abort;
@@ -12,7 +13,7 @@ fn check<R: Abort + AllocGlobal>(
     want: (&str, &str, u8),
 ) -> Result<(), Fail> {
     let heap = Refusing::new(rt.alloc());
-    let got = run(&heap, rt.alloc(), asked, failure)?;
+    let got = respond_to(&heap, rt.alloc(), asked, b"", failure)?;
     let (out, err, status) = want;
     assert!(rt; got.is(out.as_bytes(), err, status), "not {out}{err}");
     Ok(())
@@ -21,8 +22,14 @@ fn check<R: Abort + AllocGlobal>(
 #[test]
 fn each_response(rt: HostRuntime) -> Result<(), Fail> {
     for command in COMMANDS {
-        let asked = command.asked(rt.alloc())?;
-        check(&rt, &asked, NONE, (command.text(), "", 0))?;
+        let heap = Refusing::new(rt.alloc());
+        let got = run(&heap, rt.alloc(), command, NONE)?;
+        let text = command.text();
+        assert!(rt;
+            got.is(text.as_bytes(), command.message(), command.status()),
+            "{text}"
+        );
+        assert!(rt; got.is_saved(command), "{text}");
     }
     let help = Ok(Action::Help(String::from_str(rt.alloc(), "help\n")?));
     check(&rt, &help, NONE, ("help\n", "", 0))?;
@@ -35,38 +42,78 @@ fn each_response(rt: HostRuntime) -> Result<(), Fail> {
     Ok(())
 }
 
-/// Each command loads the file, ktedit then saves it, and ktutil loads and saves another.
+/// Each command but the last loads a file; ktedit then saves it, and ktutil loads and saves another. Where that
+/// load fails no file is saved, but for the empty list that ktutil then has.
 #[test]
 fn each_load_and_save_fails(rt: HostRuntime) -> Result<(), Fail> {
-    let listed = Command::Ktutil.text();
     for (command, file_call, text, message) in [
         (Command::Klist, 1, "", "krbfile: k: cannot read\n"),
         (Command::KlistCache, 1, "", "krbfile: c: cannot read\n"),
         (Command::Ktfind, 1, "", "krbfile: k: cannot read\n"),
         (Command::Ktedit, 1, "", "krbfile: k: cannot read\n"),
         (Command::Ktedit, 2, "", "krbfile: k: cannot write\n"),
-        (Command::Ktutil, 1, NO_SLOTS, "krbfile: k: cannot read\n"),
-        (Command::Ktutil, 2, listed, "krbfile: j: cannot read\n"),
-        (Command::Ktutil, 3, listed, "krbfile: j: cannot write\n"),
+        (
+            Command::KtutilCopy,
+            1,
+            NO_SLOTS,
+            "krbfile: k: cannot read\n",
+        ),
+        (
+            Command::KtutilCopy,
+            2,
+            Command::KtutilCopy.text(),
+            "krbfile: j: cannot read\n",
+        ),
+        (
+            Command::KtutilCopy,
+            3,
+            Command::KtutilCopy.text(),
+            "krbfile: j: cannot write\n",
+        ),
+        (
+            Command::KtutilAdd,
+            1,
+            Command::KtutilAdd.text(),
+            "krbfile: n: cannot read\nkrbfile: line 5: fault 7\n",
+        ),
+        (
+            Command::KtutilAdd,
+            2,
+            Command::KtutilAdd.text(),
+            "krbfile: n: cannot write\nkrbfile: line 5: fault 7\n",
+        ),
     ] {
-        let asked = command.asked(rt.alloc())?;
+        let heap = Refusing::new(rt.alloc());
         let failure = Failure { file_call, ..NONE };
-        check(&rt, &asked, failure, (text, message, 3))?;
+        let got = run(&heap, rt.alloc(), command, failure)?;
+        assert!(rt; got.is(text.as_bytes(), message, 3), "{message}");
+        let is_empty_saved = text == NO_SLOTS;
+        assert!(rt; got.is_unsaved(command) || is_empty_saved, "{message}");
     }
     Ok(())
 }
 
-/// The output takes some bytes and then fails: they are the first of the text.
+/// The output takes some bytes and then fails: they are the first of the text. ktedit saves before it prints, ktutil
+/// lists before it saves.
 fn check_each_byte<R: Abort + AllocGlobal>(rt: &R, command: Command) -> Result<(), Fail> {
-    let asked = command.asked(rt.alloc())?;
     let text = command.text().as_bytes();
     for out_room in 0..text.len() {
-        let failure = Failure { out_room, ..NONE };
         let heap = Refusing::new(rt.alloc());
-        let got = run(&heap, rt.alloc(), &asked, failure)?;
+        let failure = Failure { out_room, ..NONE };
+        let got = run(&heap, rt.alloc(), command, failure)?;
         let message = "krbfile: cannot write output\n";
         assert!(rt; got.is(&text[..out_room], message, 3), "at {out_room}");
+        let is_kept = if matches!(command, Command::Ktedit | Command::KteditAnew) {
+            got.is_saved(command)
+        } else {
+            got.is_unsaved(command)
+        };
+        assert!(rt; is_kept, "at {out_room}");
     }
+    let heap = Refusing::new(rt.alloc());
+    let out_room = text.len();
+    let got = run(&heap, rt.alloc(), command, Failure { out_room, ..NONE })?;
+    assert!(rt; got.is(text, command.message(), command.status()));
     Ok(())
 }
 
@@ -74,6 +121,30 @@ fn check_each_byte<R: Abort + AllocGlobal>(rt: &R, command: Command) -> Result<(
 fn an_output_that_fails_at_each_byte(rt: HostRuntime) -> Result<(), Fail> {
     for command in COMMANDS {
         check_each_byte(&rt, command)?;
+    }
+    Ok(())
+}
+
+/// The lines of ktutil that were read whole are handled; a script is run whole or not at all.
+#[test]
+fn an_input_that_fails(rt: HostRuntime) -> Result<(), Fail> {
+    let listed = Command::KtutilAdd.text();
+    for (command, count, text) in [
+        (Command::Ktedit, 0usize, ""),
+        (Command::Ktedit, Command::Ktedit.input().len(), ""),
+        (Command::KtutilAdd, 0, ""),
+        (Command::KtutilAdd, 94, listed),
+        (Command::KtutilAdd, 99, listed),
+    ] {
+        let heap = Refusing::new(rt.alloc());
+        let failure = Failure {
+            input_after: Some(count),
+            ..NONE
+        };
+        let got = run(&heap, rt.alloc(), command, failure)?;
+        let message = "krbfile: cannot read input\n";
+        assert!(rt; got.is(text.as_bytes(), message, 3), "{count}");
+        assert!(rt; got.is_unsaved(command), "{count}");
     }
     Ok(())
 }
@@ -93,21 +164,24 @@ fn an_error_output_that_fails(rt: HostRuntime) -> Result<(), Fail> {
     )
 }
 
-/// Out of memory has its own status, and a prefix of the text is out.
+/// Out of memory has its own status, a prefix of the text is out, and the file is as before.
 fn check_each_growth<R: Abort + AllocGlobal>(rt: &R, command: Command) -> Result<(), Fail> {
-    let asked = command.asked(rt.alloc())?;
     let text = command.text().as_bytes();
-    let requests = refuse_each(rt.alloc(), 100, |heap, n| {
-        heap.refuse(n);
-        let got = run(heap, rt.alloc(), &asked, NONE)?;
+    let requests = refuse_each(rt.alloc(), 200, |heap, request| {
+        let got = run(heap, rt.alloc(), command, Failure { request, ..NONE })?;
         let out = got.out.taken.as_slice();
         if heap.refused() {
             assert!(rt;
                 text.starts_with(out) && got.is(out, "krbfile: out of memory\n", 4),
-                "at {n}"
+                "at {request}"
             );
+            assert!(rt; got.is_unsaved(command), "at {request}");
         } else {
-            assert!(rt; got.is(text, "", 0), "at {n}");
+            assert!(rt;
+                got.is(text, command.message(), command.status()),
+                "at {request}"
+            );
+            assert!(rt; got.is_saved(command), "at {request}");
         }
         Ok(())
     })?;

@@ -2,18 +2,17 @@ use super::keytabs::{B, HEAD, HOST};
 use crate::{Ktutil, LineEnd, LineFault, MemFiles, file_word};
 use krb_walk::Code;
 use krb_wire::Order;
-use refusing::refuse_each;
 use std::alloc::Global;
 use std::process::Abort;
 use std::test::Fail;
 
 /// The lines that add the entry of `HOST`.
-const ADD_HOST: &str = "addent -key -p host/a@R -k 3 -e aes128-cts-hmac-sha1-96";
+pub const ADD_HOST: &str = "addent -key -p host/a@R -k 3 -e aes128-cts-hmac-sha1-96";
 
-const KEY: &str = "000102030405060708090a0b0c0d0e0f";
+pub const KEY: &str = "000102030405060708090a0b0c0d0e0f";
 
 // No file, or one under the name `k`.
-fn files_of(alloc: Global, pieces: &[&[u8]]) -> Result<MemFiles<Global>, Fail> {
+pub fn files_of(alloc: Global, pieces: &[&[u8]]) -> Result<MemFiles<Global>, Fail> {
     let mut files = Vec::new(alloc);
     if !pieces.is_empty() {
         let mut bytes = Vec::new(alloc);
@@ -114,29 +113,6 @@ fn a_damaged_file_gives_no_entry(rt: HostRuntime) -> Result<(), Fail> {
         ),
     ];
     talk(&rt, rt.alloc(), &mut files, &lines)
-}
-
-/// Where an allocation fails, the key is still awaited.
-#[test]
-fn allocations_of_a_key(rt: HostRuntime) -> Result<(), Fail> {
-    let requests = refuse_each(rt.alloc(), 100, |heap, n| {
-        let mut files = files_of(rt.alloc(), &[])?;
-        let mut ktutil = Ktutil::new(heap, Order::Little);
-        let mut out = Vec::new(heap);
-        assert!(rt; ktutil.line(&mut files, ADD_HOST.as_bytes(), 0, &mut out) == LineEnd::Done);
-        heap.refuse(n);
-        let ended = ktutil.line(&mut files, KEY.as_bytes(), 0, &mut out);
-        if heap.refused() {
-            assert!(rt; ended == LineEnd::NoMemory && ktutil.pending());
-            assert!(rt; ktutil.line(&mut files, KEY.as_bytes(), 0, &mut out) == LineEnd::Done);
-        } else {
-            assert!(rt; ended == LineEnd::Done);
-        }
-        assert_eq!(rt; ktutil.entries().len(), 1);
-        Ok(())
-    })?;
-    assert!(rt; requests >= 2, "{requests}");
-    Ok(())
 }
 
 #[test]
