@@ -10,3 +10,4 @@ pub mod ChangeLemmas
 pub mod AppendLemmas
 pub mod RewriteLemmas
 pub mod BytesLemmas
+pub mod FindLemmas

@@ -86,7 +86,7 @@ slot_is at [] i d e lt = absurd (omega arith)
 slot_is at (c ∷ cs) zero d e lt = refl
 slot_is at (c ∷ cs) (suc i) d e lt = slot_is (at + 4 + cells.size c) cs i d e (omega arith)
 
-sound_at : (f : KtFormat) (cs : List Cell) (i : ℕ) (d : Cell) → AllByRecursion (IsCell f) cs → i < length cs → IsCell f (get_or cs i d)
+pub sound_at : (f : KtFormat) (cs : List Cell) (i : ℕ) (d : Cell) → AllByRecursion (IsCell f) cs → i < length cs → IsCell f (get_or cs i d)
 sound_at f [] i d all lt = absurd (omega arith)
 sound_at f (c ∷ cs) zero d all lt = all.0
 sound_at f (c ∷ cs) (suc i) d all lt = sound_at f cs i d all.1 (omega arith)
@@ -109,7 +109,7 @@ pub live_elsewhere : (k : KeytabState) (p rank : ℕ) → IsRank (places (slots_
 live_elsewhere k p rank r lt ne = none_of (live_bytes (store_of k) p) (λ some. ne (slot_place k rank lt ∙ sym (live_here k p rank r some)))
 
 -- the bytes of the cell of a rank
-live_is : (k : KeytabState) (p rank : ℕ) (d : Cell) → rank < length k.contents.cells → (slot_at k rank).place ≡ p → live_bytes (store_of k) p ≡ (store_cell (get_or k.contents.cells rank d)).live
+pub live_is : (k : KeytabState) (p rank : ℕ) (d : Cell) → rank < length k.contents.cells → (slot_at k rank).place ≡ p → live_bytes (store_of k) p ≡ (store_cell (get_or k.contents.cells rank d)).live
 live_is k p rank d lt is =
     let cs = k.contents.cells in
     let c = get_or cs rank d in

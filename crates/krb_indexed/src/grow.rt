@@ -1,12 +1,48 @@
 //! Room for one cell more in a table and its tree, and that cell.
 
-ghost use Rattle.std.specs.Prelude.{◌≡◌, ◌<◌, ◌≤◌, ◌+◌, ◌^◌, ◌++◌, ◌∷◌, [], length, IsOk, OnOk, vec_len, vec_capacity};
+ghost use Rattle.std.specs.Prelude.{◌≡◌, ◌<◌, ◌≤◌, ◌+◌, ◌*◌, ◌^◌, ◌++◌, ◌∷◌, [], ℕ, length, max, IsOk, OnOk, vec_len, vec_capacity};
 ghost use Rattle.krb_indexed.specs.Tree.{IsHeightFor, HasRoomFor, IsGrown};
 
+use crate::height::height_for;
 use crate::slot::Slot;
 use crate::tree::Tree;
 use krb_wire::NoMemory;
 use std::alloc::Allocator;
+
+// For how many cells more a full table takes room. A cell has 8 bytes there, and 8 in the tree for each leaf: with
+// one cell more both take no more than 24 bytes for each cell. Nor do they later, when the tree becomes higher,
+// since by then the table is full.
+fn more_room(count: usize) -> usize
+    requires { count < 2 ^ 30 }
+    ensures some { 0 < result }
+    ensures bytes { (height : ℕ) → IsHeightFor (count + 1) height
+        → 8 * (count + result) + 8 * 2 ^ height ≤ 24 * (count + 1) }
+    ensures leaves { (height : ℕ) → IsHeightFor (count + 1) height → count + result ≤ 2 ^ height }
+{
+    let leaves = height_for(count + 1).leaves;
+    leaves.min(3 * (count + 1) - leaves) - count
+}
+
+// Takes room for more cells in a table that is full, of so many bytes.
+fn reserve_slots<A: Allocator>(slots: &mut Vec<Slot, A>) -> Result<(), NoMemory>
+    requires { vec_len slots.old < 2 ^ 30 }
+    ensures slots { slots.new.items ≡ slots.old.items }
+    ensures len { vec_len slots.new ≡ vec_len slots.old }
+    ensures more { vec_capacity slots.old ≤ vec_capacity slots.new }
+    ensures room { OnOk result (vec_len slots.new < vec_capacity slots.new) }
+    ensures bytes { OnOk result ((height : ℕ) → IsHeightFor (vec_len slots.old + 1) height
+        → 8 * vec_capacity slots.new + 8 * 2 ^ height
+        ≤ max (8 * vec_capacity slots.old + 8 * 2 ^ height) (24 * (vec_len slots.old + 1))) }
+    ensures memory { vec_len slots.old < vec_capacity slots.old → IsOk result }
+{
+    if slots.len() < slots.capacity() {
+        return Ok(());
+    }
+    match slots.reserve_exact(more_room(slots.len())) {
+        Ok(()) => Ok(()),
+        Err(_) => Err(NoMemory),
+    }
+}
 
 /// Takes room for one cell more, where there is none.
 pub fn reserve_one<A: Allocator>(
@@ -24,9 +60,7 @@ pub fn reserve_one<A: Allocator>(
     ensures node_room { OnOk result (HasRoomFor (vec_len slots.new + 1) tree.new) }
     ensures memory { vec_len slots.old < vec_capacity slots.old → HasRoomFor (vec_len slots.old + 1) tree.old → IsOk result }
 {
-    if slots.reserve(1).is_err() {
-        return Err(NoMemory);
-    }
+    reserve_slots(slots)?;
     tree.reserve(slots.len() + 1)
 }
 

@@ -1,6 +1,6 @@
 //! How high a tree is.
 
-ghost use Rattle.std.specs.Prelude.{◌≡◌, ◌≤◌, ◌^◌};
+ghost use Rattle.std.specs.Prelude.{◌≡◌, ◌<◌, ◌≤◌, ◌*◌, ◌^◌};
 ghost use Rattle.krb_indexed.specs.Tree.{IsHeightFor};
 
 /// A number of levels, and how many leaves stand under them.
@@ -15,6 +15,7 @@ pub fn height_for(count: usize) -> Height
     requires { count ≤ 2 ^ 30 }
     ensures least { IsHeightFor count result.levels }
     ensures leaves { result.leaves ≡ 2 ^ result.levels }
+    ensures few { 0 < count → result.leaves < 2 * count }
     ensures low { result.levels ≤ 30 }
 {
     let mut levels: u32 = 0;

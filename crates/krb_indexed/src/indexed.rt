@@ -1,6 +1,7 @@
 //! Keytabs with a table of their cells.
 
 mod changes;
+mod finding;
 mod rewriting;
 
 ghost use Rattle.std.specs.Prelude.{◌≡◌, IsSome, IfOk, IfErr, IfSome, IfNone, ℕ, Some, None, ◌+◌, ◌<◌, ◌≤◌, length, take, vec_capacity};
@@ -10,7 +11,6 @@ ghost use Rattle.krb_keytab.specs.Entry.{entry_at, Spells};
 ghost use Rattle.krb_keytab.specs.Cells.{kind_of, IsSound};
 ghost use Rattle.krb_keytab.specs.Questions.{end_place};
 ghost use Rattle.krb_keytab.specs.Laws.{AreBytes};
-ghost use Rattle.krb_keytab.specs.Find.{find_result};
 ghost use Rattle.krb_keytab.specs.Store.{image_of, store_of, entry_at_place, Reopens};
 ghost use Rattle.krb_indexed.specs.Index.{fit_of, slot_at, IsFit, IsLiveNumber};
 ghost use Rattle.krb_indexed.specs.Slot.{places, slots_from, size, stop_of_slot, IsRank};
@@ -20,8 +20,8 @@ use crate::slot::Slot;
 use crate::table::{first_live, rank, record_bytes, table_of};
 use crate::tree::Tree;
 use krb_keytab::{EntryView, Keytab, read_entry};
-use krb_walk::{Code, Fault, Stop};
-use krb_wire::{KtFormat, Name, NoMemory};
+use krb_walk::{Fault, Stop};
+use krb_wire::{KtFormat, NoMemory};
 use std::alloc::Allocator;
 use std::marker::Model;
 
@@ -258,19 +258,5 @@ impl<A: Allocator> Indexed<A> {
     {
         let _ = self.live(place)?;
         read_entry(self.format(), self.bytes_at(place))
-    }
-
-    /// The entry of that name, version and enctype, with its place: version 0 asks for the highest,
-    /// enctype 0 for any, and the first in file order wins. A damaged keytab refuses. One pass, without
-    /// memory.
-    pub fn find<N: Name>(
-        &self,
-        name: &N,
-        kvno: u32,
-        enctype: u16,
-    ) -> Result<(u32, EntryView<'_>), Code>
-        ensures { result ≡ find_result self.now.state (N.parts name.now) kvno enctype }
-    {
-        self.keytab.find(name, kvno, enctype)
     }
 }

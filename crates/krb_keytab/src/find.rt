@@ -1,90 +1,16 @@
 //! Looking up an entry.
 
-ghost use Rattle.std.specs.Prelude.{◌≡◌, ◌==◌, ◌||◌, ◌∷◌, ◌++◌, [], true, Bool, List, Some, None, Ok, Err, if◌then◌else◌};
-ghost use Rattle.krb_wire.specs.Spelling.{Parts};
-ghost use Rattle.krb_wire.specs.SameName.{have_same_name};
-ghost use Rattle.krb_keytab.specs.Entry.{EntryParts, entry_at};
-ghost use Rattle.krb_keytab.specs.Find.{PlacedEntry, placed_entries, look_up_in, look_up, find_result};
-ghost use Rattle.krb_keytab.specs.Looked.{answer, IsFoundAmong};
+ghost use Rattle.std.specs.Prelude.{◌≡◌};
+ghost use Rattle.krb_keytab.specs.Find.{placed_entries, look_up, find_result};
+ghost use Rattle.krb_keytab.specs.Looked.{IsFoundAmong};
 
 use crate::cells::CellView;
-use crate::entry::{EntryView, read_entry};
-use crate::has_name::has_name;
+use crate::entry::EntryView;
 use crate::keytab::Keytab;
+use crate::looked::Looked;
 use krb_walk::Code;
 use krb_wire::{KtFormat, Name};
 use std::alloc::Allocator;
-
-fn has_enctype(enctype: u16, entry: &EntryView<'_>) -> bool
-    ensures { result ≡ (enctype == 0 || entry.now.enctype == enctype) }
-{
-    enctype == 0 || entry.enctype() == enctype
-}
-
-// Whether an entry of that version is looked for more than the one found so far.
-fn is_better(kvno: u32, best: &Option<(u32, EntryView<'_>)>, version: u32) -> bool
-    ensures { (named : Bool) (xs : List PlacedEntry) (x : PlacedEntry) → x.1.version ≡ version
-        → answer named best.now ≡ look_up_in kvno xs
-        → look_up_in kvno (xs ++ x ∷ []) ≡ (if result then Ok x else answer true best.now) }
-{
-    match best {
-        None => kvno == 0 || version == kvno,
-        Some((_, entry)) => kvno == 0 && entry.kvno() < version,
-    }
-}
-
-// What was found so far: whether some entry has the name and the enctype, and which is looked for.
-#[derive(Drop)]
-struct Looked<'a> {
-    named: bool,
-    best: Option<(u32, EntryView<'a>)>,
-}
-
-impl<'a> Looked<'a> {
-    // Looks at the next entry that has the name. It is not inlined, so that a loop over other names
-    // keeps none of this in registers.
-    #[inline(never)]
-    fn look(&mut self, kvno: u32, enctype: u16, place: u32, entry: EntryView<'a>)
-        ensures { (name : Parts) (xs : List PlacedEntry)
-            → have_same_name name entry.entry.principal ≡ true
-            → IsFoundAmong name kvno enctype xs self.old.named self.old.best
-            → IsFoundAmong name kvno enctype (xs ++ (place, entry.entry) ∷ [])
-            self.new.named self.new.best }
-    {
-        if !has_enctype(enctype, &entry) {
-            return;
-        }
-        self.named = true;
-        if is_better(kvno, &self.best, entry.kvno()) {
-            self.best = Some((place, entry));
-        }
-    }
-
-    // Looks at the next record, whose entry is read where it has the name.
-    #[inline(always)]
-    fn look_at<N: Name>(
-        &mut self,
-        name: &N,
-        kvno: u32,
-        enctype: u16,
-        format: KtFormat,
-        place: u32,
-        bytes: &'a [u8],
-    )
-        ensures { (xs : List PlacedEntry) (e : EntryParts)
-            → entry_at format bytes.now ≡ Some e
-            → IsFoundAmong (N.parts name.now) kvno enctype xs self.old.named self.old.best
-            → IsFoundAmong (N.parts name.now) kvno enctype (xs ++ (place, e) ∷ [])
-            self.new.named self.new.best }
-    {
-        if !has_name(format, name, bytes) {
-            return;
-        }
-        if let Some(entry) = read_entry(format, bytes) {
-            self.look(kvno, enctype, place, entry);
-        }
-    }
-}
 
 // What is found after all entries of a keytab of that format.
 #[inline(always)]
@@ -127,17 +53,6 @@ fn look_at_all<'a, N: Name, A: Allocator>(
     }
 }
 
-// Why nothing was found.
-fn missing(named: bool) -> Code
-    ensures { Err result ≡ answer named None }
-{
-    if named {
-        Code::KvnoNotFound
-    } else {
-        Code::NotFound
-    }
-}
-
 impl<A: Allocator> Keytab<A> {
     // The same of a keytab that is whole.
     fn look_up<N: Name>(
@@ -148,11 +63,7 @@ impl<A: Allocator> Keytab<A> {
     ) -> Result<(u32, EntryView<'_>), Code>
         ensures { result ≡ look_up self.now.state (N.parts name.now) kvno enctype }
     {
-        let Looked { named, best } = look_at_all(self, name, kvno, enctype);
-        match best {
-            Some(found) => Ok(found),
-            None => Err(missing(named)),
-        }
+        look_at_all(self, name, kvno, enctype).answer()
     }
 
     /// The entry of that name, version and enctype, with its place: version 0 asks for the highest,

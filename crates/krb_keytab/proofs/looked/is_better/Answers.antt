@@ -1,7 +1,7 @@
 use Rattle.std.proofs.Common.{rules, ◌≡◌, ltb}
 use Rattle.std.specs.Prelude.{◌==◌}
 use Rattle.krb_keytab.proofs.LookUpLemmas.{is_better, next_found}
-use Rattle.krb_keytab.proofs.find.is_better.Goals as goal
+use Rattle.krb_keytab.proofs.looked.is_better.Goals as goal
 
 pub returns-then-kvno-eq0 : goal.returns-then-kvno-eq0
 returns-then-kvno-eq0 c = λ named xs x is so_far.

@@ -2,7 +2,7 @@ use Rattle.std.proofs.Common.{true, false, sym}
 use Rattle.std.specs.Prelude.{filter}
 use Rattle.krb_keytab.specs.Find.{PlacedEntry, is_asked}
 use Rattle.krb_keytab.proofs.LookUpLemmas.{not_asked, asked, asked_by_enctype}
-use Rattle.krb_keytab.proofs.find.Looked.look.Goals as goal
+use Rattle.krb_keytab.proofs.looked.Looked.look.Goals as goal
 
 pub returns-then-not-has_enctype : goal.returns-then-not-has_enctype
 returns-then-not-has_enctype c = λ n xs same so_far.
