@@ -1,5 +1,5 @@
 -- What a cache in memory has room for.
-use Rattle.std.specs.Prelude.{ℕ, ◌+◌, ◌≤◌, length}
+use Rattle.std.specs.Prelude.{◌+◌, ◌≤◌, length}
 use Rattle.krb_ccache.specs.declared.version.Version.TheVariants.{V4}
 use Rattle.krb_ccache.specs.Credential.{CredParts, credential}
 use Rattle.krb_ccache.specs.Store.{image_of}

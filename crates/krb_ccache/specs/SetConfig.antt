@@ -3,7 +3,7 @@ use Rattle.std.specs.Prelude.{◌≡◌, ℕ, ◌+◌, List, [], ◌∷◌, ◌+
 use Rattle.std.specs.List.{splice}
 use Rattle.krb_wire.specs.declared.format.Order.TheVariants.{Big}
 use Rattle.krb_wire.specs.Spelling.{Parts, data32}
-use Rattle.krb_walk.specs.Contents.{Contents, contents, spelling}
+use Rattle.krb_walk.specs.Contents.{contents, spelling}
 use Rattle.krb_walk.specs.declared.refusal.Code.{Code}
 use Rattle.krb_ccache.specs.declared.version.Version.{Version}
 use Rattle.krb_ccache.specs.declared.times.Times.{Times}
