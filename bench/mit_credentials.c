@@ -1,7 +1,8 @@
 /*
- * Stores credentials in a cache file by MIT's libkrb5 and removes its last ones: mit_credentials FILE
- * STORES REMOVALS. It does what crates/ccbench does, for bench/credentials. REMOVALS "-" removes none,
- * and then it does not go through all credentials first to know the last ones.
+ * Stores credentials in a cache file by MIT's libkrb5, removes its last ones and sets configuration
+ * values: mit_credentials FILE STORES REMOVALS SETTINGS. It does what crates/ccbench does, for
+ * bench/credentials. REMOVALS "-" removes none, and then it does not go through all credentials first
+ * to know the last ones.
  */
 #include <krb5.h>
 #include <stdio.h>
@@ -46,6 +47,18 @@ static void store(krb5_ccache cache, unsigned int number)
 	krb5_free_principal(context, creds.server);
 }
 
+/* Sets a configuration value under the key of that number, as crates/ccbench sets it. */
+static void set(krb5_ccache cache, unsigned int number)
+{
+	krb5_data value = { 0 };
+	char key[32];
+
+	snprintf(key, sizeof key, "bench%05u", number);
+	value.data = "1";
+	value.length = 1;
+	must(krb5_cc_set_config(context, cache, NULL, key, &value), "set_config");
+}
+
 /* All credentials of the cache, in file order. */
 static krb5_creds *all_credentials(krb5_ccache cache, size_t *count)
 {
@@ -78,16 +91,17 @@ int main(int argc, char **argv)
 {
 	krb5_ccache cache;
 	krb5_creds *all = NULL;
-	unsigned int stores, removals, i;
+	unsigned int stores, removals, settings, i;
 	size_t count = 0;
 	char *name;
 
-	if (argc != 4) {
-		fputs("usage: mit_credentials FILE STORES REMOVALS\n", stderr);
+	if (argc != 5) {
+		fputs("usage: mit_credentials FILE STORES REMOVALS SETTINGS\n", stderr);
 		return 2;
 	}
 	stores = strtoul(argv[2], NULL, 10);
 	removals = strtoul(argv[3], NULL, 10);
+	settings = strtoul(argv[4], NULL, 10);
 	name = malloc(strlen(argv[1]) + 6);
 	if (name == NULL)
 		return 1;
@@ -106,7 +120,9 @@ int main(int argc, char **argv)
 		store(cache, i);
 	for (i = 1; i <= removals; i++)
 		must(krb5_cc_remove_cred(context, cache, 0, &all[count - i]), "remove_cred");
-	printf("%u stored, %u removed\n", stores, removals);
+	for (i = 0; i < settings; i++)
+		set(cache, i);
+	printf("%u stored, %u removed, %u set\n", stores, removals, settings);
 
 	while (count > 0)
 		krb5_free_cred_contents(context, &all[--count]);

@@ -81,3 +81,18 @@ pub fn remove_all<A: Allocator>(cache: &mut Ccache<A>, places: &[u32]) -> Result
     }
     Ok(())
 }
+
+/// Sets that many configuration values, each under a key of its own.
+pub fn set_all<A: Allocator>(
+    alloc: Global,
+    cache: &mut Ccache<A>,
+    settings: u32,
+) -> Result<(), Fault> {
+    for number in 0..settings {
+        let key = format!(in alloc; "bench{number:05}")?;
+        if cache.set_config(key.as_bytes(), None, b"1").is_err() {
+            return Err(Fault::Refused);
+        }
+    }
+    Ok(())
+}

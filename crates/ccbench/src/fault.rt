@@ -5,7 +5,7 @@ use std::alloc::{AllocError, AllocFailed};
 /// Why a run ends early.
 #[derive(Clone, Copy, Debug, PartialEq, Eq)]
 pub enum Fault {
-    /// The words are not a file and two numbers.
+    /// The words are not a file and three numbers.
     BadLine,
     Read,
     NotACache,

@@ -1,11 +1,11 @@
-//! Changes a credential cache file for the benchmark alone: `ccbench FILE STORES REMOVALS`.
+//! Changes a credential cache file for the benchmark alone: `ccbench FILE STORES REMOVALS SETTINGS`.
 #![tactic(auto)]
 
 mod changes;
 mod fault;
 mod task;
 
-use changes::{last_places, remove_all, store_all};
+use changes::{last_places, remove_all, set_all, store_all};
 use fault::Fault;
 use krb_ccache::Ccache;
 use krb_wire::Limits;
@@ -36,6 +36,7 @@ fn change<R: rt::Files + AllocGlobal>(rt: &R, task: &Task) -> Result<usize, Faul
     let last = last_places(rt.alloc(), &cache, task.removals)?;
     store_all(rt.alloc(), &mut cache, task.stores)?;
     remove_all(&mut cache, &last)?;
+    set_all(rt.alloc(), &mut cache, task.settings)?;
     write_over(rt, task.file.as_str(), cache.image())?;
     Ok(cache.image().len())
 }
@@ -43,6 +44,6 @@ fn change<R: rt::Files + AllocGlobal>(rt: &R, task: &Task) -> Result<usize, Faul
 fn main(rt: HostRuntime) -> Result<(), Fault> {
     let task = Task::of(&rt)?;
     let len = change(&rt, &task)?;
-    let (stored, removed) = (task.stores, task.removals);
-    println!(rt; "{stored} stored, {removed} removed, {len} bytes").map_err(|_| Fault::Write)
+    let (stored, removed, set) = (task.stores, task.removals, task.settings);
+    println!(rt; "{stored} stored, {removed} removed, {set} set, {len} bytes").map_err(|_| Fault::Write)
 }

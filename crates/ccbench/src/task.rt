@@ -9,6 +9,7 @@ pub struct Task {
     pub file: String,
     pub stores: u32,
     pub removals: u32,
+    pub settings: u32,
 }
 
 fn number(word: &str) -> Result<u32, Fault> {
@@ -16,19 +17,20 @@ fn number(word: &str) -> Result<u32, Fault> {
 }
 
 impl Task {
-    /// What stands behind the program's name: a file and two numbers.
+    /// What stands behind the program's name: a file and three numbers.
     pub fn of<R: rt::Env + AllocGlobal>(rt: &R) -> Result<Task, Fault> {
         let Ok(words) = env::args(rt) else {
             return Err(Fault::BadLine);
         };
         let words: Vec<String> = words.collect(rt.alloc())?;
-        let [_, file, stores, removals] = words.as_slice() else {
+        let [_, file, stores, removals, settings] = words.as_slice() else {
             return Err(Fault::BadLine);
         };
         Ok(Task {
             file: file.clone()?,
             stores: number(stores.as_str())?,
             removals: number(removals.as_str())?,
+            settings: number(settings.as_str())?,
         })
     }
 }

@@ -1,21 +1,20 @@
 -- After a value is set, exactly one live entry is asked for.
 use Rattle.std.proofs.Common.{◌≡◌, ℕ, ◌+◌, Bool, true, false, List, [], ◌∷◌, ◌++◌, length, map, Option, Some, None, Result, Ok, Err, refl, sym, ap, subst, ◌∙◌}
-use Rattle.std.specs.Prelude.{◌&&◌, filter, find, option_map, codes, is_some, nat_lt, IfOk}
+use Rattle.std.specs.Prelude.{filter, find, option_map, IfOk}
 use Rattle.std.specs.Str.{bytes_eq}
 use Rattle.std.proofs.lemmas.Slice.Eq.{bytes_eq-Decides}
 use Rattle.krb_wire.specs.Spelling.{Parts}
 use Rattle.krb_wire.specs.SameName.{have_same_name}
 use Rattle.krb_wire.proofs.NamesTold.{same_name_is}
-use Rattle.krb_walk.specs.declared.refusal.Code.{Code}
 use Rattle.krb_walk.specs.declared.refusal.Refusal.{Refusal}
 use Rattle.krb_walk.specs.Rules.{PutGives}
-use Rattle.krb_walk.specs.Store.{end_from, end_of, fault_of}
+use Rattle.krb_walk.specs.Store.{end_from, end_of}
 use Rattle.krb_ccache.specs.declared.version.Version.{Version}
 use Rattle.krb_ccache.specs.Credential.{CredParts, credential, is_marked}
 use Rattle.krb_ccache.specs.Store.{CacheState, PlacedCredential, store_of, store_cell, first_place, placed_from, is_live, placed_credentials}
-use Rattle.krb_ccache.specs.Config.{is_asked, same_text, config_of, value_among}
+use Rattle.krb_ccache.specs.Config.{is_asked, same_text}
 use Rattle.krb_ccache.specs.Changes.{with_last}
-use Rattle.krb_ccache.specs.SetConfig.{config_server, config_entry, mark_asked, without_asked, set_config_result, asked_of, HoldsConfig}
+use Rattle.krb_ccache.specs.SetConfig.{config_entry, mark_asked, without_asked, set_config_result, HoldsConfig}
 use Rattle.krb_ccache.proofs.LastPlaced.{was_put}
 
 same_bytes : (b : List ℕ) → bytes_eq b b ≡ true

@@ -5,11 +5,11 @@ use Rattle.std.specs.List.{flat_map, AllByRecursion}
 use Rattle.std.specs.Int.{w32}
 use Rattle.std.proofs.lemmas.List.Concat.{flat_map-cons}
 use Rattle.krb_wire.specs.declared.format.Order.TheVariants.{Big}
-use Rattle.krb_wire.specs.Spelling.{Parts, digits, data32, cc_principal, IsLong, FitsCc}
+use Rattle.krb_wire.specs.Spelling.{Parts, digits, data32, cc_principal, IsLong}
 use Rattle.krb_wire.proofs.Fields.{wide32}
 use Rattle.krb_wire.proofs.NamesTold.{has_cc_len}
 use Rattle.krb_ccache.specs.declared.version.Version.TheVariants.{V4}
-use Rattle.krb_ccache.specs.Credential.{CredParts, number32, credential, FitsCredential}
+use Rattle.krb_ccache.specs.Credential.{number32, credential, FitsCredential}
 use Rattle.krb_ccache.specs.Cred.{middle_text, lists_text}
 use Rattle.krb_ccache.specs.SetConfig.{text_component, config_components, config_server, config_entry, value_text}
 use Rattle.krb_ccache.proofs.WrittenLemmas.{in_four, told_fits}

@@ -7,6 +7,7 @@ pub mod Typed
 pub mod Cred
 pub mod Open
 pub mod Changes
+pub mod Room
 pub mod SetConfig
 pub mod Laws
 -- For private contracts alone.

@@ -3,7 +3,7 @@ use Rattle.std.specs.Prelude.{◌≡◌, ℕ, ◌+◌, List, [], ◌∷◌, ◌+
 use Rattle.std.specs.List.{splice}
 use Rattle.krb_wire.specs.declared.format.Order.TheVariants.{Big}
 use Rattle.krb_wire.specs.Spelling.{Parts, data32}
-use Rattle.krb_walk.specs.Contents.{Contents, contents, spelling}
+use Rattle.krb_walk.specs.Contents.{contents, spelling}
 use Rattle.krb_walk.specs.declared.refusal.Code.{Code}
 use Rattle.krb_ccache.specs.declared.version.Version.{Version}
 use Rattle.krb_ccache.specs.declared.times.Times.{Times}
@@ -11,7 +11,7 @@ use Rattle.krb_ccache.specs.Credential.{CredParts, number32, credential, credent
 use Rattle.krb_ccache.specs.Cred.{plain_key}
 use Rattle.krb_ccache.specs.Store.{CacheState, PlacedCredential, credentials_format, placed_credentials}
 use Rattle.krb_ccache.specs.Config.{is_asked, config_of}
-use Rattle.krb_ccache.specs.Changes.{marked, put_result}
+use Rattle.krb_ccache.specs.Changes.{marked, append_result, put_result}
 
 -- the component of a principal's text, if there is one
 abbrev pub text_component : Option (List ℕ) → List (List ℕ)
@@ -53,7 +53,7 @@ mark_asked owner key text c = if is_asked owner key text c then marked c else c
 abbrev pub without_asked : CacheState → List ℕ → Option (List ℕ) → CacheState
 without_asked k key text = record k { contents = record { cells = map (mark_asked k.principal key text) k.contents.cells; end = k.contents.end } }
 
--- what setting a value gives: the addition of its entry to the cache without those that are asked for
+-- what setting a value gives: the addition of its entry to the cache without those that are asked for; it has no times, and so no mark
 abbrev pub set_config_result : CacheState → List ℕ → Option (List ℕ) → List ℕ → Result (ℕ × CacheState) Code
 set_config_result k key text value = put_result (without_asked k key text) (config_entry k.principal key text value)
 
@@ -77,6 +77,10 @@ pub record SettingParts : Type 0 where
 -- the entry of a setting
 abbrev pub setting_entry : Parts → SettingParts → CredParts
 setting_entry owner s = config_entry owner s.key s.principal s.value
+
+-- what putting the entry of a setting in the place of others gives, in a cache that is whole
+abbrev pub replace_result : CacheState → SettingParts → Result (ℕ × CacheState) Code
+replace_result k s = append_result (without_asked k s.key s.principal) (setting_entry k.principal s)
 
 -- what stands after the flags of an entry: no addresses, no authorization data, the value, and no second ticket
 abbrev pub value_text : List ℕ → List ℕ

@@ -1,15 +1,15 @@
 //! Caches that are made, added to and removed from, each in place.
 
-ghost use Rattle.std.specs.Prelude.{◌≡◌, ◌≤◌, ◌+◌, [], length, true, None, Some, IsSome, IfOk, IfErr, OnOk, Ok};
+ghost use Rattle.std.specs.Prelude.{◌≡◌, [], true, None, Some, IsSome, IfOk, IfErr, OnOk, Ok};
 ghost use Rattle.krb_walk.specs.Rules.{PutGives, CutGives};
 ghost use Rattle.krb_walk.specs.Memory.{HadMemory};
 ghost use Rattle.krb_walk.specs.Changes.{Puts, Cuts};
 ghost use Rattle.krb_walk.specs.Store.{live_bytes};
-ghost use Rattle.krb_ccache.specs.Credential.{credential};
 ghost use Rattle.krb_ccache.specs.Header.{offset_in};
-ghost use Rattle.krb_ccache.specs.Store.{image_of, store_of, credential_at_place};
+ghost use Rattle.krb_ccache.specs.Store.{store_of, credential_at_place};
 ghost use Rattle.krb_ccache.specs.declared.version.Version.TheVariants.{V4};
 ghost use Rattle.krb_ccache.specs.Changes.{create_result, RefusesAs, append_result, is_refused, is_read_only, put_result, cut_result, takes_none, with_mark};
+ghost use Rattle.krb_ccache.specs.Room.{HasRoomFor};
 
 use super::Ccache;
 use crate::append::append_credential;
@@ -106,7 +106,7 @@ impl<A: Allocator> Ccache<A> {
         requires version { self.old.state.version ≡ V4 }
         ensures gives { PutGives (append_result self.old.state cred.now) self.old.state result self.new.state }
         ensures memory { is_refused (append_result self.old.state cred.now) ≡ true → HadMemory result }
-        ensures room { length (image_of self.old.state) + length (credential V4 cred.now) ≤ self.old.room → HadMemory result }
+        ensures room { HasRoomFor self.old cred.now → HadMemory result }
     {
         bytes_fit(&self.image);
         let place = self.end();
@@ -132,7 +132,7 @@ impl<A: Allocator> Ccache<A> {
         ensures there { IfOk result (λ place. credential_at_place self.new.state place ≡ Some cred.now) }
         ensures memory { takes_none self.old.state cred.now ≡ true → HadMemory result }
         // Nor is memory asked for where there is room for the credential.
-        ensures room { length (image_of self.old.state) + length (credential V4 cred.now) ≤ self.old.room → HadMemory result }
+        ensures room { HasRoomFor self.old cred.now → HadMemory result }
     {
         if self.is_read_only() {
             return Err(Refusal::Code(Code::ReadOnly));

@@ -1,13 +1,13 @@
 //! Configuration values that are set in a cache.
 
-ghost use Rattle.std.specs.Prelude.{◌≡◌, ◌≤◌, ◌+◌, [], length, true, Some, IfOk, option_copied};
+ghost use Rattle.std.specs.Prelude.{◌≡◌, [], true, Some, IfOk, option_copied};
 ghost use Rattle.krb_walk.specs.Rules.{PutGives};
 ghost use Rattle.krb_walk.specs.Memory.{HadMemory};
 ghost use Rattle.krb_ccache.specs.declared.version.Version.TheVariants.{V4};
-ghost use Rattle.krb_ccache.specs.Credential.{credential};
-ghost use Rattle.krb_ccache.specs.Store.{image_of, credential_at_place};
-ghost use Rattle.krb_ccache.specs.Changes.{append_result, is_refused};
-ghost use Rattle.krb_ccache.specs.SetConfig.{without_asked, config_entry, setting_entry, set_config_result, HoldsConfig};
+ghost use Rattle.krb_ccache.specs.Store.{credential_at_place};
+ghost use Rattle.krb_ccache.specs.Changes.{is_refused};
+ghost use Rattle.krb_ccache.specs.Room.{HasRoomFor};
+ghost use Rattle.krb_ccache.specs.SetConfig.{config_entry, set_config_result, setting_entry, replace_result, HoldsConfig};
 
 use super::Ccache;
 use crate::cells::bytes_fit;
@@ -21,12 +21,9 @@ impl<A: Allocator> Ccache<A> {
     fn replace(&mut self, setting: &Setting<'_>) -> Result<u32, Refusal>
         requires whole { (self.old.state).contents.end ≡ [] }
         requires version { self.old.state.version ≡ V4 }
-        ensures gives { PutGives (append_result (without_asked self.old.state setting.now.key setting.now.principal) (setting_entry self.old.state.principal setting.now))
-            self.old.state result self.new.state }
-        ensures memory { is_refused (append_result (without_asked self.old.state setting.now.key setting.now.principal) (setting_entry self.old.state.principal setting.now)) ≡ true
-            → HadMemory result }
-        ensures room { length (image_of self.old.state) + length (credential V4 (setting_entry self.old.state.principal setting.now)) ≤ self.old.room
-            → HadMemory result }
+        ensures gives { PutGives (replace_result self.old.state setting.now) self.old.state result self.new.state }
+        ensures memory { is_refused (replace_result self.old.state setting.now) ≡ true → HadMemory result }
+        ensures room { HasRoomFor self.old (setting_entry self.old.state.principal setting.now) → HadMemory result }
     {
         bytes_fit(&self.image);
         let place = self.end();
@@ -60,7 +57,7 @@ impl<A: Allocator> Ccache<A> {
         ensures memory { is_refused (set_config_result self.old.state key.now (option_copied principal.entry) value.now) ≡ true
             → HadMemory result }
         // Nor is memory asked for where there is room for the entry.
-        ensures room { length (image_of self.old.state) + length (credential V4 (config_entry self.old.state.principal key.now (option_copied principal.entry) value.now)) ≤ self.old.room
+        ensures room { HasRoomFor self.old (config_entry self.old.state.principal key.now (option_copied principal.entry) value.now)
             → HadMemory result }
     {
         if self.is_read_only() {

@@ -1,4 +1,4 @@
-use Rattle.std.proofs.Common.{◌≡◌, ◌++◌, ℕ, List, length, take, drop, ap, sym, ◌∙◌, length-append, arith}
+use Rattle.std.proofs.Common.{◌≡◌, ◌++◌, ℕ, List, length, take, drop, ap, ◌∙◌, length-append, arith}
 use Rattle.std.proofs.lemmas.List.{take_at}
 use Rattle.krb_ccache.specs.declared.version.Version.TheVariants.{V4}
 use Rattle.krb_ccache.specs.Credential.{credential}

@@ -1,4 +1,4 @@
-use Rattle.std.proofs.Common.{ℕ, ◌<◌, ◌^◌, length, ap, sym, subst, arith}
+use Rattle.std.proofs.Common.{◌<◌, ◌^◌, length, subst, arith}
 use Rattle.std.specs.Prelude.{option_copied}
 use Rattle.std.specs.List.{flat_map}
 use Rattle.krb_wire.specs.declared.format.Order.TheVariants.{Big}

@@ -1,4 +1,4 @@
-use Rattle.std.proofs.Common.{ℕ, List, ◌≡◌, ◌++◌, length, replicate, ap, ◌∙◌, arith}
+use Rattle.std.proofs.Common.{◌≡◌, ◌++◌, length, replicate, ap, ◌∙◌, arith}
 use Rattle.std.specs.List.{splice}
 use Rattle.krb_wire.specs.Spelling.{cc_principal}
 use Rattle.krb_wire.proofs.SpliceLemmas.{splice-four}

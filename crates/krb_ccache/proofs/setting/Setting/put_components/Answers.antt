@@ -1,4 +1,4 @@
-use Rattle.std.proofs.Common.{ℕ, List, ◌≡◌, ◌++◌, length, ap, ◌∙◌, arith}
+use Rattle.std.proofs.Common.{ℕ, List, ◌++◌, ap, ◌∙◌, arith}
 use Rattle.std.specs.Prelude.{Option, codes, option_copied}
 use Rattle.std.specs.List.{flat_map, splice}
 use Rattle.krb_wire.specs.declared.format.Order.TheVariants.{Big}

@@ -1,10 +1,9 @@
-use Rattle.std.proofs.Common.{List, ℕ, ◌++◌, length, ap, ◌∙◌, arith}
+use Rattle.std.proofs.Common.{ℕ, length, ap, ◌∙◌, arith}
 use Rattle.std.specs.Prelude.{codes}
 use Rattle.std.specs.List.{flat_map, splice}
 use Rattle.std.specs.Int.{w32}
 use Rattle.krb_wire.specs.declared.format.Order.TheVariants.{Big}
 use Rattle.krb_wire.specs.Spelling.{digits, data32}
-use Rattle.krb_wire.proofs.Fields.{wide32}
 use Rattle.krb_wire.proofs.SpliceLemmas.{splice-four}
 use Rattle.krb_ccache.specs.SetConfig.{config_components}
 use Rattle.krb_ccache.proofs.setting.Setting.put_server.Goals as goal
