@@ -1,5 +1,5 @@
 -- A cache that is kept as an image, and written anew.
-use Rattle.std.proofs.Common.{◌≡◌, ℕ, ◌+◌, ◌^◌, ◌<◌, List, ◌++◌, length, map, sym, ap, subst, ◌∙◌, length-append}
+use Rattle.std.proofs.Common.{◌≡◌, ℕ, ◌+◌, ◌^◌, ◌<◌, ◌≤◌, List, ◌++◌, length, map, sym, ap, subst, ◌∙◌, length-append, arith}
 use Rattle.std.specs.Prelude.{drop, Option, Result, Ok, Err, IfOk}
 use Rattle.std.specs.List.{flat_map, AllByRecursion}
 use Rattle.krb_wire.specs.Spelling.{Parts}
@@ -13,14 +13,14 @@ use Rattle.krb_ccache.specs.declared.version.Version.TheVariants.{V4}
 use Rattle.krb_ccache.specs.Credential.{CredParts}
 use Rattle.krb_ccache.specs.declared.open.Head.{Head}
 use Rattle.krb_ccache.specs.declared.offset.Offset.{Offset}
-use Rattle.krb_ccache.specs.Header.{offset_in}
+use Rattle.krb_ccache.specs.Header.{header, offset_in}
 use Rattle.krb_ccache.specs.Store.{CacheState, credentials_format, image_of, store_cell, store_of, first_place}
-use Rattle.krb_ccache.specs.Changes.{new_front}
-use Rattle.krb_ccache.specs.Open.{IsImage, held_by}
+use Rattle.krb_ccache.specs.Changes.{new_front, new_header}
+use Rattle.krb_ccache.specs.Open.{Holds, IsImage, held_by}
 use Rattle.krb_ccache.specs.Rewrite.{new_cells, rewrite_of, text_anew, texts_anew}
 use Rattle.krb_ccache.proofs.Held.{is_held, end_held}
 use Rattle.krb_ccache.proofs.Kept.{IsKept, held_kept}
-use Rattle.krb_ccache.proofs.Rewrites.{image_is}
+use Rattle.krb_ccache.proofs.Rewrites.{image_is, rewrite_held}
 use Rattle.krb_ccache.proofs.StoreChanges.{cells_wide}
 
 pub kept_by : (h : Head) (image : List ℕ) (k : CacheState) → IsBytes image → IsImage h.version h.limit image h.places → held_by h image ≡ k → IsKept k
@@ -47,7 +47,18 @@ spelled_anew h image bytes cells p o k same is_bytes is_cells is_p is_o =
       limit = ap (λ (s : CacheState). s.limit) (sym same);
     }
 
+-- the new image is kept, and is what a rewrite leaves
+pub anew_held : (h : Head) (image new : List ℕ) (k : CacheState) (front first len : ℕ) → IsBytes image → IsImage h.version h.limit image h.places → held_by h image ≡ k → IsBytes new → new ≡ image_of (rewrite_of k)
+    → front ≡ length (header V4 (new_header (offset_in k.header))) → first ≡ length (new_front k.principal (offset_in k.header)) → len ≡ length (image_of (rewrite_of k)) → len ≤ k.limit
+    → Holds (record { version = V4; limit = h.limit; places = record { principal = 2 + front; first = first; end = len } }) new (rewrite_of k)
+anew_held h image new k front first len fits is same new_fits spelled is_front is_first is_len within =
+    let limit : h.limit ≡ k.limit = ap (λ (s : CacheState). s.limit) same in
+    rewrite_held k new h.limit (2 + front) first len (kept_by h image k fits is same) new_fits spelled limit (omega (arith, limit, within, is_len)) (ap (λ (n : ℕ). 2 + n) is_front) is_first is_len
+
 -- ---- cursors
+
+pub first_in : (h : Head) (image : List ℕ) (k : CacheState) → IsBytes image → IsImage h.version h.limit image h.places → held_by h image ≡ k → h.places.first ≡ first_place k
+first_in h image k fits is same = (is_held h.version h.limit image h.places fits is).first ∙ ap first_place same
 
 pub end_in : (h : Head) (image : List ℕ) (k : CacheState) → IsBytes image → IsImage h.version h.limit image h.places → held_by h image ≡ k → end_of (store_of k) ≡ h.places.end
 end_in h image k fits is same = sym (end_held h.version h.limit image h.places (is_held h.version h.limit image h.places fits is) is ∙ ap (λ (s : CacheState). end_of (store_of s)) same)
@@ -67,7 +78,7 @@ pub is_old_image : (h : Head) (image bytes : List ℕ) (k : CacheState) (to : �
 is_old_image h image bytes k to fits is is_bytes same is_to =
     let there : held_by h bytes ≡ k = ap (held_by h) is_bytes ∙ same in
     record {
-      first = (is_held h.version h.limit image h.places fits is).first ∙ ap first_place same;
+      first = first_in h image k fits is same;
       cells = ap (λ (s : CacheState). map (store_cell s.version) s.contents.cells) there;
       new_first = is_to;
       new_cells = ap (λ (s : CacheState). map (store_cell V4) (new_cells s.contents.cells)) there;

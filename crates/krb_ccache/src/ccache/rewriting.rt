@@ -1,6 +1,6 @@
 //! Writing a cache anew.
 
-ghost use Rattle.std.specs.Prelude.{◌≡◌, ◌<◌, ◌≤◌, length, map, IfSome, IfNone, IfOk, OnOk, OnErr};
+ghost use Rattle.std.specs.Prelude.{◌≡◌, ◌<◌, ◌≤◌, length, map, Ok, Err, IfSome, IfNone, IfOk, IfErr, OnOk, OnErr};
 ghost use Rattle.std.specs.List.{AllByRecursion};
 ghost use Rattle.krb_wire.specs.Spelling.{FitsCc};
 ghost use Rattle.krb_walk.specs.Rules.{RewriteGives};
@@ -56,17 +56,12 @@ impl<A: Allocator + Copy> Ccache<A> {
         )
     }
 
-    /// Writes the live credentials anew, in version 4 and in order, after a header that has the time offset alone,
-    /// if there is one, and the default principal. Each cursor is carried to the new place of the first live
-    /// credential at or after it, or to the new end. A damaged cache refuses, and then so does a limit that the new
-    /// image would pass. Memory is taken once, for the new image.
-    pub fn rewrite(&mut self, cursors: &mut [u32]) -> Result<(), Refusal>
-        requires { AllByRecursion (IsPlace (store_of self.old.state)) cursors.old }
-        ensures gives { RewriteGives (rewrite_result self.old.state) self.old.state result self.new.state }
-        ensures rewrites { OnOk result (Rewrites (store_of self.old.state) (store_of self.new.state)) }
-        ensures carries { OnOk result (cursors.new ≡ map (carry (store_of self.old.state) (store_of self.new.state)) cursors.old) }
-        ensures keeps { OnErr result (cursors.new ≡ cursors.old) }
-        ensures room { OnErr result (self.new.room ≡ self.old.room) }
+    // The cache that is written anew.
+    fn rewritten(&self) -> Result<Ccache<A>, Refusal>
+        ensures ok { IfOk result (λ k. k.state ≡ rewrite_of self.now.state) }
+        ensures gives { OnOk result (rewrite_result self.now.state ≡ Ok (rewrite_of self.now.state)) }
+        ensures rewrites { OnOk result (Rewrites (store_of self.now.state) (store_of (rewrite_of self.now.state))) }
+        ensures err { IfErr result (λ e. RewriteGives (rewrite_result self.now.state) self.now.state (Err e) self.now.state) }
     {
         if self.fault().is_some() {
             return Err(Refusal::Code(Code::Damaged));
@@ -79,28 +74,44 @@ impl<A: Allocator + Copy> Ccache<A> {
         };
         bytes_fit(&self.image);
         bytes_fit(&image);
-        let principal = 2 + header_len(self.offset());
-        let old = self.head;
-        let mut cells = OldCells {
-            version: old.version,
-        };
-        carry_cursors(
-            &mut cells,
-            &mut self.image,
-            old.places.first,
-            first,
-            cursors,
-        );
-        self.image = image;
-        self.head = Head {
+        let head = Head {
             version: Version::V4,
-            limit: old.limit,
+            limit: self.head.limit,
             places: Places {
-                principal,
+                principal: 2 + header_len(self.offset()),
                 first,
                 end: len,
             },
         };
+        Ok(Ccache { image, head })
+    }
+
+    /// Writes the live credentials anew, in version 4 and in order, after a header that has the time offset alone,
+    /// if there is one, and the default principal. Each cursor is carried to the new place of the first live
+    /// credential at or after it, or to the new end. A damaged cache refuses, and then so does a limit that the new
+    /// image would pass. Memory is taken once, for the new image.
+    pub fn rewrite(&mut self, cursors: &mut [u32]) -> Result<(), Refusal>
+        requires { AllByRecursion (IsPlace (store_of self.old.state)) cursors.old }
+        ensures gives { RewriteGives (rewrite_result self.old.state) self.old.state result self.new.state }
+        ensures rewrites { OnOk result (Rewrites (store_of self.old.state) (store_of self.new.state)) }
+        ensures carries { OnOk result (cursors.new ≡ map (carry (store_of self.old.state) (store_of self.new.state)) cursors.old) }
+        ensures keeps { OnErr result (cursors.new ≡ cursors.old) }
+        ensures room { OnErr result (self.new.room ≡ self.old.room) }
+    {
+        let new = self.rewritten()?;
+        bytes_fit(&self.image);
+        bytes_fit(&new.image);
+        let mut cells = OldCells {
+            version: self.head.version,
+        };
+        carry_cursors(
+            &mut cells,
+            &mut self.image,
+            self.head.places.first,
+            new.head.places.first,
+            cursors,
+        );
+        *self = new;
         Ok(())
     }
 }

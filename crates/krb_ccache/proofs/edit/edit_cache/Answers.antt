@@ -9,7 +9,7 @@ use Rattle.krb_ccache.proofs.edit.edit_cache.Goals as goal
 
 pub returns-in-Ok-ran-clause-ok : goal.returns-in-Ok-ran-clause-ok
 returns-in-Ok-ran-clause-ok g c = record {
-  cache = c.in-Ok.cache.state;
+  store = c.in-Ok.cache.state;
   opens = c.in-Ok.ensures.ok;
   after = session_of (λ (k : InMemory). k.state) c.run-ran.new.self;
   ran = subst (λ (s : SessionState InMemory). Ran cache_rules (session_of (λ (k : InMemory). k.state) s) (session_of (λ (k : InMemory). k.state) c.run-ran.new.self) c.args.events.now (map said c.args.replies.now.items) (map said c.run-ran.new.replies.items)) c.new-session.ensures.is c.in-Ok-ran.ensures.ok;
@@ -18,7 +18,7 @@ returns-in-Ok-ran-clause-ok g c = record {
 
 pub returns-in-Err-ran-clause-err : goal.returns-in-Err-ran-clause-err
 returns-in-Err-ran-clause-err g c = record {
-  cache = c.in-Ok.cache.state;
+  store = c.in-Ok.cache.state;
   opens = c.in-Ok.ensures.ok;
   after = session_of (λ (k : InMemory). k.state) c.run-ran.new.self;
   ran = subst (λ (s : SessionState InMemory). RanSome cache_rules (session_of (λ (k : InMemory). k.state) s) (session_of (λ (k : InMemory). k.state) c.run-ran.new.self) c.args.events.now (map said c.args.replies.now.items) (map said c.run-ran.new.replies.items)) c.new-session.ensures.is c.in-Err-ran.ensures.err;
