@@ -1,13 +1,8 @@
 """Listings of random caches and of caches with random damage, beside what the format says of them.
-
-The seed says which they are. An image that is answered otherwise than it should be is kept.
 """
 from __future__ import annotations
 
-import os
 import re
-import tempfile
-from collections import Counter
 from collections.abc import Iterator
 from dataclasses import replace
 from random import Random
@@ -15,26 +10,21 @@ from random import Random
 from cache_images import CONFIG_FIRST, CONFIG_REALM, Credential, Name, cache, header_field, offset
 from cache_reading import FLAGS, answer
 from columns import NAMES
-from harness import Outcome, Report, differences, folder_of, run
+from harness import Case
 from images import number
+from mutations import damaged
 from random_images import random_bytes
-from random_runs import FEWEST
-
-CACHES = 400
+from random_runs import CaseAt, Topic, always
 
 # The kinds of answers and lines, each of which has to come up.
-KINDS = [
+KINDS = (
     "whole", "fault 4", *(f"not a cache ({why})" for why in (1, 2, 4, 5)),
     "a config line", "a config line with a principal", "a ticket", "renew until", "Flags", "Etype",
-]
+)
 
 # The lines that each image is listed by: two of these, of which the second has all columns.
 LINES = [("c",), ("-c", "c"), ("-e", "c"), ("-f", "c"), ("-C", "c"), ("-cf", "c"), ("c", "-eC")]
 ALL_COLUMNS = ("-c", "-e", "-f", "-C", "c")
-
-# Counts and lengths that are far too great, or nothing, or a little off.
-COUNTS = [b"\xff" * 4, b"\x7f\xff\xff\xff", b"\x80\0\0\0", bytes(4), b"\0\0\0\1", b"\0\0\0\2"]
-COUNTS += [b"\0\1\0\0", b"\0\0\xff\xff"]
 
 
 def random_number(random: Random, bits: int) -> int:
@@ -109,43 +99,29 @@ def random_cache(random: Random) -> bytes:
     return cache(*cells, default=random_name(random), fields=random_header(random), version=version)
 
 
-def likely_counts(image: bytes) -> list[int]:
-    """Places where a count or a length may stand: its first two bytes are mostly 0."""
-    return [at for at in range(len(image) - 3) if image[at] == image[at + 1] == 0] or [0]
-
-
-def damage(random: Random, image: bytes, other: bytes) -> bytes:
-    """The image with one change: in a bit or byte, in a count, in its length, or from another."""
-    at = random.randrange(len(image))
-    to = min(len(image), at + random.choice([1, 1, 2, 4, 20]))
-    from_other = random.randrange(len(other))
-    count = random.choice(likely_counts(image))
-    return random.choice([
-        image[:at] + bytes([image[at] ^ 1 << random.randrange(8)]) + image[at + 1:],
-        image[:at] + random.choice([b"\0", b"\1", b"\x7f", b"\xff"]) + image[at + 1:],
-        image[:at] + random.randbytes(random.randrange(1, 9)) + image[at:],
-        image[:at] + image[to:],
-        image[:at],
-        image[:count] + random.choice(COUNTS) + image[count + 4:],
-        image[:count] + random.choice(COUNTS) + image[count + 4:],
-        image[:at] + other[from_other:],
-        image[:at] + image[from_other % len(image):],
-    ])
-
-
 def random_image(random: Random) -> bytes:
-    """A cache, of which half have one to three kinds of damage."""
+    """A cache, of which half are damaged."""
     image = random_cache(random)
     if random.random() < 0.08:
         image = random.choice([image[: random.randrange(5)], b"\x05" + random.randbytes(30)])
-    if random.random() < 0.5:
-        for _ in range(random.choice([1, 1, 2, 3])):
-            image = damage(random, image, random_cache(random)) if image else image
-    return image
+    return damaged(random, image, random_cache(random)) if random.random() < 0.5 else image
 
 
-def kinds_of(wanted: Outcome) -> Iterator[str]:
+def listings(random: Random, image: bytes) -> Iterator[CaseAt]:
+    """The listings of an image."""
+    for words in (random.choice(LINES), ALL_COLUMNS):
+        columns = "".join(word[1:] for word in words if word.startswith("-"))
+        yield always(Case("", ("klist", *words), answer(image, columns), {"c": image}))
+
+
+def random_listings(random: Random) -> Iterator[CaseAt]:
+    """The listings of a random cache."""
+    yield from listings(random, random_image(random))
+
+
+def kinds_of(case: Case) -> Iterator[str]:
     """The kinds of an answer and of its lines."""
+    wanted = case.wanted
     if wanted.err:
         yield wanted.err.decode().split(": ")[-1].strip()
         return
@@ -163,46 +139,5 @@ def kinds_of(wanted: Outcome) -> Iterator[str]:
         yield "whole"
 
 
-def columns_in(words: tuple[str, ...]) -> str:
-    """The letters of a line's columns."""
-    return "".join(word[1:] for word in words if word.startswith("-"))
-
-
-def kept(seed: int) -> str:
-    """Keeps the image that a seed makes, and says where."""
-    path = os.path.join(tempfile.gettempdir(), f"krbfile-cache-{seed}")
-    with open(path, "wb") as file:
-        file.write(random_image(Random(seed)))
-    return path
-
-
-def faults_of(program: str, folder: str, seed: int, seen: Counter[str]) -> list[str]:
-    """What is wrong with the listings of an image, whose kinds are added to those seen."""
-    random = Random(seed)
-    image = random_image(random)
-    with open(os.path.join(folder, "c"), "wb") as file:
-        file.write(image)
-    wrong = []
-    for words in (random.choice(LINES), ALL_COLUMNS):
-        wanted = answer(image, columns_in(words))
-        seen.update(kinds_of(wanted))
-        found = differences(wanted, run(program, ("klist", *words), folder))
-        if found:
-            wrong.append(f"{' '.join(words)}: {', '.join(found)}")
-    return wrong
-
-
-def check(report: Report, program: str, times: int = 1, seed: int = 5) -> None:
-    """Lists each image by two lines. All of them are one case, and that each kind came another."""
-    seen: Counter[str] = Counter()
-    wrong = {}
-    with folder_of({}) as folder:
-        for each in range(seed, seed + CACHES * times):
-            found = faults_of(program, folder, each, seen)
-            if found:
-                wrong[each] = "; ".join(found)
-    told = [f"{kept(each)} by {wrong[each]}" for each in list(wrong)[:3]]
-    told += [f"and {len(wrong) - 3} images more"] if len(wrong) > 3 else []
-    report.check(f"random caches from seed {seed} on", told)
-    missing = [f"no {kind}" for kind in KINDS if seen[kind] < FEWEST]
-    report.check("random caches: each kind", missing)
+TOPIC = Topic("random caches", random_listings, kinds_of, KINDS, usual=400)
+check, check_long = TOPIC.check, TOPIC.check_long

@@ -1,40 +1,33 @@
 """Look-ups in random images, beside what the format's rules say of them.
 
-The names, versions and enctypes are few, so that many entries agree in some of them. The images are
-the same in each run.
+The names, versions and enctypes are few, so that many entries agree in some of them.
 """
 from __future__ import annotations
 
-import os
+from collections.abc import Iterator
 from random import Random
 
-from harness import Outcome, Report, differences, folder_of, run
+from harness import Case
 from images import BIG, END, LITTLE, Entry, hole, keytab, record
-from reading import found
-
-IMAGES = 300
+from random_runs import CaseAt, Topic, always
+from reading import found, name_text
 
 # The kinds of answers, each of which some look-up has.
-KINDS = ["found", "refused 1", "refused 9", "refused 10"]
+KINDS = ("found", "refused 1", "refused 9", "refused 10")
 
-# Names and their texts.
-NAMES = [
-    ((b"a",), b"R", "a@R"),
-    ((b"a", b"b"), b"R", "a/b@R"),
-    ((b"a/b",), b"R", "a\\/b@R"),
-    ((b"", b"\n"), b"@", "/\\n@\\@"),
-]
+# Names: components and then a realm.
+NAMES = [(b"a", b"R"), (b"a", b"b", b"R"), (b"a/b", b"R"), (b"", b"\n", b"@")]
 ENCTYPES = [0, 17, 18, 273]
 VERSIONS = [0, 1, 2, 255, 256, 257, 2**32 - 1]
 
 
 def random_part(random: Random, version: int, order: str) -> bytes:
     """A record, a hole, or now and then an odd part."""
-    components, realm, _ = random.choice(NAMES)
+    *components, realm = random.choice(NAMES)
     kvno = random.choice(VERSIONS)
     wide = kvno > 255 or random.random() < 0.5
     data = Entry(
-        components,
+        tuple(components),
         realm,
         name_type=random.randrange(3),
         version8=kvno % 256,
@@ -50,44 +43,35 @@ def random_part(random: Random, version: int, order: str) -> bytes:
     return random.choice([END, b"\0", record(b"\0", order), b"\x7f\xff\xff\xff"])
 
 
-def random_keytab(random: Random) -> tuple[bytes, list[str]]:
-    """A keytab of some parts, and the options with which it is read, mostly in its own order."""
+def random_keytab(random: Random) -> tuple[bytes, bool]:
+    """A keytab of some parts, and whether it is read as big-endian; mostly in its own order."""
     version, big = random.choice([1, 2, 2]), random.random() < 0.5
     order = BIG if version == 2 or big else LITTLE
     parts = [random_part(random, version, order) for _ in range(random.randrange(12))]
-    as_big = big != (random.random() < 0.1)
-    return keytab(*parts, version=version), ["--v1-big"] if as_big else []
+    return keytab(*parts, version=version), big != (random.random() < 0.1)
 
 
-def look_up(random: Random, program: str, folder: str) -> tuple[str, list[str]]:
-    """One look-up: the kind of answer that is wanted, and what differs."""
-    image, options = random_keytab(random)
-    with open(os.path.join(folder, "k"), "wb") as file:
-        file.write(image)
-    components, realm, text = random.choice(NAMES)
-    kvno = random.choice([0, *VERSIONS])
-    enctype = random.choice([0, *ENCTYPES])
-    words = ["ktfind", *options, "k", str(kvno), str(enctype), text]
-    wanted = found(image, options != [], kvno, enctype, (*components, realm))
-    told = differences(wanted, run(program, words, folder))
-    return kind_of(wanted), [f"{image.hex()} {' '.join(words)}: {', '.join(told)}"] if told else []
+def look_up(
+    image: bytes, v1_big: bool, kvno: int, enctype: int, name: tuple[bytes, ...]
+) -> CaseAt:
+    """A look-up in that image."""
+    options = ["--v1-big"] if v1_big else []
+    words = ("ktfind", *options, "k", str(kvno), str(enctype), "--", name_text(name))
+    wanted = found(image, v1_big, kvno, enctype, name)
+    return always(Case("", words, wanted, {"k": image}))
 
 
-def kind_of(wanted: Outcome) -> str:
+def random_look_up(random: Random) -> Iterator[CaseAt]:
+    """A look-up in an image."""
+    image, v1_big = random_keytab(random)
+    kvno, enctype = random.choice([0, *VERSIONS]), random.choice([0, *ENCTYPES])
+    yield look_up(image, v1_big, kvno, enctype, random.choice(NAMES))
+
+
+def kinds_of(case: Case) -> Iterator[str]:
     """What kind of answer it is."""
-    return "found" if wanted.out else wanted.err.decode().removeprefix("krbfile: k: ").rstrip("\n")
+    yield case.wanted.err.decode().removeprefix("krbfile: k: ").strip() or "found"
 
 
-def check(report: Report, program: str) -> None:
-    """Looks into each image. Those with answers of one kind count as one case."""
-    random = Random(7)
-    wrong: dict[str, list[str]] = {kind: [] for kind in KINDS}
-    seen = dict.fromkeys(KINDS, 0)
-    with folder_of({}) as folder:
-        for _ in range(IMAGES):
-            kind, told = look_up(random, program, folder)
-            wrong[kind] += told
-            seen[kind] += 1
-    for kind, told in wrong.items():
-        few = [f"only {seen[kind]} such look-ups"] if seen[kind] < 10 else []
-        report.check(f"random look-ups, {kind}", few + told[:3])
+TOPIC = Topic("random look-ups", random_look_up, kinds_of, KINDS, usual=300)
+check, check_long = TOPIC.check, TOPIC.check_long

@@ -1,27 +1,26 @@
 """Listings of random images with random columns, beside what the format's rules say of them.
 
-Some images are damaged. They are the same in each run.
+Some images are damaged.
 """
 from __future__ import annotations
 
-import os
+from collections.abc import Iterator
 from random import Random
 
-from harness import Outcome, Report, differences, folder_of, run
+from harness import Case
 from images import BIG, END, LITTLE, Entry, hole, keytab, record
+from random_runs import CaseAt, Topic, always
 from reading import answer
 
-IMAGES = 600
-
 # The kinds of answers, each of which some image has.
-KINDS = [
+KINDS = (
     "whole",
     "fault 1",
     "fault 2",
     "fault 3",
-    "krbfile: k: not a keytab (1)",
-    "krbfile: k: not a keytab (2)",
-]
+    "not a keytab (1)",
+    "not a keytab (2)",
+)
 
 # Lengths that run past the end, end the file, or are cut.
 LENGTHS = [END, b"\0", b"\0\0\0\1", b"\x7f\xff\xff\xff", b"\x80\0\0\0", b"\xff\xff\xff\xff"]
@@ -78,32 +77,33 @@ def random_image(random: Random) -> bytes:
     return bytes(image)
 
 
-def kind_of(wanted: Outcome) -> str:
-    """What kind of answer it is."""
-    last = (wanted.out or wanted.err).decode("latin-1").splitlines()[-1]
-    if last.startswith("fault"):
-        return last.split(" at ")[0]
-    return "whole" if wanted.out else last
+def listing(image: bytes, columns: str, v1_big: bool) -> CaseAt:
+    """The listing of an image with those columns."""
+    options = ["--v1-big"] if v1_big else []
+    words = ("klist", "-k" + columns, *options, "k")
+    return always(Case("", words, answer(image, v1_big, columns), {"k": image}))
 
 
-def check(report: Report, program: str) -> None:
-    """Lists each image with some columns. Those with answers of one kind count as one case."""
-    random = Random(5)
-    wrong: dict[str, list[str]] = {kind: [] for kind in KINDS}
-    unseen = set(KINDS)
-    with folder_of({}) as folder:
-        for _ in range(IMAGES):
-            image, options = random_image(random), random.choice([[], ["--v1-big"]])
-            columns = "".join(letter for letter in "teK" if random.random() < 0.4)
-            with open(os.path.join(folder, "k"), "wb") as file:
-                file.write(image)
-            wanted = answer(image, options != [], columns)
-            words = ["klist", "-k" + columns, *options, "k"]
-            found = differences(wanted, run(program, words, folder))
-            kind = kind_of(wanted)
-            unseen.discard(kind)
-            if found:
-                wrong[kind].append(f"{image.hex()} {' '.join(words)}: {', '.join(found)}")
-    for kind, told in wrong.items():
-        missing = ["there is no such image"] if kind in unseen else []
-        report.check(f"random images, {kind}", missing + told[:3])
+def random_columns(random: Random) -> str:
+    """The letters of some columns."""
+    return "".join(letter for letter in "teK" if random.random() < 0.4)
+
+
+def random_listing(random: Random) -> Iterator[CaseAt]:
+    """The listing of an image."""
+    image = random_image(random)
+    yield listing(image, random_columns(random), random.random() < 0.5)
+
+
+def kinds_of(case: Case) -> Iterator[str]:
+    """The kind of a listing's end, or of its refusal."""
+    wanted = case.wanted
+    if wanted.err:
+        yield wanted.err.decode().split(": ")[-1].strip()
+    else:
+        last = wanted.out.splitlines()[-1].decode("latin-1")
+        yield last.split(" at ")[0] if last.startswith("fault") else "whole"
+
+
+TOPIC = Topic("random images", random_listing, kinds_of, KINDS, usual=600)
+check, check_long = TOPIC.check, TOPIC.check_long

@@ -4,13 +4,12 @@ from __future__ import annotations
 from collections.abc import Iterator
 from random import Random
 
-from harness import Case, Report
+from harness import Case
 from ktutil_lines import FAULTS, NO_KEYS
 from ktutil_model import handled
-from random_runs import CaseAt, check_runs, random_keytab
+from random_keytabs import random_keytab
+from random_runs import CaseAt, Topic
 from random_scripts import random_etype_and_key, random_name, random_number
-
-INPUTS = 600
 
 # The commands, by how often.
 COMMANDS = {"list": 4, "read": 7, "write": 5, "add": 5, "delete": 3, "clear": 1, "quit": 1, "": 1}
@@ -30,10 +29,10 @@ SPELLINGS = {
 NAMES = [*[b"a", b"b", b"c"] * 5, b"d", b"no/k", b".", b"\xff", b"a\\\\", b"\0"]
 
 # The kinds of answers that have to come up.
-KINDS = [
+KINDS = (
     "slot", "refused 1", "no such file", "cannot read", "cannot write", "not a keytab",
     *(f"fault {number}" for number in range(1, 9)),
-]
+)
 
 
 def random_entry_lines(random: Random, word: bytes) -> list[bytes]:
@@ -95,7 +94,5 @@ def kinds_of(case: Case) -> Iterator[str]:
         yield "not a keytab" if last.startswith("not") else last
 
 
-def check(report: Report, program: str, times: int = 1) -> None:
-    """Runs all inputs, so many times as many as usual."""
-    cases = (case for number in range(INPUTS * times) for case in random_input(Random(number)))
-    check_runs(report, program, "random inputs of ktutil", cases, kinds_of, KINDS)
+TOPIC = Topic("random inputs of ktutil", random_input, kinds_of, KINDS, usual=600)
+check, check_long = TOPIC.check, TOPIC.check_long

@@ -8,26 +8,25 @@ from collections.abc import Iterator
 from random import Random
 
 from columns import NAMES
-from harness import Case, Report
+from harness import Case
 from keytab_model import Keytab
 from random_images import random_bytes
-from random_runs import CaseAt, check_runs, random_keytab
+from random_keytabs import random_keytab
+from random_runs import CaseAt, Topic, always
 from reading import KeytabEntry, no_keytab
 from script_model import KEY_SIZES, Session, edited, event_in
 from scripts import FAULTS
-
-KEYTABS = 500
 
 # What each of them may be, by how often.
 LINES = {"start": 3, "resume": 3, "step": 12, "add": 6, "cut": 5, "rewrite": 1, "#": 1, "": 1}
 
 # The kinds of lines that have to come up.
-KINDS = [
+KINDS = (
     "walk at", "walk gave", "walk end", "walk fault", "placed", "gone", "rewritten",
     *(f"refused {code}" for code in (1, 2, 4, 5, 6, 7)),
     *(f"fault {number}" for number in range(1, 7)),
     "not a keytab",
-]
+)
 
 
 def random_number(random: Random) -> str:
@@ -112,8 +111,7 @@ def random_runs(random: Random) -> Iterator[CaseAt]:
         script = random_script(random, Session(Keytab(opened, v1_big)))
         wanted, after = edited(image, script, v1_big)
         files, files_after = ({} if one is None else {"k": one} for one in (image, after))
-        case = Case("", words, wanted, files, files_after, script)
-        yield lambda _, case=case: case
+        yield always(Case("", words, wanted, files, files_after, script))
         image = after
 
 
@@ -128,7 +126,5 @@ def kinds_of(case: Case) -> Iterator[str]:
         yield "not a keytab" if "keytab" in said else said.split(": ")[-1].strip()
 
 
-def check(report: Report, program: str, times: int = 1) -> None:
-    """Runs all scripts, so many times as many as usual."""
-    cases = (case for number in range(KEYTABS * times) for case in random_runs(Random(number)))
-    check_runs(report, program, "random scripts", cases, kinds_of, KINDS)
+TOPIC = Topic("random scripts", random_runs, kinds_of, KINDS, usual=500)
+check, check_long = TOPIC.check, TOPIC.check_long
