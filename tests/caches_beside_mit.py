@@ -245,12 +245,17 @@ def check_removed(report: Report, program: str, realm_of: Realm) -> None:
     report.check("what MIT's library has removed", found + differences(wanted, got))
 
 
-def check(report: Report, program: str) -> None:
-    """Runs all of this topic where MIT's programs are there."""
+def are_there(report: Report, what: str) -> bool:
+    """Whether MIT's programs are there; where they are not, that part is left out."""
     missing = [name for name in TOOLS if shutil.which(name, path=PATHS) is None]
     if missing:
-        why = f"{missing[0]} is not there (Debian: krb5-user, krb5-kdc)"
-        report.skip("caches beside MIT's programs", why)
+        report.skip(what, f"{missing[0]} is not there (Debian: krb5-user, krb5-kdc)")
+    return not missing
+
+
+def check(report: Report, program: str) -> None:
+    """Runs all of this topic where MIT's programs are there."""
+    if not are_there(report, "caches beside MIT's programs"):
         return
     try:
         with realm() as made:

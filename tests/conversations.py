@@ -18,10 +18,12 @@ LISTED = text([*HEADING, "   1    3 host/a@R", "   2    3 b@R"])
 class Talk:
     """A run of ktutil whose input stays open."""
 
-    def __init__(self, program: str, folder: str, stdin: int, input_end: int) -> None:
+    def __init__(
+        self, program: str, folder: str, stdin: int, input_end: int, *options: str
+    ) -> None:
         self.input_end = input_end
         self.found: list[str] = []
-        self.run = subprocess.Popen([program, "ktutil"], cwd=folder, stdin=stdin,
+        self.run = subprocess.Popen([program, "ktutil", *options], cwd=folder, stdin=stdin,
                                     stdout=subprocess.PIPE, stderr=subprocess.PIPE, bufsize=0)
         os.close(stdin)
 
