@@ -1,34 +1,33 @@
-"""Cases that went wrong, kept with their files, each in a folder of its own."""
+"""Cases that went wrong, each kept in a folder of its own with a script that runs it again."""
 from __future__ import annotations
 
 import os
-import shlex
 import shutil
 import tempfile
+from shlex import quote
 
 from harness import Case
 
 # Where all of them lie.
 FOLDER = os.path.join(tempfile.gettempdir(), "krbfile-kept")
 
-# The file with the standard input of a case.
-STDIN = "stdin"
 
-
-def line_of(case: Case, program: str) -> str:
-    """The line that runs a case, where its files lie."""
-    words = [program, *(os.fsdecode(word) for word in case.words)]
-    given = f" < {STDIN}" if case.stdin else ""
-    return " ".join(map(shlex.quote, words)) + given
+def script(folder: str, case: Case, program: str) -> bytes:
+    """The script that runs a case in a copy of its files."""
+    words = [os.fsencode(word) for word in (program, *case.words)]
+    line = b" ".join(os.fsencode(quote(os.fsdecode(word))) for word in words)
+    folder = quote(folder)
+    front = f'here=$(mktemp -d)\ncp -r {folder}/files/. "$here"\ncd "$here" && exec '
+    return front.encode() + line + f" < {folder}/stdin\n".encode()
 
 
 def keep(name: str, case: Case, program: str) -> str:
-    """Keeps the files of a case as they are before it runs; the line that runs it there."""
+    """Keeps the files of a case as they are before it runs; the line that runs it again."""
     folder = os.path.join(FOLDER, name.replace(" ", "-"))
     shutil.rmtree(folder, ignore_errors=True)
-    os.makedirs(folder)
-    files = {**case.files, STDIN: case.stdin} if case.stdin else case.files
-    for each, data in files.items():
-        with open(os.path.join(folder, each), "wb") as file:
+    os.makedirs(os.path.join(folder, "files"))
+    kept = {os.path.join("files", each): data for each, data in case.files.items()}
+    for path, data in {**kept, "stdin": case.stdin, "again": script(folder, case, program)}.items():
+        with open(os.path.join(folder, path), "wb") as file:
             file.write(data)
-    return f"cd {shlex.quote(folder)} && {line_of(case, program)}"
+    return f"sh {os.path.join(folder, 'again')}"

@@ -16,6 +16,7 @@ from random_images import listing
 from random_keytabs import random_part
 from random_runs import CaseAt, Topic, always
 from random_scripts import random_place
+from reading import name_text
 from script_model import Session, edited, event_in
 
 EVENTS = 3_000
@@ -76,14 +77,22 @@ def random_script(random: Random, session: Session) -> bytes:
     return b"\n".join(lines)
 
 
+def is_word(name: tuple[bytes, ...]) -> bool:
+    """Whether the text of a name is UTF-8, as a word of a command line has to be."""
+    try:
+        name_text(name).decode()
+    except UnicodeDecodeError:
+        return False
+    return True
+
+
 def reads(random: Random, image: bytes, v1_big: bool) -> Iterator[CaseAt]:
     """What is read of a keytab: its listing, and entries that it has."""
     yield listing(image, "tKe", v1_big)
-    entries = Keytab(image, v1_big).entries()
+    entries = [one for one in Keytab(image, v1_big).entries() if is_word(one.name)]
     for entry in random.sample(entries, min(4, len(entries))):
         kvno = random.choice([0, entry.kvno])
-        if not any(b"\0" in part for part in entry.name):
-            yield look_up(image, v1_big, kvno, entry.enctype, entry.name)
+        yield look_up(image, v1_big, kvno, entry.enctype, entry.name)
 
 
 def random_runs(random: Random) -> Iterator[CaseAt]:

@@ -23,6 +23,9 @@ CaseAt = Callable[[int], Case]
 # How often each kind of answer has to come up.
 FEWEST = 3
 
+# How many processes run for each processor: one waits for its program while another works.
+FOR_EACH = 3
+
 # How many numbers a process takes at once, and how many wrong cases of a topic are kept.
 AT_ONCE = 10
 MOST_KEPT = 10
@@ -101,7 +104,7 @@ class Topic:
         tried = Tried()
         size = max(1, AT_ONCE // self.share)
         parts = [numbers[at : at + size] for at in range(0, len(numbers), size)]
-        with get_context("fork").Pool(len(os.sched_getaffinity(0))) as pool:
+        with get_context("fork").Pool(FOR_EACH * len(os.sched_getaffinity(0))) as pool:
             for part in pool.imap_unordered(partial(self.try_numbers, program), parts):
                 tried.add(part)
         report.passed += tried.runs - len(tried.wrong)
