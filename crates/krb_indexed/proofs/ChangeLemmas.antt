@@ -1,7 +1,7 @@
 -- A table and a tree where one cell becomes another of its size.
 use Rattle.std.proofs.Common.{◌≡◌, ℕ, ◌+◌, ◌-◌, ◌^◌, ◌<◌, ◌≤◌, true, false, List, ◌∷◌, ◌++◌, length, map, replicate, Option, Some, None, Result, Ok, Err, refl, sym, ap, subst, ◌∙◌, arith, length-append}
 use Rattle.std.specs.Prelude.{is_some, option_map}
-use Rattle.std.specs.List.{AllByRecursion, flat_map}
+use Rattle.std.specs.List.{flat_map}
 use Rattle.std.proofs.Math.ListN.{set}
 use Rattle.std.proofs.lemmas.Bool.{leb-true}
 use Rattle.std.proofs.lemmas.List.{map-set, length-map, length-set, set-append_left, length-replicate}
@@ -20,19 +20,18 @@ use Rattle.krb_keytab.specs.Cells.{Cell, Live, Free, End, IsCell, IsSound, cell,
 use Rattle.krb_keytab.specs.Cells as cells
 use Rattle.krb_keytab.specs.Questions.{end_place}
 use Rattle.krb_keytab.specs.Store.{KeytabState, store_of, image_of}
-use Rattle.krb_keytab.proofs.Cuts.{all_back, end_place_is, end_place-append}
+use Rattle.krb_keytab.proofs.Cuts.{end_place_is, end_place-append}
 use Rattle.krb_keytab.proofs.Replaced.{StandsAt, hole_stands}
 use Rattle.krb_keytab.proofs.Replaced.{turned as turned_cells}
 use Rattle.krb_keytab.proofs.Turned.{padded_len}
 use Rattle.krb_keytab.specs.declared.hole.Hole.{Hole}
 use Rattle.krb_keytab.specs.Hole.{hole_of}
-use Rattle.krb_keytab.specs.Changes.{PlacedCell, first_hole, is_hole, zero_hole, record_in, with_zeros, with_hole, with_record_in}
+use Rattle.krb_keytab.specs.Changes.{PlacedCell, first_hole, is_hole, zero_hole, record_in, with_hole, with_record_in}
 use Rattle.krb_indexed.specs.declared.slot.Slot.{Slot}
 use Rattle.krb_indexed.specs.Slot.{free_size, slots_from, slot_of, turned, hole_of_slot}
 use Rattle.krb_indexed.specs.Tree.{SizeTree}
 use Rattle.krb_indexed.specs.Index.{IsIndex, HasSpare, slot_at, IsFit, IsLiveNumber}
 use Rattle.krb_indexed.proofs.PlaceLemmas.{slots_len}
-use Rattle.krb_indexed.proofs.StopLemmas.{live_slot}
 use Rattle.krb_indexed.proofs.IndexLemmas.{slot_place}
 use Rattle.krb_indexed.proofs.LiveLemmas.{set_slot, slot_seam, number_is, live_at, stands_sound}
 
@@ -129,9 +128,9 @@ hole_length k need number sound fit =
     omega (arith, ap (λ (s : Slot). s.length) h.slot, (stands_sound k (slot_at k number).place (Free h.bytes) sound h.stands).1)
 
 -- the hole of a number takes a record
-pub filled_kept : (k : KeytabState) (slots : List Slot) (t u : SizeTree) (count room number : ℕ) (bytes : List ℕ) → IsSound k.format k.contents → IsSound k.format (with_record_in k bytes (slot_at k number).place).contents → IsKept k slots count room t → IsFit k (length bytes) (Some number) → u.sizes ≡ set t.sizes number 0 → u.height ≡ t.height → u.room ≡ t.room
+pub filled_kept : (k : KeytabState) (slots : List Slot) (t u : SizeTree) (count room number : ℕ) (bytes : List ℕ) → IsSound k.format k.contents → IsKept k slots count room t → IsFit k (length bytes) (Some number) → u.sizes ≡ set t.sizes number (free_size (turned (slot_at k number))) → u.height ≡ t.height → u.room ≡ t.room
     → IsKept (with_record_in k bytes (slot_at k number).place) (set slots number (turned (slot_at k number))) count room u
-filled_kept k slots t u count room number bytes sound after kept fit sizes height rooms =
+filled_kept k slots t u count room number bytes sound kept fit sizes height rooms =
     let h = hole_at k (length bytes) number fit in
     let place = (slot_at k number).place in
     let s = h.stands in
@@ -143,11 +142,7 @@ filled_kept k slots t u count room number bytes sound after kept fit sizes heigh
     let cells_are = turned_cells (record_in bytes) k.contents.cells place old s in
     let back_again : 2 ^ 32 - (2 ^ 32 - length h.bytes) ≡ cells.size d = omega (arith, small, same) in
     let slot : turned (slot_at k number) ≡ slot_of (p, d) = ap turned h.slot ∙ ap (λ (n : ℕ). record { place = p; length = n }) back_again in
-    let live : free_size (slot_of (p, d)) ≡ 0 =
-    let all = subst (AllByRecursion (IsCell k.format)) cells_are after.cells in
-    let is_live = live_slot p (with_zeros bytes (length h.bytes)) ((all_back (IsCell k.format) s.front (d ∷ s.back) all).0).1 in
-    rw is_live refl in
-    let new_sizes : u.sizes ≡ set t.sizes number (free_size (slot_of (p, d))) = sizes ∙ ap (set t.sizes number) (sym live) in
+    let new_sizes : u.sizes ≡ set t.sizes number (free_size (slot_of (p, d))) = sizes ∙ ap (λ (x : Slot). set t.sizes number (free_size x)) slot in
     let index = kept_index k (with_record_in k bytes place) slots t u s.front s.back old d number kept.0 s.parts cells_are same h.count new_sizes height in (
       subst (λ (x : Slot). IsIndex (with_record_in k bytes place) (set slots number x) u) (sym slot) index,
       kept_spare k (with_record_in k bytes place) s.front s.back old d count room t u kept.1 s.parts cells_are same refl refl rooms,

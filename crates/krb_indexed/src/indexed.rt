@@ -148,6 +148,7 @@ impl<A: Allocator> Indexed<A> {
     }
 
     /// Is true of the place of each cell, live or free, and of `end()`.
+    #[tactic(auto, using(crate::proofs::IndexLemmas::is_place_by_rank, crate::proofs::PlaceLemmas::places_len))]
     pub fn is_place(&self, place: u32) -> bool
         ensures { result ≡ is_place (store_of self.now.state) place }
     {

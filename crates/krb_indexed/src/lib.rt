@@ -11,5 +11,6 @@ mod table;
 #[cfg(test)]
 mod tests;
 mod tree;
+mod turn;
 
 pub use indexed::Indexed;

@@ -14,6 +14,7 @@ ghost use Rattle.krb_indexed.specs.Index.{IsFit, IsLiveNumber};
 use super::Indexed;
 use crate::grow::{push_live, reserve_one};
 use crate::slot::Slot;
+use crate::turn::put_slot;
 use krb_keytab::{Hole, NewEntry};
 use krb_walk::{Code, Refusal};
 use krb_wire::Name;
@@ -30,8 +31,7 @@ impl<A: Allocator> Indexed<A> {
         let record = self.slot(number);
         let hole = record.turned();
         self.keytab.free_at(place, record.size() as usize);
-        self.slots[number] = hole;
-        self.tree.set(number, hole.free_size());
+        put_slot(&mut self.slots, &mut self.tree, number, hole);
     }
 
     // Puts an entry into the first hole that takes it, which is the cell of a number.
@@ -54,9 +54,7 @@ impl<A: Allocator> Indexed<A> {
         };
         match self.keytab.add_at(entry, Some(hole)) {
             Ok(place) => {
-                let _ = self.keytab.image();
-                self.slots[number] = slot.turned();
-                self.tree.set(number, 0);
+                put_slot(&mut self.slots, &mut self.tree, number, slot.turned());
                 Ok(place)
             }
             Err(refusal) => Err(refusal),

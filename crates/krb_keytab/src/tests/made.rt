@@ -1,57 +1,34 @@
 //! Keytabs and entries that tests make.
 
-use super::records::HIGH_KEY;
 use crate::{Keytab, NewEntry};
-use krb_wire::{Limits, Order, Principal, parse_name};
+use krb_wire::{Limits, Order, parse_name};
 use std::alloc::{Allocator, Global};
 use std::test::Fail;
 
-/// The limit of images that is usual.
-pub const USUAL: u32 = 16_777_216;
+const KEY: &[u8] = b"\x10\x11\x12\x13\x14\x15\x16\x17\x18\x19\x1a\x1b\x1c\x1d\x1e\x1f";
 
-/// The pieces, one after the other.
-pub fn joined<A: Allocator + Copy>(alloc: A, pieces: &[&[u8]]) -> Result<Vec<u8, A>, Fail> {
-    let mut bytes = Vec::new(alloc);
-    for piece in pieces {
-        bytes.extend_from_slice(piece)?;
-    }
-    Ok(bytes)
-}
-
-/// The keytab that an image of at most `limit` bytes is.
-pub fn keytab_of<A: Allocator>(image: Vec<u8, A>, limit: u32) -> Result<Keytab<A>, Fail> {
-    let limits = Limits::of(limit).ok_or("no such limit")?;
-    match Keytab::open(image, Order::Little, limits) {
+/// The keytab that an image is.
+pub fn keytab_of<A: Allocator + Copy>(alloc: A, image: &[u8]) -> Result<Keytab<A>, Fail> {
+    match Keytab::open(
+        Vec::from_slice(alloc, image)?,
+        Order::Little,
+        Limits::usual(),
+    ) {
         Ok(keytab) => Ok(keytab),
         Err(_) => Err(Fail::from("refused")),
     }
 }
 
-/// The name that a text is.
-pub fn name_of<A: Allocator + Copy>(alloc: A, text: &[u8]) -> Result<Principal<A>, Fail> {
-    match parse_name(alloc, text, None) {
-        Ok(name) => Ok(name),
-        Err(_) => Err(Fail::from("no name")),
-    }
-}
-
-/// An entry: its name, its version, enctype and time, and its key.
-pub fn entry_of<A: Allocator + Copy>(
-    alloc: A,
-    name: &[u8],
-    numbers: (u32, u16, u32),
-    key: &[u8],
-) -> Result<NewEntry<A>, Fail> {
-    Ok(NewEntry {
-        principal: name_of(alloc, name)?,
-        timestamp: numbers.2,
-        kvno: numbers.0,
-        enctype: numbers.1,
-        key: Vec::from_slice(alloc, key)?,
-    })
-}
-
-/// The entry of the record `B`.
+/// The second entry of `TWO`.
 pub fn b(alloc: Global) -> Result<NewEntry<Global>, Fail> {
-    entry_of(alloc, b"b@R", (3, 17, 1_700_000_000), HIGH_KEY)
+    let Ok(principal) = parse_name(alloc, b"b@R", None) else {
+        return Err(Fail::from("no name"));
+    };
+    Ok(NewEntry {
+        principal,
+        timestamp: 1_700_000_000,
+        kvno: 3,
+        enctype: 17,
+        key: Vec::from_slice(alloc, KEY)?,
+    })
 }

@@ -4,13 +4,12 @@ use Rattle.std.specs.Prelude.{vec_len, vec_capacity}
 use Rattle.std.proofs.Math.ListN.{set}
 use Rattle.krb_walk.specs.Rules.{PutGives}
 use Rattle.krb_walk.specs.Memory.{HadMemory}
-use Rattle.krb_keytab.specs.Cells.{IsSound}
 use Rattle.krb_keytab.specs.Changes.{put_result, takes_none}
 use Rattle.krb_keytab.specs.Form.{written_form}
 use Rattle.krb_keytab.specs.Store.{KeytabState, InMemory}
 use Rattle.krb_keytab.proofs.Stores.{state_is}
 use Rattle.krb_indexed.specs.declared.slot.Slot.{Slot}
-use Rattle.krb_indexed.specs.Slot.{turned}
+use Rattle.krb_indexed.specs.Slot.{turned, free_size}
 use Rattle.krb_indexed.specs.Index.{slot_at}
 use Rattle.krb_indexed.proofs.ChangeLemmas.{IsKept, hole_length, filled_kept, filled_state}
 use Rattle.krb_indexed.proofs.indexed.Indexed.fill.Goals as goal
@@ -32,11 +31,13 @@ invariant_of-self g c =
     let kept = subst (λ (y : KeytabState). IsKept y i.slots.items (vec_len i.slots) (vec_capacity i.slots) i.tree) (state_is c.self.view_is) c.self.invariant in
     let gives = subst (λ (y : KeytabState). PutGives (put_result y e) y (Ok c.in-Ok.place) new) (state_is c.self.view_is) c.in-Ok.ensures.gives in
     let state = filled_state k new e n c.in-Ok.place c.requires.whole c.requires.fits c.requires.hole gives in
-    let after = subst (λ (y : KeytabState). IsSound y.format y.contents) state c.image-in-Ok.ensures.sound in
     let slot : c.turned.result ≡ turned (slot_at k n) = c.turned.ensures ∙ ap turned c.slot-slot.ensures in
-    let done = filled_kept k i.slots.items i.tree c.set.new.self (vec_len i.slots) (vec_capacity i.slots) n bytes c.image.ensures.sound after kept c.requires.hole c.set.ensures.sizes c.set.ensures.height c.set.ensures.room in
-    let same = subst (λ (y : KeytabState). IsKept y (set i.slots.items n (turned (slot_at k n))) (vec_len i.slots) (vec_capacity i.slots) c.set.new.self) (sym state) done in
-    subst (λ (x : Slot). IsKept new (set i.slots.items n x) (vec_len i.slots) (vec_capacity i.slots) c.set.new.self) (sym slot) same
+    let put = c.put_slot.new in
+    let sizes : put.tree.sizes ≡ set i.tree.sizes n (free_size (turned (slot_at k n))) = c.put_slot.ensures.sizes ∙ ap (λ (x : Slot). set i.tree.sizes n (free_size x)) slot in
+    let slots : put.slots.items ≡ set i.slots.items n (turned (slot_at k n)) = c.put_slot.ensures.slots ∙ ap (set i.slots.items n) slot in
+    let done = filled_kept k i.slots.items i.tree put.tree (vec_len i.slots) (vec_capacity i.slots) n bytes c.image.ensures.sound kept c.requires.hole sizes c.put_slot.ensures.height c.put_slot.ensures.node_room in
+    let same = subst (λ (y : KeytabState). IsKept y (set i.slots.items n (turned (slot_at k n))) (vec_len i.slots) (vec_capacity i.slots) put.tree) (sym state) done in
+    rw (slots, c.put_slot.ensures.len, c.put_slot.ensures.slot_room) same
 
 pub returns-in-Ok-clause-gives : goal.returns-in-Ok-clause-gives
 returns-in-Ok-clause-gives g c = subst (λ (y : KeytabState). PutGives (put_result y c.args.entry.now) y (Ok c.in-Ok.place) c.add_at.new.self.state) (state_is c.self.view_is) c.in-Ok.ensures.gives

@@ -35,8 +35,10 @@ invariant_of-self g c =
     let n = c.args.number in
     let kept = subst (λ (y : KeytabState). IsKept y i.slots.items (vec_len i.slots) (vec_capacity i.slots) i.tree) (state_is c.self.view_is) c.self.invariant in
     let slot : c.turned-hole.result ≡ turned (slot_at k n) = c.turned-hole.ensures ∙ ap turned c.slot-record.ensures in
-    let sizes : c.set.new.self.sizes ≡ set i.tree.sizes n (free_size (turned (slot_at k n))) = c.set.ensures.sizes ∙ ap (set i.tree.sizes n) (c.free_size.ensures ∙ ap free_size slot) in
+    let new = c.put_slot.new in
+    let sizes : new.tree.sizes ≡ set i.tree.sizes n (free_size (turned (slot_at k n))) = c.put_slot.ensures.sizes ∙ ap (λ (x : Slot). set i.tree.sizes n (free_size x)) slot in
+    let slots : new.slots.items ≡ set i.slots.items n (turned (slot_at k n)) = c.put_slot.ensures.slots ∙ ap (set i.slots.items n) slot in
     let state : with_hole k c.args.place ≡ c.free_at.new.self.state = sym (c.free_at.ensures.freed ∙ ap (λ (y : KeytabState). with_hole y c.args.place) (state_is c.self.view_is)) in
-    let after = freed_kept k i.slots.items i.tree c.set.new.self (vec_len i.slots) (vec_capacity i.slots) n c.args.place kept c.requires sizes c.set.ensures.height c.set.ensures.room in
-    let same = subst (λ (y : KeytabState). IsKept y (set i.slots.items n (turned (slot_at k n))) (vec_len i.slots) (vec_capacity i.slots) c.set.new.self) state after in
-    subst (λ (x : Slot). IsKept c.free_at.new.self.state (set i.slots.items n x) (vec_len i.slots) (vec_capacity i.slots) c.set.new.self) (sym slot) same
+    let after = freed_kept k i.slots.items i.tree new.tree (vec_len i.slots) (vec_capacity i.slots) n c.args.place kept c.requires sizes c.put_slot.ensures.height c.put_slot.ensures.node_room in
+    let same = subst (λ (y : KeytabState). IsKept y (set i.slots.items n (turned (slot_at k n))) (vec_len i.slots) (vec_capacity i.slots) new.tree) state after in
+    rw (slots, c.put_slot.ensures.len, c.put_slot.ensures.slot_room) same

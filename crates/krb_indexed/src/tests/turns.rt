@@ -1,11 +1,12 @@
 //! Rows of an image, events and their replies, and the image afterwards.
 
+use super::edited::Edited;
 use super::made::{USUAL, entry_of, joined};
 use super::records::{HIGH_KEY, LOW_KEY};
-use crate::{EditRefused, NewEntry, edit_image};
+use crate::Indexed;
+use krb_keytab::{Keytab, NewEntry};
 use krb_walk::{Code, Event, FaultKind, Reply};
-use krb_wire::{Limits, Order};
-use std::alloc::Allocator;
+use std::alloc::{Allocator, Global};
 use std::process::Abort;
 use std::test::Fail;
 
@@ -105,30 +106,24 @@ pub fn check_outcome<R: Abort + AllocGlobal, A: Allocator>(
     Ok(())
 }
 
-/// What came of an edit of an image of at most `limit` bytes: the image, and whether memory ran out.
-pub fn edited<A: Allocator + Copy>(
-    image: Vec<u8, A>,
+/// Asserts that an edit of one kind of keytab under a limit replies so and leaves that image.
+fn check_edit<R: Abort + AllocGlobal, E: Edited>(
+    rt: &R,
     limit: u32,
-    events: &[Event<NewEntry<A>>],
-    replies: &mut Vec<Reply<A>, A>,
-) -> Result<(Vec<u8, A>, bool), Fail> {
-    let alloc = *image.allocator();
-    let limits = Limits::of(limit).ok_or("no such limit")?;
-    match edit_image(alloc, image, Order::Little, limits, events, replies) {
-        Ok(image) => Ok((image, false)),
-        Err(EditRefused::NoMemory(image)) => Ok((image, true)),
-        Err(EditRefused::NotAKeytab(_)) => Err(Fail::from("no keytab")),
-    }
-}
-
-/// Asserts that an edit under a limit replies so and leaves that image.
-pub fn check_row<R: Abort + AllocGlobal>(rt: &R, limit: u32, row: &Row<'_>) -> Result<(), Fail> {
+    row: &Row<'_>,
+) -> Result<(), Fail> {
     let events = events_of(rt.alloc(), row.turns)?;
     let mut replies = Vec::new(rt.alloc());
     let image = joined(rt.alloc(), row.before)?;
-    let (image, ran_out) = edited(image, limit, &events, &mut replies)?;
+    let (image, ran_out) = E::edited(image, limit, &events, &mut replies)?;
     assert!(rt; !ran_out);
     check_outcome(rt, row, &replies, &image)
+}
+
+/// Asserts so of a keytab without a table and of one with a table.
+pub fn check_row<R: Abort + AllocGlobal>(rt: &R, limit: u32, row: &Row<'_>) -> Result<(), Fail> {
+    check_edit::<R, Keytab<Global>>(rt, limit, row)?;
+    check_edit::<R, Indexed<Global>>(rt, limit, row)
 }
 
 /// Asserts so of each row under the usual limit.
