@@ -2,7 +2,7 @@
 
 use crate::fault::Fault;
 use krb_ccache::{Ccache, Cred};
-use krb_wire::{Principal, parse_name};
+use krb_wire::{Limits, Principal, parse_name};
 use std::alloc::{Allocator, Global};
 
 fn name(alloc: Global, text: &[u8]) -> Result<Principal<Global>, Fault> {
@@ -11,6 +11,15 @@ fn name(alloc: Global, text: &[u8]) -> Result<Principal<Global>, Fault> {
         Ok(name) => Ok(name),
         Err(_) => Err(Fault::NoMemory),
     }
+}
+
+/// The cache that a file holds. An empty file begins as a cache of the user.
+pub fn opened(alloc: Global, image: Vec<u8>) -> Result<Ccache<Global>, Fault> {
+    if image.is_empty() {
+        let user = name(alloc, b"user@AD.TEST")?;
+        return Ccache::create(alloc, &user, None, Limits::usual()).map_err(|_| Fault::Refused);
+    }
+    Ccache::open(image, Limits::usual()).map_err(|_| Fault::NotACache)
 }
 
 // The ticket of that number; the numbers make names of one length.

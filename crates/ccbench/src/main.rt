@@ -1,14 +1,12 @@
-//! Changes a credential cache file for the benchmark alone: `ccbench FILE STORES REMOVALS SETTINGS`.
+//! Changes a credential cache file, for benchmarks and tests alone: `ccbench FILE STORES REMOVALS SETTINGS`.
 #![tactic(auto)]
 
 mod changes;
 mod fault;
 mod task;
 
-use changes::{last_places, remove_all, set_all, store_all};
+use changes::{last_places, opened, remove_all, set_all, store_all};
 use fault::Fault;
-use krb_ccache::Ccache;
-use krb_wire::Limits;
 use std::fs::OpenFile;
 use std::io::Write;
 use std::{fs, rt};
@@ -30,9 +28,7 @@ fn change<R: rt::Files + AllocGlobal>(rt: &R, task: &Task) -> Result<usize, Faul
     let Ok(image) = fs::read(rt, task.file.as_str()) else {
         return Err(Fault::Read);
     };
-    let Ok(mut cache) = Ccache::open(image, Limits::usual()) else {
-        return Err(Fault::NotACache);
-    };
+    let mut cache = opened(rt.alloc(), image)?;
     let last = last_places(rt.alloc(), &cache, task.removals)?;
     store_all(rt.alloc(), &mut cache, task.stores)?;
     remove_all(&mut cache, &last)?;
