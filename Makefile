@@ -1,13 +1,14 @@
 # make            proves and builds the program, crates/krbfile/out/krbfile
 # make run        the same, and lists the sample keytab
 # make test       proves every crate from nothing, runs all tests, and then those of the program that this built
+# make long-test  runs the long tests of the program, on random and damaged files
 # make install    puts the program into PREFIX/bin, and its manual page into PREFIX/share/man/man1
 
 PREFIX ?= /usr/local
 PROGRAM = crates/krbfile/out/krbfile
 SOURCES = crates.txt $(shell find crates/*/src crates/*/specs crates/*/proofs -type f)
 
-.PHONY: all run test install
+.PHONY: all run test long-test install
 
 all: $(PROGRAM)
 
@@ -22,6 +23,9 @@ test:
 	rt ci
 	$(MAKE) --no-print-directory $(PROGRAM)
 	tests/run $(PROGRAM)
+
+long-test: all
+	tests/long $(PROGRAM)
 
 install: all
 	install -d $(DESTDIR)$(PREFIX)/bin
