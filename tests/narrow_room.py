@@ -20,7 +20,7 @@ SPACE = 64 * 1024 * 1024
 
 # The memory that a long test lets a run have, as powers of two: from a little more than the program
 # itself takes up to more than any run does.
-LEAST_POWER, MOST_POWER = 24, 30
+LEAST_POWER, MOST_POWER = 22, 30
 
 # A long test has one run for so many of its count.
 SHARE = 200
