@@ -8,7 +8,7 @@ from cache_images import TICKET, USUAL, credentials
 from cache_listings import CONFIG_LINE, ETYPE_LINE, FLAGS_LINE, TICKET_LINE
 from cache_reading import listed
 from command_lines import OF_KLIST, Line, check_help, shown
-from harness import Case, Outcome, Report, check_case, folder_of, message, run
+from harness import Case, Outcome, Report, check_case, message
 from images import TWO
 
 # Lines that list the cache `c`, each with the letters of its columns.
@@ -99,17 +99,6 @@ def check_refused(report: Report, program: str, lines: list[Line]) -> None:
     for words in lines:
         wanted = message(2, "bad command line")
         check_case(report, program, Case(f"refused: {shown(words)}", words, wanted, files))
-
-
-def are_known(program: str) -> bool:
-    """Whether the program lists caches, by its help."""
-    with folder_of({}) as folder:
-        return b" -C" in run(program, ("klist", "--help"), folder).out
-
-
-def check_absence(report: Report, program: str) -> None:
-    """Where the program does not list caches, no such line is taken."""
-    check_refused(report, program, [*REFUSED, *(words for words, _ in TAKEN)])
 
 
 def check_kinds(report: Report, program: str) -> None:

@@ -11,22 +11,8 @@ from __future__ import annotations
 
 import json
 import os
-import re
 
-from cache_command_lines import are_known
-from harness import Case, Outcome, Report, check_case, knows
-
-# The lines that the program knows, as words with a space between. What the program learns is
-# followed here alone: a pattern that says more takes in more of the cases.
-KNOWN = re.compile(
-    r"klist(?=.* -[tKe]*k)( (-[ktKe]+|--v1-big|[^ -][^ ]*))+"  # options before and after the file
-    r"|(ktfind|ktedit) .*"
-)
-
-# Those that it knows where it has ktutil, and where it lists caches.
-OF_KTUTIL = re.compile(r"ktutil( .*)?")
-OF_CACHES = re.compile(r"klist( (-[cefC]+|[^ -][^ ]*))+")
-
+from harness import Case, Outcome, Report, check_case
 
 def given(value: dict) -> bytes:
     """The bytes of an output or a file."""
@@ -61,20 +47,11 @@ def case_of(folder: str, fields: dict) -> Case:
 
 
 def check(report: Report, program: str, folder: str) -> None:
-    """Runs the cases whose lines the program knows."""
+    """Runs each case."""
     path = os.path.join(folder, "cases.jsonl")
     if not os.path.exists(path):
         report.skip("other programs' files", f"there is no {path}")
         return
     with open(path, encoding="utf-8") as file:
-        cases = [json.loads(line) for line in file]
-    patterns = [KNOWN]
-    patterns += [OF_KTUTIL] if knows(program, "ktutil") else []
-    patterns += [OF_CACHES] if are_known(program) else []
-    known = [
-        fields for fields in cases
-        if any(pattern.fullmatch(" ".join(fields["argv"])) for pattern in patterns)
-    ]
-    print(f"other programs' files: {len(known)} of {len(cases)} cases have lines that are known")
-    for fields in known:
-        check_case(report, program, case_of(folder, fields))
+        for line in file:
+            check_case(report, program, case_of(folder, json.loads(line)))

@@ -2,15 +2,12 @@
 from __future__ import annotations
 
 import os
-import re
 import resource
 import shutil
 import signal
 import struct
 import subprocess
 import tempfile
-from collections import Counter
-from dataclasses import dataclass
 
 from disk_saves import (
     NEW,
@@ -24,18 +21,11 @@ from disk_saves import (
     tree_faults,
     write,
 )
-from harness import Outcome, Report, differences, folder_of, message, run
-from preload import MOST_CALLS, built_library
+from harness import Outcome, Report, differences, folder_of, message
+from preload import MOST_CALLS, Line, built_library
+from system_calls import Call, calls_of, traced
 
-# A line of a trace that begins a system call.
-CALL = re.compile(r"(\w+)\(")
-
-# The calls by which a run reaches its files.
-CALLS = (
-    "open,openat,read,pread64,write,pwrite64,writev,close,statx,fstat,newfstatat,lstat,stat,"
-    "readlink,readlinkat,ftruncate,chown,fchown,lchown,fchownat,chmod,fchmod,fchmodat,fsync,"
-    "fdatasync,link,linkat,rename,renameat,renameat2,unlink,unlinkat"
-)
+LINE = Line(("ktedit", "k"), SCRIPT)
 
 # The file to which the link `k` leads, and the new one beside it.
 TARGET = "file"
@@ -50,26 +40,6 @@ KILLED = Outcome(-signal.SIGKILL)
 WANTED = {SAVED: NEW, UNREAD: OLD, UNSAVED: OLD, UNPRINTED: NEW, NO_MEMORY: OLD}
 
 
-@dataclass(frozen=True)
-class Call:
-    """A system call of a run: its name, and which of that name it is, from 1 on."""
-
-    name: str
-    nth: int
-
-    def to(self, fate: str) -> tuple[str, str]:
-        """The options of strace that let it end so."""
-        return ("-e", f"inject={self.name}:{fate}:when={self.nth}")
-
-
-def traced(program: str, folder: str, *options: str) -> tuple[Outcome, list[str]]:
-    """A run under strace, and the lines of its trace."""
-    with tempfile.NamedTemporaryFile("r", errors="replace") as trace:
-        words = ("-qq", "-o", trace.name, "-e", f"trace={CALLS}", *options, program, "ktedit", "k")
-        outcome = run("strace", words, folder, SCRIPT)
-        return outcome, trace.read().splitlines()
-
-
 def place(folder: str) -> None:
     """Makes a link to a file, and beside this what an earlier save left."""
     write(os.path.join(folder, TARGET), OLD, 0o640)
@@ -81,17 +51,8 @@ def calls_of_run(program: str) -> list[Call]:
     """The calls from the first that names the file; none where they cannot be told."""
     with folder_of({}) as folder:
         place(folder)
-        outcome, lines = traced(program, folder)
-    counts: Counter[str] = Counter()
-    calls = []
-    for line in lines:
-        found = CALL.match(line)
-        if found is None:
-            continue
-        counts[found[1]] += 1
-        if calls or '"k"' in line:
-            calls.append(Call(found[1], counts[found[1]]))
-    return calls if outcome == SAVED else []
+        outcome, lines = traced(program, LINE, folder)
+    return [*calls_of(lines, '"k"')] if outcome == SAVED else []
 
 
 def faults_of_failure(folder: str, outcome: Outcome) -> list[str]:
@@ -128,14 +89,14 @@ def check_calls(report: Report, program: str) -> None:
         for error in ("EIO", "ENOSPC"):
             with folder_of({}) as folder:
                 place(folder)
-                outcome, _ = traced(program, folder, *call.to(f"error={error}"))
+                outcome, _ = traced(program, LINE, folder, *call.to(f"error={error}"))
                 faults = faults_of_failure(folder, outcome)
-            report.check(f"{call.name} {call.nth} fails with {error}", faults)
+            report.check(f"{call} fails with {error}", faults)
         with folder_of({}) as folder:
             place(folder)
-            outcome, _ = traced(program, folder, *call.to("signal=KILL"))
+            outcome, _ = traced(program, LINE, folder, *call.to("signal=KILL"))
             faults = faults_of_kill(program, folder, outcome)
-        report.check(f"killed at {call.name} {call.nth}", faults)
+        report.check(f"killed at {call}", faults)
 
 
 def preloaded(program: str, folder: str, library: str, **settings: int) -> tuple[Outcome, int]:

@@ -116,12 +116,6 @@ def run(program: str, words, folder: str, stdin: bytes = b"", **options) -> Outc
     return Outcome(done.returncode, done.stdout or b"", done.stderr or b"")
 
 
-def knows(program: str, command: str) -> bool:
-    """Whether the program has that command, and so help for it."""
-    with folder_of({}) as folder:
-        return run(program, (command, "--help"), folder).status == 0
-
-
 def run_case(program: str, case: Case, **options) -> tuple[Outcome, dict[str, bytes]]:
     """Runs a case in a folder of its own; the files that lie there afterwards."""
     with folder_of(case.files) as folder:

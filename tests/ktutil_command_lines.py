@@ -2,7 +2,7 @@
 from __future__ import annotations
 
 from command_lines import Line, check_help, shown
-from harness import Case, Report, check_case, folder_of, message, run
+from harness import Case, Report, check_case, message
 
 # The whole input of each run: no command.
 INPUT = b"frob"
@@ -40,15 +40,6 @@ def check_refused(report: Report, program: str, lines: list[Line]) -> None:
     for words in lines:
         wanted = message(2, "bad command line")
         check_case(report, program, Case(f"refused: {shown(words)}", words, wanted, stdin=INPUT))
-
-
-def check_absence(report: Report, program: str) -> None:
-    """Where the program does not have the command: no line of it is taken, and no help tells of it.
-    """
-    check_refused(report, program, [*TAKEN, *REFUSED, ("ktutil", "--help"), ("help", "ktutil")])
-    with folder_of({}) as folder:
-        told = b"ktutil" in run(program, ("--help",), folder).out
-    report.check("help of a program without ktutil", ["it tells of ktutil"] if told else [])
 
 
 def check(report: Report, program: str) -> None:

@@ -9,6 +9,7 @@
  *   ZERO_WRITE=N         the Nth write to the standard output takes no byte
  *   FAIL_SAVE=N          the Nth write to a file fails
  *   ZERO_SAVE=N          the Nth write to a file takes no byte
+ *   ERROR=N              a call that fails has the error of that number, and not EIO
  *   MOST=N               each read and each write moves at most N bytes
  *   CLOCK=N              the clock has N seconds since 1970, as a signed 64-bit number
  *   FAIL_CLOCK=1         the clock cannot be read
@@ -41,7 +42,8 @@ struct calls {
 };
 
 static struct calls requests, inputs, reads, writes, saves;
-static uint64_t refuse_lasts, most, clock_seconds, fail_clock;
+static uint64_t refuse_lasts, error, most, clock_seconds, fail_clock;
+
 struct counts {
     uint64_t requests;
     uint64_t reads;
@@ -112,7 +114,7 @@ static int grants(struct calls *calls, ssize_t *answer)
     if (calls->made != calls->fail && calls->made != calls->take_none)
         return 1;
     counts->failures++;
-    errno = EIO;
+    errno = error ? (int)error : EIO;
     *answer = calls->made == calls->fail ? -1 : 0;
     return 0;
 }
@@ -144,7 +146,7 @@ int clock_gettime(clockid_t clock, struct timespec *time)
 {
     if (!in_main || clock != CLOCK_REALTIME || (clock_seconds == 0 && !fail_clock))
         return (int)syscall(SYS_clock_gettime, clock, time);
-    counts->failures++;
+    counts->failures += fail_clock;
     errno = EINVAL;
     time->tv_sec = (time_t)clock_seconds;
     time->tv_nsec = 999999999;
@@ -197,6 +199,7 @@ static int counted_main(int argc, char **argv, char **envp)
     writes.take_none = taken("ZERO_WRITE");
     saves.fail = taken("FAIL_SAVE");
     saves.take_none = taken("ZERO_SAVE");
+    error = taken("ERROR");
     most = taken("MOST");
     clock_seconds = taken("CLOCK");
     fail_clock = taken("FAIL_CLOCK");

@@ -34,10 +34,11 @@ class Line:
 
 @dataclass(frozen=True)
 class Counted:
-    """A run, the files after it, and how many of its calls were not granted."""
+    """A run, the files after it, its requests for memory, and its calls that were not granted."""
 
     outcome: Outcome
     files: dict[str, bytes]
+    requests: int
     failures: int
 
 
@@ -54,6 +55,10 @@ class Preloaded:
         self.library = library
         self.files = files
 
+    def over(self, files: dict[str, bytes]) -> Preloaded:
+        """The same over other files."""
+        return Preloaded(self.program, self.library, files)
+
     def run(self, line: Line, **settings: int) -> Counted | None:
         """One run with the settings that preload.c tells of; None where it was not loaded."""
         with tempfile.TemporaryDirectory() as top, folder_of(self.files) as folder:
@@ -64,8 +69,8 @@ class Preloaded:
             if not os.path.exists(counts):
                 return None
             with open(counts, "rb") as file:
-                _, _, _, failures = struct.unpack("=4Q", file.read(32))
-            return Counted(outcome, files_in(folder), failures)
+                requests, _, _, failures = struct.unpack("=4Q", file.read(32))
+            return Counted(outcome, files_in(folder), requests, failures)
 
     def sweep(
         self,

@@ -1,0 +1,59 @@
+"""Runs of the program under strace, which lists its system calls and has chosen ones fail."""
+from __future__ import annotations
+
+import re
+import tempfile
+from collections import Counter
+from collections.abc import Iterator
+from dataclasses import dataclass
+
+from harness import Outcome, run
+from preload import Line
+
+# A line of a trace that begins a system call.
+CALL = re.compile(r"(\w+)\(")
+
+# The calls by which a run reaches its files.
+CALLS = (
+    "open,openat,read,pread64,write,pwrite64,writev,close,statx,fstat,newfstatat,lstat,stat,"
+    "readlink,readlinkat,ftruncate,chown,fchown,lchown,fchownat,chmod,fchmod,fchmodat,fsync,"
+    "fdatasync,link,linkat,rename,renameat,renameat2,unlink,unlinkat"
+)
+
+
+@dataclass(frozen=True)
+class Call:
+    """A system call of a run: its name, which of that name it is, from 1 on, and its trace."""
+
+    name: str
+    nth: int
+    line: str
+
+    def to(self, fate: str) -> tuple[str, str]:
+        """The options of strace that let it end so."""
+        return ("-e", f"inject={self.name}:{fate}:when={self.nth}")
+
+    def __str__(self) -> str:
+        return f"{self.name} {self.nth}"
+
+
+def traced(program: str, line: Line, folder: str, *options: str) -> tuple[Outcome, list[str]]:
+    """A run under strace, and the lines of its trace."""
+    with tempfile.NamedTemporaryFile("r", errors="replace") as trace:
+        words = ("-qq", "-o", trace.name, "-e", f"trace={CALLS}", *options, program, *line.words)
+        outcome = run("strace", words, folder, line.stdin)
+        return outcome, trace.read().splitlines()
+
+
+def calls_of(lines: list[str], first: str) -> Iterator[Call]:
+    """The calls of a trace from the first that has one text in it."""
+    counts: Counter[str] = Counter()
+    is_begun = False
+    for line in lines:
+        found = CALL.match(line)
+        if found is None:
+            continue
+        counts[found[1]] += 1
+        is_begun = is_begun or first in line
+        if is_begun:
+            yield Call(found[1], counts[found[1]], line)
