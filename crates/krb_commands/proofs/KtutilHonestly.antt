@@ -12,6 +12,7 @@ use Rattle.krb_text.specs.Files.{FileMap, SameFiles, CountsFailure}
 use Rattle.krb_text.specs.Ktutil.{KtutilState, plan_of}
 use Rattle.krb_text.specs.KtutilHonest.{Followed, follow, ShowsDue, HandlesHonestly}
 use Rattle.krb_text.proofs.Prefixes.{Appends-nil, Appends-trans}
+use Rattle.krb_text.proofs.KtutilMemory.{handles_memory}
 use Rattle.krb_text.proofs.KtutilDue.{handles_honestly, handles_spares, handles_count}
 use Rattle.krb_text.specs.declared.files.LoadFault.TheVariants as load
 use Rattle.krb_text.specs.declared.files.LoadFault.{LoadFault}
@@ -21,7 +22,6 @@ use Rattle.krb_commands.specs.KtutilTalk.{Talk, quiet_run, line_end_run, goes_on
 use Rattle.krb_commands.specs.KtutilDue.{TalkDue, last_due, due_after, talk_due, GivesLines, LeavesDue, LeavesDueUnlessFailed, TalksHonestly}
 use Rattle.krb_commands.specs.Runs.{Run, Says, EndsRun, memory_run}
 use Rattle.krb_commands.proofs.Ends.{Says-nothing}
-use Rattle.krb_commands.proofs.KtutilMemory.{spent_or, spent_is_not_done, spent_prints_nothing}
 use Rattle.krb_commands.proofs.QuietRuns.{unread_is_told}
 
 -- a failure that was counted later counts, and one that was counted before
@@ -40,6 +40,25 @@ counts_before a b c le (inr most) = inr most
 -- a line that quits or misses memory is the last
 memory_stops : (ending : LineEnd) → ending ≡ end.NoMemory → IsTrue (goes_on ending) → ⊥
 memory_stops ending is goes = false≢true (subst (λ (e : LineEnd). IsTrue (goes_on e)) is goes)
+
+abbrev is_spent : LineEnd → Bool
+is_spent end.NoMemory = true
+is_spent ending = false
+
+-- a line ran out of memory, or it did not
+spent_or : (ending : LineEnd) → (ending ≡ end.NoMemory) ⊎ (ending ≢ end.NoMemory)
+spent_or end.NoMemory = inl refl
+spent_or end.Done = inr (λ is. false≢true (ap is_spent is))
+spent_or end.Quit = inr (λ is. false≢true (ap is_spent is))
+spent_or (end.Fault fault) = inr (λ is. false≢true (ap is_spent is))
+spent_or (end.Refused code) = inr (λ is. false≢true (ap is_spent is))
+spent_or (end.NotAKeytab fault) = inr (λ is. false≢true (ap is_spent is))
+spent_or (end.Load fault) = inr (λ is. false≢true (ap is_spent is))
+spent_or (end.Save fault) = inr (λ is. false≢true (ap is_spent is))
+
+-- it is not done then
+spent_is_not_done : (ending : LineEnd) → ending ≡ end.NoMemory → ending ≢ end.Done
+spent_is_not_done ending spent done = false≢true (ap is_spent (sym done ∙ spent))
 
 -- what a plan comes to, by its parts
 followed_is : (f : Followed) (state : KtutilState) (text : List ℕ) (ending : LineEnd) (files : FileMap) → state ≡ f.outcome.state → text ≡ f.outcome.text → ending ≡ f.outcome.ending → files ≡ f.files
@@ -196,7 +215,7 @@ module _ {F : Type 0} (trait : Ghosts F) (now : ℕ) where
   spend_honestly number line last new stops spent honest =
       let handles = stops.handles in
       let same = (handles_spares trait now line last.files new.files last.state new.state [] handles.text stops.ending handles.handled).files_are honest (spent_is_not_done stops.ending spent) in
-      let none = spent_prints_nothing trait now line last.files new.files last.state new.state handles.text stops.ending spent handles.handled in
+      let none = ((handles_memory trait last.state new.state [] handles.text stops.ending now line last.files new.files handles.handled).1 spent).same in
       spent_by (line_end_run number line stops.ending handles.text) handles.status last new handles.ends handles.worst none (ap (λ (e : LineEnd). (line_end_run number line e handles.text).status) spent)
       same new.out.failed refl (cases_eq handles.status 4)
 

@@ -10,6 +10,5 @@ pub mod QuietRuns
 pub mod EditMemory
 pub mod EditLemmas
 pub mod KtutilEnds
-pub mod KtutilMemory
 pub mod KtutilHonestly
 pub mod KtutilLemmas

@@ -20,3 +20,4 @@ pub mod KtutilLists
 pub mod KtutilHandles
 pub mod KtutilOptions
 pub mod KtutilDue
+pub mod KtutilMemory

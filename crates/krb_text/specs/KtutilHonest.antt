@@ -25,6 +25,12 @@ follow files (Ends due) = record { outcome = due; files = files }
 follow files (Loads name then_) = follow files (then_ (loaded (files name) most_bytes))
 follow files (Saves name bytes then_) = follow (with_bytes files name bytes) (then_ (Ok tt))
 
+-- want of memory, also in a file call, is told as such
+abbrev pub TellsMemory : LineEnd → Type 0
+TellsMemory (end.Load load.NoMemory) = ⊥
+TellsMemory (end.Save save.NoMemory) = ⊥
+TellsMemory ending = Unit {0}
+
 module _ {F : Type 0} (trait : Ghosts F) where
   -- state, output, end and files are those that are due
   pub record ShowsDue (files' : F) (new : KtutilState) (out out' : List ℕ) (ending : LineEnd) (due : Followed) : Type 0 where

@@ -6,8 +6,8 @@ ghost use Rattle.std.specs.Prelude.{Some, IsSome, IfSome, ◌≡◌, ◌≤◌, 
 ghost use Rattle.krb_text.specs.KtutilWords.{words};
 ghost use Rattle.krb_text.specs.KtutilCommand.{ClearList, Quit, alone, listing, addition, deletion, command_by, command_of};
 ghost use Rattle.krb_text.specs.Ktutil.{KtutilState, with_key, command_plan, plan_of};
-ghost use Rattle.krb_text.specs.KtutilFiles.{Ended, EndsAt, Finishes, Handles};
-ghost use Rattle.krb_text.specs.KtutilHonest.{HandlesHonestly, Spares};
+ghost use Rattle.krb_text.specs.KtutilFiles.{Ended, EndsAt, Finishes, Handles, RunsOut};
+ghost use Rattle.krb_text.specs.KtutilHonest.{HandlesHonestly, Spares, TellsMemory};
 
 use crate::files::Files;
 use crate::ktutil::addition::Addition;
@@ -237,6 +237,10 @@ impl<A: Allocator + Copy> Ktutil<A> {
             → HandlesHonestly F.Files (plan_of self.old now line.now)
             files.old files.new self.old self.new out.old.items out.new.items result }
         ensures spared { Spares F.Files files.old files.new self.old self.new result }
+        // Where memory runs out, also in a file call, that is told, and state and output are as they were.
+        ensures told { TellsMemory result }
+        ensures memory { result ≡ LineEnd.NoMemory
+            → RunsOut self.old self.new out.old.items out.new.items result }
         ensures count { F.Files.failure_count files.old ≤ F.Files.failure_count files.new }
     {
         if self.pending() {
