@@ -45,5 +45,7 @@ fn main(rt: HostRuntime) -> Result<(), Fault> {
     let task = Task::of(&rt)?;
     let len = change(&rt, &task)?;
     let (stored, removed, set) = (task.stores, task.removals, task.settings);
-    println!(rt; "{stored} stored, {removed} removed, {set} set, {len} bytes").map_err(|_| Fault::Write)
+    println!(rt; "{stored} stored, {removed} removed, {set} set, {len} bytes").map_err(
+        |_| Fault::Write,
+    )
 }
