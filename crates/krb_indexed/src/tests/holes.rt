@@ -19,10 +19,13 @@ fn indexed(alloc: Global, pieces: &[&[u8]]) -> Result<Indexed<Global>, Fail> {
     indexed_of(joined(alloc, pieces)?, USUAL)
 }
 
+/// The tree over no cell is one leaf.
 #[test]
 fn no_cell_has_one_leaf(rt: HostRuntime) -> Result<(), Fail> {
     let none = indexed(rt.alloc(), &[HEAD])?;
     assert!(rt; none.first_fit(1) == (None, 1));
+    assert!(rt; none.is_place(2) && !none.is_place(3));
+    assert!(rt; none.into_keytab().image() == HEAD);
     Ok(())
 }
 
