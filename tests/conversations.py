@@ -8,7 +8,7 @@ import subprocess
 import termios
 
 from edits import text
-from harness import SECONDS, Outcome, Report, differences, folder_of, message
+from harness import SECONDS, Outcome, Report, differences, folder_of, message, short
 from images import TWO
 from ktutil_lines import HEADING, NO_SLOTS
 
@@ -31,17 +31,21 @@ class Talk:
         """Gives it some bytes."""
         os.write(self.input_end, data)
 
-    def hear(self, wanted: bytes, stream=None) -> None:
+    def take(self, count: int, stream) -> bytes:
         """Waits for so many bytes of an output."""
-        stream = stream or self.run.stdout
         heard = b""
-        while len(heard) < len(wanted) and select.select([stream], [], [], 5)[0]:
-            piece = stream.read(len(wanted) - len(heard))
+        while len(heard) < count and select.select([stream], [], [], 5)[0]:
+            piece = stream.read(count - len(heard))
             if not piece:
                 break
             heard += piece
+        return heard
+
+    def hear(self, wanted: bytes, stream=None) -> None:
+        """Waits for those bytes of an output."""
+        heard = self.take(len(wanted), stream or self.run.stdout)
         if heard != wanted:
-            self.found.append(f"{heard!r} came, not {wanted!r}")
+            self.found.append(f"{short(heard)} came, not {short(wanted)}")
 
     def hear_nothing(self) -> None:
         """For a while there is no output."""
