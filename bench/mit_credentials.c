@@ -1,8 +1,9 @@
 /*
  * Stores credentials in a cache file by MIT's libkrb5, removes its last ones and sets configuration
- * values: mit_credentials FILE STORES REMOVALS SETTINGS. It does what crates/ccbench does, for
- * bench/credentials. REMOVALS "-" removes none, and then it does not go through all credentials first
- * to know the last ones.
+ * values: mit_credentials FILE STORES REMOVALS SETTINGS [replace]. It does what crates/ccbench does,
+ * for bench/credentials. REMOVALS "-" removes none, and then it does not go through all credentials
+ * first to know the last ones. With "replace" it removes what is set under a key before it sets it, as
+ * crates/ccbench does; else it leaves it.
  */
 #include <krb5.h>
 #include <stdio.h>
@@ -48,12 +49,14 @@ static void store(krb5_ccache cache, unsigned int number)
 }
 
 /* Sets a configuration value under the key of that number, as crates/ccbench sets it. */
-static void set(krb5_ccache cache, unsigned int number)
+static void set(krb5_ccache cache, unsigned int number, int replace)
 {
 	krb5_data value = { 0 };
 	char key[32];
 
 	snprintf(key, sizeof key, "bench%05u", number);
+	if (replace)
+		(void)krb5_cc_set_config(context, cache, NULL, key, NULL);
 	value.data = "1";
 	value.length = 1;
 	must(krb5_cc_set_config(context, cache, NULL, key, &value), "set_config");
@@ -95,8 +98,8 @@ int main(int argc, char **argv)
 	size_t count = 0;
 	char *name;
 
-	if (argc != 5) {
-		fputs("usage: mit_credentials FILE STORES REMOVALS SETTINGS\n", stderr);
+	if (argc != 5 && !(argc == 6 && strcmp(argv[5], "replace") == 0)) {
+		fputs("usage: mit_credentials FILE STORES REMOVALS SETTINGS [replace]\n", stderr);
 		return 2;
 	}
 	stores = strtoul(argv[2], NULL, 10);
@@ -121,7 +124,7 @@ int main(int argc, char **argv)
 	for (i = 1; i <= removals; i++)
 		must(krb5_cc_remove_cred(context, cache, 0, &all[count - i]), "remove_cred");
 	for (i = 0; i < settings; i++)
-		set(cache, i);
+		set(cache, i, argc == 6);
 	printf("%u stored, %u removed, %u set\n", stores, removals, settings);
 
 	while (count > 0)
