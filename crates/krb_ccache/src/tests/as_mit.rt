@@ -85,9 +85,10 @@ fn a_removed_configuration_entry_keeps_its_realm(rt: HostRuntime) -> Result<(), 
     Ok(())
 }
 
-// A value that is set; the count of its server's components, those after the first, and the value's length as MIT's
-// library wrote them.
+// A value that is set, with the place of its entry; the count of its server's components, those after the first, and
+// the value's length as MIT's library wrote them.
 struct Set {
+    place: u32,
     key: &'static [u8],
     principal: Option<&'static [u8]>,
     value: &'static [u8],
@@ -98,6 +99,7 @@ struct Set {
 
 const SETS: [Set; 5] = [
     Set {
+        place: 22,
         key: b"k",
         principal: None,
         value: b"",
@@ -106,6 +108,7 @@ const SETS: [Set; 5] = [
         len: b"\0\0\0\0",
     },
     Set {
+        place: 137,
         key: b"sp",
         principal: None,
         value: b"a b",
@@ -114,6 +117,7 @@ const SETS: [Set; 5] = [
         len: b"\0\0\0\x03",
     },
     Set {
+        place: 256,
         key: b"nl",
         principal: None,
         value: b"x\ny\x7f\xc3\xbc\\z",
@@ -122,6 +126,7 @@ const SETS: [Set; 5] = [
         len: b"\0\0\0\x08",
     },
     Set {
+        place: 380,
         key: b"long",
         principal: None,
         value: &[b'v'; 200],
@@ -130,6 +135,7 @@ const SETS: [Set; 5] = [
         len: b"\0\0\0\xc8",
     },
     Set {
+        place: 698,
         key: b"odd=key(x)",
         principal: Some(b"a/b@R"),
         value: b"1",
@@ -148,8 +154,7 @@ fn configuration_values_are_set(rt: HostRuntime) -> Result<(), Fail> {
     };
     let mut image = joined(rt.alloc(), &[FRONT, OWNER])?;
     for set in &SETS {
-        let place = image.len() as u32;
-        assert!(rt; cache.set_config(set.key, set.principal, set.value) == Ok(place));
+        assert!(rt; cache.set_config(set.key, set.principal, set.value) == Ok(set.place));
         let server = [
             OWNER,
             b"\0\0\0\x01",
