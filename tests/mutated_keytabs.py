@@ -46,6 +46,5 @@ def check_long(program: str, seed: int, count: int) -> Report:
     """Runs many, also made from what MIT's programs write here."""
     report = Report()
     samples = [*keytabs(), *mit_keytabs(report)]
-    topic = replace(TOPIC, cases=partial(runs_over, samples))
-    topic.check_numbers(report, program, range(seed, seed + count))
+    replace(TOPIC, cases=partial(runs_over, samples)).check_from(report, program, seed, count)
     return report

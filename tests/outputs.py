@@ -5,10 +5,11 @@ import os
 import resource
 import signal
 import subprocess
-from dataclasses import dataclass
+from dataclasses import dataclass, replace
 
 from harness import SECONDS, Case, Outcome, Report, faults_of, folder_of, message, run, run_case
 from images import TWO, Entry, entries
+from ktutil_lines import HEADING, lines
 from listings import B_LINE, HOST_LINE, listed
 
 KTFIND = ("ktfind", "k", "0", "0", "b@R")
@@ -29,6 +30,11 @@ class Listing:
 
 
 KLIST = Listing(("klist", "-k", "k"), TWO, listed(HOST_LINE, B_LINE))
+
+# Three lines at fault with others between, and an answer of 1.
+FAULTY = lines("faults between lists", ["frob", "rkt k", "delent 9", "l", "rkt n", "l"],
+               [*HEADING, "   1    3 host/a@R", "   2    3 b@R"] * 2,
+               ("line 1: fault 1", "line 3: fault 7", "n: no such file"), {"k": TWO})
 
 # More than a pipe holds: 300 lines of 1000 bytes.
 LONG_NAME = b"x" * 992
@@ -68,18 +74,23 @@ def check_no_error_output(report: Report, program: str) -> None:
     check_lost(report, program, "stderr", [Case("", *one, {"k": TWO}) for one in wanted])
 
 
-def limited(program: str, words: tuple[str, ...], folder: str, most: int) -> Outcome:
-    """A run whose output is a file of at most so many bytes: the write that passes them is cut."""
+def limited(
+    program: str, words: tuple[str, ...], folder: str, stream: str, most: int, stdin: bytes = b""
+) -> tuple[Outcome, bytes]:
+    """A run that writes one output into a file of at most so many bytes, and that file.
+
+    The write that passes them is cut.
+    """
 
     def limit() -> None:
         signal.signal(signal.SIGXFSZ, signal.SIG_IGN)
         resource.setrlimit(resource.RLIMIT_FSIZE, (most, most))
 
-    path = os.path.join(folder, "out")
-    with open(path, "wb") as out:
-        got = run(program, words, folder, stdout=out, preexec_fn=limit)
-    with open(path, "rb") as out:
-        return Outcome(got.status, out.read(), got.err)
+    path = os.path.join(folder, stream)
+    with open(path, "wb") as file:
+        got = run(program, words, folder, stdin, preexec_fn=limit, **{stream: file})
+    with open(path, "rb") as file:
+        return got, file.read()
 
 
 def check_each_byte(report: Report, program: str, listing: Listing) -> None:
@@ -87,11 +98,22 @@ def check_each_byte(report: Report, program: str, listing: Listing) -> None:
     words, text = listing.words, listing.text
     with folder_of(listing.files()) as folder:
         for most in range(len(text)):
-            wanted = Outcome(FAILED.status, text[:most], FAILED.err)
-            got = limited(program, words, folder, most)
-            report.compare(f"room for {most} of {len(text)} bytes: {' '.join(words)}", wanted, got)
-        got = limited(program, words, folder, len(text))
-        report.compare(f"room for each byte: {' '.join(words)}", Outcome(0, text), got)
+            got, out = limited(program, words, folder, "stdout", most)
+            report.compare(f"room for {most} of {len(text)} bytes: {' '.join(words)}",
+                           Outcome(FAILED.status, text[:most], FAILED.err), replace(got, out=out))
+        got, out = limited(program, words, folder, "stdout", len(text))
+        report.compare(f"room for each byte: {' '.join(words)}", Outcome(0, text),
+                       replace(got, out=out))
+
+
+def check_each_byte_of_messages(report: Report, program: str, case: Case) -> None:
+    """The error output takes each number of bytes that is at most that of the messages."""
+    wanted = case.wanted
+    with folder_of(case.files) as folder:
+        for most in range(len(wanted.err) + 1):
+            got, err = limited(program, case.words, folder, "stderr", most, case.stdin)
+            report.compare(f"room for {most} bytes of messages: {case.name}",
+                           replace(wanted, err=wanted.err[:most]), replace(got, err=err))
 
 
 def piped(program: str, words: tuple[str, ...], folder: str, **more) -> subprocess.Popen[bytes]:
@@ -150,4 +172,5 @@ def check(report: Report, program: str) -> None:
     """Runs all of this topic."""
     check_no_output(report, program)
     check_no_error_output(report, program)
+    check_each_byte_of_messages(report, program, FAULTY)
     check_listing(report, program, KLIST, LONG)

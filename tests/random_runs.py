@@ -126,8 +126,12 @@ class Topic:
         """Runs as many numbers as usual, the same in each run."""
         self.check_numbers(report, program, range(self.usual))
 
-    def check_long(self, program: str, seed: int, count: int) -> Report:
+    def check_from(self, report: Report, program: str, seed: int, count: int) -> None:
         """Runs many numbers, from a seed on."""
-        report = Report()
         self.check_numbers(report, program, range(seed, seed + max(1, count // self.share)))
+
+    def check_long(self, program: str, seed: int, count: int) -> Report:
+        """Runs many numbers, from a seed on, and answers what came of them."""
+        report = Report()
+        self.check_from(report, program, seed, count)
         return report
