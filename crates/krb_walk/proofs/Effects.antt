@@ -38,10 +38,6 @@ cut_extends p (Ok given) old new h = cuts-extends old new p h
 cut_extends p (Err code) old new h = same_extends old new h
 
 -- what changes no store is lawful
-changes_cond : (b : Bool) (x y : Said) (s : Store) → Changes x s s → Changes y s s → Changes (cond b x y) s s
-changes_cond true x y s h k = h
-changes_cond false x y s h k = k
-
 changes_end : (w end : ℕ) (fault : Option FaultKind) (s : Store) → Changes (end_said w end fault) s s
 changes_end w end None s = refl
 changes_end w end (Some kind) s = refl
@@ -53,12 +49,6 @@ changes_stop s w (Some r) = refl
 changes_step : (s : Store) (w : ℕ) (o : Option ℕ) → Changes (step_said s w o) s s
 changes_step s w None = refl
 changes_step s w (Some c) = changes_stop s w (next_live s c)
-
-pub lawful_start : {S I : Type 0} (r : Rules S I) (s : SessionState S) → IsLawful {I = I} r (moment r s Start)
-lawful_start r s = changes_cond (nat_lt (length s.cursors) 1024) _ _ (r.seen s.store) refl refl
-
-pub lawful_resume : {S I : Type 0} (r : Rules S I) (s : SessionState S) (p : ℕ) → IsLawful {I = I} r (moment r s (Resume p))
-lawful_resume r s p = changes_cond (nat_lt (length s.cursors) 1024) _ _ (r.seen s.store) (changes_cond (is_place (r.seen s.store) p) _ _ (r.seen s.store) refl refl) refl
 
 pub lawful_step : {S I : Type 0} (r : Rules S I) (s : SessionState S) (w : ℕ) → IsLawful {I = I} r (moment r s (Step w))
 lawful_step r s w = changes_step (r.seen s.store) w (slice_get s.cursors w)
