@@ -21,13 +21,13 @@ fn fill<A: Allocator, B: Allocator>(slots: &mut Vec<Slot, A>, keytab: &Keytab<B>
     }
 }
 
-/// The table of a keytab's cells. There is room for one more.
+/// The table of a keytab's cells. There is room for one more, and no further.
 pub fn table_of<A: Allocator, B: Allocator>(
     alloc: A,
     keytab: &Keytab<B>,
 ) -> Result<Vec<Slot, A>, NoMemory>
     ensures slots { IfOk result (λ t. t.items ≡ slots_from 2 keytab.now.state.contents.cells) }
-    ensures room { IfOk result (λ t. vec_len t < vec_capacity t) }
+    ensures room { IfOk result (λ t. vec_capacity t ≡ vec_len t + 1) }
     ensures few { IfOk result (λ t. vec_len t < 2 ^ 30) }
 {
     let count = keytab.cell_count() as usize;
