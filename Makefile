@@ -6,6 +6,7 @@
 
 PREFIX ?= /usr/local
 PROGRAM = crates/krbfile/out/krbfile
+KTBENCH = crates/ktbench/out/ktbench
 SOURCES = crates.txt $(shell find crates/*/src crates/*/specs crates/*/proofs -type f)
 
 .PHONY: all run test long-test install
@@ -16,15 +17,19 @@ $(PROGRAM): $(SOURCES)
 	cd crates/krbfile && rt run -- --help > /dev/null
 	touch $@
 
+$(KTBENCH): $(SOURCES)
+	cd crates/ktbench && rt run -- script data/k /dev/null plain little > /dev/null
+	touch $@
+
 run: all
 	$(PROGRAM) klist -k crates/krbfile/data/k
 
 test:
 	rt ci
-	$(MAKE) --no-print-directory $(PROGRAM)
+	$(MAKE) --no-print-directory $(PROGRAM) $(KTBENCH)
 	tests/run $(PROGRAM)
 
-long-test: all
+long-test: all $(KTBENCH)
 	tests/long $(PROGRAM)
 
 install: all

@@ -8,7 +8,7 @@ from harness import Report
 
 TOP = os.path.dirname(os.path.dirname(os.path.abspath(__file__)))
 SHOWN = os.path.join(TOP, "README.md")
-PROVED = os.path.join(TOP, "crates", "krb_keytab", "src", "tests", "readme.rt")
+PROVED = os.path.join(TOP, "crates", "krb_indexed", "src", "tests", "readme.rt")
 
 
 def lines_of(text: str) -> list[str]:

@@ -10,8 +10,7 @@ use Rattle.std.proofs.lemmas.List.{append-nil, map-append, replicate-append-repl
 use Rattle.krb_wire.specs.declared.format.KtFormat.{KtFormat}
 use Rattle.std.specs.Int.{w32}
 use Rattle.std.proofs.Common.{Bool, cond}
-use Rattle.std.proofs.lemmas.Bool.{lt-ltb, lt-leb, le-ltb, leb-true}
-use Rattle.std.proofs.lemmas.Bool.Decides.{leb_tells}
+use Rattle.std.proofs.lemmas.Bool.{lt-leb, le-ltb, leb-true}
 use Rattle.krb_wire.specs.declared.format.Order.{Order}
 use Rattle.krb_wire.specs.Spelling.{order_of, digits}
 use Rattle.krb_wire.proofs.Fields.{wide32}
@@ -124,36 +123,10 @@ pub appended_spare : (k : KeytabState) (bytes : List ℕ) (count room : ℕ) (t 
 appended_spare k bytes count room t whole = λ longer.
     absurd (omega (arith, longer, image_len (with_last k bytes), tail_short (order_of k.format) k.contents.end (whole_of (end_of (store_of k)) (kind_of k.contents.end) whole)))
 
--- more room is as good
-pub reserved_kept : (k : KeytabState) (slots new : List Slot) (t u : SizeTree) (count room n more : ℕ) → IsKept k slots count room t → new ≡ slots → n ≡ count → room ≤ more → u.sizes ≡ t.sizes → u.height ≡ t.height → t.room ≤ u.room → IsKept k new n more u
-reserved_kept k slots new t u count room n more kept same counts rooms sizes height grows =
-    let i = kept.0 in (
-      record {
-        table = same ∙ i.table;
-        sizes = sizes ∙ i.sizes ∙ ap (λ (y : List Slot). map free_size y ++ replicate {A = ℕ} (2 ^ t.height - length y) 0) (sym same) ∙ ap (λ (h : ℕ). map free_size new ++ replicate {A = ℕ} (2 ^ h - length new) 0) (sym height);
-        height = rw (same, height) i.height;
-      },
-      λ longer.
-          let had = kept.1 longer in
-          (omega (arith, had.0, counts, rooms), λ h least. omega (arith, had.1 h (subst (λ (m : ℕ). IsHeightFor (m + 1) h) counts least), grows)),
-    )
-
-not_le : (a b : ℕ) → nat_le a b ≡ false → b < a
-not_le a b h = elim (leb_tells a b) [
-  | inl y ↦ let is = y.0 in absurd (cc (is, h))
-  | inr n ↦ n.1
-]
-
 -- ---- what an addition after the cells gives
 
 pub no_first : (k : KeytabState) (need : ℕ) → hole_from 2 need k.contents.cells ≡ None → first_hole 2 need k.contents.cells ≡ None
 no_first k need none = none_large k need none
-
-pub full_gives : (k : KeytabState) (e : EntryParts) → is_some (fault_of (store_of k)) ≡ false → fits k.format e ≡ true → hole_from 2 (length (written_form k.format e)) k.contents.cells ≡ None → nat_le (length (image_of (with_last k (written_form k.format e)))) k.limit ≡ false → put_result k e ≡ Err Full
-full_gives k e whole fit none h =
-    let x = written_form k.format e in
-    let long : nat_lt k.limit (length (image_of (with_last k x))) ≡ true = lt-ltb _ _ (not_le _ _ h) in
-    put_after_all k e whole fit (no_first k (length x) none) ∙ ap (λ (b : Bool). cond b (Err Full) (Ok (end_of (store_of k), with_last k x))) long
 
 fits_gives : (k : KeytabState) (e : EntryParts) → is_some (fault_of (store_of k)) ≡ false → fits k.format e ≡ true → hole_from 2 (length (written_form k.format e)) k.contents.cells ≡ None → nat_le (length (image_of (with_last k (written_form k.format e)))) k.limit ≡ true → put_result k e ≡ Ok (end_of (store_of k), with_last k (written_form k.format e))
 fits_gives k e whole fit none h =

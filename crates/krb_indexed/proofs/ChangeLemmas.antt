@@ -1,5 +1,5 @@
 -- A table and a tree where one cell becomes another of its size.
-use Rattle.std.proofs.Common.{◌≡◌, ℕ, ◌+◌, ◌-◌, ◌^◌, ◌<◌, ◌≤◌, true, false, List, ◌∷◌, ◌++◌, length, map, replicate, Option, Some, None, Result, Ok, Err, refl, sym, ap, subst, ◌∙◌, arith, length-append}
+use Rattle.std.proofs.Common.{◌≡◌, ℕ, ◌+◌, ◌-◌, ◌^◌, ◌<◌, ◌≤◌, true, false, List, ◌∷◌, ◌++◌, length, map, replicate, Option, Some, None, Result, Ok, refl, sym, ap, subst, ◌∙◌, arith, length-append}
 use Rattle.std.specs.Prelude.{is_some, option_map}
 use Rattle.std.specs.List.{flat_map}
 use Rattle.std.proofs.Math.ListN.{set}
@@ -7,9 +7,6 @@ use Rattle.std.proofs.lemmas.Bool.{leb-true}
 use Rattle.std.proofs.lemmas.List.{map-set, length-map, length-set, set-append_left, length-replicate}
 use Rattle.krb_wire.specs.declared.format.KtFormat.{KtFormat}
 use Rattle.krb_wire.specs.Spelling.{order_of}
-use Rattle.krb_walk.specs.declared.refusal.Code.{Code}
-use Rattle.krb_walk.specs.declared.refusal.Refusal.{Refusal}
-use Rattle.krb_walk.specs.declared.refusal.Refusal.TheVariants.{Code as ByCode, NoMemory}
 use Rattle.krb_walk.specs.Rules.{PutGives}
 use Rattle.krb_walk.specs.Store.{fault_of}
 use Rattle.krb_keytab.specs.Entry.{EntryParts}
@@ -149,10 +146,6 @@ filled_kept k slots t u count room number bytes sound kept fit sizes height room
     )
 
 -- ---- what an addition leaves
-
-pub refused_keeps : {S : Type 0} (given : Result (ℕ × S) Code) (old new : S) (e : Refusal) → PutGives given old (Err e) new → new ≡ old
-refused_keeps given old new (ByCode c) h = h.1
-refused_keeps given old new NoMemory h = h
 
 -- an addition into the first hole that takes the entry
 pub filled_state : (k new : KeytabState) (e : EntryParts) (number place : ℕ) → is_some (fault_of (store_of k)) ≡ false → fits k.format e ≡ true → IsFit k (length (written_form k.format e)) (Some number) → PutGives (put_result k e) k (Ok place) new

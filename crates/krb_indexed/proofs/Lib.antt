@@ -8,6 +8,5 @@ pub mod IndexLemmas
 pub mod LiveLemmas
 pub mod ChangeLemmas
 pub mod AppendLemmas
-pub mod RewriteLemmas
 pub mod BytesLemmas
 pub mod FindLemmas

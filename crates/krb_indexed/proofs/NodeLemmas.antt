@@ -25,10 +25,6 @@ times_twice i s = omega arith
 at_least : (i s : ℕ) → 0 < s → i ≤ i * s
 at_least i s pos = let one : 1 ≤ s = omega arith in let more = mul-le-mul_left i one in omega (arith, more)
 
--- the numbers of the leaves that stand so many levels under a node
-abbrev IsUnder : ℕ → ℕ → ℕ → Type 0
-IsUnder k i j = (i * 2 ^ k ≤ j) × (j < i * 2 ^ k + 2 ^ k)
-
 -- no leaf under a node is greater than it
 pub under : (nodes : List ℕ) (leaves : ℕ) → AreNodes leaves nodes → (k i j : ℕ) → 0 < i → i * 2 ^ k + 2 ^ k ≤ 2 * leaves → i * 2 ^ k ≤ j → j < i * 2 ^ k + 2 ^ k → slice_index nodes j ≤ slice_index nodes i
 under nodes leaves inner zero i j some room low high =

@@ -8,18 +8,6 @@ use krb_keytab::{CellView, Keytab};
 use krb_wire::NoMemory;
 use std::alloc::Allocator;
 
-// How many cells a keytab has.
-fn count_cells<A: Allocator>(keytab: &Keytab<A>) -> usize
-    ensures count { result ≡ length keytab.now.state.contents.cells }
-    ensures small { result < 2 ^ 30 }
-{
-    let mut count: usize = 0;
-    for _cell in keytab.cells() {
-        count += 1;
-    }
-    count
-}
-
 // Fills an empty table with a keytab's cells, for which there is room.
 fn fill<A: Allocator, B: Allocator>(slots: &mut Vec<Slot, A>, keytab: &Keytab<B>)
     requires empty { slots.old.items ≡ [] }
@@ -33,32 +21,21 @@ fn fill<A: Allocator, B: Allocator>(slots: &mut Vec<Slot, A>, keytab: &Keytab<B>
     }
 }
 
-/// The table of a keytab's cells. There is room for one more.
+/// The table of a keytab's cells. There is room for one more, and no further.
 pub fn table_of<A: Allocator, B: Allocator>(
     alloc: A,
     keytab: &Keytab<B>,
 ) -> Result<Vec<Slot, A>, NoMemory>
     ensures slots { IfOk result (λ t. t.items ≡ slots_from 2 keytab.now.state.contents.cells) }
-    ensures room { IfOk result (λ t. vec_len t < vec_capacity t) }
+    ensures room { IfOk result (λ t. vec_capacity t ≡ vec_len t + 1) }
     ensures few { IfOk result (λ t. vec_len t < 2 ^ 30) }
 {
-    let count = count_cells(keytab);
+    let count = keytab.cell_count() as usize;
     let Ok(mut slots) = Vec::with_capacity(alloc, count + 1) else {
         return Err(NoMemory);
     };
     fill(&mut slots, keytab);
     Ok(slots)
-}
-
-/// Makes a table that of a keytab which has no more cells than there is room for.
-pub fn refill<A: Allocator, B: Allocator>(slots: &mut Vec<Slot, A>, keytab: &Keytab<B>)
-    requires { length keytab.now.state.contents.cells ≤ vec_capacity slots.old }
-    ensures slots { slots.new.items ≡ slots_from 2 keytab.now.state.contents.cells }
-    ensures few { length slots.new.items < 2 ^ 30 }
-{
-    let _ = count_cells(keytab);
-    slots.clear();
-    fill(slots, keytab);
 }
 
 /// How many cells stand before a place, found by halving.

@@ -6,6 +6,7 @@ mod look_ups;
 mod made;
 mod peer_records;
 mod peers;
+mod readme;
 mod records;
 mod removals;
 mod sessions;

@@ -115,21 +115,6 @@ impl<A: Allocator> Tree<A> {
         })
     }
 
-    /// Makes it the tree over what may be taken in each of other cells, for which there is room.
-    pub fn refill(&mut self, slots: &[Slot])
-        requires few { length slots.now < 2 ^ 30 }
-        requires room { HasRoomFor (length slots.now) self.old }
-        ensures sizes { self.new.sizes
-            ≡ map free_size slots.now ++ replicate (2 ^ self.new.height - length slots.now) 0 }
-        ensures height { IsHeightFor (length slots.now) self.new.height }
-    {
-        let height = height_for(slots.len());
-        self.nodes.clear();
-        make_zeros(&mut self.nodes, 2 * height.leaves);
-        fill(&mut self.nodes, height.leaves, slots);
-        self.height = height.levels;
-    }
-
     /// How many sizes there are.
     pub fn leaves(&self) -> usize
         ensures leaves { result ≡ length self.now.sizes }

@@ -1,5 +1,5 @@
 -- Entries that are written anew.
-use Rattle.std.proofs.Common.{◌≡◌, ℕ, ◌+◌, ◌^◌, ◌<◌, List, [], ◌∷◌, ◌++◌, length, map, Option, Some, None, true, refl, sym, ap, ◌∙◌, subst, arith}
+use Rattle.std.proofs.Common.{◌≡◌, ℕ, suc, ◌+◌, ◌^◌, ◌<◌, List, [], ◌∷◌, ◌++◌, length, map, Option, Some, None, true, refl, sym, ap, ◌∙◌, subst, arith}
 use Rattle.std.specs.Prelude.{slice_set, take, drop}
 use Rattle.std.specs.List.{filter_map, flat_map, cons_option, splice}
 use Rattle.std.proofs.Math.ListN.{drop_of_length-le}
@@ -45,6 +45,19 @@ image_anew k = ap (λ (b : List ℕ). 5 ∷ 2 ∷ b) (append-nil (flat_map (cell
 
 pub len_all : (k : KeytabState) (xs : List PlacedEntry) → xs ≡ placed_entries k → 2 + length (records_anew xs) ≡ length (image_of (rewrite_of k))
 len_all k xs is = omega (arith, ap (λ (ys : List PlacedEntry). length (records_anew ys)) is, ap length (image_anew k))
+
+-- as many as the entries are the new cells
+count_first : (place : ℕ) (o : Option EntryParts) (es : List EntryParts) (xs : List PlacedEntry) → length xs ≡ length (map new_record es)
+    → length {A = PlacedEntry} (cons_option (option_map (λ (e : EntryParts). (place, e)) o) xs) ≡ length (map new_record (cons_option o es))
+count_first place None es xs others = others
+count_first place (Some e) es xs others = ap suc others
+
+count_placed : (f : KtFormat) (rs : List Record) → length {A = PlacedEntry} (filter_map (λ (r : Record). option_map (λ (e : EntryParts). (r.place, e)) (entry_at f r.bytes)) rs) ≡ length (map new_record (filter_map (λ (r : Record). entry_at f r.bytes) rs))
+count_placed f [] = refl
+count_placed f (r ∷ rs) = count_first r.place (entry_at f r.bytes) _ _ (count_placed f rs)
+
+pub count_all : (k : KeytabState) (xs : List PlacedEntry) → xs ≡ placed_entries k → length xs ≡ length (rewrite_of k).contents.cells
+count_all k xs is = ap length is ∙ count_placed k.format (records (store_of k))
 
 -- the first entry, and the others
 pub anew_next : (xs ys : List PlacedEntry) (x : PlacedEntry) → xs ≡ x ∷ ys → records_anew xs ≡ cell Big (new_record x.1) ++ records_anew ys

@@ -144,12 +144,6 @@ end_again f (Damaged kind rest) sound = sound
 
 -- ---- all cells
 
-more_is : (c d : Cell) (x y : List ℕ) → More c x ≡ More d y → (c ≡ d) × (x ≡ y)
-more_is c d x y e = (cc, cc)
-
-bare : Contents
-bare = record { cells = []; end = Bare }
-
 pub more_shrinks : (f : KtFormat) (bytes : List ℕ) (c : Cell) (after : List ℕ) → TakesCell f bytes c after → length bytes ≡ 4 + length (bytes_of c) + length after
 more_shrinks f bytes c after t =
     let o = order_of f in

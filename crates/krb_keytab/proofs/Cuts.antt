@@ -1,5 +1,5 @@
 -- A place cuts the cells in two, and the image too.
-use Rattle.std.proofs.Common.{◌≡◌, ℕ, ◌+◌, ◌≤◌, true, false, eqb, ltb, List, [], ◌∷◌, ◌++◌, length, drop, Some, refl, sym, ap, subst, ◌∙◌, append_assoc, length-append, arith, inl, inr}
+use Rattle.std.proofs.Common.{◌≡◌, ℕ, ◌+◌, ◌*◌, ◌≤◌, true, false, eqb, ltb, List, [], ◌∷◌, ◌++◌, length, drop, Some, refl, sym, ap, subst, ◌∙◌, append_assoc, length-append, arith, inl, inr}
 use Rattle.std.specs.Prelude.{IsSome}
 use Rattle.std.specs.Int.{w32}
 use Rattle.std.specs.List.{flat_map, AllByRecursion}
@@ -71,6 +71,11 @@ live_is_place (c ∷ cs) at p h = elim (eqb_tells p at) [
 pub far : (cs : List Cell) (at : ℕ) → at ≤ end_place at cs
 far [] at = omega arith
 far (c ∷ cs) at = let h = far cs (at + 4 + size c) in omega (arith, h)
+
+-- each cell takes four places or more
+pub places_for : (cs : List Cell) (at : ℕ) → at + 4 * length cs ≤ end_place at cs
+places_for [] at = omega arith
+places_for (c ∷ cs) at = let h = places_for cs (at + 4 + size c) in omega (arith, h)
 
 -- the questions asked of the cells from the place on
 pub stop_behind : (front back : List Cell) (at p : ℕ) (e : End) → p ≡ end_place at front → stop_in at (front ++ back) e p ≡ stop_in p back e p

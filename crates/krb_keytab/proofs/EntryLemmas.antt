@@ -1,11 +1,11 @@
 -- An entry that is read is one that the bytes spell, and the only one.
 use Rattle.std.proofs.Common.{◌≡◌, ℕ, suc, ◌^◌, ◌<◌, List, [], ◌∷◌, ◌++◌, Option, Some, None, refl, sym, ap, subst, ◌∙◌, append_assoc}
-use Rattle.std.specs.Prelude.{IfSome, IsSome, is_some}
+use Rattle.std.specs.Prelude.{IfSome}
 use Rattle.std.specs.Int.{w16, w32}
 use Rattle.krb_wire.specs.declared.format.KtFormat.{KtFormat}
 use Rattle.krb_wire.specs.Spelling.{order_of, digits, data16, kt_principal}
 use Rattle.krb_wire.specs.Reading.{byte_at, ◌>>=◌, Gives, number_at, data16_at, kt_principal_at}
-use Rattle.krb_wire.proofs.Fields.{IsBytes, bind_some, some_is, is_some_has, Takes, Takes-then, wide16, wide32, number_takes, number_again, data16_takes, data16_again}
+use Rattle.krb_wire.proofs.Fields.{IsBytes, bind_some, some_is, Takes, Takes-then, wide16, wide32, number_takes, number_again, data16_takes, data16_again}
 use Rattle.krb_wire.proofs.Principals.{kt_principal_takes, kt_principal_again}
 use Rattle.krb_keytab.specs.Entry.{EntryParts, Front, front, FitsFront, entry_of, Spells, front_at, entry_at}
 
@@ -67,11 +67,3 @@ found_entry view f bytes None fits h = tt
 
 pub only_entry : {X : Type 0} (view : X → EntryParts) (f : KtFormat) (bytes : List ℕ) (result : Option X) → Gives view result (entry_at f bytes) → (e : EntryParts) → Spells f e bytes → Gives view result (Some e)
 only_entry view f bytes result h e s = subst (Gives view result) (entry_again f e bytes s) h
-
--- bytes after an entry leave an entry
-pub entry_more : (f : KtFormat) (bytes more : List ℕ) → IsBytes bytes → IsSome (entry_at f bytes) → IsSome (entry_at f (bytes ++ more))
-entry_more f bytes more fits some =
-    let e = is_some_has (entry_at f bytes) some in
-    let s = entry_spelled f bytes e.0 fits e.1 in
-    let t : Spells f (entry_of f s.fields (s.tail ++ more)) (bytes ++ more) = record { fields = s.fields; tail = s.tail ++ more; fit = s.fit; parts = ap (λ (b : List ℕ). b ++ more) s.parts ∙ append_assoc (front f s.fields) s.tail more; entry = refl } in
-    ap is_some (entry_again f (entry_of f s.fields (s.tail ++ more)) (bytes ++ more) t)

@@ -1,7 +1,6 @@
 -- Entries that are listed from cell to cell are those of the records.
-use Rattle.std.proofs.Common.{◌≡◌, ◌∷◌, ℕ, ◌+◌, [], List, length, map, refl, sym, ap, subst, append_assoc, ◌∙◌}
+use Rattle.std.proofs.Common.{◌≡◌, ◌∷◌, ℕ, ◌+◌, [], List, length, map, refl, sym, ap, append_assoc, ◌∙◌}
 use Rattle.std.specs.Prelude.{Option, Some, None, Bool, false, ◌++◌, option_map}
-use Rattle.std.proofs.lemmas.List.{append-nil}
 use Rattle.krb_wire.specs.Spelling.{Parts}
 use Rattle.krb_wire.proofs.Fields.{is_some_has}
 use Rattle.std.specs.List.{filter_map, cons_option}
@@ -40,22 +39,8 @@ listed_live old new at b e s is =
     ∙ ap (λ (p : ℕ). (at, e) ∷ entries_in old.format p new.contents.cells) (sym s.next)
     ∙ ap (λ (f : KtFormat). (at, e) ∷ entries_in f new.place new.contents.cells) (sym s.format)
 
-pub listed_free : (old new : CellsFrom) (at : ℕ) (b : List ℕ) → BeginsWith old at (Free b) new → entries_in old.format old.place old.contents.cells ≡ entries_in new.format new.place new.contents.cells
-listed_free old new at b s =
-    ap (entries_in old.format old.place) s.cells
-    ∙ ap (λ (p : ℕ). entries_in old.format (p + 4 + length b) new.contents.cells) (sym s.place)
-    ∙ ap (λ (p : ℕ). entries_in old.format p new.contents.cells) (sym s.next)
-    ∙ ap (λ (f : KtFormat). entries_in f new.place new.contents.cells) (sym s.format)
-
 pub looked_first : (name : Parts) (kvno enctype : ℕ) (k : KeytabState) (cells : CellsFrom) → cells ≡ cells_of k → IsLookedUpTo name kvno enctype k cells false None
 looked_first name kvno enctype k cells is = record { before = []; found = refl; all = entries_of_cells k cells is }
-
-pub looked_free : (name : Parts) (kvno enctype : ℕ) (k : KeytabState) (old new : CellsFrom) (at : ℕ) (b : List ℕ) (named : Bool) (best : Option PlacedEntry) → BeginsWith old at (Free b) new → IsLookedUpTo name kvno enctype k old named best → IsLookedUpTo name kvno enctype k new named best
-looked_free name kvno enctype k old new at b named best s l = record {
-  before = l.before;
-  found = l.found;
-  all = ap (λ (xs : List PlacedEntry). l.before ++ xs) (sym (listed_free old new at b s)) ∙ l.all;
-}
 
 pub looked_live : (name : Parts) (kvno enctype : ℕ) (k : KeytabState) (old new : CellsFrom) (at : ℕ) (b : List ℕ) (named named' : Bool) (best best' : Option PlacedEntry) → BeginsWith old at (Live b) new → IsLookedUpTo name kvno enctype k old named best
     → ((xs : List PlacedEntry) (e : EntryParts) → entry_at old.format b ≡ Some e → IsFoundAmong name kvno enctype xs named best → IsFoundAmong name kvno enctype (xs ++ (at, e) ∷ []) named' best') → IsLookedUpTo name kvno enctype k new named' best'
@@ -66,7 +51,3 @@ looked_live name kvno enctype k old new at b named named' best best' s l looks =
       found = looks l.before e.0 e.1 l.found;
       all = append_assoc l.before ((at, e.0) ∷ []) (entries_in new.format new.place new.contents.cells) ∙ ap (λ (xs : List PlacedEntry). l.before ++ xs) (sym (listed_live old new at b e.0 s e.1)) ∙ l.all;
     }
-
-pub looked_all : (name : Parts) (kvno enctype : ℕ) (k : KeytabState) (cells : CellsFrom) (named : Bool) (best : Option PlacedEntry) → cells.contents.cells ≡ [] → IsLookedUpTo name kvno enctype k cells named best → IsFoundAmong name kvno enctype (placed_entries k) named best
-looked_all name kvno enctype k cells named best none l =
-    subst (λ (xs : List PlacedEntry). IsFoundAmong name kvno enctype xs named best) (sym (append-nil l.before) ∙ ap (λ (cs : List Cell). l.before ++ entries_in cells.format cells.place cs) (sym none) ∙ l.all) l.found

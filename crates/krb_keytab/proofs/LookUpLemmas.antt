@@ -168,10 +168,6 @@ and_true : (b : Bool) → (b && true) ≡ b
 and_true true = refl
 and_true false = refl
 
--- an entry of another name is not asked for
-pub other_name : (n : Parts) (t : ℕ) (x : PlacedEntry) → have_same_name n x.1.principal ≡ false → is_asked n t x ≡ false
-other_name n t x e = ap (λ (b : Bool). (t == 0 || x.1.enctype == t) && b) e ∙ and_false (t == 0 || x.1.enctype == t)
-
 -- one with the name is asked for exactly where it has the enctype
 pub asked_by_enctype : (n : Parts) (t : ℕ) (x : PlacedEntry) (has : Bool) → have_same_name n x.1.principal ≡ true → has ≡ (t == 0 || x.1.enctype == t) → is_asked n t x ≡ has
 asked_by_enctype n t x has e is = ap (λ (b : Bool). (t == 0 || x.1.enctype == t) && b) e ∙ and_true (t == 0 || x.1.enctype == t) ∙ sym is

@@ -1,9 +1,8 @@
 -- A keytab that is written anew, as a store.
-use Rattle.std.proofs.Common.{◌≡◌, ℕ, suc, ◌+◌, ◌^◌, ◌<◌, ◌≤◌, Bool, true, false, cond, List, [], ◌∷◌, ◌++◌, length, map, drop, Option, Some, None, Ok, refl, sym, ap, subst, ◌∙◌, append_assoc, length-append, arith}
-use Rattle.std.specs.Prelude.{nat_lt, is_some, slice_index, ◌==◌}
+use Rattle.std.proofs.Common.{◌≡◌, ℕ, suc, ◌+◌, ◌^◌, ◌<◌, ◌≤◌, Bool, true, false, cond, List, [], ◌∷◌, ◌++◌, length, map, drop, Option, Some, None, refl, sym, ap, subst, ◌∙◌, append_assoc, length-append, arith}
+use Rattle.std.specs.Prelude.{is_some, ◌==◌}
 use Rattle.std.specs.Int.{w32}
 use Rattle.std.specs.List.{filter_map, flat_map, cons_option, AllByRecursion}
-use Rattle.std.proofs.lemmas.Bool.{le-ltb}
 use Rattle.std.proofs.lemmas.List.{append-nil, take_at, drop_at}
 use Rattle.std.proofs.lemmas.List.Concat.{flat_map-cons}
 use Rattle.krb_wire.specs.declared.format.Order.{Order}
@@ -20,9 +19,9 @@ use Rattle.krb_walk.proofs.Lives.{lives}
 use Rattle.krb_keytab.specs.Entry.{EntryParts, entry_at, front, entry_of, Spells, version_by}
 use Rattle.krb_keytab.specs.Cells.{Cell, Live, Free, Bare, Contents, bytes_of, length_field, cell, end_bytes, contents, IsCell, IsSound, kind_of}
 use Rattle.krb_keytab.specs.Questions.{end_place}
-use Rattle.krb_keytab.specs.Store.{KeytabState, IsImage, store_cell, store_of, image_of, entries}
+use Rattle.krb_keytab.specs.Store.{KeytabState, store_cell, store_of, image_of, entries}
 use Rattle.krb_keytab.specs.Form.{written_form, fits, IsEntry}
-use Rattle.krb_keytab.specs.Rewrite.{new_record, rewrite_of, rewrite_result}
+use Rattle.krb_keytab.specs.Rewrite.{new_record, rewrite_of}
 use Rattle.krb_keytab.specs.declared.step.Ending.TheVariants as ending
 use Rattle.krb_keytab.specs.Image.{IsKnownEnd}
 use Rattle.krb_keytab.proofs.CellLemmas.{contents_again}
@@ -204,16 +203,6 @@ known_anew k new len is spelled is_len =
       ending = none;
     }
 
--- bytes that are kept as an image
-pub is_image : (k : KeytabState) (new : List ℕ) (limit len : ℕ) → new ≡ image_of (rewrite_of k) → len ≡ length (image_of (rewrite_of k)) → len ≤ limit → limit ≤ 1073741824 → IsImage V2 limit new
-is_image k new limit len spelled is_len within small = record {
-  long = omega (arith, ap length spelled);
-  first = ap (λ (b : List ℕ). slice_index b 0) spelled;
-  second = ap (λ (b : List ℕ). slice_index b 1) spelled;
-  within = omega (arith, ap length spelled, is_len);
-  limit_fits = small;
-}
-
 pub rewrites_store : (k : KeytabState) → IsSound k.format k.contents → IsSound V2 (rewrite_of k).contents → (store_of k).fault ≡ None → Rewrites (store_of k) (store_of (rewrite_of k))
 rewrites_store k was sound whole = record {
   whole = whole;
@@ -222,11 +211,6 @@ rewrites_store k was sound whole = record {
   all_live = all_live_of (entries k);
   as_many = ap (λ (es : List EntryParts). length (lives 2 (map store_cell (map new_record es)))) (entries_all k) ∙ as_many_of k.format k.contents.cells 2 2 was.cells;
 }
-
-pub rewriting_done : (k : KeytabState) (n : ℕ) → is_some (fault_of (store_of k)) ≡ false → n ≡ length (image_of (rewrite_of k)) → n ≤ k.limit → rewrite_result k ≡ Ok (rewrite_of k)
-rewriting_done k n whole is le =
-    let short : nat_lt k.limit (length (image_of (rewrite_of k))) ≡ false = le-ltb _ _ (omega (arith, is, le)) in
-    rw (whole, short) refl
 
 -- the new image, as a keytab
 pub held_anew : (f : KtFormat) (limit : ℕ) (image new : List ℕ) (k : KeytabState) → keytab_of f limit image ≡ k → contents V2 (drop 2 new) ≡ (rewrite_of k).contents → keytab_of V2 limit new ≡ rewrite_of k

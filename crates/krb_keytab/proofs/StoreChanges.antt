@@ -17,7 +17,7 @@ use Rattle.krb_keytab.specs.Form.{fits, written_form, read_back, IsEntry}
 use Rattle.krb_keytab.specs.Changes.{PlacedCell, turned_at, zero_hole, is_hole, with_zeros, record_in, first_hole, with_record_in, with_last, end_after, with_hole, append_result, put_result_into, put_bytes_result, put_result, cut_result}
 use Rattle.krb_walk.specs.Rules.{PutGives, CutGives}
 use Rattle.krb_keytab.proofs.CellLemmas.{chosen}
-use Rattle.krb_keytab.proofs.FoundAgain.{added_reads, removed_none}
+use Rattle.krb_keytab.proofs.FoundAgain.{added_reads}
 use Rattle.krb_keytab.proofs.Stores.{end_place-store, live_bytes_in-store}
 use Rattle.krb_keytab.proofs.Turned.{padded_len}
 use Rattle.krb_keytab.proofs.Replaced.{StandsAt, live_stands, hole_stands, turned}
@@ -149,10 +149,6 @@ addition_puts k new e (Ok p) a = puts_of k e p new a
 addition_puts k new e (Err refusal) a = tt
 
 -- ---- what stands afterwards
-
-pub removal_gone : (k new : KeytabState) (p : ℕ) (result : Result (Unit {0}) Code) → CutGives (cut_result k p) k result new → OnOk result (store_bytes (store_of new) p ≡ None)
-removal_gone k new p (Ok done) a = removed_none k p new a
-removal_gone k new p (Err refused) a = tt
 
 pub addition_read : (k new : KeytabState) (e : EntryParts) (result : Result ℕ Refusal) → IsEntry e → PutGives (put_result k e) k result new → IfOk result (λ p. entry_at_place new p ≡ Some (read_back k.format e))
 addition_read k new e (Ok p) is a = added_reads k e (p, new) is a

@@ -1,5 +1,5 @@
 -- The questions asked cell by cell are those that are asked of the store.
-use Rattle.std.proofs.Common.{◌≡◌, ℕ, ◌+◌, ◌<◌, ◌≤◌, Bool, true, false, eqb, ltb, List, [], ◌∷◌, length, map, drop, Option, Some, None, refl, sym, ap, subst, ◌∙◌, arith, inl, inr}
+use Rattle.std.proofs.Common.{◌≡◌, ℕ, ◌+◌, ◌<◌, ◌≤◌, ◌^◌, true, false, eqb, ltb, List, [], ◌∷◌, length, map, drop, Option, Some, None, refl, sym, ap, subst, ◌∙◌, arith, inl, inr}
 use Rattle.std.specs.Prelude.{◌==◌, ◌&&◌, ◌||◌, nat_le, IsSome, IfNone}
 use Rattle.std.specs.List.{AllByRecursion}
 use Rattle.std.proofs.lemmas.Bool.{lt-ltb, le-ltb, lt-leb, eq-eqb, ne_eqb}
@@ -22,7 +22,7 @@ use Rattle.krb_keytab.specs.Image.{IsKnownEnd}
 use Rattle.krb_keytab.specs.CellsFrom.{CellsFrom, AreKnown, cells_of}
 use Rattle.krb_keytab.specs.Questions.{end_place, is_place_in, stop_in, live_bytes_in}
 use Rattle.krb_keytab.specs.Store.{KeytabState, InMemory, IsImage, store_cell, store_of}
-use Rattle.krb_keytab.proofs.Cuts.{live_entry}
+use Rattle.krb_keytab.proofs.Cuts.{live_entry, places_for}
 
 -- four bytes of length and the bytes after it
 pub past : (at n : ℕ) → at + 4 + n ≡ at + (4 + n)
@@ -132,13 +132,17 @@ fault_held f limit image k e place answer known is at said =
     sym (ap kind_of known.same ∙ ap (λ (x : Contents). kind_of x.end) known.ending ∙ kind_ends (drop e.place image) e.ending) in
     said ∙ ap (λ (x : Option FaultKind). fault_from place x) (kind ∙ ap (λ (x : KeytabState). kind_of x.contents.end) is) ∙ ap (λ (n : ℕ). fault_from n (kind_of k.contents.end)) at
 
-pub is_place_held : (f : KtFormat) (limit : ℕ) (image bytes : List ℕ) (k : KeytabState) (p : ℕ) (answer : Bool) → bytes ≡ image → keytab_of f limit image ≡ k → answer ≡ is_place_in 2 (contents f (drop 2 bytes)).cells p → answer ≡ is_store_place (store_of k) p
-is_place_held f limit image bytes k p answer same is said =
-    said ∙ ap (λ (b : List ℕ). is_place_in 2 (contents f (drop 2 b)).cells p) same ∙ is_place_in-store 2 p (contents f (drop 2 image)).cells ∙ ap (λ (x : KeytabState). is_store_place (store_of x) p) is
-
 pub live_held : (f : KtFormat) (limit : ℕ) (image bytes : List ℕ) (k : KeytabState) (p : ℕ) → bytes ≡ image → keytab_of f limit image ≡ k → live_bytes_in 2 (contents f (drop 2 bytes)).cells p ≡ store_bytes (store_of k) p
 live_held f limit image bytes k p same is =
     ap (λ (b : List ℕ). live_bytes_in 2 (contents f (drop 2 b)).cells p) same ∙ live_bytes_in-store 2 p (contents f (drop 2 image)).cells ∙ ap (λ (x : KeytabState). store_bytes (store_of x) p) is
+
+pub few_cells : (f : KtFormat) (limit : ℕ) (image : List ℕ) (e : CellsEnd) (count : ℕ) → IsImage f limit image → IsKnownEnd f image e → count ≡ length (contents f (drop 2 image)).cells → count < 2 ^ 30
+few_cells f limit image e count is known counted =
+    let short = is.within in
+    let fits = is.limit_fits in
+    let place = known.place in
+    let within = known.within in
+    omega (arith, short, fits, place, within, places_for (contents f (drop 2 image)).cells 2, counted)
 
 -- ---- the cells of a keytab
 

@@ -1,18 +1,18 @@
 -- What the changes of cells make of an image.
-use Rattle.std.proofs.Common.{◌≡◌, ℕ, ◌+◌, ◌-◌, ◌^◌, ◌<◌, ◌≤◌, true, List, [], ◌∷◌, ◌++◌, length, drop, replicate, Option, Some, None, refl, sym, ap, subst, ◌∙◌, arith}
-use Rattle.std.specs.Prelude.{option_map, IsSome, IfSome}
+use Rattle.std.proofs.Common.{◌≡◌, ℕ, suc, ◌+◌, ◌-◌, ◌^◌, ◌<◌, ◌≤◌, true, List, [], ◌∷◌, ◌++◌, length, drop, replicate, Option, Some, None, refl, sym, ap, subst, ◌∙◌, arith}
+use Rattle.std.specs.Prelude.{option_map, IsSome, IfSome, ◌==◌, if◌then◌else◌}
 use Rattle.std.specs.List.{splice, AllByRecursion}
 use Rattle.std.proofs.lemmas.Bool.{leb-true}
-use Rattle.std.proofs.lemmas.List.{append-nil, length-append, length-replicate}
+use Rattle.std.proofs.lemmas.List.{append-nil, length-append, length-map, length-replicate}
 use Rattle.krb_wire.specs.declared.format.KtFormat.{KtFormat}
 use Rattle.krb_wire.specs.Spelling.{order_of}
 use Rattle.krb_wire.proofs.Fields.{IsBytes, IsBytes-drop, some_is}
 use Rattle.krb_keytab.specs.declared.image.CellsEnd.{CellsEnd}
 use Rattle.krb_keytab.specs.declared.hole.Hole.{Hole}
-use Rattle.krb_keytab.specs.Cells.{Cell, Live, Free, Bare, cell, next, walk, contents, IsCell, size}
+use Rattle.krb_keytab.specs.Cells.{Cell, Live, Free, End, Bare, Contents, cell, next, walk, contents, IsCell, size}
 use Rattle.krb_keytab.specs.Questions.{end_place, live_bytes_in}
 use Rattle.krb_keytab.specs.Image.{IsKnownEnd, IsChanged}
-use Rattle.krb_keytab.specs.Changes.{PlacedCell, turned_at, zero_hole, is_hole, first_hole, with_zeros, record_in}
+use Rattle.krb_keytab.specs.Changes.{PlacedCell, placed_cells, turned_at, zero_hole, is_hole, first_hole, with_zeros, record_in}
 use Rattle.krb_keytab.specs.Hole.{hole_of, hole_from}
 use Rattle.krb_keytab.specs.Form.{IsRecord}
 use Rattle.krb_keytab.proofs.CellLemmas.{contents_spelled, sound_size}
@@ -23,6 +23,17 @@ use Rattle.krb_keytab.proofs.Replaced.{StandsAt, live_stands, hole_stands, turne
 pub contents_none : (f : KtFormat) → contents f [] ≡ record { cells = []; end = Bare }
 unfolding contents walk next
 contents_none f = refl
+
+-- a turned cell leaves as many
+pub placed_len : (at : ℕ) (cs : List Cell) → length (placed_cells at cs) ≡ length cs
+placed_len at [] = refl
+placed_len at (c ∷ cs) = ap suc (placed_len (at + 4 + size c) cs)
+
+pub turned_len : (at : ℕ) (turn : Cell → Cell) (p : ℕ) (cs : List Cell) → length (turned_at at turn p cs) ≡ length cs
+turned_len at turn p cs = length-map (placed_cells at cs) (λ (x : PlacedCell). if x.0 == p then turn x.1 else x.1) ∙ placed_len at cs
+
+pub as_many : (f : KtFormat) (old new : List ℕ) (turn : Cell → Cell) (p : ℕ) (e : End) (end : CellsEnd) → IsChanged f old new (record { cells = turned_at 2 turn p (contents f (drop 2 old)).cells; end = e }) end → length (contents f (drop 2 new)).cells ≡ length (contents f (drop 2 old)).cells
+as_many f old new turn p e end changed = ap (λ (k : Contents). length k.cells) changed.contents ∙ turned_len 2 turn p (contents f (drop 2 old)).cells
 
 -- a cell ends where the cells do, or before
 pub ends_within : (cs : List Cell) (p : ℕ) (c : Cell) → StandsAt cs 2 p c → p + 4 + size c ≤ end_place 2 cs

@@ -20,6 +20,7 @@ use std::alloc::Allocator;
 // How many bytes the new record of an entry takes, with its length.
 fn len_of_record(entry: &EntryView<'_>) -> usize
     ensures len { result ≡ length (cell Big (new_record entry.now)) }
+    ensures some { 4 ≤ result }
     ensures small { result < 2 ^ 35 }
 {
     4 + Form::anew(entry).len()
@@ -38,22 +39,25 @@ fn put_anew(entry: &EntryView<'_>, out: &mut [u8], at: usize) -> usize
     at + 4 + size
 }
 
-/// How long the image is that has each record anew, unless it is longer than a limit.
-pub fn len_anew<A: Allocator>(keytab: &Keytab<A>, limit: usize) -> Option<usize>
+/// How long the image is that has each record anew, and how many these are, unless it is longer than a limit.
+pub fn len_anew<A: Allocator>(keytab: &Keytab<A>, limit: usize) -> Option<(usize, u32)>
     requires some { 2 ≤ limit }
     requires small { limit ≤ 2 ^ 30 }
-    ensures len { IfSome result (λ n. n ≡ length (image_of (rewrite_of keytab.now.state))) }
-    ensures within { IfSome result (λ n. n ≤ limit) }
+    ensures len { IfSome result (λ n. n.0 ≡ length (image_of (rewrite_of keytab.now.state))) }
+    ensures count { IfSome result (λ n. n.1 ≡ length (rewrite_of keytab.now.state).contents.cells) }
+    ensures within { IfSome result (λ n. n.0 ≤ limit) }
     ensures long { IfNone result (limit < length (image_of (rewrite_of keytab.now.state))) }
 {
     let mut len: usize = 2;
+    let mut count: u32 = 0;
     'entries: for (_, entry) in keytab.entries() {
         len = len + len_of_record(&entry);
         if len > limit {
             return None;
         }
+        count += 1;
     }
-    Some(len)
+    Some((len, count))
 }
 
 // Writes that image.

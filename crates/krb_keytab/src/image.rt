@@ -27,26 +27,30 @@ fn step_at(format: KtFormat, image: &[u8], at: usize) -> Step
 
 // The same for a format that is known where this is inlined, so that the loop asks for it no more.
 #[inline(always)]
-fn end_of_cells_in(format: KtFormat, image: &[u8]) -> CellsEnd
+fn end_of_cells_in(format: KtFormat, image: &[u8]) -> (CellsEnd, u32)
     requires long { 2 ≤ length image.now }
     requires small { length image.now ≤ 2 ^ 30 }
-    ensures { IsKnownEnd format image.now result }
+    ensures known { IsKnownEnd format image.now result.0 }
+    ensures count { result.1 ≡ length (contents format (drop 2 image.now)).cells }
 {
     let mut at: usize = 2;
+    let mut count: u32 = 0;
     'cells: loop {
         match step_at(format, image, at) {
             Step::Live(size) => at = at + 4 + size,
             Step::Free(size) => at = at + 4 + size,
-            Step::End(ending) => return CellsEnd { place: at, ending },
+            Step::End(ending) => return (CellsEnd { place: at, ending }, count),
         }
+        count += 1;
     }
 }
 
-/// Where the cells end. Each entry is read once.
-pub fn end_of_cells(format: KtFormat, image: &[u8]) -> CellsEnd
+/// Where the cells end, and how many they are. Each entry is read once.
+pub fn end_of_cells(format: KtFormat, image: &[u8]) -> (CellsEnd, u32)
     requires long { 2 ≤ length image.now }
     requires small { length image.now ≤ 2 ^ 30 }
-    ensures { IsKnownEnd format image.now result }
+    ensures known { IsKnownEnd format image.now result.0 }
+    ensures count { result.1 ≡ length (contents format (drop 2 image.now)).cells }
 {
     match format {
         KtFormat::V2 => end_of_cells_in(KtFormat::V2, image),

@@ -3,7 +3,7 @@
 mod changes;
 mod rewriting;
 
-ghost use Rattle.std.specs.Prelude.{◌≡◌, IsSome, IfOk, IfErr, IfSome, IfNone, Ok, Err, Some, None, drop, option_copied, vec_capacity};
+ghost use Rattle.std.specs.Prelude.{◌≡◌, IsSome, IfOk, IfErr, IfSome, IfNone, Ok, Err, Some, None, ◌<◌, ◌^◌, length, drop, option_copied, vec_capacity};
 ghost use Rattle.krb_wire.specs.Reading.{Gives};
 ghost use Rattle.krb_walk.specs.Store.{end_of, fault_of, is_place, stop_at, live_bytes, IsPlace, IsSound as IsSoundStore};
 ghost use Rattle.krb_keytab.specs.Entry.{entry_at, Spells};
@@ -25,7 +25,7 @@ use krb_wire::{KtFormat, Limits, NoMemory, Order};
 use std::alloc::Allocator;
 use std::marker::Model;
 
-/// A keytab: the bytes of its image, and where its cells end. Contracts see its state, which is its format,
+/// A keytab: the bytes of its image, where its cells end, and how many they are. Contracts see its state, which is its format,
 /// its limit, and the one list of cells with what ends them that the image spells; and beside it how many
 /// bytes it has room for. A call that takes no memory keeps the room.
 #[derive(Drop)]
@@ -34,6 +34,7 @@ pub struct Keytab<A: Allocator> {
     format: KtFormat,
     limit: u32,
     end: CellsEnd,
+    count: u32,
 }
 
 impl<A: Allocator> Model for Keytab<A> {
@@ -44,7 +45,8 @@ impl<A: Allocator> Model for Keytab<A> {
       room = vec_capacity k.image;
     } };
 
-    ghost invariant = { λ k. IsImage k.format k.limit k.image.items × IsKnownEnd k.format k.image.items k.end };
+    ghost invariant = { λ k. IsImage k.format k.limit k.image.items × IsKnownEnd k.format k.image.items k.end
+        × (k.count ≡ length (contents k.format (drop 2 k.image.items)).cells) };
 }
 
 impl<A: Allocator> Keytab<A> {
@@ -56,12 +58,13 @@ impl<A: Allocator> Keytab<A> {
         let Ok(image) = Vec::from_slice(alloc, &[5, version_of(format)]) else {
             return Err(NoMemory);
         };
-        let end = end_of_cells(format, &image);
+        let (end, count) = end_of_cells(format, &image);
         Ok(Keytab {
             image,
             format,
             limit,
             end,
+            count,
         })
     }
 
@@ -80,11 +83,19 @@ impl<A: Allocator> Keytab<A> {
             × (e.image ≡ image)) }
     {
         match read_head(v1_order, limits.image(), &image) {
-            Ok(Head { format, limit, end }) => Ok(Keytab {
+            Ok(
+                Head {
+                    format,
+                    limit,
+                    end,
+                    count,
+                },
+            ) => Ok(Keytab {
                 image,
                 format,
                 limit,
                 end,
+                count,
             }),
             Err(why) => Err(KtOpenRefused { why, image }),
         }
@@ -121,6 +132,7 @@ impl<A: Allocator> Keytab<A> {
             format: _,
             limit: _,
             end: _,
+            count: _,
         } = self;
         image
     }
@@ -146,6 +158,14 @@ impl<A: Allocator> Keytab<A> {
         ensures { result ≡ fault_of (store_of self.now.state) }
     {
         self.end.ending.fault(self.end())
+    }
+
+    /// How many cells it has.
+    pub fn cell_count(&self) -> u32
+        ensures count { result ≡ length self.now.state.contents.cells }
+        ensures few { result < 2 ^ 30 }
+    {
+        self.count
     }
 
     // Its cells, for a format that is known where this is inlined.

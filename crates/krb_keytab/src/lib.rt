@@ -23,8 +23,6 @@ mod placed;
 mod put;
 mod remove;
 mod step;
-#[cfg(test)]
-mod tests;
 mod turn;
 
 pub use cells::{CellView, Cells};

@@ -47,6 +47,7 @@ pub struct Head {
     pub format: KtFormat,
     pub limit: u32,
     pub end: CellsEnd,
+    pub count: u32,
 }
 
 /// Reads an image. Each entry is read once; there are only bytes here, and nothing to take memory from.
@@ -59,6 +60,7 @@ pub fn read_head(v1_order: Order, limit: u32, image: &[u8]) -> Result<Head, KtOp
     })) }
     ensures kept { IfOk result (λ h. IsImage h.format h.limit image.now) }
     ensures known { IfOk result (λ h. IsKnownEnd h.format image.now h.end) }
+    ensures count { IfOk result (λ h. h.count ≡ length (contents h.format (drop 2 image.now)).cells) }
     ensures spelled { IfOk result (λ h. image.now
         ≡ image_of h.format (contents h.format (drop 2 image.now))) }
     ensures err { IfErr result (λ why. open_result v1_order limit image.now ≡ Err why) }
@@ -73,8 +75,13 @@ pub fn read_head(v1_order: Order, limit: u32, image: &[u8]) -> Result<Head, KtOp
         return Err(KtOpenFault::TooLarge);
     }
     let _ = spelled_of(format, image);
-    let end = end_of_cells(format, image);
-    Ok(Head { format, limit, end })
+    let (end, count) = end_of_cells(format, image);
+    Ok(Head {
+        format,
+        limit,
+        end,
+        count,
+    })
 }
 
 /// The format that the two first bytes tell, where version 1 has that order.

@@ -20,6 +20,7 @@ pub fn free_cell(format: KtFormat, image: &mut [u8], end: CellsEnd, place: usize
     requires live { IsSome (live_bytes_in 2 (contents format (drop 2 image.old)).cells place) }
     requires size { IfSome (live_bytes_in 2 (contents format (drop 2 image.old)).cells place) (λ b. length b ≡ size) }
     ensures len { length image.new ≡ length image.old }
+    ensures count { length (contents format (drop 2 image.new)).cells ≡ length (contents format (drop 2 image.old)).cells }
     ensures changed { IsChanged format image.old image.new (record {
       cells = turned_at 2 zero_hole place (contents format (drop 2 image.old)).cells;
       end = (contents format (drop 2 image.old)).end;
@@ -36,6 +37,8 @@ pub fn fill_hole<N: Name>(image: &mut [u8], end: CellsEnd, hole: Hole, form: &Fo
     requires hole { hole_from 2 (length form.now.bytes)
         (contents form.now.format (drop 2 image.old)).cells ≡ Some hole }
     ensures len { length image.new ≡ length image.old }
+    ensures count { length (contents form.now.format (drop 2 image.new)).cells
+        ≡ length (contents form.now.format (drop 2 image.old)).cells }
     ensures changed { IsChanged form.now.format image.old image.new (record {
       cells = turned_at 2 (record_in form.now.bytes) hole.place
           (contents form.now.format (drop 2 image.old)).cells;

@@ -1,6 +1,6 @@
 //! Writing a keytab anew, and its table and tree with it.
 
-ghost use Rattle.std.specs.Prelude.{◌≡◌, map, OnOk, OnErr};
+ghost use Rattle.std.specs.Prelude.{◌≡◌, map, Ok, Err, IfOk, IfErr, OnOk, OnErr};
 ghost use Rattle.std.specs.List.{AllByRecursion};
 ghost use Rattle.krb_walk.specs.Rules.{RewriteGives};
 ghost use Rattle.krb_walk.specs.Store.{IsPlace};
@@ -9,16 +9,49 @@ ghost use Rattle.krb_keytab.specs.Store.{store_of, entries};
 ghost use Rattle.krb_keytab.specs.Rewrite.{rewrite_result};
 
 use super::Indexed;
-use crate::table::refill;
 use krb_walk::Refusal;
 use std::alloc::Allocator;
 
 impl<A: Allocator + Copy> Indexed<A> {
+    // What `rewrite` puts in its place.
+    fn rewritten(&self) -> Result<Indexed<A>, Refusal>
+        ensures ok { IfOk result (λ i. rewrite_result self.now.state ≡ Ok i.state) }
+        ensures err { IfErr result (λ e. RewriteGives (rewrite_result self.now.state) self.now.state (Err e) self.now.state) }
+        ensures rewrites { IfOk result (λ i. Rewrites (store_of self.now.state) (store_of i.state)) }
+        ensures entries { IfOk result (λ i. entries i.state ≡ entries self.now.state) }
+    {
+        let keytab = match self.keytab.rewritten() {
+            Ok(keytab) => keytab,
+            Err(refusal) => return Err(refusal),
+        };
+        match Indexed::of(*self.slots.allocator(), keytab) {
+            Ok(new) => Ok(new),
+            Err(_) => Err(Refusal::NoMemory),
+        }
+    }
+
+    // Puts in its place what is a rewrite of it, and carries each cursor.
+    fn replace(&mut self, new: Indexed<A>, cursors: &mut [u32])
+        requires rewrites { Rewrites (store_of self.old.state) (store_of new.state) }
+        requires places { AllByRecursion (IsPlace (store_of self.old.state)) cursors.old }
+        ensures replaced { self.new ≡ new }
+        ensures carries { cursors.new ≡ map (carry (store_of self.old.state) (store_of self.new.state)) cursors.old }
+    {
+        let Indexed {
+            keytab,
+            slots,
+            tree,
+        } = new;
+        self.keytab.replace(keytab, cursors);
+        self.slots = slots;
+        self.tree = tree;
+    }
+
     /// Writes the records anew, in version 2: each entry in order in its written form, with its name type,
     /// which is 0 from version 1, without holes, and with nothing after them. Each cursor is carried to
     /// the new place of the first record at or after it, or to the new end. A damaged keytab refuses, and
-    /// then so does a limit that the new image would pass. Memory is taken once, for the new image: table
-    /// and tree are made anew where they are.
+    /// then so does a limit that the new image would pass. Memory is taken for image, table and tree, with
+    /// room for one more cell, and all of it before anything is changed.
     pub fn rewrite(&mut self, cursors: &mut [u32]) -> Result<(), Refusal>
         requires { AllByRecursion (IsPlace (store_of self.old.state)) cursors.old }
         ensures gives { RewriteGives (rewrite_result self.old.state) self.old.state result self.new.state }
@@ -28,11 +61,9 @@ impl<A: Allocator + Copy> Indexed<A> {
         ensures keeps { OnErr result (cursors.new ≡ cursors.old) }
         ensures room { OnErr result (self.new.room ≡ self.old.room) }
     {
-        let _ = self.tree.leaves();
-        match self.keytab.rewrite(cursors) {
-            Ok(()) => {
-                refill(&mut self.slots, &self.keytab);
-                self.tree.refill(&self.slots);
+        match self.rewritten() {
+            Ok(new) => {
+                self.replace(new, cursors);
                 Ok(())
             }
             Err(refusal) => Err(refusal),

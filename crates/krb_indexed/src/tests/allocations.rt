@@ -9,10 +9,37 @@ use super::turns::{PUT_B, PUT_HOST, Row, check_outcome, events_of};
 use crate::Indexed;
 use krb_keytab::{Keytab, NewEntry};
 use krb_walk::{Event, Reply, Session};
+use krb_wire::{KtFormat, Limits, Order};
 use refusing::{Refusing, refuse_each};
 use std::alloc::{Allocator, Global};
 use std::process::Abort;
 use std::test::Fail;
+
+fn create<R: Abort>(rt: &R, heap: &Refusing<Global>, n: u64) -> Result<(), Fail> {
+    heap.refuse(n);
+    match Keytab::create(heap, KtFormat::V1(Order::Little), Limits::usual()) {
+        Ok(keytab) => assert!(rt; !heap.refused() && keytab.image() == b"\x05\x01".as_slice()),
+        Err(_) => assert!(rt; heap.refused()),
+    }
+    Ok(())
+}
+
+/// A copy of the entry at 2 is refused, or is added to a keytab that then has that record alone.
+fn copy<R: Abort + AllocGlobal>(rt: &R, heap: &Refusing<Global>, n: u64) -> Result<(), Fail> {
+    let keytab = keytab_of(joined(rt.alloc(), &[HEAD, HOST, B])?, USUAL)?;
+    let mut copies = keytab_of(joined(rt.alloc(), &[HEAD])?, USUAL)?;
+    let entry = keytab.entry_at(2).ok_or("no entry at 2")?;
+    heap.refuse(n);
+    match entry.copy(heap) {
+        Err(_) => assert!(rt; heap.refused()),
+        Ok(copy) => {
+            assert!(rt; !heap.refused());
+            assert_eq!(rt; copies.add(&copy), Ok(2));
+            assert!(rt; copies.image() == joined(rt.alloc(), &[HEAD, HOST])?.as_slice());
+        }
+    }
+    Ok(())
+}
 
 const EDIT: Row<'static> = Row {
     name: "an addition, a removal and a rewrite to version 2, with name type 0",
@@ -137,15 +164,17 @@ fn grow<R: Abort + AllocGlobal>(rt: &R, heap: &Refusing<Global>, n: u64) -> Resu
 #[test]
 fn each_allocation_fails_in_turn(rt: HostRuntime) -> Result<(), Fail> {
     let heap = rt.alloc();
+    assert!(rt; refuse_each(heap, 100, |heap, n| create(&rt, heap, n))? >= 1);
+    assert!(rt; refuse_each(heap, 100, |heap, n| copy(&rt, heap, n))? >= 5);
     assert!(rt; refuse_each(heap, 100, |heap, n| edit::<_, Keytab<Global>>(&rt, heap, n))? >= 2);
     assert!(rt;
         refuse_each(
             heap,
             100,
             |heap, n| edit::<_, Indexed<Global>>(&rt, heap, n)
-        )? >= 4
+        )? >= 6
     );
-    assert!(rt; refuse_each(heap, 100, |heap, n| grow(&rt, heap, n))? >= 6);
+    assert!(rt; refuse_each(heap, 100, |heap, n| grow(&rt, heap, n))? >= 8);
     Ok(())
 }
 

@@ -93,6 +93,7 @@ impl<A: Allocator> Keytab<A> {
         match append_record(&mut self.image, self.end, form) {
             Ok(end) => {
                 self.end = end;
+                self.count += 1;
                 Ok(place)
             }
             Err(_) => Err(Refusal::NoMemory),

@@ -1,6 +1,6 @@
 //! Writing a keytab anew.
 
-ghost use Rattle.std.specs.Prelude.{◌≡◌, map, OnOk, OnErr};
+ghost use Rattle.std.specs.Prelude.{◌≡◌, map, Ok, Err, IfOk, IfErr, OnOk, OnErr};
 ghost use Rattle.std.specs.List.{AllByRecursion};
 ghost use Rattle.krb_walk.specs.Rules.{RewriteGives};
 ghost use Rattle.krb_walk.specs.Store.{IsPlace};
@@ -11,7 +11,6 @@ ghost use Rattle.krb_keytab.specs.Rewrite.{rewrite_result};
 use super::Keytab;
 use crate::anew::{anew_is_sound, image_anew, len_anew};
 use crate::carry::OldCells;
-use crate::cells::Cells;
 use crate::image::CellsEnd;
 use crate::step::Ending;
 use krb_walk::{Code, Refusal, carry_cursors};
@@ -19,6 +18,55 @@ use krb_wire::KtFormat;
 use std::alloc::Allocator;
 
 impl<A: Allocator + Copy> Keytab<A> {
+    /// The keytab that `rewrite` puts in its place, in memory of its own. It refuses as `rewrite` does.
+    pub fn rewritten(&self) -> Result<Keytab<A>, Refusal>
+        ensures ok { IfOk result (λ k. rewrite_result self.now.state ≡ Ok k.state) }
+        ensures err { IfErr result (λ e. RewriteGives (rewrite_result self.now.state) self.now.state (Err e) self.now.state) }
+        ensures rewrites { IfOk result (λ k. Rewrites (store_of self.now.state) (store_of k.state)) }
+        ensures entries { IfOk result (λ k. entries k.state ≡ entries self.now.state) }
+    {
+        if self.fault().is_some() {
+            return Err(Refusal::Code(Code::Damaged));
+        }
+        let Some((len, count)) = len_anew(self, self.limit as usize) else {
+            return Err(Refusal::Code(Code::Full));
+        };
+        anew_is_sound(self);
+        let Ok(image) = image_anew(self, *self.image.allocator(), len) else {
+            return Err(Refusal::NoMemory);
+        };
+        let end = CellsEnd {
+            place: len,
+            ending: Ending::Bare,
+        };
+        Ok(Keytab {
+            image,
+            format: KtFormat::V2,
+            limit: self.limit,
+            end,
+            count,
+        })
+    }
+
+    /// Puts a keytab in its place that is a rewrite of it, and carries each cursor to the new place of the
+    /// first record at or after it, or to the new end. No memory is taken.
+    pub fn replace(&mut self, new: Keytab<A>, cursors: &mut [u32])
+        requires rewrites { Rewrites (store_of self.old.state) (store_of new.state) }
+        requires places { AllByRecursion (IsPlace (store_of self.old.state)) cursors.old }
+        ensures replaced { self.new ≡ new }
+        ensures carries { cursors.new ≡ map (carry (store_of self.old.state) (store_of self.new.state)) cursors.old }
+    {
+        let _ = self.image();
+        let _ = new.end();
+        let mut old = OldCells {
+            format: self.format,
+            end: self.end,
+            new: new.cells(),
+        };
+        carry_cursors(&mut old, &mut self.image, 2, 2, cursors);
+        *self = new;
+    }
+
     /// Writes the records anew, in version 2: each entry in order in its written form, with its name type,
     /// which is 0 from version 1, without holes, and with nothing after them. Each cursor is carried to
     /// the new place of the first record at or after it, or to the new end. A damaged keytab refuses, and
@@ -32,35 +80,12 @@ impl<A: Allocator + Copy> Keytab<A> {
         ensures keeps { OnErr result (cursors.new ≡ cursors.old) }
         ensures room { OnErr result (self.new.room ≡ self.old.room) }
     {
-        if self.fault().is_some() {
-            return Err(Refusal::Code(Code::Damaged));
+        match self.rewritten() {
+            Ok(new) => {
+                self.replace(new, cursors);
+                Ok(())
+            }
+            Err(refusal) => Err(refusal),
         }
-        let Some(len) = len_anew(self, self.limit as usize) else {
-            return Err(Refusal::Code(Code::Full));
-        };
-        anew_is_sound(self);
-        let Ok(image) = image_anew(self, *self.image.allocator(), len) else {
-            return Err(Refusal::NoMemory);
-        };
-        let end = CellsEnd {
-            place: len,
-            ending: Ending::Bare,
-        };
-        let new = Cells {
-            format: KtFormat::V2,
-            image: &image,
-            end,
-            place: 2,
-        };
-        let mut old = OldCells {
-            format: self.format,
-            end: self.end,
-            new,
-        };
-        carry_cursors(&mut old, &mut self.image, 2, 2, cursors);
-        self.image = image;
-        self.format = KtFormat::V2;
-        self.end = end;
-        Ok(())
     }
 }

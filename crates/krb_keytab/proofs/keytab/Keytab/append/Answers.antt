@@ -3,7 +3,7 @@ use Rattle.krb_wire.specs.declared.format.KtFormat.{KtFormat}
 use Rattle.krb_keytab.specs.Cells.{Live, contents}
 use Rattle.krb_keytab.specs.Changes.{end_after}
 use Rattle.krb_keytab.specs.Store.{KeytabState, InMemory}
-use Rattle.krb_keytab.proofs.Stores.{state_is, keytab_of}
+use Rattle.krb_keytab.proofs.Stores.{state_is, keytab_of, few_cells}
 use Rattle.krb_keytab.proofs.Additions.{appends, append_full, append_fits, append_ok, append_longer, append_no_longer}
 use Rattle.krb_keytab.proofs.keytab.Keytab.append.Goals as goal
 
@@ -14,6 +14,11 @@ returns-then-len_with-self-clause-appended g c =
     let k = c.args.self.now.state in
     let a = appends i.format i.limit i.image.items x k i.end c.len_with.result c.len.result c.self.invariant.1 (state_is c.self.view_is) c.requires.whole c.len_with.ensures c.len.ensures.len in
     (append_full i.format i.limit i.image.items x k i.end c.len_with.result a c.if-len_with-self.true, refl)
+
+pub overflow_add-self : goal.overflow_add-self
+overflow_add-self g c =
+    let i = c.self.inside in
+    omega (arith, few_cells i.format i.limit i.image.items i.end i.count c.self.invariant.0 c.self.invariant.1 c.self.invariant.2)
 
 pub returns-in-Ok-clause-appended : goal.returns-in-Ok-clause-appended
 returns-in-Ok-clause-appended g c =

@@ -1,8 +1,8 @@
 //! What README shows, line by line: `tests/readme.py` compares the two.
 
-use super::TWO;
-use super::made::{b, keytab_of};
-use crate::{Keytab, NewEntry};
+use super::made::{USUAL, b, joined, keytab_of};
+use super::records::{B, HEAD, HOST};
+use krb_keytab::{Keytab, NewEntry};
 use krb_walk::{Event, Session};
 use krb_wire::{Limits, Order, parse_name};
 use std::alloc::Global;
@@ -42,13 +42,10 @@ fn edit(alloc: Global, keytab: Keytab<Global>, entry: NewEntry<Global>) -> Resul
 #[test]
 fn does_what_it_says(rt: HostRuntime) -> Result<(), Fail> {
     let alloc = rt.alloc();
-    assert!(rt; look_up(alloc, Vec::from_slice(alloc, TWO)?)? == (2, 3));
-    let image = edit(alloc, keytab_of(alloc, TWO)?, b(alloc)?)?;
-    let two = TWO.as_slice();
-    let (_, record) = two.split_at(53);
-    let mut expected = Vec::from_slice(alloc, b"\x05\x02")?;
-    expected.extend_from_slice(record)?;
-    expected.extend_from_slice(record)?;
-    assert!(rt; image.as_slice() == expected.as_slice());
+    let two: &[&[u8]] = &[HEAD, HOST, B];
+    assert!(rt; look_up(alloc, joined(alloc, two)?)? == (2, 3));
+    let keytab = keytab_of(joined(alloc, two)?, USUAL)?;
+    let image = edit(alloc, keytab, b(alloc)?)?;
+    assert!(rt; image.as_slice() == joined(alloc, &[HEAD, B, B])?.as_slice());
     Ok(())
 }

@@ -1,0 +1,7 @@
+use Rattle.krb_keytab.proofs.Stores.{few_cells}
+use Rattle.krb_keytab.proofs.keytab.Keytab.cell_count.Goals as goal
+
+pub returns-clause-few : goal.returns-clause-few
+returns-clause-few g c =
+    let i = c.self.inside in
+    few_cells i.format i.limit i.image.items i.end i.count c.self.invariant.0 c.self.invariant.1 c.self.invariant.2
