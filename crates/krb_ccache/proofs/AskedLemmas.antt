@@ -140,7 +140,7 @@ leaves_other v owner key text old bytes at left asked fits le is_bytes r is =
 
 -- ---- a cache
 
-texts_len : (v : Version) (owner : Parts) (key : List ℕ) (text : Option (List ℕ)) (cs : List CredParts) → length (flat_map (credential v) (map (mark_asked owner key text) cs)) ≡ length (flat_map (credential v) cs)
+pub texts_len : (v : Version) (owner : Parts) (key : List ℕ) (text : Option (List ℕ)) (cs : List CredParts) → length (flat_map (credential v) (map (mark_asked owner key text) cs)) ≡ length (flat_map (credential v) cs)
 texts_len v owner key text [] = refl
 texts_len v owner key text (c ∷ cs) =
     let f = credential v in
@@ -164,19 +164,19 @@ without_len k key text =
     ∙ omega (arith, length-append x (flat_map f ds ++ k.contents.end), length-append x (flat_map f cs ++ k.contents.end), length-append (flat_map f ds) k.contents.end, length-append (flat_map f cs) k.contents.end, texts_len k.version k.principal key text cs)
     ∙ sym (ap length (front_first k))
 
-fits_by : (k : CacheState) (key : List ℕ) (text : Option (List ℕ)) (c : CredParts) (b : Bool) → is_asked k.principal key text c ≡ b → FitsCredential k.version c → FitsCredential k.version (mark_asked k.principal key text c)
-fits_by k key text c true e fit = rw e (fits_marked k c fit)
-fits_by k key text c false e fit = rw e fit
+fits_by : (v : Version) (owner : Parts) (key : List ℕ) (text : Option (List ℕ)) (c : CredParts) (b : Bool) → is_asked owner key text c ≡ b → FitsCredential v c → FitsCredential v (mark_asked owner key text c)
+fits_by v owner key text c true e fit = rw e (fits_marked v c fit)
+fits_by v owner key text c false e fit = rw e fit
 
-all_fit : (k : CacheState) (key : List ℕ) (text : Option (List ℕ)) (cs : List CredParts) → AllByRecursion (FitsCredential k.version) cs → AllByRecursion (FitsCredential k.version) (map (mark_asked k.principal key text) cs)
-all_fit k key text [] all = tt
-all_fit k key text (c ∷ cs) all = (fits_by k key text c (is_asked k.principal key text c) refl all.0, all_fit k key text cs all.1)
+pub asked_fit : (v : Version) (owner : Parts) (key : List ℕ) (text : Option (List ℕ)) (cs : List CredParts) → AllByRecursion (FitsCredential v) cs → AllByRecursion (FitsCredential v) (map (mark_asked owner key text) cs)
+asked_fit v owner key text [] all = tt
+asked_fit v owner key text (c ∷ cs) all = (fits_by v owner key text c (is_asked owner key text c) refl all.0, asked_fit v owner key text cs all.1)
 
 pub without_kept : (k : CacheState) (key : List ℕ) (text : Option (List ℕ)) → IsKept k → IsKept (without_asked k key text)
 without_kept k key text kept = record {
   header = kept.header;
   principal = kept.principal;
-  cells = all_fit k key text k.contents.cells kept.cells;
+  cells = asked_fit k.version k.principal key text k.contents.cells kept.cells;
   end = kept.end;
   within = omega (arith, without_len k key text, kept.within);
   limit_fits = kept.limit_fits;

@@ -22,3 +22,6 @@ pub mod LastPlaced
 pub mod ConfigHeld
 pub mod SettingLemmas
 pub mod SettingHeld
+pub mod SlotLemmas
+pub mod SlotBytes
+pub mod SlotHeld

@@ -44,17 +44,17 @@ texts k before after c end is =
     front_first k ∙ ap (λ d. x ++ spelling (credentials_format k.version) d) is ∙ ap (λ (t : List ℕ). x ++ (t ++ end)) (flat_map-append f before (c ∷ after))
     ∙ group x a (f c) b end
 
-all_replace : (P : CredParts → Type 0) (before after : List CredParts) (c d : CredParts) → AllByRecursion P (before ++ c ∷ after) → (P c → P d) → AllByRecursion P (before ++ d ∷ after)
+pub all_replace : (P : CredParts → Type 0) (before after : List CredParts) (c d : CredParts) → AllByRecursion P (before ++ c ∷ after) → (P c → P d) → AllByRecursion P (before ++ d ∷ after)
 all_replace P [] after c d all more = (more all.0, all.1)
 all_replace P (x ∷ before) after c d all more = (all.0, all_replace P before after c d all.1 more)
 
-all_here : (P : CredParts → Type 0) (before after : List CredParts) (c : CredParts) → AllByRecursion P (before ++ c ∷ after) → P c
+pub all_here : (P : CredParts → Type 0) (before after : List CredParts) (c : CredParts) → AllByRecursion P (before ++ c ∷ after) → P c
 all_here P [] after c all = all.0
 all_here P (x ∷ before) after c all = all_here P before after c all.1
 
 -- a mark keeps a credential's numbers in their range
-pub fits_marked : (k : CacheState) (c : CredParts) → FitsCredential k.version c → FitsCredential k.version (marked c)
-fits_marked k c fit = record {
+pub fits_marked : (v : Version) (c : CredParts) → FitsCredential v c → FitsCredential v (marked c)
+fits_marked v c fit = record {
   client = fit.client;
   server = fit.server;
   key = fit.key;
@@ -127,7 +127,7 @@ marked_held h image new place c fits new_fits is live written =
     let new_kept : IsKept d = record {
       header = kept.header;
       principal = kept.principal;
-      cells = subst (AllByRecursion (FitsCredential v)) (sym cells) (all_replace (FitsCredential v) s.before s.after c (marked c) (subst (AllByRecursion (FitsCredential v)) s.parts kept.cells) (fits_marked k c));
+      cells = subst (AllByRecursion (FitsCredential v)) (sym cells) (all_replace (FitsCredential v) s.before s.after c (marked c) (subst (AllByRecursion (FitsCredential v)) s.parts kept.cells) (fits_marked v c));
       end = kept.end;
       within = omega (arith, same_len, kept.within);
       limit_fits = kept.limit_fits;

@@ -12,6 +12,7 @@ pub mod SetConfig
 pub mod Laws
 -- For private contracts alone.
 pub mod Cells
+pub mod Slots
 pub mod Mark
 pub mod Rewrite
 pub mod Placed

@@ -12,8 +12,8 @@ use crate::mark::mark;
 use crate::version::Version;
 use krb_wire::{PrincipalView, tail};
 
-// Whether the credential that the bytes begin with is asked for, and how many bytes are left after it.
-fn read_asked(
+/// Whether the credential that the bytes begin with is asked for, and how many bytes are left after it.
+pub fn read_asked(
     version: Version,
     owner: &PrincipalView<'_>,
     key: &[u8],

@@ -19,6 +19,7 @@ use crate::credential::CredView;
 use crate::credentials::Credentials;
 use crate::offset::Offset;
 use crate::open::{CcOpenRefused, Head, read_head, spelled_of};
+use crate::slot::Slot;
 use crate::view::CacheView;
 use krb_walk::{Fault, Stop};
 use krb_wire::{Limits, PrincipalView};
@@ -32,13 +33,14 @@ use std::marker::Model;
 pub struct Ccache<A: Allocator> {
     image: Vec<u8, A>,
     head: Head,
+    // Where its configuration entries stand, once a value was set.
+    known: Option<Vec<Slot, A>>,
 }
 
 impl<A: Allocator> Model for Ccache<A> {
     ghost use Rattle.std.specs.Prelude.{vec_capacity};
-    ghost use Rattle.krb_ccache.specs.Config.{config_of};
-    ghost use Rattle.krb_ccache.specs.Laws.{AreBytes};
-    ghost use Rattle.krb_ccache.specs.Open.{InMemory, IsImage, held};
+    ghost use Rattle.krb_ccache.specs.Open.{InMemory, IsImage, held, held_by};
+    ghost use Rattle.krb_ccache.specs.Slots.{Knows};
 
     ghost Value = { InMemory };
 
@@ -47,7 +49,8 @@ impl<A: Allocator> Model for Ccache<A> {
       room = vec_capacity k.image;
     } };
 
-    ghost invariant = { λ k. IsImage k.head.version k.head.limit k.image.items k.head.places };
+    ghost invariant = { λ k. IsImage k.head.version k.head.limit k.image.items k.head.places
+        × Knows k.head.version (held_by k.head k.image.items).contents.cells k.known };
 }
 
 impl<A: Allocator> Ccache<A> {
@@ -64,7 +67,11 @@ impl<A: Allocator> Ccache<A> {
         match read_head(limits.image(), &image) {
             Ok(head) => {
                 let _ = spelled_of(head, &image);
-                Ok(Ccache { image, head })
+                Ok(Ccache {
+                    image,
+                    head,
+                    known: None,
+                })
             }
             Err(why) => Err(CcOpenRefused { why, image }),
         }
@@ -97,7 +104,11 @@ impl<A: Allocator> Ccache<A> {
         ensures room { vec_capacity result ≡ self.room }
     {
         let _ = spelled_of(self.head, &self.image);
-        let Ccache { image, head: _ } = self;
+        let Ccache {
+            image,
+            head: _,
+            known: _,
+        } = self;
         image
     }
 

@@ -1,6 +1,6 @@
 //! Configuration entries: credentials that hold a value under a key.
 
-ghost use Rattle.std.specs.Prelude.{◌≡◌, option_map, option_copied};
+ghost use Rattle.std.specs.Prelude.{◌≡◌, is_some, option_map, option_copied};
 ghost use Rattle.krb_ccache.specs.Config.{ConfigParts, config_name, is_config, is_asked, same_text};
 ghost use Rattle.krb_ccache.specs.Typed.{config_parts};
 
@@ -38,6 +38,13 @@ fn name_in<N: Name>(server: &N) -> Option<ConfigName<'_>>
         return None;
     }
     Some(ConfigName { key, principal })
+}
+
+/// Whether it is the server of configuration entries.
+pub fn names_config<N: Name>(server: &N) -> bool
+    ensures { result ≡ is_some (config_name (N.parts server.now)) }
+{
+    name_in(server).is_some()
 }
 
 /// What a credential holds its value under, if it is a configuration entry.

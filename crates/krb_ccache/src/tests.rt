@@ -2,6 +2,7 @@ mod allocations;
 mod as_mit;
 mod changes;
 mod refusals;
+mod remembered;
 mod sessions;
 mod settings;
 

@@ -16,6 +16,7 @@ use crate::append::append_credential;
 use crate::cells::bytes_fit;
 use crate::cred::Cred;
 use crate::front::{front_len, header_len, spell_front, tells_offset};
+use crate::known::follow_stored;
 use crate::mark::mark_cell;
 use crate::offset::Offset;
 use crate::open::{Head, Places};
@@ -55,7 +56,11 @@ impl<A: Allocator> Ccache<A> {
                 end: len,
             },
         };
-        Ok(Ccache { image, head })
+        Ok(Ccache {
+            image,
+            head,
+            known: None,
+        })
     }
 
     // Whether it refuses additions and removals.
@@ -75,6 +80,7 @@ impl<A: Allocator> Ccache<A> {
         ensures room { self.new.room ≡ self.old.room }
     {
         mark_cell(self.head, &mut self.image, place as usize);
+        self.known = None;
     }
 
     /// Marks the credential at a place as removed: endtime 0 and the greatest authtime are written, and no other
@@ -117,6 +123,7 @@ impl<A: Allocator> Ccache<A> {
         match append_credential(&mut self.image, self.head, cred, len) {
             Ok(head) => {
                 self.head = head;
+                follow_stored(&mut self.known, cred);
                 Ok(place)
             }
             Err(_) => Err(Refusal::NoMemory),

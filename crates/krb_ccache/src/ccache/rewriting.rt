@@ -83,7 +83,11 @@ impl<A: Allocator + Copy> Ccache<A> {
                 end: len,
             },
         };
-        Ok(Ccache { image, head })
+        Ok(Ccache {
+            image,
+            head,
+            known: None,
+        })
     }
 
     /// Writes the live credentials anew, in version 4 and in order, after a header that has the time offset alone,

@@ -16,7 +16,7 @@ use crate::setting::Setting;
 use krb_walk::{Code, Refusal};
 use std::alloc::Allocator;
 
-impl<A: Allocator> Ccache<A> {
+impl<A: Allocator + Copy> Ccache<A> {
     // Puts the entry of a setting in the place of all that hold a value under its name, in a cache that is whole.
     fn replace(&mut self, setting: &Setting<'_>) -> Result<u32, Refusal>
         requires whole { (self.old.state).contents.end ≡ [] }
@@ -31,7 +31,7 @@ impl<A: Allocator> Ccache<A> {
         let Some(len) = setting.len_within(&self.default_principal(), room) else {
             return Err(Refusal::Code(Code::Full));
         };
-        match replace_settings(&mut self.image, self.head, setting, len) {
+        match replace_settings(&mut self.image, self.head, setting, len, &mut self.known) {
             Ok(head) => {
                 self.head = head;
                 Ok(place)
@@ -56,7 +56,7 @@ impl<A: Allocator> Ccache<A> {
             ≡ Some (config_entry self.old.state.principal key.now (option_copied principal.entry) value.now)) }
         ensures memory { is_refused (set_config_result self.old.state key.now (option_copied principal.entry) value.now) ≡ true
             → HadMemory result }
-        // Nor is memory asked for where there is room for the entry.
+        // Nor does it run out where there is room for the entry.
         ensures room { HasRoomFor self.old (config_entry self.old.state.principal key.now (option_copied principal.entry) value.now)
             → HadMemory result }
     {

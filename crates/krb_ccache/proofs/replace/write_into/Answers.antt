@@ -7,8 +7,8 @@ use Rattle.krb_ccache.specs.SetConfig.{without_asked, setting_entry}
 use Rattle.krb_ccache.specs.Open.{held_by}
 use Rattle.krb_ccache.proofs.replace.write_into.Goals as goal
 
-pub returns : goal.returns
-returns g c =
+pub returns-clause-written : goal.returns-clause-written
+returns-clause-written g c =
     let s = c.args.setting.now in
     let h = c.args.head in
     let image = c.write_over.new.image in

@@ -16,7 +16,7 @@ returns-in_default-clause-gives g c =
     let fits : IsBytes i.image.items = rw c.deref.ensures.value at c.bytes_fit.ensures in
     let same : held_by i.head i.image.items ≡ k = ap (λ (m : InMemory). m.state) c.self.view_is in
     let long : i.head.limit < length i.image.items + length (credential V4 c.args.cred.now) = let ok = i.image.ok.0 in let none = c.in_default.ensures.none in omega (arith, ok, none, c.len.ensures) in
-    (append_full i.head i.image.items k c.args.cred.now fits c.self.invariant same c.requires.whole c.requires.version long, refl)
+    (append_full i.head i.image.items k c.args.cred.now fits c.self.invariant.0 same c.requires.whole c.requires.version long, refl)
 
 pub returns-in-Ok-clause-gives : goal.returns-in-Ok-clause-gives
 returns-in-Ok-clause-gives g c =
@@ -25,8 +25,8 @@ returns-in-Ok-clause-gives g c =
     let x = c.args.cred.now in
     let fits : IsBytes i.image.items = rw c.deref.ensures.value at c.bytes_fit.ensures in
     let same : held_by i.head i.image.items ≡ k = ap (λ (m : InMemory). m.state) c.self.view_is in
-    let short : length i.image.items + length (credential V4 x) ≤ i.head.limit = let ok = i.image.ok.0 in let len = c.in-Some.ensures.some in let within = c.in-Some.ensures.within in let all = c.self.invariant.within in omega (arith, ok, len, within, all, c.len.ensures) in
-    append_fits i.head i.image.items k x fits c.self.invariant same c.requires.whole c.requires.version short
+    let short : length i.image.items + length (credential V4 x) ≤ i.head.limit = let ok = i.image.ok.0 in let len = c.in-Some.ensures.some in let within = c.in-Some.ensures.within in let all = c.self.invariant.0.within in omega (arith, ok, len, within, all, c.len.ensures) in
+    append_fits i.head i.image.items k x fits c.self.invariant.0 same c.requires.whole c.requires.version short
     ∙ ap (λ (n : ℕ). Ok (n, with_last k x)) (sym c.end-place.ensures)
     ∙ ap (λ (s : CacheState). Ok (c.end-place.result, s)) (ap (λ (s : CacheState). with_last s x) (sym same) ∙ sym c.in-Ok.ensures.ok.state)
 
@@ -37,8 +37,8 @@ returns-in-Err-clause-memory g c = λ refused.
     let x = c.args.cred.now in
     let fits : IsBytes i.image.items = rw c.deref.ensures.value at c.bytes_fit.ensures in
     let same : held_by i.head i.image.items ≡ k = ap (λ (m : InMemory). m.state) c.self.view_is in
-    let short : length i.image.items + length (credential V4 x) ≤ i.head.limit = let ok = i.image.ok.0 in let len = c.in-Some.ensures.some in let within = c.in-Some.ensures.within in let all = c.self.invariant.within in omega (arith, ok, len, within, all, c.len.ensures) in
-    let no = ap is_refused (append_fits i.head i.image.items k x fits c.self.invariant same c.requires.whole c.requires.version short) in
+    let short : length i.image.items + length (credential V4 x) ≤ i.head.limit = let ok = i.image.ok.0 in let len = c.in-Some.ensures.some in let within = c.in-Some.ensures.within in let all = c.self.invariant.0.within in omega (arith, ok, len, within, all, c.len.ensures) in
+    let no = ap is_refused (append_fits i.head i.image.items k x fits c.self.invariant.0 same c.requires.whole c.requires.version short) in
     let never = sym no ∙ refused in
     absurd cc
 
@@ -47,7 +47,7 @@ returns-in-Err-clause-room g c = λ room.
     let i = c.self.inside in
     let fits : IsBytes i.image.items = rw c.deref.ensures.value at c.bytes_fit.ensures in
     let same : held_by i.head i.image.items ≡ c.args.self.now.state = ap (λ (m : InMemory). m.state) c.self.view_is in
-    let spells = ap length ((is_held i.head.version i.head.limit i.image.items i.head.places fits c.self.invariant).spells ∙ ap image_of same) in
+    let spells = ap length ((is_held i.head.version i.head.limit i.image.items i.head.places fits c.self.invariant.0).spells ∙ ap image_of same) in
     let known = ap (λ (m : InMemory). m.room) c.self.view_is in
     let ok = i.image.ok.0 in
     let len = c.in-Some.ensures.some in

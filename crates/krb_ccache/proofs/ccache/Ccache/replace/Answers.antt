@@ -20,7 +20,7 @@ returns-in_default-clause-gives g c =
     let same : held_by i.head i.image.items ≡ k = ap (λ (m : InMemory). m.state) c.self.view_is in
     let text = ap (λ (p : Parts). length (credential V4 (setting_entry p s))) c.default_principal.ensures in
     let long : i.head.limit < length i.image.items + length (credential V4 (setting_entry k.principal s)) = let ok = i.image.ok.0 in let none = c.in_default.ensures.none in omega (arith, ok, none, c.len.ensures, text) in
-    (set_full i.head i.image.items k s (setting_entry k.principal s) fits c.self.invariant same c.requires.whole c.requires.version long, refl)
+    (set_full i.head i.image.items k s (setting_entry k.principal s) fits c.self.invariant.0 same c.requires.whole c.requires.version long, refl)
 
 pub returns-in-Ok-clause-gives : goal.returns-in-Ok-clause-gives
 returns-in-Ok-clause-gives g c =
@@ -31,8 +31,8 @@ returns-in-Ok-clause-gives g c =
     let fits : IsBytes i.image.items = rw c.deref.ensures.value at c.bytes_fit.ensures in
     let same : held_by i.head i.image.items ≡ k = ap (λ (m : InMemory). m.state) c.self.view_is in
     let text = ap (λ (p : Parts). length (credential V4 (setting_entry p s))) c.default_principal.ensures in
-    let short : length i.image.items + length (credential V4 x) ≤ i.head.limit = let ok = i.image.ok.0 in let len = c.in-Some.ensures.some in let within = c.in-Some.ensures.within in let all = c.self.invariant.within in omega (arith, ok, len, within, all, c.len.ensures, text) in
-    set_fits i.head i.image.items k s x fits c.self.invariant same c.requires.whole c.requires.version short
+    let short : length i.image.items + length (credential V4 x) ≤ i.head.limit = let ok = i.image.ok.0 in let len = c.in-Some.ensures.some in let within = c.in-Some.ensures.within in let all = c.self.invariant.0.within in omega (arith, ok, len, within, all, c.len.ensures, text) in
+    set_fits i.head i.image.items k s x fits c.self.invariant.0 same c.requires.whole c.requires.version short
     ∙ ap (λ (n : ℕ). Ok (n, with_last (without_asked k s.key s.principal) x)) (sym c.end-place.ensures)
     ∙ ap (λ (w : CacheState). Ok (c.end-place.result, w)) (ap (λ (w : CacheState). with_last (without_asked w s.key s.principal) (setting_entry w.principal s)) (sym same) ∙ sym c.in-Ok.ensures.ok.state)
 
@@ -45,8 +45,8 @@ returns-in-Err-clause-memory g c = λ refused.
     let fits : IsBytes i.image.items = rw c.deref.ensures.value at c.bytes_fit.ensures in
     let same : held_by i.head i.image.items ≡ k = ap (λ (m : InMemory). m.state) c.self.view_is in
     let text = ap (λ (p : Parts). length (credential V4 (setting_entry p s))) c.default_principal.ensures in
-    let short : length i.image.items + length (credential V4 x) ≤ i.head.limit = let ok = i.image.ok.0 in let len = c.in-Some.ensures.some in let within = c.in-Some.ensures.within in let all = c.self.invariant.within in omega (arith, ok, len, within, all, c.len.ensures, text) in
-    let fitting = ap is_refused (set_fits i.head i.image.items k s x fits c.self.invariant same c.requires.whole c.requires.version short) in
+    let short : length i.image.items + length (credential V4 x) ≤ i.head.limit = let ok = i.image.ok.0 in let len = c.in-Some.ensures.some in let within = c.in-Some.ensures.within in let all = c.self.invariant.0.within in omega (arith, ok, len, within, all, c.len.ensures, text) in
+    let fitting = ap is_refused (set_fits i.head i.image.items k s x fits c.self.invariant.0 same c.requires.whole c.requires.version short) in
     let never = sym fitting ∙ refused in
     absurd cc
 
@@ -57,7 +57,7 @@ returns-in-Err-clause-room g c = λ room.
     let fits : IsBytes i.image.items = rw c.deref.ensures.value at c.bytes_fit.ensures in
     let same : held_by i.head i.image.items ≡ c.args.self.now.state = ap (λ (m : InMemory). m.state) c.self.view_is in
     let text = ap (λ (p : Parts). length (credential V4 (setting_entry p s))) c.default_principal.ensures in
-    let spells = ap length ((is_held i.head.version i.head.limit i.image.items i.head.places fits c.self.invariant).spells ∙ ap image_of same) in
+    let spells = ap length ((is_held i.head.version i.head.limit i.image.items i.head.places fits c.self.invariant.0).spells ∙ ap image_of same) in
     let known = ap (λ (m : InMemory). m.room) c.self.view_is in
     let ok = i.image.ok.0 in
     let len = c.in-Some.ensures.some in

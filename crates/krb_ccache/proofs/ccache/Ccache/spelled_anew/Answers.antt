@@ -9,7 +9,7 @@ pub image_anew-requires-clause-fits : goal.image_anew-requires-clause-fits
 image_anew-requires-clause-fits g c =
     let i = c.self.inside in
     let fits : IsBytes i.image.items = rw c.deref.ensures.value at c.bytes_fit.ensures in
-    subst FitsCc (sym c.default_principal.ensures) (kept_by i.head i.image.items c.args.self.now.state fits c.self.invariant (ap (λ (m : InMemory). m.state) c.self.view_is)).principal
+    subst FitsCc (sym c.default_principal.ensures) (kept_by i.head i.image.items c.args.self.now.state fits c.self.invariant.0 (ap (λ (m : InMemory). m.state) c.self.view_is)).principal
 
 pub image_anew-requires-clause-len : goal.image_anew-requires-clause-len
 image_anew-requires-clause-len g c =

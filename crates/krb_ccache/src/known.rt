@@ -1,0 +1,205 @@
+//! Where the configuration entries of a cache stand, remembered where there is memory for it.
+
+ghost use Rattle.std.specs.Prelude.{◌≡◌, ℕ, ◌≤◌, ◌<◌, ◌^◌, List, ◌∷◌, ◌++◌, length, drop, take, Some, option_copied, vec_len, IfSome, IfNone};
+ghost use Rattle.krb_ccache.specs.Config.{is_asked};
+ghost use Rattle.krb_ccache.specs.Credential.{CredParts, credential_at};
+ghost use Rattle.krb_ccache.specs.Store.{PlacedCredential};
+ghost use Rattle.krb_ccache.specs.SetConfig.{marked_texts};
+ghost use Rattle.krb_ccache.specs.Slots.{name_print, slot_of, slots_of, Knows, cells_in, settings_in, NoneAsked, IsFirstAsked, MarksEntry, RemembersEntry, Follows};
+
+use crate::asked::{mark_asked, read_asked};
+use crate::cells::{Cells, bytes_fit};
+use crate::config::names_config;
+use crate::cred::Cred;
+use crate::mark::mark;
+use crate::slot::{Slot, name_print, slot_at};
+use crate::version::Version;
+use krb_wire::{PrincipalView, tail};
+use std::alloc::Allocator;
+
+/// The slots of the live configuration entries among credentials, or none where memory is refused. Each credential
+/// is read once.
+pub fn find_settings<A: Allocator>(alloc: A, version: Version, bytes: &[u8]) -> Option<Vec<Slot, A>>
+    requires { length bytes.now ≤ 2 ^ 30 }
+    ensures { Knows version (cells_in version bytes.now) result }
+{
+    let mut slots = Vec::new(alloc);
+    let cells = Cells {
+        version,
+        place: 0,
+        bytes,
+    };
+    for (place, credential) in cells {
+        if let Some(slot) = slot_at(place, &credential) {
+            if slots.push(slot).is_err() {
+                return None;
+            }
+        }
+    }
+    Some(slots)
+}
+
+// Whether the entry of a slot is asked for.
+fn is_asked_in(
+    version: Version,
+    owner: &PrincipalView<'_>,
+    key: &[u8],
+    principal: Option<&[u8]>,
+    print: u32,
+    cells: &[u8],
+    slot: Slot,
+) -> bool
+    requires within { slot.place ≤ length cells.now }
+    requires print { print ≡ name_print key.now (option_copied principal) }
+    ensures { (c : CredParts) (rest : List ℕ) → credential_at version (drop slot.place cells.now) ≡ Some (c, rest)
+        → slot ≡ slot_of (slot.place, c) → result ≡ is_asked owner.now key.now (option_copied principal.entry) c }
+{
+    if slot.print != print {
+        return false;
+    }
+    match read_asked(
+        version,
+        owner,
+        key,
+        principal,
+        tail(cells, slot.place as usize),
+    ) {
+        Some((is_asked, _)) => is_asked,
+        None => false,
+    }
+}
+
+// The first entry from a slot on that is asked for.
+fn find_asked(
+    version: Version,
+    owner: &PrincipalView<'_>,
+    key: &[u8],
+    principal: Option<&[u8]>,
+    cells: &[u8],
+    slots: &[Slot],
+    from: usize,
+) -> Option<usize>
+    requires knows { slots.now ≡ slots_of version (cells_in version cells.now) }
+    requires others { NoneAsked owner.now key.now (option_copied principal) (take from (settings_in version cells.now)) }
+    ensures some { IfSome result (IsFirstAsked version owner.now key.now (option_copied principal.entry) cells.now) }
+    ensures none { IfNone result (NoneAsked owner.now key.now (option_copied principal.entry) (settings_in version cells.now)) }
+{
+    bytes_fit(cells);
+    let print = name_print(key, principal);
+    for i in from..slots.len() {
+        if is_asked_in(version, owner, key, principal, print, cells, slots[i]) {
+            return Some(i);
+        }
+    }
+    None
+}
+
+// Marks the entry of a slot, and drops the slot.
+fn mark_entry<A: Allocator>(version: Version, cells: &mut [u8], slots: &mut Vec<Slot, A>, i: usize)
+    requires knows { slots.old.items ≡ slots_of version (cells_in version cells.old) }
+    requires within { i < vec_len slots.old }
+    ensures knows { slots.new.items ≡ slots_of version (cells_in version cells.new) }
+    ensures marks { (before : List PlacedCredential) (entry : PlacedCredential) (after : List PlacedCredential)
+        → settings_in version cells.old ≡ before ++ entry ∷ after → i ≡ length before
+        → MarksEntry version cells.old cells.new before entry after }
+    ensures fewer { vec_len slots.new < vec_len slots.old }
+    ensures len { length cells.new ≡ length cells.old }
+{
+    bytes_fit(cells);
+    let slot = slots.remove(i);
+    mark(version, cells, slot.place as usize);
+    bytes_fit(cells);
+}
+
+// Marks every entry of that owner, key and principal by the slots of all entries, and drops their slots.
+fn mark_known<A: Allocator>(
+    version: Version,
+    owner: &PrincipalView<'_>,
+    key: &[u8],
+    principal: Option<&[u8]>,
+    cells: &mut [u8],
+    slots: &mut Vec<Slot, A>,
+)
+    requires knows { slots.old.items ≡ slots_of version (cells_in version cells.old) }
+    ensures marked { cells.new ≡ marked_texts version owner.now key.now (option_copied principal.entry) cells.old }
+    ensures knows { slots.new.items ≡ slots_of version (cells_in version cells.new) }
+    ensures len { length cells.new ≡ length cells.old }
+{
+    bytes_fit(cells);
+    let mut from = 0;
+    while let Some(i) = find_asked(version, owner, key, principal, cells, slots, from) {
+        mark_entry(version, cells, slots, i);
+        from = i;
+    }
+}
+
+/// Finds the slots of the live configuration entries where they are not known, and there is memory for them.
+pub fn learn<A: Allocator + Copy>(
+    alloc: A,
+    version: Version,
+    bytes: &[u8],
+    known: &mut Option<Vec<Slot, A>>,
+)
+    requires small { length bytes.now ≤ 2 ^ 30 }
+    requires knows { Knows version (cells_in version bytes.now) known.old }
+    ensures { Knows version (cells_in version bytes.now) known.new }
+{
+    if known.is_none() {
+        *known = find_settings(alloc, version, bytes);
+    }
+}
+
+/// Marks every entry of that owner, key and principal among credentials: by the slots where they are known, and else
+/// in one pass.
+pub fn mark_settings<A: Allocator>(
+    version: Version,
+    owner: &PrincipalView<'_>,
+    key: &[u8],
+    principal: Option<&[u8]>,
+    cells: &mut [u8],
+    known: &mut Option<Vec<Slot, A>>,
+)
+    requires knows { Knows version (cells_in version cells.old) known.old }
+    ensures marked { cells.new ≡ marked_texts version owner.now key.now (option_copied principal.entry) cells.old }
+    ensures knows { Knows version (cells_in version cells.new) known.new }
+    ensures len { length cells.new ≡ length cells.old }
+{
+    match known {
+        Some(slots) => mark_known(version, owner, key, principal, cells, slots),
+        None => mark_asked(version, owner, key, principal, cells),
+    }
+}
+
+/// Remembers a new entry at a place, which is that after the last credential, or forgets all where memory is refused.
+pub fn remember<A: Allocator>(
+    known: &mut Option<Vec<Slot, A>>,
+    key: &[u8],
+    principal: Option<&[u8]>,
+    place: usize,
+)
+    requires { place ≤ 2 ^ 30 }
+    ensures { RemembersEntry known.old key.now (option_copied principal.entry) place known.new }
+{
+    let Some(slots) = known else {
+        return;
+    };
+    let slot = Slot {
+        print: name_print(key, principal),
+        place: place as u32,
+    };
+    if slots.push(slot).is_err() {
+        *known = None;
+    }
+}
+
+/// Forgets all where a configuration entry is stored.
+pub fn follow_stored<A: Allocator, B: Allocator>(known: &mut Option<Vec<Slot, A>>, cred: &Cred<B>)
+    ensures { Follows known.old cred.now known.new }
+{
+    if known.is_none() {
+        return;
+    }
+    if names_config(&cred.server) {
+        *known = None;
+    }
+}
