@@ -1,6 +1,6 @@
 //! Bytes out of a reader.
 
-ghost use Rattle.std.specs.Prelude.{◌≢◌, ◌≡◌, ◌+◌, ◌<◌, ◌≤◌, ◌^◌, ◌++◌, ◌⊎◌, ℕ, List, length, take, drop, OnOk, OnErr, IfOk, IfErr, IfSome, IsErrOf, vec_len};
+ghost use Rattle.std.specs.Prelude.{◌≢◌, ◌≡◌, ◌+◌, ◌<◌, ◌≤◌, ◌*◌, ◌^◌, ◌++◌, ◌⊎◌, ℕ, List, length, max, min, take, drop, OnOk, OnErr, IfOk, IfErr, IfSome, IsErrOf, vec_capacity, vec_len};
 ghost use Rattle.std.specs.Io.KnownBytes.{Consumes, IsAtEnd, Keeps};
 ghost use Rattle.krb_commands.specs.Reader.{ConsumesAtMost};
 
@@ -44,6 +44,7 @@ pub fn append_read<A: Allocator, R: Read>(
     ensures end { IfOk result (λ count. count ≡ 0 → IsAtEnd (R.remaining reader.new)) }
     ensures err { OnErr result (Keeps (R.remaining reader.old) (R.remaining reader.new)) }
     ensures same { OnErr result (bytes.new.items ≡ bytes.old.items) }
+    ensures capacity { vec_capacity bytes.old ≤ vec_capacity bytes.new }
     ensures why { IfErr result (λ fault. (fault ≡ LoadFault.Failed) ⊎ (fault ≡ LoadFault.NoMemory)) }
 {
     let filled = bytes.len();
@@ -65,7 +66,12 @@ pub fn append_read<A: Allocator, R: Read>(
 // How many bytes are read next, by how many the last read gave: room is cleared before a read, so a reader that
 // gives little is asked for little. The room that is there is filled before more is taken.
 pub fn next_read<A: Allocator>(bytes: &Vec<u8, A>, last: usize) -> usize
-    ensures { (0 < result) × (result ≤ 131072) }
+    ensures some { 0 < result }
+    ensures most { result ≤ 131072 }
+    ensures little { result ≤ max 4096 (2 * last) }
+    ensures room { (vec_len bytes.now + result ≤ vec_capacity bytes.now)
+        ⊎ (vec_capacity bytes.now ≡ vec_len bytes.now) }
+    ensures much { (4096 ≤ result) ⊎ (vec_len bytes.now + result ≡ vec_capacity bytes.now) }
 {
     let wanted = last.saturating_mul(2).clamp(LEAST_READ, MOST_READ);
     match bytes.capacity() - bytes.len() {
@@ -76,7 +82,8 @@ pub fn next_read<A: Allocator>(bytes: &Vec<u8, A>, last: usize) -> usize
 
 // How much room is taken at once, with a byte for the read that finds the end.
 fn first_room(expected: u64, limit: u32) -> usize
-    ensures { result ≤ limit + 1 }
+    ensures most { result ≤ limit + 1 }
+    ensures enough { min expected limit ≤ result }
 {
     match expected.min(u64::from(limit)) {
         0 => 0,
@@ -94,6 +101,7 @@ pub fn load<A: Allocator, R: Read>(
 ) -> Result<Vec<u8, A>, LoadFault>
     ensures ok { IfOk result (λ bytes. IfSome (R.remaining reader.old) (λ left. bytes.items ≡ left)) }
     ensures within { IfOk result (λ bytes. vec_len bytes ≤ limit) }
+    ensures room { IfOk result (λ bytes. min expected limit ≤ vec_capacity bytes) }
     ensures end { OnOk result (IsAtEnd (R.remaining reader.new)) }
     ensures too_large { IsErrOf result LoadFault.TooLarge
         → IfSome (R.remaining reader.old) (λ left. limit < length left) }

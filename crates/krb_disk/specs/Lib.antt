@@ -1,3 +1,4 @@
 -- What the contracts of this crate say.
 pub mod DiskFiles
 pub mod Mode
+pub mod Target

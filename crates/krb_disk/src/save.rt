@@ -1,6 +1,6 @@
 //! Saves to a disk, all or nothing.
 
-ghost use Rattle.std.specs.Prelude.{OnOk};
+ghost use Rattle.std.specs.Prelude.{◌≢◌, [], OnOk};
 ghost use Rattle.std.specs.Io.KnownBytes.{Appends};
 
 use crate::mode::{Inheritance, new_mode};
@@ -86,6 +86,7 @@ fn sync_folder<R: rt::Files>(rt: &R, folder: &str) -> io::Result<()> {
 pub fn save_file<R: rt::Files + Alloc>(rt: &R, name: &str, bytes: &[u8]) -> io::Result<()>
 where
     R::File: SetOwner,
+    ensures { OnOk result (name.now ≢ []) }
 {
     let target = find_target(rt, name)?;
     let path = target.new_path(rt.alloc())?;

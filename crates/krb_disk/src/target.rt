@@ -1,5 +1,10 @@
 //! Where a save goes.
 
+ghost use Rattle.std.specs.Prelude.{◌≡◌, ◌≢◌, [], string_bytes, IfOk, IfSome, OnOk};
+ghost use Rattle.std.specs.Fs.{file_type, IsFile};
+ghost use Rattle.std.specs.Path.{path_buf_bytes, path_parent};
+ghost use Rattle.krb_disk.specs.Target.{folder, new_path};
+
 use std::alloc::{AllocError, Allocator};
 use std::fs::{self, Metadata};
 use std::io::{self, ErrorKind};
@@ -19,14 +24,18 @@ pub struct Target<A: Allocator> {
 
 impl<A: Allocator> Target<A> {
     /// The name of the new file, beside the old one.
-    pub fn new_path<B: Allocator>(&self, alloc: B) -> Result<String<B>, AllocError> {
+    pub fn new_path<B: Allocator>(&self, alloc: B) -> Result<String<B>, AllocError>
+        ensures { IfOk result (λ name. string_bytes name ≡ new_path (path_buf_bytes self.now.path)) }
+    {
         let mut name = String::from_str(alloc, self.path.as_str())?;
         name.push_str(".new")?;
         Ok(name)
     }
 
     /// The folder of both.
-    pub fn folder(&self) -> &str {
+    pub fn folder(&self) -> &str
+        ensures { result.now ≡ folder (path_parent (path_buf_bytes self.now.path)) }
+    {
         match self.path.parent() {
             Some(folder) if folder.as_str() != "" => folder.as_str(),
             _ => ".",
@@ -36,7 +45,10 @@ impl<A: Allocator> Target<A> {
 
 /// Follows symbolic links from a name to the file or the free name that they lead to. What is there but
 /// is no plain file is refused, and so are too many links.
-pub fn find_target<R: rt::Files + Alloc>(rt: &R, name: &str) -> io::Result<Target<R::A>> {
+pub fn find_target<R: rt::Files + Alloc>(rt: &R, name: &str) -> io::Result<Target<R::A>>
+    ensures named { OnOk result (name.now ≢ []) }
+    ensures plain { IfOk result (λ target. IfSome target.old (λ old. IsFile (file_type old))) }
+{
     if name.is_empty() {
         return Err(io::Error::from(ErrorKind::NotFound));
     }

@@ -17,6 +17,13 @@ pub slots_step : (columns : KtColumns) (whole out more : List ℕ) (n : ℕ) (re
 slots_step columns whole out more n rest e others is next written =
     is ∙ ap (λ (es : List EntryParts). out ++ slot_lines columns n es) next ∙ sym (append_assoc out (slot_line columns (n, e)) (slot_lines columns (n + 1) others)) ∙ ap (λ (t : List ℕ). t ++ slot_lines columns (n + 1) others) (sym written)
 
+-- what is written and one slot more are no longer than all
+pub slots_room : (columns : KtColumns) (old out all : List ℕ) (n : ℕ) (rest : List EntryParts) (e : EntryParts) (others : List EntryParts) → old ++ all ≡ out ++ slot_lines columns n rest → rest ≡ e ∷ others → length out + length (slot_line columns (n, e)) ≤ length old + length all
+slots_room columns old out all n rest e others is next =
+    let line = slot_line columns (n, e) in
+    let text : old ++ all ≡ out ++ (line ++ slot_lines columns (n + 1) others) = is ∙ ap (λ (es : List EntryParts). out ++ slot_lines columns n es) next in
+    omega (arith, ap length text, length-append old all, length-append out (line ++ slot_lines columns (n + 1) others), length-append line (slot_lines columns (n + 1) others))
+
 -- one reply more is written
 pub replies_step : (f : KtFormat) (whole out more : List ℕ) (rest : List Said) (r : Said) (others : List Said) → whole ≡ out ++ reply_texts f rest → rest ≡ r ∷ others → more ≡ out ++ reply_text f r → whole ≡ more ++ reply_texts (format_after f r) others
 replies_step f whole out more rest r others is next written =

@@ -50,6 +50,8 @@ pub fn append_right_in_4<A: Allocator>(number: u64, out: &mut Vec<u8, A>) -> Res
     ensures ok { OnOk result
         (out.new.items ≡ out.old.items ++ (right_in_4 number ++ 32 ∷ [])) }
     ensures err { OnErr result (out.new.items ≡ out.old.items) }
+    ensures capacity { vec_capacity out.old ≤ vec_capacity out.new }
+    ensures full { OnErr result (HadNoRoom out.old (right_in_4 number ++ 32 ∷ [])) }
 {
     let mut text = [b' '; 21];
     let start = write_digits(number, &mut text, 20);

@@ -23,6 +23,8 @@ fn append_time<A: Allocator>(
 ) -> Result<(), NoMemory>
     ensures ok { OnOk result (out.new.items ≡ out.old.items ++ time_column is_shown seconds) }
     ensures err { OnErr result (Grew out.old.items out.new.items) }
+    ensures capacity { vec_capacity out.old ≤ vec_capacity out.new }
+    ensures full { OnErr result (HadNoRoom out.old (time_column is_shown seconds)) }
 {
     if !is_shown {
         return Ok(());
@@ -39,6 +41,8 @@ fn append_etype<A: Allocator>(
 ) -> Result<(), NoMemory>
     ensures ok { OnOk result (out.new.items ≡ out.old.items ++ etype_column is_shown etype) }
     ensures err { OnErr result (Grew out.old.items out.new.items) }
+    ensures capacity { vec_capacity out.old ≤ vec_capacity out.new }
+    ensures full { OnErr result (HadNoRoom out.old (etype_column is_shown etype)) }
 {
     if !is_shown {
         return Ok(());
@@ -56,6 +60,8 @@ fn append_key<A: Allocator>(
 ) -> Result<(), NoMemory>
     ensures ok { OnOk result (out.new.items ≡ out.old.items ++ key_column is_shown key.now) }
     ensures err { OnErr result (Grew out.old.items out.new.items) }
+    ensures capacity { vec_capacity out.old ≤ vec_capacity out.new }
+    ensures full { OnErr result (HadNoRoom out.old (key_column is_shown key.now)) }
 {
     if !is_shown {
         return Ok(());
@@ -73,6 +79,8 @@ pub fn append_entry<N: Name, A: Allocator>(
 ) -> Result<(), NoMemory>
     ensures ok { OnOk result (out.new.items ≡ out.old.items ++ entry_line columns entry.now) }
     ensures err { OnErr result (Grew out.old.items out.new.items) }
+    ensures capacity { vec_capacity out.old ≤ vec_capacity out.new }
+    ensures full { OnErr result (HadNoRoom out.old (entry_line columns entry.now)) }
 {
     append_right_in_4(entry.kvno as u64, out)?;
     append_time(columns.times, entry.timestamp, out)?;

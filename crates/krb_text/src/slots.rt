@@ -1,6 +1,8 @@
 //! The listing of slots.
 
-ghost use Rattle.std.specs.Prelude.{◌≡◌, ◌++◌, OnOk, OnErr};
+ghost use Rattle.std.specs.Prelude.{◌≡◌, ◌≤◌, ◌++◌, OnOk, OnErr, vec_capacity};
+ghost use Rattle.krb_wire.specs.Names.{HadNoRoom};
+ghost use Rattle.krb_wire.specs.Text.{Grew};
 ghost use Rattle.krb_text.specs.Slots.{slot_heading, slot_line, slot_lines, slot_text};
 
 use crate::append::{append, append_right_in_4};
@@ -12,7 +14,10 @@ use krb_wire::NoMemory;
 use std::alloc::Allocator;
 
 fn append_heading<A: Allocator>(times: bool, out: &mut Vec<u8, A>) -> Result<(), NoMemory>
-    ensures { OnOk result (out.new.items ≡ out.old.items ++ slot_heading times) }
+    ensures ok { OnOk result (out.new.items ≡ out.old.items ++ slot_heading times) }
+    ensures err { OnErr result (Grew out.old.items out.new.items) }
+    ensures capacity { vec_capacity out.old ≤ vec_capacity out.new }
+    ensures full { OnErr result (HadNoRoom out.old (slot_heading times)) }
 {
     append(b"slot ", out)?;
     append(titles(times), out)?;
@@ -26,7 +31,10 @@ fn append_slot<A: Allocator, B: Allocator>(
     entry: &NewEntry<B>,
     out: &mut Vec<u8, A>,
 ) -> Result<(), NoMemory>
-    ensures { OnOk result (out.new.items ≡ out.old.items ++ slot_line columns (slot, entry.now)) }
+    ensures ok { OnOk result (out.new.items ≡ out.old.items ++ slot_line columns (slot, entry.now)) }
+    ensures err { OnErr result (Grew out.old.items out.new.items) }
+    ensures capacity { vec_capacity out.old ≤ vec_capacity out.new }
+    ensures full { OnErr result (HadNoRoom out.old (slot_line columns (slot, entry.now))) }
 {
     append_right_in_4(slot, out)?;
     append_entry(columns, &entry.fields(), out)
@@ -37,7 +45,10 @@ fn append_slots<A: Allocator, B: Allocator>(
     entries: &[NewEntry<B>],
     out: &mut Vec<u8, A>,
 ) -> Result<(), NoMemory>
-    ensures { OnOk result (out.new.items ≡ out.old.items ++ slot_lines columns 1 entries.now) }
+    ensures ok { OnOk result (out.new.items ≡ out.old.items ++ slot_lines columns 1 entries.now) }
+    ensures err { OnErr result (Grew out.old.items out.new.items) }
+    ensures capacity { vec_capacity out.old ≤ vec_capacity out.new }
+    ensures full { OnErr result (HadNoRoom out.old (slot_lines columns 1 entries.now)) }
 {
     let mut slot = 0;
     'slots: for entry in entries {
@@ -47,18 +58,39 @@ fn append_slots<A: Allocator, B: Allocator>(
     Ok(())
 }
 
+fn append_listing<A: Allocator, B: Allocator>(
+    entries: &[NewEntry<B>],
+    columns: KtColumns,
+    out: &mut Vec<u8, A>,
+) -> Result<(), NoMemory>
+    ensures ok { OnOk result (out.new.items ≡ out.old.items ++ slot_text columns entries.now) }
+    ensures err { OnErr result (Grew out.old.items out.new.items) }
+    ensures capacity { vec_capacity out.old ≤ vec_capacity out.new }
+    ensures full { OnErr result (HadNoRoom out.old (slot_text columns entries.now)) }
+{
+    append_heading(columns.times, out)?;
+    append_slots(columns, entries, out)
+}
+
 /// Appends the listing of entries in slots: a heading, and a line for each entry with its slot.
-pub fn list_slots<A: Allocator>(
-    alloc: A,
-    entries: &[NewEntry<A>],
+pub fn list_slots<A: Allocator, B: Allocator>(
+    entries: &[NewEntry<B>],
     columns: KtColumns,
     out: &mut Vec<u8, A>,
 ) -> Result<(), NoMemory>
     ensures ok { OnOk result (out.new.items ≡ out.old.items ++ slot_text columns entries.now) }
     ensures err { OnErr result (out.new.items ≡ out.old.items) }
+    ensures capacity { vec_capacity out.old ≤ vec_capacity out.new }
+
+    // It is out of memory only where the text does not fit into the room that there was.
+    ensures full { OnErr result (HadNoRoom out.old (slot_text columns entries.now)) }
 {
-    let mut text = Vec::new(alloc);
-    append_heading(columns.times, &mut text)?;
-    append_slots(columns, entries, &mut text)?;
-    append(&text, out)
+    let len = out.len();
+    match append_listing(entries, columns, out) {
+        Ok(()) => Ok(()),
+        Err(_) => {
+            out.truncate(len);
+            Err(NoMemory)
+        }
+    }
 }

@@ -8,4 +8,4 @@ append_read-requires g c =
     let len = c.len.ensures in
     let fits = c.ranges.limit.fits in
     let within = c.loop-bytes.invariant.within in
-    (omega (arith, room, next.0), omega (arith, room, next.1, within, fits))
+    (omega (arith, room, next.some), omega (arith, room, next.most, within, fits))
