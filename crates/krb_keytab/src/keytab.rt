@@ -18,16 +18,16 @@ use crate::cells::Cells;
 use crate::entries::Entries;
 use crate::entry::{EntryView, read_entry};
 use crate::image::{CellsEnd, end_of_cells, spelled_of};
-use crate::open::{Head, KtOpenRefused, read_head, version_of};
+use crate::open::{KtOpenRefused, read_head, version_of};
 use crate::put::bytes_fit;
 use krb_walk::{Fault, Stop};
 use krb_wire::{KtFormat, Limits, NoMemory, Order};
 use std::alloc::Allocator;
 use std::marker::Model;
 
-/// A keytab: the bytes of its image, where its cells end, and how many they are. Contracts see its state, which is its format,
-/// its limit, and the one list of cells with what ends them that the image spells; and beside it how many
-/// bytes it has room for. A call that takes no memory keeps the room.
+/// A keytab: the bytes of its image, where its cells end, and how many they are. Contracts see its state, which
+/// is its format, its limit, and the one list of cells with what ends them that the image spells; and beside it
+/// how many bytes it has room for. A call that takes no memory keeps the room.
 #[derive(Drop)]
 pub struct Keytab<A: Allocator> {
     image: Vec<u8, A>,
@@ -83,19 +83,12 @@ impl<A: Allocator> Keytab<A> {
             × (e.image ≡ image)) }
     {
         match read_head(v1_order, limits.image(), &image) {
-            Ok(
-                Head {
-                    format,
-                    limit,
-                    end,
-                    count,
-                },
-            ) => Ok(Keytab {
+            Ok(head) => Ok(Keytab {
                 image,
-                format,
-                limit,
-                end,
-                count,
+                format: head.format,
+                limit: head.limit,
+                end: head.end,
+                count: head.count,
             }),
             Err(why) => Err(KtOpenRefused { why, image }),
         }
