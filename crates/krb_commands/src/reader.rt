@@ -71,7 +71,8 @@ pub fn next_read<A: Allocator>(bytes: &Vec<u8, A>, last: usize) -> usize
     ensures little { result ≤ max 4096 (2 * last) }
     ensures room { (vec_len bytes.now + result ≤ vec_capacity bytes.now)
         ⊎ (vec_capacity bytes.now ≡ vec_len bytes.now) }
-    ensures much { (4096 ≤ result) ⊎ (vec_len bytes.now + result ≡ vec_capacity bytes.now) }
+    ensures much { (min 131072 (max 4096 (2 * last)) ≤ result)
+        ⊎ (vec_len bytes.now + result ≡ vec_capacity bytes.now) }
 {
     let wanted = last.saturating_mul(2).clamp(LEAST_READ, MOST_READ);
     match bytes.capacity() - bytes.len() {

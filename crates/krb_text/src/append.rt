@@ -2,6 +2,7 @@
 
 ghost use Rattle.std.specs.Prelude.{◌≡◌, ◌++◌, ◌∷◌, [], ◌≤◌, decimal, OnOk, OnErr, vec_capacity};
 ghost use Rattle.krb_wire.specs.Names.{HadNoRoom};
+ghost use Rattle.krb_wire.specs.Text.{Grew};
 ghost use Rattle.krb_text.specs.Line.{right_in_4};
 
 use itoa::{Buffer, write_digits};
@@ -34,14 +35,19 @@ pub fn append_byte<A: Allocator>(byte: u8, out: &mut Vec<u8, A>) -> Result<(), N
     }
 }
 
-/// Appends a number in decimal.
-pub fn append_number<A: Allocator>(number: u32, out: &mut Vec<u8, A>) -> Result<(), NoMemory>
-    ensures ok { OnOk result (out.new.items ≡ out.old.items ++ decimal number) }
-    ensures err { OnErr result (out.new.items ≡ out.old.items) }
+/// Appends a label and a number in decimal.
+pub fn append_labelled<A: Allocator>(
+    label: &[u8],
+    number: u32,
+    out: &mut Vec<u8, A>,
+) -> Result<(), NoMemory>
+    ensures ok { OnOk result (out.new.items ≡ out.old.items ++ (label.now ++ decimal number)) }
+    ensures err { OnErr result (Grew out.old.items out.new.items) }
     ensures capacity { vec_capacity out.old ≤ vec_capacity out.new }
-    ensures full { OnErr result (HadNoRoom out.old (decimal number)) }
+    ensures full { OnErr result (HadNoRoom out.old (label.now ++ decimal number)) }
 {
     let mut buffer = Buffer::new();
+    append(label, out)?;
     append(buffer.format(number).as_bytes(), out)
 }
 

@@ -3,7 +3,7 @@
 ghost use Rattle.std.specs.Prelude.{◌≡◌, ◌++◌, OnOk, IfOk};
 ghost use Rattle.krb_text.specs.Found.{found_line};
 
-use crate::append::{append, append_number};
+use crate::append::append_labelled;
 use crate::line::append_tail;
 use krb_keytab::EntryView;
 use krb_wire::NoMemory;
@@ -16,8 +16,7 @@ fn append_found<A: Allocator>(
 ) -> Result<(), NoMemory>
     ensures { OnOk result (out.new.items ≡ out.old.items ++ found_line (place, entry.now)) }
 {
-    append(b"found ", out)?;
-    append_number(place, out)?;
+    append_labelled(b"found ", place, out)?;
     append_tail(&entry.fields(), out)
 }
 

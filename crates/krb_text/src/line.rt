@@ -5,7 +5,7 @@ ghost use Rattle.krb_wire.specs.Names.{HadNoRoom};
 ghost use Rattle.krb_wire.specs.Text.{Grew};
 ghost use Rattle.krb_text.specs.Line.{entry_line, time_column, etype_column, key_column, entry_tail, fault_text};
 
-use crate::append::{append, append_byte, append_number, append_right_in_4};
+use crate::append::{append, append_byte, append_labelled, append_right_in_4};
 use crate::columns::KtColumns;
 use crate::etype::etype_text;
 use crate::key::key_text;
@@ -101,10 +101,8 @@ pub fn append_tail<N: Name, A: Allocator>(
     ensures capacity { vec_capacity out.old ≤ vec_capacity out.new }
     ensures full { OnErr result (HadNoRoom out.old (entry_tail entry.now)) }
 {
-    append(b" kvno ", out)?;
-    append_number(entry.kvno, out)?;
-    append(b" etype ", out)?;
-    append_number(entry.enctype as u32, out)?;
+    append_labelled(b" kvno ", entry.kvno, out)?;
+    append_labelled(b" etype ", entry.enctype as u32, out)?;
     append_byte(b' ', out)?;
     write_name(entry.principal, out)?;
     append_byte(b'\n', out)
@@ -117,9 +115,7 @@ pub fn append_fault<A: Allocator>(fault: Fault, out: &mut Vec<u8, A>) -> Result<
     ensures capacity { vec_capacity out.old ≤ vec_capacity out.new }
     ensures full { OnErr result (HadNoRoom out.old (fault_text fault)) }
 {
-    append(b"fault ", out)?;
-    append_number(fault.kind.number(), out)?;
-    append(b" at ", out)?;
-    append_number(fault.place, out)?;
+    append_labelled(b"fault ", fault.kind.number(), out)?;
+    append_labelled(b" at ", fault.place, out)?;
     append_byte(b'\n', out)
 }

@@ -8,7 +8,7 @@ ghost use Rattle.krb_keytab.specs.Entry.{entry_at};
 ghost use Rattle.krb_text.specs.Line.{fault_text};
 ghost use Rattle.krb_text.specs.Reply.{walk_line, number_line, given_tail, reply_text, reply_texts, format_after};
 
-use crate::append::{append, append_byte, append_number};
+use crate::append::{append_byte, append_labelled};
 use crate::line::{append_fault, append_tail};
 use krb_keytab::read_entry;
 use krb_walk::{Fault, Reply};
@@ -26,19 +26,8 @@ fn append_number_line<A: Allocator>(
     ensures capacity { vec_capacity out.old ≤ vec_capacity out.new }
     ensures full { OnErr result (HadNoRoom out.old (number_line label.now number)) }
 {
-    append(label, out)?;
-    append_number(number, out)?;
+    append_labelled(label, number, out)?;
     append_byte(b'\n', out)
-}
-
-fn append_walk<A: Allocator>(walk: u32, out: &mut Vec<u8, A>) -> Result<(), NoMemory>
-    ensures ok { OnOk result (out.new.items ≡ out.old.items ++ (codes "walk " ++ decimal walk)) }
-    ensures err { OnErr result (Grew out.old.items out.new.items) }
-    ensures capacity { vec_capacity out.old ≤ vec_capacity out.new }
-    ensures full { OnErr result (HadNoRoom out.old (codes "walk " ++ decimal walk)) }
-{
-    append(b"walk ", out)?;
-    append_number(walk, out)
 }
 
 // Where a walk stands.
@@ -54,7 +43,7 @@ fn append_place<A: Allocator>(
     ensures capacity { vec_capacity out.old ≤ vec_capacity out.new }
     ensures full { OnErr result (HadNoRoom out.old (walk_line walk (number_line label.now next))) }
 {
-    append_walk(walk, out)?;
+    append_labelled(b"walk ", walk, out)?;
     append_number_line(label, next, out)
 }
 
@@ -70,7 +59,7 @@ fn append_walk_fault<A: Allocator>(
     ensures capacity { vec_capacity out.old ≤ vec_capacity out.new }
     ensures full { OnErr result (HadNoRoom out.old (walk_line walk (codes " " ++ fault_text fault))) }
 {
-    append_walk(walk, out)?;
+    append_labelled(b"walk ", walk, out)?;
     append_byte(b' ', out)?;
     append_fault(fault, out)
 }
@@ -111,11 +100,9 @@ fn append_gave<A: Allocator>(
         (walk_line walk (codes " gave " ++ (decimal place ++ (codes " next "
         ++ (decimal next ++ given_tail (entry_at format bytes.now))))))) }
 {
-    append_walk(walk, out)?;
-    append(b" gave ", out)?;
-    append_number(place, out)?;
-    append(b" next ", out)?;
-    append_number(next, out)?;
+    append_labelled(b"walk ", walk, out)?;
+    append_labelled(b" gave ", place, out)?;
+    append_labelled(b" next ", next, out)?;
     append_given(format, bytes, out)
 }
 
