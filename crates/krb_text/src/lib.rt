@@ -25,8 +25,6 @@ mod pieces;
 mod reply;
 mod script;
 mod slots;
-#[cfg(test)]
-mod tests;
 mod time;
 mod watched;
 mod word;

@@ -49,17 +49,3 @@ pub fn put<W: Write>(out: &mut Watched<W>, bytes: &[u8]) -> Result<(), OutFault>
     }
     Ok(())
 }
-
-#[cfg(test)]
-mod tests {
-    use super::*;
-    use std::test::Fail;
-
-    #[test]
-    fn writes_behind_what_is_there(rt: HostRuntime) -> Result<(), Fail> {
-        let mut out = Vec::from_slice(rt.alloc(), b"old ")?;
-        assert!(rt; put(&mut Watched::new(&mut out), b"text") == Ok(()));
-        assert!(rt; out.as_slice() == b"old text".as_slice());
-        Ok(())
-    }
-}

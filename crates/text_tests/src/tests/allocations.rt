@@ -2,7 +2,7 @@
 
 use super::keytabs::{B, HEAD, HOST, opened};
 use super::ktutil::{ADD_HOST, KEY};
-use crate::{
+use krb_text::{
     Files, Ktutil, LineEnd, LoadFault, MemFiles, SaveFault, ScriptRefusal, etype_text,
     flag_letters, found_text, key_text, parse_script, reply_line, reply_lines, time_text,
 };

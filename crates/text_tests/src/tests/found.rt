@@ -1,5 +1,5 @@
-use crate::found_text;
 use krb_keytab::read_entry;
+use krb_text::found_text;
 use krb_wire::KtFormat;
 use std::test::Fail;
 

@@ -1,4 +1,4 @@
-use crate::{reply_line, reply_lines};
+use krb_text::{reply_line, reply_lines};
 use krb_walk::{Code, Fault, FaultKind, Reply};
 use krb_wire::{KtFormat, Order};
 use std::alloc::Global;

@@ -1,6 +1,6 @@
 use super::keytabs::{HEAD, HOST, opened};
-use crate::{LineFault, ScriptRefusal, parse_script};
 use krb_keytab::NewEntry;
+use krb_text::{LineFault, ScriptRefusal, parse_script};
 use krb_walk::{Event, Session};
 use std::alloc::{Allocator, Global};
 use std::test::Fail;

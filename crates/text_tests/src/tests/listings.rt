@@ -1,5 +1,5 @@
 use super::keytabs::{ALL, HEAD, HOST, opened};
-use crate::{Watched, list_keytab};
+use krb_text::{Watched, list_keytab};
 use std::test::Fail;
 
 /// Lines of more than one large write, behind what was written before.

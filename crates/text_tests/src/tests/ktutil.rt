@@ -1,5 +1,5 @@
 use super::keytabs::{B, HEAD, HOST};
-use crate::{Ktutil, LineEnd, LineFault, MemFiles, file_word};
+use krb_text::{Ktutil, LineEnd, LineFault, MemFiles, file_word};
 use krb_walk::Code;
 use krb_wire::Order;
 use std::alloc::Global;

@@ -1,5 +1,5 @@
-use crate::KtColumns;
 use krb_keytab::Keytab;
+use krb_text::KtColumns;
 use krb_wire::{Limits, Order};
 use std::alloc::Global;
 use std::test::Fail;

@@ -1,0 +1,16 @@
+//! Listings, found entries, replies, scripts, the lines of ktutil, and the texts in them. Images and texts are spelled
+//! out by hand.
+
+mod allocations;
+mod etypes;
+mod files;
+mod found;
+mod keys;
+mod keytabs;
+mod ktutil;
+mod listings;
+mod numbers;
+mod outputs;
+mod replies;
+mod scripts;
+mod times;
