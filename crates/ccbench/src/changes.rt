@@ -92,7 +92,7 @@ pub fn remove_all<A: Allocator>(cache: &mut Ccache<A>, places: &[u32]) -> Result
 }
 
 /// Sets that many configuration values, each under a key of its own.
-pub fn set_all<A: Allocator>(
+pub fn set_all<A: Allocator + Copy>(
     alloc: Global,
     cache: &mut Ccache<A>,
     settings: u32,

@@ -39,7 +39,28 @@ pub fn find_settings<A: Allocator>(alloc: A, version: Version, bytes: &[u8]) -> 
     Some(slots)
 }
 
-// Whether the entry of a slot is asked for.
+// Whether the credential at a place is asked for.
+#[inline(never)]
+fn is_asked_at(
+    version: Version,
+    owner: &PrincipalView<'_>,
+    key: &[u8],
+    principal: Option<&[u8]>,
+    cells: &[u8],
+    place: usize,
+) -> bool
+    requires { place ≤ length cells.now }
+    ensures { (c : CredParts) (rest : List ℕ) → credential_at version (drop place cells.now) ≡ Some (c, rest)
+        → result ≡ is_asked owner.now key.now (option_copied principal.entry) c }
+{
+    match read_asked(version, owner, key, principal, tail(cells, place)) {
+        Some((is_asked, _)) => is_asked,
+        None => false,
+    }
+}
+
+// Whether the entry of a slot is asked for. Only one with the fingerprint of what is asked for is read.
+#[inline(always)]
 fn is_asked_in(
     version: Version,
     owner: &PrincipalView<'_>,
@@ -57,19 +78,11 @@ fn is_asked_in(
     if slot.print != print {
         return false;
     }
-    match read_asked(
-        version,
-        owner,
-        key,
-        principal,
-        tail(cells, slot.place as usize),
-    ) {
-        Some((is_asked, _)) => is_asked,
-        None => false,
-    }
+    is_asked_at(version, owner, key, principal, cells, slot.place as usize)
 }
 
 // The first entry from a slot on that is asked for.
+#[inline(never)]
 fn find_asked(
     version: Version,
     owner: &PrincipalView<'_>,
