@@ -1,17 +1,20 @@
 //! Where the configuration entries of a cache stand, remembered where there is memory for it.
 
-ghost use Rattle.std.specs.Prelude.{◌≡◌, ℕ, ◌≤◌, ◌<◌, ◌^◌, List, ◌∷◌, ◌++◌, length, drop, take, Some, option_copied, vec_len, IfSome, IfNone};
+ghost use Rattle.std.specs.Prelude.{◌≡◌, ℕ, ◌≤◌, ◌<◌, ◌^◌, List, ◌∷◌, ◌++◌, length, get_or, drop, take, Some, option_copied, vec_len, IsSome, IfSome, IfNone};
 ghost use Rattle.krb_ccache.specs.Config.{is_asked};
 ghost use Rattle.krb_ccache.specs.Credential.{CredParts, credential_at};
-ghost use Rattle.krb_ccache.specs.Store.{PlacedCredential};
+ghost use Rattle.krb_ccache.specs.Store.{PlacedCredential, credential_at_place};
+ghost use Rattle.krb_ccache.specs.Changes.{with_mark};
+ghost use Rattle.krb_ccache.specs.Open.{held_by, Holds, IsImage};
 ghost use Rattle.krb_ccache.specs.SetConfig.{marked_texts};
-ghost use Rattle.krb_ccache.specs.Slots.{name_print, slot_of, slots_of, Knows, cells_in, settings_in, NoneAsked, IsFirstAsked, MarksEntry, RemembersEntry, Follows};
+ghost use Rattle.krb_ccache.specs.Slots.{name_print, slot_of, slots_of, Knows, cells_in, settings_in, NoneAsked, IsFirstAsked, MarksEntry, RemembersEntry, Follows, HasNoPlace, FollowsMark};
 
 use crate::asked::{mark_asked, read_asked};
 use crate::cells::{Cells, bytes_fit};
 use crate::config::names_config;
 use crate::cred::Cred;
-use crate::mark::mark;
+use crate::mark::{mark, mark_cell};
+use crate::open::Head;
 use crate::slot::{Slot, name_print, slot_at};
 use crate::version::Version;
 use krb_wire::{PrincipalView, tail};
@@ -215,4 +218,49 @@ pub fn follow_stored<A: Allocator, B: Allocator>(known: &mut Option<Vec<Slot, A>
     if names_config(&cred.server) {
         *known = None;
     }
+}
+
+// The index of the slot with a place.
+fn index_of(slots: &[Slot], place: usize) -> Option<usize>
+    ensures some { IfSome result (λ i. i < length slots.now) }
+    ensures there { IfSome result (λ i. (slot : Slot) → (get_or slots.now i slot).place ≡ place) }
+    ensures none { IfNone result (HasNoPlace slots.now place) }
+{
+    for i in 0..slots.len() {
+        if slots[i].place as usize == place {
+            return Some(i);
+        }
+    }
+    None
+}
+
+// Forgets the slot of a credential at a place, which is marked.
+fn follow_removed<A: Allocator>(known: &mut Option<Vec<Slot, A>>, place: usize)
+    ensures { FollowsMark known.old place known.new }
+{
+    let Some(slots) = known else {
+        return;
+    };
+    if let Some(i) = index_of(slots, place) {
+        slots.remove(i);
+    }
+}
+
+/// Marks the live credential at a place of an image, and forgets its slot.
+pub fn mark_and_follow<A: Allocator>(
+    head: Head,
+    image: &mut [u8],
+    known: &mut Option<Vec<Slot, A>>,
+    place: usize,
+)
+    requires kept { IsImage head.version head.limit image.old head.places }
+    requires knows { Knows head.version (held_by head image.old).contents.cells known.old }
+    requires live { IsSome (credential_at_place (held_by head image.old) place) }
+    ensures marked { Holds head image.new (with_mark (held_by head image.old) place) }
+    ensures knows { Knows head.version (held_by head image.new).contents.cells known.new }
+    ensures len { length image.new ≡ length image.old }
+{
+    bytes_fit(image);
+    mark_cell(head, image, place);
+    follow_removed(known, place - head.places.first);
 }
