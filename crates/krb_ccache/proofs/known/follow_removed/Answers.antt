@@ -1,5 +1,5 @@
-use Rattle.std.proofs.Common.{◌≡◌, ◌<◌, ◌∷◌, ◌++◌, length, subst, ◌∙◌}
-use Rattle.krb_ccache.specs.Slots.{Knows, HasNoPlace}
+use Rattle.std.proofs.Common.{◌∷◌, ◌++◌, subst, ◌∙◌}
+use Rattle.krb_ccache.specs.Slots.{Knows}
 use Rattle.krb_ccache.proofs.SlotMarked.{slot_gone, slot_none}
 use Rattle.krb_ccache.proofs.known.follow_removed.Goals as goal
 

@@ -1,6 +1,5 @@
-use Rattle.std.proofs.Common.{◌≤◌, List, refl, sym, ap, subst, arith}
+use Rattle.std.proofs.Common.{refl, sym, subst, arith}
 use Rattle.krb_wire.proofs.Fields.{is_some_has}
-use Rattle.krb_ccache.specs.Credential.{CredParts}
 use Rattle.krb_ccache.specs.Store.{CacheState}
 use Rattle.krb_ccache.specs.Slots.{Knows}
 use Rattle.krb_ccache.proofs.SlotHeld.{mark_in, mark_known}
