@@ -20,9 +20,9 @@ use crate::version::Version;
 use krb_wire::{PrincipalView, tail};
 use std::alloc::Allocator;
 
-/// The slots of the live configuration entries among credentials, or none where memory is refused. Each credential
-/// is read once.
-pub fn find_settings<A: Allocator>(alloc: A, version: Version, bytes: &[u8]) -> Option<Vec<Slot, A>>
+// The slots of the live configuration entries among credentials, or none where memory is refused. Each credential
+// is read once.
+fn find_settings<A: Allocator>(alloc: A, version: Version, bytes: &[u8]) -> Option<Vec<Slot, A>>
     requires { length bytes.now ≤ 2 ^ 30 }
     ensures { Knows version (cells_in version bytes.now) result }
 {
