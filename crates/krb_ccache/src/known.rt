@@ -20,8 +20,11 @@ use crate::version::Version;
 use krb_wire::{PrincipalView, tail};
 use std::alloc::Allocator;
 
-// The slots of the live configuration entries among credentials, or none where memory is refused. Each credential
-// is read once.
+// So many entries are remembered, and no more: with many under one name the drop of each slot moves those behind it.
+const MOST: usize = 16_384;
+
+// The slots of the live configuration entries among credentials, or none where they are too many or memory is
+// refused. Each credential is read once.
 fn find_settings<A: Allocator>(alloc: A, version: Version, bytes: &[u8]) -> Option<Vec<Slot, A>>
     requires { length bytes.now ≤ 2 ^ 30 }
     ensures { Knows version (cells_in version bytes.now) result }
@@ -34,7 +37,7 @@ fn find_settings<A: Allocator>(alloc: A, version: Version, bytes: &[u8]) -> Opti
     };
     for (place, credential) in cells {
         if let Some(slot) = slot_at(place, &credential) {
-            if slots.push(slot).is_err() {
+            if slots.len() >= MOST || slots.push(slot).is_err() {
                 return None;
             }
         }
@@ -149,7 +152,7 @@ fn mark_known<A: Allocator>(
     }
 }
 
-/// Finds the slots of the live configuration entries where they are not known, and there is memory for them.
+/// Finds the slots of the live configuration entries where they are not known, if they can be remembered.
 pub fn learn<A: Allocator + Copy>(
     alloc: A,
     version: Version,
@@ -186,7 +189,8 @@ pub fn mark_settings<A: Allocator>(
     }
 }
 
-/// Remembers a new entry at a place, which is that after the last credential, or forgets all where memory is refused.
+/// Remembers a new entry at a place, which is that after the last credential, or forgets all where they are too many
+/// or memory is refused.
 pub fn remember<A: Allocator>(
     known: &mut Option<Vec<Slot, A>>,
     key: &[u8],
@@ -199,6 +203,10 @@ pub fn remember<A: Allocator>(
     let Some(slots) = known else {
         return;
     };
+    if slots.len() >= MOST {
+        *known = None;
+        return;
+    }
     let slot = Slot {
         print: name_print(key, principal),
         place: place as u32,
