@@ -94,17 +94,18 @@ int main(int argc, char **argv)
 {
 	krb5_ccache cache;
 	krb5_creds *all = NULL;
-	unsigned int stores, removals, settings, i;
+	unsigned int stores, removals, settings, keys, i;
 	size_t count = 0;
 	char *name;
 
-	if (argc != 5 && !(argc == 6 && strcmp(argv[5], "replace") == 0)) {
-		fputs("usage: mit_credentials FILE STORES REMOVALS SETTINGS [replace]\n", stderr);
+	if (argc != 6 && !(argc == 7 && strcmp(argv[6], "replace") == 0)) {
+		fputs("usage: mit_credentials FILE STORES REMOVALS SETTINGS KEYS [replace]\n", stderr);
 		return 2;
 	}
 	stores = strtoul(argv[2], NULL, 10);
 	removals = strtoul(argv[3], NULL, 10);
 	settings = strtoul(argv[4], NULL, 10);
+	keys = strtoul(argv[5], NULL, 10);
 	name = malloc(strlen(argv[1]) + 6);
 	if (name == NULL)
 		return 1;
@@ -124,7 +125,7 @@ int main(int argc, char **argv)
 	for (i = 1; i <= removals; i++)
 		must(krb5_cc_remove_cred(context, cache, 0, &all[count - i]), "remove_cred");
 	for (i = 0; i < settings; i++)
-		set(cache, i, argc == 6);
+		set(cache, i < keys ? i : keys - 1, argc == 7);
 	printf("%u stored, %u removed, %u set\n", stores, removals, settings);
 
 	while (count > 0)

@@ -91,13 +91,17 @@ pub fn remove_all<A: Allocator>(cache: &mut Ccache<A>, places: &[u32]) -> Result
     Ok(())
 }
 
-/// Sets that many configuration values, each under a key of its own.
-pub fn set_all<A: Allocator>(
+/// Sets that many configuration values, each under a key of its own as long as there are that many keys, and the
+/// others under the last.
+pub fn set_all<A: Allocator + Copy>(
     alloc: Global,
     cache: &mut Ccache<A>,
     settings: u32,
+    keys: u32,
 ) -> Result<(), Fault> {
+    let last = keys.saturating_sub(1);
     for number in 0..settings {
+        let number = number.min(last);
         let key = format!(in alloc; "bench{number:05}")?;
         if cache.set_config(key.as_bytes(), None, b"1").is_err() {
             return Err(Fault::Refused);

@@ -1,4 +1,4 @@
-//! Changes a credential cache file, for benchmarks and tests alone: `ccbench FILE STORES REMOVALS SETTINGS`.
+//! Changes a credential cache file, for benchmarks and tests alone: `ccbench FILE STORES REMOVALS SETTINGS [KEYS]`.
 #![tactic(auto)]
 
 mod changes;
@@ -32,7 +32,7 @@ fn change<R: rt::Files + AllocGlobal>(rt: &R, task: &Task) -> Result<usize, Faul
     let last = last_places(rt.alloc(), &cache, task.removals)?;
     store_all(rt.alloc(), &mut cache, task.stores)?;
     remove_all(&mut cache, &last)?;
-    set_all(rt.alloc(), &mut cache, task.settings)?;
+    set_all(rt.alloc(), &mut cache, task.settings, task.keys)?;
     write_over(rt, task.file.as_str(), cache.image())?;
     Ok(cache.image().len())
 }

@@ -24,4 +24,5 @@ pub mod SettingLemmas
 pub mod SettingHeld
 pub mod SlotLemmas
 pub mod SlotBytes
+pub mod SlotMarked
 pub mod SlotHeld

@@ -1,5 +1,5 @@
 -- For private contracts alone: where the configuration entries of a cache stand.
-use Rattle.std.specs.Prelude.{◌≡◌, ℕ, ◌+◌, ◌*◌, ◌%◌, List, [], ◌∷◌, ◌++◌, length, map, filter, fold, Bool, true, false, ◌&&◌, Option, Some, None, IfSome, Vec}
+use Rattle.std.specs.Prelude.{◌≡◌, ◌≢◌, ◌<◌, ℕ, get_or, ◌+◌, ◌*◌, ◌%◌, List, [], ◌∷◌, ◌++◌, length, map, filter, fold, Bool, true, false, ◌&&◌, Option, Some, None, IfSome, Vec}
 use Rattle.std.specs.List.{flat_map, AllByRecursion}
 use Rattle.krb_wire.specs.Spelling.{Parts}
 use Rattle.krb_walk.specs.Contents.{contents}
@@ -8,6 +8,7 @@ use Rattle.krb_ccache.specs.declared.slot.Slot.{Slot}
 use Rattle.krb_ccache.specs.Credential.{CredParts, credential}
 use Rattle.krb_ccache.specs.Store.{PlacedCredential, credentials_format, placed_from, is_live}
 use Rattle.krb_ccache.specs.Config.{ConfigParts, config_name, is_config, is_asked}
+use Rattle.krb_ccache.specs.Changes.{marked}
 use Rattle.krb_ccache.specs.SetConfig.{config_entry, marked_texts}
 use Rattle.krb_ccache.specs.Cells.{CellsFrom}
 
@@ -92,3 +93,13 @@ RemembersEntry old key text place new = (v : Version) (cs : List CredParts) (own
 -- with the credential what is remembered is all again
 abbrev pub Follows : {A : Type 0} → Option (Vec Slot A) → CredParts → Option (Vec Slot A) → Type 0
 Follows old c new = (v : Version) (cs : List CredParts) → Knows v cs old → Knows v (cs ++ c ∷ []) new
+
+-- ---- where a credential is marked
+
+-- none of the slots has that place
+abbrev pub HasNoPlace : List Slot → ℕ → Type 0
+HasNoPlace slots place = (i : ℕ) (slot : Slot) → i < length slots → (get_or slots i slot).place ≢ place
+
+-- with the mark on the credential at that place, what is remembered is all again
+abbrev pub FollowsMark : {A : Type 0} → Option (Vec Slot A) → ℕ → Option (Vec Slot A) → Type 0
+FollowsMark old place new = (v : Version) (before after : List CredParts) (c : CredParts) → Knows v (before ++ c ∷ after) old → place ≡ length (flat_map (credential v) before) → Knows v (before ++ marked c ∷ after) new

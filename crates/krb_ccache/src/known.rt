@@ -1,25 +1,31 @@
 //! Where the configuration entries of a cache stand, remembered where there is memory for it.
 
-ghost use Rattle.std.specs.Prelude.{◌≡◌, ℕ, ◌≤◌, ◌<◌, ◌^◌, List, ◌∷◌, ◌++◌, length, drop, take, Some, option_copied, vec_len, IfSome, IfNone};
+ghost use Rattle.std.specs.Prelude.{◌≡◌, ℕ, ◌≤◌, ◌<◌, ◌^◌, List, ◌∷◌, ◌++◌, length, get_or, drop, take, Some, option_copied, vec_len, IsSome, IfSome, IfNone};
 ghost use Rattle.krb_ccache.specs.Config.{is_asked};
 ghost use Rattle.krb_ccache.specs.Credential.{CredParts, credential_at};
-ghost use Rattle.krb_ccache.specs.Store.{PlacedCredential};
+ghost use Rattle.krb_ccache.specs.Store.{PlacedCredential, credential_at_place};
+ghost use Rattle.krb_ccache.specs.Changes.{with_mark};
+ghost use Rattle.krb_ccache.specs.Open.{held_by, Holds, IsImage};
 ghost use Rattle.krb_ccache.specs.SetConfig.{marked_texts};
-ghost use Rattle.krb_ccache.specs.Slots.{name_print, slot_of, slots_of, Knows, cells_in, settings_in, NoneAsked, IsFirstAsked, MarksEntry, RemembersEntry, Follows};
+ghost use Rattle.krb_ccache.specs.Slots.{name_print, slot_of, slots_of, Knows, cells_in, settings_in, NoneAsked, IsFirstAsked, MarksEntry, RemembersEntry, Follows, HasNoPlace, FollowsMark};
 
 use crate::asked::{mark_asked, read_asked};
 use crate::cells::{Cells, bytes_fit};
 use crate::config::names_config;
 use crate::cred::Cred;
-use crate::mark::mark;
+use crate::mark::{mark, mark_cell};
+use crate::open::Head;
 use crate::slot::{Slot, name_print, slot_at};
 use crate::version::Version;
 use krb_wire::{PrincipalView, tail};
 use std::alloc::Allocator;
 
-/// The slots of the live configuration entries among credentials, or none where memory is refused. Each credential
-/// is read once.
-pub fn find_settings<A: Allocator>(alloc: A, version: Version, bytes: &[u8]) -> Option<Vec<Slot, A>>
+// So many entries are remembered, and no more: with many under one name the drop of each slot moves those behind it.
+const MOST: usize = 16_384;
+
+// The slots of the live configuration entries among credentials, or none where they are too many or memory is
+// refused. Each credential is read once.
+fn find_settings<A: Allocator>(alloc: A, version: Version, bytes: &[u8]) -> Option<Vec<Slot, A>>
     requires { length bytes.now ≤ 2 ^ 30 }
     ensures { Knows version (cells_in version bytes.now) result }
 {
@@ -31,7 +37,7 @@ pub fn find_settings<A: Allocator>(alloc: A, version: Version, bytes: &[u8]) -> 
     };
     for (place, credential) in cells {
         if let Some(slot) = slot_at(place, &credential) {
-            if slots.push(slot).is_err() {
+            if slots.len() >= MOST || slots.push(slot).is_err() {
                 return None;
             }
         }
@@ -39,7 +45,28 @@ pub fn find_settings<A: Allocator>(alloc: A, version: Version, bytes: &[u8]) -> 
     Some(slots)
 }
 
-// Whether the entry of a slot is asked for.
+// Whether the credential at a place is asked for.
+#[inline(never)]
+fn is_asked_at(
+    version: Version,
+    owner: &PrincipalView<'_>,
+    key: &[u8],
+    principal: Option<&[u8]>,
+    cells: &[u8],
+    place: usize,
+) -> bool
+    requires { place ≤ length cells.now }
+    ensures { (c : CredParts) (rest : List ℕ) → credential_at version (drop place cells.now) ≡ Some (c, rest)
+        → result ≡ is_asked owner.now key.now (option_copied principal.entry) c }
+{
+    match read_asked(version, owner, key, principal, tail(cells, place)) {
+        Some((is_asked, _)) => is_asked,
+        None => false,
+    }
+}
+
+// Whether the entry of a slot is asked for. Only one with the fingerprint of what is asked for is read.
+#[inline(always)]
 fn is_asked_in(
     version: Version,
     owner: &PrincipalView<'_>,
@@ -57,19 +84,11 @@ fn is_asked_in(
     if slot.print != print {
         return false;
     }
-    match read_asked(
-        version,
-        owner,
-        key,
-        principal,
-        tail(cells, slot.place as usize),
-    ) {
-        Some((is_asked, _)) => is_asked,
-        None => false,
-    }
+    is_asked_at(version, owner, key, principal, cells, slot.place as usize)
 }
 
 // The first entry from a slot on that is asked for.
+#[inline(never)]
 fn find_asked(
     version: Version,
     owner: &PrincipalView<'_>,
@@ -133,7 +152,7 @@ fn mark_known<A: Allocator>(
     }
 }
 
-/// Finds the slots of the live configuration entries where they are not known, and there is memory for them.
+/// Finds the slots of the live configuration entries where they are not known, if they can be remembered.
 pub fn learn<A: Allocator + Copy>(
     alloc: A,
     version: Version,
@@ -170,7 +189,8 @@ pub fn mark_settings<A: Allocator>(
     }
 }
 
-/// Remembers a new entry at a place, which is that after the last credential, or forgets all where memory is refused.
+/// Remembers a new entry at a place, which is that after the last credential, or forgets all where they are too many
+/// or memory is refused.
 pub fn remember<A: Allocator>(
     known: &mut Option<Vec<Slot, A>>,
     key: &[u8],
@@ -183,6 +203,10 @@ pub fn remember<A: Allocator>(
     let Some(slots) = known else {
         return;
     };
+    if slots.len() >= MOST {
+        *known = None;
+        return;
+    }
     let slot = Slot {
         print: name_print(key, principal),
         place: place as u32,
@@ -202,4 +226,49 @@ pub fn follow_stored<A: Allocator, B: Allocator>(known: &mut Option<Vec<Slot, A>
     if names_config(&cred.server) {
         *known = None;
     }
+}
+
+// The index of the slot with a place.
+fn index_of(slots: &[Slot], place: usize) -> Option<usize>
+    ensures some { IfSome result (λ i. i < length slots.now) }
+    ensures there { IfSome result (λ i. (slot : Slot) → (get_or slots.now i slot).place ≡ place) }
+    ensures none { IfNone result (HasNoPlace slots.now place) }
+{
+    for i in 0..slots.len() {
+        if slots[i].place as usize == place {
+            return Some(i);
+        }
+    }
+    None
+}
+
+// Forgets the slot of a credential at a place, which is marked.
+fn follow_removed<A: Allocator>(known: &mut Option<Vec<Slot, A>>, place: usize)
+    ensures { FollowsMark known.old place known.new }
+{
+    let Some(slots) = known else {
+        return;
+    };
+    if let Some(i) = index_of(slots, place) {
+        slots.remove(i);
+    }
+}
+
+/// Marks the live credential at a place of an image, and forgets its slot.
+pub fn mark_and_follow<A: Allocator>(
+    head: Head,
+    image: &mut [u8],
+    known: &mut Option<Vec<Slot, A>>,
+    place: usize,
+)
+    requires kept { IsImage head.version head.limit image.old head.places }
+    requires knows { Knows head.version (held_by head image.old).contents.cells known.old }
+    requires live { IsSome (credential_at_place (held_by head image.old) place) }
+    ensures marked { Holds head image.new (with_mark (held_by head image.old) place) }
+    ensures knows { Knows head.version (held_by head image.new).contents.cells known.new }
+    ensures len { length image.new ≡ length image.old }
+{
+    bytes_fit(image);
+    mark_cell(head, image, place);
+    follow_removed(known, place - head.places.first);
 }

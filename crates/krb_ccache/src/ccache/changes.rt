@@ -16,8 +16,7 @@ use crate::append::append_credential;
 use crate::cells::bytes_fit;
 use crate::cred::Cred;
 use crate::front::{front_len, header_len, spell_front, tells_offset};
-use crate::known::follow_stored;
-use crate::mark::mark_cell;
+use crate::known::{follow_stored, mark_and_follow};
 use crate::offset::Offset;
 use crate::open::{Head, Places};
 use crate::version::Version;
@@ -79,8 +78,7 @@ impl<A: Allocator> Ccache<A> {
         ensures marked { self.new.state ≡ with_mark self.old.state place }
         ensures room { self.new.room ≡ self.old.room }
     {
-        mark_cell(self.head, &mut self.image, place as usize);
-        self.known = None;
+        mark_and_follow(self.head, &mut self.image, &mut self.known, place as usize);
     }
 
     /// Marks the credential at a place as removed: endtime 0 and the greatest authtime are written, and no other
