@@ -12,17 +12,13 @@ use Rattle.krb_walk.specs.Store.{end_from, end_of}
 use Rattle.krb_ccache.specs.declared.version.Version.{Version}
 use Rattle.krb_ccache.specs.Credential.{CredParts, credential, is_marked}
 use Rattle.krb_ccache.specs.Store.{CacheState, PlacedCredential, store_of, store_cell, first_place, placed_from, is_live, placed_credentials}
-use Rattle.krb_ccache.specs.Config.{is_asked, same_text}
+use Rattle.krb_ccache.specs.Config.{is_asked}
 use Rattle.krb_ccache.specs.Changes.{with_last}
 use Rattle.krb_ccache.specs.SetConfig.{config_entry, mark_asked, without_asked, set_config_result, HoldsConfig}
 use Rattle.krb_ccache.proofs.LastPlaced.{was_put}
 
 same_bytes : (b : List ℕ) → bytes_eq b b ≡ true
 same_bytes b = (bytes_eq-Decides b b).1 refl
-
-text_same : (text : Option (List ℕ)) → same_text text text ≡ true
-text_same None = refl
-text_same (Some t) = same_bytes t
 
 name_same : (p : Parts) → have_same_name p p ≡ true
 name_same p = sym (same_name_is p p true (λ e. (refl, refl)) (λ realm components. refl))

@@ -1,8 +1,7 @@
 -- What is written before the credentials of a new cache.
-use Rattle.std.proofs.Common.{◌≡◌, ℕ, ◌+◌, ◌<◌, ◌≤◌, true, false, Ok, Err, List, [], ◌∷◌, ◌++◌, length, Some, Option, None, refl, sym, ap, subst, ◌∙◌, length-append, arith}
+use Rattle.std.proofs.Common.{◌≡◌, ℕ, ◌+◌, ◌≤◌, false, Ok, List, [], ◌∷◌, ◌++◌, length, Some, Option, None, refl, sym, ap, subst, ◌∙◌, length-append, arith}
 use Rattle.std.specs.Prelude.{nat_lt}
-use Rattle.std.proofs.lemmas.Bool.{lt-ltb, le-ltb}
-use Rattle.krb_walk.specs.declared.refusal.Code.TheVariants.{Full}
+use Rattle.std.proofs.lemmas.Bool.{le-ltb}
 use Rattle.std.specs.Int.{w16, w32, cast_unsigned}
 use Rattle.std.proofs.lemmas.List.{append-nil}
 use Rattle.krb_wire.specs.declared.format.Order.TheVariants.{Big}
@@ -61,11 +60,6 @@ empty_held p offset limit image principal first fit fits is within small is_prin
     holds k _ image (empty_kept p offset limit fit (subst IsBytes is fits) within small) fits (is ∙ sym (front_is p offset limit))
     (ap (λ (n : ℕ). record { version = V4; limit = limit; places = record { principal = n; first = first; end = first } }) is_principal
     ∙ ap (λ (n : ℕ). record { version = V4; limit = limit; places = record { principal = 2 + length (header V4 (new_header offset)); first = n; end = n } }) place)
-
-pub create_full : (p : Parts) (offset : Option Offset) (limit : ℕ) → limit < length (new_front p offset) → create_result p offset limit ≡ Err Full
-create_full p offset limit long =
-    let full : nat_lt limit (length (image_of (empty p offset limit))) ≡ true = lt-ltb _ _ (omega (arith, long, ap length (front_is p offset limit))) in
-    rw full refl
 
 pub create_fits : (p : Parts) (offset : Option Offset) (limit : ℕ) → length (new_front p offset) ≤ limit → create_result p offset limit ≡ Ok (empty p offset limit)
 create_fits p offset limit short =

@@ -1,5 +1,5 @@
 -- The image of a cache is kept as that cache.
-use Rattle.std.proofs.Common.{◌≡◌, ℕ, ◌+◌, ◌≤◌, List, [], ◌∷◌, ◌++◌, length, get_or, drop, map, Option, Some, None, refl, sym, ap, subst, ◌∙◌, length-append, arith}
+use Rattle.std.proofs.Common.{◌≡◌, ℕ, ◌+◌, ◌≤◌, List, [], ◌∷◌, ◌++◌, length, drop, map, Option, Some, None, refl, sym, ap, subst, ◌∙◌, length-append, arith}
 use Rattle.std.specs.List.{flat_map, AllByRecursion}
 use Rattle.std.proofs.lemmas.List.{append-nil, drop_at, drop-drop, length-drop}
 use Rattle.std.specs.Int.{w16}
@@ -17,7 +17,7 @@ use Rattle.krb_ccache.specs.declared.open.Head.{Head}
 use Rattle.krb_ccache.specs.declared.open.Places.{Places}
 use Rattle.krb_ccache.specs.Credential.{CredParts, credential, credential_at, FitsCredential}
 use Rattle.krb_ccache.specs.Header.{Field, header, header_at, fields_in}
-use Rattle.krb_ccache.specs.Store.{CacheState, credentials_format, version_byte, image_of, store_cell, store_of, first_place}
+use Rattle.krb_ccache.specs.Store.{CacheState, credentials_format, image_of, store_cell, store_of, first_place}
 use Rattle.krb_ccache.specs.Open.{header_held, name_held, IsImage, held_by, Holds}
 use Rattle.krb_ccache.proofs.CredentialField.{credential_field}
 use Rattle.krb_ccache.proofs.HeaderFields.{fields_spell, header_takes, IsBytes-front, IsBytes-back}
@@ -95,9 +95,6 @@ places_of k = record { principal = 2 + length (header k.version k.header); first
 -- what is known of it
 abbrev pub head_of : CacheState → Head
 head_of k = record { version = k.version; limit = k.limit; places = places_of k }
-
-second_is : (v : Version) (limit : ℕ) (rest : List ℕ) → get_or (5 ∷ version_byte v ∷ rest) 1 0 ≡ version_byte v
-second_is v limit rest = refl
 
 pub kept_held : (k : CacheState) → IsKept k → IsBytes (image_of k) → Holds (head_of k) (image_of k) k
 kept_held k kept fits =

@@ -136,6 +136,3 @@ rewrites_store k whole = record {
   all_live = all_live k.contents.cells;
   as_many = as_many k.version k.contents.cells (first_place k) (first_place (rewrite_of k));
 }
-
-pub first_anew : (k : CacheState) (n : ℕ) → n ≡ length (new_front k.principal (offset_in k.header)) → n ≡ first_place (rewrite_of k)
-first_anew k n is = omega (arith, is, length-append (header V4 (new_header (offset_in k.header))) (cc_principal k.principal))

@@ -13,6 +13,10 @@ use crate::config::{FIRST, REALM};
 use krb_wire::{Name, Order, cc_principal_len, put_cc_principal, put_data32, put_u32};
 use std::marker::Model;
 
+// What an entry takes beside its client and the bytes of its key, principal and value: the lengths and the fixed texts of
+// its server, its empty key, its times and flags, and the lengths of its lists and tickets.
+const FIXED_LEN: usize = 96;
+
 /// A value that is to be held in a cache, and what it is held under.
 #[derive(Drop)]
 pub struct Setting<'a> {
@@ -88,7 +92,7 @@ impl<'a> Setting<'a> {
         ensures none { IfNone result (most < length (credential V4 (setting_entry (N.parts owner.now) self.now))) }
     {
         let _name_type = owner.name_type();
-        let room = most.checked_sub(96)?;
+        let room = most.checked_sub(FIXED_LEN)?;
         let room = room.checked_sub(cc_principal_len(owner)? as usize)?;
         let room = room.checked_sub(self.key.len())?;
         let room = room.checked_sub(text_len(self.principal))?;

@@ -8,7 +8,7 @@ use Rattle.std.specs.List.{list_all}
 use Rattle.std.proofs.lemmas.List.Sums.{AllPass-from_list_all, list_all-from_AllPass}
 use Rattle.hex.specs.declared.error.FromHexError.{FromHexError}
 use Rattle.hex.specs.Hex.{decode_of, is_hex_digit}
-use Rattle.hex.proofs.HexLemmas.{decode_of-ok, decode_of-odd, decode_of-digits}
+use Rattle.hex.proofs.HexLemmas.{decode_of-ok, decode_of-digits}
 use Rattle.krb_text.specs.Key.{is_key_size, key_in, sized}
 
 -- three ranges, in the orders of two tests
@@ -47,10 +47,6 @@ decodes text false even h =
 pub hexadecimal_even : (text : List ℕ) → length text % 2 ≡ 0 → list_all is_ascii_hexdigit text ≡ is_ok (decode_of text)
 hexadecimal_even text even = decodes text (list_all is_ascii_hexdigit text) even (sym (same_digits text))
 
--- and an odd number does not
-pub hexadecimal_odd : (text : List ℕ) → length text % 2 ≡ 1 → false ≡ is_ok (decode_of text)
-hexadecimal_odd text odd = sym (ap is_ok (decode_of-odd text odd))
-
 -- a value that is kept where a test passes
 is_some_sized : (b : Bool) (key : List ℕ) → b ≡ is_some (cond b (Some key) None)
 is_some_sized true key = refl
@@ -63,8 +59,3 @@ key_of_size etype text (Ok bytes) e h =
     let half : length text / 2 ≡ length bytes = omega (arith, twice) in
     ap (is_key_size etype) half ∙ is_some_sized (is_key_size etype (length bytes)) bytes ∙ sym (ap (λ (o : Result (List ℕ) FromHexError). is_some (sized etype (result_ok o))) e)
 key_of_size etype text (Err fault) e h = let no : false ≡ true = h in cc
-
--- what does not decode is no key
-pub no_key : (etype : ℕ) (text : List ℕ) (r : Result (List ℕ) FromHexError) → decode_of text ≡ r → is_ok r ≡ false → false ≡ is_some (key_in etype text)
-no_key etype text (Ok bytes) e h = let no : true ≡ false = h in cc
-no_key etype text (Err fault) e h = sym (ap (λ (o : Result (List ℕ) FromHexError). is_some (sized etype (result_ok o))) e)

@@ -1,9 +1,8 @@
 -- The first word of a line, and the words after it.
 use Rattle.std.proofs.Common.{◌≡◌, ℕ, zero, suc, ◌<◌, ◌≤◌, Bool, true, false, not, get_or, List, [], ◌∷◌, ◌++◌, length, take, drop, map, refl, sym, ap, subst, ◌∙◌, cond, arith}
-use Rattle.std.specs.Prelude.{filter, reverse, ◌==◌, ◌&&◌}
+use Rattle.std.specs.Prelude.{filter, ◌==◌, ◌&&◌}
 use Rattle.std.specs.List.{concat, slice_split, onto_first}
 use Rattle.std.proofs.lemmas.Bool.{eqb-true}
-use Rattle.std.proofs.lemmas.List.{reverse-append, reverse-reverse}
 use Rattle.krb_text.specs.KtutilWords.{is_blank, pieces, is_gap, parts, is_word, words, unindented, size_from, word_size}
 
 -- a backslash is no blank
@@ -155,8 +154,3 @@ pub size_from-step : (text : List ℕ) (i : ℕ) (quoted : Bool) → i < length 
 size_from-step [] i quoted lt e = absurd (omega arith)
 size_from-step (b ∷ bs) zero quoted lt e = size_from-cons b bs quoted e
 size_from-step (b ∷ bs) (suc i) quoted lt e = size_from-step bs i quoted (omega arith) e
-
--- a text whose last byte is a blank, and one whose last byte is none
-trimmed_end : (t : Bool) (before : List ℕ) (b : ℕ) → is_blank b ≡ t → reverse (cond t (unindented (reverse before)) (b ∷ reverse before)) ≡ cond t (reverse (unindented (reverse before))) (before ++ b ∷ [])
-trimmed_end true before b e = refl
-trimmed_end false before b e = sym (ap reverse (reverse-append before (b ∷ []))) ∙ reverse-reverse (before ++ b ∷ [])

@@ -208,14 +208,6 @@ pub get_push_cond : (b : Bool) (cursors : List ℕ) (p w d : ℕ) → slice_get 
 get_push_cond true cursors p w d h = get-append cursors (p ∷ []) w d h
 get_push_cond false cursors p w d h = h
 
-pub plain_reply : {S I : Type 0} (r : Rules S I) (s : SessionState S) (e : Event I) → (e ≡ Rewrite → is_rewritten (reply_to r s e) ≡ false) → is_rewritten (reply_to r s e) ≡ false
-plain_reply r s Start h = plain_cond (nat_lt (length s.cursors) 1024) _ _ refl refl
-plain_reply r s (Resume p) h = plain_cond (nat_lt (length s.cursors) 1024) _ _ (plain_cond (is_place (r.seen s.store) p) _ _ refl refl) refl
-plain_reply r s (Step v) h = plain_step (r.seen s.store) v (slice_get s.cursors v)
-plain_reply r s (Put item) h = plain_put (r.put s.store item)
-plain_reply r s (Cut p) h = plain_cut p (r.cut s.store p)
-plain_reply r s Rewrite h = h refl
-
 -- what a step of the walk is answered
 answered_none : (s : Store) (w c : ℕ) (fault : Option FaultKind) → next_live s c ≡ None → s.fault ≡ fault → AnswersStep s w c (end_said w (end_of s) fault) (end_of s)
 answered_none s w c None is e = (refl, is, e, refl, refl)

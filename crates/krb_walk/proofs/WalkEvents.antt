@@ -72,9 +72,6 @@ answered s w c (Gone p) to a = absurd a
 answered s w c (Rewritten p) to a = absurd a
 answered s w c (Refused code) to a = absurd a
 
-pub answered_own : (s : Store) (w c : ℕ) (told : Said) (to : ℕ) → AnswersStep s w c told to → tells_step w told ≡ true
-answered_own s w c told to a = (answered s w c told to a).own
-
 goes_by : (x : WalkEvent) (at : ℕ) (to : Option ℕ) → x.stepped ≡ true → x.from ≡ Some at → x.to ≡ to → IsSomeAnd to (AnswersStep x.before x.walk at x.reply) → Advances x
 goes_by x at (Some d) step stood is a =
     let told = answered x.before x.walk at x.reply d a in
