@@ -73,24 +73,17 @@ fn append_listing<A: Allocator, B: Allocator>(
 }
 
 /// Appends the listing of entries in slots: a heading, and a line for each entry with its slot.
-pub fn list_slots<A: Allocator, B: Allocator>(
-    entries: &[NewEntry<B>],
+pub fn list_slots<A: Allocator>(
+    alloc: A,
+    entries: &[NewEntry<A>],
     columns: KtColumns,
     out: &mut Vec<u8, A>,
 ) -> Result<(), NoMemory>
     ensures ok { OnOk result (out.new.items ≡ out.old.items ++ slot_text columns entries.now) }
     ensures err { OnErr result (out.new.items ≡ out.old.items) }
     ensures capacity { vec_capacity out.old ≤ vec_capacity out.new }
-
-    // It is out of memory only where the text does not fit into the room that there was.
-    ensures full { OnErr result (HadNoRoom out.old (slot_text columns entries.now)) }
 {
-    let len = out.len();
-    match append_listing(entries, columns, out) {
-        Ok(()) => Ok(()),
-        Err(_) => {
-            out.truncate(len);
-            Err(NoMemory)
-        }
-    }
+    let mut text = Vec::new(alloc);
+    append_listing(entries, columns, &mut text)?;
+    append(&text, out)
 }

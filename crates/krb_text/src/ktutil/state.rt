@@ -78,7 +78,7 @@ impl<A: Allocator + Copy> Ktutil<A> {
         let Some(columns) = columns(rest) else {
             return LineEnd::Fault(LineFault::WordCount);
         };
-        match list_slots(&self.entries, columns, out) {
+        match list_slots(self.alloc, &self.entries, columns, out) {
             Ok(()) => LineEnd::Done,
             Err(_) => LineEnd::NoMemory,
         }
