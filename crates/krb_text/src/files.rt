@@ -3,6 +3,7 @@
 ghost use Rattle.std.specs.Prelude.{◌≡◌, ◌≤◌, ◌⊎◌, ℕ, ◌-◌, ◌^◌, List, Result, Ok, Err, OnOk, OnErr, IfOk, IfErr, IsErrOf};
 ghost use Rattle.krb_text.specs.Files.{FileMap, SameFiles, SetsFile, CountsFailure, answer_of, loaded};
 
+use crate::cause::Cause;
 use std::alloc::Allocator;
 use thiserror::Error;
 
@@ -49,6 +50,17 @@ pub trait Files {
     /// What a save of these bytes under that name may answer, and what it leaves, honest or not.
     ghost saves: { Self → List ℕ → List ℕ → Result (Unit {0}) SaveFault → Self → Type 0 };
 
+    /// Keeps other programs from changing the file of that name, until it is saved or released. Where that
+    /// cannot be done, or another program changes the file all the same, the save fails.
+    fn hold(&mut self, _name: &str)
+        ensures { self.new ≡ self.old }
+    {}
+
+    /// Leaves the file that is held, if there is one, to other programs.
+    fn release(&mut self)
+        ensures { self.new ≡ self.old }
+    {}
+
     /// The bytes of a file, if they are at most `limit`.
     fn load<A: Allocator>(
         &mut self,
@@ -89,4 +101,9 @@ pub trait Files {
     /// How many calls failed, as far as a u64 counts.
     fn failures(&self) -> u64
         ensures { result ≡ failure_count self.now };
+
+    /// What the last call that answered `Failed` failed with, where that is known.
+    fn cause(&self) -> Option<Cause> {
+        None
+    }
 }

@@ -4,6 +4,7 @@
 mod addition;
 mod append;
 mod cache_listing;
+mod cause;
 mod columns;
 mod command;
 mod credential;
@@ -30,6 +31,7 @@ mod watched;
 mod word;
 
 pub use cache_listing::list_cache;
+pub use cause::Cause;
 pub use columns::{CcColumns, KtColumns};
 pub use etype::{etype_of, etype_text, key_size};
 pub use files::{Files, LoadFault, SaveFault};

@@ -70,8 +70,8 @@ impl<A: Allocator + Copy> Ktutil<A> {
         }
     }
 
-    // Adds the list to a file.
-    pub(crate) fn write<F: Files>(&self, files: &mut F, name: &str) -> LineEnd
+    // Adds the list to a file that is held.
+    fn write_held<F: Files>(&self, files: &mut F, name: &str) -> LineEnd
         ensures { HandlesQuietly F.Files (command_plan self.now (Ok (WriteFile name.now)))
             files.old files.new self.now self.now result }
     {
@@ -79,5 +79,16 @@ impl<A: Allocator + Copy> Ktutil<A> {
             Ok(keytab) => write_to(self.alloc, &self.entries, files, name, keytab),
             Err(ending) => ending,
         }
+    }
+
+    // Adds the list to a file.
+    pub(crate) fn write<F: Files>(&self, files: &mut F, name: &str) -> LineEnd
+        ensures { HandlesQuietly F.Files (command_plan self.now (Ok (WriteFile name.now)))
+            files.old files.new self.now self.now result }
+    {
+        files.hold(name);
+        let ending = self.write_held(files, name);
+        files.release();
+        ending
     }
 }
