@@ -19,7 +19,7 @@ use Rattle.krb_text.specs.declared.files.LoadFault.{LoadFault}
 use Rattle.krb_commands.specs.Input.{input_run}
 use Rattle.krb_commands.specs.InputLines.{lines_of}
 use Rattle.krb_commands.specs.KtutilTalk.{Talk, quiet_run, line_end_run, goes_on, AreFirst, Continues, Stops, TalksOver}
-use Rattle.krb_commands.specs.KtutilDue.{TalkDue, last_due, due_after, talk_due, GivesLines, LeavesDue, LeavesDueUnlessFailed, TalksHonestly}
+use Rattle.krb_commands.specs.KtutilDue.{TalkDue, last_due, due_after, talk_due, GivesLines, LeavesDueUnlessFailed, TalksHonestly}
 use Rattle.krb_commands.specs.Runs.{Run, Says, EndsRun, memory_run}
 use Rattle.krb_commands.proofs.Ends.{Says-nothing}
 use Rattle.krb_commands.proofs.QuietRuns.{unread_is_told}

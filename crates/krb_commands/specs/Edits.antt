@@ -1,7 +1,8 @@
 -- What the steps of ktedit leave.
-use Rattle.std.specs.Prelude.{◌≡◌, ◌⊎◌, ℕ, List, [], if◌then◌else◌, codes, Option, None, Some, Result, Ok, Err}
+use Rattle.std.specs.Prelude.{◌≡◌, ◌⊎◌, ℕ, Bool, true, false, List, [], if◌then◌else◌, codes, Option, None, Some, Result, Ok, Err}
 use Rattle.krb_wire.specs.declared.format.Order.{Order}
 use Rattle.krb_walk.specs.declared.event.Event.{Event}
+use Rattle.krb_walk.specs.declared.event.Event.TheVariants as event
 use Rattle.krb_walk.specs.History.{replies, state_after}
 use Rattle.krb_walk.specs.Ran.{Ran}
 use Rattle.krb_keytab.specs.Edit.{new_session}
@@ -14,6 +15,13 @@ use Rattle.krb_commands.specs.declared.ktedit.Edited.{Edited}
 use Rattle.krb_commands.specs.Ktedit.{moments, keytab_after, is_changed, reply_lines, edit_run, keytab_loaded, Loads}
 use Rattle.krb_commands.specs.Messages.{message}
 use Rattle.krb_commands.specs.Runs.{Run, Says}
+
+-- an event that may change a keytab
+abbrev pub may_change : {I : Type 0} → Event I → Bool
+may_change (event.Put item) = true
+may_change (event.Cut place) = true
+may_change event.Rewrite = true
+may_change event = false
 
 -- what is saved of an edited keytab
 abbrev pub saved_of : {A : Type 0} → Edited A → Option (List ℕ)

@@ -5,7 +5,7 @@ ghost use Rattle.std.specs.List.{list_any};
 ghost use Rattle.krb_wire.specs.declared.format.KtFormat.TheVariants.{V2};
 ghost use Rattle.krb_walk.specs.Said.{said};
 ghost use Rattle.krb_keytab.specs.Store.{empty};
-ghost use Rattle.krb_commands.specs.Edits.{saved_of, run_of, IsEdited, OpensToEdit, EndsUnedited};
+ghost use Rattle.krb_commands.specs.Edits.{may_change, saved_of, run_of, IsEdited, OpensToEdit, EndsUnedited};
 ghost use Rattle.krb_commands.specs.Loading.{most_bytes};
 ghost use Rattle.krb_commands.specs.Ktedit.{is_change, is_trouble, SavesDue, EditsFile, RunsEdit};
 ghost use Rattle.krb_commands.specs.Messages.{message};
@@ -117,7 +117,7 @@ fn show<W: Write, E: Write>(
     status
 }
 
-// Saves what was changed, and shows the replies.
+// Saves what was changed, leaves the file, as who reads the replies may be slow, and shows them.
 fn finish<A: Allocator, F: Files, W: Write, E: Write>(
     edited: &Edited<A>,
     file: &str,
@@ -135,24 +135,32 @@ fn finish<A: Allocator, F: Files, W: Write, E: Write>(
             return refuse_save(file.as_bytes(), fault, err);
         }
     }
+    files.release();
     show(&edited.text, edited.status, out, err)
 }
 
 // A new keytab of version 2.
-fn create<A: Allocator, E: Write>(alloc: A, err: &mut Watched<E>) -> Result<Keytab<A>, u8>
+fn create<A: Allocator, F: Files, E: Write>(
+    alloc: A,
+    files: &mut F,
+    err: &mut Watched<E>,
+) -> Result<Keytab<A>, u8>
+    ensures same { files.new ≡ files.old }
     ensures ok { IfOk result (λ keytab. (keytab.state ≡ empty V2 most_bytes) × (err.new ≡ err.old)) }
     ensures err { IfErr result (λ status. (status ≡ 4) × Says err.old err.new (message (codes "out of memory"))) }
 {
     match Keytab::create(alloc, KtFormat::V2, Limits::usual()) {
         Ok(keytab) => Ok(keytab),
         Err(_) => {
+            files.release();
             complain(err, "out of memory");
             Err(4)
         }
     }
 }
 
-// The keytab of that name; a missing file begins as an empty keytab of version 2.
+// The keytab of that name; a missing file begins as an empty keytab of version 2. Where there is none, the file
+// is left before that is said.
 fn open_or_create<A: Allocator + Copy, F: Files, E: Write>(
     alloc: A,
     v1_order: Order,
@@ -169,20 +177,41 @@ fn open_or_create<A: Allocator + Copy, F: Files, E: Write>(
         Ok(image) => match Keytab::open(image, v1_order, Limits::usual()) {
             Ok(keytab) => Ok(keytab),
             Err(refused) => {
+                files.release();
                 refuse_keytab(file.as_bytes(), refused.why, err);
                 Err(1)
             }
         },
         Err(fault) => match fault {
-            LoadFault::Missing => create(alloc, err),
+            LoadFault::Missing => create(alloc, files, err),
             LoadFault::TooLarge | LoadFault::Failed | LoadFault::NoMemory => {
+                files.release();
                 Err(refuse_load(file.as_bytes(), fault, err))
             }
         },
     }
 }
 
-// Runs events over the file of that name.
+// Whether an event may change a keytab.
+fn may_change<I>(event: &Event<I>) -> bool
+    ensures { result ≡ may_change event.now }
+{
+    match event {
+        Event::Put(_) | Event::Cut(_) | Event::Rewrite => true,
+        Event::Start | Event::Resume(_) | Event::Step(_) => false,
+    }
+}
+
+// Holds the file of that name where some event may change it.
+fn hold_to_change<F: Files, I>(files: &mut F, file: &str, events: &[Event<I>])
+    ensures { files.new ≡ files.old }
+{
+    if events.iter().any(may_change) {
+        files.hold(file);
+    }
+}
+
+// Runs events over the file of that name, which is held meanwhile.
 fn edit_file<A: Allocator + Copy, F: Files, W: Write, E: Write>(
     alloc: A,
     v1_order: Order,
@@ -196,6 +225,7 @@ fn edit_file<A: Allocator + Copy, F: Files, W: Write, E: Write>(
     ensures { EditsFile F.Files file.now out.old out.new err.old err.new result
         v1_order events.now files.old files.new }
 {
+    hold_to_change(files, file, events);
     let keytab = match open_or_create(alloc, v1_order, file, files, err) {
         Ok(keytab) => keytab,
         Err(status) => return status,
@@ -203,6 +233,7 @@ fn edit_file<A: Allocator + Copy, F: Files, W: Write, E: Write>(
     match edit(alloc, keytab, events) {
         Ok(edited) => finish(&edited, file, files, out, err),
         Err(NoMemory) => {
+            files.release();
             complain(err, "out of memory");
             4
         }
