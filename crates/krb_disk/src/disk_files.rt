@@ -1,71 +1,136 @@
 //! The files of a disk.
 
-ghost use Rattle.std.specs.Prelude.{◌≡◌, ◌≤◌, ℕ, None};
+ghost use Rattle.std.specs.Prelude.{◌≡◌, ◌≤◌, ◌<◌, None, IfOk, IsSome, vec_len};
 ghost use Rattle.krb_text.specs.Files.{CountsFailure};
-ghost use Rattle.krb_disk.specs.DiskFiles.{AnswersFromDisk, SavesToDisk};
+ghost use Rattle.krb_disk.specs.DiskFiles.{Failures, AnswersFromDisk, SavesToDisk};
 
+use crate::fault::{DiskFault, ReadFault};
+use crate::hold::Hold;
+use crate::lock::TakeLock;
 use crate::owner::SetOwner;
-use crate::save::save_file;
-use krb_commands::load;
-use krb_text::{Files, LoadFault, SaveFault};
+use crate::read::read_file;
+use krb_text::{Cause, Files, LoadFault, SaveFault};
 use std::alloc::Allocator;
-use std::fs::OpenFile;
 use std::marker::Model;
-use std::{fs, io, rt};
+use std::rt;
 
-/// The files of a disk. Nothing is known of what they hold; contracts see how many calls failed. A load
-/// reads the whole file. A save makes a new file of the bytes, which then takes the name: whatever fails,
-/// the file is the old or the new one.
+/// The files of a disk. Nothing is known of what they hold; contracts see how many calls failed, and what the
+/// last of them failed with. A load reads the whole file. A save makes a new file of the bytes, which then takes the name: whatever fails,
+/// the file is the old or the new one. A file that is held is saved only while it is as it was loaded.
 #[derive(Drop)]
-pub struct DiskFiles<'a, R> {
+pub struct DiskFiles<'a, R: rt::Files + Alloc> {
     rt: &'a R,
     failures: u64,
+    cause: Option<Cause>,
+    /// The file that is held, or why it is not, and cannot be saved.
+    held: Option<Result<Hold<R>, DiskFault>>,
 }
 
-impl<'a, R> Model for DiskFiles<'a, R> {
-    ghost Value = { ℕ };
+impl<'a, R: rt::Files + Alloc> Model for DiskFiles<'a, R> {
+    ghost Value = { Failures };
 
-    ghost view = { λ files. files.failures };
+    ghost view = { λ files. (files.failures, files.cause) };
+
+    // A failure that was counted has a cause.
+    ghost invariant = { λ files. 0 < files.failures → IsSome files.cause };
 }
 
-impl<'a, R: rt::Files> DiskFiles<'a, R> {
+impl<'a, R: rt::Files + Alloc> DiskFiles<'a, R> {
     /// The files that `rt` reaches, of which no call failed yet.
     pub fn new(rt: &'a R) -> DiskFiles<'a, R>
-        ensures { result ≡ 0 }
+        ensures { result ≡ (0, None) }
     {
-        DiskFiles { rt, failures: 0 }
+        DiskFiles {
+            rt,
+            failures: 0,
+            cause: None,
+            held: None,
+        }
     }
 
     // Counts a failure, as far as a u64 counts.
-    fn count_failure(&mut self)
-        ensures counted { CountsFailure self.old self.new }
-        ensures count { self.old ≤ self.new }
+    fn count_failure(&mut self, cause: Cause)
+        ensures counted { CountsFailure self.old.0 self.new.0 }
+        ensures count { self.old.0 ≤ self.new.0 }
+        ensures told { IsSome self.new.1 }
     {
         self.failures = self.failures.saturating_add(1);
+        self.cause = Some(cause);
     }
 }
 
-// How long a file says that it is, or 0.
-fn length_of<F: OpenFile>(file: &F) -> u64 {
-    match file.metadata() {
-        Ok(metadata) => metadata.len(),
-        Err(_) => 0,
-    }
-}
-
-impl<R: rt::Files + Alloc> Files for DiskFiles<'_, R>
+impl<R: rt::Files + rt::Clock + Alloc> DiskFiles<'_, R>
 where
-    R::File: SetOwner,
+    R::File: SetOwner + TakeLock,
+{
+    // Reads a file: the one that is held, if it is asked for by the same name.
+    fn read<A: Allocator>(
+        &mut self,
+        alloc: A,
+        name: &str,
+        limit: u32,
+    ) -> Result<Vec<u8, A>, ReadFault>
+        ensures same { self.new ≡ self.old }
+        ensures within { IfOk result (λ bytes. vec_len bytes ≤ limit) }
+    {
+        match &mut self.held {
+            Some(Ok(hold)) if hold.is_of(name) => hold.load(self.rt, alloc, limit),
+            _ => match read_file(self.rt, alloc, name, limit) {
+                Ok((_, bytes)) => Ok(bytes),
+                Err(fault) => Err(fault),
+            },
+        }
+    }
+
+    // The hold of that file, which is taken now where none was asked for before.
+    fn take_hold(&mut self, name: &str) -> Result<Hold<R>, DiskFault>
+        ensures { self.new ≡ self.old }
+    {
+        match self.held.take() {
+            Some(Ok(hold)) => {
+                if hold.is_of(name) {
+                    return Ok(hold);
+                }
+                hold.release(self.rt);
+                Hold::take(self.rt, name)
+            }
+            Some(Err(fault)) => Err(fault),
+            None => Hold::take(self.rt, name),
+        }
+    }
+
+    fn save_held(&mut self, name: &str, bytes: &[u8]) -> Result<(), DiskFault>
+        ensures { self.new ≡ self.old }
+    {
+        let hold = self.take_hold(name)?;
+        hold.save(self.rt, bytes)
+    }
+}
+
+impl<R: rt::Files + rt::Clock + Alloc> Files for DiskFiles<'_, R>
+where
+    R::File: SetOwner + TakeLock,
 {
     ghost file = { λ _ _. None };
 
     ghost is_honest = { λ _. ⊥ };
 
-    ghost failure_count = { λ failures. failures };
+    ghost failure_count = { λ failures. failures.0 };
 
     ghost answers = { λ old _ limit answer new. AnswersFromDisk old new limit answer };
 
     ghost saves = { λ old _ _ answer new. SavesToDisk old new answer };
+
+    fn hold(&mut self, name: &str) {
+        self.release();
+        self.held = Some(Hold::take(self.rt, name));
+    }
+
+    fn release(&mut self) {
+        if let Some(Ok(hold)) = self.held.take() {
+            hold.release(self.rt);
+        }
+    }
 
     fn load<A: Allocator>(
         &mut self,
@@ -76,29 +141,27 @@ where
         if self.failures == u64::MAX {
             return Err(LoadFault::Failed);
         }
-        let loaded = match fs::open(self.rt, name) {
-            Ok(mut file) => {
-                let expected = length_of(&file);
-                load(alloc, &mut file, limit, expected)
+        match self.read(alloc, name, limit) {
+            Ok(bytes) => Ok(bytes),
+            Err(ReadFault::Missing) => Err(LoadFault::Missing),
+            Err(ReadFault::TooLarge) => Err(LoadFault::TooLarge),
+            Err(ReadFault::Disk(DiskFault::NoMemory)) => Err(LoadFault::NoMemory),
+            Err(ReadFault::Disk(DiskFault::Failed(cause))) => {
+                self.count_failure(cause);
+                Err(LoadFault::Failed)
             }
-            Err(error) if error.kind() == io::ErrorKind::NotFound => Err(LoadFault::Missing),
-            Err(_) => Err(LoadFault::Failed),
-        };
-        if let Err(LoadFault::Failed) = loaded {
-            self.count_failure();
         }
-        loaded
     }
 
     fn save(&mut self, name: &str, bytes: &[u8]) -> Result<(), SaveFault> {
         if self.failures == u64::MAX {
             return Err(SaveFault::Failed);
         }
-        match save_file(self.rt, name, bytes) {
+        match self.save_held(name, bytes) {
             Ok(()) => Ok(()),
-            Err(error) if error.kind() == io::ErrorKind::OutOfMemory => Err(SaveFault::NoMemory),
-            Err(_) => {
-                self.count_failure();
+            Err(DiskFault::NoMemory) => Err(SaveFault::NoMemory),
+            Err(DiskFault::Failed(cause)) => {
+                self.count_failure(cause);
                 Err(SaveFault::Failed)
             }
         }
@@ -106,5 +169,11 @@ where
 
     fn failures(&self) -> u64 {
         self.failures
+    }
+
+    fn cause(&self) -> Option<Cause>
+        ensures { result ≡ self.now.1 }
+    {
+        self.cause
     }
 }

@@ -2,12 +2,23 @@
 #![tactic(auto)]
 
 mod disk_files;
+mod fault;
+mod hold;
+mod lock;
+mod locks;
 mod mode;
+mod new_file;
+mod noted;
 mod owner;
+mod patience;
+mod read;
+mod same;
 mod save;
+mod seen;
 mod target;
 #[cfg(test)]
 mod tests;
 
 pub use disk_files::DiskFiles;
+pub use lock::TakeLock;
 pub use owner::SetOwner;

@@ -5,16 +5,26 @@ ghost use Rattle.std.specs.Fs.{file_type, IsFile};
 ghost use Rattle.std.specs.Path.{path_buf_bytes, path_parent};
 ghost use Rattle.krb_disk.specs.Target.{folder, new_path};
 
+use crate::fault::DiskFault;
+use crate::same::{is_same_file, look};
+use krb_text::Cause;
 use std::alloc::{AllocError, Allocator};
 use std::fs::{self, Metadata};
 use std::io::{self, ErrorKind};
-use std::path::{Path, PathBuf};
+use std::os::unix::fs::MetadataExt;
+use std::path::PathBuf;
 use std::rt;
 
 /// How many symbolic links are followed at most, as many as Linux does.
 const MOST_LINKS: usize = 40;
 
-/// The place of a file that is to be saved.
+/// How often links are followed that lead elsewhere meanwhile, as where another run has just saved the file.
+const MOST_WAYS: usize = 10;
+
+/// What the name of a new file has behind that of the old one.
+const SUFFIX: &str = ".krbfile";
+
+/// The place of a file that is to be changed.
 #[derive(Drop)]
 pub struct Target<A: Allocator> {
     pub path: PathBuf<A>,
@@ -28,51 +38,96 @@ impl<A: Allocator> Target<A> {
         ensures { IfOk result (λ name. string_bytes name ≡ new_path (path_buf_bytes self.now.path)) }
     {
         let mut name = String::from_str(alloc, self.path.as_str())?;
-        name.push_str(".new")?;
+        name.push_str(SUFFIX)?;
         Ok(name)
     }
 
-    /// The folder of both.
-    pub fn folder(&self) -> &str
-        ensures { result.now ≡ folder (path_parent (path_buf_bytes self.now.path)) }
-    {
-        match self.path.parent() {
-            Some(folder) if folder.as_str() != "" => folder.as_str(),
-            _ => ".",
-        }
+    /// The user who owns the file, if there is one.
+    pub fn owner(&self) -> Option<u32> {
+        self.old.as_ref().map(|old| old.uid())
+    }
+}
+
+/// The folder of a file.
+pub fn folder_of<A: Allocator>(path: &PathBuf<A>) -> &str
+    ensures { result.now ≡ folder (path_parent (path_buf_bytes path.now)) }
+{
+    match path.parent() {
+        Some(folder) if folder.as_str() != "" => folder.as_str(),
+        _ => ".",
     }
 }
 
 /// Follows symbolic links from a name to the file or the free name that they lead to. What is there but
-/// is no plain file is refused, and so are too many links.
-pub fn find_target<R: rt::Files + Alloc>(rt: &R, name: &str) -> io::Result<Target<R::A>>
+/// is no plain file is refused, and so are too many links, one of /proc that leads to no name, and the name
+/// of a new file.
+pub fn find_target<R: rt::Files + Alloc>(rt: &R, name: &str) -> Result<Target<R::A>, DiskFault>
     ensures named { OnOk result (name.now ≢ []) }
     ensures plain { IfOk result (λ target. IfSome target.old (λ old. IsFile (file_type old))) }
 {
     if name.is_empty() {
-        return Err(io::Error::from(ErrorKind::NotFound));
+        return Err(DiskFault::Failed(Cause::NoDirectory));
     }
+    for _ in 0..MOST_WAYS {
+        let target = follow_links(rt, name)?;
+        if target.path.as_str() == name || leads_to(rt, name, target.old.as_ref())? {
+            return refuse_new_file(target);
+        }
+    }
+    Err(DiskFault::Failed(Cause::NoName))
+}
+
+// The name of a new file is no target.
+fn refuse_new_file<A: Allocator>(target: Target<A>) -> Result<Target<A>, DiskFault>
+    ensures { IfOk result (λ same. same ≡ target) }
+{
+    if target.path.as_str().ends_with(SUFFIX) {
+        Err(DiskFault::Failed(Cause::NameOfSaves))
+    } else {
+        Ok(target)
+    }
+}
+
+// Goes from link to link by their texts.
+fn follow_links<R: rt::Files + Alloc>(rt: &R, name: &str) -> Result<Target<R::A>, DiskFault>
+    ensures plain { IfOk result (λ target. IfSome target.old (λ old. IsFile (file_type old))) }
+{
     let mut path = PathBuf::from_str(rt.alloc(), name)?;
     for _ in 0..=MOST_LINKS {
-        match fs::symlink_metadata(rt, &path) {
-            Ok(old) if old.is_symlink() => follow(rt, &mut path)?,
-            Ok(old) if old.is_file() => return Ok(Target {
+        match look(rt, path.as_str())? {
+            Some(old) if old.is_symlink() => follow(rt, &mut path)?,
+            Some(old) if old.is_file() => return Ok(Target {
                 path,
                 old: Some(old),
             }),
-            Ok(_) => return Err(io::Error::from(ErrorKind::Unsupported)),
-            Err(error) if error.kind() == ErrorKind::NotFound => {
-                return Ok(Target { path, old: None });
-            }
-            Err(error) => return Err(error),
+            Some(_) => return Err(DiskFault::Failed(Cause::NotAPlainFile)),
+            None => return Ok(Target { path, old: None }),
         }
     }
-    Err(io::Error::from(ErrorKind::FilesystemLoop))
+    Err(DiskFault::Failed(Cause::TooManyLinks))
 }
 
 // Goes one symbolic link further.
-fn follow<R: rt::Files + Alloc>(rt: &R, path: &mut PathBuf<R::A>) -> io::Result<()> {
-    let link = fs::read_link(rt, &*path)?;
-    path.set_file_name(link.as_str())?;
-    Ok(())
+fn follow<R: rt::Files + Alloc>(rt: &R, path: &mut PathBuf<R::A>) -> Result<(), DiskFault> {
+    match fs::read_link(rt, &*path) {
+        Ok(link) => Ok(path.set_file_name(link.as_str())?),
+        Err(error) if is_no_text(&error) => Err(DiskFault::Failed(Cause::BadLink)),
+        Err(error) => Err(DiskFault::from(error)),
+    }
+}
+
+// Whether the text of a link is not UTF-8, which the system does not mind.
+fn is_no_text(error: &io::Error) -> bool {
+    error.kind() == ErrorKind::InvalidFilename && error.raw_os_error().is_none()
+}
+
+// Whether the system comes from a name to that file, as its links' texts say. A link of /proc leads to an
+// open file, also to one that has no name any more.
+fn leads_to<R: rt::Files>(rt: &R, name: &str, file: Option<&Metadata>) -> io::Result<bool> {
+    match (fs::metadata(rt, name), file) {
+        (Ok(found), Some(file)) => Ok(is_same_file(&found, file)),
+        (Ok(_), None) => Ok(false),
+        (Err(error), _) if error.kind() != ErrorKind::NotFound => Err(error),
+        (Err(_), file) => Ok(file.is_none()),
+    }
 }

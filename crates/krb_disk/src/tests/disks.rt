@@ -1,6 +1,6 @@
 ghost use Rattle.std.specs.Prelude.{IsErr};
 
-use crate::SetOwner;
+use crate::{SetOwner, TakeLock};
 use std::alloc::{Allocator, Global};
 use std::cell::{Cell, RefCell};
 use std::fs::{Metadata, OpenFile, OpenOptions, Permissions};
@@ -8,6 +8,7 @@ use std::io::{self, Empty, ErrorKind, Read, Seek, SeekFrom, Write};
 use std::os::unix::fs::PermissionsExt;
 use std::path::PathBuf;
 use std::rt;
+use std::time::Duration;
 
 /// The calls of a disk, one a line, of which one fails.
 #[derive(Drop)]
@@ -15,15 +16,36 @@ pub struct Calls {
     lines: RefCell<String>,
     pub count: Cell<u64>,
     failing: u64,
+    /// The number of the error with which it fails.
+    error: i32,
+    /// The bytes of the file `k`.
+    pub bytes: Cell<&'static [u8]>,
+    /// The system's list of locks.
+    pub locks: Cell<&'static [u8]>,
+    /// Whether another program has the new file.
+    pub is_locked: Cell<bool>,
+    /// Whether something stands under the name of the new file.
+    pub is_taken: Cell<bool>,
 }
 
 impl Calls {
-    pub fn new(alloc: Global, failing: u64) -> Calls {
+    /// A disk whose call of that number fails with that error, if it is not 0.
+    pub fn new(alloc: Global, failing: u64, error: i32) -> Calls {
         Calls {
             lines: RefCell::new(String::new(alloc)),
             count: Cell::new(0),
             failing,
+            error,
+            bytes: Cell::new(b""),
+            locks: Cell::new(b""),
+            is_locked: Cell::new(false),
+            is_taken: Cell::new(false),
         }
+    }
+
+    /// A disk of which no call fails.
+    pub fn whole(alloc: Global) -> Calls {
+        Calls::new(alloc, 0, 0)
     }
 
     fn add(&self, what: &str, path: &str) -> io::Result<()> {
@@ -34,7 +56,7 @@ impl Calls {
             lines.push_str("\n")?;
         }
         if self.count.get() == self.failing {
-            return Err(io::Error::from(ErrorKind::Other));
+            return Err(io::Error::from_raw_os_error(self.error));
         }
         Ok(())
     }
@@ -47,7 +69,8 @@ impl Calls {
     }
 }
 
-/// A disk with an empty file `k`, a folder `d` and a link `loop` to itself.
+/// A disk with a file `k`, a new file beside it, a folder `d`, and links: `link` to `k`, `loop` to itself, `gone`
+/// to an open file without a name, and `odd`, whose text is none.
 #[derive(Drop)]
 pub struct Disk<'a> {
     pub calls: &'a Calls,
@@ -57,6 +80,8 @@ pub struct Disk<'a> {
 #[derive(Drop)]
 pub struct Opened<'a> {
     calls: &'a Calls,
+    /// What is still to be read.
+    left: &'static [u8],
 }
 
 fn unsupported<T>() -> io::Result<T>
@@ -66,9 +91,13 @@ fn unsupported<T>() -> io::Result<T>
 }
 
 impl Read for Opened<'_> {
-    fn read(&mut self, _buf: &mut [u8]) -> io::Result<usize> {
+    fn read(&mut self, buf: &mut [u8]) -> io::Result<usize> {
         self.calls.add("read", "")?;
-        Ok(0)
+        let count = self.left.len().min(buf.len());
+        let (given, left) = self.left.split_at(count);
+        buf[..count].copy_from_slice(given);
+        self.left = left;
+        Ok(count)
     }
 }
 
@@ -114,12 +143,37 @@ impl OpenFile for Opened<'_> {
         }
         self.calls.add("permit", "")
     }
+
+    fn try_clone(&self) -> io::Result<Self> {
+        self.calls.add("double", "")?;
+        Ok(Opened {
+            calls: self.calls,
+            left: self.left,
+        })
+    }
 }
 
 impl SetOwner for Opened<'_> {
     fn set_owner(&self, owner: Option<u32>, _group: Option<u32>) -> io::Result<()> {
         self.calls
             .add("own", if owner.is_none() { " the group" } else { "" })
+    }
+}
+
+impl TakeLock for Opened<'_> {
+    fn take_lock(&self) -> io::Result<bool> {
+        self.calls.add("lock", "")?;
+        Ok(!self.calls.is_locked.get())
+    }
+}
+
+impl rt::Clock for Disk<'_> {
+    fn monotonic(&self) -> io::Result<Duration> {
+        unsupported()
+    }
+
+    fn since_1970(&self) -> io::Result<Duration> {
+        unsupported()
     }
 }
 
@@ -137,23 +191,35 @@ impl<'a> rt::Files for Disk<'a> {
             },
             path,
         )?;
-        Ok(Opened { calls: self.calls })
+        if how.asks_create_new() && self.calls.is_taken.get() {
+            return Err(io::Error::from(ErrorKind::AlreadyExists));
+        }
+        let left = match path {
+            "k" => self.calls.bytes.get(),
+            "/proc/locks" => self.calls.locks.get(),
+            _ => b"",
+        };
+        Ok(Opened {
+            calls: self.calls,
+            left,
+        })
     }
 
     fn open_dir(&self, _path: &str) -> io::Result<Empty> {
         unsupported()
     }
 
-    fn metadata(&self, _path: &str) -> io::Result<Metadata> {
-        unsupported()
+    fn metadata(&self, path: &str) -> io::Result<Metadata> {
+        self.calls.add("come to ", path)?;
+        Ok(Metadata::of_file(0))
     }
 
     fn symlink_metadata(&self, path: &str) -> io::Result<Metadata> {
         self.calls.add("look ", path)?;
         match path {
-            "k" => Ok(Metadata::of_file(0)),
+            "k" | "k.krbfile" => Ok(Metadata::of_file(0)),
             "d" => Ok(Metadata::of_dir()),
-            "loop" => Ok(Metadata::of_symlink(4)),
+            "link" | "loop" | "gone" | "odd" => Ok(Metadata::of_symlink(4)),
             _ => Err(io::Error::from(ErrorKind::NotFound)),
         }
     }
@@ -188,6 +254,12 @@ impl<'a> rt::Files for Disk<'a> {
 
     fn read_link<B: Allocator>(&self, alloc: B, path: &str) -> io::Result<PathBuf<B>> {
         self.calls.add("follow ", path)?;
-        Ok(PathBuf::from_str(alloc, "loop")?)
+        let text = match path {
+            "link" => "k",
+            "gone" => "k (deleted)",
+            "odd" => return Err(io::Error::from(ErrorKind::InvalidFilename)),
+            _ => "loop",
+        };
+        Ok(PathBuf::from_str(alloc, text)?)
     }
 }

@@ -1,0 +1,20 @@
+//! Files that can be locked.
+
+use std::fs::{File, TryLockError};
+use std::io;
+
+/// An open file that can be locked. One open of a file has the lock at a time, until it is closed.
+pub trait TakeLock {
+    /// Takes the lock, and says whether it was free.
+    fn take_lock(&self) -> io::Result<bool>;
+}
+
+impl TakeLock for File {
+    fn take_lock(&self) -> io::Result<bool> {
+        match self.try_lock() {
+            Ok(()) => Ok(true),
+            Err(TryLockError::WouldBlock) => Ok(false),
+            Err(TryLockError::Error(error)) => Err(error),
+        }
+    }
+}

@@ -1,0 +1,62 @@
+//! Files that remember why a call failed.
+
+use crate::fault::DiskFault;
+use std::io::{self, Read, Write};
+
+/// A file that remembers the error of its last read or write that failed.
+#[derive(Drop)]
+pub struct Noted<F> {
+    pub file: F,
+    error: Option<io::Error>,
+}
+
+impl<F> Noted<F> {
+    ghost use Rattle.std.specs.Prelude.{◌≡◌};
+
+    /// The file, of which no call failed yet.
+    pub fn new(file: F) -> Noted<F>
+        ensures { result.file ≡ file }
+    {
+        Noted { file, error: None }
+    }
+
+    /// Why it failed. A write that took no byte has no error of its own.
+    pub fn fault(&self) -> DiskFault {
+        match &self.error {
+            Some(error) => DiskFault::from(*error),
+            None => DiskFault::from(io::Error::from(io::ErrorKind::WriteZero)),
+        }
+    }
+}
+
+impl<F: Read> Read for Noted<F> {
+    ghost remaining = { λ noted. F.remaining noted.file };
+
+    fn read(&mut self, buf: &mut [u8]) -> io::Result<usize> {
+        match self.file.read(buf) {
+            Ok(count) => Ok(count),
+            Err(error) => {
+                self.error = Some(error);
+                Err(error)
+            }
+        }
+    }
+}
+
+impl<F: Write> Write for Noted<F> {
+    ghost contents = { λ noted. F.contents noted.file };
+
+    fn write(&mut self, buf: &[u8]) -> io::Result<usize> {
+        match self.file.write(buf) {
+            Ok(count) => Ok(count),
+            Err(error) => {
+                self.error = Some(error);
+                Err(error)
+            }
+        }
+    }
+
+    fn flush(&mut self) -> io::Result<()> {
+        self.file.flush()
+    }
+}

@@ -1,0 +1,66 @@
+//! Files that are read.
+
+ghost use Rattle.std.specs.Prelude.{◌≡◌, ◌≤◌, ◌++◌, IfOk, IfSome, IsTrue, vec_len};
+
+use crate::fault::{DiskFault, ReadFault};
+use crate::noted::Noted;
+use krb_commands::load;
+use krb_text::LoadFault;
+use std::alloc::Allocator;
+use std::fs::{self, Metadata, OpenFile};
+use std::io::{self, Read};
+use std::rt;
+
+/// How many bytes are compared at once.
+const PIECE: usize = 16_384;
+
+/// The file of that name, and its bytes, if they are at most `limit`.
+pub fn read_file<R: rt::Files, A: Allocator>(
+    rt: &R,
+    alloc: A,
+    path: &str,
+    limit: u32,
+) -> Result<(Metadata, Vec<u8, A>), ReadFault>
+    ensures { IfOk result (λ read. vec_len read.1 ≤ limit) }
+{
+    let file = match fs::open(rt, path) {
+        Ok(file) => file,
+        Err(error) if error.kind() == io::ErrorKind::NotFound => return Err(ReadFault::Missing),
+        Err(error) => return Err(ReadFault::from(error)),
+    };
+    let metadata = file.metadata()?;
+    let mut file = Noted::new(file);
+    match load(alloc, &mut file, limit, metadata.len()) {
+        Ok(bytes) => Ok((metadata, bytes)),
+        Err(LoadFault::TooLarge) => Err(ReadFault::TooLarge),
+        Err(LoadFault::NoMemory) => Err(ReadFault::Disk(DiskFault::NoMemory)),
+        Err(LoadFault::Missing | LoadFault::Failed) => Err(ReadFault::Disk(file.fault())),
+    }
+}
+
+// What bytes have behind those that they begin with.
+fn without_front<'a>(bytes: &'a [u8], front: &[u8]) -> Option<&'a [u8]>
+    ensures { IfSome result (λ rest. bytes.now ≡ front.now ++ rest.now) }
+{
+    let (begin, rest) = bytes.split_at_checked(front.len())?;
+    if begin == front { Some(rest) } else { None }
+}
+
+/// Whether a file has these bytes, and no others, from where it stands on.
+pub fn has_bytes<F: Read>(file: &mut F, bytes: &[u8]) -> io::Result<bool>
+    ensures { IfOk result (λ has. IsTrue has → IfSome (F.remaining file.old) (λ left. left ≡ bytes.now)) }
+{
+    let mut piece = [0; PIECE];
+    let mut left = bytes;
+    for _ in 0..=bytes.len() {
+        let count = file.read(&mut piece)?;
+        if count == 0 {
+            return Ok(left.is_empty());
+        }
+        match without_front(left, &piece[..count]) {
+            Some(rest) => left = rest,
+            None => return Ok(false),
+        }
+    }
+    Ok(false)
+}
