@@ -3,6 +3,7 @@ from __future__ import annotations
 
 import os
 import re
+import select
 import shutil
 import subprocess
 import sys
@@ -43,8 +44,8 @@ SCRIPTS: list[tuple[str, bytes | None, list[str]]] = [
     ("a version 1 file that is rewritten", OLD, ["cut 2", "rewrite", ADD_B]),
 ]
 
-# MIT reads a line of ktutil only where it asks for one, so it is not given the next one too early.
-PAUSE = 0.1
+# What MIT's ktutil prints where it waits for a request, also into a pipe.
+PROMPT = b"ktutil:  "
 
 
 def told(entry: KeytabEntry) -> tuple[bytes, ...]:
@@ -69,27 +70,49 @@ class Mit:
         """The entries of a file, as klist lists them."""
         done = subprocess.run(["klist", "-k", "-t", "-K", "-e", name], cwd=self.folder,
                               env=self.env, capture_output=True, check=False)
-        return self.entries_in(done.stdout, 3, rb"")
+        return self.entries_in(done.stdout, rb"")
 
-    def ktutil(self, *lines: str) -> bytes:
-        """What ktutil prints."""
+    def ktutil(self, *requests: str) -> list[bytes]:
+        """What ktutil prints after each request. What a request asks for is a line behind it.
+
+        The next request is given where the prompt asks for it. Until then nothing else may lie in
+        the pipe: a request that asks for a line takes all that is there.
+        """
         with subprocess.Popen(["ktutil"], cwd=self.folder, env=self.env, bufsize=0,
                               stdin=subprocess.PIPE, stdout=subprocess.PIPE,
                               stderr=subprocess.STDOUT) as started:
-            for line in (*lines, "quit"):
-                started.stdin.write(line.encode() + b"\n")
-                time.sleep(PAUSE)
-            return started.communicate(timeout=SECONDS)[0]
+            answers = [self.answer(started)]
+            for request in requests:
+                started.stdin.write(request.encode() + b"\n")
+                answers.append(self.answer(started))
+            started.communicate(b"quit\n", timeout=SECONDS)
+        return answers[1:]
+
+    def answer(self, started: subprocess.Popen[bytes]) -> bytes:
+        """What ktutil prints up to its prompt."""
+        heard = b""
+        while not heard.endswith(PROMPT):
+            is_there = select.select([started.stdout], [], [], SECONDS)[0]
+            piece = os.read(started.stdout.fileno(), 65_536) if is_there else b""
+            if not piece:
+                started.kill()
+                raise EOFError(f"ktutil ended or hangs after {heard!r}")
+            heard += piece
+        return heard.removesuffix(PROMPT)
 
     def ktutil_list(self, name: str) -> list[tuple[bytes, ...]]:
         """The entries of a file, as ktutil lists them."""
-        listed = self.ktutil(f"rkt {name}", "l -t -k -e").partition(b"l -t -k -e\n")[2]
-        return self.entries_in(listed.partition(b"ktutil: ")[0], 2, rb" *\d+ ")
+        listed = self.ktutil(f"rkt {name}", "l -t -k -e")[1]
+        return self.entries_in(listed, rb" *\d+ ")
 
-    def entries_in(self, listed: bytes, heading: int, slot: bytes) -> list[tuple[bytes, ...]]:
+    def entries_in(self, listed: bytes, slot: bytes) -> list[tuple[bytes, ...]]:
         """The entries of a listing's lines after its heading."""
+        lines = listed.splitlines()
+        headings = [number for number, line in enumerate(lines) if line.startswith(b"----")]
+        if not headings:
+            return [(listed,)]
         found = []
-        for line in listed.splitlines()[heading:]:
+        for line in lines[headings[0] + 1 :]:
             match = LINE.fullmatch(re.sub(rb"^" + slot, b"", line, count=1))
             found.append(match.groups() if match else (line,))
         return found

@@ -8,20 +8,26 @@ import signal
 import struct
 import subprocess
 import tempfile
+from collections.abc import Iterator
+from contextlib import contextmanager
 
 from disk_saves import (
+    GROUP,
     NEW,
     OLD,
     SAVED,
     SCRIPT,
     UNREAD,
     UNSAVED,
+    USER,
+    Owned,
     edit,
+    owned,
     tree,
     tree_faults,
     write,
 )
-from harness import Outcome, Report, differences, folder_of, message
+from harness import Outcome, Report, differences, folder_of, message, run
 from preload import MOST_CALLS, Line, built_library
 from system_calls import Call, calls_of, traced
 
@@ -29,7 +35,7 @@ LINE = Line(("ktedit", "k"), SCRIPT)
 
 # The file to which the link `k` leads, and the new one beside it.
 TARGET = "file"
-NEW_NAME = "file.new"
+NEW_NAME = "file.krbfile"
 REMAINS = b"remains"
 
 UNPRINTED = message(3, "cannot write output")
@@ -67,8 +73,8 @@ def faults_of_failure(folder: str, outcome: Outcome) -> list[str]:
 
 
 def faults_of_kill(program: str, folder: str, outcome: Outcome) -> list[str]:
-    """What is wrong after a run that was killed, and after the next."""
-    faults = differences(KILLED, outcome)
+    """What is wrong after a run that was killed, or ended before, and after the next."""
+    faults = [] if outcome == SAVED else differences(KILLED, outcome)
     found = tree(folder)
     if found["k"] != TARGET or found[TARGET] not in (OLD, NEW):
         faults.append(f"{found}")
@@ -79,9 +85,6 @@ def faults_of_kill(program: str, folder: str, outcome: Outcome) -> list[str]:
 
 def check_calls(report: Report, program: str) -> None:
     """Each call fails in turn, and then the run is killed at each."""
-    if shutil.which("strace") is None:
-        report.skip("system calls that fail", "there is no strace")
-        return
     calls = calls_of_run(program)
     names = {call.name for call in calls}
     report.check("the calls of a save", [] if {"fsync", "rename"} <= names else [f"{names}"])
@@ -155,25 +158,117 @@ def check_sizes(report: Report, program: str) -> None:
         report.check(f"a file of at most {most} bytes", faults)
 
 
-def check_full_disk(report: Report, program: str) -> None:
-    """A disk that has room for the old file alone."""
-    with folder_of({}) as folder:
-        mount = ["mount", "-t", "tmpfs", "-o", "size=4k", "krbfile", folder]
-        if os.geteuid() != 0 or subprocess.run(mount, check=False, capture_output=True).returncode:
-            report.skip("a full disk", "none can be mounted")
-            return
-        try:
-            write(os.path.join(folder, "k"), OLD)
-            faults = differences(UNSAVED, edit(program, folder))
-            faults += tree_faults({"k": OLD}, folder)
-        finally:
+@contextmanager
+def mounted(folder: str, *words: str) -> Iterator[bool]:
+    """Something that is mounted there, or false where it cannot be."""
+    mount = subprocess.run(["mount", *words, folder], check=False, capture_output=True)
+    try:
+        yield mount.returncode == 0
+    finally:
+        if mount.returncode == 0:
             subprocess.run(["umount", folder], check=True)
-    report.check("a full disk", faults)
+
+
+def check_full_disk(report: Report, program: str) -> None:
+    """A disk that has room for the old file and for another's `k.new`, which both stay."""
+    talk = b"rkt k.new\nwkt k\n"
+    for files, size in (({"k": OLD}, 4), ({"k": OLD, "k.new": NEW}, 8)):
+        with folder_of({}) as folder, mounted(
+            folder, "-t", "tmpfs", "-o", f"size={size}k", "krbfile"
+        ) as is_mounted:
+            for name, data in files.items():
+                write(os.path.join(folder, name), data)
+            faults = differences(UNSAVED, edit(program, folder))
+            if "k.new" in files:
+                faults += differences(UNSAVED, run(program, ("ktutil",), folder, talk))
+            faults += tree_faults(dict(files), folder)
+        if is_mounted:
+            report.check(f"a full disk with {len(files)} files", faults)
+        else:
+            report.skip("a full disk", "none can be mounted")
+
+
+def check_fixed(report: Report, program: str) -> None:
+    """A file that is mounted over itself is not replaced, nor any on a read-only disk."""
+    with folder_of({"k": OLD}) as folder:
+        path = os.path.join(folder, "k")
+        with mounted(path, "--bind", path) as is_mounted:
+            faults = differences(UNSAVED, edit(program, folder)) + tree_faults({"k": OLD}, folder)
+        if not is_mounted:
+            report.skip("files that are mounted", "none can be")
+            return
+    report.check("a file that is mounted", faults)
+    with folder_of({}) as folder, mounted(folder, "-t", "tmpfs", "krbfile"):
+        write(os.path.join(folder, "k"), OLD)
+        subprocess.run(["mount", "-o", "remount,ro", folder], check=True)
+        faults = differences(UNSAVED, edit(program, folder))
+        faults += differences(message(3, "n: cannot write"), edit(program, folder, "n"))
+        faults += differences(Outcome(0, b"walk 0 at 2\n"),
+                              run(program, ("ktedit", "k"), folder, b"start\n"))
+        faults += tree_faults({"k": OLD}, folder)
+    report.check("a disk that is read-only", faults)
+
+
+def check_owner(report: Report, program: str) -> None:
+    """An owner that may not be given narrows the mode; any other failure to give it is one."""
+    narrow = ("EPERM", "EACCES", "ENOSYS", "EOPNOTSUPP", "EINVAL")
+    me = os.geteuid()
+    old = Owned(0o644, USER, GROUP) if me == 0 else Owned(0o644, me, os.getegid())
+    for error in (*narrow, "EIO", "EDQUOT", "ENOSPC", "EROFS", "EINTR"):
+        for when in ("", ":when=1"):
+            with folder_of({"k": OLD}) as folder:
+                path = os.path.join(folder, "k")
+                os.chown(path, old.owner, old.group)
+                os.chmod(path, old.mode)
+                call = ("-e", f"inject=fchown:error={error}{when}")
+                outcome, _ = traced(program, LINE, folder, *call)
+                is_saved = error in narrow
+                new = Owned(0o644 if when else 0o604, 0, GROUP if when else 0)
+                new = new if is_saved and me == 0 else old
+                faults = differences(SAVED if is_saved else UNSAVED, outcome)
+                faults += [] if owned(path) == new else [f"{owned(path)}, not {new}"]
+                faults += tree_faults({"k": NEW if is_saved else OLD}, folder)
+            report.check(f"no owner can be given: {error}{when}", faults)
+
+
+def check_lock(report: Report, program: str) -> None:
+    """Where there are no locks, who made the new file may save, and one that was left stays."""
+    for error in ("EOPNOTSUPP", "ENOSYS", "ENOLCK", "EIO"):
+        for left in ({}, {"k.krbfile": b"left"}):
+            is_saved = error in ("EOPNOTSUPP", "ENOSYS") and not left
+            with folder_of({"k": OLD, **left}) as folder:
+                outcome, _ = traced(program, LINE, folder, "-e", f"inject=flock:error={error}")
+                faults = differences(SAVED if is_saved else UNSAVED, outcome)
+                faults += tree_faults({"k": NEW if is_saved else OLD, **left}, folder)
+            report.check(f"no lock can be taken: {error}, {len(left)} new files", faults)
+
+
+def check_no_proc(report: Report, program: str) -> None:
+    """Without /proc a save is made, and beside a new file only the file's owner is known."""
+    fail = "inject=?openat,?open,?statx,?newfstatat,?stat:error=ENOENT"
+    left = {"k.krbfile": b"left"}
+    cases = [("/proc/locks", {}, os.geteuid(), SAVED), ("/proc/self", left, os.geteuid(), SAVED),
+             ("/proc/self", left, USER, UNSAVED)]
+    for path, left, owner, wanted in cases if os.geteuid() == 0 else cases[:-1]:
+        with folder_of({"k": OLD, **left}) as folder:
+            if owner is not None:
+                os.chown(os.path.join(folder, "k"), owner, -1)
+            outcome, _ = traced(program, LINE, folder, "-P", path, "-e", fail)
+            faults = differences(wanted, outcome)
+            faults += tree_faults({"k": NEW} if wanted == SAVED else {"k": OLD, **left}, folder)
+        report.check(f"{path} cannot be reached, the file is of {owner}", faults)
 
 
 def check(report: Report, program: str) -> None:
     """Runs all of this topic."""
-    check_calls(report, program)
+    if shutil.which("strace") is None:
+        report.skip("system calls that fail", "there is no strace")
+    else:
+        check_calls(report, program)
+        check_owner(report, program)
+        check_lock(report, program)
+        check_no_proc(report, program)
     check_preloaded(report, program)
     check_sizes(report, program)
     check_full_disk(report, program)
+    check_fixed(report, program)

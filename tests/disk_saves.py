@@ -8,9 +8,11 @@ from dataclasses import dataclass
 
 from harness import Outcome, Report, differences, folder_of, message, run
 from images import HOST, entries, keytab
+from script_model import edited
 
 # The script of each run, and the file before and after it.
 SCRIPT = b"add 3 17 1700000000 000102030405060708090a0b0c0d0e0f host/a@R\n"
+WALK = b"start\nstep 0\n"
 OLD = keytab()
 NEW = entries(HOST)
 SAVED = Outcome(0, b"placed 2\n")
@@ -166,6 +168,12 @@ def links_to(*links: tuple[str, str], data: bytes | None = OLD, target: str = "t
     return place
 
 
+def long_chain(count: int) -> list[tuple[str, str]]:
+    """So many links, of which the first is `k` and the last leads to `t/k`."""
+    names = ["k", *(f"k{number}" for number in range(1, count)), "t/k"]
+    return [*zip(names, names[1:])]
+
+
 def check_links(report: Report, program: str) -> None:
     """The file at the end of links is replaced or made, and each link stays."""
     chain = (("k", "u/a"), ("u/a", "../u/b"), ("u/b", "FOLDER/t/k"))
@@ -177,6 +185,7 @@ def check_links(report: Report, program: str) -> None:
         ("a link through a link to a folder", links_to(("d", "t"), ("k", "d/k"))),
         ("a link that dangles", links_to(("k", "t/k"), data=None)),
         ("a chain that dangles", links_to(*chain, data=None)),
+        ("a chain of 40 links", links_to(*long_chain(40))),
     ]
     for name, place in cases:
         with folder_of({}) as folder:
@@ -192,6 +201,7 @@ def check_broken_links(report: Report, program: str) -> None:
         ("a link into no folder", links_to(("k", "no/k")), UNSAVED),
         ("a link to no folder", links_to(("k", "no/"), data=None), UNSAVED),
         ("a link in a circle", links_to(("k", "u/k"), ("u/k", "../k")), UNREAD),
+        ("a chain of 41 links", links_to(*long_chain(41)), UNREAD),
     ]
     for name, place, outcome in cases:
         with folder_of({}) as folder:
@@ -201,59 +211,35 @@ def check_broken_links(report: Report, program: str) -> None:
             report.check(f"save over {name}", faults + tree_faults(wanted, folder))
 
 
-def check_remains(report: Report, program: str) -> None:
-    """What stands under the name of the new file is removed and not opened, but for a folder."""
-
-    def linked(folder: str) -> None:
-        os.link(os.path.join(folder, "other"), os.path.join(folder, "k.new"))
-
-    def pointing(text: str) -> Place:
-        return lambda folder: os.symlink(text, os.path.join(folder, "k.new"))
-
-    def locked(folder: str) -> None:
-        write(os.path.join(folder, "k.new"), b"", 0)
-
-    def filled(folder: str) -> None:
-        os.mkdir(os.path.join(folder, "k.new"))
-        write(os.path.join(folder, "k.new", "other"), b"other")
-
+def check_removed(report: Report, program: str) -> None:
+    """A file that is open and has lost its name is not saved; one that has got another name is."""
     cases = [
-        ("a file", lambda folder: write(os.path.join(folder, "k.new"), b"x" * 999, 0o666), SAVED),
-        ("a file that is locked", locked, SAVED),
-        ("another file's name", linked, SAVED),
-        ("a link to another file", pointing("other"), SAVED),
-        ("a link that dangles", pointing("no"), SAVED),
-        ("a link to itself", pointing("k.new"), SAVED),
-        ("a pipe", lambda folder: os.mkfifo(os.path.join(folder, "k.new")), SAVED),
-        ("an empty folder", lambda folder: os.mkdir(os.path.join(folder, "k.new")), UNSAVED),
-        ("a folder", filled, UNSAVED),
+        ("rm d", {}, UNSAVED),
+        ("rm d; echo >'d (deleted)'", {"d (deleted)": b"\n"}, UNSAVED),
+        ("rm d; echo >d", {"d": b"\n"}, UNSAVED),
+        (":", {"d": NEW}, SAVED),
+        ("mv d e", {"e": NEW}, SAVED),
+        ("mv d 'd (deleted)'", {"d (deleted)": NEW}, SAVED),
     ]
-    for name, place, outcome in cases:
-        with folder_of({"k": OLD, "other": b"other"}) as folder:
-            place(folder)
-            wanted = {"k": NEW, "other": b"other"} if outcome == SAVED else tree(folder)
-            faults = differences(outcome, edit(program, folder))
-            report.check(f"{name} in the new file's place", faults + tree_faults(wanted, folder))
+    for name in ("/dev/fd/7", "/proc/self/fd/7"):
+        for deed, files, outcome in cases:
+            wanted = outcome if outcome == SAVED else message(3, f"{name}: cannot write")
+            with folder_of({"d": OLD}) as folder:
+                words = ("-c", f'exec 7<d; {deed}; exec "$0" ktedit {name}', program)
+                faults = differences(wanted, run("sh", words, folder, SCRIPT))
+                report.check(f"save over {name} after {deed}", faults + tree_faults(files, folder))
 
 
-def check_places(report: Report, program: str) -> None:
-    """Names under which no file can be saved, and the longest that can be."""
-    longest = "x" * 251
-    cases = [
-        ("k", SAVED),
-        ("./k", SAVED),
-        (longest, SAVED),
-        (longest + "x", message(3, f"{longest}x: cannot write")),
-        ("no/k", message(3, "no/k: cannot write")),
-        ("", message(3, ": cannot write")),
-    ]
-    for name, outcome in cases:
-        with folder_of({".new": b"other"}) as folder:
-            wanted = {".new": b"other"}
-            if outcome == SAVED:
-                wanted[os.path.normpath(name)] = NEW
-            faults = differences(outcome, edit(program, folder, name))
-            report.check(f"save as {name[:20]!r}", faults + tree_faults(wanted, folder))
+def check_unchanging(report: Report, program: str) -> None:
+    """A script that can change nothing makes no file, also none that it takes away again."""
+    for script in (b"", b"# none\n", WALK, b"resume 2\n", b"start\nfrob\n"):
+        with folder_of({"k": OLD}) as folder:
+            os.utime(folder, (1, 1))
+            got = run(program, ("ktedit", "k"), folder, script)
+            faults = differences(edited(OLD, script)[0], got)
+            if os.stat(folder).st_mtime != 1:
+                faults.append("the folder was changed")
+        report.check(f"a script that can change nothing: {script}", faults)
 
 
 def check_locked_folder(report: Report, program: str) -> None:
@@ -268,6 +254,10 @@ def check_locked_folder(report: Report, program: str) -> None:
                 os.chmod(os.path.join(folder, name), 0o666)
             os.chmod(folder, 0o555)
             faults = differences(UNSAVED, edit(program, folder, **options))
+            # What saves nothing needs no right to make a file.
+            for script in (WALK, b"cut 3\n", WALK + b"cut 2\n"):
+                got = run(program, ("ktedit", "k"), folder, script, **options)
+                faults += differences(edited(files.get("k"), script)[0], got)
             faults += tree_faults(dict(files), folder)
             os.chmod(folder, 0o755)
         report.check(f"a folder that is locked, with {len(files)} files", faults)
@@ -280,6 +270,6 @@ def check(report: Report, program: str) -> None:
     check_others_files(report, program)
     check_links(report, program)
     check_broken_links(report, program)
-    check_remains(report, program)
-    check_places(report, program)
+    check_removed(report, program)
+    check_unchanging(report, program)
     check_locked_folder(report, program)

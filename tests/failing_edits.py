@@ -103,7 +103,8 @@ def check_script(report: Report, program: Preloaded) -> None:
     for most in (WHOLE, 10):
         of = {
             "FAIL_INPUT": is_one_of((NO_INPUT, FILES)),
-            "FAIL_READ": is_one_of((no_read, FILES)),
+            # A file that is to be saved is read once more before.
+            "FAIL_READ": is_one_of((no_read, FILES), (no_save, FILES)),
             "FAIL_SAVE": is_one_of((no_save, FILES)),
             "ZERO_SAVE": is_one_of((no_save, FILES)),
             "FAIL_WRITE": faults_of_output(AFTER_SCRIPT),

@@ -61,7 +61,8 @@ def check_input(report: Report, program: Preloaded) -> None:
     check_calls(report, program, INPUT, "FAIL_INPUT", 1, faults_of_input)
     for most in (WHOLE, 10):
         of = {
-            "FAIL_READ": is_one_of(no_read, no_read_back),
+            # A file that is to be saved is read once more before.
+            "FAIL_READ": is_one_of(no_read, no_read_back, no_save),
             "FAIL_SAVE": is_one_of(no_save),
             "ZERO_SAVE": is_one_of(no_save),
             "FAIL_WRITE": faults_of_output(FILES, AFTER_INPUT),

@@ -105,7 +105,8 @@ class Ends:
         if setting == "FAIL_INPUT":
             return end == self.of_input(given)
         if setting == "FAIL_READ":
-            return end in self.of_loads
+            # A file that is to be saved is read once more before.
+            return end in self.of_loads or end in self.of_saves
         if setting in ("FAIL_SAVE", "ZERO_SAVE"):
             return end in self.of_saves
         return ends_in_output(self.run, got)

@@ -1,6 +1,7 @@
 """Each system call of each command fails, by several errors, and is the last of its run.
 
-What a failure leads to is told by the step of the work that the call belongs to.
+What a failure leads to is told by the step of the work that the call belongs to. That is asked of
+the run itself: how often it reads the list of locks hangs on how many others have.
 """
 from __future__ import annotations
 
@@ -20,7 +21,10 @@ from system_calls import Call, calls_of, traced
 ERRORS = ("EIO", "ENOSPC", "EACCES", "EPERM", "EINTR", "ENOMEM")
 
 # The calls that are made again where they were interrupted. Reads and writes are not.
-REPEATED = ("open", "openat", "fchmod", "fsync")
+REPEATED = ("open", "openat", "flock", "fchmod", "fsync")
+
+# The errors of fchown that say that the owner may not be given: the mode is narrowed.
+NOT_PERMITTED = ("EACCES", "EPERM")
 
 
 @dataclass(frozen=True)
@@ -32,31 +36,52 @@ class Step:
     nth: int = 1
 
 
+# A call that did not fail, and one that has no place among the steps.
+NONE, UNKNOWN = Step("", ""), Step("", "unknown")
+
+
 def load(name: str, nth: int = 1) -> list[Step]:
-    """The steps of a load. The size that a file tells is not needed."""
-    return [Step(rf'open.*"{name}", O_RDONLY', "load", nth), Step(r"\w*stat\w*\(\d", ""),
-            Step(r"read\([1-9]", "load", nth), Step(r"close", "")]
+    """The steps of a load."""
+    patterns = (rf'open.*"{name}", O_RDONLY', r"\w*stat\w*\(\d", r"read\([1-9]")
+    return [*(Step(pattern, "load", nth) for pattern in patterns), Step(r"close", "")]
+
+
+def listed() -> list[Step]:
+    """The steps of a look at the list of locks, which is not needed."""
+    patterns = (r'open.*"/proc/locks"', r"\w*stat\w*\(\d", r"read\([1-9]", r"close")
+    return [Step(pattern, "list") for pattern in patterns]
+
+
+def needed(nth: int, *patterns: str) -> list[Step]:
+    """Steps without which there is no save."""
+    return [Step(pattern, "save", nth) for pattern in patterns]
+
+
+def hold(name: str, nth: int = 1) -> list[Step]:
+    """The steps of a hold, without which a file is loaded and not saved."""
+    stat = rf'\w*stat\w*\(.*"{name}"'
+    made = needed(nth, stat, r"open.*O_CREAT\|O_EXCL", r"flock", r"\w*stat\w*\(\d",
+                  rf'\w*stat\w*\(.*"{name}\.krbfile"', r"fcntl")
+    return [*made, Step(r"close", ""), *needed(nth, stat), *listed()]
 
 
 def save(name: str, nth: int = 1, is_new: bool = False) -> list[Step]:
-    """The steps of a save. Where the owner cannot be set, or the folder synced, it is made."""
-
-    def needed(*patterns: str) -> list[Step]:
-        return [Step(pattern, "save", nth) for pattern in patterns]
-
-    made = needed(rf'\w*stat\w*\(.*"{name}"', r"unlink", r"open.*O_CREAT\|O_EXCL", r"write\([3-9]")
-    owner = [] if is_new else [Step(r"fchown", ""), *needed(r"\w*stat\w*\(\d")]
-    named = needed(r"fchmod", r"fsync", r"rename")
-    synced = [Step(pattern, "") for pattern in (r"close", r'open.*"\."', r"fsync", r"close")]
-    return [*made, *owner, *named, *synced]
+    """The steps of a save. Where the folder cannot be synced it is made."""
+    stat = rf'\w*stat\w*\(.*"{name}'
+    owner = [] if is_new else [Step(r"fchown", "owner", nth), *needed(nth, r"\w*stat\w*\(\d")]
+    made = needed(nth, r"fchmod", r"fsync", r"\w*stat\w*\(\d", stat + r'\.krbfile"', stat + '"')
+    again = needed(nth, rf'open.*"{name}", O_RDONLY', r"\w*stat\w*\(\d", r"read\([1-9]")
+    again = [] if is_new else [*again, Step(r"close", ""), *listed()]
+    synced = [Step(pattern, "") for pattern in (r'open.*"\."', r"fsync", r"close")]
+    return [*needed(nth, r"write\([3-9]"), *owner, *made, *again, *needed(nth, r"rename"), *synced]
 
 
 READ = Step(r"read\(0", "input")
 PRINT = Step(r"write\(1", "output")
 
 TALK = ["rkt j", "l", "wkt k", "wkt n", "l -e", "rkt n", "l"]
-TALKED = [READ, *load("j"), PRINT, *load("k", 2), *save("k"), *load("n", 3),
-          *save("n", 2, is_new=True), PRINT, *load("n", 4), PRINT, READ]
+TALKED = [READ, *load("j"), PRINT, *hold("k"), *load("k", 2), *save("k"), *hold("n", 2),
+          *load("n", 3), *save("n", 2, is_new=True), PRINT, *load("n", 4), PRINT, READ]
 
 
 def runs() -> list[tuple[Modelled, list[Step]]]:
@@ -67,9 +92,10 @@ def runs() -> list[tuple[Modelled, list[Step]]]:
         (klist(TWO, "tKe"), [*load("k"), PRINT]),
         (klist_cache(USUAL, "efC"), [*load("c"), PRINT]),
         (ktfind(TWO, 0, 0, "b@R"), [*load("k"), PRINT]),
-        (ktedit("a keytab", TWO, b"start\ncut 2\n" + add), [READ, *load("k"), *save("k"), PRINT]),
+        (ktedit("a keytab", TWO, b"start\ncut 2\n" + add),
+         [READ, *hold("k"), *load("k"), *save("k"), PRINT]),
         (ktedit("no file", None, add),
-         [READ, *load("k"), *save("k", is_new=True), PRINT]),
+         [READ, *hold("k"), *load("k"), *save("k", is_new=True), PRINT]),
         (ktutil("three files", files, TALK), TALKED),
     ]
 
@@ -87,6 +113,16 @@ def steps_of(calls: list[Call], steps: list[Step]) -> list[tuple[Call, Step]] | 
     return found
 
 
+def failed_step(trace: list[str], first: str, steps: list[Step]) -> Step:
+    """The step of the call that failed in a run; NONE where it came to no such call."""
+    calls = [*calls_of(trace, first)]
+    for number, call in enumerate(calls, 1):
+        if call.line.endswith("(INJECTED)"):
+            found = steps_of(calls[:number], steps)
+            return found[-1][1] if found else UNKNOWN
+    return NONE
+
+
 def is_end_of_step(ends: Ends, step: Step, got: Counted) -> bool:
     """Whether a run ended as it has to where a call of that step fails."""
     end = (got.outcome, got.files)
@@ -102,18 +138,24 @@ def faults_of_failure(
     ends: Ends, call: Call, step: Step, error: str, got: Counted
 ) -> list[str]:
     """What is wrong with a run in which a call of that step failed."""
-    if step.fails == "" or (error == "EINTR" and call.name in REPEATED):
+    if step == UNKNOWN:
+        return ["it is the call of no step"]
+    is_narrowed = step.fails == "owner" and error in NOT_PERMITTED
+    is_repeated = error == "EINTR" and call.name in REPEATED
+    if step.fails in ("", "list") or is_narrowed or is_repeated:
         is_wanted = ends.run.is_whole(got.outcome, got.files)
     else:
         is_wanted = is_end_of_step(ends, step, got)
-    if error == "ENOMEM" and step.fails == "save":
+    if error == "ENOMEM" and step.fails in ("save", "owner", "list"):
         is_wanted = is_wanted or ends.run.ends_early(got.outcome, got.files, NO_MEMORY)
     return [] if is_wanted else [f"{got.outcome} and {sorted(got.files)}"]
 
 
 def faults_of_kill(run: Modelled, got: Counted) -> list[str]:
-    """What is wrong with a run that was killed. A new file may lie beside each, which is whole."""
-    files = {name: data for name, data in got.files.items() if not name.endswith(".new")}
+    """What is wrong with a run that was killed, or ended before. New files may lie beside."""
+    if run.is_whole(got.outcome, got.files):
+        return []
+    files = {name: data for name, data in got.files.items() if not name.endswith(".krbfile")}
     may_be = [stage.files for stage in run.stages] + [run.after()]
     return differences(Outcome(-signal.SIGKILL, got.outcome.out, got.outcome.err), got.outcome) + (
         [] if files in may_be else [f"the files {sorted(got.files)} are not whole"])
@@ -137,9 +179,10 @@ def check_run(report: Report, program: str, run: Modelled, steps: list[Step]) ->
     report.check(f"the system calls of {run.case.name}",
                  [] if found and run.is_whole(got.outcome, got.files) else ["not as wanted"])
     ends = Ends(run)
-    for call, step in found or []:
+    for call, _ in found or []:
         for error in ERRORS:
-            got, _ = traced_run(program, run, *call.to(f"error={error}"))
+            got, trace = traced_run(program, run, *call.to(f"error={error}"))
+            step = failed_step(trace, first, steps)
             faults = faults_of_failure(ends, call, step, error, got)
             report.check(f"{call} fails with {error}: {run.case.name}", faults)
         got, _ = traced_run(program, run, *call.to("signal=KILL"))

@@ -25,8 +25,8 @@ def untimed(image: bytes) -> list[tuple[bool, int, KeytabEntry | None]]:
 def check_same_lines(report: Report, program: str) -> None:
     """The same lines for both ktutils leave the same files, but for times, which MIT makes new."""
     key = bytes(range(32)).hex()
-    addent = "addent -key -p host/z@R -k 300 -e aes256-cts-hmac-sha1-96"
-    given = ["rkt j", "rkt k", "delent 1", addent, key, "wkt n", "wkt k", "clear", "wkt n"]
+    addent = f"addent -key -p host/z@R -k 300 -e aes256-cts-hmac-sha1-96\n{key}"
+    given = ["rkt j", "rkt k", "delent 1", addent, "wkt n", "wkt k", "clear", "wkt n"]
     files = {"j": entries(HOST, Entry((b"a", b"b"), version32=None)), "k": HOLES}
     kept = {}
     with folder_of(files) as folder:
@@ -55,9 +55,9 @@ def read_all(folder: str, names: str) -> dict[str, bytes]:
 
 def check_reads(report: Report, program: str) -> None:
     """A keytab that MIT's ktutil wrote is read by ours."""
-    addent = "addent -key -p host/a@R -k 3 -e aes128-cts-hmac-sha1-96"
+    addent = "addent -key -p host/a@R -k 3 -e aes128-cts-hmac-sha1-96\n" + "00" * 16
     with folder_of({}) as folder:
-        Mit(folder).ktutil(addent, "00" * 16, "wkt k")
+        Mit(folder).ktutil(addent, "wkt k")
         got = run(program, ("ktutil",), folder, b"rkt k\nl -e -k\n")
     line = b"   1    3 host/a@R (aes128-cts-hmac-sha1-96) (0x" + b"00" * 16 + b")\n"
     wanted = b"slot KVNO Principal\n---- ---- ---------\n" + line

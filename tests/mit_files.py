@@ -12,17 +12,17 @@ from sample_keytabs import key
 from script_model import KEY_SIZES
 
 
-def addition(name: str, kvno: int, enctype: int) -> list[str]:
-    """The lines of ktutil that add an entry."""
+def addition(name: str, kvno: int, enctype: int) -> str:
+    """The request of ktutil that adds an entry, and its key on the next line."""
     added = f"addent -key -p {name} -k {kvno} -e {NAMES[enctype].decode()}"
-    return [added, key(KEY_SIZES[enctype]).hex()]
+    return f"{added}\n{key(KEY_SIZES[enctype]).hex()}"
 
 
-def lines() -> list[str]:
-    """Lines of ktutil: entries of each enctype, and those of two files with one between."""
-    new = [line for each in KEY_SIZES for line in addition("host/a@R", 17 * each, each)]
+def requests() -> list[str]:
+    """Requests of ktutil: entries of each enctype, and those of two files with one between."""
+    new = [addition("host/a@R", 17 * each, each) for each in KEY_SIZES]
     odd = addition("a\\/b/c\\@d@R", 300, 17)
-    mixed = ["clear", "rkt two", *odd, "rkt old", "delent 1", "wkt mixed", "wkt two"]
+    mixed = ["clear", "rkt two", odd, "rkt old", "delent 1", "wkt mixed", "wkt two"]
     return [*new, "wkt new", *mixed]
 
 
@@ -32,7 +32,7 @@ def mit_keytabs(report: Report) -> list[bytes]:
         return []
     old = entries(HOST, Entry((b"b",), version32=None))
     with folder_of({"two": TWO, "old": old}) as folder:
-        Mit(folder).ktutil(*lines())
+        Mit(folder).ktutil(*requests())
         return [data for data in files_in(folder).values() if data.startswith(b"\x05")]
 
 

@@ -1,13 +1,17 @@
 """Runs of the program under strace, which lists its system calls and has chosen ones fail."""
 from __future__ import annotations
 
+import os
 import re
+import signal
+import subprocess
 import tempfile
+import time
 from collections import Counter
-from collections.abc import Iterator
+from collections.abc import Callable, Iterator
 from dataclasses import dataclass
 
-from harness import Outcome, run
+from harness import SECONDS, Outcome, run
 from preload import Line
 
 # A line of a trace that begins a system call.
@@ -17,7 +21,7 @@ CALL = re.compile(r"(\w+)\(")
 CALLS = (
     "open,openat,read,pread64,write,pwrite64,writev,close,statx,fstat,newfstatat,lstat,stat,"
     "readlink,readlinkat,ftruncate,chown,fchown,lchown,fchownat,chmod,fchmod,fchmodat,fsync,"
-    "fdatasync,link,linkat,rename,renameat,renameat2,unlink,unlinkat"
+    "fdatasync,flock,fcntl,link,linkat,rename,renameat,renameat2,unlink,unlinkat"
 )
 
 
@@ -40,7 +44,8 @@ class Call:
 def traced(program: str, line: Line, folder: str, *options: str) -> tuple[Outcome, list[str]]:
     """A run under strace, and the lines of its trace."""
     with tempfile.NamedTemporaryFile("r", errors="replace") as trace:
-        words = ("-qq", "-o", trace.name, "-e", f"trace={CALLS}", *options, program, *line.words)
+        words = ("-o", trace.name, "-e", "quiet=all", "-e", f"trace={CALLS}", *options, program,
+                 *line.words)
         outcome = run("strace", words, folder, line.stdin)
         return outcome, trace.read().splitlines()
 
@@ -57,3 +62,40 @@ def calls_of(lines: list[str], first: str) -> Iterator[Call]:
         is_begun = is_begun or first in line
         if is_begun:
             yield Call(found[1], counts[found[1]], line)
+
+
+@dataclass(frozen=True)
+class Halt:
+    """A system call behind which a run stands still: its names, which one, and of what paths."""
+
+    calls: str
+    nth: int = 1
+    paths: tuple[str, ...] = ()
+
+    def options(self) -> list[str]:
+        """The options of strace that halt a run there."""
+        inject = f"inject={self.calls}:signal=STOP:when={self.nth}"
+        paths = [word for path in self.paths for word in ("-P", path)]
+        return ["-e", "quiet=all", "-e", f"trace={self.calls}", "-e", inject, *paths]
+
+
+def halted(
+    program: str, line: Line, folder: str, halt: Halt, change: Callable[[str], None]
+) -> Outcome:
+    """A run that stands still somewhere until a change is made in its folder, and then goes on."""
+    with tempfile.NamedTemporaryFile() as trace:
+        words = ["strace", "-f", "-o", trace.name, *halt.options(), program, *line.words]
+        with subprocess.Popen(words, cwd=folder, stdin=subprocess.PIPE, stdout=subprocess.PIPE,
+                              stderr=subprocess.PIPE) as started:
+            started.stdin.write(line.stdin)
+            started.stdin.close()
+            started.stdin = None
+            seen = b""
+            while b"stopped by" not in seen and started.poll() is None:
+                time.sleep(0.005)
+                seen += trace.read()
+            change(folder)
+            if started.poll() is None:
+                os.kill(int(seen.split()[0]), signal.SIGCONT)
+            out, err = started.communicate(timeout=SECONDS)
+            return Outcome(started.returncode, out, err)

@@ -1,0 +1,299 @@
+"""Storms: many programs that change one keytab at the same time, half of which are killed in some.
+
+What each says that it saved is there afterwards, and who looks meanwhile sees a whole file. By hand
+there are more rounds, and counts: `python3 tests/changes_at_once.py PROGRAM --rounds 50`.
+"""
+from __future__ import annotations
+
+import os
+import signal
+import subprocess
+import sys
+import tempfile
+import threading
+import time
+from argparse import ArgumentParser
+from collections import Counter
+from collections.abc import Callable
+from dataclasses import dataclass
+from random import Random
+
+sys.dont_write_bytecode = True
+
+from beside_mit import Mit, are_there
+from disk_saves import SCRIPT, tree
+from harness import SECONDS, Report, folder_of, run
+from images import Entry, entries, keytab
+from reading import no_keytab, read_image
+
+# How many runs there are at once, and how many storms of each kind.
+MANY = 60
+ROUNDS = 2
+
+# A run that is refused has waited for another for so many seconds, or it says something else.
+LEAST_WAIT = 9
+
+KEY = "000102030405060708090a0b0c0d0e0f"
+
+# A user who swaps names in an own folder, and how often root changes a keytab there.
+USER = 1234
+CHANGES = 500
+SWAPPER = os.path.join(os.path.dirname(os.path.abspath(__file__)), "swap_names.py")
+
+# The names by which the runs call the file, and what lies in the folder at the end.
+PATHS = ("k", "./k", "link")
+LEFT = {"k", "link"}
+
+
+@dataclass(frozen=True)
+class Kind:
+    """A kind of storm: the command of ours, and what else it is than one over a file."""
+
+    command: str
+    over_none: bool = False
+    kills: bool = False
+    # Half of the programs are MIT's ktutil, and they begin within a second.
+    with_mit: bool = False
+
+    def __str__(self) -> str:
+        words = [f"{MANY} runs of {self.command}", "over none" if self.over_none else "over a file"]
+        words += ["half of them killed"] * self.kills + ["half of them MIT's"] * self.with_mit
+        return ", ".join(words)
+
+
+KINDS = (Kind("ktedit"), Kind("ktedit", over_none=True), Kind("ktutil"),
+         Kind("ktutil", over_none=True), Kind("ktedit", kills=True),
+         Kind("ktedit", over_none=True, kills=True), Kind("ktutil", kills=True),
+         Kind("ktedit", with_mit=True), Kind("ktutil", with_mit=True))
+
+
+def names_of(image: bytes) -> list[str] | None:
+    """The first components of the names in a keytab; none where it is not whole."""
+    if no_keytab(image):
+        return None
+    those, fault = read_image(image, False)
+    return None if fault else [entry.name[0].decode() for _, entry in those]
+
+
+def addition(command: str, name: str, path: str = "k") -> tuple[tuple[str, ...], str]:
+    """The words of a run that adds an entry of that name to a file, and its input."""
+    if command == "ktedit":
+        return ("ktedit", path), f"add 1 17 1700000000 {KEY} {name}@R\n"
+    return ("ktutil",), f"addent -key -p {name}@R -k 1 -e 17\n{KEY}\nwkt {path}\n"
+
+
+@dataclass
+class Run:
+    """A run of a storm. It waits for its input, so all of them begin when they are told."""
+
+    name: str
+    started: subprocess.Popen[bytes]
+    text: str
+    is_mits: bool = False
+    is_killed: bool = False
+    begun: float = 0
+    seconds: float = 0
+    said: bytes = b""
+
+    def begin(self) -> None:
+        """Gives it all of its input."""
+        self.begun = time.monotonic()
+        self.started.stdin.write(self.text.encode())
+        self.started.stdin.close()
+        self.started.stdin = None
+
+    def end(self) -> None:
+        """Waits for its end."""
+        self.said = self.started.communicate(timeout=SECONDS)[0]
+        self.seconds = time.monotonic() - self.begun
+
+    def saves(self) -> bool:
+        """Whether it says that it saved. MIT's ktutil ends with status 0 also where it failed."""
+        return self.started.returncode == 0 and not (self.is_mits and b" while " in self.said)
+
+    def end_is_told(self, beside_mit: bool) -> bool:
+        """Whether it ended as it may: it saves, was killed, or was refused for good reason."""
+        status = self.started.returncode
+        was_killed = self.is_killed and status == -signal.SIGKILL
+        has_waited = self.seconds > LEAST_WAIT and status == 3
+        return status == 0 or was_killed or has_waited or (beside_mit and status in (1, 3))
+
+
+class Storm:
+    """Programs that each add an entry to the file `k` of a folder, at the same time."""
+
+    def __init__(self, program: str, kind: Kind, seed: int) -> None:
+        self.program, self.kind = program, kind
+        self.random = Random(seed)
+        self.runs: list[Run] = []
+        self.seen: set[bytes] = set()
+        self.found: list[str] = []
+        self.counts: Counter[str] = Counter()
+
+    def start(self, folder: str, sources: str) -> None:
+        """Starts all programs, which then wait for their input."""
+        mit = Mit(sources)
+        piped = {"stdin": subprocess.PIPE, "stdout": subprocess.PIPE, "stderr": subprocess.STDOUT}
+        for number in range(MANY):
+            is_mits = self.kind.with_mit and number % 2 == 1
+            name = f"{'m' if is_mits else 'h'}{number}"
+            words, text = addition(self.kind.command, name, self.random.choice(PATHS))
+            if is_mits:
+                source = os.path.join(sources, name)
+                with open(source, "wb") as file:
+                    file.write(entries(Entry((name.encode(),))))
+                text = f"rkt {source}\nwkt k\n"
+            line = ["ktutil"] if is_mits else [self.program, *words]
+            started = subprocess.Popen(line, cwd=folder, env=mit.env, **piped)
+            is_killed = self.kind.kills and number % 2 == 1
+            self.runs.append(Run(name, started, text, is_mits, is_killed))
+
+    def deeds(self) -> list[tuple[float, Callable[[], None]]]:
+        """When each run begins and when some are killed, in seconds from now on."""
+        found = []
+        for each in self.runs:
+            at = self.random.random() * self.kind.with_mit
+            found.append((at, each.begin))
+            if each.is_killed:
+                longest = 0.05 if self.random.random() < 0.7 else 0.6
+                found.append((at + self.random.random() * longest, each.started.kill))
+        return sorted(found, key=lambda deed: deed[0])
+
+    def look(self, path: str, is_over: threading.Event) -> None:
+        """Looks at the file until all is over."""
+        while not is_over.wait(0.0002):
+            try:
+                with open(path, "rb") as file:
+                    self.seen.add(file.read())
+                self.counts["looks"] += 1
+            except FileNotFoundError:
+                pass
+
+    def rage(self, folder: str) -> None:
+        """Lets the programs run to their ends, and looks at the file meanwhile."""
+        is_over = threading.Event()
+        looks = threading.Thread(target=self.look, args=(os.path.join(folder, "k"), is_over),
+                                 daemon=True)
+        looks.start()
+        started = time.monotonic()
+        for at, do in self.deeds():
+            time.sleep(max(0, started + at - time.monotonic()))
+            do()
+        for each in self.runs:
+            each.end()
+        is_over.set()
+        looks.join()
+
+    def judge_file(self, folder: str) -> None:
+        """Judges the file at the end: each entry that was saved is there, and none twice."""
+        found = tree(folder)
+        names = names_of(found.get("k", b""))
+        if names is None:
+            self.found.append(f"the file is not whole at the end: {found.get('k')}")
+        names = names or []
+        for each in self.runs:
+            whose = "MIT's" if each.is_mits else "ours"
+            is_lost = each.saves() and each.name not in names
+            self.counts[f"{whose} lost"] += is_lost
+            self.counts[f"{whose} saved"] += each.saves()
+            self.counts[f"{whose} not saved"] += not each.saves()
+            # MIT's may write into a file that has lost its name.
+            if is_lost and not each.is_mits:
+                self.found.append(f"{each.name} is lost")
+            if not each.is_mits and not each.end_is_told(self.kind.with_mit):
+                self.found.append(f"{each.name}: status {each.started.returncode}, {each.said}")
+        if len(names) != len({*names}):
+            self.found.append(f"{names} are there")
+        if not self.kind.kills and found.keys() != LEFT:
+            self.found.append(f"{sorted(found)} are left")
+
+    def judge_looks(self) -> None:
+        """Judges what was seen meanwhile. An entry of MIT's may have been seen half made."""
+        for image in self.seen:
+            is_bad = no_keytab(image) if self.kind.with_mit else names_of(image) is None
+            if is_bad:
+                self.counts["bad looks"] += 1
+                self.found.append(f"{image[:40]}, {len(image)} bytes, was seen")
+
+    def judge_next(self, folder: str) -> None:
+        """What was left keeps no later run from the file, which also takes it away."""
+        words, text = addition(self.kind.command, "last")
+        got = run(self.program, words, folder, text.encode())
+        found = tree(folder)
+        names = names_of(found.get("k", b"")) or []
+        if got.status != 0 or "last" not in names or found.keys() != LEFT:
+            self.counts["bad next runs"] += 1
+            self.found.append(f"the next run: {got}, then {sorted(found)} are there")
+
+
+def storm(program: str, kind: Kind, seed: int) -> Storm:
+    """One storm, and what is wrong with it."""
+    made = Storm(program, kind, seed)
+    files = {} if kind.over_none else {"k": keytab()}
+    if kind.kills:
+        files["k.krbfile"] = b"left"
+    with folder_of(files) as folder, tempfile.TemporaryDirectory() as sources:
+        os.symlink("k", os.path.join(folder, "link"))
+        made.start(folder, sources)
+        made.rage(folder)
+        made.judge_file(folder)
+        made.judge_looks()
+        made.judge_next(folder)
+    return made
+
+
+def check_swapped(report: Report, program: str) -> None:
+    """Who swaps a name in an own folder gets no keys of root's: the one storm of two programs."""
+    if os.geteuid() != 0:
+        report.skip("names that are swapped", "none but root has another do it")
+        return
+    secret = bytes(range(100, 116))
+    image = entries(*[Entry((b"%d" % number,), key=secret) for number in range(2_000)])
+    with folder_of({"secret": image}) as safe, folder_of({"k": keytab()}) as folder:
+        os.chmod(os.path.join(safe, "secret"), 0o600)
+        os.chown(folder, USER, USER)
+        words = [sys.executable, SWAPPER, os.path.join(safe, "secret"), secret.hex(), str(USER)]
+        with subprocess.Popen(words, cwd=folder) as swapper:
+            for _ in range(CHANGES):
+                run(program, ("ktedit", "k"), folder, SCRIPT)
+            was_swapping = swapper.poll() is None
+            swapper.kill()
+        faults = [] if was_swapping else ["nobody swaps the name"]
+        for name, data in tree(folder).items():
+            is_users = os.lstat(os.path.join(folder, name)).st_uid == USER
+            if is_users and isinstance(data, bytes) and secret in data:
+                faults.append(f"{name} has the keys")
+    report.check("a name that is swapped", faults)
+
+
+def check(report: Report, program: str, rounds: int = ROUNDS, tell: bool = False) -> None:
+    """Runs all of this topic, and prints the counts of each kind where that is asked for."""
+    check_swapped(report, program)
+    has_mit = are_there(report, "changes beside MIT's ktutil")
+    for kind in KINDS:
+        if kind.with_mit and not has_mit:
+            continue
+        counts: Counter[str] = Counter()
+        for seed in range(rounds):
+            made = storm(program, kind, seed)
+            report.check(f"{kind}, round {seed}", made.found[:3])
+            counts.update(made.counts)
+        if tell:
+            told = ", ".join(f"{count} {what}" for what, count in sorted(counts.items()))
+            print(f"{kind}, {rounds} rounds: {told}", flush=True)
+
+
+def main() -> int:
+    """Reads the words, and answers the status."""
+    parser = ArgumentParser(description=__doc__)
+    parser.add_argument("program")
+    parser.add_argument("--rounds", type=int, default=ROUNDS, help="storms of each kind")
+    words = parser.parse_args()
+    report = Report()
+    check(report, os.path.abspath(words.program), words.rounds, tell=True)
+    print(report.summary())
+    return 1 if report.failed else 0
+
+
+if __name__ == "__main__":
+    sys.exit(main())

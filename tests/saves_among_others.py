@@ -1,0 +1,299 @@
+"""A save while others change the file, its name or its folder, or have locked it."""
+from __future__ import annotations
+
+import fcntl
+import os
+import shutil
+import struct
+import tempfile
+import threading
+import time
+from collections.abc import Callable, Iterator
+from contextlib import ExitStack, contextmanager
+
+from disk_saves import NEW, OLD, SAVED, SCRIPT, UNSAVED, Place, edit, tree, tree_faults, write
+from edits import ADD_B, text
+from harness import Outcome, Report, differences, folder_of, run
+from images import B, entries
+from preload import Line
+from script_model import edited
+from system_calls import Halt, halted
+
+# A user who is not root, and more locks than the system lists at a time.
+USER = 1234
+MANY = 300
+
+# The calls behind which a run stands still, by a word for them.
+HALTS = {
+    "look": Halt("?statx,?newfstatat,?lstat,?lstat64", paths=("file",)),
+    "making": Halt("openat", paths=("k.krbfile",)),
+    "finding": Halt("openat", 2, ("k.krbfile",)),
+    "opening": Halt("openat", paths=("k", "file")),
+    "writing": Halt("write"),
+    "syncing": Halt("fsync"),
+}
+
+
+def edited_while(program: str, folder: str, call: str, change: Place) -> Outcome:
+    """A run that adds an entry, and stands still behind a system call while a change is made."""
+    return halted(program, Line(("ktedit", "k"), SCRIPT), folder, HALTS[call], change)
+
+
+def named(name: str, make: Callable[[str], None]) -> Place:
+    """Makes something beside, which then takes that name."""
+
+    def change(folder: str) -> None:
+        make(os.path.join(folder, "spare"))
+        os.rename(os.path.join(folder, "spare"), os.path.join(folder, name))
+
+    return change
+
+
+def at_name(do: Callable[[str], None]) -> Place:
+    """Does something to what has the name."""
+    return lambda folder: do(os.path.join(folder, "k"))
+
+
+# What takes the place of the file after it was opened to be loaded, and whether there was one.
+REPLACED: list[tuple[str, bool, Place]] = [
+    ("another file of the same bytes", True, named("k", lambda path: write(path, OLD))),
+    ("a link to another file", True, named("k", lambda path: os.symlink("other", path))),
+    ("a link to a file of the same bytes", True, named("k", lambda path: os.symlink("old", path))),
+    ("a file where none was", False, at_name(lambda path: write(path, OLD))),
+    ("an empty file where none was", False, at_name(lambda path: write(path, b""))),
+    ("a link where no file was", False, at_name(lambda path: os.symlink("none", path))),
+    ("no file any more", True, at_name(os.remove)),
+    ("another new file", True, named("k.krbfile", lambda path: write(path, b"strange"))),
+    ("a link as new file", True, named("k.krbfile", lambda path: os.symlink("other", path))),
+]
+
+# What is changed of the file after it was loaded. The last may be changed by root alone.
+CHANGED: list[tuple[str, bool, Place]] = [
+    ("another mode", True, at_name(lambda path: os.chmod(path, 0o640))),
+    ("no bytes", True, at_name(lambda path: write(path, b""))),
+    ("a byte less", True, at_name(lambda path: write(path, OLD[:-1]))),
+    ("an entry more", True, at_name(lambda path: write(path, entries(B)))),
+    ("another group", True, at_name(lambda path: os.chown(path, -1, USER))),
+    ("another owner", True, at_name(lambda path: os.chown(path, USER, -1))),
+]
+
+
+def known(folder: str) -> dict[str, object]:
+    """What stands in a folder, with owners and modes; a new file of ours is not counted."""
+    found: dict[str, object] = {}
+    for name, data in tree(folder).items():
+        if not (name == "k.krbfile" and data in (b"", NEW)):
+            own = os.lstat(os.path.join(folder, name))
+            found[name] = (data, own.st_ino, own.st_mode, own.st_uid, own.st_gid)
+    return found
+
+
+def check_change(report: Report, program: str, call: str, of: tuple[str, bool, Place]) -> None:
+    """A change behind that call of a run: the file stays as it is, and what took its name too."""
+    what, is_there, change = of
+    with folder_of({"old": OLD, "other": b"other"}) as folder:
+        if is_there:
+            write(os.path.join(folder, "k"), OLD)
+        wanted: dict[str, object] = {}
+
+        def change_and_look(folder: str) -> None:
+            change(folder)
+            wanted.update(known(folder))
+
+        faults = differences(UNSAVED, edited_while(program, folder, call, change_and_look))
+        if known(folder) != wanted or NEW in tree(folder).values():
+            faults.append(f"{[*tree(folder)]} are there, or are not as they were")
+    report.check(f"{what}, behind the {call} of a run", faults)
+
+
+def check_changes(report: Report, program: str) -> None:
+    """A file that is not as it was loaded is not saved."""
+    for call in ("opening", "writing", "syncing"):
+        for of in REPLACED:
+            check_change(report, program, call, of)
+    for call in ("writing", "syncing"):
+        for of in CHANGED if os.geteuid() == 0 else CHANGED[:-2]:
+            check_change(report, program, call, of)
+
+
+def check_led_elsewhere(report: Report, program: str) -> None:
+    """A link that gives way: the file that was loaded is saved, and no other gets its keys."""
+    places = {"another link": lambda path: os.symlink("other", path),
+              "a file": lambda path: write(path, OLD, 0o644)}
+    for call in ("opening", "writing", "syncing"):
+        for what, make in places.items():
+            with folder_of({"file": OLD, "other": OLD}) as folder:
+                os.symlink("file", os.path.join(folder, "k"))
+                faults = differences(SAVED, edited_while(program, folder, call, named("k", make)))
+                there = {"file": NEW, "other": OLD, "k": OLD if what == "a file" else "other"}
+                faults += tree_faults(there, folder)
+            report.check(f"{what} in place of a link, behind the {call} of a run", faults)
+
+
+def check_led(report: Report, program: str) -> None:
+    """A file that others save, make or remove while a link to it is followed is saved."""
+    changes = [
+        ("another file", {"file": OLD}, named("file", lambda path: write(path, OLD))),
+        ("a file where none was", {}, named("file", lambda path: write(path, OLD))),
+        ("no file any more", {"file": OLD}, lambda folder: os.remove(os.path.join(folder, "file"))),
+    ]
+    for what, files, change in changes:
+        with folder_of(files) as folder:
+            os.symlink("file", os.path.join(folder, "k"))
+            faults = differences(SAVED, edited_while(program, folder, "look", change))
+            faults += tree_faults({"k": "file", "file": NEW}, folder)
+        report.check(f"{what} at the end of a link, behind a look at it", faults)
+
+
+def check_crossed(report: Report, program: str) -> None:
+    """A run that is overtaken while it makes its new file, or looks at one that was left."""
+    wanted, image = edited(entries(B), SCRIPT)
+    for call, files in (("making", {}), ("making", {"k.krbfile": b"left"}),
+                        ("finding", {"k.krbfile": b"left"})):
+        with folder_of({"k": OLD, **files}) as folder:
+            others: list[Outcome] = []
+
+            def save(folder: str) -> None:
+                others.append(run(program, ("ktedit", "k"), folder, text([ADD_B])))
+
+            faults = differences(wanted, edited_while(program, folder, call, save))
+            faults += differences(SAVED, others[0]) + tree_faults({"k": image}, folder)
+        report.check(f"overtaken behind the {call} of a new file, beside {len(files)}", faults)
+
+
+def check_crossed_hold(report: Report, program: str) -> None:
+    """A run that finds a new file which was left, and in its place by then one that is held."""
+    with folder_of({"k": OLD, "k.krbfile": b"left"}) as folder:
+        held = []
+
+        def hold(folder: str) -> None:
+            os.remove(os.path.join(folder, "k.krbfile"))
+            held.append(open(os.path.join(folder, "k.krbfile"), "xb"))
+            fcntl.flock(held[0], fcntl.LOCK_EX)
+            timer.start()
+
+        def save() -> None:
+            write(os.path.join(folder, "k"), entries(B))
+            os.remove(os.path.join(folder, "k.krbfile"))
+            held[0].close()
+
+        timer = threading.Timer(0.3, save)
+        wanted, image = edited(entries(B), SCRIPT)
+        faults = differences(wanted, edited_while(program, folder, "finding", hold))
+        faults += tree_faults({"k": image}, folder)
+        timer.join()
+    report.check("held by another behind the finding of a new file", faults)
+
+
+@contextmanager
+def later(seconds: float, what: Callable[[], None]) -> Iterator[None]:
+    """Does something so many seconds later."""
+    timer = threading.Timer(seconds, what)
+    timer.start()
+    yield
+    timer.join()
+
+
+def ofd_lock(file, kind: int, waits: bool = False) -> None:
+    """Locks a file by its open description, as MIT's programs do."""
+    command = fcntl.F_OFD_SETLKW if waits else fcntl.F_OFD_SETLK
+    fcntl.fcntl(file, command, struct.pack("hhqqixxxx", kind, os.SEEK_SET, 0, 0, 0))
+
+
+def faults_of_waiting(program: str, folder: str, name: str, lock: Callable) -> list[str]:
+    """What is wrong with a run while a file is locked for a moment."""
+    with open(os.path.join(folder, name), "r+b") as file:
+        lock(file)
+        with later(0.3, file.close):
+            faults = differences(SAVED, edit(program, folder))
+            faults += [] if file.closed else ["it did not wait"]
+    return faults + tree_faults({"k": NEW}, folder)
+
+
+def check_locks(report: Report, program: str) -> None:
+    """A run waits for another's new file, and for who has locked the file to write in it."""
+    locks = [
+        ("k.krbfile", "another run's lock", lambda file: fcntl.flock(file, fcntl.LOCK_EX)),
+        ("k", "a lock of a program", lambda file: fcntl.lockf(file, fcntl.LOCK_EX)),
+        ("k", "a lock of a part", lambda file: fcntl.lockf(file, fcntl.LOCK_EX, 1, 9)),
+        ("k", "a lock of an open file", lambda file: ofd_lock(file, fcntl.F_WRLCK)),
+    ]
+    for name, what, lock in locks:
+        with folder_of({"k": OLD, name: OLD}) as folder:
+            faults = faults_of_waiting(program, folder, name, lock)
+        report.check(f"{what} is waited for", faults)
+    with folder_of({"k": OLD}) as folder, open(os.path.join(folder, "k"), "rb") as file:
+        ofd_lock(file, fcntl.F_RDLCK)
+        faults = differences(SAVED, edit(program, folder)) + tree_faults({"k": NEW}, folder)
+    report.check("a lock to read is not waited for", faults)
+
+
+def check_many_locks(report: Report, program: str) -> None:
+    """A run finds a lock among so many that the list of locks is read in parts."""
+    with folder_of({"k": OLD}) as folder, ExitStack() as stack:
+        for number in range(MANY):
+            if number == MANY // 2:
+                there = stack.enter_context(open(os.path.join(folder, "k"), "r+b"))
+                fcntl.lockf(there, fcntl.LOCK_EX)
+            fcntl.flock(stack.enter_context(tempfile.TemporaryFile()), fcntl.LOCK_EX)
+        with later(0.3, there.close):
+            faults = differences(SAVED, edit(program, folder))
+            faults += [] if there.closed else ["it did not wait"]
+        faults += tree_faults({"k": NEW}, folder)
+    report.check(f"a lock among {MANY} others is waited for", faults)
+
+
+def check_waiting_locks(report: Report, program: str) -> None:
+    """A run waits also for a program that itself waits to lock the file."""
+    with folder_of({"k": OLD}) as folder:
+        path = os.path.join(folder, "k")
+        with open(path, "rb") as reader, open(path, "r+b") as writer:
+            ofd_lock(reader, fcntl.F_RDLCK)
+            waiter = threading.Thread(target=ofd_lock, args=(writer, fcntl.F_WRLCK, True))
+            waiter.start()
+            while not is_waited_for(path):
+                time.sleep(0.005)
+            with later(0.3, reader.close), later(0.6, writer.close):
+                faults = differences(SAVED, edit(program, folder))
+                faults += [] if writer.closed else ["it did not wait"]
+            waiter.join()
+        faults += tree_faults({"k": NEW}, folder)
+    report.check("who waits for a lock is waited for", faults)
+
+
+def is_waited_for(path: str) -> bool:
+    """Whether a program waits for a lock of a file."""
+    with open("/proc/locks", encoding="ascii") as locks:
+        return any("->" in line and f":{os.stat(path).st_ino} " in line for line in locks)
+
+
+def check_lasting_lock(report: Report, program: str) -> None:
+    """A lock that stays: the save is refused after some ten seconds."""
+    with folder_of({"k": OLD, "k.krbfile": b"other"}) as folder:
+        wanted = tree(folder)
+        with open(os.path.join(folder, "k.krbfile"), "rb") as file:
+            fcntl.flock(file, fcntl.LOCK_EX)
+            started = time.monotonic()
+            faults = differences(UNSAVED, edit(program, folder)) + tree_faults(wanted, folder)
+            if time.monotonic() - started < 9:
+                faults.append("it did not wait")
+    report.check("a lock that stays", faults)
+
+
+def check(report: Report, program: str) -> None:
+    """Runs all of this topic."""
+    if shutil.which("strace") is None:
+        report.skip("files that are changed meanwhile", "there is no strace")
+    else:
+        check_changes(report, program)
+        check_led_elsewhere(report, program)
+        check_led(report, program)
+        check_crossed(report, program)
+        check_crossed_hold(report, program)
+    check_lasting_lock(report, program)
+    if os.path.exists("/proc/locks"):
+        check_locks(report, program)
+        check_many_locks(report, program)
+        check_waiting_locks(report, program)
+    else:
+        report.skip("locks that are waited for", "there is no list of locks")
