@@ -82,8 +82,9 @@ impl From<DiskFault> for ReadFault {
     }
 }
 
+// A system without memory for a call has failed to read; only the program's own memory is `NoMemory` here.
 impl From<io::Error> for ReadFault {
     fn from(error: io::Error) -> ReadFault {
-        ReadFault::Disk(DiskFault::from(error))
+        ReadFault::Disk(DiskFault::Failed(cause_of(&error)))
     }
 }

@@ -1,6 +1,5 @@
 //! Files that remember why a call failed.
 
-use crate::fault::DiskFault;
 use std::io::{self, Read, Write};
 
 /// A file that remembers the error of its last read or write that failed.
@@ -21,10 +20,10 @@ impl<F> Noted<F> {
     }
 
     /// Why it failed. A write that took no byte has no error of its own.
-    pub fn fault(&self) -> DiskFault {
-        match &self.error {
-            Some(error) => DiskFault::from(*error),
-            None => DiskFault::from(io::Error::from(io::ErrorKind::WriteZero)),
+    pub fn error(&self) -> io::Error {
+        match self.error {
+            Some(error) => error,
+            None => io::Error::from(io::ErrorKind::WriteZero),
         }
     }
 }

@@ -34,7 +34,7 @@ pub fn read_file<R: rt::Files, A: Allocator>(
         Ok(bytes) => Ok((metadata, bytes)),
         Err(LoadFault::TooLarge) => Err(ReadFault::TooLarge),
         Err(LoadFault::NoMemory) => Err(ReadFault::Disk(DiskFault::NoMemory)),
-        Err(LoadFault::Missing | LoadFault::Failed) => Err(ReadFault::Disk(file.fault())),
+        Err(LoadFault::Missing | LoadFault::Failed) => Err(ReadFault::from(file.error())),
     }
 }
 

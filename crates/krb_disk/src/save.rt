@@ -55,7 +55,7 @@ pub fn fill<F: Write + OpenFile + SetOwner>(
     ensures { OnOk result (Appends (F.contents new.old.file) (F.contents new.new.file) bytes.now) }
 {
     if save(new, bytes).is_err() {
-        return Err(new.fault());
+        return Err(DiskFault::from(new.error()));
     }
     let mode = match old {
         Some(old) => new_mode(old.mode(), give_owner(&new.file, old)?),
