@@ -14,7 +14,7 @@ from cache_images import USUAL
 from failing_streams import Ends, ends_in_output
 from harness import Outcome, Report, differences, files_in, folder_of
 from images import TWO, B, entries
-from modelled import NO_MEMORY, Modelled, klist, klist_cache, ktedit, ktfind, ktutil
+from modelled import Modelled, klist, klist_cache, ktedit, ktfind, ktutil
 from preload import Counted, Line
 from system_calls import Call, calls_of, traced
 
@@ -146,8 +146,6 @@ def faults_of_failure(
         is_wanted = ends.run.is_whole(got.outcome, got.files)
     else:
         is_wanted = is_end_of_step(ends, step, got)
-    if error == "ENOMEM" and step.fails in ("save", "owner", "list"):
-        is_wanted = is_wanted or ends.run.ends_early(got.outcome, got.files, NO_MEMORY)
     return [] if is_wanted else [f"{got.outcome} and {sorted(got.files)}"]
 
 

@@ -5,11 +5,13 @@ import fcntl
 import os
 import shutil
 import struct
+import subprocess
+import sys
 import tempfile
 import threading
 import time
-from collections.abc import Callable, Iterator
-from contextlib import ExitStack, contextmanager
+from collections.abc import Callable
+from contextlib import ExitStack
 
 from disk_saves import NEW, OLD, SAVED, SCRIPT, UNSAVED, Place, edit, tree, tree_faults, write
 from edits import ADD_B, text
@@ -22,6 +24,9 @@ from system_calls import Halt, halted
 # A user who is not root, and more locks than the system lists at a time.
 USER = 1234
 MANY = 300
+
+# A program that waits to lock a file.
+WAITER = "import fcntl, sys; fcntl.lockf(open(sys.argv[1], 'r+b'), fcntl.LOCK_EX)"
 
 # The calls behind which a run stands still, by a word for them.
 HALTS = {
@@ -185,28 +190,24 @@ def check_crossed_hold(report: Report, program: str) -> None:
     report.check("held by another behind the finding of a new file", faults)
 
 
-@contextmanager
-def later(seconds: float, what: Callable[[], None]) -> Iterator[None]:
-    """Does something so many seconds later."""
-    timer = threading.Timer(seconds, what)
-    timer.start()
-    yield
-    timer.join()
-
-
-def ofd_lock(file, kind: int, waits: bool = False) -> None:
+def ofd_lock(file, kind: int) -> None:
     """Locks a file by its open description, as MIT's programs do."""
-    command = fcntl.F_OFD_SETLKW if waits else fcntl.F_OFD_SETLK
-    fcntl.fcntl(file, command, struct.pack("hhqqixxxx", kind, os.SEEK_SET, 0, 0, 0))
+    fcntl.fcntl(file, fcntl.F_OFD_SETLK, struct.pack("hhqqixxxx", kind, os.SEEK_SET, 0, 0, 0))
 
 
-def faults_of_waiting(program: str, folder: str, name: str, lock: Callable) -> list[str]:
-    """What is wrong with a run while a file is locked for a moment."""
-    with open(os.path.join(folder, name), "r+b") as file:
-        lock(file)
-        with later(0.3, file.close):
-            faults = differences(SAVED, edit(program, folder))
-            faults += [] if file.closed else ["it did not wait"]
+def faults_of_waiting(program: str, folder: str, end: Callable[[], None]) -> list[str]:
+    """What is wrong with a run that has to wait until something ends, which it does in a moment."""
+    has_ended = threading.Event()
+
+    def end_it() -> None:
+        has_ended.set()
+        end()
+
+    timer = threading.Timer(0.3, end_it)
+    timer.start()
+    faults = differences(SAVED, edit(program, folder))
+    faults += [] if has_ended.is_set() else ["it did not wait"]
+    timer.join()
     return faults + tree_faults({"k": NEW}, folder)
 
 
@@ -220,7 +221,9 @@ def check_locks(report: Report, program: str) -> None:
     ]
     for name, what, lock in locks:
         with folder_of({"k": OLD, name: OLD}) as folder:
-            faults = faults_of_waiting(program, folder, name, lock)
+            with open(os.path.join(folder, name), "r+b") as file:
+                lock(file)
+                faults = faults_of_waiting(program, folder, file.close)
         report.check(f"{what} is waited for", faults)
     with folder_of({"k": OLD}) as folder, open(os.path.join(folder, "k"), "rb") as file:
         ofd_lock(file, fcntl.F_RDLCK)
@@ -236,28 +239,21 @@ def check_many_locks(report: Report, program: str) -> None:
                 there = stack.enter_context(open(os.path.join(folder, "k"), "r+b"))
                 fcntl.lockf(there, fcntl.LOCK_EX)
             fcntl.flock(stack.enter_context(tempfile.TemporaryFile()), fcntl.LOCK_EX)
-        with later(0.3, there.close):
-            faults = differences(SAVED, edit(program, folder))
-            faults += [] if there.closed else ["it did not wait"]
-        faults += tree_faults({"k": NEW}, folder)
+        faults = faults_of_waiting(program, folder, there.close)
     report.check(f"a lock among {MANY} others is waited for", faults)
 
 
 def check_waiting_locks(report: Report, program: str) -> None:
-    """A run waits also for a program that itself waits to lock the file."""
+    """A run waits also for a program that itself waits to lock the file, until that gives up."""
+    words = (sys.executable, "-c", WAITER, "k")
     with folder_of({"k": OLD}) as folder:
         path = os.path.join(folder, "k")
-        with open(path, "rb") as reader, open(path, "r+b") as writer:
+        with open(path, "rb") as reader:
             ofd_lock(reader, fcntl.F_RDLCK)
-            waiter = threading.Thread(target=ofd_lock, args=(writer, fcntl.F_WRLCK, True))
-            waiter.start()
-            while not is_waited_for(path):
-                time.sleep(0.005)
-            with later(0.3, reader.close), later(0.6, writer.close):
-                faults = differences(SAVED, edit(program, folder))
-                faults += [] if writer.closed else ["it did not wait"]
-            waiter.join()
-        faults += tree_faults({"k": NEW}, folder)
+            with subprocess.Popen(words, cwd=folder) as waiter:
+                while not is_waited_for(path):
+                    time.sleep(0.005)
+                faults = faults_of_waiting(program, folder, waiter.kill)
     report.check("who waits for a lock is waited for", faults)
 
 

@@ -57,10 +57,12 @@ fn cause_of(error: &io::Error) -> Cause {
     }
 }
 
+// A call for which the system had no memory has failed as others do, and has a number. Without one, the program
+// itself had none.
 impl From<io::Error> for DiskFault {
     fn from(error: io::Error) -> DiskFault {
-        match error.kind() {
-            ErrorKind::OutOfMemory => DiskFault::NoMemory,
+        match (error.kind(), error.raw_os_error()) {
+            (ErrorKind::OutOfMemory, None) => DiskFault::NoMemory,
             _ => DiskFault::Failed(cause_of(&error)),
         }
     }
@@ -82,9 +84,8 @@ impl From<DiskFault> for ReadFault {
     }
 }
 
-// A system without memory for a call has failed to read; only the program's own memory is `NoMemory` here.
 impl From<io::Error> for ReadFault {
     fn from(error: io::Error) -> ReadFault {
-        ReadFault::Disk(DiskFault::Failed(cause_of(&error)))
+        ReadFault::Disk(DiskFault::from(error))
     }
 }

@@ -29,7 +29,6 @@ fn set_owner<F: SetOwner>(file: &F, owner: Option<u32>, group: u32) -> Result<bo
     match file.set_owner(owner, Some(group)) {
         Ok(()) => Ok(true),
         Err(error) if is_refused(&error) => Ok(false),
-        Err(error) if error.kind() == ErrorKind::OutOfMemory => Err(DiskFault::NoMemory),
         Err(_) => Err(DiskFault::Failed(Cause::OwnerNotKept)),
     }
 }

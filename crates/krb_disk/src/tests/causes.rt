@@ -1,6 +1,6 @@
 use super::calls::{failed, save};
 use super::disks::Calls;
-use krb_text::{Cause, SaveFault};
+use krb_text::Cause;
 use std::test::Fail;
 
 /// Each error of a write is told by its cause.
@@ -45,7 +45,7 @@ fn what_a_hold_fails_with(rt: HostRuntime) -> Result<(), Fail> {
 }
 
 /// A file is made and locked where the file system has no locks; a mount point is not renamed over, which is
-/// told apart from another call's EBUSY; without memory no failure is counted.
+/// told apart from another call's EBUSY; a system without memory for a call is no program without memory.
 #[test]
 fn errors_with_a_meaning_of_their_own(rt: HostRuntime) -> Result<(), Fail> {
     let unlocked = Calls::new(rt.alloc(), 3, 95);
@@ -54,10 +54,10 @@ fn errors_with_a_meaning_of_their_own(rt: HostRuntime) -> Result<(), Fail> {
     assert!(rt; save(rt.alloc(), &mounted, "k") == failed(Cause::MountPoint));
     let busy = Calls::new(rt.alloc(), 15, 16);
     assert!(rt; save(rt.alloc(), &busy, "k") == failed(Cause::System(16)));
-    for call in [1u64, 2, 3, 11, 12, 13, 22] {
+    for call in [1u64, 2, 3, 11, 13, 22] {
         let calls = Calls::new(rt.alloc(), call, 12);
         let saved = save(rt.alloc(), &calls, "k");
-        assert!(rt; saved == (Err(SaveFault::NoMemory), 0, None), "at {call}");
+        assert!(rt; saved == failed(Cause::System(12)), "at {call}");
     }
     Ok(())
 }
