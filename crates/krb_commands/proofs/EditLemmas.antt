@@ -8,16 +8,16 @@ use Rattle.krb_walk.specs.declared.event.Event.{Event}
 use Rattle.krb_walk.specs.Events.{after}
 use Rattle.krb_keytab.specs.Entry.{EntryParts}
 use Rattle.krb_keytab.specs.Store.{KeytabState}
-use Rattle.krb_text.specs.declared.files.Files.{Ghosts}
-use Rattle.krb_text.specs.declared.files.LoadFault.{LoadFault}
-use Rattle.krb_text.specs.declared.files.LoadFault.TheVariants as load
-use Rattle.krb_text.specs.declared.files.SaveFault.{SaveFault}
-use Rattle.krb_text.specs.declared.files.SaveFault.TheVariants as save
+use Rattle.krb_files.specs.declared.files.Files.{Ghosts}
+use Rattle.krb_files.specs.declared.files.LoadFault.{LoadFault}
+use Rattle.krb_files.specs.declared.files.LoadFault.TheVariants as load
+use Rattle.krb_files.specs.declared.files.SaveFault.{SaveFault}
+use Rattle.krb_files.specs.declared.files.SaveFault.TheVariants as save
 use Rattle.krb_text.specs.declared.script.ScriptRefusal.{ScriptRefusal}
 use Rattle.krb_text.specs.declared.script.ScriptRefusal.TheVariants as refusal
 use Rattle.krb_text.specs.declared.script.ScriptRefusal.TheVariants.{Fault}
-use Rattle.krb_text.specs.Bytes.{Watch}
-use Rattle.krb_text.specs.Files.{SameFiles, SetsFile, CountsFailure, loaded}
+use Rattle.krb_files.specs.Bytes.{Watch}
+use Rattle.krb_files.specs.Files.{SameFiles, SetsFile, CountsFailure, loaded}
 use Rattle.krb_text.specs.Script.{ScriptFault, RefusesScript, script}
 use Rattle.krb_commands.specs.declared.ktedit.Edited.{Edited}
 use Rattle.krb_commands.specs.Edits.{saved_of, run_of, IsEdited, OpensToEdit, EndsUnedited, SaysWhy}

@@ -8,12 +8,12 @@ use Rattle.krb_walk.specs.History.{replies}
 use Rattle.krb_keytab.specs.declared.open.KtOpenFault.{KtOpenFault}
 use Rattle.krb_keytab.specs.Entry.{EntryParts}
 use Rattle.krb_keytab.specs.Store.{KeytabState, open_result}
-use Rattle.krb_text.specs.declared.files.Files.{Ghosts}
-use Rattle.krb_text.specs.declared.files.LoadFault.{LoadFault}
-use Rattle.krb_text.specs.declared.files.LoadFault.TheVariants as load
-use Rattle.krb_text.specs.declared.files.SaveFault.{SaveFault}
-use Rattle.krb_text.specs.Bytes.{Watch, AppendsPrefix}
-use Rattle.krb_text.specs.Files.{SameFiles}
+use Rattle.krb_files.specs.declared.files.Files.{Ghosts}
+use Rattle.krb_files.specs.declared.files.LoadFault.{LoadFault}
+use Rattle.krb_files.specs.declared.files.LoadFault.TheVariants as load
+use Rattle.krb_files.specs.declared.files.SaveFault.{SaveFault}
+use Rattle.krb_files.specs.Bytes.{Watch, AppendsPrefix}
+use Rattle.krb_files.specs.Files.{SameFiles}
 use Rattle.krb_text.specs.Script.{ScriptFault, script}
 use Rattle.krb_commands.specs.Loading.{most_bytes, save_fault_run, saved_run}
 use Rattle.krb_commands.specs.Input.{input_run, line_run}

@@ -5,11 +5,11 @@ use Rattle.std.specs.Io.KnownBytes.{Appends}
 use Rattle.std.proofs.lemmas.Bool.{false≢true, true≢false}
 use Rattle.krb_walk.specs.declared.refusal.Code.{Code}
 use Rattle.krb_keytab.specs.Find.{PlacedEntry}
-use Rattle.krb_text.specs.declared.files.LoadFault.{LoadFault}
-use Rattle.krb_text.specs.declared.files.LoadFault.TheVariants as load
-use Rattle.krb_text.specs.Bytes.{Watch, AppendsPrefix}
-use Rattle.krb_text.specs.Files.{CountsFailure, loaded}
-use Rattle.krb_text.proofs.Prefixes.{AppendsPrefix-all, AppendsPrefix-none, Appends-nil}
+use Rattle.krb_files.specs.declared.files.LoadFault.{LoadFault}
+use Rattle.krb_files.specs.declared.files.LoadFault.TheVariants as load
+use Rattle.krb_files.specs.Bytes.{Watch, AppendsPrefix}
+use Rattle.krb_files.specs.Files.{CountsFailure, loaded}
+use Rattle.krb_files.proofs.Prefixes.{AppendsPrefix-all, AppendsPrefix-none, Appends-nil}
 use Rattle.krb_commands.specs.Messages.{message}
 use Rattle.krb_commands.specs.Loading.{load_run, load_message, load_status, most_bytes}
 use Rattle.krb_commands.specs.Ktfind.{found_run, refused_message}

@@ -2,12 +2,12 @@
 use Rattle.std.proofs.Common.{◌≡◌, ◌≢◌, ◌⊎◌, ℕ, List, [], Bool, true, false, rules, refl, sym, ap, subst, ◌∙◌, inr}
 use Rattle.std.specs.Prelude.{IsFalse, Result, Ok, Err, if◌then◌else◌}
 use Rattle.std.specs.Io.KnownBytes.{Appends}
-use Rattle.krb_text.specs.declared.files.Files.{Ghosts}
-use Rattle.krb_text.specs.declared.files.LoadFault.{LoadFault}
-use Rattle.krb_text.specs.declared.files.LoadFault.TheVariants as load
-use Rattle.krb_text.specs.Bytes.{Watch}
-use Rattle.krb_text.specs.Files.{CountsFailure, loaded}
-use Rattle.krb_text.proofs.Prefixes.{Appends-nil}
+use Rattle.krb_files.specs.declared.files.Files.{Ghosts}
+use Rattle.krb_files.specs.declared.files.LoadFault.{LoadFault}
+use Rattle.krb_files.specs.declared.files.LoadFault.TheVariants as load
+use Rattle.krb_files.specs.Bytes.{Watch}
+use Rattle.krb_files.specs.Files.{CountsFailure, loaded}
+use Rattle.krb_files.proofs.Prefixes.{Appends-nil}
 use Rattle.krb_commands.specs.Loading.{most_bytes, load_message, load_status, opening_run, load_run, KeepsFiles, RunsOver, LoadsImage, EndsUnloaded}
 use Rattle.krb_commands.specs.Runs.{Run, Says, EndsRun, HasCause}
 use Rattle.krb_commands.proofs.Ends.{EndsRun-done, EndsRun-unloaded, EndsRun-honest, EndsLoaded-ok, EndsLoaded-err}

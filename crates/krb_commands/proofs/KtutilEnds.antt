@@ -2,16 +2,16 @@
 use Rattle.std.proofs.Common.{◌≡◌, ◌≢◌, inl, inr, ℕ, Bool, true, false, List, [], rules, refl, sym}
 use Rattle.std.specs.Prelude.{IsTrue, IsFalse, max, not}
 use Rattle.std.proofs.lemmas.Bool.{true≢false}
-use Rattle.krb_text.specs.declared.files.Files.{Ghosts}
-use Rattle.krb_text.specs.declared.files.LoadFault.TheVariants as load
-use Rattle.krb_text.specs.declared.files.SaveFault.TheVariants as save
-use Rattle.krb_text.specs.declared.ktutil.line_end.LineEnd.{LineEnd}
-use Rattle.krb_text.specs.declared.ktutil.line_end.LineEnd.TheVariants as end
-use Rattle.krb_text.specs.KtutilWords.{words, second}
-use Rattle.krb_text.specs.Ktutil.{plan_of}
-use Rattle.krb_text.specs.KtutilFiles.{Handles}
-use Rattle.krb_text.specs.KtutilHonest.{TellsMemory}
-use Rattle.krb_text.proofs.KtutilMemory.{handles_memory}
+use Rattle.krb_files.specs.declared.files.Files.{Ghosts}
+use Rattle.krb_files.specs.declared.files.LoadFault.TheVariants as load
+use Rattle.krb_files.specs.declared.files.SaveFault.TheVariants as save
+use Rattle.krb_commands.specs.declared.ktutil.line_end.LineEnd.{LineEnd}
+use Rattle.krb_commands.specs.declared.ktutil.line_end.LineEnd.TheVariants as end
+use Rattle.krb_commands.specs.KtutilWords.{words, second}
+use Rattle.krb_commands.specs.KtutilPlan.{plan_of}
+use Rattle.krb_commands.specs.KtutilFiles.{Handles}
+use Rattle.krb_commands.specs.KtutilHonest.{TellsMemory}
+use Rattle.krb_commands.proofs.KtutilMemory.{handles_memory}
 use Rattle.krb_commands.specs.KtutilTalk.{ending_run, line_end_run, goes_on, HandlesLine, Talk}
 use Rattle.krb_commands.specs.Ktutil.{HandlesNext}
 use Rattle.krb_commands.specs.Runs.{EndsRun}

@@ -4,18 +4,18 @@ use Rattle.std.specs.Prelude.{IsTrue, IsFalse, max, if◌then◌else◌, Option,
 use Rattle.std.specs.Io.KnownBytes.{Appends}
 use Rattle.std.proofs.lemmas.Bool.{false≢true, cases_lt, cases_eq}
 use mathlib.Core.Path.{fun_ext}
-use Rattle.krb_text.specs.declared.files.Files.{Ghosts}
-use Rattle.krb_text.specs.declared.ktutil.line_end.LineEnd.{LineEnd}
-use Rattle.krb_text.specs.declared.ktutil.line_end.LineEnd.TheVariants as end
-use Rattle.krb_text.specs.Bytes.{Watch, AppendsPrefix}
-use Rattle.krb_text.specs.Files.{FileMap, SameFiles, CountsFailure}
-use Rattle.krb_text.specs.Ktutil.{KtutilState, plan_of}
-use Rattle.krb_text.specs.KtutilHonest.{Followed, follow, ShowsDue, HandlesHonestly}
-use Rattle.krb_text.proofs.Prefixes.{Appends-nil, Appends-trans}
-use Rattle.krb_text.proofs.KtutilMemory.{handles_memory}
-use Rattle.krb_text.proofs.KtutilDue.{handles_honestly, handles_spares, handles_count}
-use Rattle.krb_text.specs.declared.files.LoadFault.TheVariants as load
-use Rattle.krb_text.specs.declared.files.LoadFault.{LoadFault}
+use Rattle.krb_files.specs.declared.files.Files.{Ghosts}
+use Rattle.krb_commands.specs.declared.ktutil.line_end.LineEnd.{LineEnd}
+use Rattle.krb_commands.specs.declared.ktutil.line_end.LineEnd.TheVariants as end
+use Rattle.krb_files.specs.Bytes.{Watch, AppendsPrefix}
+use Rattle.krb_files.specs.Files.{FileMap, SameFiles, CountsFailure}
+use Rattle.krb_commands.specs.KtutilPlan.{KtutilState, plan_of}
+use Rattle.krb_commands.specs.KtutilHonest.{Followed, follow, ShowsDue, HandlesHonestly}
+use Rattle.krb_files.proofs.Prefixes.{Appends-nil, Appends-trans}
+use Rattle.krb_commands.proofs.KtutilMemory.{handles_memory}
+use Rattle.krb_commands.proofs.KtutilDue.{handles_honestly, handles_spares, handles_count}
+use Rattle.krb_files.specs.declared.files.LoadFault.TheVariants as load
+use Rattle.krb_files.specs.declared.files.LoadFault.{LoadFault}
 use Rattle.krb_commands.specs.Input.{input_run}
 use Rattle.krb_commands.specs.InputLines.{lines_of}
 use Rattle.krb_commands.specs.KtutilTalk.{Talk, quiet_run, line_end_run, goes_on, AreFirst, Continues, Stops, TalksOver}

@@ -3,19 +3,19 @@ use Rattle.std.proofs.Common.{◌≡◌, ◌≢◌, inl, inr, ℕ, ◌+◌, ◌<
 use Rattle.std.specs.Prelude.{IsFalse, max, Option, None, Some, IfSome}
 use Rattle.std.specs.Io.KnownBytes.{Consumes}
 use Rattle.krb_wire.specs.declared.format.Order.{Order}
-use Rattle.krb_text.specs.declared.files.Files.{Ghosts}
-use Rattle.krb_text.specs.declared.files.LoadFault.{LoadFault}
-use Rattle.krb_text.specs.declared.files.LoadFault.TheVariants.{Missing, TooLarge}
-use Rattle.krb_text.specs.Bytes.{Watch}
+use Rattle.krb_files.specs.declared.files.Files.{Ghosts}
+use Rattle.krb_files.specs.declared.files.LoadFault.{LoadFault}
+use Rattle.krb_files.specs.declared.files.LoadFault.TheVariants.{Missing, TooLarge}
+use Rattle.krb_files.specs.Bytes.{Watch}
 use Rattle.krb_commands.specs.Input.{input_run}
 use Rattle.krb_commands.specs.InputLines.{InputParts, lines_of, HasLines, KeepsLines, TakesLine, Grows, IsWithin}
 use Rattle.krb_commands.specs.Loading.{most_bytes}
 use Rattle.krb_commands.specs.KtutilTalk.{Talk, first_talk, AreFirst, Continues, Stops, TalksOver}
 use Rattle.krb_commands.specs.Ktutil.{RunsKtutil}
 use Rattle.krb_commands.proofs.KtutilHonestly.{honest_after, honest_in_line, honest_unread}
-use Rattle.krb_commands.specs.Reader.{ConsumesAtMost}
+use Rattle.krb_files.specs.Reader.{ConsumesAtMost}
 use Rattle.krb_commands.specs.Runs.{Says}
-use Rattle.krb_commands.proofs.Reading.{Consumes-trans}
+use Rattle.krb_files.proofs.Reading.{Consumes-trans}
 
 -- the input, as far as lines of it were handled, has these lines and those that are to come
 abbrev ToCome : Option (List ℕ) → List (List ℕ) → InputParts → Option (List ℕ) → Type 0

@@ -1,4 +1,3 @@
-pub mod Reading
 pub mod NewlineLemmas
 pub mod InputLemmas
 pub mod Faults
@@ -9,6 +8,12 @@ pub mod EditReplies
 pub mod QuietRuns
 pub mod EditMemory
 pub mod EditLemmas
+pub mod WordLemmas
+pub mod KtutilLists
+pub mod KtutilHandles
+pub mod KtutilOptions
+pub mod KtutilDue
+pub mod KtutilMemory
 pub mod KtutilEnds
 pub mod KtutilHonestly
 pub mod KtutilLemmas

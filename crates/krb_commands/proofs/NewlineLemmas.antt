@@ -7,7 +7,7 @@ use Rattle.std.proofs.lemmas.List.Splits.{length-slice_split}
 use Rattle.std.proofs.lemmas.List.{take-append-drop}
 use Rattle.std.proofs.lemmas.Grind.{common_steps}
 use Rattle.krb_commands.specs.InputLines.{is_newline, lines_of, last_line, without_empty_last, HasNone, IsFirst, Grows}
-use Rattle.krb_commands.proofs.Reading.{Consumes-trans}
+use Rattle.krb_files.proofs.Reading.{Consumes-trans}
 
 -- ---- bytes that grow
 

@@ -6,9 +6,9 @@ use Rattle.std.specs.List.{flat_map}
 use Rattle.std.specs.Prelude.{Result, Ok, Err, OnOk, OnErr, is_err}
 use Rattle.std.specs.Io.KnownBytes.{Appends}
 use Rattle.std.proofs.lemmas.Bool.{false≢true}
-use Rattle.krb_text.specs.Bytes.{Watch, AppendsPrefix}
+use Rattle.krb_files.specs.Bytes.{Watch, AppendsPrefix}
 use Rattle.krb_text.specs.Gathered.{Sent}
-use Rattle.krb_text.proofs.Prefixes.{Appends-trans, AppendsPrefix-all, AppendsPrefix-after, AppendsPrefix-longer}
+use Rattle.krb_files.proofs.Prefixes.{Appends-trans, AppendsPrefix-all, AppendsPrefix-after, AppendsPrefix-longer}
 use Rattle.krb_commands.specs.Runs.{Says}
 
 module _ {X : Type 0} (piece : X → List ℕ) (xs : List X) (i : ℕ) where

@@ -3,16 +3,16 @@ use Rattle.std.proofs.Common.{◌≡◌, ◌≢◌, ℕ, ◌<◌, List, [], refl
 use Rattle.std.specs.Prelude.{◌+◌, length, codes, IsFalse, Option, Result, Ok, Err, is_ok, IfSome}
 use Rattle.std.specs.Io.KnownBytes.{Appends}
 use Rattle.std.proofs.lemmas.Bool.{false≢true, true≢false}
-use Rattle.krb_text.specs.declared.files.LoadFault.{LoadFault}
-use Rattle.krb_text.specs.declared.files.LoadFault.TheVariants as load
-use Rattle.krb_text.specs.declared.files.SaveFault.{SaveFault}
-use Rattle.krb_text.specs.declared.files.SaveFault.TheVariants as save
-use Rattle.krb_text.specs.Bytes.{Watch}
-use Rattle.krb_text.proofs.Prefixes.{AppendsPrefix-none, Appends-nil}
+use Rattle.krb_files.specs.declared.files.LoadFault.{LoadFault}
+use Rattle.krb_files.specs.declared.files.LoadFault.TheVariants as load
+use Rattle.krb_files.specs.declared.files.SaveFault.{SaveFault}
+use Rattle.krb_files.specs.declared.files.SaveFault.TheVariants as save
+use Rattle.krb_files.specs.Bytes.{Watch}
+use Rattle.krb_files.proofs.Prefixes.{AppendsPrefix-none, Appends-nil}
 use Rattle.krb_commands.specs.Loading.{most_bytes, load_fault_run, save_fault_run}
 use Rattle.krb_commands.specs.Input.{GivesInput, input_run}
 use Rattle.krb_commands.specs.Messages.{message}
-use Rattle.krb_commands.specs.Reader.{ConsumesAtMost}
+use Rattle.krb_files.specs.Reader.{ConsumesAtMost}
 use Rattle.krb_commands.specs.Runs.{Run, Says, EndsRun}
 
 -- a message was said, and nothing was printed

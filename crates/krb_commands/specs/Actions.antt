@@ -1,7 +1,7 @@
 -- What a command line leads to.
 use Rattle.std.specs.Prelude.{◌≡◌, ℕ, List, [], Option, Result, Ok, Err, string_bytes, codes}
-use Rattle.krb_text.specs.declared.files.Files.{Ghosts}
-use Rattle.krb_text.specs.Bytes.{Watch}
+use Rattle.krb_files.specs.declared.files.Files.{Ghosts}
+use Rattle.krb_files.specs.Bytes.{Watch}
 use Rattle.krb_commands.specs.declared.action.Action.{Action}
 use Rattle.krb_commands.specs.declared.action.Action.TheVariants.{Klist, Ktedit, Ktfind, Ktutil, Help}
 use Rattle.krb_commands.specs.declared.action.WordFault.{WordFault}

@@ -9,8 +9,8 @@ use Rattle.krb_keytab.specs.Edit.{new_session}
 use Rattle.krb_keytab.specs.Entry.{EntryParts}
 use Rattle.krb_keytab.specs.Store.{KeytabState, image_of}
 use Rattle.krb_keytab.specs.Placed.{keytab_rules}
-use Rattle.krb_text.specs.declared.files.Files.{Ghosts}
-use Rattle.krb_text.specs.Bytes.{Watch}
+use Rattle.krb_files.specs.declared.files.Files.{Ghosts}
+use Rattle.krb_files.specs.Bytes.{Watch}
 use Rattle.krb_commands.specs.declared.ktedit.Edited.{Edited}
 use Rattle.krb_commands.specs.Ktedit.{moments, keytab_after, is_changed, reply_lines, edit_run, keytab_loaded, Loads}
 use Rattle.krb_commands.specs.Messages.{message}

@@ -1,7 +1,7 @@
 -- What comes from the standard input, and what is said of it.
 use Rattle.std.specs.Prelude.{◌≡◌, ◌≢◌, ℕ, ◌+◌, ◌<◌, List, [], length, codes, Option, Result, IfOk, IfErr, IfSome, IsErrOf}
-use Rattle.krb_text.specs.declared.files.LoadFault.{LoadFault}
-use Rattle.krb_text.specs.declared.files.LoadFault.TheVariants.{Missing, TooLarge, Failed, NoMemory}
+use Rattle.krb_files.specs.declared.files.LoadFault.{LoadFault}
+use Rattle.krb_files.specs.declared.files.LoadFault.TheVariants.{Missing, TooLarge, Failed, NoMemory}
 use Rattle.krb_text.specs.declared.line_fault.LineFault.{LineFault}
 use Rattle.krb_text.specs.declared.script.ScriptRefusal.{ScriptRefusal}
 use Rattle.krb_text.specs.declared.script.ScriptRefusal.TheVariants as refusal
@@ -9,7 +9,7 @@ use Rattle.krb_text.specs.declared.script.ScriptRefusal.TheVariants.{Fault}
 use Rattle.krb_text.specs.LineFault.{line_fault_number}
 use Rattle.krb_commands.specs.Loading.{most_bytes}
 use Rattle.krb_commands.specs.Messages.{message, line_message}
-use Rattle.krb_commands.specs.Reader.{ConsumesAtMost}
+use Rattle.krb_files.specs.Reader.{ConsumesAtMost}
 use Rattle.krb_commands.specs.Runs.{Run, memory_run}
 
 -- a reader gave all that it had left, or more than may be read, or it failed, or memory ran out

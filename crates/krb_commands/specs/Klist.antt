@@ -7,9 +7,9 @@ use Rattle.krb_keytab.specs.Store.{KeytabState, store_of}
 use Rattle.krb_ccache.specs.Store.{CacheState, store_of as cache_store}
 use Rattle.krb_text.specs.declared.columns.CcColumns.{CcColumns}
 use Rattle.krb_text.specs.declared.columns.KtColumns.{KtColumns}
-use Rattle.krb_text.specs.declared.files.LoadFault.{LoadFault}
-use Rattle.krb_text.specs.declared.output.OutFault.{OutFault}
-use Rattle.krb_text.specs.Bytes.{Watch, AppendsPrefix, is_write_fault}
+use Rattle.krb_files.specs.declared.files.LoadFault.{LoadFault}
+use Rattle.krb_files.specs.declared.output.OutFault.{OutFault}
+use Rattle.krb_files.specs.Bytes.{Watch, AppendsPrefix, is_write_fault}
 use Rattle.krb_text.specs.CacheListing.{cache_text}
 use Rattle.krb_text.specs.Listing.{list_text}
 use Rattle.krb_commands.specs.declared.action.KlistOptions.{KlistOptions}

@@ -5,7 +5,7 @@ use Rattle.krb_walk.specs.declared.refusal.Code.{Code}
 use Rattle.krb_walk.specs.Numbers.{code_number}
 use Rattle.krb_keytab.specs.Find.{PlacedEntry, find_result}
 use Rattle.krb_keytab.specs.Store.{KeytabState}
-use Rattle.krb_text.specs.declared.files.LoadFault.{LoadFault}
+use Rattle.krb_files.specs.declared.files.LoadFault.{LoadFault}
 use Rattle.krb_text.specs.Found.{found_line}
 use Rattle.krb_commands.specs.declared.action.FindOptions.{FindOptions}
 use Rattle.krb_commands.specs.Messages.{file_message}

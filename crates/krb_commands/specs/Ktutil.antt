@@ -1,13 +1,13 @@
 -- What a run of ktutil leaves.
 use Rattle.std.specs.Prelude.{ℕ, ◌+◌, Bool, true, false, List, Option}
 use Rattle.krb_wire.specs.declared.format.Order.{Order}
-use Rattle.krb_text.specs.declared.files.Files.{Ghosts}
-use Rattle.krb_text.specs.Bytes.{Watch}
-use Rattle.krb_text.specs.Ktutil.{KtutilState}
+use Rattle.krb_files.specs.declared.files.Files.{Ghosts}
+use Rattle.krb_files.specs.Bytes.{Watch}
+use Rattle.krb_commands.specs.KtutilPlan.{KtutilState}
 use Rattle.krb_commands.specs.Loading.{most_bytes}
 use Rattle.krb_commands.specs.KtutilTalk.{Talk, first_talk, Continues, Stops, TalksOver, EndsTalk}
 use Rattle.krb_commands.specs.KtutilDue.{TalksHonestly}
-use Rattle.krb_commands.specs.Reader.{ConsumesAtMost}
+use Rattle.krb_files.specs.Reader.{ConsumesAtMost}
 
 -- a run of ktutil: the lines of the input are handled in order, up to one that is the last or to the end
 pub record RunsKtutil {F : Type 0} (trait : Ghosts F) (order : Order) (now : ℕ) (given given' : Option (List ℕ)) (old new : F) (out out' err err' : Watch) (status : ℕ) : Type 0 where

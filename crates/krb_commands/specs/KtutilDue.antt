@@ -1,12 +1,12 @@
 -- What is due of the lines of ktutil where the files are honest.
 use Rattle.std.specs.Prelude.{◌≡◌, ◌⊎◌, ℕ, ◌+◌, max, IsTrue, List, [], ◌∷◌, ◌++◌, if◌then◌else◌, Option, IfSome}
 use Rattle.std.specs.Io.KnownBytes.{Appends}
-use Rattle.krb_text.specs.declared.files.Files.{Ghosts}
-use Rattle.krb_text.specs.declared.files.LoadFault.{LoadFault}
-use Rattle.krb_text.specs.Bytes.{Watch}
-use Rattle.krb_text.specs.Files.{FileMap, SameFiles, CountsFailure}
-use Rattle.krb_text.specs.Ktutil.{KtutilState, plan_of}
-use Rattle.krb_text.specs.KtutilHonest.{follow}
+use Rattle.krb_files.specs.declared.files.Files.{Ghosts}
+use Rattle.krb_files.specs.declared.files.LoadFault.{LoadFault}
+use Rattle.krb_files.specs.Bytes.{Watch}
+use Rattle.krb_files.specs.Files.{FileMap, SameFiles, CountsFailure}
+use Rattle.krb_commands.specs.KtutilPlan.{KtutilState, plan_of}
+use Rattle.krb_commands.specs.KtutilHonest.{follow}
 use Rattle.krb_commands.specs.Input.{input_run}
 use Rattle.krb_commands.specs.InputLines.{lines_of}
 use Rattle.krb_commands.specs.KtutilTalk.{Talk, quiet_run, line_end_run, goes_on, AreFirst}

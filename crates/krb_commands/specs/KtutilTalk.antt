@@ -3,15 +3,15 @@ use Rattle.std.specs.Prelude.{◌≡◌, ◌≢◌, ◌⊎◌, ℕ, ◌+◌, ◌
 use Rattle.krb_wire.specs.declared.format.Order.{Order}
 use Rattle.krb_walk.specs.declared.refusal.Code.{Code}
 use Rattle.krb_walk.specs.Numbers.{code_number}
-use Rattle.krb_text.specs.declared.files.Files.{Ghosts}
-use Rattle.krb_text.specs.declared.files.LoadFault.{LoadFault}
-use Rattle.krb_text.specs.declared.files.LoadFault.TheVariants.{Missing, TooLarge}
-use Rattle.krb_text.specs.declared.ktutil.line_end.LineEnd.{LineEnd}
-use Rattle.krb_text.specs.declared.ktutil.line_end.LineEnd.TheVariants as end
-use Rattle.krb_text.specs.Bytes.{Watch}
-use Rattle.krb_text.specs.KtutilWords.{words, second}
-use Rattle.krb_text.specs.Ktutil.{KtutilState, plan_of}
-use Rattle.krb_text.specs.KtutilFiles.{Handles}
+use Rattle.krb_files.specs.declared.files.Files.{Ghosts}
+use Rattle.krb_files.specs.declared.files.LoadFault.{LoadFault}
+use Rattle.krb_files.specs.declared.files.LoadFault.TheVariants.{Missing, TooLarge}
+use Rattle.krb_commands.specs.declared.ktutil.line_end.LineEnd.{LineEnd}
+use Rattle.krb_commands.specs.declared.ktutil.line_end.LineEnd.TheVariants as end
+use Rattle.krb_files.specs.Bytes.{Watch}
+use Rattle.krb_commands.specs.KtutilWords.{words, second}
+use Rattle.krb_commands.specs.KtutilPlan.{KtutilState, plan_of}
+use Rattle.krb_commands.specs.KtutilFiles.{Handles}
 use Rattle.krb_commands.specs.Input.{input_run, line_run}
 use Rattle.krb_commands.specs.InputLines.{lines_of}
 use Rattle.krb_commands.specs.Loading.{most_bytes, open_fault_run, load_fault_run, save_fault_run}

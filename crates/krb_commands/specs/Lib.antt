@@ -1,5 +1,4 @@
 -- What the contracts of this crate say.
-pub mod Reader
 pub mod Messages
 pub mod Runs
 pub mod Loading
@@ -8,6 +7,11 @@ pub mod InputLines
 pub mod Klist
 pub mod Ktfind
 pub mod Ktedit
+pub mod KtutilWords
+pub mod KtutilCommand
+pub mod KtutilPlan
+pub mod KtutilFiles
+pub mod KtutilHonest
 pub mod KtutilTalk
 pub mod KtutilDue
 pub mod Ktutil

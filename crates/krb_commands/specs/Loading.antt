@@ -7,13 +7,13 @@ use Rattle.krb_keytab.specs.Store.{KeytabState, open_result}
 use Rattle.krb_ccache.specs.declared.open.CcOpenFault.{CcOpenFault}
 use Rattle.krb_ccache.specs.Open.{open_fault_number as cache_fault_number}
 use Rattle.krb_ccache.specs.Store.{CacheState, open_result as cache_result}
-use Rattle.krb_text.specs.declared.files.LoadFault.{LoadFault}
-use Rattle.krb_text.specs.declared.files.LoadFault.TheVariants as load
-use Rattle.krb_text.specs.declared.files.SaveFault.{SaveFault}
-use Rattle.krb_text.specs.declared.files.SaveFault.TheVariants as save
-use Rattle.krb_text.specs.declared.files.Files.{Ghosts}
-use Rattle.krb_text.specs.Bytes.{Watch}
-use Rattle.krb_text.specs.Files.{SameFiles, loaded}
+use Rattle.krb_files.specs.declared.files.LoadFault.{LoadFault}
+use Rattle.krb_files.specs.declared.files.LoadFault.TheVariants as load
+use Rattle.krb_files.specs.declared.files.SaveFault.{SaveFault}
+use Rattle.krb_files.specs.declared.files.SaveFault.TheVariants as save
+use Rattle.krb_files.specs.declared.files.Files.{Ghosts}
+use Rattle.krb_files.specs.Bytes.{Watch}
+use Rattle.krb_files.specs.Files.{SameFiles, loaded}
 use Rattle.krb_commands.specs.Messages.{message, file_message}
 use Rattle.krb_commands.specs.Runs.{Run, EndsRun, EndsLoaded, FailsToRead, HasCause}
 

@@ -1,10 +1,10 @@
 -- What a run of the program leaves.
 use Rattle.std.specs.Prelude.{◌≡◌, ◌≢◌, ℕ, List, [], codes, IsTrue, IsFalse, Result, Err}
 use Rattle.std.specs.Io.KnownBytes.{Appends}
-use Rattle.krb_text.specs.Bytes.{Watch, AppendsPrefix}
-use Rattle.krb_text.specs.Files.{CountsFailure}
-use Rattle.krb_text.specs.declared.files.LoadFault.{LoadFault}
-use Rattle.krb_text.specs.declared.files.LoadFault.TheVariants.{Failed}
+use Rattle.krb_files.specs.Bytes.{Watch, AppendsPrefix}
+use Rattle.krb_files.specs.Files.{CountsFailure}
+use Rattle.krb_files.specs.declared.files.LoadFault.{LoadFault}
+use Rattle.krb_files.specs.declared.files.LoadFault.TheVariants.{Failed}
 use Rattle.krb_commands.specs.Messages.{message, file_message}
 
 -- the texts on the output and the error output, and the status

@@ -6,7 +6,8 @@ ghost use Rattle.krb_commands.specs.KtutilTalk.{refused_run};
 ghost use Rattle.krb_commands.specs.Runs.{Says};
 
 use crate::messages::{complain, complain_of_line};
-use krb_text::{LineFault, LoadFault, ScriptRefusal, Watched};
+use krb_files::{LoadFault, Watched};
+use krb_text::{LineFault, ScriptRefusal};
 use krb_walk::Code;
 use std::io::Write;
 

@@ -4,8 +4,7 @@ ghost use Rattle.std.specs.Prelude.{◌≡◌, ◌≢◌, ◌<◌, ◌≤◌, []
 ghost use Rattle.krb_commands.specs.InputLines.{InputParts, ReadsLine, KeepsLines, Grows, IsWithin, FindsNewline, EndsLine};
 
 use crate::input::MOST_INPUT;
-use crate::reader::{append_read, next_read};
-use krb_text::LoadFault;
+use krb_files::{LoadFault, append_read, next_read};
 use std::alloc::Allocator;
 use std::io::Read;
 use std::marker::Model;

@@ -1,19 +1,33 @@
 //! Runs the lines of ktutil.
 
 ghost use Rattle.std.specs.Prelude.{◌≡◌, [], None, IsFalse};
-ghost use Rattle.krb_text.specs.KtutilWords.{words, second};
+ghost use Rattle.krb_commands.specs.KtutilWords.{words, second};
 ghost use Rattle.krb_commands.specs.Ktutil.{HandlesNext, RunsKtutil};
 ghost use Rattle.krb_commands.specs.KtutilTalk.{ending_run, line_end_run, goes_on};
 ghost use Rattle.krb_commands.specs.Runs.{EndsRun, Says};
+
+mod addition;
+mod command;
+mod entries;
+mod key;
+mod line_end;
+mod load;
+mod options;
+mod state;
+mod verb;
+mod words;
 
 use crate::input::{refuse_input, refuse_line, refuse_line_code};
 use crate::input_lines::InputLines;
 use crate::messages::complain;
 use crate::refuse::{refuse_keytab, refuse_load, refuse_save};
-use krb_text::{Files, Ktutil, LineEnd, Watched, file_word, put};
+use krb_files::{Files, Watched, put};
 use krb_wire::Order;
+pub use line_end::LineEnd;
+pub use state::Ktutil;
 use std::alloc::Allocator;
 use std::io::{Read, Write};
+pub use words::file_word;
 
 /// A run of ktutil between two lines.
 #[derive(Drop)]

@@ -11,22 +11,18 @@ mod ktutil;
 mod loading;
 mod messages;
 mod options;
-mod reader;
 mod refuse;
 mod response;
 #[cfg(test)]
 mod tests;
-mod writer;
 
 pub use action::{Action, FindOptions, KlistOptions, ListKind, WordFault};
 pub use klist::run_klist;
 pub use ktedit::run_ktedit;
 pub use ktfind::run_ktfind;
-pub use ktutil::run_ktutil;
+pub use ktutil::{Ktutil, LineEnd, file_word, run_ktutil};
 pub use options::{
     KlistWords, KteditWords, KtfindWords, KtutilWords, klist_action, ktedit_action, ktfind_action,
     ktutil_action,
 };
-pub use reader::load;
 pub use response::respond;
-pub use writer::save;

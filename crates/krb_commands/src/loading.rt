@@ -4,7 +4,7 @@ ghost use Rattle.std.specs.Prelude.{IfOk, IfErr};
 ghost use Rattle.krb_commands.specs.Loading.{EndsUnloaded, LoadsImage};
 
 use crate::refuse::refuse_load;
-use krb_text::{Files, Watched};
+use krb_files::{Files, Watched};
 use std::alloc::Allocator;
 use std::io::Write;
 

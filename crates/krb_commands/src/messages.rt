@@ -2,14 +2,14 @@
 
 ghost use Rattle.std.specs.Prelude.{◌++◌, decimal, OnOk, OnErr, IsTrue};
 ghost use Rattle.std.specs.List.{flat_map};
-ghost use Rattle.krb_text.specs.Bytes.{AppendsPrefix};
+ghost use Rattle.krb_files.specs.Bytes.{AppendsPrefix};
 ghost use Rattle.krb_text.specs.Gathered.{Sent};
 ghost use Rattle.krb_commands.specs.Messages.{message, file_message, line_message};
 ghost use Rattle.krb_commands.specs.Runs.{Says};
 
 use arrayvec::ArrayVec;
 use itoa::Buffer;
-use krb_text::{OutFault, Watched, put};
+use krb_files::{OutFault, Watched, put};
 use std::io::Write;
 
 // A line that names a file has room in this, if the name has at most 4,096 bytes.

@@ -8,8 +8,8 @@ ghost use Rattle.krb_commands.specs.Runs.{Says};
 
 use crate::messages::{complain, complain_number_of, complain_of};
 use krb_ccache::CcOpenFault;
+use krb_files::{LoadFault, SaveFault, Watched};
 use krb_keytab::KtOpenFault;
-use krb_text::{LoadFault, SaveFault, Watched};
 use krb_walk::Code;
 use std::io::Write;
 

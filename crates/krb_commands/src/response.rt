@@ -10,7 +10,7 @@ use crate::ktedit::run_ktedit;
 use crate::ktfind::run_ktfind;
 use crate::ktutil::run_ktutil;
 use crate::messages::complain;
-use krb_text::{Files, Watched, put};
+use krb_files::{Files, Watched, put};
 use std::alloc::Allocator;
 use std::io::{Read, Write};
 

@@ -2,7 +2,6 @@
 
 mod commands;
 mod images;
-mod loads;
 mod messages;
 mod responses;
 mod runs;

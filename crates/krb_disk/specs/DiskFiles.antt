@@ -1,11 +1,11 @@
 -- What a load and a save of a file of a disk may answer.
 use Rattle.std.specs.Prelude.{◌≡◌, ◌≢◌, ℕ, ◌≤◌, List, length, Option, IsSome, Result, Err, IfOk}
-use Rattle.krb_text.specs.declared.cause.Cause.{Cause}
-use Rattle.krb_text.specs.declared.files.LoadFault.{LoadFault}
-use Rattle.krb_text.specs.declared.files.LoadFault.TheVariants.{Failed}
-use Rattle.krb_text.specs.declared.files.SaveFault.{SaveFault}
-use Rattle.krb_text.specs.declared.files.SaveFault.TheVariants.{Failed as Unsaved}
-use Rattle.krb_text.specs.Files.{CountsFailure}
+use Rattle.krb_files.specs.declared.cause.Cause.{Cause}
+use Rattle.krb_files.specs.declared.files.LoadFault.{LoadFault}
+use Rattle.krb_files.specs.declared.files.LoadFault.TheVariants.{Failed}
+use Rattle.krb_files.specs.declared.files.SaveFault.{SaveFault}
+use Rattle.krb_files.specs.declared.files.SaveFault.TheVariants.{Failed as Unsaved}
+use Rattle.krb_files.specs.Files.{CountsFailure}
 
 -- what contracts see of the files of a disk: how many calls failed, and what the last of them failed with
 abbrev pub Failures : Type 0

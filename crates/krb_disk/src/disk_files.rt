@@ -1,7 +1,7 @@
 //! The files of a disk.
 
 ghost use Rattle.std.specs.Prelude.{◌≡◌, ◌≤◌, ◌<◌, None, IfOk, IsSome, vec_len};
-ghost use Rattle.krb_text.specs.Files.{CountsFailure};
+ghost use Rattle.krb_files.specs.Files.{CountsFailure};
 ghost use Rattle.krb_disk.specs.DiskFiles.{Failures, AnswersFromDisk, SavesToDisk};
 
 use crate::fault::{DiskFault, ReadFault};
@@ -9,7 +9,7 @@ use crate::hold::Hold;
 use crate::lock::TakeLock;
 use crate::owner::SetOwner;
 use crate::read::read_file;
-use krb_text::{Cause, Files, LoadFault, SaveFault};
+use krb_files::{Cause, Files, LoadFault, SaveFault};
 use std::alloc::Allocator;
 use std::marker::Model;
 use std::rt;

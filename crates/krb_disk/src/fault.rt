@@ -4,7 +4,7 @@ ghost use Rattle.std.specs.Prelude.{◌≡◌};
 ghost use Rattle.krb_disk.specs.declared.fault.DiskFault.TheVariants.{NoMemory};
 ghost use Rattle.krb_disk.specs.declared.fault.ReadFault.TheVariants.{Disk};
 
-use krb_text::Cause;
+use krb_files::Cause;
 use std::alloc::AllocError;
 use std::io::{self, ErrorKind};
 

@@ -14,7 +14,7 @@ use crate::same::{look, stands_at};
 use crate::save::{fill, sync_folder};
 use crate::seen::Seen;
 use crate::target::{find_target, folder_of};
-use krb_text::Cause;
+use krb_files::Cause;
 use std::alloc::Allocator;
 use std::fs::{self, Metadata};
 use std::io::ErrorKind;

@@ -3,7 +3,7 @@
 ghost use Rattle.std.specs.Prelude.{◌≡◌, ◌+◌, ◌≤◌, ◌↔◌, IsTrue, OnOk, OnErr};
 
 use crate::fault::DiskFault;
-use krb_text::Cause;
+use krb_files::Cause;
 use std::time::Duration;
 use std::{rt, thread};
 

@@ -4,8 +4,7 @@ ghost use Rattle.std.specs.Prelude.{◌≡◌, ◌≤◌, ◌++◌, IfOk, IfSome
 
 use crate::fault::{DiskFault, ReadFault};
 use crate::noted::Noted;
-use krb_commands::load;
-use krb_text::LoadFault;
+use krb_files::{LoadFault, load};
 use std::alloc::Allocator;
 use std::fs::{self, Metadata, OpenFile};
 use std::io::{self, Read};

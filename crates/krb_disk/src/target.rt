@@ -7,7 +7,7 @@ ghost use Rattle.krb_disk.specs.Target.{folder, new_path};
 
 use crate::fault::DiskFault;
 use crate::same::{is_same_file, look};
-use krb_text::Cause;
+use krb_files::Cause;
 use std::alloc::{AllocError, Allocator};
 use std::fs::{self, Metadata};
 use std::io::{self, ErrorKind};

@@ -1,5 +1,3 @@
-pub mod Prefixes
-pub mod FileLists
 pub mod Passing
 pub mod Lines
 pub mod Cuts
@@ -15,9 +13,3 @@ pub mod Digits
 pub mod NameFaults
 pub mod Days
 pub mod Numbering
-pub mod WordLemmas
-pub mod KtutilLists
-pub mod KtutilHandles
-pub mod KtutilOptions
-pub mod KtutilDue
-pub mod KtutilMemory

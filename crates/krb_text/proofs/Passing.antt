@@ -1,9 +1,9 @@
 -- How a text passes to a writer: what was gathered, what was sent, and what a failure leaves.
 use Rattle.std.proofs.Common.{◌≡◌, ℕ, List, [], ◌++◌, Option, refl, sym, ap, ◌∙◌, append_assoc, append-nil}
 use Rattle.std.specs.Io.KnownBytes.{Appends}
-use Rattle.krb_text.specs.Bytes.{AppendsPrefix}
+use Rattle.krb_files.specs.Bytes.{AppendsPrefix}
 use Rattle.krb_text.specs.Gathered.{Sent, Passed}
-use Rattle.krb_text.proofs.Prefixes.{Appends-nil, Appends-trans, AppendsPrefix-longer}
+use Rattle.krb_files.proofs.Prefixes.{Appends-nil, Appends-trans, AppendsPrefix-longer}
 
 -- three pieces are gathered
 pub gathered_three : (a b c d x y z : List ℕ) → b ≡ a ++ x → c ≡ b ++ y → d ≡ c ++ z → d ≡ a ++ (x ++ (y ++ z))

@@ -1,7 +1,4 @@
 -- What the contracts of this crate say.
-pub mod Bytes
-pub mod Files
-pub mod MemFiles
 pub mod Gathered
 pub mod Numbers
 pub mod Etype
@@ -21,8 +18,3 @@ pub mod Found
 pub mod Reply
 pub mod Pieces
 pub mod Script
-pub mod KtutilWords
-pub mod KtutilCommand
-pub mod Ktutil
-pub mod KtutilFiles
-pub mod KtutilHonest

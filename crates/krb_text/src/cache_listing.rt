@@ -3,7 +3,7 @@
 ghost use Rattle.std.specs.Prelude.{◌≡◌, ◌++◌, [], OnOk, OnErr, IsFalse};
 ghost use Rattle.std.specs.Io.KnownBytes.{Appends};
 ghost use Rattle.krb_ccache.specs.Store.{placed_credentials};
-ghost use Rattle.krb_text.specs.Bytes.{AppendsPrefix, is_write_fault};
+ghost use Rattle.krb_files.specs.Bytes.{AppendsPrefix, is_write_fault};
 ghost use Rattle.krb_text.specs.CacheListing.{title, owner, lines_of_credentials, cache_text};
 ghost use Rattle.krb_text.specs.Gathered.{Passed};
 
@@ -12,9 +12,8 @@ use crate::columns::CcColumns;
 use crate::credential::append_credential;
 use crate::gather::{FULL, send_if_full};
 use crate::listing::send_last;
-use crate::output::OutFault;
-use crate::watched::Watched;
 use krb_ccache::Ccache;
+use krb_files::{OutFault, Watched};
 use krb_wire::{Name, NoMemory, write_name};
 use std::alloc::Allocator;
 use std::io::Write;

@@ -1,11 +1,10 @@
 //! Text on its way to a writer, gathered into large writes.
 
 ghost use Rattle.std.specs.Prelude.{◌≡◌, ◌<◌, vec_len, is_err, IsFalse, OnOk, OnErr, IfErr};
-ghost use Rattle.krb_text.specs.Bytes.{AppendsPrefix};
+ghost use Rattle.krb_files.specs.Bytes.{AppendsPrefix};
 ghost use Rattle.krb_text.specs.Gathered.{Sent};
 
-use crate::output::{OutFault, put};
-use crate::watched::Watched;
+use krb_files::{OutFault, Watched, put};
 use std::alloc::Allocator;
 use std::io::Write;
 

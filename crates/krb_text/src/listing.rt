@@ -2,7 +2,7 @@
 
 ghost use Rattle.std.specs.Prelude.{◌≡◌, ◌++◌, [], OnOk, OnErr, IsFalse};
 ghost use Rattle.std.specs.Io.KnownBytes.{Appends};
-ghost use Rattle.krb_text.specs.Bytes.{AppendsPrefix, is_write_fault};
+ghost use Rattle.krb_files.specs.Bytes.{AppendsPrefix, is_write_fault};
 ghost use Rattle.krb_text.specs.Gathered.{Passed};
 ghost use Rattle.krb_text.specs.Listing.{titles, underlines, heading, entry_lines, fault_line, list_text};
 
@@ -10,8 +10,7 @@ use crate::append::append;
 use crate::columns::KtColumns;
 use crate::gather::{FULL, send_if_full};
 use crate::line::{append_entry, append_fault};
-use crate::output::{OutFault, put};
-use crate::watched::Watched;
+use krb_files::{OutFault, Watched, put};
 use krb_keytab::Keytab;
 use krb_walk::Fault;
 use krb_wire::NoMemory;

@@ -7,7 +7,7 @@ mod words;
 
 use clock::seconds_now;
 use krb_disk::DiskFiles;
-use krb_text::Watched;
+use krb_files::Watched;
 use std::process::ExitCode;
 
 fn main(rt: HostRuntime) -> ExitCode {

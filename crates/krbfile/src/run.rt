@@ -7,7 +7,7 @@ ghost use Rattle.krb_commands.specs.Actions.{EndsAsked};
 
 use crate::words::parse_words;
 use krb_commands::{Action, WordFault, respond};
-use krb_text::{Files, Watched};
+use krb_files::{Files, Watched};
 use std::io::{Read, Write};
 use std::{env, io, rt};
 

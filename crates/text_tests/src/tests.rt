@@ -3,14 +3,12 @@
 
 mod allocations;
 mod etypes;
-mod files;
 mod found;
 mod keys;
 mod keytabs;
 mod ktutil;
 mod listings;
 mod numbers;
-mod outputs;
 mod replies;
 mod scripts;
 mod times;

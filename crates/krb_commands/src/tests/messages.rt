@@ -1,5 +1,5 @@
 use crate::messages::complain_of;
-use krb_text::Watched;
+use krb_files::Watched;
 use std::io::{self, Write};
 use std::test::Fail;
 

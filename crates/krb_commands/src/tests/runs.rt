@@ -4,7 +4,7 @@ use super::commands::Command;
 use super::images::{CACHE, IMAGE};
 use crate::action::{Action, WordFault};
 use crate::response::respond;
-use krb_text::{MemFiles, Watched};
+use krb_files::{MemFiles, Watched};
 use refusing::Refusing;
 use std::alloc::{AllocError, Allocator, Global};
 use std::test::Fail;

@@ -1,6 +1,6 @@
 use super::disks::{Calls, Disk};
 use crate::DiskFiles;
-use krb_text::{Cause, Files, LoadFault, SaveFault};
+use krb_files::{Cause, Files, LoadFault, SaveFault};
 use std::alloc::Global;
 use std::test::Fail;
 

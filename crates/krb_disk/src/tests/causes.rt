@@ -1,6 +1,6 @@
 use super::calls::{failed, save};
 use super::disks::Calls;
-use krb_text::Cause;
+use krb_files::Cause;
 use std::test::Fail;
 
 /// Each error of a write is told by its cause.

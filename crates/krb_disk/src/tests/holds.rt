@@ -2,7 +2,7 @@ use super::calls::{CALLS, LEAVES, Saved, failed, save, some_calls};
 use super::disks::{Calls, Disk};
 use crate::DiskFiles;
 use crate::locks::{LockKind, is_locked};
-use krb_text::{Cause, Files};
+use krb_files::{Cause, Files};
 use std::alloc::Global;
 use std::fs::Metadata;
 use std::test::Fail;

@@ -2,9 +2,11 @@
 
 use super::keytabs::{B, HEAD, HOST, opened};
 use super::ktutil::{ADD_HOST, KEY};
+use krb_commands::{Ktutil, LineEnd};
+use krb_files::{Files, LoadFault, MemFiles, SaveFault};
 use krb_text::{
-    Files, Ktutil, LineEnd, LoadFault, MemFiles, SaveFault, ScriptRefusal, etype_text,
-    flag_letters, found_text, key_text, parse_script, reply_line, reply_lines, time_text,
+    ScriptRefusal, etype_text, flag_letters, found_text, key_text, parse_script, reply_line,
+    reply_lines, time_text,
 };
 use krb_walk::Reply;
 use krb_wire::{KtFormat, NoMemory, Order};

@@ -1,5 +1,7 @@
 use super::keytabs::{B, HEAD, HOST};
-use krb_text::{Ktutil, LineEnd, LineFault, MemFiles, file_word};
+use krb_commands::{Ktutil, LineEnd, file_word};
+use krb_files::MemFiles;
+use krb_text::LineFault;
 use krb_walk::Code;
 use krb_wire::Order;
 use std::alloc::Global;

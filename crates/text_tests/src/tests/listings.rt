@@ -1,5 +1,6 @@
 use super::keytabs::{ALL, HEAD, HOST, opened};
-use krb_text::{Watched, list_keytab};
+use krb_files::Watched;
+use krb_text::list_keytab;
 use std::test::Fail;
 
 /// Lines of more than one large write, behind what was written before.

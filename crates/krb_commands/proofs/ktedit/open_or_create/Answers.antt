@@ -1,6 +1,6 @@
 use Rattle.std.proofs.Common.{◌≢◌, refl, ap, sym, inr, ◌∙◌, rules}
 use Rattle.std.specs.Prelude.{Ok, Err}
-use Rattle.krb_text.specs.declared.files.LoadFault.TheVariants.{Missing}
+use Rattle.krb_files.specs.declared.files.LoadFault.TheVariants.{Missing}
 use Rattle.krb_commands.proofs.EditLemmas.{IfOk-from, Loads-ok, Loads-err, SaysWhy-unloaded}
 use Rattle.krb_commands.proofs.ktedit.open_or_create.Goals as goal
 

@@ -1,5 +1,5 @@
 use Rattle.std.proofs.lemmas.Result.{err_from_is_err_and, on_ok_weaker}
-use Rattle.krb_text.proofs.Prefixes.{AppendsPrefix-longer}
+use Rattle.krb_files.proofs.Prefixes.{AppendsPrefix-longer}
 use Rattle.krb_commands.proofs.Pieces.{Sent-both}
 use Rattle.krb_commands.proofs.messages.add.Goals as goal
 

@@ -1,0 +1,67 @@
+-- How a plan was followed, put together from its steps.
+use Rattle.std.proofs.Common.{◌≡◌, inl, inr, ℕ, List, refl, sym, subst}
+use Rattle.std.specs.Prelude.{Result, Ok}
+use Rattle.krb_wire.specs.declared.format.Order.{Order}
+use Rattle.krb_keytab.specs.Store.{KeytabState, InMemory}
+use Rattle.std.proofs.lemmas.List.{append-nil}
+use Rattle.krb_files.specs.declared.files.LoadFault.{LoadFault}
+use Rattle.krb_files.specs.declared.files.Files.{Ghosts}
+use Rattle.krb_commands.specs.declared.ktutil.line_end.LineEnd.{LineEnd}
+use Rattle.krb_commands.specs.KtutilPlan.{KtutilState, Plan, Ends, Loads, Saves, keytab_of, keytab_or_new, with_entries, written_to}
+use Rattle.krb_commands.specs.KtutilFiles.{Shows, Ended, Finishes, EndsAt, GivesOrRunsOut, LoadsFile, Follows, Handles, GoesOn, HandlesQuietly}
+
+module _ {F : Type 0} (trait : Ghosts F) where
+  -- a plan without files
+  pub follows_ended : (plan : Plan) (files : F) (new : KtutilState) (ending : LineEnd) → Ended plan new ending → (out : List ℕ) → Follows trait plan files files (Shows new out out ending)
+  follows_ended (Ends due) files new ending e out = (refl, record { state_is = e.0; appended = rw e.1 (sym (append-nil out)); ending_is = e.2 })
+  follows_ended (Loads name then_) files new ending e out = absurd e
+  follows_ended (Saves name bytes then_) files new ending e out = absurd e
+
+  -- the same, or out of memory
+  pub goes_finished : (plan : Plan) (files : F) (old new : KtutilState) (ending : LineEnd) → Finishes plan old new ending → GoesOn trait plan files files old new ending
+  goes_finished plan files old new ending (inl e) = inl (follows_ended plan files new ending e)
+  goes_finished plan files old new ending (inr out) = inr (refl, out.0, out.1)
+
+  -- a plan that ends at once
+  pub handles_ended : (plan : Plan) (files : F) (old new : KtutilState) (ending : LineEnd) → Ended plan new ending → HandlesQuietly trait plan files files old new ending
+  handles_ended plan files old new ending e out = inl (follows_ended plan files new ending e out)
+
+  -- a load, and what was done by its answer
+  pub handles_loaded : (name : List ℕ) (then_ : Result (List ℕ) LoadFault → Plan) (answer : Result (List ℕ) LoadFault) (files between files' : F) (old new : KtutilState) (ending : LineEnd)
+      → LoadsFile trait files name answer between → GoesOn trait (then_ answer) between files' old new ending → HandlesQuietly trait (Loads name then_) files files' old new ending
+  handles_loaded name then_ answer files between files' old new ending loads (inl follows) out = inl (answer, (between, (loads, follows out)))
+  handles_loaded name then_ answer files between files' old new ending loads (inr no_memory) out =
+      inr (inr (answer, subst (λ (x : F). LoadsFile trait files name answer x) (sym no_memory.0) loads), record { state_is = no_memory.1; same = refl; ending_is = no_memory.2 })
+
+  -- a load whose keytab was read
+  pub handles_read : (s new : KtutilState) (name : List ℕ) (files between : F) (answer : Result (List ℕ) LoadFault) (given : Result KeytabState LineEnd) (ending : LineEnd)
+      → (order : Order) → order ≡ s.order → LoadsFile trait files name answer between → keytab_of order answer ≡ given → Finishes (with_entries s given) s new ending
+      → HandlesQuietly trait (Loads name (λ answer. with_entries s (keytab_of s.order answer))) files between s new ending
+  handles_read s new name files between answer given ending order same_order loads is finishes =
+      handles_loaded name (λ answer. with_entries s (keytab_of s.order answer)) answer files between between s new ending loads
+      (goes_finished (with_entries s (keytab_of s.order answer)) between s new ending (subst (λ (r : Result KeytabState LineEnd). Finishes (with_entries s r) s new ending) (sym (subst (λ (o : Order). keytab_of o answer ≡ given) same_order is)) finishes))
+
+  -- a load whose keytab was written
+  pub handles_written : (s : KtutilState) (name : List ℕ) (files between files' : F) (answer : Result (List ℕ) LoadFault) (k : InMemory) (ending : LineEnd)
+      → (order : Order) → order ≡ s.order → LoadsFile trait files name answer between → GivesOrRunsOut (keytab_or_new order answer) (Ok k) → GoesOn trait (written_to s name (Ok k.state)) between files' s s ending
+      → HandlesQuietly trait (Loads name (λ answer. written_to s name (keytab_or_new s.order answer))) files files' s s ending
+  handles_written s name files between files' answer k ending order same_order loads (inl is) goes =
+      handles_loaded name (λ answer. written_to s name (keytab_or_new s.order answer)) answer files between files' s s ending loads
+      (subst (λ (r : Result KeytabState LineEnd). GoesOn trait (written_to s name r) between files' s s ending) (sym (subst (λ (o : Order). keytab_or_new o answer ≡ Ok k.state) same_order is)) goes)
+  handles_written s name files between files' answer k ending order same_order loads (inr none) goes = absurd (cc)
+
+  -- one that may print
+  pub handles_end : (plan : Plan) (files : F) (old new : KtutilState) (out out' : List ℕ) (ending : LineEnd) → EndsAt plan old new out out' ending → Handles trait plan files files old new out out' ending
+  handles_end (Ends due) files old new out out' ending (inl shows) = inl (refl, shows)
+  handles_end (Ends due) files old new out out' ending (inr out_of) = inr (refl, out_of)
+  handles_end (Loads name then_) files old new out out' ending e = absurd e
+  handles_end (Saves name bytes then_) files old new out out' ending e = absurd e
+
+  -- a plan without files that prints nothing, or out of memory
+  pub handles_finished : (plan : Plan) (files : F) (old new : KtutilState) (out : List ℕ) (ending : LineEnd) → Finishes plan old new ending → Handles trait plan files files old new out out ending
+  handles_finished (Ends due) files old new out ending (inl e) = inl (follows_ended (Ends due) files new ending e out)
+  handles_finished (Ends due) files old new out ending (inr out_of) = inr (refl, record { state_is = out_of.0; same = refl; ending_is = out_of.1 })
+  handles_finished (Loads name then_) files old new out ending (inl e) = absurd e
+  handles_finished (Loads name then_) files old new out ending (inr out_of) = inr (inl refl, record { state_is = out_of.0; same = refl; ending_is = out_of.1 })
+  handles_finished (Saves name bytes then_) files old new out ending (inl e) = absurd e
+  handles_finished (Saves name bytes then_) files old new out ending (inr out_of) = inr (refl, record { state_is = out_of.0; same = refl; ending_is = out_of.1 })

@@ -1,0 +1,17 @@
+use Rattle.std.proofs.Common.{ap, refl, inl}
+use Rattle.std.specs.Prelude.{Ok, Err}
+use Rattle.krb_commands.specs.KtutilPlan.{KtutilState}
+use Rattle.krb_commands.proofs.KtutilHandles.{handles_read}
+use Rattle.krb_commands.proofs.ktutil.state.Ktutil.read.Goals as goal
+
+pub returns-in-Ok : goal.returns-in-Ok
+returns-in-Ok g c =
+    let load = c.load_keytab-loaded.ensures in
+    handles_read g.F.Files c.args.self.now c.take_entries.new.self c.args.name.now c.args.files.now c.load_keytab-loaded.new.files load.answer (Ok c.in-Ok.keytab.state) c.take_entries.result
+    c.self.inside.v1_order (ap (λ (s : KtutilState). s.order) c.self.view_is) load.loads (rw c.in-Ok.is at load.gives) c.take_entries.ensures
+
+pub returns-in-Err : goal.returns-in-Err
+returns-in-Err g c =
+    let load = c.load_keytab-loaded.ensures in
+    handles_read g.F.Files c.args.self.now c.args.self.now c.args.name.now c.args.files.now c.load_keytab-loaded.new.files load.answer (Err c.in-Err.ending) c.in-Err.ending
+    c.self.inside.v1_order (ap (λ (s : KtutilState). s.order) c.self.view_is) load.loads (rw c.in-Err.is at load.gives) (inl (refl, refl, refl))

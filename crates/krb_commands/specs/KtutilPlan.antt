@@ -1,0 +1,151 @@
+-- What a line of ktutil does: a plan of what is loaded and saved, and what comes of the answers.
+use Rattle.std.specs.Prelude.{ℕ, ◌-◌, List, [], ◌∷◌, ◌++◌, length, remove, Option, None, Some, is_some, Result, Ok, Err, if◌then◌else◌}
+use Rattle.krb_wire.specs.declared.format.Order.{Order}
+use Rattle.krb_wire.specs.declared.format.KtFormat.TheVariants.{V2}
+use Rattle.krb_walk.specs.declared.refusal.Code.{Code}
+use Rattle.krb_walk.specs.declared.refusal.Code.TheVariants as code
+use Rattle.krb_walk.specs.Store.{fault_of}
+use Rattle.krb_keytab.specs.declared.open.KtOpenFault.{KtOpenFault}
+use Rattle.krb_keytab.specs.Entry.{EntryParts}
+use Rattle.krb_keytab.specs.Store.{KeytabState, open_result, image_of, store_of, entries, empty}
+use Rattle.krb_keytab.specs.Changes.{put_result}
+use Rattle.krb_files.specs.declared.files.LoadFault.{LoadFault}
+use Rattle.krb_files.specs.declared.files.LoadFault.TheVariants as load
+use Rattle.krb_files.specs.declared.files.SaveFault.{SaveFault}
+use Rattle.krb_files.specs.declared.files.SaveFault.TheVariants as save
+use Rattle.krb_text.specs.declared.line_fault.LineFault.{LineFault}
+use Rattle.krb_text.specs.declared.line_fault.LineFault.TheVariants.{BadKey}
+use Rattle.krb_commands.specs.declared.ktutil.line_end.LineEnd.{LineEnd}
+use Rattle.krb_commands.specs.declared.ktutil.line_end.LineEnd.TheVariants as end
+use Rattle.krb_text.specs.Slots.{slot_text}
+use Rattle.krb_text.specs.Word.{key_word}
+use Rattle.krb_commands.specs.KtutilWords.{is_word, trimmed}
+use Rattle.krb_commands.specs.KtutilCommand.{Awaited, Command, Skip, ListSlots, ReadFile, WriteFile, AwaitKey, DeleteSlot, ClearList, Quit, result_map, command_of}
+
+-- a list of entries, perhaps an entry that awaits its key, and the order of version 1 files
+pub record KtutilState : Type 0 where
+  pub order : Order
+  pub entries : List EntryParts
+  pub awaited : Option Awaited
+
+-- what becomes of a line: the state after it, the text that it prints, and how it ends
+pub record Outcome : Type 0 where
+  pub state : KtutilState
+  pub text : List ℕ
+  pub ending : LineEnd
+
+-- what is to be done: an end, or a load or a save whose answer decides how to go on
+pub data Plan : Type 0 where
+  Ends : Outcome → Plan
+  Loads : List ℕ → (Result (List ℕ) LoadFault → Plan) → Plan
+  Saves : List ℕ → List ℕ → (Result (Unit {0}) SaveFault → Plan) → Plan
+
+-- the line is done, and this is the state
+abbrev pub becomes : KtutilState → Plan
+becomes s = Ends (record { state = s; text = []; ending = end.Done })
+
+-- the line ends otherwise, and the state stays
+abbrev pub stays : KtutilState → LineEnd → Plan
+stays s ending = Ends (record { state = s; text = []; ending = ending })
+
+-- ---- files
+
+-- the most bytes that a file may have
+abbrev pub most_bytes : ℕ
+most_bytes = 16777216
+
+-- how a line ends that could not load its file
+abbrev pub load_end : LoadFault → LineEnd
+load_end load.Missing = end.Load load.Missing
+load_end load.TooLarge = end.Load load.TooLarge
+load_end load.Failed = end.Load load.Failed
+load_end load.NoMemory = end.NoMemory
+
+-- how a line ends that saved its file, or could not
+abbrev pub save_end : Result (Unit {0}) SaveFault → LineEnd
+save_end (Ok done) = end.Done
+save_end (Err save.Failed) = end.Save save.Failed
+save_end (Err save.NoMemory) = end.NoMemory
+
+-- the keytab of an image, or how a line ends that found none
+abbrev pub opened : Result KeytabState KtOpenFault → Result KeytabState LineEnd
+opened (Ok keytab) = Ok keytab
+opened (Err fault) = Err (end.NotAKeytab fault)
+
+-- the keytab that a load gives
+abbrev pub keytab_of : Order → Result (List ℕ) LoadFault → Result KeytabState LineEnd
+keytab_of order (Ok image) = opened (open_result order most_bytes image)
+keytab_of order (Err fault) = Err (load_end fault)
+
+-- what stands for a file that was not loaded: a missing one is an empty keytab of version 2
+abbrev pub without_file : LoadFault → Result KeytabState LineEnd
+without_file load.Missing = Ok (empty V2 most_bytes)
+without_file load.TooLarge = Err (end.Load load.TooLarge)
+without_file load.Failed = Err (end.Load load.Failed)
+without_file load.NoMemory = Err end.NoMemory
+
+-- the keytab that a load gives, or a new one
+abbrev pub keytab_or_new : Order → Result (List ℕ) LoadFault → Result KeytabState LineEnd
+keytab_or_new order (Ok image) = opened (open_result order most_bytes image)
+keytab_or_new order (Err fault) = without_file fault
+
+-- the entries of a keytab come behind those of the list; a damaged one gives none
+abbrev pub with_entries : KtutilState → Result KeytabState LineEnd → Plan
+with_entries s (Err ending) = stays s ending
+with_entries s (Ok k) =
+    if is_some (fault_of (store_of k)) then stays s (end.Refused code.Damaged)
+    else becomes (record s { entries = s.entries ++ entries k })
+
+-- a keytab with these entries added one after the other, or the first refusal
+abbrev pub with_added : List EntryParts → Result KeytabState Code → Result KeytabState Code
+with_added [] k = k
+with_added (e ∷ es) (Ok k) = with_added es (result_map (λ added. added.1) (put_result k e))
+with_added (e ∷ es) (Err refused) = Err refused
+
+-- the keytab is saved under the name, or why not
+abbrev pub saved_as : KtutilState → List ℕ → Result KeytabState Code → Plan
+saved_as s name (Ok k) = Saves name (image_of k) (λ answer. stays s (save_end answer))
+saved_as s name (Err refused) = stays s (end.Refused refused)
+
+-- the entries of the list are added to a keytab, and that is saved
+abbrev pub written_to : KtutilState → List ℕ → Result KeytabState LineEnd → Plan
+written_to s name (Ok k) = saved_as s name (with_added s.entries (Ok k))
+written_to s name (Err ending) = stays s ending
+
+-- ---- a key
+
+-- the key of a line, which has at least one byte
+abbrev pub key_line : ℕ → List ℕ → Result (List ℕ) LineFault
+key_line enctype line = if is_word (trimmed line) then key_word enctype (trimmed line) else Err BadKey
+
+-- the entry that awaited its key, made now
+abbrev pub entry_of : Awaited → ℕ → List ℕ → EntryParts
+entry_of x now key = record { principal = x.principal; timestamp = now; version = x.version; enctype = x.enctype; key = key }
+
+-- the entry comes behind the others; after a faulty key it is dropped
+abbrev pub with_key : KtutilState → Awaited → ℕ → Result (List ℕ) LineFault → Plan
+with_key s x now (Ok key) = becomes (record s { entries = s.entries ++ entry_of x now key ∷ []; awaited = None })
+with_key s x now (Err fault) = stays (record s { awaited = None }) (end.Fault fault)
+
+-- ---- a line
+
+-- what is done for a command, or for a faulty line
+abbrev pub command_plan : KtutilState → Result Command LineFault → Plan
+command_plan s (Err fault) = stays s (end.Fault fault)
+command_plan s (Ok Skip) = becomes s
+command_plan s (Ok (ListSlots columns)) = Ends (record { state = s; text = slot_text columns s.entries; ending = end.Done })
+command_plan s (Ok (ReadFile name)) = Loads name (λ answer. with_entries s (keytab_of s.order answer))
+command_plan s (Ok (WriteFile name)) = Loads name (λ answer. written_to s name (keytab_or_new s.order answer))
+command_plan s (Ok (AwaitKey awaited)) = becomes (record s { awaited = Some awaited })
+command_plan s (Ok (DeleteSlot slot)) = becomes (record s { entries = remove s.entries (slot - 1) })
+command_plan s (Ok ClearList) = becomes (record s { entries = [] })
+command_plan s (Ok Quit) = stays s end.Quit
+
+-- where a key is awaited, the line is that key, whatever it is
+abbrev pub plan_by : KtutilState → ℕ → List ℕ → Option Awaited → Plan
+plan_by s now line None = command_plan s (command_of line (length s.entries))
+plan_by s now line (Some x) = with_key s x now (key_line x.enctype line)
+
+-- what is done for a line
+abbrev pub plan_of : KtutilState → ℕ → List ℕ → Plan
+plan_of s now line = plan_by s now line s.awaited

@@ -1,0 +1,31 @@
+-- Files as a map from names to bytes.
+use Rattle.std.specs.Prelude.{◌≡◌, ◌≢◌, ◌⊎◌, ℕ, ◌-◌, ◌^◌, ◌<◌, List, length, if◌then◌else◌, nat_lt, Option, None, Some, Result, Ok, Err, Vec}
+use Rattle.krb_files.specs.declared.files.LoadFault.{LoadFault}
+use Rattle.krb_files.specs.declared.files.LoadFault.TheVariants.{Missing, TooLarge}
+
+-- what stands under each name
+abbrev pub FileMap : Type 0
+FileMap = List ℕ → Option (List ℕ)
+
+-- the same files
+abbrev pub SameFiles : FileMap → FileMap → Type 0
+SameFiles old new = (name : List ℕ) → new name ≡ old name
+
+-- a file was set: the name has these bytes, and every other name what it had
+pub record SetsFile (old : FileMap) (name bytes : List ℕ) (new : FileMap) : Type 0 where
+  pub this : new name ≡ Some bytes
+  pub others : (other : List ℕ) → other ≢ name → new other ≡ old other
+
+-- the count of failures rose, or it can rise no further
+abbrev pub CountsFailure : ℕ → ℕ → Type 0
+CountsFailure old new = (old < new) ⊎ (old ≡ 2 ^ 64 - 1)
+
+-- the bytes that were loaded, or why none were
+abbrev pub answer_of : {A : Type 0} → Result (Vec ℕ A) LoadFault → Result (List ℕ) LoadFault
+answer_of (Ok bytes) = Ok bytes.items
+answer_of (Err fault) = Err fault
+
+-- what a load of at most `limit` bytes gives of what stands under the name
+abbrev pub loaded : Option (List ℕ) → ℕ → Result (List ℕ) LoadFault
+loaded None limit = Err Missing
+loaded (Some bytes) limit = if nat_lt limit (length bytes) then Err TooLarge else Ok bytes

@@ -1,0 +1,5 @@
+-- What the contracts of this crate say.
+pub mod Bytes
+pub mod Files
+pub mod MemFiles
+pub mod Reader

@@ -1,0 +1,109 @@
+//! Files by name.
+
+ghost use Rattle.std.specs.Prelude.{◌≡◌, ◌≤◌, ◌⊎◌, ℕ, ◌-◌, ◌^◌, List, Result, Ok, Err, OnOk, OnErr, IfOk, IfErr, IsErrOf};
+ghost use Rattle.krb_files.specs.Files.{FileMap, SameFiles, SetsFile, CountsFailure, answer_of, loaded};
+
+use crate::cause::Cause;
+use std::alloc::Allocator;
+use thiserror::Error;
+
+/// Why a file was not loaded.
+#[derive(Clone, Copy, Debug, PartialEq, Eq, Error)]
+pub enum LoadFault {
+    #[error("no such file")]
+    Missing,
+    #[error("file too large")]
+    TooLarge,
+    #[error("cannot read")]
+    Failed,
+    #[error("out of memory")]
+    NoMemory,
+}
+
+/// Why a file was not saved.
+#[derive(Clone, Copy, Debug, PartialEq, Eq, Error)]
+pub enum SaveFault {
+    #[error("cannot write")]
+    Failed,
+    #[error("out of memory")]
+    NoMemory,
+}
+
+/// Files by name. What is said of their bytes holds while the files are honest.
+pub trait Files {
+    ghost use Rattle.krb_files.specs.declared.files.LoadFault.{LoadFault};
+    ghost use Rattle.krb_files.specs.declared.files.SaveFault.{SaveFault};
+
+    /// What stands under each name.
+    ghost file: { Self → FileMap };
+
+    /// Whether the calls read what stands there, and write what they are given.
+    ghost is_honest: { Self → Type 0 };
+
+    /// How many calls failed, as far as a u64 counts.
+    ghost failure_count: { Self → ℕ };
+
+    /// What a load of that name and limit may answer, and what it leaves. Honest or not, no answer
+    /// comes from elsewhere.
+    ghost answers: { Self → List ℕ → ℕ → Result (List ℕ) LoadFault → Self → Type 0 };
+
+    /// What a save of these bytes under that name may answer, and what it leaves, honest or not.
+    ghost saves: { Self → List ℕ → List ℕ → Result (Unit {0}) SaveFault → Self → Type 0 };
+
+    /// Keeps other programs from changing the file of that name, until it is saved or released. Where that
+    /// cannot be done, or another program changes the file all the same, the save fails.
+    fn hold(&mut self, _name: &str)
+        ensures { self.new ≡ self.old }
+    {}
+
+    /// Leaves the file that is held, if there is one, to other programs.
+    fn release(&mut self)
+        ensures { self.new ≡ self.old }
+    {}
+
+    /// The bytes of a file, if they are at most `limit`.
+    fn load<A: Allocator>(
+        &mut self,
+        alloc: A,
+        name: &str,
+        limit: u32,
+    ) -> Result<Vec<u8, A>, LoadFault>
+        ensures honest { is_honest self.old → is_honest self.new }
+        ensures same { is_honest self.old → SameFiles (file self.old) (file self.new) }
+        ensures answered { answers self.old name.now limit (answer_of result) self.new }
+
+        // Where neither a call nor memory failed, the answer is what stands there.
+        ensures ok { is_honest self.old
+            → IfOk result (λ bytes. loaded (file self.old name.now) limit ≡ Ok bytes.items) }
+        ensures err { is_honest self.old → IfErr result (λ fault. (fault ≡ LoadFault.Failed)
+            ⊎ (fault ≡ LoadFault.NoMemory) ⊎ (loaded (file self.old name.now) limit ≡ Err fault)) }
+
+        // `Failed` comes only with a failure that is counted; at the greatest count each call fails.
+        ensures failed { IsErrOf result LoadFault.Failed
+            → CountsFailure (failure_count self.old) (failure_count self.new) }
+        ensures count { failure_count self.old ≤ failure_count self.new }
+        ensures spent { failure_count self.old ≡ 2 ^ 64 - 1 → IsErrOf result LoadFault.Failed };
+
+    /// Puts the bytes under the name, in place of what stands there.
+    fn save(&mut self, name: &str, bytes: &[u8]) -> Result<(), SaveFault>
+        ensures honest { is_honest self.old → is_honest self.new }
+        ensures ok { is_honest self.old
+            → OnOk result (SetsFile (file self.old) name.now bytes.now (file self.new)) }
+        ensures err { is_honest self.old → OnErr result (SameFiles (file self.old) (file self.new)) }
+        ensures saved { saves self.old name.now bytes.now result self.new }
+
+        // As for `load`.
+        ensures failed { IsErrOf result SaveFault.Failed
+            → CountsFailure (failure_count self.old) (failure_count self.new) }
+        ensures count { failure_count self.old ≤ failure_count self.new }
+        ensures spent { failure_count self.old ≡ 2 ^ 64 - 1 → IsErrOf result SaveFault.Failed };
+
+    /// How many calls failed, as far as a u64 counts.
+    fn failures(&self) -> u64
+        ensures { result ≡ failure_count self.now };
+
+    /// What the last call that answered `Failed` failed with, where that is known.
+    fn cause(&self) -> Option<Cause> {
+        None
+    }
+}

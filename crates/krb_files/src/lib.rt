@@ -1,0 +1,20 @@
+//! Files by name, and what is read from a reader and written to a writer.
+#![tactic(auto)]
+
+mod cause;
+mod files;
+mod mem_files;
+mod output;
+mod reader;
+#[cfg(test)]
+mod tests;
+mod watched;
+mod writer;
+
+pub use cause::Cause;
+pub use files::{Files, LoadFault, SaveFault};
+pub use mem_files::MemFiles;
+pub use output::{OutFault, put};
+pub use reader::{append_read, load, next_read};
+pub use watched::Watched;
+pub use writer::save;

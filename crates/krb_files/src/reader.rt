@@ -1,0 +1,127 @@
+//! Bytes out of a reader.
+
+ghost use Rattle.std.specs.Prelude.{◌≢◌, ◌≡◌, ◌+◌, ◌<◌, ◌≤◌, ◌*◌, ◌^◌, ◌++◌, ◌⊎◌, ℕ, List, length, max, min, take, drop, OnOk, OnErr, IfOk, IfErr, IfSome, IsErrOf, vec_capacity, vec_len};
+ghost use Rattle.std.specs.Io.KnownBytes.{Consumes, IsAtEnd, Keeps};
+ghost use Rattle.krb_files.specs.Reader.{ConsumesAtMost};
+
+use crate::files::LoadFault;
+use std::alloc::Allocator;
+use std::io::Read;
+
+/// How many bytes one read asks for at most.
+pub const MOST_READ: usize = 128 * 1024;
+
+// How many it asks for at least, where there is room.
+const LEAST_READ: usize = 4096;
+
+// One read into the bytes from a place on.
+fn read_into<R: Read>(reader: &mut R, bytes: &mut [u8], at: usize) -> Result<usize, LoadFault>
+    requires { at < length bytes.old }
+    ensures front { take at bytes.new ≡ take at bytes.old }
+    ensures within { IfOk result (λ count. at + count ≤ length bytes.new) }
+    ensures given { IfOk result (λ count. Consumes (R.remaining reader.old) (R.remaining reader.new)
+        (take count (drop at bytes.new))) }
+    ensures end { IfOk result (λ count. count ≡ 0 → IsAtEnd (R.remaining reader.new)) }
+    ensures err { OnErr result (Keeps (R.remaining reader.old) (R.remaining reader.new)) }
+    ensures why { IfErr result (λ fault. fault ≡ LoadFault.Failed) }
+{
+    match reader.read(&mut bytes[at..]) {
+        Ok(count) => Ok(count),
+        Err(_) => Err(LoadFault::Failed),
+    }
+}
+
+// Reads once, at most that many bytes, and appends what is given.
+pub fn append_read<A: Allocator, R: Read>(
+    bytes: &mut Vec<u8, A>,
+    reader: &mut R,
+    most: usize,
+) -> Result<usize, LoadFault>
+    requires { (0 < most) × (vec_len bytes.old + most < 2 ^ 33) }
+    ensures len { IfOk result (λ count. (vec_len bytes.new ≡ vec_len bytes.old + count) × (count ≤ most)) }
+    ensures given { OnOk result ((given : List ℕ) × (bytes.new.items ≡ bytes.old.items ++ given)
+        × Consumes (R.remaining reader.old) (R.remaining reader.new) given) }
+    ensures end { IfOk result (λ count. count ≡ 0 → IsAtEnd (R.remaining reader.new)) }
+    ensures err { OnErr result (Keeps (R.remaining reader.old) (R.remaining reader.new)) }
+    ensures same { OnErr result (bytes.new.items ≡ bytes.old.items) }
+    ensures capacity { vec_capacity bytes.old ≤ vec_capacity bytes.new }
+    ensures why { IfErr result (λ fault. (fault ≡ LoadFault.Failed) ⊎ (fault ≡ LoadFault.NoMemory)) }
+{
+    let filled = bytes.len();
+    if bytes.resize(filled + most, 0).is_err() {
+        return Err(LoadFault::NoMemory);
+    }
+    match read_into(reader, bytes, filled) {
+        Ok(count) => {
+            bytes.truncate(filled + count);
+            Ok(count)
+        }
+        Err(fault) => {
+            bytes.truncate(filled);
+            Err(fault)
+        }
+    }
+}
+
+// How many bytes are read next, by how many the last read gave: room is cleared before a read, so a reader that
+// gives little is asked for little. The room that is there is filled before more is taken.
+pub fn next_read<A: Allocator>(bytes: &Vec<u8, A>, last: usize) -> usize
+    ensures some { 0 < result }
+    ensures most { result ≤ 131072 }
+    ensures little { result ≤ max 4096 (2 * last) }
+    ensures room { (vec_len bytes.now + result ≤ vec_capacity bytes.now)
+        ⊎ (vec_capacity bytes.now ≡ vec_len bytes.now) }
+    ensures much { (min 131072 (max 4096 (2 * last)) ≤ result)
+        ⊎ (vec_len bytes.now + result ≡ vec_capacity bytes.now) }
+{
+    let wanted = last.saturating_mul(2).clamp(LEAST_READ, MOST_READ);
+    match bytes.capacity() - bytes.len() {
+        0 => wanted,
+        spare => spare.min(wanted),
+    }
+}
+
+// How much room is taken at once, with a byte for the read that finds the end.
+fn first_room(expected: u64, limit: u32) -> usize
+    ensures most { result ≤ limit + 1 }
+    ensures enough { min expected limit ≤ result }
+{
+    match expected.min(u64::from(limit)) {
+        0 => 0,
+        count => count as usize + 1,
+    }
+}
+
+/// Reads to the end, if no more than `limit` bytes are left; one byte more is read at most. Room for
+/// `expected` bytes, but never for more than may be read, is taken at once.
+pub fn load<A: Allocator, R: Read>(
+    alloc: A,
+    reader: &mut R,
+    limit: u32,
+    expected: u64,
+) -> Result<Vec<u8, A>, LoadFault>
+    ensures ok { IfOk result (λ bytes. IfSome (R.remaining reader.old) (λ left. bytes.items ≡ left)) }
+    ensures within { IfOk result (λ bytes. vec_len bytes ≤ limit) }
+    ensures room { IfOk result (λ bytes. min expected limit ≤ vec_capacity bytes) }
+    ensures end { OnOk result (IsAtEnd (R.remaining reader.new)) }
+    ensures too_large { IsErrOf result LoadFault.TooLarge
+        → IfSome (R.remaining reader.old) (λ left. limit < length left) }
+    ensures never { IfErr result (λ fault. fault ≢ LoadFault.Missing) }
+    ensures taken { ConsumesAtMost (R.remaining reader.old) (R.remaining reader.new) (limit + 1) }
+{
+    let most = limit as usize;
+    let Ok(mut bytes) = Vec::with_capacity(alloc, first_room(expected, limit)) else {
+        return Err(LoadFault::NoMemory);
+    };
+    let mut last = MOST_READ;
+    loop {
+        let room = next_read(&bytes, last).min(most - bytes.len() + 1);
+        last = append_read(&mut bytes, reader, room)?;
+        if last == 0 {
+            return Ok(bytes);
+        }
+        if bytes.len() > most {
+            return Err(LoadFault::TooLarge);
+        }
+    }
+}
