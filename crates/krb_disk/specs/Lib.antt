@@ -1,4 +1,6 @@
 -- What the contracts of this crate say.
 pub mod DiskFiles
 pub mod Mode
+pub mod NewFile
+pub mod Stages
 pub mod Target

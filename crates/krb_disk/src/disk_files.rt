@@ -4,6 +4,7 @@ ghost use Rattle.std.specs.Prelude.{◌≡◌, ◌≤◌, ◌<◌, None, IfOk, I
 ghost use Rattle.krb_files.specs.Files.{CountsFailure};
 ghost use Rattle.krb_disk.specs.DiskFiles.{Failures, AnswersFromDisk, SavesToDisk};
 
+use crate::calls::Calls;
 use crate::fault::{DiskFault, ReadFault};
 use crate::hold::Hold;
 use crate::lock::TakeLock;
@@ -20,7 +21,7 @@ use std::rt;
 /// as it was loaded.
 #[derive(Drop)]
 pub struct DiskFiles<'a, R: rt::Files + Alloc> {
-    rt: &'a R,
+    calls: Calls<'a, R>,
     failures: u64,
     cause: Option<Cause>,
     /// The file that is held, or why it is not, and cannot be saved.
@@ -42,7 +43,7 @@ impl<'a, R: rt::Files + Alloc> DiskFiles<'a, R> {
         ensures { result ≡ (0, None) }
     {
         DiskFiles {
-            rt,
+            calls: Calls::new(rt),
             failures: 0,
             cause: None,
             held: None,
@@ -75,8 +76,8 @@ where
         ensures within { IfOk result (λ bytes. vec_len bytes ≤ limit) }
     {
         match &mut self.held {
-            Some(Ok(hold)) if hold.is_of(name) => hold.load(self.rt, alloc, limit),
-            _ => match read_file(self.rt, alloc, name, limit) {
+            Some(Ok(hold)) if hold.is_of(name) => hold.load(&mut self.calls, alloc, limit),
+            _ => match read_file(self.calls.looks(), alloc, name, limit) {
                 Ok((_, bytes)) => Ok(bytes),
                 Err(fault) => Err(fault),
             },
@@ -92,11 +93,11 @@ where
                 if hold.is_of(name) {
                     return Ok(hold);
                 }
-                hold.release(self.rt);
-                Hold::take(self.rt, name)
+                hold.release(&mut self.calls);
+                Hold::take(&mut self.calls, name)
             }
             Some(Err(fault)) => Err(fault),
-            None => Hold::take(self.rt, name),
+            None => Hold::take(&mut self.calls, name),
         }
     }
 
@@ -104,7 +105,7 @@ where
         ensures { self.new ≡ self.old }
     {
         let hold = self.take_hold(name)?;
-        hold.save(self.rt, bytes)
+        hold.save(&mut self.calls, bytes)
     }
 }
 
@@ -124,12 +125,12 @@ where
 
     fn hold(&mut self, name: &str) {
         self.release();
-        self.held = Some(Hold::take(self.rt, name));
+        self.held = Some(Hold::take(&mut self.calls, name));
     }
 
     fn release(&mut self) {
         if let Some(Ok(hold)) = self.held.take() {
-            hold.release(self.rt);
+            hold.release(&mut self.calls);
         }
     }
 

@@ -1,22 +1,24 @@
 //! A file that this program alone may change.
 
-ghost use Rattle.std.specs.Prelude.{◌≡◌, ◌≤◌, ◌↔◌, IfOk, IsTrue, string_bytes, vec_len};
+ghost use Rattle.std.specs.Prelude.{◌≡◌, ◌≤◌, ◌↔◌, IfOk, OnOk, IsTrue, string_bytes, vec_len};
+ghost use Rattle.std.specs.Path.{path_buf_bytes};
+ghost use Rattle.krb_disk.specs.NewFile.{IsHeldAt};
+ghost use Rattle.krb_disk.specs.Stages.{IsSame, seen_file};
+ghost use Rattle.krb_disk.specs.Target.{new_path};
+ghost use Rattle.krb_disk.specs.declared.stage.Stage.TheVariants.{Synced, Renamed};
 
+use crate::calls::{Calls, NewFile};
 use crate::fault::{DiskFault, ReadFault};
 use crate::lock::TakeLock;
-use crate::locks::{LockKind, is_locked};
+use crate::looks::Found;
 use crate::new_file::{Attempt, make_locked, remove_own};
-use crate::noted::Noted;
 use crate::owner::SetOwner;
 use crate::patience::{MOST_TRIES, Patience};
-use crate::read::read_file;
-use crate::same::{look, stands_at};
-use crate::save::{fill, sync_folder};
+use crate::save::fill;
 use crate::seen::Seen;
 use crate::target::{find_target, folder_of};
 use krb_files::Cause;
 use std::alloc::Allocator;
-use std::fs::{self, Metadata};
 use std::io::ErrorKind;
 use std::path::PathBuf;
 use std::rt;
@@ -28,28 +30,29 @@ pub struct Hold<R: rt::Files + Alloc> {
     /// The name by which the file was asked for.
     name: String<R::A>,
     path: PathBuf<R::A>,
-    new_path: String<R::A>,
-    new_file: Noted<R::File>,
+    new_file: NewFile<String<R::A>, R::File>,
     seen: Seen<R::A>,
+    ghost is_held: { IsHeldAt (new_path (path_buf_bytes path)) new_file },
 }
 
 // Makes and locks the new file, once no other program has it.
 fn make_new_file<R: rt::Files + rt::Clock + Alloc>(
-    rt: &R,
+    calls: &mut Calls<'_, R>,
     path: &str,
     owner: Option<u32>,
     patience: &mut Patience,
-) -> Result<R::File, DiskFault>
+) -> Result<NewFile<String<R::A>, R::File>, DiskFault>
 where
     R::File: TakeLock,
+    ensures { IfOk result (λ file. IsHeldAt path.now file) }
 {
     for _ in 0..=MOST_TRIES {
-        match make_locked(rt, path, owner)? {
+        match make_locked(calls, path, owner)? {
             Attempt::Locked(file) => return Ok(file),
             Attempt::InTheWay if patience.is_short() => {
                 return Err(DiskFault::Failed(Cause::InTheWay));
             }
-            Attempt::InTheWay | Attempt::InUse => patience.pause(rt)?,
+            Attempt::InTheWay | Attempt::InUse => patience.pause(calls.looks())?,
         }
     }
     Err(DiskFault::Failed(Cause::InUse))
@@ -57,20 +60,65 @@ where
 
 // What stands under the name, once no program that holds no file, as MIT's, has locked it.
 fn wait_until_quiet<R: rt::Files + rt::Clock + Alloc>(
-    rt: &R,
+    calls: &mut Calls<'_, R>,
     path: &str,
     patience: &mut Patience,
-) -> Result<Option<Metadata>, DiskFault> {
+) -> Result<Option<Found>, DiskFault> {
     for _ in 0..=MOST_TRIES {
-        match look(rt, path)? {
+        match calls.see(path)? {
             Some(found) if !found.is_file() => {
                 return Err(DiskFault::Failed(Cause::NotAPlainFile));
             }
-            Some(found) if is_locked(rt, &found, LockKind::Record)? => patience.pause(rt)?,
+            Some(found) if !calls.is_quiet(&found)? => patience.pause(calls.looks())?,
             found => return Ok(found),
         }
     }
     Err(DiskFault::Failed(Cause::InUse))
+}
+
+// Fails where another program has put something else in the new file's place, has changed the file since
+// it was loaded, or has locked it to change it.
+fn check<R: rt::Files + Alloc>(
+    calls: &mut Calls<'_, R>,
+    new_file: &mut NewFile<String<R::A>, R::File>,
+    path: &str,
+    seen: &Seen<R::A>,
+) -> Result<(), DiskFault>
+    requires synced { new_file.old.stage ≡ Synced (seen_file seen.now) }
+    requires beside { string_bytes new_file.old.path ≡ new_path path.now }
+    ensures same { OnOk result (IsSame new_file.new.stage) }
+    ensures path { new_file.new.path ≡ new_file.old.path }
+{
+    if !calls.stands(new_file)? || !calls.compare(new_file, path, seen)? {
+        return Err(DiskFault::Failed(Cause::Changed));
+    }
+    match seen.file() {
+        Some(file) if !calls.is_quiet(&file)? => Err(DiskFault::Failed(Cause::InUse)),
+        _ => Ok(()),
+    }
+}
+
+// Fills the new file, and gives it the name of the old one.
+fn replace<R: rt::Files + Alloc>(
+    calls: &mut Calls<'_, R>,
+    new_file: &mut NewFile<String<R::A>, R::File>,
+    path: &str,
+    seen: &Seen<R::A>,
+    bytes: &[u8],
+) -> Result<(), DiskFault>
+where
+    R::File: SetOwner,
+    requires { IsHeldAt (new_path path.now) new_file.old }
+    ensures { OnOk result (new_file.new.stage ≡ Renamed) }
+{
+    fill(calls, new_file, bytes, seen.file())?;
+    check(calls, new_file, path, seen)?;
+    match calls.rename(new_file, path) {
+        Err(error) if error.kind() == ErrorKind::ResourceBusy => {
+            Err(DiskFault::Failed(Cause::MountPoint))
+        }
+        renamed => Ok(renamed?),
+    }
 }
 
 impl<R: rt::Files + rt::Clock + Alloc> Hold<R>
@@ -78,26 +126,21 @@ where
     R::File: SetOwner + TakeLock,
 {
     /// Holds the file to which a name leads, or the free name; waits where another program does.
-    pub fn take(rt: &R, name: &str) -> Result<Hold<R>, DiskFault> {
-        let target = find_target(rt, name)?;
-        let new_path = target.new_path(rt.alloc())?;
-        let name = String::from_str(rt.alloc(), name)?;
+    pub fn take(calls: &mut Calls<'_, R>, name: &str) -> Result<Hold<R>, DiskFault> {
+        let target = find_target(calls.looks(), name)?;
+        let new_path = target.new_path(calls.looks().alloc())?;
+        let name = String::from_str(calls.looks().alloc(), name)?;
         let mut patience = Patience::new();
-        let new_file = make_new_file(rt, &new_path, target.owner(), &mut patience)?;
-        let mut hold = Hold {
-            name,
-            path: target.path,
-            new_path,
-            new_file: Noted::new(new_file),
-            seen: Seen::Nothing,
-        };
-        match wait_until_quiet(rt, hold.path.as_str(), &mut patience) {
-            Ok(found) => {
-                hold.seen = Seen::of(found);
-                Ok(hold)
-            }
+        let mut new_file = make_new_file(calls, &new_path, target.owner(), &mut patience)?;
+        match wait_until_quiet(calls, target.path.as_str(), &mut patience) {
+            Ok(found) => Ok(Hold {
+                name,
+                path: target.path,
+                new_file,
+                seen: Seen::of(found),
+            }),
             Err(fault) => {
-                hold.release(rt);
+                let _ = remove_own(calls, &mut new_file);
                 Err(fault)
             }
         }
@@ -113,15 +156,15 @@ where
     /// Loads the file, and remembers which one that was, and its bytes.
     pub fn load<A: Allocator>(
         &mut self,
-        rt: &R,
+        calls: &mut Calls<'_, R>,
         alloc: A,
         limit: u32,
     ) -> Result<Vec<u8, A>, ReadFault>
         ensures { IfOk result (λ bytes. vec_len bytes ≤ limit) }
     {
-        match read_file(rt, alloc, self.path.as_str(), limit) {
+        match calls.load(alloc, self.path.as_str(), limit) {
             Ok((file, bytes)) => {
-                let Ok(copy) = Vec::from_slice(rt.alloc(), &bytes) else {
+                let Ok(copy) = Vec::from_slice(calls.looks().alloc(), &bytes) else {
                     return Err(ReadFault::Disk(DiskFault::NoMemory));
                 };
                 self.seen = Seen::Loaded(file, copy);
@@ -135,50 +178,29 @@ where
         }
     }
 
-    // Fails where another program has put something else in the new file's place, has changed the file since
-    // it was loaded, or has locked it to change it.
-    fn check(&self, rt: &R) -> Result<(), DiskFault> {
-        let path = self.path.as_str();
-        if !stands_at(rt, &self.new_path, &self.new_file.file)? || !self.seen.is_at(rt, path)? {
-            return Err(DiskFault::Failed(Cause::Changed));
-        }
-        match self.seen.file() {
-            Some(file) if is_locked(rt, file, LockKind::Record)? => {
-                Err(DiskFault::Failed(Cause::InUse))
-            }
-            _ => Ok(()),
-        }
-    }
-
-    // Fills the new file, and gives it the name of the old one.
-    fn replace(&mut self, rt: &R, bytes: &[u8]) -> Result<(), DiskFault> {
-        fill(&mut self.new_file, bytes, self.seen.file())?;
-        self.check(rt)?;
-        match fs::rename(rt, &self.new_path, &self.path) {
-            Err(error) if error.kind() == ErrorKind::ResourceBusy => {
-                Err(DiskFault::Failed(Cause::MountPoint))
-            }
-            renamed => Ok(renamed?),
-        }
-    }
-
     /// Saves the bytes in the file, or fails and leaves it as it was.
-    pub fn save(self, rt: &R, bytes: &[u8]) -> Result<(), DiskFault> {
-        let mut hold = self;
-        match hold.replace(rt, bytes) {
+    pub fn save(self, calls: &mut Calls<'_, R>, bytes: &[u8]) -> Result<(), DiskFault> {
+        let Hold {
+            path,
+            mut new_file,
+            seen,
+            ..
+        } = self;
+        match replace(calls, &mut new_file, path.as_str(), &seen, bytes) {
             Ok(()) => {
-                let _ = sync_folder(rt, folder_of(&hold.path));
+                let _ = calls.sync_folder(folder_of(&path));
                 Ok(())
             }
             Err(fault) => {
-                hold.release(rt);
+                let _ = remove_own(calls, &mut new_file);
                 Err(fault)
             }
         }
     }
 
     /// Leaves the file to other programs.
-    pub fn release(self, rt: &R) {
-        let _ = remove_own(rt, &self.new_path, &self.new_file.file);
+    pub fn release(self, calls: &mut Calls<'_, R>) {
+        let Hold { mut new_file, .. } = self;
+        let _ = remove_own(calls, &mut new_file);
     }
 }

@@ -1,11 +1,13 @@
 //! The files of a disk, each loaded and saved as a whole.
 #![tactic(auto)]
 
+mod calls;
 mod disk_files;
 mod fault;
 mod hold;
 mod lock;
 mod locks;
+mod looks;
 mod mode;
 mod new_file;
 mod noted;
@@ -15,9 +17,11 @@ mod read;
 mod same;
 mod save;
 mod seen;
+mod stage;
 mod target;
 #[cfg(test)]
 mod tests;
+mod users;
 
 pub use disk_files::DiskFiles;
 pub use lock::TakeLock;

@@ -3,9 +3,8 @@
 ghost use Rattle.std.specs.Prelude.{◌≡◌};
 
 use crate::fault::{DiskFault, ReadFault};
+use crate::looks::{Found, Looks};
 use crate::read::read_file;
-use std::fs::Metadata;
-use std::os::unix::fs::MetadataExt;
 use std::{rt, str};
 
 /// The system's list of locks, and of those that are waited for, each a line, as
@@ -34,8 +33,8 @@ impl LockKind {
 }
 
 // The number of a file's device in two parts, as Linux puts them into one.
-fn device_of(file: &Metadata) -> (u64, u64) {
-    let device = file.dev();
+fn device_of(file: &Found) -> (u64, u64) {
+    let device = file.device;
     let major = device >> 8 & 0xfff | device >> 32 & 0xffff_f000;
     let minor = device & 0xff | device >> 12 & 0xffff_ff00;
     (major, minor)
@@ -64,14 +63,14 @@ fn tells_of(line: &str, kind: LockKind, device: &str, inode: &str) -> bool {
 /// Whether a program has locked a file to write in it, or waits to, as far as the system tells. Where it
 /// has no list of locks, none has.
 pub fn is_locked<R: rt::Files + Alloc>(
-    rt: &R,
-    file: &Metadata,
+    looks: &Looks<'_, R>,
+    file: &Found,
     kind: LockKind,
 ) -> Result<bool, DiskFault> {
     let (major, minor) = device_of(file);
-    let device = format!(in rt.alloc(); "{major:02x}:{minor:02x}")?;
-    let inode = format!(in rt.alloc(); "{}", file.ino())?;
-    let list = match read_file(rt, rt.alloc(), LOCKS, MOST_BYTES) {
+    let device = format!(in looks.alloc(); "{major:02x}:{minor:02x}")?;
+    let inode = format!(in looks.alloc(); "{}", file.inode)?;
+    let list = match read_file(looks, looks.alloc(), LOCKS, MOST_BYTES) {
         Ok((_, list)) => list,
         Err(ReadFault::Disk(DiskFault::NoMemory)) => return Err(DiskFault::NoMemory),
         Err(_) => return Ok(false),

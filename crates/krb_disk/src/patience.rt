@@ -3,9 +3,10 @@
 ghost use Rattle.std.specs.Prelude.{◌≡◌, ◌+◌, ◌≤◌, ◌↔◌, IsTrue, OnOk, OnErr};
 
 use crate::fault::DiskFault;
+use crate::looks::Looks;
 use krb_files::Cause;
+use std::rt;
 use std::time::Duration;
-use std::{rt, thread};
 
 /// How often it is tried again to hold a file that another program holds: for some ten seconds.
 pub const MOST_TRIES: u32 = 2000;
@@ -38,7 +39,7 @@ impl Patience {
     }
 
     /// Lets some time pass before the next try, or says that there is none.
-    pub fn pause<C: rt::Clock>(&mut self, clock: &C) -> Result<(), DiskFault>
+    pub fn pause<R: rt::Clock>(&mut self, looks: &Looks<'_, R>) -> Result<(), DiskFault>
         ensures counted { OnOk result (self.new.tries ≡ self.old.tries + 1) }
         ensures most { OnOk result (self.new.tries ≤ 2000) }
         ensures over { OnErr result (2000 ≤ self.old.tries) }
@@ -47,7 +48,7 @@ impl Patience {
             return Err(DiskFault::Failed(Cause::InUse));
         }
         self.tries += 1;
-        thread::sleep(clock, Duration::from_millis(PAUSE));
+        looks.pause(Duration::from_millis(PAUSE));
         Ok(())
     }
 }

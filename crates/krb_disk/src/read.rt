@@ -3,10 +3,10 @@
 ghost use Rattle.std.specs.Prelude.{◌≡◌, ◌≤◌, ◌++◌, IfOk, IfSome, IsTrue, vec_len};
 
 use crate::fault::{DiskFault, ReadFault};
+use crate::looks::{Found, Looks};
 use crate::noted::Noted;
 use krb_files::{LoadFault, load};
 use std::alloc::Allocator;
-use std::fs::{self, Metadata, OpenFile};
 use std::io::{self, Read};
 use std::rt;
 
@@ -15,22 +15,22 @@ const PIECE: usize = 16_384;
 
 /// The file of that name, and its bytes, if they are at most `limit`.
 pub fn read_file<R: rt::Files, A: Allocator>(
-    rt: &R,
+    looks: &Looks<'_, R>,
     alloc: A,
     path: &str,
     limit: u32,
-) -> Result<(Metadata, Vec<u8, A>), ReadFault>
+) -> Result<(Found, Vec<u8, A>), ReadFault>
     ensures { IfOk result (λ read. vec_len read.1 ≤ limit) }
 {
-    let file = match fs::open(rt, path) {
+    let file = match looks.open(path) {
         Ok(file) => file,
         Err(error) if error.kind() == io::ErrorKind::NotFound => return Err(ReadFault::Missing),
         Err(error) => return Err(ReadFault::from(error)),
     };
-    let metadata = file.metadata()?;
+    let found = file.tell()?;
     let mut file = Noted::new(file);
-    match load(alloc, &mut file, limit, metadata.len()) {
-        Ok(bytes) => Ok((metadata, bytes)),
+    match load(alloc, &mut file, limit, found.size) {
+        Ok(bytes) => Ok((found, bytes)),
         Err(LoadFault::TooLarge) => Err(ReadFault::TooLarge),
         Err(LoadFault::NoMemory) => Err(ReadFault::Disk(DiskFault::NoMemory)),
         Err(LoadFault::Missing | LoadFault::Failed) => Err(ReadFault::from(file.error())),

@@ -1,69 +1,89 @@
 //! What a save writes.
 
-ghost use Rattle.std.specs.Prelude.{OnOk};
+ghost use Rattle.std.specs.Prelude.{◌≡◌, Some, OnOk};
 ghost use Rattle.std.specs.Io.KnownBytes.{Appends};
+ghost use Rattle.krb_disk.specs.declared.stage.Stage.TheVariants.{Held, Written, Permitted, Synced};
 
+use crate::calls::{Calls, NewFile};
 use crate::fault::DiskFault;
+use crate::looks::Found;
 use crate::mode::{Inheritance, new_mode};
 use crate::new_file::PRIVATE;
-use crate::noted::Noted;
 use crate::owner::SetOwner;
-use krb_files::{Cause, save};
-use std::fs::{self, Metadata, OpenFile, Permissions};
-use std::io::{self, ErrorKind, Write};
-use std::os::unix::fs::{MetadataExt, PermissionsExt};
 use std::rt;
 
-// Whether an owner or a group is not to be had here: this user may not give it, the file system has none, or
-// none of this number.
-fn is_refused(error: &io::Error) -> bool {
-    match error.kind() {
-        ErrorKind::PermissionDenied | ErrorKind::Unsupported | ErrorKind::InvalidInput => true,
-        _ => false,
-    }
-}
-
-// Sets the owner and the group. The answer is whether that was allowed.
-fn set_owner<F: SetOwner>(file: &F, owner: Option<u32>, group: u32) -> Result<bool, DiskFault> {
-    match file.set_owner(owner, Some(group)) {
-        Ok(()) => Ok(true),
-        Err(error) if is_refused(&error) => Ok(false),
-        Err(_) => Err(DiskFault::Failed(Cause::OwnerNotKept)),
-    }
-}
-
 // Gives a new file the owner and the group of the old one, as far as that is allowed.
-fn give_owner<F: OpenFile + SetOwner>(file: &F, old: &Metadata) -> Result<Inheritance, DiskFault> {
-    if !set_owner(file, Some(old.uid()), old.gid())? {
-        set_owner(file, None, old.gid())?;
+fn give_owner<R: rt::Files + Alloc>(
+    calls: &mut Calls<'_, R>,
+    file: &NewFile<String<R::A>, R::File>,
+    old: &Found,
+) -> Result<(), DiskFault>
+where
+    R::File: SetOwner,
+    requires { file.now.stage ≡ Written }
+{
+    if !calls.own(file, Some(old.owner), old.group)? {
+        calls.own(file, None, old.group)?;
     }
-    let new = file.metadata()?;
-    Ok(Inheritance {
-        owner: new.uid() == old.uid(),
-        group: new.gid() == old.gid(),
-    })
+    Ok(())
+}
+
+// Gives a new file what it inherits from the old one, and the mode that this leaves.
+fn inherit<R: rt::Files + Alloc>(
+    calls: &mut Calls<'_, R>,
+    file: &mut NewFile<String<R::A>, R::File>,
+    old: Found,
+) -> Result<(), DiskFault>
+where
+    R::File: SetOwner,
+    requires { file.old.stage ≡ Written }
+    ensures stage { OnOk result (file.new.stage ≡ Permitted (Some old)) }
+    ensures path { file.new.path ≡ file.old.path }
+    ensures bytes { file.new.file ≡ file.old.file }
+{
+    give_owner(calls, file, &old)?;
+    let new = calls.stat(file)?;
+    let has = Inheritance {
+        owner: new.owner == old.owner,
+        group: new.group == old.group,
+    };
+    Ok(calls.permit(file, Some(old), new_mode(old.mode, has))?)
+}
+
+// Gives a new file its owner and its mode.
+fn give_mode<R: rt::Files + Alloc>(
+    calls: &mut Calls<'_, R>,
+    file: &mut NewFile<String<R::A>, R::File>,
+    old: Option<Found>,
+) -> Result<(), DiskFault>
+where
+    R::File: SetOwner,
+    requires { file.old.stage ≡ Written }
+    ensures stage { OnOk result (file.new.stage ≡ Permitted old) }
+    ensures path { file.new.path ≡ file.old.path }
+    ensures bytes { file.new.file ≡ file.old.file }
+{
+    match old {
+        Some(old) => inherit(calls, file, old),
+        None => Ok(calls.permit(file, None, PRIVATE)?),
+    }
 }
 
 /// Writes the new file whole, with the mode that it is to have.
-pub fn fill<F: Write + OpenFile + SetOwner>(
-    new: &mut Noted<F>,
+pub fn fill<R: rt::Files + Alloc>(
+    calls: &mut Calls<'_, R>,
+    new: &mut NewFile<String<R::A>, R::File>,
     bytes: &[u8],
-    old: Option<&Metadata>,
+    old: Option<Found>,
 ) -> Result<(), DiskFault>
-    ensures { OnOk result (Appends (F.contents new.old.file) (F.contents new.new.file) bytes.now) }
+where
+    R::File: SetOwner,
+    requires { new.old.stage ≡ Held }
+    ensures written { OnOk result (Appends (R.File.contents new.old.file.file) (R.File.contents new.new.file.file) bytes.now) }
+    ensures stage { OnOk result (new.new.stage ≡ Synced old) }
+    ensures path { new.new.path ≡ new.old.path }
 {
-    if save(new, bytes).is_err() {
-        return Err(DiskFault::from(new.error()));
-    }
-    let mode = match old {
-        Some(old) => new_mode(old.mode(), give_owner(&new.file, old)?),
-        None => PRIVATE,
-    };
-    new.file.set_permissions(Permissions::from_mode(mode))?;
-    Ok(new.file.sync_all()?)
-}
-
-/// Lets the names in a folder outlast a crash.
-pub fn sync_folder<R: rt::Files>(rt: &R, folder: &str) -> io::Result<()> {
-    fs::open(rt, folder)?.sync_all()
+    calls.write(new, bytes)?;
+    give_mode(calls, new, old)?;
+    Ok(calls.sync(new)?)
 }

@@ -1,17 +1,15 @@
 //! Where a save goes.
 
-ghost use Rattle.std.specs.Prelude.{◌≡◌, ◌≢◌, [], string_bytes, IfOk, IfSome, OnOk};
-ghost use Rattle.std.specs.Fs.{file_type, IsFile};
+ghost use Rattle.std.specs.Prelude.{◌≡◌, ◌≢◌, [], string_bytes, IfOk, IfSome, OnOk, bit_and};
 ghost use Rattle.std.specs.Path.{path_buf_bytes, path_parent};
 ghost use Rattle.krb_disk.specs.Target.{folder, new_path};
 
 use crate::fault::DiskFault;
-use crate::same::{is_same_file, look};
+use crate::looks::{Found, Looks};
+use crate::same::is_same_file;
 use krb_files::Cause;
 use std::alloc::{AllocError, Allocator};
-use std::fs::{self, Metadata};
 use std::io::{self, ErrorKind};
-use std::os::unix::fs::MetadataExt;
 use std::path::PathBuf;
 use std::rt;
 
@@ -29,7 +27,7 @@ const SUFFIX: &str = ".krbfile";
 pub struct Target<A: Allocator> {
     pub path: PathBuf<A>,
     /// What is known of the file that stands there.
-    pub old: Option<Metadata>,
+    pub old: Option<Found>,
 }
 
 impl<A: Allocator> Target<A> {
@@ -44,7 +42,7 @@ impl<A: Allocator> Target<A> {
 
     /// The user who owns the file, if there is one.
     pub fn owner(&self) -> Option<u32> {
-        self.old.as_ref().map(|old| old.uid())
+        self.old.as_ref().map(|old| old.owner)
     }
 }
 
@@ -61,16 +59,19 @@ pub fn folder_of<A: Allocator>(path: &PathBuf<A>) -> &str
 /// Follows symbolic links from a name to the file or the free name that they lead to. What is there but
 /// is no plain file is refused, and so are too many links, one of /proc that leads to no name, and the name
 /// of a new file.
-pub fn find_target<R: rt::Files + Alloc>(rt: &R, name: &str) -> Result<Target<R::A>, DiskFault>
+pub fn find_target<R: rt::Files + Alloc>(
+    looks: &Looks<'_, R>,
+    name: &str,
+) -> Result<Target<R::A>, DiskFault>
     ensures named { OnOk result (name.now ≢ []) }
-    ensures plain { IfOk result (λ target. IfSome target.old (λ old. IsFile (file_type old))) }
+    ensures plain { IfOk result (λ target. IfSome target.old (λ old. bit_and old.mode 0o170000 ≡ 0o100000)) }
 {
     if name.is_empty() {
         return Err(DiskFault::Failed(Cause::NoDirectory));
     }
     for _ in 0..MOST_WAYS {
-        let target = follow_links(rt, name)?;
-        if target.path.as_str() == name || leads_to(rt, name, target.old.as_ref())? {
+        let target = follow_links(looks, name)?;
+        if target.path.as_str() == name || leads_to(looks, name, target.old.as_ref())? {
             return refuse_new_file(target);
         }
     }
@@ -89,13 +90,16 @@ fn refuse_new_file<A: Allocator>(target: Target<A>) -> Result<Target<A>, DiskFau
 }
 
 // Goes from link to link by their texts.
-fn follow_links<R: rt::Files + Alloc>(rt: &R, name: &str) -> Result<Target<R::A>, DiskFault>
-    ensures plain { IfOk result (λ target. IfSome target.old (λ old. IsFile (file_type old))) }
+fn follow_links<R: rt::Files + Alloc>(
+    looks: &Looks<'_, R>,
+    name: &str,
+) -> Result<Target<R::A>, DiskFault>
+    ensures plain { IfOk result (λ target. IfSome target.old (λ old. bit_and old.mode 0o170000 ≡ 0o100000)) }
 {
-    let mut path = PathBuf::from_str(rt.alloc(), name)?;
+    let mut path = PathBuf::from_str(looks.alloc(), name)?;
     for _ in 0..=MOST_LINKS {
-        match look(rt, path.as_str())? {
-            Some(old) if old.is_symlink() => follow(rt, &mut path)?,
+        match looks.look(path.as_str())? {
+            Some(old) if old.is_link() => follow(looks, &mut path)?,
             Some(old) if old.is_file() => return Ok(Target {
                 path,
                 old: Some(old),
@@ -108,8 +112,11 @@ fn follow_links<R: rt::Files + Alloc>(rt: &R, name: &str) -> Result<Target<R::A>
 }
 
 // Goes one symbolic link further.
-fn follow<R: rt::Files + Alloc>(rt: &R, path: &mut PathBuf<R::A>) -> Result<(), DiskFault> {
-    match fs::read_link(rt, &*path) {
+fn follow<R: rt::Files + Alloc>(
+    looks: &Looks<'_, R>,
+    path: &mut PathBuf<R::A>,
+) -> Result<(), DiskFault> {
+    match looks.follow(path.as_str()) {
         Ok(link) => Ok(path.set_file_name(link.as_str())?),
         Err(error) if is_no_text(&error) => Err(DiskFault::Failed(Cause::BadLink)),
         Err(error) => Err(DiskFault::from(error)),
@@ -123,8 +130,12 @@ fn is_no_text(error: &io::Error) -> bool {
 
 // Whether the system comes from a name to that file, as its links' texts say. A link of /proc leads to an
 // open file, also to one that has no name any more.
-fn leads_to<R: rt::Files>(rt: &R, name: &str, file: Option<&Metadata>) -> io::Result<bool> {
-    match (fs::metadata(rt, name), file) {
+fn leads_to<R: rt::Files>(
+    looks: &Looks<'_, R>,
+    name: &str,
+    file: Option<&Found>,
+) -> io::Result<bool> {
+    match (looks.come_to(name), file) {
         (Ok(found), Some(file)) => Ok(is_same_file(&found, file)),
         (Ok(_), None) => Ok(false),
         (Err(error), _) if error.kind() != ErrorKind::NotFound => Err(error),

@@ -2,6 +2,7 @@ use super::calls::{CALLS, LEAVES, Saved, failed, save, some_calls};
 use super::disks::{Calls, Disk};
 use crate::DiskFiles;
 use crate::locks::{LockKind, is_locked};
+use crate::looks::{Found, Looks};
 use krb_files::{Cause, Files};
 use std::alloc::Global;
 use std::fs::Metadata;
@@ -119,9 +120,10 @@ fn the_list_of_locks(rt: HostRuntime) -> Result<(), Fail> {
         let calls = Calls::whole(rt.alloc());
         calls.locks.set(list);
         let disk = (Disk { calls: &calls }, rt.alloc());
-        let file = Metadata::of_file(0);
-        assert!(rt; is_locked(&disk, &file, LockKind::Record) == Ok(has_record));
-        assert!(rt; is_locked(&disk, &file, LockKind::WholeFile) == Ok(has_whole));
+        let looks = Looks::new(&disk);
+        let file = Found::of(&Metadata::of_file(0));
+        assert!(rt; is_locked(&looks, &file, LockKind::Record) == Ok(has_record));
+        assert!(rt; is_locked(&looks, &file, LockKind::WholeFile) == Ok(has_whole));
     }
     Ok(())
 }

@@ -1,0 +1,16 @@
+-- The new file beside one that is to be saved.
+use Rattle.std.specs.Prelude.{◌≡◌, ℕ, List, String, string_bytes}
+use Rattle.krb_disk.specs.declared.calls.NewFile.{NewFile}
+use Rattle.krb_disk.specs.declared.new_file.Attempt.{Attempt}
+use Rattle.krb_disk.specs.declared.new_file.Attempt.TheVariants as attempt
+use Rattle.krb_disk.specs.declared.stage.Stage.TheVariants.{Held}
+
+-- it is held under that name
+pub record IsHeldAt {A F : Type 0} (path : List ℕ) (file : NewFile (String A) F) : Type 0 where
+  pub named : string_bytes file.path ≡ path
+  pub stage : file.stage ≡ Held
+
+-- a new file that was made and locked is held under that name
+abbrev pub HoldsAt : {A F : Type 0} → List ℕ → Attempt (NewFile (String A) F) → Type 0
+HoldsAt path (attempt.Locked file) = IsHeldAt path file
+HoldsAt path _ = Unit {0}

@@ -1,0 +1,52 @@
+-- What is due at each stage of a new file.
+use Rattle.std.specs.Prelude.{◌≡◌, ℕ, ◌==◌, Option, None, Some}
+use Rattle.krb_disk.specs.declared.looks.Found.{Found}
+use Rattle.krb_disk.specs.declared.seen.Seen.{Seen}
+use Rattle.krb_disk.specs.declared.seen.Seen.TheVariants.{Nothing, File, Loaded}
+use Rattle.krb_disk.specs.declared.stage.Stage.{Stage}
+use Rattle.krb_disk.specs.declared.stage.Stage.TheVariants.{Locked, Agreed, Written, Told, Permitted, Synced, Ours, Same, Ended, Lost}
+use Rattle.krb_disk.specs.Mode.{IsNewMode}
+
+-- the mode of a file that no other may use
+abbrev pub private_mode : ℕ
+private_mode = 0o600
+
+-- the mode due to the new file: by the owner and the group that it was told to have where it takes a file's place
+abbrev pub IsDueMode : Option Found → Stage → ℕ → Type 0
+IsDueMode None Written mode = mode ≡ private_mode
+IsDueMode (Some old) (Told new) mode = IsNewMode (new.owner == old.owner) (new.group == old.group) old.mode mode
+IsDueMode _ _ mode = ⊥
+
+-- after it was found under its name
+abbrev pub stood : Stage → Stage
+stood Locked = Agreed
+stood (Synced old) = Ours old
+stood _ = Ended
+
+-- after what was seen was found under the old name
+abbrev pub compared : Stage → Stage
+compared (Ours old) = Same old
+compared _ = Lost
+
+-- after it was synced
+abbrev pub synced : Stage → Stage
+synced (Permitted old) = Synced old
+synced _ = Lost
+
+-- it was just found under its name, and may be removed
+abbrev pub IsFound : Stage → Type 0
+IsFound Agreed = Unit {0}
+IsFound (Ours old) = Unit {0}
+IsFound Ended = Unit {0}
+IsFound _ = ⊥
+
+-- what was seen of the old file
+abbrev pub seen_file : {A : Type 0} → Seen A → Option Found
+seen_file Nothing = None
+seen_file (File found) = Some found
+seen_file (Loaded found bytes) = Some found
+
+-- what was seen stood under the old name
+abbrev pub IsSame : Stage → Type 0
+IsSame (Same old) = Unit {0}
+IsSame _ = ⊥

@@ -1,0 +1,287 @@
+//! What is asked of the system and changes something, or decides that it may be changed.
+
+ghost use Rattle.std.specs.Prelude.{◌≡◌, ◌≤◌, IfOk, OnOk, IsTrue, string_bytes, vec_len};
+ghost use Rattle.std.specs.Io.KnownBytes.{Appends};
+ghost use Rattle.krb_disk.specs.Stages.{private_mode, IsDueMode, IsFound, IsSame, stood, compared, synced, seen_file};
+ghost use Rattle.krb_disk.specs.Target.{new_path};
+ghost use Rattle.krb_disk.specs.declared.stage.Stage.TheVariants.{Made, Locked, Agreed, Held, Written, Told, Permitted, Ours, Renamed};
+
+mod leftover;
+
+use crate::fault::{DiskFault, ReadFault};
+use crate::lock::TakeLock;
+use crate::locks::{LockKind, is_locked};
+use crate::looks::{Found, Looks};
+use crate::noted::Noted;
+use crate::owner::{SetOwner, set_owner};
+use crate::read::read_file;
+use crate::same::is_same_file;
+use crate::seen::Seen;
+use crate::stage::Stage;
+use krb_files::save;
+use std::alloc::Allocator;
+use std::fs::{self, OpenFile, OpenOptions, Permissions};
+use std::io::{self, ErrorKind};
+use std::os::unix::fs::{OpenOptionsExt, PermissionsExt};
+use std::rt;
+
+/// The system, as it is asked to change files. Nothing else in this crate can ask it.
+#[derive(Drop)]
+pub struct Calls<'a, R> {
+    rt: &'a R,
+    looks: Looks<'a, R>,
+}
+
+/// The new file, which only these calls reach.
+#[derive(Drop)]
+pub struct NewFile<S, F> {
+    /// The name under which it was made.
+    path: S,
+    file: Noted<F>,
+    stage: Stage,
+}
+
+// What is told of an open file.
+fn tell<F: OpenFile>(file: &F) -> io::Result<Found> {
+    Ok(Found::of(&file.metadata()?))
+}
+
+// Whether an open file still stands under that name.
+fn stands_at<R: rt::Files>(looks: &Looks<'_, R>, path: &str, file: &R::File) -> io::Result<bool> {
+    let opened = tell(file)?;
+    match looks.look(path)? {
+        Some(named) => Ok(is_same_file(&named, &opened)),
+        None => Ok(false),
+    }
+}
+
+impl<'a, R: rt::Files> Calls<'a, R> {
+    /// No call yet.
+    pub fn new(rt: &'a R) -> Calls<'a, R> {
+        Calls {
+            rt,
+            looks: Looks::new(rt),
+        }
+    }
+
+    /// The system, to be looked at.
+    pub fn looks(&self) -> &Looks<'a, R> {
+        &self.looks
+    }
+
+    /// What stands under the name of the old file.
+    pub fn see(&mut self, path: &str) -> io::Result<Option<Found>> {
+        self.looks.look(path)
+    }
+
+    /// Lets the names in a folder outlast a crash.
+    pub fn sync_folder(&mut self, folder: &str) -> io::Result<()> {
+        fs::open(self.rt, folder)?.sync_all()
+    }
+}
+
+impl<R: rt::Files + Alloc> Calls<'_, R> {
+    /// Makes a file that no other may use, where there is none.
+    pub fn make(&mut self, path: &str, mode: u32) -> io::Result<NewFile<String<R::A>, R::File>>
+        requires private { mode ≡ private_mode }
+        ensures path { IfOk result (λ file. string_bytes file.path ≡ path.now) }
+        ensures stage { IfOk result (λ file. file.stage ≡ Made) }
+    {
+        let path = String::from_str(self.rt.alloc(), path)?;
+        let mut options = OpenOptions::new();
+        options.write(true).create_new(true).mode(mode);
+        let file = options.open(self.rt, &path)?;
+        Ok(NewFile {
+            path,
+            file: Noted::new(file),
+            stage: Stage::Made,
+        })
+    }
+
+    /// Whether the new file still stands under its name.
+    pub fn stands(&mut self, file: &mut NewFile<String<R::A>, R::File>) -> io::Result<bool>
+        ensures stage { IfOk result (λ is. IsTrue is → file.new.stage ≡ stood file.old.stage) }
+        ensures found { IfOk result (λ is. IsTrue is → IsFound file.new.stage) }
+        ensures path { file.new.path ≡ file.old.path }
+    {
+        let stands = stands_at(&self.looks, &file.path, &file.file.file)?;
+        file.stage = if stands {
+            file.stage.stood()
+        } else {
+            Stage::Lost
+        };
+        Ok(stands)
+    }
+
+    /// Opens another handle of the new file, which is none of the standard streams, also where one of these is
+    /// closed.
+    pub fn double(&mut self, file: &mut NewFile<String<R::A>, R::File>) -> io::Result<()>
+        requires agreed { file.old.stage ≡ Agreed }
+        ensures stage { OnOk result (file.new.stage ≡ Held) }
+        ensures path { file.new.path ≡ file.old.path }
+    {
+        file.stage = Stage::Lost;
+        file.file = Noted::new(file.file.file.try_clone()?);
+        file.stage = Stage::Held;
+        Ok(())
+    }
+
+    /// Removes the new file.
+    pub fn remove(&mut self, file: &NewFile<String<R::A>, R::File>) -> io::Result<()>
+        requires found { IsFound file.now.stage }
+    {
+        fs::remove_file(self.rt, &file.path)
+    }
+
+    /// Writes all the bytes to the new file.
+    pub fn write(
+        &mut self,
+        new: &mut NewFile<String<R::A>, R::File>,
+        bytes: &[u8],
+    ) -> io::Result<()>
+        requires held { new.old.stage ≡ Held }
+        ensures written { OnOk result (Appends (R.File.contents new.old.file.file) (R.File.contents new.new.file.file) bytes.now) }
+        ensures stage { OnOk result (new.new.stage ≡ Written) }
+        ensures path { new.new.path ≡ new.old.path }
+    {
+        new.stage = Stage::Lost;
+        if save(&mut new.file, bytes).is_err() {
+            return Err(new.file.error());
+        }
+        new.stage = Stage::Written;
+        Ok(())
+    }
+
+    /// What is told of the new file.
+    pub fn stat(&mut self, file: &mut NewFile<String<R::A>, R::File>) -> io::Result<Found>
+        requires written { file.old.stage ≡ Written }
+        ensures stage { IfOk result (λ found. file.new.stage ≡ Told found) }
+        ensures path { file.new.path ≡ file.old.path }
+        ensures bytes { file.new.file ≡ file.old.file }
+    {
+        let found = tell(&file.file.file)?;
+        file.stage = Stage::Told(found);
+        Ok(found)
+    }
+
+    /// Gives the new file the mode that is due where it takes the place of that file, or of none.
+    pub fn permit(
+        &mut self,
+        file: &mut NewFile<String<R::A>, R::File>,
+        old: Option<Found>,
+        mode: u32,
+    ) -> io::Result<()>
+        requires due { IsDueMode old file.old.stage mode }
+        ensures stage { OnOk result (file.new.stage ≡ Permitted old) }
+        ensures path { file.new.path ≡ file.old.path }
+        ensures bytes { file.new.file ≡ file.old.file }
+    {
+        file.stage = Stage::Lost;
+        file.file
+            .file
+            .set_permissions(Permissions::from_mode(mode))?;
+        file.stage = Stage::Permitted(old);
+        Ok(())
+    }
+
+    /// Lets the new file outlast a crash.
+    pub fn sync(&mut self, file: &mut NewFile<String<R::A>, R::File>) -> io::Result<()>
+        ensures stage { OnOk result (file.new.stage ≡ synced file.old.stage) }
+        ensures path { file.new.path ≡ file.old.path }
+        ensures bytes { file.new.file ≡ file.old.file }
+    {
+        let synced = file.stage.synced();
+        file.stage = Stage::Lost;
+        file.file.file.sync_all()?;
+        file.stage = synced;
+        Ok(())
+    }
+
+    /// Loads the old file.
+    pub fn load<A: Allocator>(
+        &mut self,
+        alloc: A,
+        path: &str,
+        limit: u32,
+    ) -> Result<(Found, Vec<u8, A>), ReadFault>
+        ensures { IfOk result (λ read. vec_len read.1 ≤ limit) }
+    {
+        read_file(&self.looks, alloc, path, limit)
+    }
+
+    /// Whether what was seen of the old file stands under its name now.
+    pub fn compare(
+        &mut self,
+        file: &mut NewFile<String<R::A>, R::File>,
+        path: &str,
+        seen: &Seen<R::A>,
+    ) -> Result<bool, DiskFault>
+        requires ours { file.old.stage ≡ Ours (seen_file seen.now) }
+        requires beside { string_bytes file.old.path ≡ new_path path.now }
+        ensures stage { IfOk result (λ is. IsTrue is → IsSame file.new.stage) }
+        ensures path { file.new.path ≡ file.old.path }
+    {
+        let is_same = seen.is_at(&self.looks, path)?;
+        file.stage = if is_same {
+            file.stage.compared()
+        } else {
+            Stage::Lost
+        };
+        Ok(is_same)
+    }
+
+    /// Whether no program has locked the old file to write in it.
+    pub fn is_quiet(&mut self, seen: &Found) -> Result<bool, DiskFault> {
+        Ok(!is_locked(&self.looks, seen, LockKind::Record)?)
+    }
+
+    /// Gives the new file the name of the old one.
+    pub fn rename(&mut self, file: &mut NewFile<String<R::A>, R::File>, to: &str) -> io::Result<()>
+        requires same { IsSame file.old.stage }
+        requires beside { string_bytes file.old.path ≡ new_path to.now }
+        ensures { OnOk result (file.new.stage ≡ Renamed) }
+    {
+        file.stage = Stage::Lost;
+        fs::rename(self.rt, &file.path, to)?;
+        file.stage = Stage::Renamed;
+        Ok(())
+    }
+}
+
+impl<R: rt::Files + Alloc> Calls<'_, R>
+where
+    R::File: TakeLock,
+{
+    /// Locks the new file, and answers whether it was free. Where there are no locks, who made the file has it.
+    pub fn lock(&mut self, file: &mut NewFile<String<R::A>, R::File>) -> io::Result<bool>
+        requires made { file.old.stage ≡ Made }
+        ensures stage { IfOk result (λ is. IsTrue is → file.new.stage ≡ Locked) }
+        ensures path { file.new.path ≡ file.old.path }
+    {
+        let is_locked = match file.file.file.take_lock() {
+            Err(error) if error.kind() == ErrorKind::Unsupported => true,
+            taken => taken?,
+        };
+        if is_locked {
+            file.stage = Stage::Locked;
+        }
+        Ok(is_locked)
+    }
+}
+
+impl<R: rt::Files + Alloc> Calls<'_, R>
+where
+    R::File: SetOwner,
+{
+    /// Sets the owner and the group of the new file. The answer is whether that was allowed.
+    pub fn own(
+        &mut self,
+        file: &NewFile<String<R::A>, R::File>,
+        owner: Option<u32>,
+        group: u32,
+    ) -> Result<bool, DiskFault>
+        requires written { file.now.stage ≡ Written }
+    {
+        set_owner(&file.file.file, owner, group)
+    }
+}

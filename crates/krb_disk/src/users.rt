@@ -1,0 +1,31 @@
+//! Of whom a leftover may be.
+
+use crate::looks::{Found, Looks};
+use std::rt;
+
+/// Where the system tells which user runs this program.
+const THIS_PROCESS: &str = "/proc/self";
+
+/// The users of whom a leftover may be.
+#[derive(Clone, Copy)]
+pub struct Users {
+    owner: Option<u32>,
+    this: Option<u32>,
+}
+
+impl Users {
+    /// The owner of the file that is to be changed, and who runs this program, as far as the system tells.
+    pub fn of_run<R: rt::Files>(looks: &Looks<'_, R>, owner: Option<u32>) -> Users {
+        let this = match looks.come_to(THIS_PROCESS) {
+            Ok(process) => Some(process.owner),
+            Err(_) => None,
+        };
+        Users { owner, this }
+    }
+
+    /// Whether a killed run may have left this file.
+    pub fn may_have_left(self, found: &Found) -> bool {
+        let user = Some(found.owner);
+        found.is_file() && found.links == 1 && (user == self.owner || user == self.this)
+    }
+}
