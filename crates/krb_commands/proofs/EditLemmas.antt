@@ -1,11 +1,12 @@
 -- How an edit ends.
-use Rattle.std.proofs.Common.{◌≡◌, ◌≢◌, ℕ, ◌<◌, Bool, true, false, List, [], ◌⊎◌, inl, inr, refl, sym, ap, subst, ◌∙◌, rules, arith}
-use Rattle.std.specs.Prelude.{if◌then◌else◌, ◌-◌, ◌^◌, ◌≤◌, codes, IsFalse, Option, None, Some, Result, Ok, Err, is_ok, IfOk}
+use Rattle.std.proofs.Common.{◌≡◌, ◌≢◌, ℕ, ◌<◌, Bool, true, false, List, [], ◌⊎◌, inl, inr, refl, sym, ap, subst, ◌∙◌, arith}
+use Rattle.std.specs.Prelude.{if◌then◌else◌, ◌-◌, ◌^◌, ◌≤◌, IsFalse, Option, None, Some, Result, Ok, Err, is_ok}
+use Rattle.std.specs.List.{list_any}
 use Rattle.std.proofs.lemmas.Bool.{false≢true, true≢false}
 use Rattle.std.proofs.Math.Nat.{eq-or-lt_of_le}
 use Rattle.krb_wire.specs.declared.format.Order.{Order}
 use Rattle.krb_walk.specs.declared.event.Event.{Event}
-use Rattle.krb_walk.specs.Events.{after}
+use Rattle.krb_walk.specs.History.{replies}
 use Rattle.krb_keytab.specs.Entry.{EntryParts}
 use Rattle.krb_keytab.specs.Store.{KeytabState}
 use Rattle.krb_files.specs.declared.files.Files.{Ghosts}
@@ -15,122 +16,74 @@ use Rattle.krb_files.specs.declared.files.SaveFault.{SaveFault}
 use Rattle.krb_files.specs.declared.files.SaveFault.TheVariants as save
 use Rattle.krb_text.specs.declared.script.ScriptRefusal.{ScriptRefusal}
 use Rattle.krb_text.specs.declared.script.ScriptRefusal.TheVariants as refusal
-use Rattle.krb_text.specs.declared.script.ScriptRefusal.TheVariants.{Fault}
 use Rattle.krb_files.specs.Bytes.{Watch}
 use Rattle.krb_files.specs.Files.{SameFiles, SetsFile, CountsFailure, loaded}
 use Rattle.krb_text.specs.Script.{ScriptFault, RefusesScript, script}
 use Rattle.krb_commands.specs.declared.ktedit.Edited.{Edited}
-use Rattle.krb_commands.specs.Edits.{saved_of, run_of, IsEdited, OpensToEdit, EndsUnedited, SaysWhy}
-use Rattle.krb_commands.specs.Loading.{most_bytes, load_message, load_status, load_fault_run, save_fault_run, saved_run}
-use Rattle.krb_commands.specs.Input.{GivesInput, input_run, line_run, refusal_run}
-use Rattle.krb_commands.specs.Ktedit.{is_changed, reply_lines, edit_run, keytab_loaded, edit_keytab, RunsFairly, Edit, no_edit, edit_script, edit_input, FileAfter, Loads, LoadsHonestly, RunsOutFirst, LeavesFiles, SavesDue, SavesFile, EditsFile, EndsScript, EndsInput, EndsHonestly, RunsEdit}
-use Rattle.krb_commands.specs.Messages.{message}
-use Rattle.krb_commands.specs.Runs.{Run, Says, EndsRun, memory_run}
-use Rattle.krb_commands.proofs.EditMemory.{input_memory}
-use Rattle.krb_commands.proofs.QuietRuns.{EndsRun-said, unloaded_is_told, unsaved_is_told, fault_in, save_fault_in}
+use Rattle.krb_commands.specs.declared.loading.NoKeytab.{NoKeytab}
+use Rattle.krb_commands.specs.declared.trouble.Trouble.{Trouble}
+use Rattle.krb_commands.specs.declared.trouble.Trouble.TheVariants.{FileNotRead, NoMemory}
+use Rattle.krb_commands.specs.Edits.{edited_run, run_of, IsEdited}
+use Rattle.krb_commands.specs.Loading.{most_bytes, keytab_or_new, LoadsFile, SavesFile, GivesOrRunsOut}
+use Rattle.krb_commands.specs.Input.{GivesInput}
+use Rattle.krb_commands.specs.Ktedit.{is_trouble, moments, is_changed, edit_run, edit_keytab, RunsFairly, Edit, no_edit, edit_script, edit_input, saved_run, LeavesFiles, SavesDue, ComesTo, EditsFile, EndsScript, EndsInput, FilesAfter, EndsHonestly, Edits}
+use Rattle.krb_commands.specs.Runs.{Run, Shows, ends_by}
+use Rattle.krb_commands.specs.Troubles.{Ending, ending_if_told, input_trouble, save_trouble, script_trouble}
+use Rattle.krb_commands.proofs.Shown.{Shows-trouble}
 
 -- ---- the steps of an edit
 
-abbrev is_missing : LoadFault → Bool
-is_missing load.Missing = true
-is_missing fault = false
+-- what is saved of an edited keytab
+abbrev pub saved_of : {A : Type 0} → Edited A → Option (List ℕ)
+saved_of e = if e.is_changed then Some e.image.items else None
 
-not_missing : (fault : LoadFault) → (fault ≡ load.TooLarge) ⊎ ((fault ≡ load.Failed) ⊎ (fault ≡ load.NoMemory)) → fault ≢ load.Missing
-not_missing fault (inl e) m = false≢true (ap is_missing (sym e ∙ m))
-not_missing fault (inr (inl e)) m = false≢true (ap is_missing (sym e ∙ m))
-not_missing fault (inr (inr e)) m = false≢true (ap is_missing (sym e ∙ m))
+module _ {F : Type 0} (trait : Ghosts F) (file : List ℕ) (Holds : Run → Type 0) where
+  -- a keytab was loaded and edited
+  pub EditsFile-edited : {A : Type 0} (order : Order) (old files new : F) (k : KeytabState) (events : List (Event EntryParts)) (e : Edited A)
+      → GivesOrRunsOut trait old file (keytab_or_new order) (Ok k) files → IsEdited k events e → SavesDue trait file Holds (saved_of e) (edited_run e) files new → EditsFile trait file Holds order events old new
+  EditsFile-edited order old files new k events e given is saves =
+      let due : SavesDue trait file Holds (edit_keytab events (Ok k)).saved (edit_keytab events (Ok k)).run files new =
+      subst (λ (run : Run). SavesDue trait file Holds (edit_keytab events (Ok k)).saved run files new) is.run
+      (subst (λ (bytes : Option (List ℕ)). SavesDue trait file Holds bytes (edited_run e) files new)
+      (ap (λ (b : Bool). if b then Some e.image.items else None) is.is_changed ∙ ap (λ (bytes : List ℕ). if is_changed k events then Some bytes else None) is.image) saves) in
+      elim given.gives [
+        | inl gives ↦ record {
+          files = files;
+          answer = given.answer;
+          loads = given.loads;
+          ends = inr (subst (λ (opened : Result KeytabState NoKeytab). RunsFairly events opened × ComesTo trait file Holds (edit_keytab events opened) files new) (sym gives) (is.ran, due));
+        }
+        | inr none ↦ absurd (true≢false (ap is_ok none))
+      ]
 
--- a file that was not loaded, and is not missing
-module _ {F : Type 0} (trait : Ghosts F) (file : List ℕ) (order : Order) (old new : F) (err err' : Watch) (status : ℕ) where
-  says_why : (fault : LoadFault) → fault ≢ load.Missing → status ≡ load_status fault → Says err err' (load_message file fault) → SaysWhy trait file order old new err err' (keytab_loaded order file (Err fault)) status
-  says_why load.Missing not same says = absurd (not refl)
-  says_why load.TooLarge not same says = let told = unloaded_is_told file load.TooLarge in (told.0, same, says, told.1)
-  says_why load.Failed not same says = let told = unloaded_is_told file load.Failed in (told.0, same, says, told.1)
-  says_why load.NoMemory not same says = let told = unloaded_is_told file load.NoMemory in (told.0, same, says, told.1)
+  -- it was changed, and saved or not
+  pub SavesDue-changed : {A : Type 0} (e : Edited A) (files new : F) (saved : Result (Unit {0}) SaveFault) → e.is_changed ≡ true → SavesFile trait files file e.image.items saved new → Holds (saved_run (edited_run e) saved)
+      → SavesDue trait file Holds (saved_of e) (edited_run e) files new
+  SavesDue-changed e files new saved is saves holds =
+      subst (λ (b : Bool). SavesDue trait file Holds (if b then Some e.image.items else None) (edited_run e) files new) (sym is) (saved, saves, holds)
 
-  pub SaysWhy-unloaded : (fault : LoadFault) → (fault ≡ load.TooLarge) ⊎ ((fault ≡ load.Failed) ⊎ (fault ≡ load.NoMemory)) → status ≡ load_status fault → Says err err' (load_message file fault)
-      → SaysWhy trait file order old new err err' (keytab_loaded order file (Err fault)) status
-  SaysWhy-unloaded fault which same says = says_why fault (not_missing fault which) same says
+  -- it was not changed
+  pub SavesDue-unchanged : {A : Type 0} (e : Edited A) (files : F) → e.is_changed ≡ false → Holds (edited_run e) → SavesDue trait file Holds (saved_of e) (edited_run e) files files
+  SavesDue-unchanged e files is holds =
+      subst (λ (b : Bool). SavesDue trait file Holds (if b then Some e.image.items else None) (edited_run e) files files) (sym is) (refl, holds)
 
-pub IfOk-from : {T E : Type 0} {P Q : T → Type 0} (r : Result T E) → ((x : T) → P x → Q x) → IfOk r P → IfOk r Q
-IfOk-from (Ok x) step p = step x p
-IfOk-from (Err e) step p = tt
+  -- what an edit came to is what another relation holds of
+  SavesDue-map : (Other : Run → Type 0) → ((due : Run) → Holds due → Other due) → (saved : Option (List ℕ)) (due : Run) (old new : F) → SavesDue trait file Holds saved due old new → SavesDue trait file Other saved due old new
+  SavesDue-map Other to None due old new left = (left.0, to due left.1)
+  SavesDue-map Other to (Some bytes) due old new s = (s.0, s.1, to (saved_run due s.0) s.2)
 
--- a load of a file answered so
-module _ {F : Type 0} (trait : Ghosts F) (file : List ℕ) (old new : F) (honest : trait.is_honest old → trait.is_honest new) (same : trait.is_honest old → SameFiles (trait.file old) (trait.file new))
-    (count : trait.failure_count old ≤ trait.failure_count new) where
-  abbrev pub Loads-ok : (bytes : List ℕ) → trait.answers old file most_bytes (Ok bytes) new → (trait.is_honest old → loaded (trait.file old file) most_bytes ≡ Ok bytes) → Loads trait file old new
-  Loads-ok bytes answered stands = record {
-    answer = Ok bytes;
-    answered = answered;
-    stands = λ h. record { honest = honest h; same = same h; answer_is = inr (inr (sym (stands h))) };
-    counted = λ e. absurd (true≢false (ap is_ok e));
-    count = count;
-  }
-
-  pub fault_stands : (stood : Result (List ℕ) LoadFault) (fault : LoadFault) → (fault ≡ load.Failed) ⊎ (fault ≡ load.NoMemory) ⊎ (stood ≡ Err fault)
-      → ◌≡◌ {A = Result (List ℕ) LoadFault} (Err fault) (Err load.Failed) ⊎ ◌≡◌ {A = Result (List ℕ) LoadFault} (Err fault) (Err load.NoMemory) ⊎ ◌≡◌ {A = Result (List ℕ) LoadFault} (Err fault) stood
-  fault_stands stood fault (inl e) = inl (ap Err e)
-  fault_stands stood fault (inr (inl e)) = inr (inl (ap Err e))
-  fault_stands stood fault (inr (inr e)) = inr (inr (sym e))
-
-  abbrev pub Loads-err : (fault : LoadFault) → trait.answers old file most_bytes (Err fault) new
-      → (trait.is_honest old → (fault ≡ load.Failed) ⊎ (fault ≡ load.NoMemory) ⊎ (loaded (trait.file old file) most_bytes ≡ Err fault))
-      → (fault ≡ load.Failed → CountsFailure (trait.failure_count old) (trait.failure_count new)) → Loads trait file old new
-  Loads-err fault answered stands counted = record {
-    answer = Err fault;
-    answered = answered;
-    stands = λ h. record { honest = honest h; same = same h; answer_is = fault_stands (loaded (trait.file old file) most_bytes) fault (stands h) };
-    counted = λ e. counted (ap fault_in e);
-    count = count;
-  }
-
-module _ {F : Type 0} (trait : Ghosts F) (file : List ℕ) (out err : Watch) (well : IsFalse out.failed) where
-  -- a file was not saved
-  pub SavesFile-not : (bytes : List ℕ) (due : Run) (old new : F) (err' : Watch) (status : ℕ) (fault : SaveFault) → trait.saves old file bytes (Err fault) new
-      → (trait.is_honest old → trait.is_honest new) → (trait.is_honest old → SameFiles (trait.file old) (trait.file new))
-      → (fault ≡ save.Failed → CountsFailure (trait.failure_count old) (trait.failure_count new)) → trait.failure_count old ≤ trait.failure_count new → status ≡ (save_fault_run file fault).status → Says err err' (save_fault_run file fault).err → SavesFile trait file out out err err' status bytes due old new
-  SavesFile-not bytes due old new err' status fault answered honest keeps counted count same says =
-      let told = unsaved_is_told file fault in
+  pub EditsFile-map : (Other : Run → Type 0) → ((due : Run) → Holds due → Other due) → (order : Order) (events : List (Event EntryParts)) (old new : F) → EditsFile trait file Holds order events old new → EditsFile trait file Other order events old new
+  EditsFile-map Other to order events old new e =
+      let due = edit_keytab events (keytab_or_new order e.answer) in
       record {
-        saved = Err fault;
-        answered = answered;
-        stands = λ h. (honest h, keeps h);
-        counted = λ e. counted (ap save_fault_in e);
-        count = count;
-        ends = EndsRun-said (save_fault_run file fault) out err err' status well told.0 same says told.1;
-        spared = λ ok. absurd (false≢true ok);
+        files = e.files;
+        answer = e.answer;
+        loads = e.loads;
+        ends = elim e.ends [
+          | inl spent ↦ inl (spent.0, to (ends_by NoMemory) spent.1)
+          | inr ran ↦ inr (ran.0, SavesDue-map Other to due.saved due.run e.files new ran.1)
+        ];
       }
-
-  -- there was no keytab to edit
-  without_keytab : (events : List (Event EntryParts)) (new : F) (err' : Watch) (status : ℕ) (old : F) (order : Order) (opened : Result KeytabState Run) → SaysWhy trait file order old new err err' opened status
-      → RunsFairly events opened × SavesDue trait file out out err err' status (edit_keytab events opened).saved (edit_keytab events opened).run new new
-  without_keytab events new err' status old order (Ok keytab) why = absurd why
-  without_keytab events new err' status old order (Err due) why = (tt, ((refl, EndsRun-said due out err err' status well why.0 why.1 why.2 why.3), λ not4 is4. not4 (sym why.1 ∙ is4)))
-
-  why_not : (events : List (Event EntryParts)) (new : F) (err' : Watch) (status : ℕ) (old : F) (order : Order) (opened : Result KeytabState Run)
-      → ((status ≡ 4) × Says err err' (message (codes "out of memory"))) ⊎ SaysWhy trait file order old new err err' opened status
-      → RunsOutFirst trait file out out err err' status new new
-      ⊎ (RunsFairly events opened × SavesDue trait file out out err err' status (edit_keytab events opened).saved (edit_keytab events opened).run new new)
-  why_not events new err' status old order opened (inl memory) = inl (refl, record { ends = memory.0; kept = refl; said = memory.1 })
-  why_not events new err' status old order opened (inr why) = inr (without_keytab events new err' status old order opened why)
-
-  pub EditsFile-without : (order : Order) (events : List (Event EntryParts)) (old new : F) (err' : Watch) (status : ℕ) → EndsUnedited trait file order old new err err' status
-      → EditsFile trait file out out err err' status order events old new
-  EditsFile-without order events old new err' status u = record {
-    files = new;
-    loads = u.loads;
-    ends = why_not events new err' status old order (keytab_loaded order file u.loads.answer) u.why;
-  }
-
-  -- memory ran out over a keytab
-  pub EditsFile-memory : (order : Order) (events : List (Event EntryParts)) (old new : F) (err1 err' : Watch) (keytab : KeytabState) → OpensToEdit trait file order old new err err1 keytab
-      → Says err1 err' (message (codes "out of memory")) → EditsFile trait file out out err err' 4 order events old new
-  EditsFile-memory order events old new err1 err' keytab opens says = record {
-    files = new;
-    loads = opens.loads;
-    ends = inl (refl, record { ends = refl; kept = refl; said = subst (λ (e : Watch). Says e err' (message (codes "out of memory"))) opens.quiet says });
-  }
 
 -- ---- over honest files
 
@@ -143,129 +96,154 @@ counts_later : (a b c : ℕ) → a ≤ b → b ≤ c → CountsFailure b c → C
 counts_later a b c le le' (inl lt) = inl (omega arith)
 counts_later a b c le le' (inr most) = counts_from a b c le' most (eq-or-lt_of_le le)
 
-module _ {F : Type 0} (trait : Ghosts F) (file : List ℕ) (out out' err err' : Watch) (status : ℕ) (well : IsFalse out.failed) where
-  -- memory ran out, and nothing was saved
-  memory_honestly : (due : Edit) (old files new : F) → SameFiles (trait.file old) (trait.file files) → RunsOutFirst trait file out out' err err' status files new
-      → EndsHonestly trait file out out' err err' status due old new
-  memory_honestly due old files new same ran_out =
-      let ends = ran_out.1 in
-      let kept : EndsRun memory_run out out' err err' status =
-      subst (λ (o : Watch). EndsRun memory_run out o err err' status) (sym ends.kept) (EndsRun-said memory_run out err err' status well refl ends.ends ends.said (λ e. refl)) in
-      inl (subst (λ (f : F). SameFiles (trait.file old) (trait.file f)) (sym ran_out.0) same, kept)
-
-  -- nothing was to be saved
-  left_honestly : (due : Run) (old files new : F) → SameFiles (trait.file old) (trait.file files) → LeavesFiles trait file out out' err err' status due files new
-      → EndsHonestly trait file out out' err err' status (no_edit due) old new
-  left_honestly due old files new same left = inr (inr (subst (λ (f : F). SameFiles (trait.file old) (trait.file f)) (sym left.0) same, left.1))
-
+module _ {F : Type 0} (trait : Ghosts F) (file : List ℕ) (Holds : Run → Type 0) where
   -- a save of a file as it was loaded is one of it as it stood
   sets_from : (old files new : F) (bytes : List ℕ) → SameFiles (trait.file old) (trait.file files) → SetsFile (trait.file files) file bytes (trait.file new) → SetsFile (trait.file old) file bytes (trait.file new)
   sets_from old files new bytes same sets = record { this = sets.this; others = λ other no. sets.others other no ∙ same other }
 
-  saved_honestly : (bytes : List ℕ) (due : Run) (old files new : F) (saved : Result (Unit {0}) SaveFault) → SameFiles (trait.file old) (trait.file files) → trait.failure_count old ≤ trait.failure_count files
-      → FileAfter file (trait.file files) (trait.file new) bytes saved → (saved ≡ Err save.Failed → CountsFailure (trait.failure_count files) (trait.failure_count new)) → trait.failure_count files ≤ trait.failure_count new
-      → EndsRun (saved_run file due saved) out out' err err' status → EndsHonestly trait file out out' err err' status (record { saved = Some bytes; run = due }) old new
-  saved_honestly bytes due old files new (Ok done) same le after counted more ends = inr (inr (sets_from old files new bytes same after, ends))
-  saved_honestly bytes due old files new (Err save.Failed) same le after counted more ends =
-      inr (inl (record {
-        counted = counts_later (trait.failure_count old) (trait.failure_count files) (trait.failure_count new) le more (counted refl);
-        same = λ name. after name ∙ same name;
-        ends = inr ends;
-      }))
-  saved_honestly bytes due old files new (Err save.NoMemory) same le after counted more ends = inl (λ name. after name ∙ same name, ends)
+  -- nothing was saved
+  left_same : (old files new : F) → SameFiles (trait.file old) (trait.file files) → new ≡ files → SameFiles (trait.file old) (trait.file new)
+  left_same old files new same is = subst (λ (f : F). SameFiles (trait.file old) (trait.file f)) (sym is) same
+
+  saved_honestly : (bytes : List ℕ) (due : Run) (old files new : F) (saved : Result (Unit {0}) SaveFault) → trait.is_honest files → SameFiles (trait.file old) (trait.file files) → trait.failure_count old ≤ trait.failure_count files
+      → SavesFile trait files file bytes saved new → Holds (saved_run due saved) → EndsHonestly trait file Holds (record { saved = Some bytes; run = due }) old new
+  saved_honestly bytes due old files new (Ok done) h same le saves holds = inr (inr (sets_from old files new bytes same (saves.sets h), holds))
+  saved_honestly bytes due old files new (Err save.Failed) h same le saves holds = inr (inl (record {
+    counted = counts_later (trait.failure_count old) (trait.failure_count files) (trait.failure_count new) le saves.count (saves.failed refl);
+    same = λ name. saves.same h name ∙ same name;
+    ends = inr holds;
+  }))
+  saved_honestly bytes due old files new (Err save.NoMemory) h same le saves holds = inl (λ name. saves.same h name ∙ same name, holds)
 
   -- what was due was saved, if something was
   due_honestly : (saved : Option (List ℕ)) (due : Run) (old files new : F) → trait.is_honest files → SameFiles (trait.file old) (trait.file files) → trait.failure_count old ≤ trait.failure_count files
-      → SavesDue trait file out out' err err' status saved due files new → EndsHonestly trait file out out' err err' status (record { saved = saved; run = due }) old new
-  due_honestly None due old files new honest same le left = left_honestly due old files new same left.0
-  due_honestly (Some bytes) due old files new honest same le s = saved_honestly bytes due old files new s.saved same le (s.stands honest).1 s.counted s.count s.ends
+      → SavesDue trait file Holds saved due files new → EndsHonestly trait file Holds (record { saved = saved; run = due }) old new
+  due_honestly None due old files new h same le left = inr (inr (left_same old files new same left.0, left.1))
+  due_honestly (Some bytes) due old files new h same le s = saved_honestly bytes due old files new s.0 h same le s.1 s.2
 
   -- what was loaded is what stands there, unless the load failed or memory ran out
-  loaded_honestly : (order : Order) (events : List (Event EntryParts)) (old files new : F) (loads : Loads trait file old files) → trait.is_honest files → SameFiles (trait.file old) (trait.file files)
-      → (loads.answer ≡ Err load.Failed) ⊎ (loads.answer ≡ Err load.NoMemory) ⊎ (loads.answer ≡ loaded (trait.file old file) most_bytes)
-      → SavesDue trait file out out' err err' status (edit_keytab events (keytab_loaded order file loads.answer)).saved (edit_keytab events (keytab_loaded order file loads.answer)).run files new
-      → EndsHonestly trait file out out' err err' status (edit_keytab events (keytab_loaded order file (loaded (trait.file old file) most_bytes))) old new
-  loaded_honestly order events old files new loads honest same (inl failed) saves =
-      let left : LeavesFiles trait file out out' err err' status (load_fault_run file load.Failed) files new =
-      (subst (λ (answer : Result (List ℕ) LoadFault). SavesDue trait file out out' err err' status (edit_keytab events (keytab_loaded order file answer)).saved (edit_keytab events (keytab_loaded order file answer)).run files new) failed saves).0 in
+  loaded_honestly : (order : Order) (events : List (Event EntryParts)) (old files new : F) (answer : Result (List ℕ) LoadFault) (loads : LoadsFile trait old file answer files) → trait.is_honest old
+      → (answer ≡ Err load.Failed) ⊎ (answer ≡ Err load.NoMemory) ⊎ (answer ≡ loaded (trait.file old file) most_bytes)
+      → ComesTo trait file Holds (edit_keytab events (keytab_or_new order answer)) files new
+      → EndsHonestly trait file Holds (edit_keytab events (keytab_or_new order (loaded (trait.file old file) most_bytes))) old new
+  loaded_honestly order events old files new answer loads h (inl failed) comes =
+      let left : LeavesFiles trait file Holds (ends_by FileNotRead) files new =
+      subst (λ (a : Result (List ℕ) LoadFault). ComesTo trait file Holds (edit_keytab events (keytab_or_new order a)) files new) failed comes in
       inr (inl (record {
-        counted = subst (λ (f : F). CountsFailure (trait.failure_count old) (trait.failure_count f)) (sym left.0) (loads.counted failed);
-        same = subst (λ (f : F). SameFiles (trait.file old) (trait.file f)) (sym left.0) same;
+        counted = subst (λ (f : F). CountsFailure (trait.failure_count old) (trait.failure_count f)) (sym left.0) (loads.failed failed);
+        same = left_same old files new (loads.same h) left.0;
         ends = inl left.1;
       }))
-  loaded_honestly order events old files new loads honest same (inr (inl no_memory)) saves =
-      let left : LeavesFiles trait file out out' err err' status (load_fault_run file load.NoMemory) files new =
-      (subst (λ (answer : Result (List ℕ) LoadFault). SavesDue trait file out out' err err' status (edit_keytab events (keytab_loaded order file answer)).saved (edit_keytab events (keytab_loaded order file answer)).run files new) no_memory saves).0 in
-      inl (subst (λ (f : F). SameFiles (trait.file old) (trait.file f)) (sym left.0) same, left.1)
-  loaded_honestly order events old files new loads honest same (inr (inr stands)) saves =
-      let due = edit_keytab events (keytab_loaded order file (loaded (trait.file old file) most_bytes)) in
-      due_honestly due.saved due.run old files new honest same loads.count
-      (subst (λ (answer : Result (List ℕ) LoadFault). SavesDue trait file out out' err err' status (edit_keytab events (keytab_loaded order file answer)).saved (edit_keytab events (keytab_loaded order file answer)).run files new) stands saves)
+  loaded_honestly order events old files new answer loads h (inr (inl no_memory)) comes =
+      let left : LeavesFiles trait file Holds (ends_by NoMemory) files new =
+      subst (λ (a : Result (List ℕ) LoadFault). ComesTo trait file Holds (edit_keytab events (keytab_or_new order a)) files new) no_memory comes in
+      inl (left_same old files new (loads.same h) left.0, left.1)
+  loaded_honestly order events old files new answer loads h (inr (inr stands)) comes =
+      let due = edit_keytab events (keytab_or_new order (loaded (trait.file old file) most_bytes)) in
+      due_honestly due.saved due.run old files new (loads.honest h) (loads.same h) loads.count
+      (subst (λ (a : Result (List ℕ) LoadFault). ComesTo trait file Holds (edit_keytab events (keytab_or_new order a)) files new) stands comes)
 
-  edits_honestly : (order : Order) (events : List (Event EntryParts)) (old files new : F) (loads : Loads trait file old files) → LoadsHonestly trait file old files loads.answer
-      → RunsOutFirst trait file out out' err err' status files new
-      ⊎ (RunsFairly events (keytab_loaded order file loads.answer)
-      × SavesDue trait file out out' err err' status (edit_keytab events (keytab_loaded order file loads.answer)).saved (edit_keytab events (keytab_loaded order file loads.answer)).run files new)
-      → EndsHonestly trait file out out' err err' status (edit_keytab events (keytab_loaded order file (loaded (trait.file old file) most_bytes))) old new
-  edits_honestly order events old files new loads stands (inl ran_out) =
-      memory_honestly (edit_keytab events (keytab_loaded order file (loaded (trait.file old file) most_bytes))) old files new stands.same ran_out
-  edits_honestly order events old files new loads stands (inr ends) = loaded_honestly order events old files new loads stands.honest stands.same stands.answer_is ends.1
+  edits_honestly : (order : Order) (events : List (Event EntryParts)) (old new : F) → trait.is_honest old → EditsFile trait file Holds order events old new
+      → EndsHonestly trait file Holds (edit_keytab events (keytab_or_new order (loaded (trait.file old file) most_bytes))) old new
+  edits_honestly order events old new h e = elim e.ends [
+    | inl spent ↦ inl (left_same old e.files new (e.loads.same h) spent.0, spent.1)
+    | inr ran ↦ loaded_honestly order events old e.files new e.answer e.loads h (e.loads.stands h) ran.1
+  ]
 
-  script_honestly : (order : Order) (events : Result (List (Event EntryParts)) ScriptFault) (old new : F) → trait.is_honest old → EndsScript trait file out out' err err' status order old new events
-      → EndsHonestly trait file out out' err err' status (edit_script order file (loaded (trait.file old file) most_bytes) events) old new
-  script_honestly order (Ok events) old new honest e = edits_honestly order events old e.files new e.loads (e.loads.stands honest) e.ends
-  script_honestly order (Err fault) old new honest left = left_honestly (line_run fault.line fault.kind) old old new (λ name. refl) left
+  script_honestly : (order : Order) (events : Result (List (Event EntryParts)) ScriptFault) (old new : F) → trait.is_honest old → EndsScript trait file Holds order old new events
+      → EndsHonestly trait file Holds (edit_script order (loaded (trait.file old file) most_bytes) events) old new
+  script_honestly order (Ok events) old new h e = edits_honestly order events old new h e
+  script_honestly order (Err fault) old new h left = inr (inr (left_same old old new (λ name. refl) left.0, left.1))
 
-  input_honestly : (order : Order) (input : Result (List ℕ) LoadFault) (old new : F) → trait.is_honest old → EndsInput trait file out out' err err' status order old new input
-      → EndsHonestly trait file out out' err err' status (edit_input order file (loaded (trait.file old file) most_bytes) input) old new
-  input_honestly order (Ok text) old new honest (inl ran_out) = memory_honestly (edit_script order file (loaded (trait.file old file) most_bytes) (script text)) old old new (λ name. refl) ran_out
-  input_honestly order (Ok text) old new honest (inr ends) = script_honestly order (script text) old new honest ends
-  input_honestly order (Err fault) old new honest left = left_honestly (input_run fault) old old new (λ name. refl) left
+  pub input_honestly : (order : Order) (input : Result (List ℕ) LoadFault) (old new : F) → trait.is_honest old → EndsInput trait file Holds order old new input
+      → EndsHonestly trait file Holds (edit_input order (loaded (trait.file old file) most_bytes) input) old new
+  input_honestly order (Ok text) old new h (inl spent) = inl (left_same old old new (λ name. refl) spent.0, spent.1)
+  input_honestly order (Ok text) old new h (inr ends) = script_honestly order (script text) old new h ends
+  input_honestly order (Err fault) old new h left = inr (inr (left_same old old new (λ name. refl) left.0, left.1))
 
-  -- the script gives no events
-  pub refused : (order : Order) (given : Result (List (Event EntryParts)) ScriptFault) (refusal : ScriptRefusal) (files : F) → out' ≡ out → RefusesScript given refusal → status ≡ (refusal_run refusal).status
-      → Says err err' (refusal_run refusal).err → RunsOutFirst trait file out out' err err' status files files ⊎ EndsScript trait file out out' err err' status order files files given
-  refused order given (Fault line kind) files kept is same says =
-      let no : 1 ≢ 4 = search rules in
-      let ends = EndsRun-said (line_run line kind) out err err' status well refl same says (λ e. absurd (no e)) in
-      inr (subst (λ (g : Result (List (Event EntryParts)) ScriptFault). EndsScript trait file out out' err err' status order files files g) (sym is)
-      (refl, subst (λ (o : Watch). EndsRun (line_run line kind) out o err err' status) (sym kept) ends))
-  refused order given refusal.NoMemory files kept is same says = inl (refl, record { ends = same; kept = kept; said = says })
+-- ---- where memory runs out
 
-  -- a run over what a reader gave
-  pub RunsEdit-by : (order : Order) (given given' : Option (List ℕ)) (old new : F) (input : Result (List ℕ) LoadFault) → GivesInput given given' input
-      → EndsInput trait file out out' err err' status order old new input → RunsEdit trait file out out' err err' status order given given' old new
-  RunsEdit-by order given given' old new input read ends = record {
-    input = input;
-    read = read;
-    ends = ends;
-    honest = λ honest. input_honestly order input old new honest ends;
-    memory = input_memory trait file out out' err err' status well order input old new ends;
-  }
+abbrev is_spent : Ending → Bool
+is_spent (Err NoMemory) = true
+is_spent ending = false
 
--- ---- what is due of an edited keytab
+told_unspent : (b : Bool) → ending_if_told b ≢ Err NoMemory
+told_unspent true is = false≢true (ap is_spent is)
+told_unspent false is = false≢true (ap is_spent is)
 
-pub SavesDue-edited : {A F : Type 0} (trait : Ghosts F) (file : List ℕ) (out out' err err' : Watch) (status : ℕ) (old new : F) (keytab : KeytabState) (events : List (Event EntryParts)) (e : Edited A)
-    → IsEdited keytab events e → SavesDue trait file out out' err err' status (saved_of e) (run_of e) old new
-    → SavesDue trait file out out' err err' status (edit_keytab events (Ok keytab)).saved (edit_keytab events (Ok keytab)).run old new
-SavesDue-edited trait file out out' err err' status old new keytab events e is saves =
-    let saved : saved_of e ≡ (edit_keytab events (Ok keytab)).saved =
-    ap (λ (b : Bool). if b then Some e.image.items else None) is.is_changed ∙ ap (λ (bytes : List ℕ). if is_changed keytab events then Some bytes else None) is.image in
-    let run : run_of e ≡ edit_run keytab events =
-    ap (λ (text : List ℕ). record { out = text; err = []; status = e.status }) is.text ∙ ap (λ (n : ℕ). record { out = reply_lines keytab events; err = []; status = n }) is.status in
-    subst (λ (due : Run). SavesDue trait file out out' err err' status (edit_keytab events (Ok keytab)).saved due old new) run
-    (subst (λ (bytes : Option (List ℕ)). SavesDue trait file out out' err err' status bytes (run_of e) old new) saved saves)
+module _ {F : Type 0} (trait : Ghosts F) (file : List ℕ) (out out' : Watch) (ending : Ending) (spent : ending ≡ Err NoMemory) where
+  abbrev Shown : Run → Type 0
+  Shown due = Shows due out out' ending
 
--- a keytab was edited
-pub EditsFile-edited : {A F : Type 0} (trait : Ghosts F) (file : List ℕ) (order : Order) (out out' err err1 err' : Watch) (status : ℕ) (old files new : F) (keytab : KeytabState) (events : List (Event EntryParts)) (e : Edited A)
-    → OpensToEdit trait file order old files err err1 keytab → IsEdited keytab events e → SavesDue trait file out out' err1 err' status (saved_of e) (run_of e) files new
-    → EditsFile trait file out out' err err' status order events old new
-EditsFile-edited trait file order out out' err err1 err' status old files new keytab events e opens is saves =
-    let from_err = subst (λ (w : Watch). SavesDue trait file out out' w err' status (saved_of e) (run_of e) files new) opens.quiet saves in
-    record {
-      files = files;
-      loads = opens.loads;
-      ends = subst (λ (opened : Result KeytabState Run). RunsOutFirst trait file out out' err err' status files new
-          ⊎ (RunsFairly events opened × SavesDue trait file out out' err err' status (edit_keytab events opened).saved (edit_keytab events opened).run files new))
-          (sym opens.opened) (inr (is.ran, SavesDue-edited trait file out out' err err' status files new keytab events e is from_err));
-    }
+  -- the output did not fail, so this was due
+  shown_at : (failed : Bool) → failed ≡ out'.failed → (due : Run) → Shown due → due.ending ≡ Err NoMemory
+  shown_at true is due shows = absurd (false≢true (ap is_spent (sym (shows.failed (sym is)) ∙ spent)))
+  shown_at false is due shows = sym ((shows.done (sym is)).1) ∙ spent
+
+  shown_due : (due : Run) → Shown due → due.ending ≡ Err NoMemory
+  shown_due due shows = shown_at out'.failed refl due shows
+
+  -- where nothing else was due, memory ran out
+  abbrev error_in : Ending → Trouble
+  error_in (Ok done) = NoMemory
+  error_in (Err trouble) = trouble
+
+  shown_spent : (trouble : Trouble) → Shown (ends_by trouble) → Shown (ends_by NoMemory)
+  shown_spent trouble shows = subst (λ (t : Trouble). Shown (ends_by t)) (ap error_in (shown_due (ends_by trouble) shows)) shows
+
+  -- the output is as it was, and honest files are the same
+  abbrev pub Spent : F → F → Type 0
+  Spent old new = Shown (ends_by NoMemory) × (trait.is_honest old → SameFiles (trait.file old) (trait.file new))
+
+  spent_left : (trouble : Trouble) (old files new : F) → (trait.is_honest old → SameFiles (trait.file old) (trait.file files)) → LeavesFiles trait file Shown (ends_by trouble) files new → Spent old new
+  spent_left trouble old files new same left = (shown_spent trouble left.1, λ h. subst (λ (f : F). SameFiles (trait.file old) (trait.file f)) (sym left.0) (same h))
+
+  spent_saved : (bytes : List ℕ) (due : Run) (old files new : F) → due.ending ≢ Err NoMemory → (trait.is_honest old → trait.is_honest files) → (trait.is_honest old → SameFiles (trait.file old) (trait.file files))
+      → (saved : Result (Unit {0}) SaveFault) → SavesFile trait files file bytes saved new → Shown (saved_run due saved) → Spent old new
+  spent_saved bytes due old files new unspent honest same (Ok done) saves shows = absurd (unspent (shown_due due shows))
+  spent_saved bytes due old files new unspent honest same (Err fault) saves shows = (shown_spent (save_trouble fault) shows, λ h name. saves.same (honest h) name ∙ same h name)
+
+  spent_due : (saved : Option (List ℕ)) (due : Run) (old files new : F) → due.ending ≢ Err NoMemory → (trait.is_honest old → trait.is_honest files) → (trait.is_honest old → SameFiles (trait.file old) (trait.file files))
+      → SavesDue trait file Shown saved due files new → Spent old new
+  spent_due None due old files new unspent honest same left = absurd (unspent (shown_due due left.1))
+  spent_due (Some bytes) due old files new unspent honest same s = spent_saved bytes due old files new unspent honest same s.0 s.1 s.2
+
+  spent_edit : (events : List (Event EntryParts)) (old files new : F) → (trait.is_honest old → trait.is_honest files) → (trait.is_honest old → SameFiles (trait.file old) (trait.file files))
+      → (opened : Result KeytabState NoKeytab) → ComesTo trait file Shown (edit_keytab events opened) files new → Spent old new
+  spent_edit events old files new honest same (Ok k) comes =
+      let due = edit_keytab events (Ok k) in
+      spent_due due.saved due.run old files new (told_unspent (list_any is_trouble (replies (moments k events)))) honest same comes
+  spent_edit events old files new honest same (Err why) left = spent_left _ old files new same left
+
+  spent_script : (order : Order) (events : Result (List (Event EntryParts)) ScriptFault) (old new : F) → EndsScript trait file Shown order old new events → Spent old new
+  spent_script order (Ok events) old new e = elim e.ends [
+    | inl left ↦ spent_left NoMemory old e.files new e.loads.same left
+    | inr ran ↦ spent_edit events old e.files new e.loads.honest e.loads.same (keytab_or_new order e.answer) ran.1
+  ]
+  spent_script order (Err fault) old new left = spent_left _ old old new (λ h name. refl) left
+
+  pub spent_input : (order : Order) (input : Result (List ℕ) LoadFault) (old new : F) → EndsInput trait file Shown order old new input → Spent old new
+  spent_input order (Ok text) old new (inl left) = spent_left NoMemory old old new (λ h name. refl) left
+  spent_input order (Ok text) old new (inr ends) = spent_script order (script text) old new ends
+  spent_input order (Err fault) old new left = spent_left _ old old new (λ h name. refl) left
+
+-- ---- an edit by a script
+
+-- the script gives no events
+pub refused : {F : Type 0} (trait : Ghosts F) (file : List ℕ) (Holds : Run → Type 0) (order : Order) (given : Result (List (Event EntryParts)) ScriptFault) (why : ScriptRefusal) (files : F)
+    → RefusesScript given why → Holds (ends_by (script_trouble why)) → LeavesFiles trait file Holds (ends_by NoMemory) files files ⊎ EndsScript trait file Holds order files files given
+refused trait file Holds order given (refusal.Fault line kind) files is holds =
+    inr (subst (λ (g : Result (List (Event EntryParts)) ScriptFault). EndsScript trait file Holds order files files g) (sym is) (refl, holds))
+refused trait file Holds order given refusal.NoMemory files is holds = inl (refl, holds)
+
+-- an edit over what a reader gave
+pub Edits-by : {F : Type 0} (trait : Ghosts F) (file : List ℕ) (order : Order) (given given' : Option (List ℕ)) (old new : F) (out out' : Watch) (ending : Ending) (input : Result (List ℕ) LoadFault)
+    → GivesInput given given' input → EndsInput trait file (λ due. Shows due out out' ending) order old new input → Edits trait file order given given' old new out out' ending
+Edits-by trait file order given given' old new out out' ending input read ends = record {
+  input = input;
+  read = read;
+  ends = ends;
+  honest = λ h. input_honestly trait file (λ due. Shows due out out' ending) order input old new h ends;
+  quiet = λ spent. (spent_input trait file out out' ending spent order input old new ends).0;
+  spared = λ spent. (spent_input trait file out out' ending spent order input old new ends).1;
+}

@@ -1,5 +1,5 @@
--- What events leave and reply: the format along them, the text of the replies, and the status.
-use Rattle.std.proofs.Common.{◌≡◌, ℕ, ◌<◌, Bool, true, false, List, [], ◌∷◌, ◌++◌, map, refl, sym, ap, subst, ◌∙◌, arith}
+-- What events leave and reply: the format along them, and the text of the replies.
+use Rattle.std.proofs.Common.{◌≡◌, ℕ, Bool, true, false, List, [], ◌∷◌, ◌++◌, map, refl, sym, ap, subst, ◌∙◌}
 use Rattle.std.specs.Prelude.{if◌then◌else◌, cond, ◌||◌, is_some, nat_lt, length, slice_get, Option, None, Some, Result, Ok, Err}
 use Rattle.std.specs.List.{flat_map, list_any}
 use Rattle.krb_wire.specs.declared.format.KtFormat.{KtFormat}
@@ -23,7 +23,9 @@ use Rattle.krb_keytab.specs.Form.{fits, written_form}
 use Rattle.krb_text.specs.Reply.{reply_text, reply_texts, format_after}
 use Rattle.krb_commands.specs.declared.ktedit.Edited.{Edited}
 use Rattle.krb_commands.specs.Edits.{IsEdited}
-use Rattle.krb_commands.specs.Ktedit.{moments, is_change, is_trouble}
+use Rattle.krb_commands.specs.Ktedit.{moments, is_change, is_trouble, reply_lines}
+use Rattle.krb_commands.specs.Runs.{Run}
+use Rattle.krb_commands.specs.Troubles.{ending_if_told}
 
 -- ---- the format after an event
 
@@ -107,24 +109,17 @@ any_said f test (x ∷ xs) = ap (λ (b : Bool). test (f x) || b) (any_said f tes
 
 pub IsEdited-by : {A : Type 0} (keytab : KeytabState) (events : List (Event EntryParts)) (old new : SessionState KeytabState) (told : List Said) (e : Edited A)
     → old ≡ new_session keytab → Ran keytab_rules old new events [] told → e.image.items ≡ image_of new.store → e.text.items ≡ reply_texts keytab.format told
-    → e.is_changed ≡ list_any is_change told → e.status ≡ (if list_any is_trouble told then 1 else 0) → IsEdited keytab events e
-IsEdited-by keytab events old new told e begins ran image text changed status =
+    → e.is_changed ≡ list_any is_change told → e.is_trouble ≡ list_any is_trouble told → IsEdited keytab events e
+IsEdited-by keytab events old new told e begins ran image text changed trouble =
     let from_new : Ran keytab_rules (new_session keytab) new events [] told = subst (λ (s : SessionState KeytabState). Ran keytab_rules s new events [] told) begins ran in
     let told_is : told ≡ replies (moments keytab events) = from_new.replies_are in
     let new_is : new ≡ state_after keytab_rules (new_session keytab) events = from_new.state in
+    let text_is : e.text.items ≡ reply_lines keytab events = text ∙ ap (reply_texts keytab.format) told_is ∙ sym (lines_of (new_session keytab) events) in
+    let shown : List ℕ → Bool → Run = λ lines b. record { out = lines; ending = ending_if_told b } in
     record {
       ran = subst (λ (t : List Said). Ran keytab_rules (new_session keytab) (state_after keytab_rules (new_session keytab) events) events [] t) told_is
           (subst (λ (s : SessionState KeytabState). Ran keytab_rules (new_session keytab) s events [] told) new_is from_new);
       image = image ∙ ap (λ (s : SessionState KeytabState). image_of s.store) new_is;
-      text = text ∙ ap (reply_texts keytab.format) told_is ∙ sym (lines_of (new_session keytab) events);
       is_changed = changed ∙ ap (list_any is_change) told_is;
-      status = status ∙ ap (λ (t : List Said). if list_any is_trouble t then 1 else 0) told_is;
+      run = ap (λ (lines : List ℕ). shown lines e.is_trouble) text_is ∙ ap (shown (reply_lines keytab events)) (trouble ∙ ap (list_any is_trouble) told_is);
     }
-
-one_at_most : (b : Bool) → ◌<◌ (if b then 1 else 0) 3
-one_at_most true = omega arith
-one_at_most false = omega arith
-
--- its status is that of no failure
-pub IsEdited-low : {A : Type 0} (keytab : KeytabState) (events : List (Event EntryParts)) (e : Edited A) → IsEdited keytab events e → e.status < 3
-IsEdited-low keytab events e is = subst (λ (n : ℕ). n < 3) (sym is.status) (one_at_most (list_any is_trouble (replies (moments keytab events))))

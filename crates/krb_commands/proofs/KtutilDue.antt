@@ -18,8 +18,10 @@ use Rattle.krb_commands.specs.declared.ktutil.line_end.LineEnd.{LineEnd}
 use Rattle.krb_commands.specs.declared.ktutil.line_end.LineEnd.TheVariants as end
 use Rattle.krb_files.specs.Files.{FileMap, SameFiles, SetsFile, CountsFailure, loaded}
 use Rattle.krb_commands.specs.KtutilCommand.{Awaited, Command, Skip, ListSlots, ReadFile, WriteFile, AwaitKey, DeleteSlot, ClearList, Quit, command_of}
-use Rattle.krb_commands.specs.KtutilPlan.{KtutilState, Outcome, Plan, Ends, Loads, Saves, most_bytes, stays, save_end, keytab_of, keytab_or_new, with_entries, with_added, saved_as, written_to, key_line, with_key, command_plan, plan_by, plan_of}
-use Rattle.krb_commands.specs.KtutilFiles.{Shows, LoadsFile, SavesFile, Follows, Begins, Handles}
+use Rattle.krb_commands.specs.declared.loading.NoKeytab.{NoKeytab}
+use Rattle.krb_commands.specs.Loading.{most_bytes, keytab_of, keytab_or_new, LoadsFile, SavesFile}
+use Rattle.krb_commands.specs.KtutilPlan.{KtutilState, Outcome, Plan, Ends, Loads, Saves, stays, save_end, with_entries, with_added, saved_as, written_to, key_line, with_key, command_plan, plan_by, plan_of}
+use Rattle.krb_commands.specs.KtutilFiles.{Shows, Follows, Begins, Handles}
 use Rattle.krb_commands.specs.KtutilHonest.{with_bytes, Followed, follow, ShowsDue, FailsCall, Spends, HandlesHonestly, Spares}
 
 -- ---- plans of lines
@@ -37,17 +39,17 @@ careful-either : (b : Bool) (s : KtutilState) (p q : Plan) → Careful s p → C
 careful-either true s p q first second = first
 careful-either false s p q first second = second
 
-careful-entries : (s : KtutilState) (given : Result KeytabState LineEnd) → Careful s (with_entries s given)
+careful-entries : (s : KtutilState) (given : Result KeytabState NoKeytab) → Careful s (with_entries s given)
 careful-entries s (Ok k) = careful-either (is_some (fault_of (store_of k))) s _ _ (λ _. refl) (λ differ. absurd (differ refl))
-careful-entries s (Err ending) = λ _. refl
+careful-entries s (Err why) = λ _. refl
 
 careful-saved : (s : KtutilState) (name : List ℕ) (added : Result KeytabState Code) → Careful s (saved_as s name added)
 careful-saved s name (Ok k) = λ _. refl
 careful-saved s name (Err refused) = λ _. refl
 
-careful-written : (s : KtutilState) (name : List ℕ) (given : Result KeytabState LineEnd) → Careful s (written_to s name given)
+careful-written : (s : KtutilState) (name : List ℕ) (given : Result KeytabState NoKeytab) → Careful s (written_to s name given)
 careful-written s name (Ok k) = careful-saved s name (with_added s.entries (Ok k))
-careful-written s name (Err ending) = λ _. refl
+careful-written s name (Err why) = λ _. refl
 
 careful-command : (s : KtutilState) (command : Result Command LineFault) → Careful s (command_plan s command)
 careful-command s (Err fault) = λ _. refl

@@ -7,7 +7,7 @@ use Rattle.krb_files.specs.declared.files.Files.{Ghosts}
 use Rattle.krb_files.specs.declared.files.LoadFault.{LoadFault}
 use Rattle.krb_files.specs.declared.files.LoadFault.TheVariants.{Missing, TooLarge}
 use Rattle.krb_files.specs.Bytes.{Watch}
-use Rattle.krb_commands.specs.Input.{input_run}
+use Rattle.krb_commands.specs.Troubles.{input_trouble, trouble_message, trouble_status}
 use Rattle.krb_commands.specs.InputLines.{InputParts, lines_of, HasLines, KeepsLines, TakesLine, Grows, IsWithin}
 use Rattle.krb_commands.specs.Loading.{most_bytes}
 use Rattle.krb_commands.specs.KtutilTalk.{Talk, first_talk, AreFirst, Continues, Stops, TalksOver}
@@ -164,7 +164,7 @@ module _ {F : Type 0} (trait : Ghosts F) (now : ℕ) (given : Option (List ℕ))
 
     -- the input was not read further
     pub RunsKtutil-unread : (fault : LoadFault) (err' : Watch) (status : ℕ) → KeepsLines old new left left' → fault ≢ Missing → (fault ≡ TooLarge → most_bytes < length new.read)
-        → Says talk.err err' (input_run fault).err → status ≡ max talk.status (input_run fault).status → RunsKtutil trait order now given left' files talk.files out talk.out err err' status
+        → Says talk.err err' (trouble_message [] (input_trouble fault)) → status ≡ max talk.status (trouble_status (input_trouble fault)) → RunsKtutil trait order now given left' files talk.files out talk.out err err' status
     RunsKtutil-unread fault err' status keeps never too_large said worst = record {
       lines = u.lines;
       last = talk;

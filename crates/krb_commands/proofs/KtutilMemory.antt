@@ -5,8 +5,7 @@ use Rattle.std.proofs.lemmas.List.{append-nil}
 use Rattle.std.proofs.lemmas.Bool.{false≢true}
 use Rattle.krb_walk.specs.declared.refusal.Code.{Code}
 use Rattle.krb_walk.specs.Store.{fault_of}
-use Rattle.krb_keytab.specs.declared.open.KtOpenFault.{KtOpenFault}
-use Rattle.krb_keytab.specs.Store.{KeytabState, open_result, store_of}
+use Rattle.krb_keytab.specs.Store.{KeytabState, store_of}
 use Rattle.krb_files.specs.declared.files.Files.{Ghosts}
 use Rattle.krb_files.specs.declared.files.LoadFault.{LoadFault}
 use Rattle.krb_files.specs.declared.files.LoadFault.TheVariants as load
@@ -16,7 +15,10 @@ use Rattle.krb_text.specs.declared.line_fault.LineFault.{LineFault}
 use Rattle.krb_commands.specs.declared.ktutil.line_end.LineEnd.{LineEnd}
 use Rattle.krb_commands.specs.declared.ktutil.line_end.LineEnd.TheVariants as end
 use Rattle.krb_commands.specs.KtutilCommand.{Awaited, Command, Skip, ListSlots, ReadFile, WriteFile, AwaitKey, DeleteSlot, ClearList, Quit, command_of}
-use Rattle.krb_commands.specs.KtutilPlan.{KtutilState, Plan, Ends, Loads, Saves, most_bytes, opened, keytab_of, keytab_or_new, with_entries, with_added, saved_as, save_end, written_to, with_key, key_line, command_plan, plan_by, plan_of}
+use Rattle.krb_commands.specs.KtutilPlan.{KtutilState, Plan, Ends, Loads, Saves, no_keytab_end, with_entries, with_added, saved_as, save_end, written_to, with_key, key_line, command_plan, plan_by, plan_of}
+use Rattle.krb_commands.specs.declared.loading.NoKeytab.{NoKeytab}
+use Rattle.krb_commands.specs.declared.loading.NoKeytab.TheVariants.{Load, Open}
+use Rattle.krb_commands.specs.Loading.{keytab_of, keytab_or_new}
 use Rattle.krb_commands.specs.KtutilFiles.{Shows, RunsOut, Follows, Handles}
 use Rattle.krb_commands.specs.KtutilHonest.{TellsMemory}
 
@@ -26,11 +28,6 @@ EndsWell s (Ends due) = TellsMemory due.ending × (due.ending ≡ end.NoMemory �
 EndsWell s (Loads name then_) = (answer : Result (List ℕ) LoadFault) → EndsWell s (then_ answer)
 EndsWell s (Saves name bytes then_) = (answer : Result (Unit {0}) SaveFault) → EndsWell s (then_ answer)
 
--- a keytab, or such an end
-abbrev IsTold : Result KeytabState LineEnd → Type 0
-IsTold (Ok k) = Unit {0}
-IsTold (Err ending) = TellsMemory ending
-
 abbrev is_spent : LineEnd → Bool
 is_spent end.NoMemory = true
 is_spent ending = false
@@ -39,41 +36,30 @@ well_either : (b : Bool) (s : KtutilState) (p q : Plan) → EndsWell s p → End
 well_either true s p q first second = first
 well_either false s p q first second = second
 
-opened_told : (given : Result KeytabState KtOpenFault) → IsTold (opened given)
-opened_told (Ok k) = tt
-opened_told (Err fault) = tt
+no_keytab_told : (why : NoKeytab) → TellsMemory (no_keytab_end why)
+no_keytab_told (Load load.Missing) = tt
+no_keytab_told (Load load.TooLarge) = tt
+no_keytab_told (Load load.Failed) = tt
+no_keytab_told (Load load.NoMemory) = tt
+no_keytab_told (Open fault) = tt
 
 module _ (s : KtutilState) where
-  loaded_told : (answer : Result (List ℕ) LoadFault) → IsTold (keytab_of s.order answer)
-  loaded_told (Ok image) = opened_told (open_result s.order most_bytes image)
-  loaded_told (Err load.Missing) = tt
-  loaded_told (Err load.TooLarge) = tt
-  loaded_told (Err load.Failed) = tt
-  loaded_told (Err load.NoMemory) = tt
-
-  new_told : (answer : Result (List ℕ) LoadFault) → IsTold (keytab_or_new s.order answer)
-  new_told (Ok image) = opened_told (open_result s.order most_bytes image)
-  new_told (Err load.Missing) = tt
-  new_told (Err load.TooLarge) = tt
-  new_told (Err load.Failed) = tt
-  new_told (Err load.NoMemory) = tt
-
   save_told : (answer : Result (Unit {0}) SaveFault) → TellsMemory (save_end answer)
   save_told (Ok done) = tt
   save_told (Err save.Failed) = tt
   save_told (Err save.NoMemory) = tt
 
-  entries_well : (given : Result KeytabState LineEnd) → IsTold given → EndsWell s (with_entries s given)
-  entries_well (Err ending) told = (told, λ _. (refl, refl))
-  entries_well (Ok k) told = well_either (is_some (fault_of (store_of k))) s _ _ (tt, λ _. (refl, refl)) (tt, λ is. absurd (false≢true (ap is_spent is)))
+  entries_well : (given : Result KeytabState NoKeytab) → EndsWell s (with_entries s given)
+  entries_well (Err why) = (no_keytab_told why, λ _. (refl, refl))
+  entries_well (Ok k) = well_either (is_some (fault_of (store_of k))) s _ _ (tt, λ _. (refl, refl)) (tt, λ is. absurd (false≢true (ap is_spent is)))
 
   saved_well : (name : List ℕ) (added : Result KeytabState Code) → EndsWell s (saved_as s name added)
   saved_well name (Ok k) = λ answer. (save_told answer, λ _. (refl, refl))
   saved_well name (Err refused) = (tt, λ _. (refl, refl))
 
-  written_well : (name : List ℕ) (given : Result KeytabState LineEnd) → IsTold given → EndsWell s (written_to s name given)
-  written_well name (Ok k) told = saved_well name (with_added s.entries (Ok k))
-  written_well name (Err ending) told = (told, λ _. (refl, refl))
+  written_well : (name : List ℕ) (given : Result KeytabState NoKeytab) → EndsWell s (written_to s name given)
+  written_well name (Ok k) = saved_well name (with_added s.entries (Ok k))
+  written_well name (Err why) = (no_keytab_told why, λ _. (refl, refl))
 
   key_well : (x : Awaited) (now : ℕ) (key : Result (List ℕ) LineFault) → EndsWell s (with_key s x now key)
   key_well x now (Ok key) = (tt, λ is. absurd (false≢true (ap is_spent is)))
@@ -83,8 +69,8 @@ module _ (s : KtutilState) where
   command_well (Err fault) = (tt, λ _. (refl, refl))
   command_well (Ok Skip) = (tt, λ _. (refl, refl))
   command_well (Ok (ListSlots columns)) = (tt, λ is. absurd (false≢true (ap is_spent is)))
-  command_well (Ok (ReadFile name)) = λ answer. entries_well (keytab_of s.order answer) (loaded_told answer)
-  command_well (Ok (WriteFile name)) = λ answer. written_well name (keytab_or_new s.order answer) (new_told answer)
+  command_well (Ok (ReadFile name)) = λ answer. entries_well (keytab_of s.order answer)
+  command_well (Ok (WriteFile name)) = λ answer. written_well name (keytab_or_new s.order answer)
   command_well (Ok (AwaitKey awaited)) = (tt, λ is. absurd (false≢true (ap is_spent is)))
   command_well (Ok (DeleteSlot slot)) = (tt, λ is. absurd (false≢true (ap is_spent is)))
   command_well (Ok ClearList) = (tt, λ is. absurd (false≢true (ap is_spent is)))

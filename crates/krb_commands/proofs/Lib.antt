@@ -2,11 +2,8 @@ pub mod NewlineLemmas
 pub mod InputLemmas
 pub mod Faults
 pub mod Pieces
-pub mod Ends
-pub mod FileRuns
 pub mod EditReplies
-pub mod QuietRuns
-pub mod EditMemory
+pub mod Shown
 pub mod EditLemmas
 pub mod WordLemmas
 pub mod KtutilLists

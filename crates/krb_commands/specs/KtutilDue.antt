@@ -1,5 +1,5 @@
 -- What is due of the lines of ktutil where the files are honest.
-use Rattle.std.specs.Prelude.{◌≡◌, ◌⊎◌, ℕ, ◌+◌, max, IsTrue, List, [], ◌∷◌, ◌++◌, if◌then◌else◌, Option, IfSome}
+use Rattle.std.specs.Prelude.{◌≡◌, ◌⊎◌, ℕ, ◌+◌, max, IsTrue, List, [], ◌∷◌, ◌++◌, if◌then◌else◌, Option, IfSome, Ok}
 use Rattle.std.specs.Io.KnownBytes.{Appends}
 use Rattle.krb_files.specs.declared.files.Files.{Ghosts}
 use Rattle.krb_files.specs.declared.files.LoadFault.{LoadFault}
@@ -7,10 +7,10 @@ use Rattle.krb_files.specs.Bytes.{Watch}
 use Rattle.krb_files.specs.Files.{FileMap, SameFiles, CountsFailure}
 use Rattle.krb_commands.specs.KtutilPlan.{KtutilState, plan_of}
 use Rattle.krb_commands.specs.KtutilHonest.{follow}
-use Rattle.krb_commands.specs.Input.{input_run}
 use Rattle.krb_commands.specs.InputLines.{lines_of}
-use Rattle.krb_commands.specs.KtutilTalk.{Talk, quiet_run, line_end_run, goes_on, AreFirst}
-use Rattle.krb_commands.specs.Runs.{Run, Says}
+use Rattle.krb_commands.specs.KtutilTalk.{Talk, line_run, named_in, goes_on, AreFirst}
+use Rattle.krb_commands.specs.Runs.{Run, Says, ends_by}
+use Rattle.krb_commands.specs.Troubles.{ending_message, ending_status, input_trouble}
 
 -- what lines come to: the files after them, what is printed, the messages one by one, and the worst status
 pub record TalkDue : Type 0 where
@@ -19,32 +19,36 @@ pub record TalkDue : Type 0 where
   pub messages : List (List ℕ)
   pub status : ℕ
 
--- one run, and then no line
-abbrev pub last_due : Run → FileMap → TalkDue
-last_due run files = record { files = files; out = run.out; messages = run.err ∷ []; status = run.status }
+-- one run, which may name that file, and then no line
+abbrev pub last_due : List ℕ → Run → FileMap → TalkDue
+last_due file run files = record { files = files; out = run.out; messages = ending_message file run.ending ∷ []; status = ending_status run.ending }
 
 -- one run, and then what is due after it
-abbrev pub due_after : Run → TalkDue → TalkDue
-due_after run due = record { files = due.files; out = run.out ++ due.out; messages = run.err ∷ due.messages; status = max run.status due.status }
+abbrev pub due_after : List ℕ → Run → TalkDue → TalkDue
+due_after file run due = record { files = due.files; out = run.out ++ due.out; messages = ending_message file run.ending ∷ due.messages; status = max (ending_status run.ending) due.status }
 
 -- lines are followed one after the other, the first with that number, up to one that is the last; what is due after all of them is final
 abbrev pub talk_due : Run → ℕ → ℕ → List (List ℕ) → KtutilState → FileMap → TalkDue
-talk_due final now number [] state files = last_due final files
+talk_due final now number [] state files = last_due [] final files
 talk_due final now number (line ∷ lines) state files =
     let followed = follow files (plan_of state now line) in
-    let run = line_end_run number line followed.outcome.ending followed.outcome.text in
+    let run = line_run number followed.outcome.ending followed.outcome.text in
     if goes_on followed.outcome.ending
-    then due_after run (talk_due final now (number + 1) lines followed.outcome.state followed.files)
-    else last_due run followed.files
+    then due_after (named_in line) run (talk_due final now (number + 1) lines followed.outcome.state followed.files)
+    else last_due (named_in line) run followed.files
 
 -- messages were said one after the other, each of them whole unless the writer has failed
 abbrev pub SaysInTurn : Watch → Watch → List (List ℕ) → Type 0
 SaysInTurn old new [] = new ≡ old
 SaysInTurn old new (message ∷ messages) = (between : Watch) × Says old between message × SaysInTurn between new messages
 
+-- nothing is printed, and all is well
+abbrev pub quiet_run : Run
+quiet_run = record { out = []; ending = Ok tt }
+
 -- the lines of an input, and what is due after them: nothing at its end, or else it is said why it was not read further, or that memory ran out in the next line
 pub record GivesLines (given : Option (List ℕ)) (lines : List (List ℕ)) (final : Run) : Type 0 where
-  pub gives : (IfSome given (λ bytes. lines_of bytes ≡ lines) × (final ≡ quiet_run)) ⊎ (AreFirst lines given × ((fault : LoadFault) × (final ≡ input_run fault)))
+  pub gives : (IfSome given (λ bytes. lines_of bytes ≡ lines) × (final ≡ quiet_run)) ⊎ (AreFirst lines given × ((fault : LoadFault) × (final ≡ ends_by (input_trouble fault))))
 
 module _ {F : Type 0} (trait : Ghosts F) where
   -- a run left what was due

@@ -1,20 +1,16 @@
 -- What the plan of a line of ktutil comes to with files, honest or not.
-use Rattle.std.specs.Prelude.{◌≡◌, ◌⊎◌, ◌≤◌, ℕ, List, [], ◌++◌, Result, Err, OnOk, OnErr}
-use Rattle.krb_wire.specs.declared.format.Order.{Order}
+use Rattle.std.specs.Prelude.{◌≡◌, ◌⊎◌, ℕ, List, [], ◌++◌, Result, Err}
 use Rattle.krb_walk.specs.declared.refusal.Code.{Code}
 use Rattle.krb_walk.specs.declared.refusal.Refusal.{Refusal}
 use Rattle.krb_walk.specs.declared.refusal.Refusal.TheVariants.{Code as ByCode, NoMemory}
-use Rattle.krb_keytab.specs.Store.{KeytabState, InMemory, image_of}
+use Rattle.krb_keytab.specs.Store.{KeytabState}
 use Rattle.krb_files.specs.declared.files.LoadFault.{LoadFault}
-use Rattle.krb_files.specs.declared.files.LoadFault.TheVariants as load
 use Rattle.krb_files.specs.declared.files.SaveFault.{SaveFault}
-use Rattle.krb_files.specs.declared.files.SaveFault.TheVariants as save
 use Rattle.krb_files.specs.declared.files.Files.{Ghosts}
 use Rattle.krb_commands.specs.declared.ktutil.line_end.LineEnd.{LineEnd}
 use Rattle.krb_commands.specs.declared.ktutil.line_end.LineEnd.TheVariants as end
-use Rattle.krb_files.specs.Files.{SameFiles, SetsFile, CountsFailure, loaded}
-use Rattle.krb_commands.specs.KtutilCommand.{result_map}
-use Rattle.krb_commands.specs.KtutilPlan.{KtutilState, Outcome, Plan, Ends, Loads, Saves, most_bytes, keytab_of, keytab_or_new, save_end}
+use Rattle.krb_commands.specs.Loading.{LoadsFile, SavesFile}
+use Rattle.krb_commands.specs.KtutilPlan.{KtutilState, Outcome, Plan, Ends, Loads, Saves}
 
 -- the state, the bytes that were written and the end are those of an outcome
 pub record Shows (state : KtutilState) (out out' : List ℕ) (ending : LineEnd) (due : Outcome) : Type 0 where
@@ -49,65 +45,25 @@ EndsAt (Ends due) old new out out' ending = Shows new out out' ending due ⊎ Ru
 EndsAt (Loads name then_) old new out out' ending = ⊥
 EndsAt (Saves name bytes then_) old new out out' ending = ⊥
 
--- a keytab or an end is as it is due, or memory ran out
-abbrev pub GivesOrRunsOut : Result KeytabState LineEnd → Result InMemory LineEnd → Type 0
-GivesOrRunsOut due given = (due ≡ result_map (λ k. k.state) given) ⊎ (given ≡ Err end.NoMemory)
-
 module _ {F : Type 0} (trait : Ghosts F) where
-  -- the file of a name was loaded, with that answer: what stands there, where the files are honest and the call did not fail
-  pub record LoadsFile (old : F) (name : List ℕ) (answer : Result (List ℕ) LoadFault) (new : F) : Type 0 where
-    pub answered : trait.answers old name most_bytes answer new
-    pub failed : answer ≡ Err load.Failed → CountsFailure (trait.failure_count old) (trait.failure_count new)
-    pub count : trait.failure_count old ≤ trait.failure_count new
-    pub honest : trait.is_honest old → trait.is_honest new
-    pub same : trait.is_honest old → SameFiles (trait.file old) (trait.file new)
-    pub stands : trait.is_honest old → (answer ≡ Err load.Failed) ⊎ (answer ≡ Err load.NoMemory) ⊎ (answer ≡ loaded (trait.file old name) most_bytes)
-
-  -- these bytes were saved under a name, or not, by the answer
-  pub record SavesFile (old : F) (name bytes : List ℕ) (answer : Result (Unit {0}) SaveFault) (new : F) : Type 0 where
-    pub answered : trait.saves old name bytes answer new
-    pub failed : answer ≡ Err save.Failed → CountsFailure (trait.failure_count old) (trait.failure_count new)
-    pub count : trait.failure_count old ≤ trait.failure_count new
-    pub honest : trait.is_honest old → trait.is_honest new
-    pub sets : trait.is_honest old → OnOk answer (SetsFile (trait.file old) name bytes (trait.file new))
-    pub same : trait.is_honest old → OnErr answer (SameFiles (trait.file old) (trait.file new))
-
   -- a plan was followed, to an outcome of which that holds
   abbrev pub Follows : Plan → F → F → (Outcome → Type 0) → Type 0
   Follows (Ends due) old new Holds = (new ≡ old) × Holds due
   Follows (Loads name then_) old new Holds =
-      (answer : Result (List ℕ) LoadFault) × ((between : F) × (LoadsFile old name answer between × Follows (then_ answer) between new Holds))
+      (answer : Result (List ℕ) LoadFault) × ((between : F) × (LoadsFile trait old name answer between × Follows (then_ answer) between new Holds))
   Follows (Saves name bytes then_) old new Holds =
-      (answer : Result (Unit {0}) SaveFault) × ((between : F) × (SavesFile old name bytes answer between × Follows (then_ answer) between new Holds))
+      (answer : Result (Unit {0}) SaveFault) × ((between : F) × (SavesFile trait old name bytes answer between × Follows (then_ answer) between new Holds))
 
   -- at most a first load of a plan was done
   abbrev pub Begins : Plan → F → F → Type 0
   Begins (Ends due) old new = new ≡ old
-  Begins (Loads name then_) old new = (new ≡ old) ⊎ ((answer : Result (List ℕ) LoadFault) × LoadsFile old name answer new)
+  Begins (Loads name then_) old new = (new ≡ old) ⊎ ((answer : Result (List ℕ) LoadFault) × LoadsFile trait old name answer new)
   Begins (Saves name bytes then_) old new = new ≡ old
 
   -- a line was handled by its plan, or out of memory before it saved anything
   abbrev pub Handles : Plan → F → F → KtutilState → KtutilState → List ℕ → List ℕ → LineEnd → Type 0
   Handles plan files files' old new out out' ending =
       Follows plan files files' (Shows new out out' ending) ⊎ (Begins plan files files' × RunsOut old new out out' ending)
-
-  -- a file was loaded, and its keytab or the end is what the answer gives
-  pub record GivesKeytab (old : F) (name : List ℕ) (order : Order) (result : Result InMemory LineEnd) (new : F) : Type 0 where
-    pub answer : Result (List ℕ) LoadFault
-    pub loads : LoadsFile old name answer new
-    pub gives : keytab_of order answer ≡ result_map (λ k. k.state) result
-
-  -- the same, where a missing file is a new keytab
-  pub record GivesKeytabOrNew (old : F) (name : List ℕ) (order : Order) (result : Result InMemory LineEnd) (new : F) : Type 0 where
-    pub answer : Result (List ℕ) LoadFault
-    pub loads : LoadsFile old name answer new
-    pub gives : GivesOrRunsOut (keytab_or_new order answer) result
-
-  -- a keytab was saved, and the end is that of the answer
-  pub record SavesKeytab (old : F) (name : List ℕ) (k : KeytabState) (ending : LineEnd) (new : F) : Type 0 where
-    pub answer : Result (Unit {0}) SaveFault
-    pub saves : SavesFile old name (image_of k) answer new
-    pub gives : ending ≡ save_end answer
 
   -- a plan was followed that prints nothing, or out of memory before anything was done
   abbrev pub GoesOn : Plan → F → F → KtutilState → KtutilState → LineEnd → Type 0

@@ -1,13 +1,11 @@
 -- What a line of ktutil does: a plan of what is loaded and saved, and what comes of the answers.
 use Rattle.std.specs.Prelude.{ℕ, ◌-◌, List, [], ◌∷◌, ◌++◌, length, remove, Option, None, Some, is_some, Result, Ok, Err, if◌then◌else◌}
 use Rattle.krb_wire.specs.declared.format.Order.{Order}
-use Rattle.krb_wire.specs.declared.format.KtFormat.TheVariants.{V2}
 use Rattle.krb_walk.specs.declared.refusal.Code.{Code}
 use Rattle.krb_walk.specs.declared.refusal.Code.TheVariants as code
 use Rattle.krb_walk.specs.Store.{fault_of}
-use Rattle.krb_keytab.specs.declared.open.KtOpenFault.{KtOpenFault}
 use Rattle.krb_keytab.specs.Entry.{EntryParts}
-use Rattle.krb_keytab.specs.Store.{KeytabState, open_result, image_of, store_of, entries, empty}
+use Rattle.krb_keytab.specs.Store.{KeytabState, image_of, store_of, entries}
 use Rattle.krb_keytab.specs.Changes.{put_result}
 use Rattle.krb_files.specs.declared.files.LoadFault.{LoadFault}
 use Rattle.krb_files.specs.declared.files.LoadFault.TheVariants as load
@@ -17,6 +15,9 @@ use Rattle.krb_text.specs.declared.line_fault.LineFault.{LineFault}
 use Rattle.krb_text.specs.declared.line_fault.LineFault.TheVariants.{BadKey}
 use Rattle.krb_commands.specs.declared.ktutil.line_end.LineEnd.{LineEnd}
 use Rattle.krb_commands.specs.declared.ktutil.line_end.LineEnd.TheVariants as end
+use Rattle.krb_commands.specs.declared.loading.NoKeytab.{NoKeytab}
+use Rattle.krb_commands.specs.declared.loading.NoKeytab.TheVariants.{Load, Open}
+use Rattle.krb_commands.specs.Loading.{keytab_of, keytab_or_new}
 use Rattle.krb_text.specs.Slots.{slot_text}
 use Rattle.krb_text.specs.Word.{key_word}
 use Rattle.krb_commands.specs.KtutilWords.{is_word, trimmed}
@@ -50,16 +51,13 @@ stays s ending = Ends (record { state = s; text = []; ending = ending })
 
 -- ---- files
 
--- the most bytes that a file may have
-abbrev pub most_bytes : ℕ
-most_bytes = 16777216
-
--- how a line ends that could not load its file
-abbrev pub load_end : LoadFault → LineEnd
-load_end load.Missing = end.Load load.Missing
-load_end load.TooLarge = end.Load load.TooLarge
-load_end load.Failed = end.Load load.Failed
-load_end load.NoMemory = end.NoMemory
+-- how a line ends whose file gave no keytab
+abbrev pub no_keytab_end : NoKeytab → LineEnd
+no_keytab_end (Load load.Missing) = end.Load load.Missing
+no_keytab_end (Load load.TooLarge) = end.Load load.TooLarge
+no_keytab_end (Load load.Failed) = end.Load load.Failed
+no_keytab_end (Load load.NoMemory) = end.NoMemory
+no_keytab_end (Open fault) = end.NotAKeytab fault
 
 -- how a line ends that saved its file, or could not
 abbrev pub save_end : Result (Unit {0}) SaveFault → LineEnd
@@ -67,31 +65,9 @@ save_end (Ok done) = end.Done
 save_end (Err save.Failed) = end.Save save.Failed
 save_end (Err save.NoMemory) = end.NoMemory
 
--- the keytab of an image, or how a line ends that found none
-abbrev pub opened : Result KeytabState KtOpenFault → Result KeytabState LineEnd
-opened (Ok keytab) = Ok keytab
-opened (Err fault) = Err (end.NotAKeytab fault)
-
--- the keytab that a load gives
-abbrev pub keytab_of : Order → Result (List ℕ) LoadFault → Result KeytabState LineEnd
-keytab_of order (Ok image) = opened (open_result order most_bytes image)
-keytab_of order (Err fault) = Err (load_end fault)
-
--- what stands for a file that was not loaded: a missing one is an empty keytab of version 2
-abbrev pub without_file : LoadFault → Result KeytabState LineEnd
-without_file load.Missing = Ok (empty V2 most_bytes)
-without_file load.TooLarge = Err (end.Load load.TooLarge)
-without_file load.Failed = Err (end.Load load.Failed)
-without_file load.NoMemory = Err end.NoMemory
-
--- the keytab that a load gives, or a new one
-abbrev pub keytab_or_new : Order → Result (List ℕ) LoadFault → Result KeytabState LineEnd
-keytab_or_new order (Ok image) = opened (open_result order most_bytes image)
-keytab_or_new order (Err fault) = without_file fault
-
 -- the entries of a keytab come behind those of the list; a damaged one gives none
-abbrev pub with_entries : KtutilState → Result KeytabState LineEnd → Plan
-with_entries s (Err ending) = stays s ending
+abbrev pub with_entries : KtutilState → Result KeytabState NoKeytab → Plan
+with_entries s (Err why) = stays s (no_keytab_end why)
 with_entries s (Ok k) =
     if is_some (fault_of (store_of k)) then stays s (end.Refused code.Damaged)
     else becomes (record s { entries = s.entries ++ entries k })
@@ -108,9 +84,9 @@ saved_as s name (Ok k) = Saves name (image_of k) (λ answer. stays s (save_end a
 saved_as s name (Err refused) = stays s (end.Refused refused)
 
 -- the entries of the list are added to a keytab, and that is saved
-abbrev pub written_to : KtutilState → List ℕ → Result KeytabState LineEnd → Plan
+abbrev pub written_to : KtutilState → List ℕ → Result KeytabState NoKeytab → Plan
 written_to s name (Ok k) = saved_as s name (with_added s.entries (Ok k))
-written_to s name (Err ending) = stays s ending
+written_to s name (Err why) = stays s (no_keytab_end why)
 
 -- ---- a key
 

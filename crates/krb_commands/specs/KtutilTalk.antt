@@ -1,45 +1,39 @@
 -- A run of ktutil, line after line.
-use Rattle.std.specs.Prelude.{◌≡◌, ◌≢◌, ◌⊎◌, ℕ, ◌+◌, ◌<◌, max, Bool, true, false, IsTrue, IsFalse, List, [], ◌∷◌, ◌++◌, length, codes, Option, None, IfSome}
+use Rattle.std.specs.Prelude.{◌≡◌, ◌≢◌, ◌⊎◌, ℕ, ◌+◌, ◌<◌, max, Bool, true, false, IsTrue, IsFalse, List, [], ◌∷◌, ◌++◌, length, Option, None, IfSome, Ok, Err}
 use Rattle.krb_wire.specs.declared.format.Order.{Order}
-use Rattle.krb_walk.specs.declared.refusal.Code.{Code}
-use Rattle.krb_walk.specs.Numbers.{code_number}
 use Rattle.krb_files.specs.declared.files.Files.{Ghosts}
 use Rattle.krb_files.specs.declared.files.LoadFault.{LoadFault}
 use Rattle.krb_files.specs.declared.files.LoadFault.TheVariants.{Missing, TooLarge}
+use Rattle.krb_files.specs.Bytes.{Watch}
 use Rattle.krb_commands.specs.declared.ktutil.line_end.LineEnd.{LineEnd}
 use Rattle.krb_commands.specs.declared.ktutil.line_end.LineEnd.TheVariants as end
-use Rattle.krb_files.specs.Bytes.{Watch}
+use Rattle.krb_commands.specs.declared.trouble.Trouble.TheVariants as trouble
 use Rattle.krb_commands.specs.KtutilWords.{words, second}
 use Rattle.krb_commands.specs.KtutilPlan.{KtutilState, plan_of}
 use Rattle.krb_commands.specs.KtutilFiles.{Handles}
-use Rattle.krb_commands.specs.Input.{input_run, line_run}
 use Rattle.krb_commands.specs.InputLines.{lines_of}
-use Rattle.krb_commands.specs.Loading.{most_bytes, open_fault_run, load_fault_run, save_fault_run}
-use Rattle.krb_commands.specs.Messages.{line_message}
-use Rattle.krb_commands.specs.Runs.{Run, Says, EndsRun, memory_run}
+use Rattle.krb_commands.specs.Loading.{most_bytes}
+use Rattle.krb_commands.specs.Runs.{Run, Says, EndsRun}
+use Rattle.krb_commands.specs.Troubles.{Ending, input_trouble, load_trouble, save_trouble, trouble_message, trouble_status}
 
--- nothing is said
-abbrev pub quiet_run : Run
-quiet_run = record { out = []; err = []; status = 0 }
+-- how a line of that number ended
+abbrev pub ending_of : ℕ → LineEnd → Ending
+ending_of number end.Done = Ok tt
+ending_of number end.Quit = Ok tt
+ending_of number (end.Fault fault) = Err (trouble.FaultyLine number fault)
+ending_of number (end.Refused code) = Err (trouble.LineRefused number code)
+ending_of number (end.NotAKeytab fault) = Err (trouble.NotAKeytab fault)
+ending_of number (end.Load fault) = Err (load_trouble fault)
+ending_of number (end.Save fault) = Err (save_trouble fault)
+ending_of number end.NoMemory = Err trouble.NoMemory
 
--- a keytab refused what a line asked for
-abbrev pub refused_run : ℕ → Code → Run
-refused_run number code = record { out = []; err = line_message number (codes "refused ") (code_number code); status = 1 }
+-- a line's text, and then its end
+abbrev pub line_run : ℕ → LineEnd → List ℕ → Run
+line_run number ending text = record { out = text; ending = ending_of number ending }
 
--- what is said of how a line ended, and the status for it: the line has that number and may name that file
-abbrev pub ending_run : ℕ → List ℕ → LineEnd → Run
-ending_run number file end.Done = quiet_run
-ending_run number file end.Quit = quiet_run
-ending_run number file (end.Fault fault) = line_run number fault
-ending_run number file (end.Refused code) = refused_run number code
-ending_run number file (end.NotAKeytab fault) = open_fault_run file fault
-ending_run number file (end.Load fault) = load_fault_run file fault
-ending_run number file (end.Save fault) = save_fault_run file fault
-ending_run number file end.NoMemory = memory_run
-
--- a line's text, and then what is said of how it ended
-abbrev pub line_end_run : ℕ → List ℕ → LineEnd → List ℕ → Run
-line_end_run number line ending text = record (ending_run number (second (words line)) ending) { out = text }
+-- the file that a line may name
+abbrev pub named_in : List ℕ → List ℕ
+named_in line = second (words line)
 
 -- another line may come after one that ended so
 abbrev pub goes_on : LineEnd → Bool
@@ -75,9 +69,7 @@ module _ {F : Type 0} (trait : Ghosts F) (now : ℕ) where
     pub text : List ℕ
     pub status : ℕ
     pub handled : Handles trait (plan_of old.state now line) old.files new.files old.state new.state [] text ending
-    pub ends : EndsRun (line_end_run number line ending text) old.out new.out old.err new.err status
-    -- memory is missed only where the line ended so
-    pub spared : ending ≢ end.NoMemory → status ≢ 4
+    pub ends : EndsRun (named_in line) (line_run number ending text) old.out new.out old.err new.err status
     pub worst : new.status ≡ max old.status status
 
   -- a line was handled, and the next one may come
@@ -116,8 +108,8 @@ module _ {F : Type 0} (trait : Ghosts F) (now : ℕ) where
       pub first : AreFirst lines given
       pub never : fault ≢ Missing
       pub too_large : fault ≡ TooLarge → IfSome given (λ bytes. most_bytes < length bytes)
-      pub said : Says last.err end.err (input_run fault).err
-      pub worst : end.status ≡ max last.status (input_run fault).status
+      pub said : Says last.err end.err (trouble_message [] (input_trouble fault))
+      pub worst : end.status ≡ max last.status (trouble_status (input_trouble fault))
       pub files : end.files ≡ last.files
       pub out : end.out ≡ last.out
 

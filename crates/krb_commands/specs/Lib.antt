@@ -1,5 +1,6 @@
 -- What the contracts of this crate say.
 pub mod Messages
+pub mod Troubles
 pub mod Runs
 pub mod Loading
 pub mod Input

@@ -1,108 +1,97 @@
--- From a file's name to what is done with its image.
-use Rattle.std.specs.Prelude.{◌≡◌, ◌⊎◌, ℕ, List, [], ◌++◌, Result, Ok, Err, IsFalse, codes, decimal}
+-- Files that are loaded and saved, and what is done with what was loaded.
+use Rattle.std.specs.Prelude.{◌≡◌, ◌⊎◌, ◌≤◌, ℕ, List, Result, Ok, Err, OnOk, OnErr}
+use Rattle.krb_wire.specs.declared.format.KtFormat.TheVariants.{V2}
 use Rattle.krb_wire.specs.declared.format.Order.{Order}
 use Rattle.krb_keytab.specs.declared.open.KtOpenFault.{KtOpenFault}
-use Rattle.krb_keytab.specs.Open.{open_fault_number}
-use Rattle.krb_keytab.specs.Store.{KeytabState, open_result}
+use Rattle.krb_keytab.specs.Store.{InMemory, KeytabState, empty, open_result}
 use Rattle.krb_ccache.specs.declared.open.CcOpenFault.{CcOpenFault}
-use Rattle.krb_ccache.specs.Open.{open_fault_number as cache_fault_number}
 use Rattle.krb_ccache.specs.Store.{CacheState, open_result as cache_result}
+use Rattle.krb_files.specs.declared.files.Files.{Ghosts}
 use Rattle.krb_files.specs.declared.files.LoadFault.{LoadFault}
 use Rattle.krb_files.specs.declared.files.LoadFault.TheVariants as load
 use Rattle.krb_files.specs.declared.files.SaveFault.{SaveFault}
 use Rattle.krb_files.specs.declared.files.SaveFault.TheVariants as save
-use Rattle.krb_files.specs.declared.files.Files.{Ghosts}
 use Rattle.krb_files.specs.Bytes.{Watch}
-use Rattle.krb_files.specs.Files.{SameFiles, loaded}
-use Rattle.krb_commands.specs.Messages.{message, file_message}
-use Rattle.krb_commands.specs.Runs.{Run, EndsRun, EndsLoaded, FailsToRead, HasCause}
+use Rattle.krb_files.specs.Files.{SameFiles, SetsFile, CountsFailure, loaded}
+use Rattle.krb_commands.specs.declared.loading.NoKeytab.{NoKeytab}
+use Rattle.krb_commands.specs.declared.loading.NoKeytab.TheVariants.{Load, Open}
+use Rattle.krb_commands.specs.declared.trouble.Trouble.{Trouble}
+use Rattle.krb_commands.specs.declared.trouble.Trouble.TheVariants.{NotACache}
+use Rattle.krb_commands.specs.Troubles.{Ending, load_trouble}
+use Rattle.krb_commands.specs.Runs.{Run, Prints, Tells, ends_by}
 
 -- the most bytes that a file may have
 abbrev pub most_bytes : ℕ
 most_bytes = 16777216
 
--- what is said of a file that was not loaded
-abbrev pub load_message : List ℕ → LoadFault → List ℕ
-load_message file load.Missing = file_message file (codes "no such file")
-load_message file load.TooLarge = file_message file (codes "file too large")
-load_message file load.Failed = file_message file (codes "cannot read")
-load_message file load.NoMemory = message (codes "out of memory")
+-- ---- what a load gives
 
--- the status then
-abbrev pub load_status : LoadFault → ℕ
-load_status load.Missing = 1
-load_status load.TooLarge = 1
-load_status load.Failed = 3
-load_status load.NoMemory = 4
+-- a result, its error seen so
+abbrev pub result_map_err : {X E D : Type 0} → (E → D) → Result X E → Result X D
+result_map_err why (Ok x) = Ok x
+result_map_err why (Err e) = Err (why e)
 
--- what is said of a file that is no keytab
-abbrev pub open_message : List ℕ → KtOpenFault → List ℕ
-open_message file fault = file_message file (codes "not a keytab (" ++ decimal (open_fault_number fault) ++ codes ")")
+-- the keytab that a load gives, or why there is none
+abbrev pub keytab_of : Order → Result (List ℕ) LoadFault → Result KeytabState NoKeytab
+keytab_of order (Ok image) = result_map_err Open (open_result order most_bytes image)
+keytab_of order (Err fault) = Err (Load fault)
 
--- what is said of a file that is no cache
-abbrev pub cache_message : List ℕ → CcOpenFault → List ℕ
-cache_message file fault = file_message file (codes "not a cache (" ++ decimal (cache_fault_number fault) ++ codes ")")
+-- the same, where a missing file is an empty keytab of version 2
+abbrev pub keytab_or_new : Order → Result (List ℕ) LoadFault → Result KeytabState NoKeytab
+keytab_or_new order (Err load.Missing) = Ok (empty V2 most_bytes)
+keytab_or_new order answer = keytab_of order answer
 
--- a run that ends with an image that is no keytab
-abbrev pub open_fault_run : List ℕ → KtOpenFault → Run
-open_fault_run file fault = record { out = []; err = open_message file fault; status = 1 }
+-- the cache that a load gives, or why there is none
+abbrev pub cache_of : Result (List ℕ) LoadFault → Result CacheState Trouble
+cache_of (Ok image) = result_map_err NotACache (cache_result most_bytes image)
+cache_of (Err fault) = Err (load_trouble fault)
 
--- a run that ends with an image that is no cache
-abbrev pub cache_fault_run : List ℕ → CcOpenFault → Run
-cache_fault_run file fault = record { out = []; err = cache_message file fault; status = 1 }
+-- something is done with what a load gives, or the run ends by what it gives instead
+abbrev pub run_over : {X E : Type 0} → (E → Trouble) → (X → Run) → Result X E → Run
+run_over why then_ (Ok x) = then_ x
+run_over why then_ (Err e) = ends_by (why e)
 
--- a run that ends with a file that was not loaded
-abbrev pub load_fault_run : List ℕ → LoadFault → Run
-load_fault_run file fault = record { out = []; err = load_message file fault; status = load_status fault }
+-- ---- what files answer
 
--- an image was opened, and something is done with what it holds, or it was not
-abbrev pub opening_run : {X E : Type 0} → (X → Run) → (E → Run) → Result X E → Run
-opening_run then_ refuse (Ok x) = then_ x
-opening_run then_ refuse (Err fault) = refuse fault
-
--- what is done with the keytab of an image
-abbrev pub keytab_run : (KeytabState → Run) → Order → List ℕ → List ℕ → Run
-keytab_run then_ order file image = opening_run then_ (open_fault_run file) (open_result order most_bytes image)
-
--- what is done with the cache of an image
-abbrev pub cache_run : (CacheState → Run) → List ℕ → List ℕ → Run
-cache_run then_ file image = opening_run then_ (cache_fault_run file) (cache_result most_bytes image)
-
--- a file was loaded, and something is done with its image, or it was not
-abbrev pub load_run : (List ℕ → Run) → List ℕ → Result (List ℕ) LoadFault → Run
-load_run then_ file (Ok image) = then_ image
-load_run then_ file (Err fault) = load_fault_run file fault
-
--- a run that ends with a file that was not saved
-abbrev pub save_fault_run : List ℕ → SaveFault → Run
-save_fault_run file save.Failed = record { out = []; err = file_message file (codes "cannot write"); status = 3 }
-save_fault_run file save.NoMemory = record { out = []; err = message (codes "out of memory"); status = 4 }
-
--- a file was saved, and then a run ends as it is due, or it was not
-abbrev pub saved_run : List ℕ → Run → Result (Unit {0}) SaveFault → Run
-saved_run file due (Ok done) = due
-saved_run file due (Err fault) = save_fault_run file fault
-
-module _ {F : Type 0} (trait : Ghosts F) (old new : F) where
-  -- the files are honest as before, and the same
-  pub record KeepsFiles : Type 0 where
-    pub same : trait.is_honest old → SameFiles (trait.file old) (trait.file new)
+module _ {F : Type 0} (trait : Ghosts F) (old : F) (name : List ℕ) where
+  -- the file of a name was loaded, with that answer: what stands there, where the files are honest and neither the call nor memory failed
+  pub record LoadsFile (answer : Result (List ℕ) LoadFault) (new : F) : Type 0 where
+    pub answered : trait.answers old name most_bytes answer new
+    pub failed : answer ≡ Err load.Failed → CountsFailure (trait.failure_count old) (trait.failure_count new)
+    pub count : trait.failure_count old ≤ trait.failure_count new
     pub honest : trait.is_honest old → trait.is_honest new
+    pub same : trait.is_honest old → SameFiles (trait.file old) (trait.file new)
+    pub stands : trait.is_honest old → (answer ≡ Err load.Failed) ⊎ (answer ≡ Err load.NoMemory) ⊎ (answer ≡ loaded (trait.file old name) most_bytes)
 
-  -- a run over the file of a name: what stands there decides it, unless it could not be read; honest or not, what the files answered decides it; statuses 3 and 4 have their causes
-  pub record RunsOver (file : List ℕ) (due : Result (List ℕ) LoadFault → Run) (out out' err err' : Watch) (status : ℕ) : Type 0 where
-    pub run : trait.is_honest old → FailsToRead file (trait.failure_count old) (trait.failure_count new) out out' err err' status ⊎ EndsRun (due (loaded (trait.file old file) most_bytes)) out out' err err' status
-    pub answered : EndsLoaded (λ answer. trait.answers old file most_bytes answer new) due (trait.failure_count old) (trait.failure_count new) out out' err err' status
-    pub cause : HasCause (trait.failure_count old) (trait.failure_count new) out' err err' status
-    pub files : KeepsFiles
+  -- these bytes were saved under a name, or not, by the answer
+  pub record SavesFile (bytes : List ℕ) (answer : Result (Unit {0}) SaveFault) (new : F) : Type 0 where
+    pub answered : trait.saves old name bytes answer new
+    pub failed : answer ≡ Err save.Failed → CountsFailure (trait.failure_count old) (trait.failure_count new)
+    pub count : trait.failure_count old ≤ trait.failure_count new
+    pub honest : trait.is_honest old → trait.is_honest new
+    pub sets : trait.is_honest old → OnOk answer (SetsFile (trait.file old) name bytes (trait.file new))
+    pub same : trait.is_honest old → OnErr answer (SameFiles (trait.file old) (trait.file new))
 
-  -- the image of a file was loaded, and nothing is said
-  pub record LoadsImage (file : List ℕ) (err err' : Watch) (image : List ℕ) : Type 0 where
-    pub answered : trait.answers old file most_bytes (Ok image) new
-    pub stands : trait.is_honest old → loaded (trait.file old file) most_bytes ≡ Ok image
-    pub quiet : err' ≡ err
-    pub files : KeepsFiles
+  -- a file was loaded, and what it gave is what that answer gives
+  pub record Gives {X E : Type 0} (due : Result (List ℕ) LoadFault → Result X E) (given : Result X E) (new : F) : Type 0 where
+    pub answer : Result (List ℕ) LoadFault
+    pub loads : LoadsFile answer new
+    pub gives : due answer ≡ given
 
-  -- a file was not loaded: why is said, and a run ends with that status, whatever was to be done with the image
-  abbrev pub EndsUnloaded : List ℕ → Watch → Watch → ℕ → Type 0
-  EndsUnloaded file err err' status = (then_ : List ℕ → Run) (out : Watch) → IsFalse out.failed → RunsOver file (load_run then_ file) out out err err' status
+  -- the same, or memory ran out for what takes the place of a missing file
+  pub record GivesOrRunsOut {X : Type 0} (due : Result (List ℕ) LoadFault → Result X NoKeytab) (given : Result X NoKeytab) (new : F) : Type 0 where
+    pub answer : Result (List ℕ) LoadFault
+    pub loads : LoadsFile answer new
+    pub gives : (due answer ≡ given) ⊎ (given ≡ Err (Load load.NoMemory))
+
+  -- a file was loaded, and what is due by that answer was printed
+  pub record PrintsOver (due : Result (List ℕ) LoadFault → Run) (new : F) (out out' : Watch) (ending : Ending) : Type 0 where
+    pub answer : Result (List ℕ) LoadFault
+    pub loads : LoadsFile answer new
+    pub prints : Prints (due answer) out out' ending
+
+  -- a run over the file of a name: what a load of it answers decides what is printed and how the run ends, which is told
+  pub record RunsOver (due : Result (List ℕ) LoadFault → Run) (new : F) (out out' err err' : Watch) (status : ℕ) : Type 0 where
+    pub ending : Ending
+    pub prints : PrintsOver due new out out' ending
+    pub told : Tells name ending err err' status

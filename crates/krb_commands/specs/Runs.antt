@@ -1,56 +1,49 @@
 -- What a run of the program leaves.
-use Rattle.std.specs.Prelude.{◌≡◌, ◌≢◌, ℕ, List, [], codes, IsTrue, IsFalse, Result, Err}
+use Rattle.std.specs.Prelude.{◌≡◌, ◌⊎◌, ℕ, List, [], IsTrue, IsFalse, Err}
 use Rattle.std.specs.Io.KnownBytes.{Appends}
 use Rattle.krb_files.specs.Bytes.{Watch, AppendsPrefix}
-use Rattle.krb_files.specs.Files.{CountsFailure}
-use Rattle.krb_files.specs.declared.files.LoadFault.{LoadFault}
-use Rattle.krb_files.specs.declared.files.LoadFault.TheVariants.{Failed}
-use Rattle.krb_commands.specs.Messages.{message, file_message}
+use Rattle.krb_commands.specs.declared.trouble.Trouble.{Trouble}
+use Rattle.krb_commands.specs.declared.trouble.Trouble.TheVariants.{OutputNotWritten, NoMemory}
+use Rattle.krb_commands.specs.Troubles.{Ending, ending_message, ending_status}
 
--- the texts on the output and the error output, and the status
+-- what a run prints, and how it ends
 pub record Run : Type 0 where
   pub out : List ℕ
-  pub err : List ℕ
-  pub status : ℕ
+  pub ending : Ending
+
+-- a run that prints nothing, for some trouble
+abbrev pub ends_by : Trouble → Run
+ends_by trouble = record { out = []; ending = Err trouble }
+
+-- the text went out and the run ended so; or the output failed, which ended it, and has a prefix of the text
+pub record Shows (due : Run) (out out' : Watch) (ending : Ending) : Type 0 where
+  pub done : IsFalse out'.failed → Appends out.contents out'.contents due.out × (ending ≡ due.ending)
+  pub prefix : AppendsPrefix out.contents out'.contents due.out
+  pub failed : IsTrue out'.failed → ending ≡ Err OutputNotWritten
+  pub still : due.out ≡ [] → out'.failed ≡ out.failed
+
+-- memory ran out before the end of the text
+pub record BreaksOff (due : Run) (out out' : Watch) (ending : Ending) : Type 0 where
+  pub ending_is : ending ≡ Err NoMemory
+  pub well : IsFalse out'.failed
+  pub prefix : AppendsPrefix out.contents out'.contents due.out
+
+-- a text that takes memory was shown, or as much of it as there was memory for
+abbrev pub Prints : Run → Watch → Watch → Ending → Type 0
+Prints due out out' ending = Shows due out out' ending ⊎ BreaksOff due out out' ending
 
 -- the whole text was written, unless the writer has failed: then a prefix of it was
 pub record Says (old new : Watch) (text : List ℕ) : Type 0 where
   pub prefix : AppendsPrefix old.contents new.contents text
   pub whole : IsFalse new.failed → Appends old.contents new.contents text
 
--- the run ended as it was due, or was cut short: the output failed (3), or it was out of memory (4)
-pub record EndsRun (due : Run) (out out' err err' : Watch) (status : ℕ) : Type 0 where
-  pub done : IsFalse out'.failed → status ≢ 4 → (status ≡ due.status) × Appends out.contents out'.contents due.out × Says err err' due.err
-  pub prefix : AppendsPrefix out.contents out'.contents due.out
-  pub failed : IsTrue out'.failed → (status ≡ 3) × Says err err' (message (codes "cannot write output"))
-  pub no_memory : status ≡ 4 → IsFalse out'.failed × Says err err' (message (codes "out of memory"))
+-- it is said how the run ended, and the status is of that
+pub record Tells (file : List ℕ) (ending : Ending) (err err' : Watch) (status : ℕ) : Type 0 where
+  pub said : Says err err' (ending_message file ending)
+  pub status_is : status ≡ ending_status ending
 
--- memory ran out, and nothing is out
-pub record RunsOut (out out' err err' : Watch) (status : ℕ) : Type 0 where
-  pub ends : status ≡ 4
-  pub kept : out' ≡ out
-  pub said : Says err err' (message (codes "out of memory"))
-
--- a run that ends since memory ran out
-abbrev pub memory_run : Run
-memory_run = record { out = []; err = message (codes "out of memory"); status = 4 }
-
--- a file could not be read: the failure was counted, nothing is out, and the message says so
-pub record FailsToRead (file : List ℕ) (failures failures' : ℕ) (out out' err err' : Watch) (status : ℕ) : Type 0 where
-  pub counted : CountsFailure failures failures'
-  pub ends : status ≡ 3
-  pub kept : out' ≡ out
-  pub said : Says err err' (file_message file (codes "cannot read"))
-
--- the run ended as it was due over what a load answered
-pub record EndsLoaded (Answered : Result (List ℕ) LoadFault → Type 0) (due : Result (List ℕ) LoadFault → Run) (failures failures' : ℕ) (out out' err err' : Watch) (status : ℕ) : Type 0 where
-  pub loaded : Result (List ℕ) LoadFault
-  pub answered : Answered loaded
-  pub counted : loaded ≡ Err Failed → CountsFailure failures failures'
-  pub ends : EndsRun (due loaded) out out' err err' status
-
--- status 3 comes from the output or from a file, and status 4 from memory, and the message says which
-pub record HasCause (failures failures' : ℕ) (out' err err' : Watch) (status : ℕ) : Type 0 where
-  pub failed : IsTrue out'.failed → (status ≡ 3) × Says err err' (message (codes "cannot write output"))
-  pub unread : IsFalse out'.failed → status ≡ 3 → CountsFailure failures failures' × ((file : List ℕ) × Says err err' (file_message file (codes "cannot read")))
-  pub no_memory : status ≡ 4 → IsFalse out'.failed × Says err err' (message (codes "out of memory"))
+-- a run was shown, and its end told
+pub record EndsRun (file : List ℕ) (due : Run) (out out' err err' : Watch) (status : ℕ) : Type 0 where
+  pub ending : Ending
+  pub shows : Shows due out out' ending
+  pub told : Tells file ending err err' status

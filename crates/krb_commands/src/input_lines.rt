@@ -3,11 +3,13 @@
 ghost use Rattle.std.specs.Prelude.{◌≡◌, ◌≢◌, ◌<◌, ◌≤◌, [], length, IfOk, IfErr, IfSome, OnErr, IsErrOf, vec_len};
 ghost use Rattle.krb_commands.specs.InputLines.{InputParts, ReadsLine, KeepsLines, Grows, IsWithin, FindsNewline, EndsLine};
 
-use crate::input::MOST_INPUT;
 use krb_files::{LoadFault, append_read, next_read};
 use std::alloc::Allocator;
 use std::io::Read;
 use std::marker::Model;
+
+/// The most bytes that are read from the standard input.
+pub const MOST_INPUT: u32 = 16_777_216;
 
 /// An input as far as it was read, and the line that was read last.
 #[derive(Drop)]

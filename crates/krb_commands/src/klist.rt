@@ -1,137 +1,41 @@
 //! Lists a file.
 
 ghost use Rattle.std.specs.Prelude.{IsFalse};
-ghost use Rattle.krb_commands.specs.Loading.{RunsOver, keytab_run, cache_run};
-ghost use Rattle.krb_commands.specs.Klist.{EndsListing, listing_run, cache_listing_run, image_run, listing_loaded};
-ghost use Rattle.krb_commands.specs.Runs.{EndsRun};
+ghost use Rattle.krb_commands.specs.Klist.{listing};
+ghost use Rattle.krb_commands.specs.Loading.{PrintsOver, RunsOver};
 
 use crate::action::{KlistOptions, ListKind};
-use crate::loading::load_image;
-use crate::messages::complain;
-use crate::refuse::{refuse_cache, refuse_keytab};
-use krb_ccache::Ccache;
-use krb_files::{Files, OutFault, Watched};
-use krb_keytab::Keytab;
-use krb_text::{CcColumns, KtColumns, list_cache, list_keytab};
-use krb_wire::{Limits, Order};
+use crate::loading::{load_cache, load_keytab};
+use crate::telling::tell;
+use crate::trouble::{Trouble, end_if_told};
+use krb_files::{Files, Watched};
+use krb_text::{list_cache, list_keytab};
 use std::alloc::Allocator;
 use std::io::Write;
 
-// The status of a listing that may tell a fault, or why it ended before its end.
-fn end_listing<E: Write>(listed: Result<(), OutFault>, has_fault: bool, err: &mut Watched<E>) -> u8
-    ensures { EndsListing listed has_fault err.old err.new result }
-{
-    match listed {
-        Ok(()) if has_fault => 1,
-        Ok(()) => 0,
-        Err(OutFault::Write) => {
-            complain(err, "cannot write output");
-            3
-        }
-        Err(OutFault::NoMemory) => {
-            complain(err, "out of memory");
-            4
-        }
-    }
-}
-
-// Lists a keytab, or says why that ended before its end.
-fn list_as_keytab<A: Allocator, B: Allocator, W: Write, E: Write>(
-    alloc: A,
-    file: &str,
-    keytab: &Keytab<B>,
-    columns: KtColumns,
-    out: &mut Watched<W>,
-    err: &mut Watched<E>,
-) -> u8
-    requires { IsFalse out.old.failed }
-    ensures { EndsRun (listing_run columns file.now keytab.now.state)
-        out.old out.new err.old err.new result }
-{
-    let listed = list_keytab(alloc, file, keytab, columns, out);
-    end_listing(listed, keytab.fault().is_some(), err)
-}
-
-// Lists a cache, or says why that ended before its end.
-fn list_as_cache<A: Allocator, B: Allocator, W: Write, E: Write>(
-    alloc: A,
-    file: &str,
-    cache: &Ccache<B>,
-    columns: CcColumns,
-    out: &mut Watched<W>,
-    err: &mut Watched<E>,
-) -> u8
-    requires { IsFalse out.old.failed }
-    ensures { EndsRun (cache_listing_run columns file.now cache.now.state)
-        out.old out.new err.old err.new result }
-{
-    let listed = list_cache(alloc, file, cache, columns, out);
-    end_listing(listed, cache.fault().is_some(), err)
-}
-
-// Lists the keytab that an image is, or says why it is none.
-fn list_keytab_image<A: Allocator + Copy, W: Write, E: Write>(
-    alloc: A,
-    file: &str,
-    image: Vec<u8, A>,
-    columns: KtColumns,
-    v1_order: Order,
-    out: &mut Watched<W>,
-    err: &mut Watched<E>,
-) -> u8
-    requires { IsFalse out.old.failed }
-    ensures { EndsRun (keytab_run (listing_run columns file.now) v1_order file.now image.items)
-        out.old out.new err.old err.new result }
-{
-    match Keytab::open(image, v1_order, Limits::usual()) {
-        Ok(keytab) => list_as_keytab(alloc, file, &keytab, columns, out, err),
-        Err(refused) => {
-            refuse_keytab(file.as_bytes(), refused.why, err);
-            1
-        }
-    }
-}
-
-// Lists the cache that an image is, or says why it is none.
-fn list_cache_image<A: Allocator + Copy, W: Write, E: Write>(
-    alloc: A,
-    file: &str,
-    image: Vec<u8, A>,
-    columns: CcColumns,
-    out: &mut Watched<W>,
-    err: &mut Watched<E>,
-) -> u8
-    requires { IsFalse out.old.failed }
-    ensures { EndsRun (cache_run (cache_listing_run columns file.now) file.now image.items)
-        out.old out.new err.old err.new result }
-{
-    match Ccache::open(image, Limits::usual()) {
-        Ok(cache) => list_as_cache(alloc, file, &cache, columns, out, err),
-        Err(refused) => {
-            refuse_cache(file.as_bytes(), refused.why, err);
-            1
-        }
-    }
-}
-
-// Lists an image as the kind of file that was asked for.
-fn list_image<A: Allocator + Copy, W: Write, E: Write>(
+// Lists the file of that name as the kind of file that was asked for.
+fn list_file<A: Allocator + Copy, F: Files, W: Write>(
     alloc: A,
     options: &KlistOptions,
     file: &str,
-    image: Vec<u8, A>,
+    files: &mut F,
     out: &mut Watched<W>,
-    err: &mut Watched<E>,
-) -> u8
+) -> Result<(), Trouble>
     requires { IsFalse out.old.failed }
-    ensures { EndsRun (image_run options.now.kind options.now.v1_order file.now image.items)
-        out.old out.new err.old err.new result }
+    ensures { PrintsOver F.Files files.old file.now (listing options.now file.now) files.new
+        out.old out.new result }
 {
     match options.kind {
         ListKind::Keytab(columns) => {
-            list_keytab_image(alloc, file, image, columns, options.v1_order, out, err)
+            let keytab = load_keytab(alloc, options.v1_order, files, file)?;
+            list_keytab(alloc, file, &keytab, columns, out)?;
+            end_if_told(keytab.fault().is_some())
         }
-        ListKind::Cache(columns) => list_cache_image(alloc, file, image, columns, out, err),
+        ListKind::Cache(columns) => {
+            let cache = load_cache(alloc, files, file)?;
+            list_cache(alloc, file, &cache, columns, out)?;
+            end_if_told(cache.fault().is_some())
+        }
     }
 }
 
@@ -146,11 +50,9 @@ pub fn run_klist<A: Allocator + Copy, F: Files, W: Write, E: Write>(
     err: &mut Watched<E>,
 ) -> u8
     requires { IsFalse out.old.failed }
-    ensures { RunsOver F.Files files.old files.new file.now (listing_loaded options.now file.now)
+    ensures { RunsOver F.Files files.old file.now (listing options.now file.now) files.new
         out.old out.new err.old err.new result }
 {
-    match load_image(alloc, file, files, err) {
-        Ok(image) => list_image(alloc, options, file, image, out, err),
-        Err(status) => status,
-    }
+    let ending = list_file(alloc, options, file, files, out);
+    tell(ending, file.as_bytes(), err)
 }

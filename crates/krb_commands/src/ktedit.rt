@@ -1,26 +1,21 @@
 //! Edits a keytab's file by a script.
 
-ghost use Rattle.std.specs.Prelude.{◌≡◌, ◌≢◌, ◌<◌, [], codes, IfOk, IfErr, IsFalse, if◌then◌else◌};
+ghost use Rattle.std.specs.Prelude.{◌≡◌, IfOk, IsFalse};
 ghost use Rattle.std.specs.List.{list_any};
-ghost use Rattle.krb_wire.specs.declared.format.KtFormat.TheVariants.{V2};
 ghost use Rattle.krb_walk.specs.Said.{said};
-ghost use Rattle.krb_keytab.specs.Store.{empty};
-ghost use Rattle.krb_commands.specs.Edits.{may_change, saved_of, run_of, IsEdited, OpensToEdit, EndsUnedited};
-ghost use Rattle.krb_commands.specs.Loading.{most_bytes};
-ghost use Rattle.krb_commands.specs.Ktedit.{is_change, is_trouble, SavesDue, EditsFile, RunsEdit};
-ghost use Rattle.krb_commands.specs.Messages.{message};
-ghost use Rattle.krb_commands.specs.Runs.{EndsRun, Says};
+ghost use Rattle.krb_commands.specs.Edits.{may_change, run_of, IsEdited};
+ghost use Rattle.krb_commands.specs.Ktedit.{is_change, is_trouble, Edits, EditsFile, RunsEdit};
 
-use crate::input::{MOST_INPUT, refuse_input, refuse_script};
-use crate::loading::MOST_BYTES;
-use crate::messages::complain;
-use crate::refuse::{refuse_keytab, refuse_load, refuse_save};
-use krb_files::{Files, LoadFault, Watched, load, put};
+use crate::input_lines::MOST_INPUT;
+use crate::loading::load_or_new;
+use crate::telling::{show, tell};
+use crate::trouble::{Trouble, end_if_told};
+use krb_files::{Files, Watched, load};
 use krb_indexed::Indexed;
 use krb_keytab::{Keytab, NewEntry};
 use krb_text::{parse_script, reply_lines};
 use krb_walk::{Event, Reply, Session};
-use krb_wire::{KtFormat, Limits, NoMemory, Order};
+use krb_wire::{NoMemory, Order};
 use std::alloc::Allocator;
 use std::io::{Read, Write};
 
@@ -31,8 +26,8 @@ struct Edited<A: Allocator> {
     /// The lines of the replies.
     text: Vec<u8, A>,
     is_changed: bool,
-    /// 1 where a reply tells of a refusal or of a fault, and else 0.
-    status: u8,
+    /// Whether a reply tells of a refusal or of a fault.
+    is_trouble: bool,
 }
 
 // A reply that tells of a change of the keytab.
@@ -67,12 +62,6 @@ fn are_trouble<A: Allocator>(replies: &[Reply<A>]) -> bool
     replies.iter().any(is_trouble)
 }
 
-fn status_of(is_trouble: bool) -> u8
-    ensures { result ≡ (if is_trouble then 1 else 0) }
-{
-    if is_trouble { 1 } else { 0 }
-}
-
 // Runs events over a keytab, by a table of its cells, in a session, and gathers the replies' lines.
 fn edit<A: Allocator + Copy>(
     alloc: A,
@@ -94,102 +83,8 @@ fn edit<A: Allocator + Copy>(
         image: session.into_store().into_image(),
         text,
         is_changed: are_changes(&replies),
-        status: status_of(are_trouble(&replies)),
+        is_trouble: are_trouble(&replies),
     })
-}
-
-// Shows the replies.
-fn show<W: Write, E: Write>(
-    text: &[u8],
-    status: u8,
-    out: &mut Watched<W>,
-    err: &mut Watched<E>,
-) -> u8
-    requires well { IsFalse out.old.failed }
-    requires low { status < 3 }
-    ensures ends { EndsRun (record { out = text.now; err = []; status = status }) out.old out.new err.old err.new result }
-    ensures spared { result ≢ 4 }
-{
-    if put(out, text).is_err() {
-        complain(err, "cannot write output");
-        return 3;
-    }
-    status
-}
-
-// Saves what was changed, leaves the file, as who reads the replies may be slow, and shows them.
-fn finish<A: Allocator, F: Files, W: Write, E: Write>(
-    edited: &Edited<A>,
-    file: &str,
-    files: &mut F,
-    out: &mut Watched<W>,
-    err: &mut Watched<E>,
-) -> u8
-    requires well { IsFalse out.old.failed }
-    requires low { edited.now.status < 3 }
-    ensures { SavesDue F.Files file.now out.old out.new err.old err.new result
-        (saved_of edited.now) (run_of edited.now) files.old files.new }
-{
-    if edited.is_changed {
-        if let Err(fault) = files.save(file, &edited.image) {
-            return refuse_save(file.as_bytes(), fault, err);
-        }
-    }
-    files.release();
-    show(&edited.text, edited.status, out, err)
-}
-
-// A new keytab of version 2.
-fn create<A: Allocator, F: Files, E: Write>(
-    alloc: A,
-    files: &mut F,
-    err: &mut Watched<E>,
-) -> Result<Keytab<A>, u8>
-    ensures same { files.new ≡ files.old }
-    ensures ok { IfOk result (λ keytab. (keytab.state ≡ empty V2 most_bytes) × (err.new ≡ err.old)) }
-    ensures err { IfErr result (λ status. (status ≡ 4) × Says err.old err.new (message (codes "out of memory"))) }
-{
-    match Keytab::create(alloc, KtFormat::V2, Limits::usual()) {
-        Ok(keytab) => Ok(keytab),
-        Err(_) => {
-            files.release();
-            complain(err, "out of memory");
-            Err(4)
-        }
-    }
-}
-
-// The keytab of that name; a missing file begins as an empty keytab of version 2. Where there is none, the file
-// is left before that is said.
-fn open_or_create<A: Allocator + Copy, F: Files, E: Write>(
-    alloc: A,
-    v1_order: Order,
-    file: &str,
-    files: &mut F,
-    err: &mut Watched<E>,
-) -> Result<Keytab<A>, u8>
-    ensures ok { IfOk result (λ keytab. OpensToEdit F.Files file.now v1_order files.old files.new
-        err.old err.new keytab.state) }
-    ensures err { IfErr result (λ status. EndsUnedited F.Files file.now v1_order files.old files.new
-        err.old err.new status) }
-{
-    match files.load(alloc, file, MOST_BYTES) {
-        Ok(image) => match Keytab::open(image, v1_order, Limits::usual()) {
-            Ok(keytab) => Ok(keytab),
-            Err(refused) => {
-                files.release();
-                refuse_keytab(file.as_bytes(), refused.why, err);
-                Err(1)
-            }
-        },
-        Err(fault) => match fault {
-            LoadFault::Missing => create(alloc, files, err),
-            LoadFault::TooLarge | LoadFault::Failed | LoadFault::NoMemory => {
-                files.release();
-                Err(refuse_load(file.as_bytes(), fault, err))
-            }
-        },
-    }
 }
 
 // Whether an event may change a keytab.
@@ -211,33 +106,49 @@ fn hold_to_change<F: Files, I>(files: &mut F, file: &str, events: &[Event<I>])
     }
 }
 
-// Runs events over the file of that name, which is held meanwhile.
-fn edit_file<A: Allocator + Copy, F: Files, W: Write, E: Write>(
+// Runs events over the file of that name, which is held, and saves it where they changed it.
+fn edit_held<A: Allocator + Copy, F: Files>(
     alloc: A,
     v1_order: Order,
     file: &str,
     files: &mut F,
     events: &[Event<NewEntry<A>>],
-    out: &mut Watched<W>,
-    err: &mut Watched<E>,
-) -> u8
-    requires { IsFalse out.old.failed }
-    ensures { EditsFile F.Files file.now out.old out.new err.old err.new result
+) -> Result<Edited<A>, Trouble>
+    ensures { EditsFile F.Files file.now (λ due. run_of result ≡ due)
         v1_order events.now files.old files.new }
 {
-    hold_to_change(files, file, events);
-    let keytab = match open_or_create(alloc, v1_order, file, files, err) {
-        Ok(keytab) => keytab,
-        Err(status) => return status,
-    };
-    match edit(alloc, keytab, events) {
-        Ok(edited) => finish(&edited, file, files, out, err),
-        Err(NoMemory) => {
-            files.release();
-            complain(err, "out of memory");
-            4
-        }
+    let keytab = load_or_new(alloc, v1_order, files, file)?;
+    let edited = edit(alloc, keytab, events)?;
+    if edited.is_changed {
+        files.save(file, &edited.image)?;
     }
+    Ok(edited)
+}
+
+// Runs a script over the file of that name, and leaves the file before it shows the replies, as who reads
+// them may be slow.
+fn edit_file<A: Allocator + Copy, F: Files, R: Read, W: Write>(
+    alloc: A,
+    v1_order: Order,
+    file: &str,
+    files: &mut F,
+    script: &mut R,
+    out: &mut Watched<W>,
+) -> Result<(), Trouble>
+    requires { IsFalse out.old.failed }
+    ensures { Edits F.Files file.now v1_order (R.remaining script.old) (R.remaining script.new)
+        files.old files.new out.old out.new result }
+{
+    let text = match load(alloc, script, MOST_INPUT, 0) {
+        Ok(text) => text,
+        Err(fault) => return Err(Trouble::of_input(fault)),
+    };
+    let events = parse_script(alloc, &text)?;
+    hold_to_change(files, file, &events);
+    let edited = edit_held(alloc, v1_order, file, files, &events);
+    files.release();
+    let edited = edited?;
+    show(&edited.text, end_if_told(edited.is_trouble), out)
 }
 
 /// Edits the keytab of that name by a script, and answers the status: loads it, runs the script's events
@@ -254,15 +165,9 @@ pub fn run_ktedit<A: Allocator + Copy, F: Files, R: Read, W: Write, E: Write>(
     err: &mut Watched<E>,
 ) -> u8
     requires { IsFalse out.old.failed }
-    ensures { RunsEdit F.Files file.now out.old out.new err.old err.new result v1_order
-        (R.remaining script.old) (R.remaining script.new) files.old files.new }
+    ensures { RunsEdit F.Files file.now v1_order (R.remaining script.old) (R.remaining script.new)
+        files.old files.new out.old out.new err.old err.new result }
 {
-    let text = match load(alloc, script, MOST_INPUT, 0) {
-        Ok(text) => text,
-        Err(fault) => return refuse_input(fault, err),
-    };
-    match parse_script(alloc, &text) {
-        Ok(events) => edit_file(alloc, v1_order, file, files, &events, out, err),
-        Err(refusal) => refuse_script(refusal, err),
-    }
+    let ending = edit_file(alloc, v1_order, file, files, script, out);
+    tell(ending, file.as_bytes(), err)
 }

@@ -1,27 +1,23 @@
 //! Runs the lines of ktutil.
 
 ghost use Rattle.std.specs.Prelude.{◌≡◌, [], None, IsFalse};
-ghost use Rattle.krb_commands.specs.KtutilWords.{words, second};
 ghost use Rattle.krb_commands.specs.Ktutil.{HandlesNext, RunsKtutil};
-ghost use Rattle.krb_commands.specs.KtutilTalk.{ending_run, line_end_run, goes_on};
-ghost use Rattle.krb_commands.specs.Runs.{EndsRun, Says};
+ghost use Rattle.krb_commands.specs.KtutilTalk.{ending_of, goes_on};
 
 mod addition;
 mod command;
 mod entries;
 mod key;
 mod line_end;
-mod load;
 mod options;
 mod state;
 mod verb;
 mod words;
 
-use crate::input::{refuse_input, refuse_line, refuse_line_code};
 use crate::input_lines::InputLines;
-use crate::messages::complain;
-use crate::refuse::{refuse_keytab, refuse_load, refuse_save};
-use krb_files::{Files, Watched, put};
+use crate::telling::{show, tell};
+use crate::trouble::Trouble;
+use krb_files::{Files, Watched};
 use krb_wire::Order;
 pub use line_end::LineEnd;
 pub use state::Ktutil;
@@ -33,6 +29,8 @@ pub use words::file_word;
 #[derive(Drop)]
 struct Talk<A: Allocator> {
     ktutil: Ktutil<A>,
+    /// When entries are made.
+    now: u32,
     /// Room for the text of a line.
     text: Vec<u8, A>,
     /// The worst status so far.
@@ -46,56 +44,33 @@ fn goes_on(ending: LineEnd) -> bool
     !matches!(ending, LineEnd::Quit | LineEnd::NoMemory)
 }
 
-// Says how a line ended, and answers the status for it.
-fn tell_end<E: Write>(number: u64, line: &[u8], ending: LineEnd, err: &mut Watched<E>) -> u8
-    ensures status { result ≡ (ending_run number (second (words line.now)) ending).status }
-    ensures err { Says err.old err.new (ending_run number (second (words line.now)) ending).err }
+// How a line of that number ended.
+fn ending_of(number: u64, ending: LineEnd) -> Result<(), Trouble>
+    ensures { result ≡ ending_of number ending }
 {
     match ending {
-        LineEnd::Done | LineEnd::Quit => 0,
-        LineEnd::Fault(fault) => refuse_line(number, fault, err),
-        LineEnd::Refused(code) => refuse_line_code(number, code, err),
-        LineEnd::NotAKeytab(fault) => {
-            refuse_keytab(file_word(line), fault, err);
-            1
-        }
-        LineEnd::Load(fault) => refuse_load(file_word(line), fault, err),
-        LineEnd::Save(fault) => refuse_save(file_word(line), fault, err),
-        LineEnd::NoMemory => {
-            complain(err, "out of memory");
-            4
-        }
+        LineEnd::Done | LineEnd::Quit => Ok(()),
+        LineEnd::Fault(fault) => Err(Trouble::FaultyLine {
+            line: number,
+            fault,
+        }),
+        LineEnd::Refused(code) => Err(Trouble::LineRefused { line: number, code }),
+        LineEnd::NotAKeytab(fault) => Err(Trouble::NotAKeytab(fault)),
+        LineEnd::Load(fault) => Err(Trouble::from(fault)),
+        LineEnd::Save(fault) => Err(Trouble::from(fault)),
+        LineEnd::NoMemory => Err(Trouble::NoMemory),
     }
-}
-
-// Shows the text of a line, says how it ended, and answers the status.
-fn show_line<W: Write, E: Write>(
-    text: &[u8],
-    number: u64,
-    line: &[u8],
-    ending: LineEnd,
-    out: &mut Watched<W>,
-    err: &mut Watched<E>,
-) -> u8
-    requires { IsFalse out.old.failed }
-    ensures ends { EndsRun (line_end_run number line.now ending text.now)
-        out.old out.new err.old err.new result }
-    ensures spared { result ≡ 4 → (line_end_run number line.now ending text.now).status ≡ 4 }
-{
-    if put(out, text).is_err() {
-        complain(err, "cannot write output");
-        return 3;
-    }
-    tell_end(number, line, ending, err)
 }
 
 impl<A: Allocator + Copy> Talk<A> {
-    fn new(alloc: A, v1_order: Order) -> Talk<A>
+    fn new(alloc: A, v1_order: Order, now: u32) -> Talk<A>
         ensures state { result.ktutil ≡ record { order = v1_order; entries = []; awaited = None } }
+        ensures now { result.now ≡ now }
         ensures status { result.status ≡ 0 }
     {
         Talk {
             ktutil: Ktutil::new(alloc, v1_order),
+            now,
             text: Vec::new(alloc),
             status: 0,
         }
@@ -106,20 +81,21 @@ impl<A: Allocator + Copy> Talk<A> {
         &mut self,
         number: u64,
         line: &[u8],
-        now: u32,
         files: &mut F,
         out: &mut Watched<W>,
         err: &mut Watched<E>,
     ) -> bool
         requires { IsFalse out.old.failed }
-        ensures { HandlesNext F.Files now number line.now
+        ensures next { HandlesNext F.Files self.old.now number line.now
             (record { files = files.old; state = self.old.ktutil; out = out.old; err = err.old; status = self.old.status })
             (record { files = files.new; state = self.new.ktutil; out = out.new; err = err.new; status = self.new.status })
             result }
+        ensures now { self.new.now ≡ self.old.now }
     {
         self.text.clear();
-        let ending = self.ktutil.line(files, line, now, &mut self.text);
-        let status = show_line(&self.text, number, line, ending, out, err);
+        let ending = self.ktutil.line(files, line, self.now, &mut self.text);
+        let shown = show(&self.text, ending_of(number, ending), out);
+        let status = tell(shown, file_word(line), err);
         self.status = self.status.max(status);
         goes_on(ending) && !out.has_failed()
     }
@@ -143,16 +119,20 @@ pub fn run_ktutil<A: Allocator + Copy, F: Files, R: Read, W: Write, E: Write>(
         files.old files.new out.old out.new err.old err.new result }
 {
     let mut lines = InputLines::new(alloc);
-    let mut talk = Talk::new(alloc, v1_order);
+    let mut talk = Talk::new(alloc, v1_order, now);
     let mut number = 0u64;
     'lines: loop {
         match lines.read_line(input) {
             Ok(true) => {}
             Ok(false) => return talk.status,
-            Err(fault) => return talk.status.max(refuse_input(fault, err)),
+            Err(fault) => {
+                return talk
+                    .status
+                    .max(tell(Err(Trouble::of_input(fault)), b"", err));
+            }
         }
         number += 1;
-        if !talk.handle(number, lines.line(), now, files, out, err) {
+        if !talk.handle(number, lines.line(), files, out, err) {
             return talk.status;
         }
     }

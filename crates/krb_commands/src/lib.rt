@@ -2,19 +2,18 @@
 #![tactic(auto)]
 
 mod action;
-mod input;
 mod input_lines;
 mod klist;
 mod ktedit;
 mod ktfind;
 mod ktutil;
 mod loading;
-mod messages;
 mod options;
-mod refuse;
 mod response;
+mod telling;
 #[cfg(test)]
 mod tests;
+mod trouble;
 
 pub use action::{Action, FindOptions, KlistOptions, ListKind, WordFault};
 pub use klist::run_klist;

@@ -1,31 +1,95 @@
-//! From a file's name to its image.
+//! From a file's name to the keytab or the cache that it holds.
 
-ghost use Rattle.std.specs.Prelude.{IfOk, IfErr};
-ghost use Rattle.krb_commands.specs.Loading.{EndsUnloaded, LoadsImage};
+ghost use Rattle.std.specs.Prelude.{◌≡◌, Err};
+ghost use Rattle.krb_keytab.specs.Store.{open_result};
+ghost use Rattle.krb_commands.specs.declared.loading.NoKeytab.TheVariants.{Load, Open};
+ghost use Rattle.krb_commands.specs.KtutilCommand.{result_map};
+ghost use Rattle.krb_commands.specs.Loading.{Gives, GivesOrRunsOut, cache_of, keytab_of, keytab_or_new, most_bytes, result_map_err};
 
-use crate::refuse::refuse_load;
-use krb_files::{Files, Watched};
+use crate::trouble::Trouble;
+use krb_ccache::Ccache;
+use krb_files::{Files, LoadFault};
+use krb_keytab::{Keytab, KtOpenFault};
+use krb_wire::{KtFormat, Limits, Order};
 use std::alloc::Allocator;
-use std::io::Write;
 
 /// The most bytes that a file may have.
 pub const MOST_BYTES: u32 = 16_777_216;
 
-/// Loads the file of that name. Where there is none, says why on `err`, and answers the status; a failure of
-/// `err` changes nothing else.
-pub fn load_image<A: Allocator, F: Files, E: Write>(
-    alloc: A,
-    file: &str,
-    files: &mut F,
-    err: &mut Watched<E>,
-) -> Result<Vec<u8, A>, u8>
-    ensures ok { IfOk result (λ image. LoadsImage F.Files files.old files.new
-        file.now err.old err.new image.items) }
-    ensures err { IfErr result (λ status. EndsUnloaded F.Files files.old files.new
-        file.now err.old err.new status) }
+/// Why a file gave no keytab.
+#[derive(Clone, Copy, Debug, PartialEq, Eq)]
+pub enum NoKeytab {
+    /// It was not loaded, or there was no memory for a new one.
+    Load(LoadFault),
+    /// Its image is no keytab.
+    Open(KtOpenFault),
+}
+
+impl From<LoadFault> for NoKeytab {
+    ghost from_gives = { λ fault why. why ≡ Load fault };
+
+    fn from(fault: LoadFault) -> NoKeytab {
+        NoKeytab::Load(fault)
+    }
+}
+
+fn open<A: Allocator>(v1_order: Order, image: Vec<u8, A>) -> Result<Keytab<A>, NoKeytab>
+    ensures { result_map (λ k. k.state) result
+        ≡ result_map_err Open (open_result v1_order most_bytes image.items) }
 {
-    match files.load(alloc, file, MOST_BYTES) {
-        Ok(image) => Ok(image),
-        Err(fault) => Err(refuse_load(file.as_bytes(), fault, err)),
+    match Keytab::open(image, v1_order, Limits::usual()) {
+        Ok(keytab) => Ok(keytab),
+        Err(refused) => Err(NoKeytab::Open(refused.why)),
+    }
+}
+
+/// The keytab of a file; version 1 has that order.
+pub fn load_keytab<A: Allocator, F: Files>(
+    alloc: A,
+    v1_order: Order,
+    files: &mut F,
+    name: &str,
+) -> Result<Keytab<A>, NoKeytab>
+    ensures { Gives F.Files files.old name.now
+        (keytab_of v1_order) (result_map (λ k. k.state) result) files.new }
+{
+    let image = files.load(alloc, name, MOST_BYTES)?;
+    open(v1_order, image)
+}
+
+/// The keytab of a file, or an empty one of version 2 where the file is missing.
+pub fn load_or_new<A: Allocator + Copy, F: Files>(
+    alloc: A,
+    v1_order: Order,
+    files: &mut F,
+    name: &str,
+) -> Result<Keytab<A>, NoKeytab>
+    ensures { GivesOrRunsOut F.Files files.old name.now
+        (keytab_or_new v1_order) (result_map (λ k. k.state) result) files.new }
+{
+    match load_keytab(alloc, v1_order, files, name) {
+        Err(NoKeytab::Load(LoadFault::Missing)) => {
+            match Keytab::create(alloc, KtFormat::V2, Limits::usual()) {
+                Ok(keytab) => Ok(keytab),
+                Err(_) => Err(NoKeytab::Load(LoadFault::NoMemory)),
+            }
+        }
+        given => given,
+    }
+}
+
+/// The cache of a file.
+pub fn load_cache<A: Allocator, F: Files>(
+    alloc: A,
+    files: &mut F,
+    name: &str,
+) -> Result<Ccache<A>, Trouble>
+    ensures { Gives F.Files files.old name.now
+        cache_of (result_map (λ k. k.state) result) files.new }
+{
+    let image = files.load(alloc, name, MOST_BYTES)?;
+    match Ccache::open(image, Limits::usual()) {
+        Ok(cache) => Ok(cache),
+        Err(refused) => Err(Trouble::NotACache(refused.why)),
     }
 }

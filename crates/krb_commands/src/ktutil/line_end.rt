@@ -1,5 +1,9 @@
 //! How a line of ktutil ends.
 
+ghost use Rattle.std.specs.Prelude.{◌≡◌};
+ghost use Rattle.krb_commands.specs.KtutilPlan.{no_keytab_end, save_end};
+
+use crate::loading::NoKeytab;
 use krb_files::{LoadFault, SaveFault};
 use krb_keytab::KtOpenFault;
 use krb_text::LineFault;
@@ -17,4 +21,27 @@ pub enum LineEnd {
     Load(LoadFault),
     Save(SaveFault),
     NoMemory,
+}
+
+impl From<NoKeytab> for LineEnd {
+    ghost from_gives = { λ why ending. ending ≡ no_keytab_end why };
+
+    fn from(why: NoKeytab) -> LineEnd {
+        match why {
+            NoKeytab::Load(LoadFault::NoMemory) => LineEnd::NoMemory,
+            NoKeytab::Load(fault) => LineEnd::Load(fault),
+            NoKeytab::Open(fault) => LineEnd::NotAKeytab(fault),
+        }
+    }
+}
+
+/// How a line ends that saved a file, or could not.
+pub fn save_end(saved: Result<(), SaveFault>) -> LineEnd
+    ensures { result ≡ save_end saved }
+{
+    match saved {
+        Ok(()) => LineEnd::Done,
+        Err(SaveFault::NoMemory) => LineEnd::NoMemory,
+        Err(SaveFault::Failed) => LineEnd::Save(SaveFault::Failed),
+    }
 }

@@ -1,4 +1,5 @@
-use crate::messages::complain_of;
+use crate::telling::tell;
+use crate::trouble::Trouble;
 use krb_files::Watched;
 use std::io::{self, Write};
 use std::test::Fail;
@@ -29,7 +30,7 @@ fn a_message_is_one_write(rt: HostRuntime) -> Result<(), Fail> {
         }
         let mut writes = Writes(0);
         let mut err = Watched::new(&mut writes);
-        complain_of(&mut err, name.as_str().as_bytes(), "no such file");
+        let _ = tell(Err(Trouble::NoSuchFile), name.as_str().as_bytes(), &mut err);
         assert_eq!(rt; writes.0, want, "{length}");
     }
     Ok(())

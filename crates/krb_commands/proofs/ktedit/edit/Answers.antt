@@ -16,7 +16,7 @@ returns g c =
     let changed = rw (c.deref-2.ensures.value, any_said said is_change c.run.new.replies.items) at c.are_changes.ensures in
     let trouble = rw (c.deref-3.ensures.value, any_said said is_trouble c.run.new.replies.items) at c.are_trouble.ensures in
     IsEdited-by c.args.keytab.state c.args.events.now (session_of (λ (k : InMemory). k.state) c.new-session.result) (session_of (λ (k : InMemory). k.state) c.run.new.self) told
-    (record { image = c.into_image.result; text = c.reply_lines.new.out; is_changed = c.are_changes.result; status = c.status_of.result })
+    (record { image = c.into_image.result; text = c.reply_lines.new.out; is_changed = c.are_changes.result; is_trouble = c.are_trouble.result })
     (ap (session_of (λ (k : InMemory). k.state)) c.new-session.ensures.is ∙ ap (λ (k : InMemory). new_session k.state) c.in-Ok.ensures.ok) ran
     (c.into_image.ensures.spelled ∙ ap (λ (k : InMemory). image_of k.state) c.into_store.ensures)
-    text changed (rw trouble at c.status_of.ensures)
+    text changed trouble

@@ -1,11 +1,11 @@
-use Rattle.std.proofs.Common.{◌-◌}
+use Rattle.std.proofs.Common.{◌≡◌, ◌-◌}
 use Rattle.krb_commands.specs.KtutilTalk.{first_talk}
 use Rattle.krb_commands.proofs.KtutilLemmas.{Underway}
 use Rattle.krb_commands.proofs.ktutil.run_ktutil.Given as goal
 
 abbrev pub invariant-lines : goal.invariant-lines
 invariant-lines g l =
-    Underway g.F.Files l.now (g.R.Read.remaining l.initial.input) (first_talk l.fn.v1_order l.initial.files l.initial.out l.initial.err) l.lines (g.R.Read.remaining l.input) l.number
+    (l.talk.now ≡ l.fn.now) × Underway g.F.Files l.now (g.R.Read.remaining l.initial.input) (first_talk l.fn.v1_order l.initial.files l.initial.out l.initial.err) l.lines (g.R.Read.remaining l.input) l.number
     (record { files = l.files; state = l.talk.ktutil; out = l.out; err = l.err; status = l.talk.status })
 
 abbrev pub decreases-lines : goal.decreases-lines

@@ -7,8 +7,8 @@ ghost use Rattle.krb_commands.specs.KtutilFiles.{Finishes, GoesOn, HandlesQuietl
 
 use super::Ktutil;
 use crate::ktutil::entries::{add_all, copy_entries};
-use crate::ktutil::line_end::LineEnd;
-use crate::ktutil::load::{load_keytab, load_or_new, save_keytab};
+use crate::ktutil::line_end::{LineEnd, save_end};
+use crate::loading::{load_keytab, load_or_new};
 use krb_files::Files;
 use krb_indexed::Indexed;
 use krb_keytab::{Keytab, NewEntry};
@@ -30,7 +30,7 @@ fn write_to<A: Allocator, B: Allocator + Copy, F: Files>(
         return LineEnd::NoMemory;
     };
     match add_all(&mut keytab, entries) {
-        Ok(()) => save_keytab(files, name, &keytab),
+        Ok(()) => save_end(files.save(name, keytab.image())),
         Err(Refusal::Code(code)) => LineEnd::Refused(code),
         Err(Refusal::NoMemory) => LineEnd::NoMemory,
     }
@@ -58,15 +58,9 @@ impl<A: Allocator + Copy> Ktutil<A> {
         ensures { HandlesQuietly F.Files (command_plan self.old (Ok (ReadFile name.now)))
             files.old files.new self.old self.new result }
     {
-        let loaded: Result<Keytab<A>, LineEnd> = load_keytab(
-            self.alloc,
-            self.v1_order,
-            files,
-            name,
-        );
-        match loaded {
+        match load_keytab(self.alloc, self.v1_order, files, name) {
             Ok(keytab) => self.take_entries(&keytab),
-            Err(ending) => ending,
+            Err(why) => LineEnd::from(why),
         }
     }
 
@@ -77,7 +71,7 @@ impl<A: Allocator + Copy> Ktutil<A> {
     {
         match load_or_new(self.alloc, self.v1_order, files, name) {
             Ok(keytab) => write_to(self.alloc, &self.entries, files, name, keytab),
-            Err(ending) => ending,
+            Err(why) => LineEnd::from(why),
         }
     }
 

@@ -6,12 +6,10 @@ use Rattle.krb_commands.proofs.ktutil.state.Ktutil.read.Goals as goal
 
 pub returns-in-Ok : goal.returns-in-Ok
 returns-in-Ok g c =
-    let load = c.load_keytab-loaded.ensures in
-    handles_read g.F.Files c.args.self.now c.take_entries.new.self c.args.name.now c.args.files.now c.load_keytab-loaded.new.files load.answer (Ok c.in-Ok.keytab.state) c.take_entries.result
-    c.self.inside.v1_order (ap (λ (s : KtutilState). s.order) c.self.view_is) load.loads (rw c.in-Ok.is at load.gives) c.take_entries.ensures
+    handles_read g.F.Files c.args.self.now c.take_entries.new.self c.args.name.now c.args.files.now c.load_keytab.new.files (Ok c.in-Ok.keytab.state) c.take_entries.result
+    c.self.inside.v1_order (ap (λ (s : KtutilState). s.order) c.self.view_is) c.in-Ok.ensures c.take_entries.ensures
 
 pub returns-in-Err : goal.returns-in-Err
 returns-in-Err g c =
-    let load = c.load_keytab-loaded.ensures in
-    handles_read g.F.Files c.args.self.now c.args.self.now c.args.name.now c.args.files.now c.load_keytab-loaded.new.files load.answer (Err c.in-Err.ending) c.in-Err.ending
-    c.self.inside.v1_order (ap (λ (s : KtutilState). s.order) c.self.view_is) load.loads (rw c.in-Err.is at load.gives) (inl (refl, refl, refl))
+    handles_read g.F.Files c.args.self.now c.args.self.now c.args.name.now c.args.files.now c.load_keytab.new.files (Err c.in-Err.why) c.from.result
+    c.self.inside.v1_order (ap (λ (s : KtutilState). s.order) c.self.view_is) c.in-Err.ensures (inl (refl, refl, c.from.ensures))

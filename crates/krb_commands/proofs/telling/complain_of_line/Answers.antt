@@ -1,4 +1,4 @@
-use Rattle.krb_commands.proofs.messages.complain_of_line.Goals as goal
+use Rattle.krb_commands.proofs.telling.complain_of_line.Goals as goal
 
 -- the texts one after the other
 pub returns : goal.returns

@@ -1,7 +1,7 @@
 use Rattle.std.proofs.Common.{take}
 use Rattle.std.specs.List.{flat_map}
 use Rattle.krb_text.specs.Gathered.{Sent}
-use Rattle.krb_commands.proofs.messages.say.Given as goal
+use Rattle.krb_commands.proofs.telling.say.Given as goal
 
 abbrev pub invariant-loop-text : goal.invariant-loop-text
 invariant-loop-text g l =

@@ -2,7 +2,7 @@ use Rattle.std.proofs.Common.{arith, ◌<◌, ◌≤◌, length, sym, ◌∙◌}
 use Rattle.std.proofs.lemmas.List.{take_all}
 use Rattle.std.proofs.lemmas.Bool.{false≢true}
 use Rattle.krb_commands.proofs.Pieces.{Sent-piece, Sent-piece-prefix, Says-last}
-use Rattle.krb_commands.proofs.messages.say.Goals as goal
+use Rattle.krb_commands.proofs.telling.say.Goals as goal
 
 -- the texts before it were gathered or are out, and of what was gathered and this one a prefix is
 pub returns-in-Err : goal.returns-in-Err

@@ -1,0 +1,66 @@
+-- What is shown of a run, and what a reader gave.
+use Rattle.std.proofs.Common.{◌≡◌, ◌≢◌, ℕ, ◌<◌, List, [], refl, sym, ap, subst, ◌∙◌}
+use Rattle.std.specs.Prelude.{◌+◌, length, IsFalse, Option, Result, Ok, Err, is_ok, IfSome}
+use Rattle.std.proofs.lemmas.Bool.{false≢true, true≢false}
+use Rattle.krb_files.specs.declared.files.LoadFault.{LoadFault}
+use Rattle.krb_files.specs.declared.files.LoadFault.TheVariants as load
+use Rattle.krb_files.specs.declared.files.SaveFault.{SaveFault}
+use Rattle.krb_files.specs.declared.files.SaveFault.TheVariants as save
+use Rattle.krb_files.specs.Bytes.{Watch}
+use Rattle.std.specs.Io.KnownBytes.{Appends}
+use Rattle.krb_files.specs.declared.files.Files.{Ghosts}
+use Rattle.krb_files.proofs.Prefixes.{AppendsPrefix-all, AppendsPrefix-none, Appends-nil}
+use Rattle.krb_commands.specs.declared.trouble.Trouble.{Trouble}
+use Rattle.krb_commands.specs.Loading.{most_bytes, Gives, PrintsOver, run_over}
+use Rattle.krb_commands.specs.Input.{GivesInput}
+use Rattle.krb_commands.specs.Runs.{Run, Shows, Prints, Says, ends_by}
+use Rattle.krb_commands.specs.Troubles.{Ending}
+use Rattle.krb_files.specs.Reader.{ConsumesAtMost}
+
+-- nothing was to be said
+pub Says-nothing : (w : Watch) → Says w w []
+Says-nothing w = record { prefix = AppendsPrefix-none w.contents []; whole = λ _. Appends-nil w.contents }
+
+-- some trouble, before anything was printed
+pub Shows-trouble : (trouble : Trouble) (out : Watch) → IsFalse out.failed → Shows (ends_by trouble) out out (Err trouble)
+Shows-trouble trouble out well = record {
+  done = λ _. (Appends-nil out.contents, refl);
+  prefix = AppendsPrefix-none out.contents [];
+  failed = λ failed. absurd (false≢true (sym well ∙ failed));
+  still = λ _. refl;
+}
+
+-- the whole text, and then that end
+pub Shows-done : (due : Run) (out out' : Watch) (ending : Ending) → IsFalse out.failed → IsFalse out'.failed → Appends out.contents out'.contents due.out → ending ≡ due.ending → Shows due out out' ending
+Shows-done due out out' ending well still appends is = record {
+  done = λ _. (appends, is);
+  prefix = AppendsPrefix-all out.contents out'.contents due.out appends;
+  failed = λ failed. absurd (false≢true (sym still ∙ failed));
+  still = λ _. still ∙ sym well;
+}
+
+-- what a load gave was shown
+pub PrintsOver-given : {X E F : Type 0} (trait : Ghosts F) (old : F) (name : List ℕ) (new : F) (gives : Result (List ℕ) LoadFault → Result X E) (x : X) (why : E → Trouble) (then_ : X → Run) (out out' : Watch) (ending : Ending)
+    → Gives trait old name gives (Ok x) new → Prints (then_ x) out out' ending → PrintsOver trait old name (λ answer. run_over why then_ (gives answer)) new out out' ending
+PrintsOver-given trait old name new gives x why then_ out out' ending given prints = record {
+  answer = given.answer;
+  loads = given.loads;
+  prints = subst (λ (run : Run). Prints run out out' ending) (sym (ap (run_over why then_) given.gives)) prints;
+}
+
+-- ---- what a reader gave
+
+abbrev pub fault_in : Result (List ℕ) LoadFault → LoadFault
+fault_in (Ok bytes) = load.Missing
+fault_in (Err fault) = fault
+
+pub GivesInput-ok : (given given' : Option (List ℕ)) (bytes : List ℕ) → IfSome given (λ left. bytes ≡ left) → ConsumesAtMost given given' (most_bytes + 1) → GivesInput given given' (Ok bytes)
+GivesInput-ok given given' bytes all taken = record { all = all; too_large = λ e. absurd (true≢false (ap is_ok e)); never = tt; taken = taken }
+
+pub GivesInput-err : (given given' : Option (List ℕ)) (fault : LoadFault) → (fault ≡ load.TooLarge → IfSome given (λ left. most_bytes < length left)) → fault ≢ load.Missing
+    → ConsumesAtMost given given' (most_bytes + 1) → GivesInput given given' (Err fault)
+GivesInput-err given given' fault too_large never taken = record { all = tt; too_large = λ e. too_large (ap fault_in e); never = never; taken = taken }
+
+abbrev pub save_fault_in : Result (Unit {0}) SaveFault → SaveFault
+save_fault_in (Ok done) = save.NoMemory
+save_fault_in (Err fault) = fault

@@ -1,0 +1,166 @@
+//! What ends a run before its end.
+
+ghost use Rattle.std.specs.Prelude.{◌≡◌};
+ghost use Rattle.krb_commands.specs.declared.trouble.Trouble.TheVariants as trouble;
+ghost use Rattle.krb_commands.specs.Troubles.{ending_if_told, input_trouble, load_trouble, no_keytab_trouble, out_trouble, save_trouble, script_trouble, trouble_status, word_trouble};
+
+use crate::action::WordFault;
+use crate::loading::NoKeytab;
+use krb_ccache::CcOpenFault;
+use krb_files::{LoadFault, OutFault, SaveFault};
+use krb_keytab::KtOpenFault;
+use krb_text::{LineFault, ScriptRefusal};
+use krb_walk::Code;
+use krb_wire::NoMemory;
+
+/// What ends a run, or a line of ktutil, before its end. The file is the one that the run or the line
+/// names; a line has its number, counted from 1.
+#[derive(Clone, Copy, Debug, PartialEq, Eq)]
+pub enum Trouble {
+    BadCommandLine,
+    InputTooLarge,
+    InputNotRead,
+    FaultyLine { line: u64, fault: LineFault },
+    /// A keytab refused what a line asked for.
+    LineRefused { line: u64, code: Code },
+    NoSuchFile,
+    FileTooLarge,
+    FileNotRead,
+    FileNotWritten,
+    NotAKeytab(KtOpenFault),
+    NotACache(CcOpenFault),
+    /// A keytab refused what the run asked for.
+    Refused(Code),
+    /// What was printed tells of it.
+    Told,
+    OutputNotWritten,
+    NoMemory,
+}
+
+impl Trouble {
+    /// The status of a run that it ends. Of several the greatest counts: want of memory before a call that
+    /// failed, that before a bad command line, and that before what is wrong with an input or a file.
+    pub fn status(self) -> u8
+        ensures { result ≡ trouble_status self }
+    {
+        match self {
+            Trouble::NoMemory => 4,
+            Trouble::InputNotRead
+            | Trouble::FileNotRead
+            | Trouble::FileNotWritten
+            | Trouble::OutputNotWritten => 3,
+            Trouble::BadCommandLine => 2,
+            Trouble::InputTooLarge
+            | Trouble::FaultyLine { .. }
+            | Trouble::LineRefused { .. }
+            | Trouble::NoSuchFile
+            | Trouble::FileTooLarge
+            | Trouble::NotAKeytab(_)
+            | Trouble::NotACache(_)
+            | Trouble::Refused(_)
+            | Trouble::Told => 1,
+        }
+    }
+
+    /// That the input was not read.
+    pub fn of_input(fault: LoadFault) -> Trouble
+        ensures { result ≡ input_trouble fault }
+    {
+        match fault {
+            LoadFault::TooLarge => Trouble::InputTooLarge,
+            LoadFault::NoMemory => Trouble::NoMemory,
+            LoadFault::Missing | LoadFault::Failed => Trouble::InputNotRead,
+        }
+    }
+}
+
+/// The end of a run whose output may tell of trouble.
+pub fn end_if_told(is_told: bool) -> Result<(), Trouble>
+    ensures { result ≡ ending_if_told is_told }
+{
+    if is_told { Err(Trouble::Told) } else { Ok(()) }
+}
+
+impl From<WordFault> for Trouble {
+    ghost from_gives = { λ fault given. given ≡ word_trouble fault };
+
+    fn from(fault: WordFault) -> Trouble {
+        match fault {
+            WordFault::BadLine => Trouble::BadCommandLine,
+            WordFault::NoMemory => Trouble::NoMemory,
+        }
+    }
+}
+
+impl From<ScriptRefusal> for Trouble {
+    ghost from_gives = { λ refusal given. given ≡ script_trouble refusal };
+
+    fn from(refusal: ScriptRefusal) -> Trouble {
+        match refusal {
+            ScriptRefusal::Fault { line, kind } => Trouble::FaultyLine { line, fault: kind },
+            ScriptRefusal::NoMemory => Trouble::NoMemory,
+        }
+    }
+}
+
+impl From<LoadFault> for Trouble {
+    ghost from_gives = { λ fault given. given ≡ load_trouble fault };
+
+    fn from(fault: LoadFault) -> Trouble {
+        match fault {
+            LoadFault::Missing => Trouble::NoSuchFile,
+            LoadFault::TooLarge => Trouble::FileTooLarge,
+            LoadFault::Failed => Trouble::FileNotRead,
+            LoadFault::NoMemory => Trouble::NoMemory,
+        }
+    }
+}
+
+impl From<NoKeytab> for Trouble {
+    ghost from_gives = { λ why given. given ≡ no_keytab_trouble why };
+
+    fn from(why: NoKeytab) -> Trouble {
+        match why {
+            NoKeytab::Load(fault) => Trouble::from(fault),
+            NoKeytab::Open(fault) => Trouble::NotAKeytab(fault),
+        }
+    }
+}
+
+impl From<SaveFault> for Trouble {
+    ghost from_gives = { λ fault given. given ≡ save_trouble fault };
+
+    fn from(fault: SaveFault) -> Trouble {
+        match fault {
+            SaveFault::Failed => Trouble::FileNotWritten,
+            SaveFault::NoMemory => Trouble::NoMemory,
+        }
+    }
+}
+
+impl From<OutFault> for Trouble {
+    ghost from_gives = { λ fault given. given ≡ out_trouble fault };
+
+    fn from(fault: OutFault) -> Trouble {
+        match fault {
+            OutFault::Write => Trouble::OutputNotWritten,
+            OutFault::NoMemory => Trouble::NoMemory,
+        }
+    }
+}
+
+impl From<Code> for Trouble {
+    ghost from_gives = { λ code given. given ≡ trouble.Refused code };
+
+    fn from(code: Code) -> Trouble {
+        Trouble::Refused(code)
+    }
+}
+
+impl From<NoMemory> for Trouble {
+    ghost from_gives = { λ _ given. given ≡ trouble.NoMemory };
+
+    fn from(_refused: NoMemory) -> Trouble {
+        Trouble::NoMemory
+    }
+}
