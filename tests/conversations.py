@@ -6,11 +6,13 @@ import pty
 import select
 import subprocess
 import termios
+import time
 
 from edits import text
 from harness import SECONDS, Outcome, Report, differences, folder_of, message, short
 from images import TWO
-from ktutil_lines import HEADING, NO_SLOTS
+from ktutil_lines import ADDENT, HEADING, KEY, NO_SLOTS, TIMES
+from reading import time_text
 
 LISTED = text([*HEADING, "   1    3 host/a@R", "   2    3 b@R"])
 
@@ -118,6 +120,29 @@ def talk_at_terminal(talk: Talk) -> None:
     os.close(talk.input_end)
 
 
+def listed_at(now: int) -> bytes:
+    """The listing of an entry that has that time."""
+    return text(TIMES) + b"   1    3 " + time_text(now) + b" host/a@R\n"
+
+
+def check_start(report: Report, program: str) -> None:
+    """The time of an entry is that of the run's start, however long after it the entry is added."""
+    before = int(time.time())
+    with folder_of({}) as folder:
+        talk = Talk(program, folder, *os.pipe())
+        talk.send(b"l\n")
+        talk.hear(NO_SLOTS)
+        started = int(time.time())
+        time.sleep(1.5)
+        talk.send(text([ADDENT, KEY, "l -t"]))
+        heard = talk.take(len(listed_at(before)), talk.run.stdout)
+        if heard not in map(listed_at, range(before, started + 1)):
+            talk.found.append(f"{short(heard)} came")
+        os.close(talk.input_end)
+        talk.end(Outcome(0))
+    report.check("an entry has the time of the run's start", talk.found)
+
+
 def terminal() -> tuple[int, int]:
     """A terminal without echo: its two ends."""
     master, slave = pty.openpty()
@@ -140,3 +165,4 @@ def check(report: Report, program: str) -> None:
             talk = Talk(program, folder, *opened())
             go(talk)
         report.check(f"ktutil answers line by line, {name}", talk.found)
+    check_start(report, program)

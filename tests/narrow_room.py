@@ -1,7 +1,8 @@
 """The greatest files and inputs, run in plenty of room, on a small stack, and in little memory.
 
 On a small stack each run is as it is to be. In little memory it is too, or says that there is none:
-then a front of its text may be printed, and each file is as before or as after the whole run.
+then a front of its text may be printed, and each file is as before or as after the whole run. Where
+a file would take all of the memory, each command has to say so.
 """
 from __future__ import annotations
 
@@ -11,6 +12,7 @@ from collections.abc import Callable
 from random import Random
 
 import cache_files
+from file_names import LIMIT, sized
 from greatest import cases
 from harness import SECONDS, Case, Outcome, Report, check_case, faults_of, run_case
 from modelled import NO_MEMORY
@@ -59,10 +61,22 @@ def faults_in(program: str, case: Case, kind: int, most: int) -> list[str]:
     return [] if may_be_early and is_early(case, got, after) else faults_of(case, got, after)
 
 
+def without_room() -> list[Case]:
+    """A run of each command over a file of as many bytes as there is memory."""
+    lines = {("klist", "-k", "k"): b"", ("ktfind", "k", "0", "0", "b@R"): b"",
+             ("ktedit", "k"): b"start\n", ("ktutil",): b"rkt k\n"}
+    files = {"k": sized(LIMIT)}
+    return [Case(f"a file as large as the memory: {' '.join(words)}", words, NO_MEMORY, files,
+                 stdin=stdin) for words, stdin in lines.items()]
+
+
 def check(report: Report, program: str) -> None:
     """Runs all of this topic."""
     for case in cases():
         check_case(report, program, case)
+    for case in without_room():
+        got = run_case(program, case, preexec_fn=limit(resource.RLIMIT_AS, LIMIT))
+        report.check(case.name, faults_of(case, *got))
     for case in all_cases():
         faults = faults_in(program, case, resource.RLIMIT_STACK, STACK)
         report.check(f"{case.name}, on a stack of 256 KB", faults)
