@@ -1,5 +1,5 @@
 -- The new file beside one that is to be saved.
-use Rattle.std.specs.Prelude.{◌≡◌, ℕ, List, String, string_bytes}
+use Rattle.std.specs.Prelude.{◌≡◌, ℕ, List, [], ◌∷◌, String, string_bytes}
 use Rattle.krb_disk.specs.declared.calls.NewFile.{NewFile}
 use Rattle.krb_disk.specs.declared.new_file.Attempt.{Attempt}
 use Rattle.krb_disk.specs.declared.new_file.Attempt.TheVariants as attempt
@@ -9,6 +9,11 @@ use Rattle.krb_disk.specs.declared.stage.Stage.TheVariants.{Held}
 pub record IsHeldAt {A F : Type 0} (path : List ℕ) (file : NewFile (String A) F) : Type 0 where
   pub named : string_bytes file.path ≡ path
   pub stage : file.stage ≡ Held
+
+-- these bytes were written to it, and no others, under that name
+pub record IsFilled {A F : Type 0} (path bytes : List ℕ) (file : NewFile (String A) F) : Type 0 where
+  pub named : string_bytes file.path ≡ path
+  pub written : file.written.entries ≡ (path, bytes) ∷ []
 
 -- a new file that was made and locked is held under that name
 abbrev pub HoldsAt : {A F : Type 0} → List ℕ → Attempt (NewFile (String A) F) → Type 0

@@ -1,24 +1,29 @@
 //! What is asked of the system and changes something, or decides that it may be changed.
 
-ghost use Rattle.std.specs.Prelude.{◌≡◌, ◌≤◌, IfOk, OnOk, IsTrue, string_bytes, vec_len};
+ghost use Rattle.std.specs.Prelude.{◌≡◌, ◌≤◌, [], ◌∷◌, IfOk, OnOk, OnErr, IsTrue, string_bytes, vec_len};
 ghost use Rattle.std.specs.Io.KnownBytes.{Appends};
-ghost use Rattle.krb_disk.specs.Stages.{private_mode, IsDueMode, IsFound, IsSame, stood, compared, synced, seen_file};
+ghost use Rattle.std.specs.Path.{path_buf_bytes};
+ghost use Rattle.krb_disk.specs.NewFile.{IsFilled};
+ghost use Rattle.krb_disk.specs.Stages.{private_mode, IsDueMode, IsFound, IsSame, stood, synced, seen_file};
 ghost use Rattle.krb_disk.specs.Target.{new_path};
-ghost use Rattle.krb_disk.specs.declared.stage.Stage.TheVariants.{Made, Locked, Agreed, Held, Written, Told, Permitted, Ours, Renamed};
+ghost use Rattle.krb_disk.specs.declared.stage.Stage.TheVariants.{Made, Locked, Agreed, Held, Written, Told, Permitted, Ours, Same};
 
 mod leftover;
+mod log;
 
 use crate::fault::{DiskFault, ReadFault};
 use crate::lock::TakeLock;
-use crate::locks::{LockKind, is_locked};
+use crate::looks::locks::{LockKind, is_locked};
+use crate::looks::same::is_same_file;
 use crate::looks::{Found, Looks};
 use crate::noted::Noted;
 use crate::owner::{SetOwner, set_owner};
 use crate::read::read_file;
-use crate::same::is_same_file;
 use crate::seen::Seen;
 use crate::stage::Stage;
+use crate::target::Target;
 use krb_files::save;
+use log::Log;
 use std::alloc::Allocator;
 use std::fs::{self, OpenFile, OpenOptions, Permissions};
 use std::io::{self, ErrorKind};
@@ -30,6 +35,8 @@ use std::rt;
 pub struct Calls<'a, R> {
     rt: &'a R,
     looks: Looks<'a, R>,
+    /// The saves that came to their end.
+    saved: Log,
 }
 
 /// The new file, which only these calls reach.
@@ -39,6 +46,8 @@ pub struct NewFile<S, F> {
     path: S,
     file: Noted<F>,
     stage: Stage,
+    /// What was written to it.
+    written: Log,
 }
 
 // What is told of an open file.
@@ -57,10 +66,13 @@ fn stands_at<R: rt::Files>(looks: &Looks<'_, R>, path: &str, file: &R::File) -> 
 
 impl<'a, R: rt::Files> Calls<'a, R> {
     /// No call yet.
-    pub fn new(rt: &'a R) -> Calls<'a, R> {
+    pub fn new(rt: &'a R) -> Calls<'a, R>
+        ensures { result.saved.entries ≡ [] }
+    {
         Calls {
             rt,
             looks: Looks::new(rt),
+            saved: Log::new(),
         }
     }
 
@@ -70,19 +82,19 @@ impl<'a, R: rt::Files> Calls<'a, R> {
     }
 
     /// What stands under the name of the old file.
-    pub fn see(&mut self, path: &str) -> io::Result<Option<Found>> {
+    pub fn see(&self, path: &str) -> io::Result<Option<Found>> {
         self.looks.look(path)
     }
 
     /// Lets the names in a folder outlast a crash.
-    pub fn sync_folder(&mut self, folder: &str) -> io::Result<()> {
+    pub fn sync_folder(&self, folder: &str) -> io::Result<()> {
         fs::open(self.rt, folder)?.sync_all()
     }
 }
 
 impl<R: rt::Files + Alloc> Calls<'_, R> {
     /// Makes a file that no other may use, where there is none.
-    pub fn make(&mut self, path: &str, mode: u32) -> io::Result<NewFile<String<R::A>, R::File>>
+    pub fn make(&self, path: &str, mode: u32) -> io::Result<NewFile<String<R::A>, R::File>>
         requires private { mode ≡ private_mode }
         ensures path { IfOk result (λ file. string_bytes file.path ≡ path.now) }
         ensures stage { IfOk result (λ file. file.stage ≡ Made) }
@@ -95,14 +107,14 @@ impl<R: rt::Files + Alloc> Calls<'_, R> {
             path,
             file: Noted::new(file),
             stage: Stage::Made,
+            written: Log::new(),
         })
     }
 
     /// Whether the new file still stands under its name.
-    pub fn stands(&mut self, file: &mut NewFile<String<R::A>, R::File>) -> io::Result<bool>
-        ensures stage { IfOk result (λ is. IsTrue is → file.new.stage ≡ stood file.old.stage) }
+    pub fn stands(&self, file: &mut NewFile<String<R::A>, R::File>) -> io::Result<bool>
+        ensures stage { IfOk result (λ is. IsTrue is → file.new ≡ record file.old { stage = stood file.old.stage }) }
         ensures found { IfOk result (λ is. IsTrue is → IsFound file.new.stage) }
-        ensures path { file.new.path ≡ file.old.path }
     {
         let stands = stands_at(&self.looks, &file.path, &file.file.file)?;
         file.stage = if stands {
@@ -115,10 +127,10 @@ impl<R: rt::Files + Alloc> Calls<'_, R> {
 
     /// Opens another handle of the new file, which is none of the standard streams, also where one of these is
     /// closed.
-    pub fn double(&mut self, file: &mut NewFile<String<R::A>, R::File>) -> io::Result<()>
+    pub fn double(&self, file: &mut NewFile<String<R::A>, R::File>) -> io::Result<()>
         requires agreed { file.old.stage ≡ Agreed }
         ensures stage { OnOk result (file.new.stage ≡ Held) }
-        ensures path { file.new.path ≡ file.old.path }
+        ensures path { OnOk result (file.new.path ≡ file.old.path) }
     {
         file.stage = Stage::Lost;
         file.file = Noted::new(file.file.file.try_clone()?);
@@ -127,37 +139,32 @@ impl<R: rt::Files + Alloc> Calls<'_, R> {
     }
 
     /// Removes the new file.
-    pub fn remove(&mut self, file: &NewFile<String<R::A>, R::File>) -> io::Result<()>
+    pub fn remove(&self, file: &NewFile<String<R::A>, R::File>) -> io::Result<()>
         requires found { IsFound file.now.stage }
     {
         fs::remove_file(self.rt, &file.path)
     }
 
     /// Writes all the bytes to the new file.
-    pub fn write(
-        &mut self,
-        new: &mut NewFile<String<R::A>, R::File>,
-        bytes: &[u8],
-    ) -> io::Result<()>
+    pub fn write(&self, new: &mut NewFile<String<R::A>, R::File>, bytes: &[u8]) -> io::Result<()>
         requires held { new.old.stage ≡ Held }
         ensures written { OnOk result (Appends (R.File.contents new.old.file.file) (R.File.contents new.new.file.file) bytes.now) }
+        ensures filled { OnOk result (IsFilled (string_bytes new.old.path) bytes.now new.new) }
         ensures stage { OnOk result (new.new.stage ≡ Written) }
-        ensures path { new.new.path ≡ new.old.path }
     {
         new.stage = Stage::Lost;
         if save(&mut new.file, bytes).is_err() {
             return Err(new.file.error());
         }
         new.stage = Stage::Written;
+        new.written = Log::with(&Log::new(), new.path.as_bytes(), bytes);
         Ok(())
     }
 
     /// What is told of the new file.
-    pub fn stat(&mut self, file: &mut NewFile<String<R::A>, R::File>) -> io::Result<Found>
+    pub fn stat(&self, file: &mut NewFile<String<R::A>, R::File>) -> io::Result<Found>
         requires written { file.old.stage ≡ Written }
-        ensures stage { IfOk result (λ found. file.new.stage ≡ Told found) }
-        ensures path { file.new.path ≡ file.old.path }
-        ensures bytes { file.new.file ≡ file.old.file }
+        ensures { IfOk result (λ found. file.new ≡ record file.old { stage = Told found }) }
     {
         let found = tell(&file.file.file)?;
         file.stage = Stage::Told(found);
@@ -166,15 +173,13 @@ impl<R: rt::Files + Alloc> Calls<'_, R> {
 
     /// Gives the new file the mode that is due where it takes the place of that file, or of none.
     pub fn permit(
-        &mut self,
+        &self,
         file: &mut NewFile<String<R::A>, R::File>,
         old: Option<Found>,
         mode: u32,
     ) -> io::Result<()>
         requires due { IsDueMode old file.old.stage mode }
-        ensures stage { OnOk result (file.new.stage ≡ Permitted old) }
-        ensures path { file.new.path ≡ file.old.path }
-        ensures bytes { file.new.file ≡ file.old.file }
+        ensures { OnOk result (file.new ≡ record file.old { stage = Permitted old }) }
     {
         file.stage = Stage::Lost;
         file.file
@@ -185,10 +190,8 @@ impl<R: rt::Files + Alloc> Calls<'_, R> {
     }
 
     /// Lets the new file outlast a crash.
-    pub fn sync(&mut self, file: &mut NewFile<String<R::A>, R::File>) -> io::Result<()>
-        ensures stage { OnOk result (file.new.stage ≡ synced file.old.stage) }
-        ensures path { file.new.path ≡ file.old.path }
-        ensures bytes { file.new.file ≡ file.old.file }
+    pub fn sync(&self, file: &mut NewFile<String<R::A>, R::File>) -> io::Result<()>
+        ensures { OnOk result (file.new ≡ record file.old { stage = synced file.old.stage }) }
     {
         let synced = file.stage.synced();
         file.stage = Stage::Lost;
@@ -199,7 +202,7 @@ impl<R: rt::Files + Alloc> Calls<'_, R> {
 
     /// Loads the old file.
     pub fn load<A: Allocator>(
-        &mut self,
+        &self,
         alloc: A,
         path: &str,
         limit: u32,
@@ -211,15 +214,14 @@ impl<R: rt::Files + Alloc> Calls<'_, R> {
 
     /// Whether what was seen of the old file stands under its name now.
     pub fn compare(
-        &mut self,
+        &self,
         file: &mut NewFile<String<R::A>, R::File>,
         path: &str,
         seen: &Seen<R::A>,
     ) -> Result<bool, DiskFault>
         requires ours { file.old.stage ≡ Ours (seen_file seen.now) }
         requires beside { string_bytes file.old.path ≡ new_path path.now }
-        ensures stage { IfOk result (λ is. IsTrue is → IsSame file.new.stage) }
-        ensures path { file.new.path ≡ file.old.path }
+        ensures { IfOk result (λ is. IsTrue is → file.new ≡ record file.old { stage = Same (seen_file seen.now) }) }
     {
         let is_same = seen.is_at(&self.looks, path)?;
         file.stage = if is_same {
@@ -231,19 +233,26 @@ impl<R: rt::Files + Alloc> Calls<'_, R> {
     }
 
     /// Whether no program has locked the old file to write in it.
-    pub fn is_quiet(&mut self, seen: &Found) -> Result<bool, DiskFault> {
+    pub fn is_quiet(&self, seen: &Found) -> Result<bool, DiskFault> {
         Ok(!is_locked(&self.looks, seen, LockKind::Record)?)
     }
 
-    /// Gives the new file the name of the old one.
-    pub fn rename(&mut self, file: &mut NewFile<String<R::A>, R::File>, to: &str) -> io::Result<()>
+    /// Gives the new file, which has these bytes, the name of the old one. That ends a save.
+    pub fn rename(
+        &mut self,
+        file: &mut NewFile<String<R::A>, R::File>,
+        target: &Target<R::A>,
+        bytes: &[u8],
+    ) -> io::Result<()>
         requires same { IsSame file.old.stage }
-        requires beside { string_bytes file.old.path ≡ new_path to.now }
-        ensures { OnOk result (file.new.stage ≡ Renamed) }
+        requires filled { IsFilled (new_path (path_buf_bytes target.now.path)) bytes.now file.old }
+        ensures ok { OnOk result (self.new.saved.entries
+            ≡ (string_bytes target.now.name, bytes.now) ∷ self.old.saved.entries) }
+        ensures err { OnErr result (self.new.saved.entries ≡ self.old.saved.entries) }
     {
         file.stage = Stage::Lost;
-        fs::rename(self.rt, &file.path, to)?;
-        file.stage = Stage::Renamed;
+        fs::rename(self.rt, &file.path, target.path())?;
+        self.saved = Log::with(&self.saved, target.name().as_bytes(), bytes);
         Ok(())
     }
 }
@@ -253,10 +262,9 @@ where
     R::File: TakeLock,
 {
     /// Locks the new file, and answers whether it was free. Where there are no locks, who made the file has it.
-    pub fn lock(&mut self, file: &mut NewFile<String<R::A>, R::File>) -> io::Result<bool>
+    pub fn lock(&self, file: &mut NewFile<String<R::A>, R::File>) -> io::Result<bool>
         requires made { file.old.stage ≡ Made }
-        ensures stage { IfOk result (λ is. IsTrue is → file.new.stage ≡ Locked) }
-        ensures path { file.new.path ≡ file.old.path }
+        ensures { IfOk result (λ is. IsTrue is → file.new ≡ record file.old { stage = Locked }) }
     {
         let is_locked = match file.file.file.take_lock() {
             Err(error) if error.kind() == ErrorKind::Unsupported => true,
@@ -275,7 +283,7 @@ where
 {
     /// Sets the owner and the group of the new file. The answer is whether that was allowed.
     pub fn own(
-        &mut self,
+        &self,
         file: &NewFile<String<R::A>, R::File>,
         owner: Option<u32>,
         group: u32,

@@ -1,8 +1,7 @@
 //! The files of a disk.
 
-ghost use Rattle.std.specs.Prelude.{◌≡◌, ◌≤◌, ◌<◌, None, IfOk, IsSome, vec_len};
-ghost use Rattle.krb_files.specs.Files.{CountsFailure};
-ghost use Rattle.krb_disk.specs.DiskFiles.{Failures, AnswersFromDisk, SavesToDisk};
+ghost use Rattle.std.specs.Prelude.{◌≡◌, ◌≤◌, ◌<◌, [], ◌∷◌, None, IfOk, OnOk, OnErr, IsSome, string_bytes, vec_len};
+ghost use Rattle.krb_disk.specs.DiskFiles.{Disk, Fails, AnswersFromDisk, SavesToDisk};
 
 use crate::calls::Calls;
 use crate::fault::{DiskFault, ReadFault};
@@ -15,8 +14,8 @@ use std::alloc::Allocator;
 use std::marker::Model;
 use std::rt;
 
-/// The files of a disk. Nothing is known of what they hold; contracts see how many calls failed, and what the
-/// last of them failed with. A load reads the whole file. A save makes a new file of the bytes, which then takes
+/// The files of a disk. Nothing is known of what they hold; contracts see how many calls failed, what the last of
+/// them failed with, and which saves made all their calls. A load reads the whole file. A save makes a new file of the bytes, which then takes
 /// the name: whatever fails, the file is the old or the new one. A file that is held is saved only while it is
 /// as it was loaded.
 #[derive(Drop)]
@@ -29,9 +28,13 @@ pub struct DiskFiles<'a, R: rt::Files + Alloc> {
 }
 
 impl<'a, R: rt::Files + Alloc> Model for DiskFiles<'a, R> {
-    ghost Value = { Failures };
+    ghost Value = { Disk };
 
-    ghost view = { λ files. (files.failures, files.cause) };
+    ghost view = { λ files. record {
+      failures = files.failures;
+      cause = files.cause;
+      saved = files.calls.saved.entries;
+    } };
 
     // A failure that was counted has a cause.
     ghost invariant = { λ files. 0 < files.failures → IsSome files.cause };
@@ -40,7 +43,7 @@ impl<'a, R: rt::Files + Alloc> Model for DiskFiles<'a, R> {
 impl<'a, R: rt::Files + Alloc> DiskFiles<'a, R> {
     /// The files that `rt` reaches, of which no call failed yet.
     pub fn new(rt: &'a R) -> DiskFiles<'a, R>
-        ensures { result ≡ (0, None) }
+        ensures { result ≡ record { failures = 0; cause = None; saved = [] } }
     {
         DiskFiles {
             calls: Calls::new(rt),
@@ -52,9 +55,8 @@ impl<'a, R: rt::Files + Alloc> DiskFiles<'a, R> {
 
     // Counts a failure, as far as a u64 counts.
     fn count_failure(&mut self, cause: Cause)
-        ensures counted { CountsFailure self.old.0 self.new.0 }
-        ensures count { self.old.0 ≤ self.new.0 }
-        ensures told { IsSome self.new.1 }
+        ensures fails { Fails self.old self.new }
+        ensures count { self.old.failures ≤ self.new.failures }
     {
         self.failures = self.failures.saturating_add(1);
         self.cause = Some(cause);
@@ -76,7 +78,7 @@ where
         ensures within { IfOk result (λ bytes. vec_len bytes ≤ limit) }
     {
         match &mut self.held {
-            Some(Ok(hold)) if hold.is_of(name) => hold.load(&mut self.calls, alloc, limit),
+            Some(Ok(hold)) if hold.is_of(name) => hold.load(&self.calls, alloc, limit),
             _ => match read_file(self.calls.looks(), alloc, name, limit) {
                 Ok((_, bytes)) => Ok(bytes),
                 Err(fault) => Err(fault),
@@ -86,23 +88,26 @@ where
 
     // The hold of that file, which is taken now where none was asked for before.
     fn take_hold(&mut self, name: &str) -> Result<Hold<R>, DiskFault>
-        ensures { self.new ≡ self.old }
+        ensures same { self.new ≡ self.old }
+        ensures named { IfOk result (λ hold. string_bytes hold.target.name ≡ name.now) }
     {
         match self.held.take() {
             Some(Ok(hold)) => {
                 if hold.is_of(name) {
                     return Ok(hold);
                 }
-                hold.release(&mut self.calls);
-                Hold::take(&mut self.calls, name)
+                hold.release(&self.calls);
+                Hold::take(&self.calls, name)
             }
             Some(Err(fault)) => Err(fault),
-            None => Hold::take(&mut self.calls, name),
+            None => Hold::take(&self.calls, name),
         }
     }
 
     fn save_held(&mut self, name: &str, bytes: &[u8]) -> Result<(), DiskFault>
-        ensures { self.new ≡ self.old }
+        ensures ok { OnOk result (self.new
+            ≡ record self.old { saved = (name.now, bytes.now) ∷ self.old.saved }) }
+        ensures err { OnErr result (self.new ≡ self.old) }
     {
         let hold = self.take_hold(name)?;
         hold.save(&mut self.calls, bytes)
@@ -117,20 +122,20 @@ where
 
     ghost is_honest = { λ _. ⊥ };
 
-    ghost failure_count = { λ failures. failures.0 };
+    ghost failure_count = { λ disk. disk.failures };
 
     ghost answers = { λ old _ limit answer new. AnswersFromDisk old new limit answer };
 
-    ghost saves = { λ old _ _ answer new. SavesToDisk old new answer };
+    ghost saves = { λ old name bytes answer new. SavesToDisk old name bytes new answer };
 
     fn hold(&mut self, name: &str) {
         self.release();
-        self.held = Some(Hold::take(&mut self.calls, name));
+        self.held = Some(Hold::take(&self.calls, name));
     }
 
     fn release(&mut self) {
         if let Some(Ok(hold)) = self.held.take() {
-            hold.release(&mut self.calls);
+            hold.release(&self.calls);
         }
     }
 
@@ -174,7 +179,7 @@ where
     }
 
     fn cause(&self) -> Option<Cause>
-        ensures { result ≡ self.now.1 }
+        ensures { result ≡ self.now.cause }
     {
         self.cause
     }

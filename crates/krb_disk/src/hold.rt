@@ -1,11 +1,11 @@
 //! A file that this program alone may change.
 
-ghost use Rattle.std.specs.Prelude.{◌≡◌, ◌≤◌, ◌↔◌, IfOk, OnOk, IsTrue, string_bytes, vec_len};
+ghost use Rattle.std.specs.Prelude.{◌≡◌, ◌≤◌, ◌∷◌, ◌↔◌, IfOk, OnOk, OnErr, IsTrue, string_bytes, vec_len};
 ghost use Rattle.std.specs.Path.{path_buf_bytes};
 ghost use Rattle.krb_disk.specs.NewFile.{IsHeldAt};
-ghost use Rattle.krb_disk.specs.Stages.{IsSame, seen_file};
+ghost use Rattle.krb_disk.specs.Stages.{seen_file};
 ghost use Rattle.krb_disk.specs.Target.{new_path};
-ghost use Rattle.krb_disk.specs.declared.stage.Stage.TheVariants.{Synced, Renamed};
+ghost use Rattle.krb_disk.specs.declared.stage.Stage.TheVariants.{Synced, Same};
 
 use crate::calls::{Calls, NewFile};
 use crate::fault::{DiskFault, ReadFault};
@@ -16,28 +16,25 @@ use crate::owner::SetOwner;
 use crate::patience::{MOST_TRIES, Patience};
 use crate::save::fill;
 use crate::seen::Seen;
-use crate::target::{find_target, folder_of};
+use crate::target::{Target, find_target};
 use krb_files::Cause;
 use std::alloc::Allocator;
 use std::io::ErrorKind;
-use std::path::PathBuf;
 use std::rt;
 
 /// A file that this program alone may change, among all that hold a file before they change it: it has
 /// made and locked the new file beside it, `NAME.krbfile`.
 #[derive(Drop)]
 pub struct Hold<R: rt::Files + Alloc> {
-    /// The name by which the file was asked for.
-    name: String<R::A>,
-    path: PathBuf<R::A>,
+    target: Target<R::A>,
     new_file: NewFile<String<R::A>, R::File>,
     seen: Seen<R::A>,
-    ghost is_held: { IsHeldAt (new_path (path_buf_bytes path)) new_file },
+    ghost is_held: { IsHeldAt (new_path (path_buf_bytes target.path)) new_file },
 }
 
 // Makes and locks the new file, once no other program has it.
 fn make_new_file<R: rt::Files + rt::Clock + Alloc>(
-    calls: &mut Calls<'_, R>,
+    calls: &Calls<'_, R>,
     path: &str,
     owner: Option<u32>,
     patience: &mut Patience,
@@ -60,7 +57,7 @@ where
 
 // What stands under the name, once no program that holds no file, as MIT's, has locked it.
 fn wait_until_quiet<R: rt::Files + rt::Clock + Alloc>(
-    calls: &mut Calls<'_, R>,
+    calls: &Calls<'_, R>,
     path: &str,
     patience: &mut Patience,
 ) -> Result<Option<Found>, DiskFault> {
@@ -79,15 +76,14 @@ fn wait_until_quiet<R: rt::Files + rt::Clock + Alloc>(
 // Fails where another program has put something else in the new file's place, has changed the file since
 // it was loaded, or has locked it to change it.
 fn check<R: rt::Files + Alloc>(
-    calls: &mut Calls<'_, R>,
+    calls: &Calls<'_, R>,
     new_file: &mut NewFile<String<R::A>, R::File>,
     path: &str,
     seen: &Seen<R::A>,
 ) -> Result<(), DiskFault>
     requires synced { new_file.old.stage ≡ Synced (seen_file seen.now) }
     requires beside { string_bytes new_file.old.path ≡ new_path path.now }
-    ensures same { OnOk result (IsSame new_file.new.stage) }
-    ensures path { new_file.new.path ≡ new_file.old.path }
+    ensures { OnOk result (new_file.new ≡ record new_file.old { stage = Same (seen_file seen.now) }) }
 {
     if !calls.stands(new_file)? || !calls.compare(new_file, path, seen)? {
         return Err(DiskFault::Failed(Cause::Changed));
@@ -102,18 +98,20 @@ fn check<R: rt::Files + Alloc>(
 fn replace<R: rt::Files + Alloc>(
     calls: &mut Calls<'_, R>,
     new_file: &mut NewFile<String<R::A>, R::File>,
-    path: &str,
+    target: &Target<R::A>,
     seen: &Seen<R::A>,
     bytes: &[u8],
 ) -> Result<(), DiskFault>
 where
     R::File: SetOwner,
-    requires { IsHeldAt (new_path path.now) new_file.old }
-    ensures { OnOk result (new_file.new.stage ≡ Renamed) }
+    requires { IsHeldAt (new_path (path_buf_bytes target.now.path)) new_file.old }
+    ensures ok { OnOk result (calls.new.saved.entries
+        ≡ (string_bytes target.now.name, bytes.now) ∷ calls.old.saved.entries) }
+    ensures err { OnErr result (calls.new.saved.entries ≡ calls.old.saved.entries) }
 {
     fill(calls, new_file, bytes, seen.file())?;
-    check(calls, new_file, path, seen)?;
-    match calls.rename(new_file, path) {
+    check(calls, new_file, target.path(), seen)?;
+    match calls.rename(new_file, target, bytes) {
         Err(error) if error.kind() == ErrorKind::ResourceBusy => {
             Err(DiskFault::Failed(Cause::MountPoint))
         }
@@ -126,16 +124,16 @@ where
     R::File: SetOwner + TakeLock,
 {
     /// Holds the file to which a name leads, or the free name; waits where another program does.
-    pub fn take(calls: &mut Calls<'_, R>, name: &str) -> Result<Hold<R>, DiskFault> {
+    pub fn take(calls: &Calls<'_, R>, name: &str) -> Result<Hold<R>, DiskFault>
+        ensures { IfOk result (λ hold. string_bytes hold.target.name ≡ name.now) }
+    {
         let target = find_target(calls.looks(), name)?;
         let new_path = target.new_path(calls.looks().alloc())?;
-        let name = String::from_str(calls.looks().alloc(), name)?;
         let mut patience = Patience::new();
         let mut new_file = make_new_file(calls, &new_path, target.owner(), &mut patience)?;
-        match wait_until_quiet(calls, target.path.as_str(), &mut patience) {
+        match wait_until_quiet(calls, target.path(), &mut patience) {
             Ok(found) => Ok(Hold {
-                name,
-                path: target.path,
+                target,
                 new_file,
                 seen: Seen::of(found),
             }),
@@ -148,21 +146,22 @@ where
 
     /// Whether it was taken by that name.
     pub fn is_of(&self, name: &str) -> bool
-        ensures { IsTrue result ↔ (string_bytes self.now.name ≡ name.now) }
+        ensures { IsTrue result ↔ (string_bytes self.now.target.name ≡ name.now) }
     {
-        self.name.as_str() == name
+        self.target.name() == name
     }
 
     /// Loads the file, and remembers which one that was, and its bytes.
     pub fn load<A: Allocator>(
         &mut self,
-        calls: &mut Calls<'_, R>,
+        calls: &Calls<'_, R>,
         alloc: A,
         limit: u32,
     ) -> Result<Vec<u8, A>, ReadFault>
-        ensures { IfOk result (λ bytes. vec_len bytes ≤ limit) }
+        ensures named { self.new.target ≡ self.old.target }
+        ensures within { IfOk result (λ bytes. vec_len bytes ≤ limit) }
     {
-        match calls.load(alloc, self.path.as_str(), limit) {
+        match calls.load(alloc, self.target.path(), limit) {
             Ok((file, bytes)) => {
                 let Ok(copy) = Vec::from_slice(calls.looks().alloc(), &bytes) else {
                     return Err(ReadFault::Disk(DiskFault::NoMemory));
@@ -179,16 +178,19 @@ where
     }
 
     /// Saves the bytes in the file, or fails and leaves it as it was.
-    pub fn save(self, calls: &mut Calls<'_, R>, bytes: &[u8]) -> Result<(), DiskFault> {
+    pub fn save(self, calls: &mut Calls<'_, R>, bytes: &[u8]) -> Result<(), DiskFault>
+        ensures ok { OnOk result (calls.new.saved.entries
+            ≡ (string_bytes self.target.name, bytes.now) ∷ calls.old.saved.entries) }
+        ensures err { OnErr result (calls.new.saved.entries ≡ calls.old.saved.entries) }
+    {
         let Hold {
-            path,
+            target,
             mut new_file,
             seen,
-            ..
         } = self;
-        match replace(calls, &mut new_file, path.as_str(), &seen, bytes) {
+        match replace(calls, &mut new_file, &target, &seen, bytes) {
             Ok(()) => {
-                let _ = calls.sync_folder(folder_of(&path));
+                let _ = calls.sync_folder(target.folder());
                 Ok(())
             }
             Err(fault) => {
@@ -199,7 +201,7 @@ where
     }
 
     /// Leaves the file to other programs.
-    pub fn release(self, calls: &mut Calls<'_, R>) {
+    pub fn release(self, calls: &Calls<'_, R>) {
         let Hold { mut new_file, .. } = self;
         let _ = remove_own(calls, &mut new_file);
     }

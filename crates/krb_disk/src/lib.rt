@@ -6,7 +6,6 @@ mod disk_files;
 mod fault;
 mod hold;
 mod lock;
-mod locks;
 mod looks;
 mod mode;
 mod new_file;
@@ -14,14 +13,12 @@ mod noted;
 mod owner;
 mod patience;
 mod read;
-mod same;
 mod save;
 mod seen;
 mod stage;
 mod target;
 #[cfg(test)]
 mod tests;
-mod users;
 
 pub use disk_files::DiskFiles;
 pub use lock::TakeLock;

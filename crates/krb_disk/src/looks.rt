@@ -2,6 +2,10 @@
 
 ghost use Rattle.std.specs.Prelude.{◌≡◌, ◌↔◌, IsTrue, bit_and};
 
+pub mod locks;
+pub mod same;
+pub mod users;
+
 use std::fs::{self, Metadata, OpenFile};
 use std::io::{self, ErrorKind, Read};
 use std::os::unix::fs::MetadataExt;

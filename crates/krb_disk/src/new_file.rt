@@ -1,15 +1,15 @@
 //! The new file beside one that is to be saved. Who has made and locked it may change that one.
 
-ghost use Rattle.std.specs.Prelude.{◌≡◌, IfOk, IsTrue};
-ghost use Rattle.krb_disk.specs.NewFile.{HoldsAt};
-ghost use Rattle.krb_disk.specs.declared.stage.Stage.TheVariants.{Made, Held};
+ghost use Rattle.std.specs.Prelude.{◌≡◌, IfOk, IsTrue, string_bytes};
+ghost use Rattle.krb_disk.specs.NewFile.{HoldsAt, IsHeldAt};
+ghost use Rattle.krb_disk.specs.declared.stage.Stage.TheVariants.{Made};
 
 use crate::calls::{Calls, NewFile};
 use crate::fault::DiskFault;
 use crate::lock::TakeLock;
-use crate::locks::{LockKind, is_locked};
 use crate::looks::Found;
-use crate::users::Users;
+use crate::looks::locks::{LockKind, is_locked};
+use crate::looks::users::Users;
 use std::io::{self, ErrorKind};
 use std::rt;
 
@@ -29,7 +29,7 @@ pub enum Attempt<F> {
 
 /// Removes a new file of ours, unless something else stands under its name.
 pub fn remove_own<R: rt::Files + Alloc>(
-    calls: &mut Calls<'_, R>,
+    calls: &Calls<'_, R>,
     file: &mut NewFile<String<R::A>, R::File>,
 ) -> io::Result<()> {
     if calls.stands(file)? {
@@ -40,14 +40,13 @@ pub fn remove_own<R: rt::Files + Alloc>(
 
 // Locks a file that was just made, and opens another handle of it. The answer is whether it is ours then.
 fn lock_new<R: rt::Files + Alloc>(
-    calls: &mut Calls<'_, R>,
+    calls: &Calls<'_, R>,
     file: &mut NewFile<String<R::A>, R::File>,
 ) -> io::Result<bool>
 where
     R::File: TakeLock,
     requires { file.old.stage ≡ Made }
-    ensures stage { IfOk result (λ is. IsTrue is → file.new.stage ≡ Held) }
-    ensures path { file.new.path ≡ file.old.path }
+    ensures { IfOk result (λ is. IsTrue is → IsHeldAt (string_bytes file.old.path) file.new) }
 {
     if !calls.lock(file)? || !calls.stands(file)? {
         return Ok(false);
@@ -59,7 +58,7 @@ where
 // Removes a file that no program has locked, under a lock of its own. The answer is whether the new file may be
 // made now or soon.
 fn remove_abandoned<R: rt::Files + Alloc>(
-    calls: &mut Calls<'_, R>,
+    calls: &Calls<'_, R>,
     path: &str,
     users: Users,
 ) -> io::Result<bool>
@@ -81,7 +80,7 @@ where
 
 // Tells what stands where the new file is to be made, and removes it where a killed run left it.
 fn clear_place<R: rt::Files + Alloc>(
-    calls: &mut Calls<'_, R>,
+    calls: &Calls<'_, R>,
     path: &str,
     found: &Found,
     owner: Option<u32>,
@@ -102,7 +101,7 @@ where
 
 // What stands where the new file is to be made is in use if a program has locked it.
 fn try_place<R: rt::Files + Alloc>(
-    calls: &mut Calls<'_, R>,
+    calls: &Calls<'_, R>,
     path: &str,
     owner: Option<u32>,
 ) -> Result<bool, DiskFault>
@@ -120,7 +119,7 @@ where
 
 /// Tries to make the new file of that name, beside a file of that owner, and to lock it.
 pub fn make_locked<R: rt::Files + Alloc>(
-    calls: &mut Calls<'_, R>,
+    calls: &Calls<'_, R>,
     path: &str,
     owner: Option<u32>,
 ) -> Result<Attempt<NewFile<String<R::A>, R::File>>, DiskFault>

@@ -1,7 +1,8 @@
 //! What a save writes.
 
-ghost use Rattle.std.specs.Prelude.{◌≡◌, Some, OnOk};
+ghost use Rattle.std.specs.Prelude.{◌≡◌, Some, OnOk, string_bytes};
 ghost use Rattle.std.specs.Io.KnownBytes.{Appends};
+ghost use Rattle.krb_disk.specs.NewFile.{IsFilled};
 ghost use Rattle.krb_disk.specs.declared.stage.Stage.TheVariants.{Held, Written, Permitted, Synced};
 
 use crate::calls::{Calls, NewFile};
@@ -14,7 +15,7 @@ use std::rt;
 
 // Gives a new file the owner and the group of the old one, as far as that is allowed.
 fn give_owner<R: rt::Files + Alloc>(
-    calls: &mut Calls<'_, R>,
+    calls: &Calls<'_, R>,
     file: &NewFile<String<R::A>, R::File>,
     old: &Found,
 ) -> Result<(), DiskFault>
@@ -30,16 +31,14 @@ where
 
 // Gives a new file what it inherits from the old one, and the mode that this leaves.
 fn inherit<R: rt::Files + Alloc>(
-    calls: &mut Calls<'_, R>,
+    calls: &Calls<'_, R>,
     file: &mut NewFile<String<R::A>, R::File>,
     old: Found,
 ) -> Result<(), DiskFault>
 where
     R::File: SetOwner,
     requires { file.old.stage ≡ Written }
-    ensures stage { OnOk result (file.new.stage ≡ Permitted (Some old)) }
-    ensures path { file.new.path ≡ file.old.path }
-    ensures bytes { file.new.file ≡ file.old.file }
+    ensures { OnOk result (file.new ≡ record file.old { stage = Permitted (Some old) }) }
 {
     give_owner(calls, file, &old)?;
     let new = calls.stat(file)?;
@@ -52,16 +51,14 @@ where
 
 // Gives a new file its owner and its mode.
 fn give_mode<R: rt::Files + Alloc>(
-    calls: &mut Calls<'_, R>,
+    calls: &Calls<'_, R>,
     file: &mut NewFile<String<R::A>, R::File>,
     old: Option<Found>,
 ) -> Result<(), DiskFault>
 where
     R::File: SetOwner,
     requires { file.old.stage ≡ Written }
-    ensures stage { OnOk result (file.new.stage ≡ Permitted old) }
-    ensures path { file.new.path ≡ file.old.path }
-    ensures bytes { file.new.file ≡ file.old.file }
+    ensures { OnOk result (file.new ≡ record file.old { stage = Permitted old }) }
 {
     match old {
         Some(old) => inherit(calls, file, old),
@@ -71,7 +68,7 @@ where
 
 /// Writes the new file whole, with the mode that it is to have.
 pub fn fill<R: rt::Files + Alloc>(
-    calls: &mut Calls<'_, R>,
+    calls: &Calls<'_, R>,
     new: &mut NewFile<String<R::A>, R::File>,
     bytes: &[u8],
     old: Option<Found>,
@@ -80,8 +77,8 @@ where
     R::File: SetOwner,
     requires { new.old.stage ≡ Held }
     ensures written { OnOk result (Appends (R.File.contents new.old.file.file) (R.File.contents new.new.file.file) bytes.now) }
+    ensures filled { OnOk result (IsFilled (string_bytes new.old.path) bytes.now new.new) }
     ensures stage { OnOk result (new.new.stage ≡ Synced old) }
-    ensures path { new.new.path ≡ new.old.path }
 {
     calls.write(new, bytes)?;
     give_mode(calls, new, old)?;

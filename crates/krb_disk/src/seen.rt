@@ -4,9 +4,9 @@ ghost use Rattle.std.specs.Prelude.{◌≡◌};
 ghost use Rattle.krb_disk.specs.Stages.{seen_file};
 
 use crate::fault::DiskFault;
+use crate::looks::same::is_unchanged;
 use crate::looks::{Found, Looks};
 use crate::read::has_bytes;
-use crate::same::is_unchanged;
 use std::alloc::Allocator;
 use std::{io, rt};
 

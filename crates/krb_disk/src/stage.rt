@@ -25,11 +25,9 @@ pub enum Stage {
     Ours(Option<Found>),
     /// And what was seen of the old file stands under the old one's name.
     Same(Option<Found>),
-    /// It has the old file's name.
-    Renamed,
     /// It stands under its name, and is not to be saved.
     Ended,
-    /// Something else has its name, or a call failed.
+    /// It has the old file's name, or something else has its own, or a call failed.
     Lost,
 }
 

@@ -5,8 +5,8 @@ ghost use Rattle.std.specs.Path.{path_buf_bytes, path_parent};
 ghost use Rattle.krb_disk.specs.Target.{folder, new_path};
 
 use crate::fault::DiskFault;
+use crate::looks::same::is_same_file;
 use crate::looks::{Found, Looks};
-use crate::same::is_same_file;
 use krb_files::Cause;
 use std::alloc::{AllocError, Allocator};
 use std::io::{self, ErrorKind};
@@ -25,12 +25,38 @@ const SUFFIX: &str = ".krbfile";
 /// The place of a file that is to be changed.
 #[derive(Drop)]
 pub struct Target<A: Allocator> {
-    pub path: PathBuf<A>,
+    /// The name by which it was asked for.
+    name: String<A>,
+    path: PathBuf<A>,
     /// What is known of the file that stands there.
-    pub old: Option<Found>,
+    old: Option<Found>,
 }
 
 impl<A: Allocator> Target<A> {
+    /// The name by which it was asked for.
+    pub fn name(&self) -> &str
+        ensures { result.now ≡ string_bytes self.now.name }
+    {
+        self.name.as_str()
+    }
+
+    /// Where it stands.
+    pub fn path(&self) -> &str
+        ensures { result.now ≡ path_buf_bytes self.now.path }
+    {
+        self.path.as_str()
+    }
+
+    /// The folder in which it stands.
+    pub fn folder(&self) -> &str
+        ensures { result.now ≡ folder (path_parent (path_buf_bytes self.now.path)) }
+    {
+        match self.path.parent() {
+            Some(folder) if folder.as_str() != "" => folder.as_str(),
+            _ => ".",
+        }
+    }
+
     /// The name of the new file, beside the old one.
     pub fn new_path<B: Allocator>(&self, alloc: B) -> Result<String<B>, AllocError>
         ensures { IfOk result (λ name. string_bytes name ≡ new_path (path_buf_bytes self.now.path)) }
@@ -46,16 +72,6 @@ impl<A: Allocator> Target<A> {
     }
 }
 
-/// The folder of a file.
-pub fn folder_of<A: Allocator>(path: &PathBuf<A>) -> &str
-    ensures { result.now ≡ folder (path_parent (path_buf_bytes path.now)) }
-{
-    match path.parent() {
-        Some(folder) if folder.as_str() != "" => folder.as_str(),
-        _ => ".",
-    }
-}
-
 /// Follows symbolic links from a name to the file or the free name that they lead to. What is there but
 /// is no plain file is refused, and so are too many links, one of /proc that leads to no name, and the name
 /// of a new file.
@@ -64,6 +80,7 @@ pub fn find_target<R: rt::Files + Alloc>(
     name: &str,
 ) -> Result<Target<R::A>, DiskFault>
     ensures named { OnOk result (name.now ≢ []) }
+    ensures asked { IfOk result (λ target. string_bytes target.name ≡ name.now) }
     ensures plain { IfOk result (λ target. IfSome target.old (λ old. bit_and old.mode 0o170000 ≡ 0o100000)) }
 {
     if name.is_empty() {
@@ -94,18 +111,16 @@ fn follow_links<R: rt::Files + Alloc>(
     looks: &Looks<'_, R>,
     name: &str,
 ) -> Result<Target<R::A>, DiskFault>
+    ensures asked { IfOk result (λ target. string_bytes target.name ≡ name.now) }
     ensures plain { IfOk result (λ target. IfSome target.old (λ old. bit_and old.mode 0o170000 ≡ 0o100000)) }
 {
     let mut path = PathBuf::from_str(looks.alloc(), name)?;
+    let name = String::from_str(looks.alloc(), name)?;
     for _ in 0..=MOST_LINKS {
         match looks.look(path.as_str())? {
             Some(old) if old.is_link() => follow(looks, &mut path)?,
-            Some(old) if old.is_file() => return Ok(Target {
-                path,
-                old: Some(old),
-            }),
-            Some(_) => return Err(DiskFault::Failed(Cause::NotAPlainFile)),
-            None => return Ok(Target { path, old: None }),
+            Some(old) if !old.is_file() => return Err(DiskFault::Failed(Cause::NotAPlainFile)),
+            old => return Ok(Target { name, path, old }),
         }
     }
     Err(DiskFault::Failed(Cause::TooManyLinks))

@@ -4,7 +4,7 @@ ghost use Rattle.std.specs.Prelude.{◌≡◌, true, IfOk};
 
 use super::{Calls, stands_at, tell};
 use crate::lock::TakeLock;
-use crate::users::Users;
+use crate::looks::users::Users;
 use std::fs::{self, OpenOptions};
 use std::io::{self, ErrorKind};
 use std::rt;
@@ -30,11 +30,7 @@ fn open_leftover<R: rt::Files>(rt: &R, path: &str) -> io::Result<R::File> {
 
 impl<R: rt::Files> Calls<'_, R> {
     /// Whether a killed run has left what was opened.
-    pub fn is_abandoned(
-        &mut self,
-        file: &mut Leftover<'_, R::File>,
-        users: Users,
-    ) -> io::Result<bool>
+    pub fn is_abandoned(&self, file: &mut Leftover<'_, R::File>, users: Users) -> io::Result<bool>
         requires { file.old.is_locked ≡ true }
         ensures { IfOk result (λ is. file.new.is_abandoned ≡ is) }
     {
@@ -45,7 +41,7 @@ impl<R: rt::Files> Calls<'_, R> {
     }
 
     /// Removes what a killed run has left.
-    pub fn remove_leftover(&mut self, file: &Leftover<'_, R::File>) -> io::Result<()>
+    pub fn remove_leftover(&self, file: &Leftover<'_, R::File>) -> io::Result<()>
         requires abandoned { file.now.is_abandoned ≡ true }
     {
         fs::remove_file(self.rt, file.path)
@@ -57,7 +53,7 @@ where
     R::File: TakeLock,
 {
     /// Opens what stands under the name of the new file.
-    pub fn open_leftover<'p>(&mut self, path: &'p str) -> io::Result<Leftover<'p, R::File>> {
+    pub fn open_leftover<'p>(&self, path: &'p str) -> io::Result<Leftover<'p, R::File>> {
         Ok(Leftover {
             path,
             file: open_leftover(self.rt, path)?,
@@ -67,7 +63,7 @@ where
     }
 
     /// Locks it, and answers whether it was free.
-    pub fn lock_leftover(&mut self, file: &mut Leftover<'_, R::File>) -> io::Result<bool>
+    pub fn lock_leftover(&self, file: &mut Leftover<'_, R::File>) -> io::Result<bool>
         ensures { IfOk result (λ is. file.new.is_locked ≡ is) }
     {
         file.is_locked = file.file.take_lock()?;

@@ -1,7 +1,7 @@
 use super::calls::{CALLS, LEAVES, Saved, failed, save, some_calls};
 use super::disks::{Calls, Disk};
 use crate::DiskFiles;
-use crate::locks::{LockKind, is_locked};
+use crate::looks::locks::{LockKind, is_locked};
 use crate::looks::{Found, Looks};
 use krb_files::{Cause, Files};
 use std::alloc::Global;
