@@ -1,4 +1,5 @@
 -- What the contracts of this crate say.
+pub mod Disk
 pub mod DiskFiles
 pub mod Mode
 pub mod NewFile

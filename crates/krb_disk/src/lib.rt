@@ -5,6 +5,7 @@ mod calls;
 mod disk_files;
 mod fault;
 mod hold;
+mod laws;
 mod lock;
 mod looks;
 mod mode;
@@ -21,5 +22,6 @@ mod target;
 mod tests;
 
 pub use disk_files::DiskFiles;
+pub use laws::each_moment_is_safe;
 pub use lock::TakeLock;
 pub use owner::SetOwner;

@@ -1,0 +1,146 @@
+-- A model of a disk: what the calls of a save do to it, what other programs do, and what a crash leaves: each name and mode, and the bytes of what was synced.
+use Rattle.std.specs.Prelude.{◌≡◌, ◌≢◌, ℕ, Bool, true, false, List, [], ◌∷◌, Option, None, Some, IsSomeAnd, IsTrue}
+use Rattle.krb_disk.specs.declared.looks.Found.{Found}
+use Rattle.krb_disk.specs.declared.stage.Stage.{Stage}
+use Rattle.krb_disk.specs.declared.stage.Stage.TheVariants.{Made, Locked, Agreed, Held, Written, Told, Permitted, Ours, Same, Lost}
+use Rattle.krb_disk.specs.Stages.{private_mode, IsDueMode, IsFound, IsSame, stood, synced}
+use Rattle.krb_disk.specs.Target.{new_path}
+
+-- a file, and whether a crash leaves its bytes
+pub record File : Type 0 where
+  pub bytes : List ℕ
+  pub mode : ℕ
+  pub durable : Bool
+
+-- what stands under each name
+abbrev pub Names : Type 0
+Names = List ℕ → Option File
+
+-- a save: where it goes, its bytes, what was seen of the old file, and whether the comparison takes a file for that
+pub record Save : Type 0 where
+  pub path : List ℕ
+  pub bytes : List ℕ
+  pub old : Option Found
+  pub is_seen : Option File → Bool
+
+-- what the methods of `Calls` ask of a new file, by their names; `Fail`, a call that failed or cleared its place; and what other programs do under the old name and elsewhere
+pub data Call : Type 0 where
+  Make : Call
+  Lock : Call
+  Stands : Call
+  Double : Call
+  Write : Call
+  Own : Call
+  Stat : Found → Call
+  Permit : ℕ → Call
+  Sync : Call
+  Remove : Call
+  Fail : Call
+  Compare : Call
+  Rename : Call
+  Intrude : Call
+  Pass : Call
+
+-- a moment: how far the new file has come, what stands under each name, what others have put there, whether the old name has the new file, and whether it has what was compared last
+pub record Moment : Type 0 where
+  pub stage : Stage
+  pub names : Names
+  pub theirs : Names
+  pub saved : Bool
+  pub fresh : Bool
+
+-- what a call that is due makes of the new file: how far it has come, and what stands under its name
+abbrev pub Turns : Save → Call → Stage → Option File → Stage → Option File → Type 0
+Turns save Make s file t new = (file ≡ None) × (t ≡ Made) × (new ≡ Some (record { bytes = []; mode = private_mode; durable = false }))
+Turns save Lock s file t new = (s ≡ Made) × (t ≡ Locked) × (new ≡ file)
+Turns save Stands s file t new = (t ≡ stood s) × (new ≡ file)
+Turns save Double s file t new = (s ≡ Agreed) × (t ≡ Held) × (new ≡ file)
+Turns save Write s (Some f) t new = (s ≡ Held) × (t ≡ Written) × (new ≡ Some (record f { bytes = save.bytes; durable = false }))
+Turns save Own s file t new = (s ≡ Written) × (t ≡ Written) × (new ≡ file)
+Turns save (Stat found) s file t new = (s ≡ Written) × (t ≡ Told found) × (new ≡ file)
+Turns save (Permit mode) s (Some f) t new = IsDueMode save.old s mode × (t ≡ Permitted save.old) × (new ≡ Some (record f { mode = mode; durable = false }))
+Turns save Sync s (Some f) t new = (t ≡ synced s) × (new ≡ Some (record f { durable = true }))
+Turns save Remove s file t new = IsFound s × (t ≡ Lost) × (new ≡ None)
+Turns save Fail s file t new = t ≡ Lost
+Turns save call s file t new = ⊥
+
+-- a call that is asked of the new file alone
+pub record Asks (save : Save) (call : Call) (m n : Moment) : Type 0 where
+  pub turns : Turns save call m.stage (m.names (new_path save.path)) n.stage (n.names (new_path save.path))
+  pub others : (name : List ℕ) → name ≢ new_path save.path → n.names name ≡ m.names name
+  pub theirs : n.theirs ≡ m.theirs
+  pub saved : n.saved ≡ m.saved
+  pub fresh : n.fresh ≡ m.fresh
+
+-- what was seen of the old file stands under its name
+pub record Compares (save : Save) (m n : Moment) : Type 0 where
+  pub due : m.stage ≡ Ours save.old
+  pub seen : IsTrue (save.is_seen (m.names save.path))
+  pub now : n ≡ record m { stage = Same save.old; fresh = true }
+
+-- the new file takes the old name
+pub record Renames (save : Save) (m n : Moment) : Type 0 where
+  pub due : IsSame m.stage
+  pub named : n.names save.path ≡ m.names (new_path save.path)
+  pub others : (name : List ℕ) → name ≢ save.path → name ≢ new_path save.path → n.names name ≡ m.names name
+  pub now : n ≡ record m { stage = Lost; names = n.names; saved = true; fresh = false }
+
+-- another program puts something under the old name, or takes it away
+pub record Intrudes (save : Save) (m n : Moment) : Type 0 where
+  pub old : n.names save.path ≡ n.theirs save.path
+  pub names : (name : List ℕ) → name ≢ save.path → n.names name ≡ m.names name
+  pub theirs : (name : List ℕ) → name ≢ save.path → n.theirs name ≡ m.theirs name
+  pub now : n ≡ record m { names = n.names; theirs = n.theirs; saved = false; fresh = false }
+
+-- other programs put what they will under names that are neither the old one nor the new file's, which is locked
+pub record Passes (save : Save) (m n : Moment) : Type 0 where
+  pub old : n.names save.path ≡ m.names save.path
+  pub new : n.names (new_path save.path) ≡ m.names (new_path save.path)
+  pub theirs : n.theirs save.path ≡ m.theirs save.path
+  pub others : (name : List ℕ) → name ≢ save.path → name ≢ new_path save.path → n.names name ≡ n.theirs name
+  pub now : n ≡ record m { names = n.names; theirs = n.theirs }
+
+-- what a call does
+abbrev pub Does : Save → Call → Moment → Moment → Type 0
+Does save Compare m n = Compares save m n
+Does save Rename m n = Renames save m n
+Does save Intrude m n = Intrudes save m n
+Does save Pass m n = Passes save m n
+Does save call m n = Asks save call m n
+
+-- no call was made
+pub record IsFirst (m : Moment) : Type 0 where
+  pub stage : m.stage ≡ Lost
+  pub names : (name : List ℕ) → m.names name ≡ m.theirs name
+  pub saved : m.saved ≡ false
+  pub fresh : m.fresh ≡ false
+
+-- these calls led here, the last one first
+abbrev pub Happens : Save → List Call → Moment → Type 0
+Happens save [] now = IsFirst now
+Happens save (call ∷ calls) now = (before : Moment) × (Happens save calls before × Does save call before now)
+
+-- what a crash may leave of what stands under a name: any bytes, if they were not synced
+abbrev pub IsLeft : Option File → Option File → Type 0
+IsLeft None left = left ≡ None
+IsLeft (Some f) left = IsSomeAnd left (λ g. (g.mode ≡ f.mode) × (f.durable ≡ true → g.bytes ≡ f.bytes))
+
+-- the mode due in place of the file that was seen, by what was told of the new one
+abbrev pub HasDueMode : Save → ℕ → Type 0
+HasDueMode save mode = (stage : Stage) × IsDueMode save.old stage mode
+
+-- the window that stays open: another program put something under the old name after the comparison, and before the rename
+abbrev pub IsInWindow : Moment → Type 0
+IsInWindow m = IsSame m.stage × (m.fresh ≡ false)
+
+-- whatever a crash leaves, the old name has what others put there or, since the rename, the whole new file; each other name but the new file's has what others put there; and outside the window a rename replaces what was seen
+pub record IsSafe (save : Save) (m : Moment) (left : Names) : Type 0 where
+  pub old : m.saved ≡ false → IsLeft (m.theirs save.path) (left save.path)
+  pub whole : m.saved ≡ true → IsSomeAnd (left save.path) (λ f. (f.bytes ≡ save.bytes) × HasDueMode save f.mode)
+  pub others : (name : List ℕ) → name ≢ save.path → name ≢ new_path save.path → IsLeft (m.theirs name) (left name)
+  pub seen : IsSame m.stage → ¬ IsInWindow m → IsTrue (save.is_seen (m.names save.path))
+
+-- after each number of calls that are due, and a crash
+abbrev pub EachMomentIsSafe : Type 0
+EachMomentIsSafe = (save : Save) (calls : List Call) (now : Moment) (left : Names)
+    → Happens save calls now → ((name : List ℕ) → IsLeft (now.names name) (left name)) → IsSafe save now left
