@@ -30,7 +30,8 @@ use std::io::{self, ErrorKind};
 use std::os::unix::fs::{OpenOptionsExt, PermissionsExt};
 use std::rt;
 
-/// The system, as it is asked to change files. Nothing else in this crate can ask it.
+/// The system, as it is asked to change files. Nothing else in this crate can ask it, and nothing but `rename`
+/// notes a save.
 #[derive(Drop)]
 pub struct Calls<'a, R> {
     rt: &'a R,
@@ -113,7 +114,8 @@ impl<R: rt::Files + Alloc> Calls<'_, R> {
 
     /// Whether the new file still stands under its name.
     pub fn stands(&self, file: &mut NewFile<String<R::A>, R::File>) -> io::Result<bool>
-        ensures stage { IfOk result (λ is. IsTrue is → file.new ≡ record file.old { stage = stood file.old.stage }) }
+        ensures stage { IfOk result (λ is. IsTrue is
+            → file.new ≡ record file.old { stage = stood file.old.stage }) }
         ensures found { IfOk result (λ is. IsTrue is → IsFound file.new.stage) }
     {
         let stands = stands_at(&self.looks, &file.path, &file.file.file)?;
@@ -221,7 +223,8 @@ impl<R: rt::Files + Alloc> Calls<'_, R> {
     ) -> Result<bool, DiskFault>
         requires ours { file.old.stage ≡ Ours (seen_file seen.now) }
         requires beside { string_bytes file.old.path ≡ new_path path.now }
-        ensures { IfOk result (λ is. IsTrue is → file.new ≡ record file.old { stage = Same (seen_file seen.now) }) }
+        ensures { IfOk result (λ is. IsTrue is
+            → file.new ≡ record file.old { stage = Same (seen_file seen.now) }) }
     {
         let is_same = seen.is_at(&self.looks, path)?;
         file.stage = if is_same {
