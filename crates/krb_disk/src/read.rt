@@ -5,7 +5,7 @@ ghost use Rattle.std.specs.Prelude.{◌≡◌, ◌≤◌, ◌++◌, IfOk, IfSome
 use crate::fault::{DiskFault, ReadFault};
 use crate::looks::{Found, Looks};
 use crate::noted::Noted;
-use krb_files::{LoadFault, load};
+use krb_files::{LoadFault, WatchedReader, load};
 use std::alloc::Allocator;
 use std::io::{self, Read};
 use std::rt;
@@ -28,12 +28,14 @@ pub fn read_file<R: rt::Files, A: Allocator>(
         Err(error) => return Err(ReadFault::from(error)),
     };
     let found = file.tell()?;
-    let mut file = Noted::new(file);
+    let mut file = WatchedReader::new(Noted::new(file));
     match load(alloc, &mut file, limit, found.size) {
         Ok(bytes) => Ok((found, bytes)),
         Err(LoadFault::TooLarge) => Err(ReadFault::TooLarge),
         Err(LoadFault::NoMemory) => Err(ReadFault::Disk(DiskFault::NoMemory)),
-        Err(LoadFault::Missing | LoadFault::Failed) => Err(ReadFault::from(file.error())),
+        Err(LoadFault::Missing | LoadFault::Failed) => {
+            Err(ReadFault::from(file.into_reader().error()))
+        }
     }
 }
 

@@ -1,5 +1,7 @@
 -- What a reader gave, where its bytes are known.
-use Rattle.std.specs.Prelude.{ℕ, ◌≤◌, List, length, Option}
+use Rattle.std.specs.Prelude.{ℕ, ◌≤◌, ◌||◌, List, length, Option, Bool, true, false, Result, Ok, Err}
+use Rattle.krb_files.specs.declared.files.LoadFault.{LoadFault}
+use Rattle.krb_files.specs.declared.files.LoadFault.TheVariants.{Failed}
 use Rattle.std.specs.Io.KnownBytes.{Consumes}
 
 -- the reader gave at most n bytes
@@ -7,3 +9,13 @@ pub record ConsumesAtMost (old new : Option (List ℕ)) (n : ℕ) : Type 0 where
   pub taken : List ℕ
   pub consumes : Consumes old new taken
   pub bound : length taken ≤ n
+
+-- what a watched reader has left, where that is known, and whether it has failed
+pub record Source : Type 0 where
+  pub left : Option (List ℕ)
+  pub failed : Bool
+
+-- the reader was at fault
+abbrev pub is_read_fault : {T : Type 0} → Result T LoadFault → Bool
+is_read_fault (Err Failed) = true
+is_read_fault other = false

@@ -16,5 +16,5 @@ pub use files::{Files, LoadFault, SaveFault};
 pub use mem_files::MemFiles;
 pub use output::{OutFault, put};
 pub use reader::{append_read, load, next_read};
-pub use watched::Watched;
+pub use watched::{Watched, WatchedReader};
 pub use writer::save;

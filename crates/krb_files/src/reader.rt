@@ -1,10 +1,11 @@
 //! Bytes out of a reader.
 
-ghost use Rattle.std.specs.Prelude.{◌≢◌, ◌≡◌, ◌+◌, ◌<◌, ◌≤◌, ◌*◌, ◌^◌, ◌++◌, ◌⊎◌, ℕ, List, length, max, min, take, drop, OnOk, OnErr, IfOk, IfErr, IfSome, IsErrOf, vec_capacity, vec_len};
+ghost use Rattle.std.specs.Prelude.{◌≢◌, ◌≡◌, ◌||◌, ◌+◌, ◌<◌, ◌≤◌, ◌*◌, ◌^◌, ◌++◌, ◌⊎◌, ℕ, List, length, max, min, take, drop, OnOk, OnErr, IfOk, IfErr, IfSome, IsErrOf, vec_capacity, vec_len};
 ghost use Rattle.std.specs.Io.KnownBytes.{Consumes, IsAtEnd, Keeps};
-ghost use Rattle.krb_files.specs.Reader.{ConsumesAtMost};
+ghost use Rattle.krb_files.specs.Reader.{ConsumesAtMost, is_read_fault};
 
 use crate::files::LoadFault;
+use crate::watched::WatchedReader;
 use std::alloc::Allocator;
 use std::io::Read;
 
@@ -15,37 +16,43 @@ pub const MOST_READ: usize = 128 * 1024;
 const LEAST_READ: usize = 4096;
 
 // One read into the bytes from a place on.
-fn read_into<R: Read>(reader: &mut R, bytes: &mut [u8], at: usize) -> Result<usize, LoadFault>
+fn read_into<R: Read>(
+    reader: &mut WatchedReader<R>,
+    bytes: &mut [u8],
+    at: usize,
+) -> Result<usize, LoadFault>
     requires { at < length bytes.old }
     ensures front { take at bytes.new ≡ take at bytes.old }
     ensures within { IfOk result (λ count. at + count ≤ length bytes.new) }
-    ensures given { IfOk result (λ count. Consumes (R.remaining reader.old) (R.remaining reader.new)
+    ensures given { IfOk result (λ count. Consumes reader.old.left reader.new.left
         (take count (drop at bytes.new))) }
-    ensures end { IfOk result (λ count. count ≡ 0 → IsAtEnd (R.remaining reader.new)) }
-    ensures err { OnErr result (Keeps (R.remaining reader.old) (R.remaining reader.new)) }
+    ensures end { IfOk result (λ count. count ≡ 0 → IsAtEnd reader.new.left) }
+    ensures err { OnErr result (Keeps reader.old.left reader.new.left) }
     ensures why { IfErr result (λ fault. fault ≡ LoadFault.Failed) }
+    ensures failed { reader.new.failed ≡ (reader.old.failed || is_read_fault result) }
 {
-    match reader.read(&mut bytes[at..]) {
-        Ok(count) => Ok(count),
-        Err(_) => Err(LoadFault::Failed),
+    match reader.read_some(&mut bytes[at..]) {
+        Some(count) => Ok(count),
+        None => Err(LoadFault::Failed),
     }
 }
 
 // Reads once, at most that many bytes, and appends what is given.
 pub fn append_read<A: Allocator, R: Read>(
     bytes: &mut Vec<u8, A>,
-    reader: &mut R,
+    reader: &mut WatchedReader<R>,
     most: usize,
 ) -> Result<usize, LoadFault>
     requires { (0 < most) × (vec_len bytes.old + most < 2 ^ 33) }
     ensures len { IfOk result (λ count. (vec_len bytes.new ≡ vec_len bytes.old + count) × (count ≤ most)) }
     ensures given { OnOk result ((given : List ℕ) × (bytes.new.items ≡ bytes.old.items ++ given)
-        × Consumes (R.remaining reader.old) (R.remaining reader.new) given) }
-    ensures end { IfOk result (λ count. count ≡ 0 → IsAtEnd (R.remaining reader.new)) }
-    ensures err { OnErr result (Keeps (R.remaining reader.old) (R.remaining reader.new)) }
+        × Consumes reader.old.left reader.new.left given) }
+    ensures end { IfOk result (λ count. count ≡ 0 → IsAtEnd reader.new.left) }
+    ensures err { OnErr result (Keeps reader.old.left reader.new.left) }
     ensures same { OnErr result (bytes.new.items ≡ bytes.old.items) }
     ensures capacity { vec_capacity bytes.old ≤ vec_capacity bytes.new }
     ensures why { IfErr result (λ fault. (fault ≡ LoadFault.Failed) ⊎ (fault ≡ LoadFault.NoMemory)) }
+    ensures failed { reader.new.failed ≡ (reader.old.failed || is_read_fault result) }
 {
     let filled = bytes.len();
     if bytes.resize(filled + most, 0).is_err() {
@@ -96,18 +103,19 @@ fn first_room(expected: u64, limit: u32) -> usize
 /// `expected` bytes, but never for more than may be read, is taken at once.
 pub fn load<A: Allocator, R: Read>(
     alloc: A,
-    reader: &mut R,
+    reader: &mut WatchedReader<R>,
     limit: u32,
     expected: u64,
 ) -> Result<Vec<u8, A>, LoadFault>
-    ensures ok { IfOk result (λ bytes. IfSome (R.remaining reader.old) (λ left. bytes.items ≡ left)) }
+    ensures ok { IfOk result (λ bytes. IfSome reader.old.left (λ left. bytes.items ≡ left)) }
     ensures within { IfOk result (λ bytes. vec_len bytes ≤ limit) }
     ensures room { IfOk result (λ bytes. min expected limit ≤ vec_capacity bytes) }
-    ensures end { OnOk result (IsAtEnd (R.remaining reader.new)) }
+    ensures end { OnOk result (IsAtEnd reader.new.left) }
     ensures too_large { IsErrOf result LoadFault.TooLarge
-        → IfSome (R.remaining reader.old) (λ left. limit < length left) }
+        → IfSome reader.old.left (λ left. limit < length left) }
     ensures never { IfErr result (λ fault. fault ≢ LoadFault.Missing) }
-    ensures taken { ConsumesAtMost (R.remaining reader.old) (R.remaining reader.new) (limit + 1) }
+    ensures failed { reader.new.failed ≡ (reader.old.failed || is_read_fault result) }
+    ensures taken { ConsumesAtMost reader.old.left reader.new.left (limit + 1) }
 {
     let most = limit as usize;
     let Ok(mut bytes) = Vec::with_capacity(alloc, first_room(expected, limit)) else {

@@ -1,5 +1,6 @@
 use crate::files::LoadFault;
 use crate::reader::load;
+use crate::watched::WatchedReader;
 use crate::writer::save;
 use refusing::refuse_each;
 use std::io::{self, Read};
@@ -11,7 +12,7 @@ use streams::{FailingWriter, WhenFull};
 fn any_number_expected(rt: HostRuntime) -> Result<(), Fail> {
     let bytes = vec![in rt.alloc(); 7u8; 200_000]?;
     for expected in [0, 1, 199_999, 200_000, 200_001, u64::MAX] {
-        let mut reader = bytes.as_slice();
+        let mut reader = WatchedReader::new(bytes.as_slice());
         let loaded = load(rt.alloc(), &mut reader, 300_000, expected);
         let Ok(all) = loaded else {
             return Err(Fail::from("not loaded"));
@@ -30,7 +31,7 @@ fn any_number_expected(rt: HostRuntime) -> Result<(), Fail> {
 fn each_allocation_fails(rt: HostRuntime) -> Result<(), Fail> {
     let bytes = vec![in rt.alloc(); 7u8; 100_000]?;
     let requests = refuse_each(rt.alloc(), 100, |heap, n| {
-        let mut reader = bytes.as_slice();
+        let mut reader = WatchedReader::new(bytes.as_slice());
         heap.refuse(n);
         match load(heap, &mut reader, 100_000, 50_000) {
             Ok(all) => assert!(rt; !heap.refused() && all.as_slice() == bytes.as_slice()),
@@ -61,10 +62,10 @@ impl Read for Endless {
 
 #[test]
 fn a_load_ends_at_one_byte_over_the_limit(rt: HostRuntime) {
-    let mut reader = Endless { reads: 0 };
+    let mut reader = WatchedReader::new(Endless { reads: 0 });
     let loaded = load(rt.alloc(), &mut reader, 10, 0);
     assert!(rt; loaded == Err(LoadFault::TooLarge));
-    assert_eq!(rt; reader.reads, 11);
+    assert_eq!(rt; reader.into_reader().reads, 11);
 }
 
 /// A write that fails, or takes no byte, ends a save, which tells how many bytes went out.
