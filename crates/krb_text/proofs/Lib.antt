@@ -4,6 +4,7 @@ pub mod Cuts
 pub mod Scripts
 pub mod Additions
 pub mod Items
+pub mod Appending
 pub mod Aligned
 pub mod Found
 pub mod Etypes

@@ -1,8 +1,7 @@
 //! Bytes and numbers behind others.
 
-ghost use Rattle.std.specs.Prelude.{◌≡◌, ◌++◌, ◌∷◌, [], ◌≤◌, decimal, OnOk, OnErr, vec_capacity};
-ghost use Rattle.krb_wire.specs.Names.{HadNoRoom};
-ghost use Rattle.krb_wire.specs.Text.{Grew};
+ghost use Rattle.std.specs.Prelude.{◌++◌, ◌∷◌, [], decimal};
+ghost use Rattle.krb_wire.specs.Text.{Appended, AppendedPart};
 ghost use Rattle.krb_text.specs.Line.{right_in_4};
 
 use itoa::{Buffer, write_digits};
@@ -11,10 +10,7 @@ use std::alloc::Allocator;
 
 /// Appends the bytes.
 pub fn append<A: Allocator>(bytes: &[u8], out: &mut Vec<u8, A>) -> Result<(), NoMemory>
-    ensures ok { OnOk result (out.new.items ≡ out.old.items ++ bytes.now) }
-    ensures err { OnErr result (out.new.items ≡ out.old.items) }
-    ensures capacity { vec_capacity out.old ≤ vec_capacity out.new }
-    ensures full { OnErr result (HadNoRoom out.old bytes.now) }
+    ensures { Appended bytes.now out.old out.new result }
 {
     match out.extend_from_slice(bytes) {
         Ok(()) => Ok(()),
@@ -24,10 +20,7 @@ pub fn append<A: Allocator>(bytes: &[u8], out: &mut Vec<u8, A>) -> Result<(), No
 
 /// Appends a byte.
 pub fn append_byte<A: Allocator>(byte: u8, out: &mut Vec<u8, A>) -> Result<(), NoMemory>
-    ensures ok { OnOk result (out.new.items ≡ out.old.items ++ byte ∷ []) }
-    ensures err { OnErr result (out.new.items ≡ out.old.items) }
-    ensures capacity { vec_capacity out.old ≤ vec_capacity out.new }
-    ensures full { OnErr result (HadNoRoom out.old (byte ∷ [])) }
+    ensures { Appended (byte ∷ []) out.old out.new result }
 {
     match out.push(byte) {
         Ok(()) => Ok(()),
@@ -41,10 +34,7 @@ pub fn append_labelled<A: Allocator>(
     number: u32,
     out: &mut Vec<u8, A>,
 ) -> Result<(), NoMemory>
-    ensures ok { OnOk result (out.new.items ≡ out.old.items ++ (label.now ++ decimal number)) }
-    ensures err { OnErr result (Grew out.old.items out.new.items) }
-    ensures capacity { vec_capacity out.old ≤ vec_capacity out.new }
-    ensures full { OnErr result (HadNoRoom out.old (label.now ++ decimal number)) }
+    ensures { AppendedPart (label.now ++ decimal number) out.old out.new result }
 {
     let mut buffer = Buffer::new();
     append(label, out)?;
@@ -53,11 +43,7 @@ pub fn append_labelled<A: Allocator>(
 
 /// Appends a number in decimal, right in four places, and a space.
 pub fn append_right_in_4<A: Allocator>(number: u64, out: &mut Vec<u8, A>) -> Result<(), NoMemory>
-    ensures ok { OnOk result
-        (out.new.items ≡ out.old.items ++ (right_in_4 number ++ 32 ∷ [])) }
-    ensures err { OnErr result (out.new.items ≡ out.old.items) }
-    ensures capacity { vec_capacity out.old ≤ vec_capacity out.new }
-    ensures full { OnErr result (HadNoRoom out.old (right_in_4 number ++ 32 ∷ [])) }
+    ensures { Appended (right_in_4 number ++ 32 ∷ []) out.old out.new result }
 {
     let mut text = [b' '; 21];
     let start = write_digits(number, &mut text, 20);

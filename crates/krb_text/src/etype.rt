@@ -1,9 +1,9 @@
 //! Encryption types by number and by name: those of RFC 3961, 3962, 4757, 6803 and 8009, under the
 //! names that MIT prints.
 
-ghost use Rattle.std.specs.Prelude.{◌≡◌, ◌++◌, ◌≤◌, OnOk, OnErr, IsSome, MatchOption, vec_capacity};
+ghost use Rattle.std.specs.Prelude.{◌≡◌, IsSome, MatchOption};
 ghost use Rattle.std.specs.List.{find};
-ghost use Rattle.krb_wire.specs.Names.{HadNoRoom};
+ghost use Rattle.krb_wire.specs.Text.{Appended};
 ghost use Rattle.krb_text.specs.Etype.{etype_numbered, etype_text_of, etype_in, key_size_of, is_named, number_named, unnamed};
 
 use crate::append::append;
@@ -37,10 +37,7 @@ fn row_of(etype: u16) -> Option<(&'static str, usize)>
 
 // Appends `etype ` and the number.
 fn unnamed_text<A: Allocator>(etype: u16, out: &mut Vec<u8, A>) -> Result<(), NoMemory>
-    ensures ok { OnOk result (out.new.items ≡ out.old.items ++ unnamed etype) }
-    ensures err { OnErr result (out.new.items ≡ out.old.items) }
-    ensures capacity { vec_capacity out.old ≤ vec_capacity out.new }
-    ensures full { OnErr result (HadNoRoom out.old (unnamed etype)) }
+    ensures { Appended (unnamed etype) out.old out.new result }
 {
     let mut buffer = Buffer::new();
     let digits = buffer.format(etype).as_bytes();
@@ -53,12 +50,7 @@ fn unnamed_text<A: Allocator>(etype: u16, out: &mut Vec<u8, A>) -> Result<(), No
 /// Appends the name of an encryption type, or `etype ` and its number where it is not in the table.
 #[tactic(auto, using(crate::proofs::Etypes::read_text))]
 pub fn etype_text<A: Allocator>(etype: u16, out: &mut Vec<u8, A>) -> Result<(), NoMemory>
-    ensures ok { OnOk result (out.new.items ≡ out.old.items ++ etype_text_of etype) }
-    ensures err { OnErr result (out.new.items ≡ out.old.items) }
-    ensures capacity { vec_capacity out.old ≤ vec_capacity out.new }
-
-    // It is out of memory only where the text does not fit into the room that there was.
-    ensures full { OnErr result (HadNoRoom out.old (etype_text_of etype)) }
+    ensures text { Appended (etype_text_of etype) out.old out.new result }
 
     // The text of a number of the table is read as that number.
     ensures read { IsSome (etype_numbered etype) → etype_in (etype_text_of etype) ≡ Some etype }

@@ -1,12 +1,10 @@
 //! Ticket flags as letters.
 
-ghost use Rattle.std.specs.Prelude.{◌≡◌, ◌++◌, ◌≤◌, OnOk, OnErr, vec_capacity};
-ghost use Rattle.krb_wire.specs.Names.{HadNoRoom};
-ghost use Rattle.krb_wire.specs.Text.{Grew};
+ghost use Rattle.krb_wire.specs.Text.{Appended, AppendedPart};
 ghost use Rattle.krb_text.specs.Flags.{letters_among, flag_letters_of};
 
 use crate::append::append_byte;
-use krb_wire::NoMemory;
+use krb_wire::{NoMemory, all_or_nothing};
 use std::alloc::Allocator;
 
 // The flags that have a letter, in the order in which they are shown.
@@ -33,10 +31,7 @@ fn append_letters<A: Allocator>(
     flags: u32,
     out: &mut Vec<u8, A>,
 ) -> Result<(), NoMemory>
-    ensures ok { OnOk result (out.new.items ≡ out.old.items ++ letters_among flags table.now) }
-    ensures err { OnErr result (Grew out.old.items out.new.items) }
-    ensures capacity { vec_capacity out.old ≤ vec_capacity out.new }
-    ensures full { OnErr result (HadNoRoom out.old (letters_among flags table.now)) }
+    ensures { AppendedPart (letters_among flags table.now) out.old out.new result }
 {
     'flags: for &(bit, letter) in table {
         if flags & bit != 0 {
@@ -50,19 +45,9 @@ fn append_letters<A: Allocator>(
 /// proxy `p`, postdateable `D`, postdated `d`, invalid `i`, renewable `R`, initial `I`, hardware authenticated `H`,
 /// preauthenticated `A`, transit policy checked `T`, ok as delegate `O`, anonymous `a`.
 pub fn flag_letters<A: Allocator>(flags: u32, out: &mut Vec<u8, A>) -> Result<(), NoMemory>
-    ensures ok { OnOk result (out.new.items ≡ out.old.items ++ flag_letters_of flags) }
-    ensures err { OnErr result (out.new.items ≡ out.old.items) }
-    ensures capacity { vec_capacity out.old ≤ vec_capacity out.new }
-
-    // It is out of memory only where the letters do not fit into the room that there was.
-    ensures full { OnErr result (HadNoRoom out.old (flag_letters_of flags)) }
+    ensures { Appended (flag_letters_of flags) out.old out.new result }
 {
     let len = out.len();
-    match append_letters(&FLAGS, flags, out) {
-        Ok(()) => Ok(()),
-        Err(_) => {
-            out.truncate(len);
-            Err(NoMemory)
-        }
-    }
+    let appended = append_letters(&FLAGS, flags, out);
+    all_or_nothing(appended, len, out)
 }

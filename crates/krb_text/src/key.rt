@@ -1,10 +1,10 @@
 //! Keys as hexadecimal text.
 
-ghost use Rattle.std.specs.Prelude.{◌≡◌, ◌+◌, ◌*◌, ◌^◌, ◌++◌, ◌≤◌, OnOk, OnErr, MatchOption, is_ok, is_some, length, vec_capacity};
+ghost use Rattle.std.specs.Prelude.{◌≡◌, ◌+◌, ◌*◌, ◌^◌, ◌≤◌, MatchOption, is_ok, is_some, length};
 ghost use Rattle.std.specs.Char.{is_ascii_hexdigit};
 ghost use Rattle.std.specs.List.{list_all};
 ghost use Rattle.hex.specs.Hex.{decode_of};
-ghost use Rattle.krb_wire.specs.Names.{HadNoRoom};
+ghost use Rattle.krb_wire.specs.Text.{Appended};
 ghost use Rattle.krb_text.specs.Key.{key_text_of, key_in, is_key_size};
 ghost use Rattle.krb_text.specs.LineFault.{Reads};
 ghost use Rattle.krb_text.specs.Word.{key_word};
@@ -33,12 +33,7 @@ fn end_of(start: usize, key: usize) -> Option<usize>
 
 /// Appends `0x` and the key's bytes, each as two hexadecimal digits in lower case.
 pub fn key_text<A: Allocator>(key: &[u8], out: &mut Vec<u8, A>) -> Result<(), NoMemory>
-    ensures ok { OnOk result (out.new.items ≡ out.old.items ++ key_text_of key.now) }
-    ensures err { OnErr result (out.new.items ≡ out.old.items) }
-    ensures capacity { vec_capacity out.old ≤ vec_capacity out.new }
-
-    // It is out of memory only where the text does not fit into the room that there was.
-    ensures full { OnErr result (HadNoRoom out.old (key_text_of key.now)) }
+    ensures { Appended (key_text_of key.now) out.old out.new result }
 {
     let start = out.len();
     let Some(end) = end_of(start, key.len()) else {

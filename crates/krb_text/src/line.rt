@@ -1,8 +1,6 @@
 //! Lines of entries and of faults. Where an allocation failed, some of a line may stand there.
 
-ghost use Rattle.std.specs.Prelude.{◌≡◌, ◌++◌, ◌≤◌, OnOk, OnErr, vec_capacity};
-ghost use Rattle.krb_wire.specs.Names.{HadNoRoom};
-ghost use Rattle.krb_wire.specs.Text.{Grew};
+ghost use Rattle.krb_wire.specs.Text.{AppendedPart};
 ghost use Rattle.krb_text.specs.Line.{entry_line, time_column, etype_column, key_column, entry_tail, fault_text};
 
 use crate::append::{append, append_byte, append_labelled, append_right_in_4};
@@ -21,10 +19,7 @@ fn append_time<A: Allocator>(
     seconds: u32,
     out: &mut Vec<u8, A>,
 ) -> Result<(), NoMemory>
-    ensures ok { OnOk result (out.new.items ≡ out.old.items ++ time_column is_shown seconds) }
-    ensures err { OnErr result (Grew out.old.items out.new.items) }
-    ensures capacity { vec_capacity out.old ≤ vec_capacity out.new }
-    ensures full { OnErr result (HadNoRoom out.old (time_column is_shown seconds)) }
+    ensures { AppendedPart (time_column is_shown seconds) out.old out.new result }
 {
     if !is_shown {
         return Ok(());
@@ -39,10 +34,7 @@ fn append_etype<A: Allocator>(
     etype: u16,
     out: &mut Vec<u8, A>,
 ) -> Result<(), NoMemory>
-    ensures ok { OnOk result (out.new.items ≡ out.old.items ++ etype_column is_shown etype) }
-    ensures err { OnErr result (Grew out.old.items out.new.items) }
-    ensures capacity { vec_capacity out.old ≤ vec_capacity out.new }
-    ensures full { OnErr result (HadNoRoom out.old (etype_column is_shown etype)) }
+    ensures { AppendedPart (etype_column is_shown etype) out.old out.new result }
 {
     if !is_shown {
         return Ok(());
@@ -58,10 +50,7 @@ fn append_key<A: Allocator>(
     key: &[u8],
     out: &mut Vec<u8, A>,
 ) -> Result<(), NoMemory>
-    ensures ok { OnOk result (out.new.items ≡ out.old.items ++ key_column is_shown key.now) }
-    ensures err { OnErr result (Grew out.old.items out.new.items) }
-    ensures capacity { vec_capacity out.old ≤ vec_capacity out.new }
-    ensures full { OnErr result (HadNoRoom out.old (key_column is_shown key.now)) }
+    ensures { AppendedPart (key_column is_shown key.now) out.old out.new result }
 {
     if !is_shown {
         return Ok(());
@@ -77,10 +66,7 @@ pub fn append_entry<N: Name, A: Allocator>(
     entry: &Fields<'_, N>,
     out: &mut Vec<u8, A>,
 ) -> Result<(), NoMemory>
-    ensures ok { OnOk result (out.new.items ≡ out.old.items ++ entry_line columns entry.now) }
-    ensures err { OnErr result (Grew out.old.items out.new.items) }
-    ensures capacity { vec_capacity out.old ≤ vec_capacity out.new }
-    ensures full { OnErr result (HadNoRoom out.old (entry_line columns entry.now)) }
+    ensures { AppendedPart (entry_line columns entry.now) out.old out.new result }
 {
     append_right_in_4(entry.kvno as u64, out)?;
     append_time(columns.times, entry.timestamp, out)?;
@@ -96,10 +82,7 @@ pub fn append_tail<N: Name, A: Allocator>(
     entry: &Fields<'_, N>,
     out: &mut Vec<u8, A>,
 ) -> Result<(), NoMemory>
-    ensures ok { OnOk result (out.new.items ≡ out.old.items ++ entry_tail entry.now) }
-    ensures err { OnErr result (Grew out.old.items out.new.items) }
-    ensures capacity { vec_capacity out.old ≤ vec_capacity out.new }
-    ensures full { OnErr result (HadNoRoom out.old (entry_tail entry.now)) }
+    ensures { AppendedPart (entry_tail entry.now) out.old out.new result }
 {
     append_labelled(b" kvno ", entry.kvno, out)?;
     append_labelled(b" etype ", entry.enctype as u32, out)?;
@@ -110,10 +93,7 @@ pub fn append_tail<N: Name, A: Allocator>(
 
 /// Appends the kind of a fault and its place, and ends the line.
 pub fn append_fault<A: Allocator>(fault: Fault, out: &mut Vec<u8, A>) -> Result<(), NoMemory>
-    ensures ok { OnOk result (out.new.items ≡ out.old.items ++ fault_text fault) }
-    ensures err { OnErr result (Grew out.old.items out.new.items) }
-    ensures capacity { vec_capacity out.old ≤ vec_capacity out.new }
-    ensures full { OnErr result (HadNoRoom out.old (fault_text fault)) }
+    ensures { AppendedPart (fault_text fault) out.old out.new result }
 {
     append_labelled(b"fault ", fault.kind.number(), out)?;
     append_labelled(b" at ", fault.place, out)?;

@@ -1,8 +1,7 @@
 //! The lines of replies.
 
-ghost use Rattle.std.specs.Prelude.{◌≡◌, ◌++◌, ◌≤◌, decimal, codes, map, OnOk, OnErr, vec_capacity};
-ghost use Rattle.krb_wire.specs.Names.{HadNoRoom};
-ghost use Rattle.krb_wire.specs.Text.{Grew};
+ghost use Rattle.std.specs.Prelude.{◌≡◌, ◌++◌, decimal, codes, map};
+ghost use Rattle.krb_wire.specs.Text.{Appended, AppendedPart};
 ghost use Rattle.krb_walk.specs.Said.{said};
 ghost use Rattle.krb_keytab.specs.Entry.{entry_at};
 ghost use Rattle.krb_text.specs.Line.{fault_text};
@@ -12,7 +11,7 @@ use crate::append::{append_byte, append_labelled};
 use crate::line::{append_fault, append_tail};
 use krb_keytab::read_entry;
 use krb_walk::{Fault, Reply};
-use krb_wire::{KtFormat, NoMemory};
+use krb_wire::{KtFormat, NoMemory, all_or_nothing};
 use std::alloc::Allocator;
 
 // What a number is, and the number.
@@ -21,10 +20,7 @@ fn append_number_line<A: Allocator>(
     number: u32,
     out: &mut Vec<u8, A>,
 ) -> Result<(), NoMemory>
-    ensures ok { OnOk result (out.new.items ≡ out.old.items ++ number_line label.now number) }
-    ensures err { OnErr result (Grew out.old.items out.new.items) }
-    ensures capacity { vec_capacity out.old ≤ vec_capacity out.new }
-    ensures full { OnErr result (HadNoRoom out.old (number_line label.now number)) }
+    ensures { AppendedPart (number_line label.now number) out.old out.new result }
 {
     append_labelled(label, number, out)?;
     append_byte(b'\n', out)
@@ -37,11 +33,7 @@ fn append_place<A: Allocator>(
     next: u32,
     out: &mut Vec<u8, A>,
 ) -> Result<(), NoMemory>
-    ensures ok { OnOk result
-        (out.new.items ≡ out.old.items ++ walk_line walk (number_line label.now next)) }
-    ensures err { OnErr result (Grew out.old.items out.new.items) }
-    ensures capacity { vec_capacity out.old ≤ vec_capacity out.new }
-    ensures full { OnErr result (HadNoRoom out.old (walk_line walk (number_line label.now next))) }
+    ensures { AppendedPart (walk_line walk (number_line label.now next)) out.old out.new result }
 {
     append_labelled(b"walk ", walk, out)?;
     append_number_line(label, next, out)
@@ -53,11 +45,7 @@ fn append_walk_fault<A: Allocator>(
     fault: Fault,
     out: &mut Vec<u8, A>,
 ) -> Result<(), NoMemory>
-    ensures ok { OnOk result
-        (out.new.items ≡ out.old.items ++ walk_line walk (codes " " ++ fault_text fault)) }
-    ensures err { OnErr result (Grew out.old.items out.new.items) }
-    ensures capacity { vec_capacity out.old ≤ vec_capacity out.new }
-    ensures full { OnErr result (HadNoRoom out.old (walk_line walk (codes " " ++ fault_text fault))) }
+    ensures { AppendedPart (walk_line walk (codes " " ++ fault_text fault)) out.old out.new result }
 {
     append_labelled(b"walk ", walk, out)?;
     append_byte(b' ', out)?;
@@ -70,11 +58,7 @@ fn append_given<A: Allocator>(
     bytes: &[u8],
     out: &mut Vec<u8, A>,
 ) -> Result<(), NoMemory>
-    ensures ok { OnOk result
-        (out.new.items ≡ out.old.items ++ given_tail (entry_at format bytes.now)) }
-    ensures err { OnErr result (Grew out.old.items out.new.items) }
-    ensures capacity { vec_capacity out.old ≤ vec_capacity out.new }
-    ensures full { OnErr result (HadNoRoom out.old (given_tail (entry_at format bytes.now))) }
+    ensures { AppendedPart (given_tail (entry_at format bytes.now)) out.old out.new result }
 {
     match read_entry(format, bytes) {
         Some(entry) => append_tail(&entry.fields(), out),
@@ -91,14 +75,8 @@ fn append_gave<A: Allocator>(
     bytes: &[u8],
     out: &mut Vec<u8, A>,
 ) -> Result<(), NoMemory>
-    ensures ok { OnOk result (out.new.items ≡ out.old.items
-        ++ walk_line walk (codes " gave " ++ (decimal place ++ (codes " next "
-        ++ (decimal next ++ given_tail (entry_at format bytes.now)))))) }
-    ensures err { OnErr result (Grew out.old.items out.new.items) }
-    ensures capacity { vec_capacity out.old ≤ vec_capacity out.new }
-    ensures full { OnErr result (HadNoRoom out.old
-        (walk_line walk (codes " gave " ++ (decimal place ++ (codes " next "
-        ++ (decimal next ++ given_tail (entry_at format bytes.now))))))) }
+    ensures { AppendedPart (walk_line walk (codes " gave " ++ (decimal place ++ (codes " next "
+        ++ (decimal next ++ given_tail (entry_at format bytes.now)))))) out.old out.new result }
 {
     append_labelled(b"walk ", walk, out)?;
     append_labelled(b" gave ", place, out)?;
@@ -111,11 +89,7 @@ fn append_reply<A: Allocator, B: Allocator>(
     reply: &Reply<B>,
     out: &mut Vec<u8, A>,
 ) -> Result<(), NoMemory>
-    ensures ok { OnOk result
-        (out.new.items ≡ out.old.items ++ reply_text format (said reply.now)) }
-    ensures err { OnErr result (Grew out.old.items out.new.items) }
-    ensures capacity { vec_capacity out.old ≤ vec_capacity out.new }
-    ensures full { OnErr result (HadNoRoom out.old (reply_text format (said reply.now))) }
+    ensures { AppendedPart (reply_text format (said reply.now)) out.old out.new result }
 {
     match reply {
         Reply::Started { walk, next } => append_place(*walk, b" at ", *next, out),
@@ -149,11 +123,7 @@ fn append_replies<A: Allocator, B: Allocator>(
     replies: &[Reply<B>],
     out: &mut Vec<u8, A>,
 ) -> Result<(), NoMemory>
-    ensures ok { OnOk result
-        (out.new.items ≡ out.old.items ++ reply_texts format (map said replies.now)) }
-    ensures err { OnErr result (Grew out.old.items out.new.items) }
-    ensures capacity { vec_capacity out.old ≤ vec_capacity out.new }
-    ensures full { OnErr result (HadNoRoom out.old (reply_texts format (map said replies.now))) }
+    ensures { AppendedPart (reply_texts format (map said replies.now)) out.old out.new result }
 {
     let mut now = format;
     'replies: for reply in replies {
@@ -169,22 +139,11 @@ pub fn reply_line<A: Allocator, B: Allocator>(
     reply: &Reply<B>,
     out: &mut Vec<u8, A>,
 ) -> Result<(), NoMemory>
-    ensures ok { OnOk result
-        (out.new.items ≡ out.old.items ++ reply_text format (said reply.now)) }
-    ensures err { OnErr result (out.new.items ≡ out.old.items) }
-    ensures capacity { vec_capacity out.old ≤ vec_capacity out.new }
-
-    // It is out of memory only where the text does not fit into the room that there was.
-    ensures full { OnErr result (HadNoRoom out.old (reply_text format (said reply.now))) }
+    ensures { Appended (reply_text format (said reply.now)) out.old out.new result }
 {
     let len = out.len();
-    match append_reply(format, reply, out) {
-        Ok(()) => Ok(()),
-        Err(_) => {
-            out.truncate(len);
-            Err(NoMemory)
-        }
-    }
+    let appended = append_reply(format, reply, out);
+    all_or_nothing(appended, len, out)
 }
 
 /// Appends the lines of replies in order. After a rewrite the format is version 2.
@@ -193,20 +152,9 @@ pub fn reply_lines<A: Allocator, B: Allocator>(
     replies: &[Reply<B>],
     out: &mut Vec<u8, A>,
 ) -> Result<(), NoMemory>
-    ensures ok { OnOk result
-        (out.new.items ≡ out.old.items ++ reply_texts format (map said replies.now)) }
-    ensures err { OnErr result (out.new.items ≡ out.old.items) }
-    ensures capacity { vec_capacity out.old ≤ vec_capacity out.new }
-
-    // It is out of memory only where the text does not fit into the room that there was.
-    ensures full { OnErr result (HadNoRoom out.old (reply_texts format (map said replies.now))) }
+    ensures { Appended (reply_texts format (map said replies.now)) out.old out.new result }
 {
     let len = out.len();
-    match append_replies(format, replies, out) {
-        Ok(()) => Ok(()),
-        Err(_) => {
-            out.truncate(len);
-            Err(NoMemory)
-        }
-    }
+    let appended = append_replies(format, replies, out);
+    all_or_nothing(appended, len, out)
 }

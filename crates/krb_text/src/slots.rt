@@ -1,8 +1,7 @@
 //! The listing of slots.
 
 ghost use Rattle.std.specs.Prelude.{◌≡◌, ◌≤◌, ◌++◌, OnOk, OnErr, vec_capacity};
-ghost use Rattle.krb_wire.specs.Names.{HadNoRoom};
-ghost use Rattle.krb_wire.specs.Text.{Grew};
+ghost use Rattle.krb_wire.specs.Text.{AppendedPart};
 ghost use Rattle.krb_text.specs.Slots.{slot_heading, slot_line, slot_lines, slot_text};
 
 use crate::append::{append, append_right_in_4};
@@ -14,10 +13,7 @@ use krb_wire::NoMemory;
 use std::alloc::Allocator;
 
 fn append_heading<A: Allocator>(times: bool, out: &mut Vec<u8, A>) -> Result<(), NoMemory>
-    ensures ok { OnOk result (out.new.items ≡ out.old.items ++ slot_heading times) }
-    ensures err { OnErr result (Grew out.old.items out.new.items) }
-    ensures capacity { vec_capacity out.old ≤ vec_capacity out.new }
-    ensures full { OnErr result (HadNoRoom out.old (slot_heading times)) }
+    ensures { AppendedPart (slot_heading times) out.old out.new result }
 {
     append(b"slot ", out)?;
     append(titles(times), out)?;
@@ -31,10 +27,7 @@ fn append_slot<A: Allocator, B: Allocator>(
     entry: &NewEntry<B>,
     out: &mut Vec<u8, A>,
 ) -> Result<(), NoMemory>
-    ensures ok { OnOk result (out.new.items ≡ out.old.items ++ slot_line columns (slot, entry.now)) }
-    ensures err { OnErr result (Grew out.old.items out.new.items) }
-    ensures capacity { vec_capacity out.old ≤ vec_capacity out.new }
-    ensures full { OnErr result (HadNoRoom out.old (slot_line columns (slot, entry.now))) }
+    ensures { AppendedPart (slot_line columns (slot, entry.now)) out.old out.new result }
 {
     append_right_in_4(slot, out)?;
     append_entry(columns, &entry.fields(), out)
@@ -45,10 +38,7 @@ fn append_slots<A: Allocator, B: Allocator>(
     entries: &[NewEntry<B>],
     out: &mut Vec<u8, A>,
 ) -> Result<(), NoMemory>
-    ensures ok { OnOk result (out.new.items ≡ out.old.items ++ slot_lines columns 1 entries.now) }
-    ensures err { OnErr result (Grew out.old.items out.new.items) }
-    ensures capacity { vec_capacity out.old ≤ vec_capacity out.new }
-    ensures full { OnErr result (HadNoRoom out.old (slot_lines columns 1 entries.now)) }
+    ensures { AppendedPart (slot_lines columns 1 entries.now) out.old out.new result }
 {
     let mut slot = 0;
     'slots: for entry in entries {
@@ -63,10 +53,7 @@ fn append_listing<A: Allocator, B: Allocator>(
     columns: KtColumns,
     out: &mut Vec<u8, A>,
 ) -> Result<(), NoMemory>
-    ensures ok { OnOk result (out.new.items ≡ out.old.items ++ slot_text columns entries.now) }
-    ensures err { OnErr result (Grew out.old.items out.new.items) }
-    ensures capacity { vec_capacity out.old ≤ vec_capacity out.new }
-    ensures full { OnErr result (HadNoRoom out.old (slot_text columns entries.now)) }
+    ensures { AppendedPart (slot_text columns entries.now) out.old out.new result }
 {
     append_heading(columns.times, out)?;
     append_slots(columns, entries, out)

@@ -1,7 +1,7 @@
 //! Instants as text.
 
-ghost use Rattle.std.specs.Prelude.{◌≡◌, ◌++◌, ◌≤◌, ℕ, pos, OnOk, OnErr, vec_capacity};
-ghost use Rattle.krb_wire.specs.Names.{HadNoRoom};
+ghost use Rattle.std.specs.Prelude.{◌≡◌, ◌≤◌, ℕ, pos};
+ghost use Rattle.krb_wire.specs.Text.{Appended};
 ghost use Rattle.jiff.specs.Words.{epoch_day};
 ghost use Rattle.krb_text.specs.Calendar.{time_text_of, day_number};
 ghost use Rattle.krb_text.specs.Time.{digit, moment_text};
@@ -81,12 +81,7 @@ fn civil_day(days: u32) -> (u32, u32, u32)
 
 /// Appends the instant that many seconds after 1970-01-01T00:00:00Z, as `2023-11-14T22:13:20Z`.
 pub fn time_text<A: Allocator>(seconds: u32, out: &mut Vec<u8, A>) -> Result<(), NoMemory>
-    ensures ok { OnOk result (out.new.items ≡ out.old.items ++ time_text_of seconds) }
-    ensures err { OnErr result (out.new.items ≡ out.old.items) }
-    ensures capacity { vec_capacity out.old ≤ vec_capacity out.new }
-
-    // It is out of memory only where the text does not fit into the room that there was.
-    ensures full { OnErr result (HadNoRoom out.old (time_text_of seconds)) }
+    ensures { Appended (time_text_of seconds) out.old out.new result }
 {
     let (year, month, day) = civil_day(seconds / 86_400);
     append(&moment(year, month, day, seconds % 86_400), out)

@@ -1,5 +1,5 @@
 -- Bytes that are quoted one by one, run by run and batch by batch.
-use Rattle.std.proofs.Common.{◌≡◌, ◌≢◌, ℕ, ◌+◌, ◌<◌, ◌≤◌, List, [], ◌∷◌, ◌++◌, cond, eqb, length, map, take, drop, set, get_or, refl, sym, ap, subst, ◌∙◌, append_assoc, append-nil, length-append, length-set, arith}
+use Rattle.std.proofs.Common.{◌≡◌, ◌≢◌, ℕ, ◌+◌, ◌<◌, ◌≤◌, List, [], ◌∷◌, ◌++◌, cond, eqb, length, map, take, drop, set, get_or, refl, sym, ap, subst, ◌∙◌, append_assoc, append-nil, length-set, arith}
 use Rattle.std.specs.List.{All, flat_map, range_with_len}
 use Rattle.std.proofs.Math.Seq.{take-add}
 use Rattle.std.proofs.lemmas.Bool.{ne_eqb, cond-false}
@@ -33,8 +33,6 @@ quote_plain [] p = refl
 quote_plain (b ∷ bytes) p =
     let one : quoted_byte b ≡ b ∷ [] = All-head IsPlain b bytes p in
     ap (λ (x : List ℕ). x ++ quote bytes) one ∙ ap (λ (x : List ℕ). b ∷ x) (quote_plain bytes (All-tail IsPlain b bytes p))
-
-pub ruleset plain_quotes = (quote_plain)
 
 -- ---- the table of letters
 
@@ -84,22 +82,13 @@ quote_parts : (n : ℕ) (bytes : List ℕ) → quote (take n bytes) ++ quote (dr
 unfolding quote
 quote_parts n bytes = sym (flat_map-append quoted_byte (take n bytes) (drop n bytes)) ∙ ap (λ (t : List ℕ). flat_map quoted_byte t) (take-append-drop n bytes)
 
--- what is written, the next batch and what follows it are all
-pub rest_step : (all out rest batch after : List ℕ) (n : ℕ) → out ++ quote rest ≡ all → batch ≡ take n rest → after ≡ drop n rest → (out ++ quote batch) ++ quote after ≡ all
-rest_step all out rest batch after n e is_batch is_after =
-    append_assoc out (quote batch) (quote after)
-    ∙ ap (λ (t : List ℕ). out ++ (quote t ++ quote after)) is_batch
-    ∙ ap (λ (t : List ℕ). out ++ (quote (take n rest) ++ quote t)) is_after
-    ∙ ap (λ (t : List ℕ). out ++ t) (quote_parts n rest) ∙ e
+-- the next batch and what follows it, each quoted
+pub quote_batch : (rest batch after : List ℕ) (n : ℕ) → batch ≡ take n rest → after ≡ drop n rest → quote rest ≡ quote batch ++ quote after
+quote_batch rest batch after n is_batch is_after =
+    sym (quote_parts n rest) ∙ ap (λ (t : List ℕ). quote t ++ quote (drop n rest)) (sym is_batch) ∙ ap (λ (t : List ℕ). quote batch ++ quote t) (sym is_after)
 
--- what is written and the next batch are no longer than all
-pub rest_room : (old out bytes rest batch after : List ℕ) (n : ℕ) → out ++ quote rest ≡ old ++ quote bytes → batch ≡ take n rest → after ≡ drop n rest → length out + length (quote batch) ≤ length old + length (quote bytes)
-rest_room old out bytes rest batch after n e is_batch is_after =
-    let text = ap length (rest_step (old ++ quote bytes) out rest batch after n e is_batch is_after) in
-    omega (arith, text, length-append old (quote bytes), length-append out (quote batch), length-append (out ++ quote batch) (quote after))
-
--- where nothing is left, all is written
-pub rest_done : (all out rest : List ℕ) → length rest ≡ 0 → out ++ quote rest ≡ all → out ≡ all
+-- nothing is quoted as nothing
+pub quote_none : (rest : List ℕ) → length rest ≡ 0 → quote rest ≡ []
 unfolding quote
-rest_done all out [] none e = sym (append-nil out) ∙ e
-rest_done all out (x ∷ xs) none e = absurd (omega arith)
+quote_none [] none = refl
+quote_none (x ∷ xs) none = absurd (omega arith)

@@ -1,13 +1,63 @@
--- How the text of a name grows, component by component.
-use Rattle.std.proofs.Common.{◌≡◌, ℕ, ◌+◌, ◌≤◌, List, [], ◌∷◌, ◌++◌, Bool, true, false, length, refl, sym, ap, ◌∙◌, append_assoc, append-nil, length-append, arith}
+-- How a text grows, piece by piece.
+use Rattle.std.proofs.Common.{◌≡◌, ℕ, ◌≤◌, List, [], ◌∷◌, ◌++◌, Bool, true, false, length, Vec, Result, Ok, Err, refl, sym, ap, ◌∙◌, append_assoc, append-nil, length-append, vec_capacity, arith}
+use Rattle.std.proofs.lemmas.Result.{on_err_weaker}
 use Rattle.krb_wire.specs.Quote.{quote}
 use Rattle.krb_wire.specs.Names.{joined_components}
-use Rattle.krb_wire.specs.Text.{separator, Grew}
+use Rattle.krb_wire.specs.Text.{separator, Grew, Appended, AppendedPart}
+
+-- nothing was appended
+Grew-none : (a b : List ℕ) → b ≡ a → Grew a b
+Grew-none a b same = record { more = []; parts = same ∙ sym (append-nil a) }
+
+-- bytes were appended, and then more
+Grew-then : (a b c : List ℕ) → Grew a b → Grew b c → Grew a c
+Grew-then a b c p q = record { more = p.more ++ q.more; parts = q.parts ∙ ap (λ (x : List ℕ). x ++ q.more) p.parts ∙ append_assoc a p.more q.more }
+
+-- where nothing was left behind, no more than a part was
+pub appended_part : {A E : Type 0} (text : List ℕ) (old new : Vec ℕ A) (r : Result (Unit {0}) E) → Appended text old new r → AppendedPart text old new r
+appended_part text old new r h = record { ok = h.ok; err = on_err_weaker r (Grew-none old.items new.items) h.err; capacity = h.capacity; full = h.full }
+
+-- one part of a text was appended, and the other is left
+pub record Left {A : Type 0} (text left : List ℕ) (old out : Vec ℕ A) : Type 0 where
+  pub parts : old.items ++ text ≡ out.items ++ left
+  pub grew : Grew old.items out.items
+  pub capacity : vec_capacity old ≤ vec_capacity out
+
+-- at first all of it is left
+pub left_all : {A : Type 0} (text left : List ℕ) (out : Vec ℕ A) → text ≡ left → Left text left out out
+left_all text left out is = record { parts = ap (λ (t : List ℕ). out.items ++ t) is; grew = Grew-none out.items out.items refl; capacity = omega arith }
+
+-- the next piece was appended
+pub left_next : {A E : Type 0} (text left piece rest : List ℕ) (old out new : Vec ℕ A) → Left text left old out → left ≡ piece ++ rest → AppendedPart {E = E} piece out new (Ok tt) → Left text rest old new
+left_next text left piece rest old out new h is piece_is = record {
+  parts = h.parts ∙ ap (λ (t : List ℕ). out.items ++ t) is ∙ sym (append_assoc out.items piece rest) ∙ ap (λ (t : List ℕ). t ++ rest) (sym piece_is.ok);
+  grew = Grew-then _ _ _ h.grew (record { more = piece; parts = piece_is.ok });
+  capacity = (let before = h.capacity in let after = piece_is.capacity in omega (arith, before, after));
+}
+
+-- memory was refused for the next piece
+pub left_fails : {A E F : Type 0} (text left piece rest : List ℕ) (old out new : Vec ℕ A) (e : E) (f : F) → Left text left old out → left ≡ piece ++ rest → AppendedPart piece out new (Err e) → AppendedPart text old new (Err f)
+left_fails text left piece rest old out new e f h is refused = record {
+  ok = tt;
+  err = Grew-then _ _ _ h.grew refused.err;
+  capacity = (let before = h.capacity in let after = refused.capacity in omega (arith, before, after));
+  full = (
+      let all = ap length (h.parts ∙ ap (λ (t : List ℕ). out.items ++ t) is) in
+      let before = old.ok.0 in
+      let now = out.ok.0 in
+      let capacity = h.capacity in
+      let full = refused.full in
+      omega (arith, before, now, capacity, full, all, length-append old.items text, length-append out.items (piece ++ rest), length-append piece rest));
+}
+
+-- nothing is left
+pub left_none : {A E : Type 0} (text left : List ℕ) (old out : Vec ℕ A) → Left text left old out → left ≡ [] → AppendedPart {E = E} text old out (Ok tt)
+left_none text left old out h none = record { ok = sym (append-nil out.items) ∙ ap (λ (t : List ℕ). out.items ++ t) (sym none) ∙ sym h.parts; err = tt; capacity = h.capacity; full = tt }
 
 -- components of which the first has a `/` before it, or has none
 abbrev pub joined_from : Bool → List (List ℕ) → List ℕ
 joined_from first [] = []
-joined_from first (c ∷ cs) = separator first ++ (quote c ++ joined_from false cs)
+joined_from first (c ∷ cs) = (separator first ++ quote c) ++ joined_from false cs
 
 -- joined with a `/` between each two, or with one before each but the first, is the same
 pub joined_is : (cs : List (List ℕ)) → joined_components cs ≡ joined_from true cs
@@ -15,21 +65,3 @@ unfolding joined_components
 joined_is [] = refl
 joined_is (c ∷ []) = sym (append-nil (quote c))
 joined_is (c ∷ d ∷ cs) = ap (λ (t : List ℕ). quote c ++ (47 ∷ t)) (joined_is (d ∷ cs))
-
--- bytes were appended, and then more
-pub Grew-then : (a b c : List ℕ) → Grew a b → Grew b c → Grew a c
-Grew-then a b c p q = record { more = p.more ++ q.more; parts = q.parts ∙ ap (λ (x : List ℕ). x ++ q.more) p.parts ∙ append_assoc a p.more q.more }
-
--- one component more is written, and those after it are left
-pub joined_step : (whole out out' x : List ℕ) (first : Bool) (cs ds : List (List ℕ)) → whole ≡ out ++ joined_from first cs → cs ≡ x ∷ ds → out' ≡ out ++ (separator first ++ quote x) → whole ≡ out' ++ joined_from false ds
-joined_step whole out out' x first cs ds e is_cs is_out =
-    e ∙ ap (λ (l : List (List ℕ)). out ++ joined_from first l) is_cs
-    ∙ ap (λ (t : List ℕ). out ++ t) (sym (append_assoc (separator first) (quote x) (joined_from false ds)))
-    ∙ sym (append_assoc out (separator first ++ quote x) (joined_from false ds)) ∙ ap (λ (t : List ℕ). t ++ joined_from false ds) (sym is_out)
-
--- what is written and one component more are no longer than all
-pub joined_room : (old out x : List ℕ) (first : Bool) (all cs ds : List (List ℕ)) → old ++ joined_components all ≡ out ++ joined_from first cs → cs ≡ x ∷ ds → length out + length (separator first ++ quote x) ≤ length old + length (joined_components all)
-joined_room old out x first all cs ds e is_cs =
-    let text : old ++ joined_components all ≡ out ++ ((separator first ++ quote x) ++ joined_from false ds) =
-    e ∙ ap (λ (l : List (List ℕ)). out ++ joined_from first l) is_cs ∙ ap (λ (t : List ℕ). out ++ t) (sym (append_assoc (separator first) (quote x) (joined_from false ds))) in
-    omega (arith, ap length text, length-append old (joined_components all), length-append out ((separator first ++ quote x) ++ joined_from false ds), length-append (separator first ++ quote x) (joined_from false ds))

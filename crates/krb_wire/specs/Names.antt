@@ -1,7 +1,6 @@
 -- Names as text.
-use Rattle.std.specs.Prelude.{◌<◌, ℕ, ◌+◌, List, ◌∷◌, ◌++◌, map, length, Vec}
+use Rattle.std.specs.Prelude.{ℕ, List, ◌∷◌, ◌++◌, map}
 use Rattle.std.specs.List.{join_with_byte}
-use Rattle.std.specs.Vec.{vec_len, vec_capacity}
 use Rattle.krb_wire.specs.Spelling.{Parts}
 use Rattle.krb_wire.specs.Quote.{quote}
 
@@ -12,7 +11,3 @@ joined_components components = join_with_byte 47 (map quote components)
 -- the text of a name: its components joined by `/`, an `@`, and its realm
 abbrev pub name_text : Parts → List ℕ
 name_text p = joined_components p.components ++ (64 ∷ quote p.realm)
-
--- the text did not fit the room that was there
-abbrev pub HadNoRoom : {A : Type 0} → Vec ℕ A → List ℕ → Type 0
-HadNoRoom old text = vec_capacity old < vec_len old + length text

@@ -1,5 +1,6 @@
--- How the text of a name grows, for the private contracts of its writers.
-use Rattle.std.specs.Prelude.{◌≡◌, ℕ, List, [], ◌∷◌, ◌++◌, if◌then◌else◌, Bool}
+-- Text that is appended.
+use Rattle.std.specs.Prelude.{◌≡◌, ◌<◌, ◌≤◌, ℕ, ◌+◌, List, [], ◌∷◌, ◌++◌, length, if◌then◌else◌, Bool, Vec, Result, OnOk, OnErr}
+use Rattle.std.specs.Vec.{vec_len, vec_capacity}
 
 -- what stands before a component: a `/`, but nothing before the first
 abbrev pub separator : Bool → List ℕ
@@ -9,3 +10,21 @@ separator first = if first then [] else 47 ∷ []
 pub record Grew (old new : List ℕ) : Type 0 where
   pub more : List ℕ
   pub parts : new ≡ old ++ more
+
+-- the text did not fit the room that was there
+abbrev pub HadNoRoom : {A : Type 0} → Vec ℕ A → List ℕ → Type 0
+HadNoRoom old text = vec_capacity old < vec_len old + length text
+
+-- the text was appended, or memory was refused: then nothing was appended, and the text did not fit the room that was there
+pub record Appended {A E : Type 0} (text : List ℕ) (old new : Vec ℕ A) (result : Result (Unit {0}) E) : Type 0 where
+  pub ok : OnOk result (new.items ≡ old.items ++ text)
+  pub err : OnErr result (new.items ≡ old.items)
+  pub capacity : vec_capacity old ≤ vec_capacity new
+  pub full : OnErr result (HadNoRoom old text)
+
+-- the same of a writer that may leave some bytes behind where memory was refused
+pub record AppendedPart {A E : Type 0} (text : List ℕ) (old new : Vec ℕ A) (result : Result (Unit {0}) E) : Type 0 where
+  pub ok : OnOk result (new.items ≡ old.items ++ text)
+  pub err : OnErr result (Grew old.items new.items)
+  pub capacity : vec_capacity old ≤ vec_capacity new
+  pub full : OnErr result (HadNoRoom old text)

@@ -39,7 +39,7 @@ pub use parse::parse_name;
 pub use principal::Principal;
 pub use same::same_name;
 pub use spelling::{kt_principal_len, put_kt_principal};
-pub use text::write_name;
+pub use text::{all_or_nothing, write_name};
 pub use view::{
     PrincipalView, read_cc_principal, read_kt_principal, split_cc_principal, split_kt_principal,
 };

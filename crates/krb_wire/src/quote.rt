@@ -1,10 +1,9 @@
 //! The bytes of a component or a realm as text.
 
-ghost use Rattle.std.specs.Prelude.{◌≡◌, ◌<◌, ◌≤◌, ◌+◌, ◌++◌, IsTrue, OnOk, OnErr, length, take, vec_capacity};
+ghost use Rattle.std.specs.Prelude.{◌≡◌, ◌<◌, ◌≤◌, ◌+◌, ◌++◌, IsTrue, length, take};
 ghost use Rattle.std.specs.List.{All};
 ghost use Rattle.krb_wire.specs.Quote.{quoted_byte, IsPlain, quote};
-ghost use Rattle.krb_wire.specs.Names.{HadNoRoom};
-ghost use Rattle.krb_wire.specs.Text.{Grew};
+ghost use Rattle.krb_wire.specs.Text.{Appended, AppendedPart};
 
 use std::alloc::{AllocError, Allocator};
 
@@ -96,10 +95,7 @@ const BATCH: usize = 64;
 
 fn push_batch<A: Allocator>(out: &mut Vec<u8, A>, batch: &[u8]) -> Result<(), AllocError>
     requires { length batch.now ≤ BATCH }
-    ensures ok { OnOk result (out.new.items ≡ out.old.items ++ quote batch.now) }
-    ensures err { OnErr result (out.new.items ≡ out.old.items) }
-    ensures capacity { vec_capacity out.old ≤ vec_capacity out.new }
-    ensures full { OnErr result (HadNoRoom out.old (quote batch.now)) }
+    ensures { Appended (quote batch.now) out.old out.new result }
 {
     let mut text = [0; 2 * BATCH];
     let mut len = 0;
@@ -112,10 +108,7 @@ fn push_batch<A: Allocator>(out: &mut Vec<u8, A>, batch: &[u8]) -> Result<(), Al
 #[cold]
 #[inline(never)]
 fn push_in_batches<A: Allocator>(out: &mut Vec<u8, A>, bytes: &[u8]) -> Result<(), AllocError>
-    ensures ok { OnOk result (out.new.items ≡ out.old.items ++ quote bytes.now) }
-    ensures err { OnErr result (Grew out.old.items out.new.items) }
-    ensures capacity { vec_capacity out.old ≤ vec_capacity out.new }
-    ensures full { OnErr result (HadNoRoom out.old (quote bytes.now)) }
+    ensures { AppendedPart (quote bytes.now) out.old out.new result }
 {
     let mut rest = bytes;
     while !rest.is_empty() {
@@ -128,12 +121,8 @@ fn push_in_batches<A: Allocator>(out: &mut Vec<u8, A>, bytes: &[u8]) -> Result<(
 
 // Appends a component or a realm.
 #[inline]
-#[tactic(auto, using(crate::proofs::QuoteLemmas::plain_quotes))]
 pub fn push_quote<A: Allocator>(out: &mut Vec<u8, A>, bytes: &[u8]) -> Result<(), AllocError>
-    ensures ok { OnOk result (out.new.items ≡ out.old.items ++ quote bytes.now) }
-    ensures err { OnErr result (Grew out.old.items out.new.items) }
-    ensures capacity { vec_capacity out.old ≤ vec_capacity out.new }
-    ensures full { OnErr result (HadNoRoom out.old (quote bytes.now)) }
+    ensures { AppendedPart (quote bytes.now) out.old out.new result }
 {
     if is_plain_text(bytes) {
         return out.extend_from_slice(bytes);

@@ -1,14 +1,32 @@
-//! Names as text, after krb5_unparse_name.
+//! Text that is appended, and names as text, after krb5_unparse_name.
 
-ghost use Rattle.std.specs.Prelude.{◌≡◌, ◌≤◌, ◌++◌, OnOk, OnErr, vec_capacity};
+ghost use Rattle.std.specs.Prelude.{◌≡◌, ◌++◌, ℕ, List, Vec, vec_len};
 ghost use Rattle.krb_wire.specs.Quote.{quote};
-ghost use Rattle.krb_wire.specs.Names.{joined_components, name_text, HadNoRoom};
-ghost use Rattle.krb_wire.specs.Text.{separator, Grew};
+ghost use Rattle.krb_wire.specs.Names.{joined_components, name_text};
+ghost use Rattle.krb_wire.specs.Text.{separator, Appended, AppendedPart};
 
 use crate::memory::NoMemory;
 use crate::name::Name;
 use crate::quote::push_quote;
 use std::alloc::{AllocError, Allocator};
+
+/// Takes off again what stands behind the first `len` bytes where not all of a text was appended.
+pub fn all_or_nothing<E: Drop, A: Allocator>(
+    appended: Result<(), E>,
+    len: usize,
+    out: &mut Vec<u8, A>,
+) -> Result<(), NoMemory>
+    ensures { (text : List ℕ) (start : Vec ℕ A) → vec_len start ≡ len
+        → AppendedPart text start out.old appended → Appended text start out.new result }
+{
+    match appended {
+        Ok(()) => Ok(()),
+        Err(_) => {
+            out.truncate(len);
+            Err(NoMemory)
+        }
+    }
+}
 
 // Appends a component, after a `/` unless it is the first.
 fn push_component<A: Allocator>(
@@ -16,11 +34,7 @@ fn push_component<A: Allocator>(
     first: bool,
     component: &[u8],
 ) -> Result<(), AllocError>
-    ensures ok { OnOk result
-        (out.new.items ≡ out.old.items ++ (separator first ++ quote component.now)) }
-    ensures err { OnErr result (Grew out.old.items out.new.items) }
-    ensures capacity { vec_capacity out.old ≤ vec_capacity out.new }
-    ensures full { OnErr result (HadNoRoom out.old (separator first ++ quote component.now)) }
+    ensures { AppendedPart (separator first ++ quote component.now) out.old out.new result }
 {
     if !first {
         out.push(b'/')?;
@@ -30,11 +44,8 @@ fn push_component<A: Allocator>(
 }
 
 fn push_components<N: Name, A: Allocator>(name: &N, out: &mut Vec<u8, A>) -> Result<(), AllocError>
-    ensures ok { OnOk result
-        (out.new.items ≡ out.old.items ++ joined_components (N.parts name.now).components) }
-    ensures err { OnErr result (Grew out.old.items out.new.items) }
-    ensures capacity { vec_capacity out.old ≤ vec_capacity out.new }
-    ensures full { OnErr result (HadNoRoom out.old (joined_components (N.parts name.now).components)) }
+    ensures { AppendedPart (joined_components (N.parts name.now).components)
+        out.old out.new result }
 {
     let mut first = true;
     for component in name.components() {
@@ -45,10 +56,7 @@ fn push_components<N: Name, A: Allocator>(name: &N, out: &mut Vec<u8, A>) -> Res
 }
 
 fn push_name<N: Name, A: Allocator>(name: &N, out: &mut Vec<u8, A>) -> Result<(), AllocError>
-    ensures ok { OnOk result (out.new.items ≡ out.old.items ++ name_text (N.parts name.now)) }
-    ensures err { OnErr result (Grew out.old.items out.new.items) }
-    ensures capacity { vec_capacity out.old ≤ vec_capacity out.new }
-    ensures full { OnErr result (HadNoRoom out.old (name_text (N.parts name.now))) }
+    ensures { AppendedPart (name_text (N.parts name.now)) out.old out.new result }
 {
     push_components(name, out)?;
     out.push(b'@')?;
@@ -58,18 +66,9 @@ fn push_name<N: Name, A: Allocator>(name: &N, out: &mut Vec<u8, A>) -> Result<()
 /// Appends the name's text: the components joined by `/`, an `@` and the realm, with a backslash
 /// before what would be read otherwise. A name without components is `@` and its realm.
 pub fn write_name<N: Name, A: Allocator>(name: &N, out: &mut Vec<u8, A>) -> Result<(), NoMemory>
-    ensures ok { OnOk result (out.new.items ≡ out.old.items ++ name_text (N.parts name.now)) }
-    ensures err { OnErr result (out.new.items ≡ out.old.items) }
-    ensures capacity { vec_capacity out.old ≤ vec_capacity out.new }
-    // It runs out of memory only where the text does not fit the room that there is.
-    ensures full { OnErr result (HadNoRoom out.old (name_text (N.parts name.now))) }
+    ensures { Appended (name_text (N.parts name.now)) out.old out.new result }
 {
     let len = out.len();
-    match push_name(name, out) {
-        Ok(()) => Ok(()),
-        Err(_) => {
-            out.truncate(len);
-            Err(NoMemory)
-        }
-    }
+    let appended = push_name(name, out);
+    all_or_nothing(appended, len, out)
 }
