@@ -70,7 +70,7 @@ fn entry_of<A: Allocator + Copy>(alloc: A, words: Addition<'_>) -> Result<NewEnt
     let timestamp = number_word(words.time)?;
     let digits = digits_of(words.key);
     if !is_key(enctype, digits) {
-        return Err(LineRefusal::Fault(LineFault::BadKey));
+        return Err(LineFault::BadKey.into());
     }
     // Memory comes last: the key is known to be one, and the name takes none before it is known too.
     let principal = name_word(alloc, words.name)?;
@@ -91,8 +91,5 @@ pub fn parse_addition<A: Allocator + Copy>(
 ) -> Result<NewEntry<A>, LineRefusal>
     ensures { Reads (λ e. e) (entry_in words.entry) result }
 {
-    match addition_of(words) {
-        Some(words) => entry_of(alloc, words),
-        None => Err(LineRefusal::Fault(LineFault::WordCount)),
-    }
+    entry_of(alloc, addition_of(words).ok_or(LineFault::WordCount)?)
 }

@@ -12,20 +12,14 @@ use std::alloc::Allocator;
 pub fn append<A: Allocator>(bytes: &[u8], out: &mut Vec<u8, A>) -> Result<(), NoMemory>
     ensures { Appended bytes.now out.old out.new result }
 {
-    match out.extend_from_slice(bytes) {
-        Ok(()) => Ok(()),
-        Err(_) => Err(NoMemory),
-    }
+    out.extend_from_slice(bytes).map_err(|_| NoMemory)
 }
 
 /// Appends a byte.
 pub fn append_byte<A: Allocator>(byte: u8, out: &mut Vec<u8, A>) -> Result<(), NoMemory>
     ensures { Appended (byte ∷ []) out.old out.new result }
 {
-    match out.push(byte) {
-        Ok(()) => Ok(()),
-        Err(_) => Err(NoMemory),
-    }
+    out.push(byte).map_err(|_| NoMemory)
 }
 
 /// Appends a label and a number in decimal.

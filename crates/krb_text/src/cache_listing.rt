@@ -10,7 +10,7 @@ ghost use Rattle.krb_text.specs.Gathered.{Passed};
 use crate::append::append;
 use crate::columns::CcColumns;
 use crate::credential::append_credential;
-use crate::gather::{FULL, send_if_full};
+use crate::gather::{room_to_gather, send_if_full};
 use crate::listing::send_last;
 use krb_ccache::Ccache;
 use krb_files::{OutFault, Watched};
@@ -76,9 +76,7 @@ pub fn list_cache<A: Allocator, B: Allocator, W: Write>(
         (cache_text columns name.now cache.now.state)) }
     ensures failed { out.new.failed ≡ is_write_fault result }
 {
-    let Ok(mut gathered) = Vec::with_capacity(alloc, 2 * FULL) else {
-        return Err(OutFault::NoMemory);
-    };
+    let mut gathered = room_to_gather(alloc)?;
     append_title(name, &mut gathered)?;
     append_owner(&cache.default_principal(), &mut gathered)?;
     list_credentials(cache, columns, &mut gathered, out)?;

@@ -1,15 +1,23 @@
 //! Text on its way to a writer, gathered into large writes.
 
-ghost use Rattle.std.specs.Prelude.{◌≡◌, ◌<◌, vec_len, is_err, IsFalse, OnOk, OnErr, IfErr};
+ghost use Rattle.std.specs.Prelude.{◌≡◌, ◌<◌, [], vec_len, is_err, IsFalse, OnOk, OnErr, IfOk, IfErr};
 ghost use Rattle.krb_files.specs.Bytes.{AppendsPrefix};
 ghost use Rattle.krb_text.specs.Gathered.{Sent};
 
 use krb_files::{OutFault, Watched, put};
+use krb_wire::NoMemory;
 use std::alloc::Allocator;
 use std::io::Write;
 
-/// Once so many bytes are gathered they are written.
-pub const FULL: usize = 32_768;
+// Once so many bytes are gathered they are written.
+const FULL: usize = 32_768;
+
+/// Nothing gathered yet, and room for what two writes take.
+pub fn room_to_gather<A: Allocator>(alloc: A) -> Result<Vec<u8, A>, NoMemory>
+    ensures { IfOk result (λ gathered. gathered.items ≡ []) }
+{
+    Vec::with_capacity(alloc, 2 * FULL).map_err(|_| NoMemory)
+}
 
 /// Writes what is gathered where it is much.
 pub fn send_if_full<A: Allocator, W: Write>(

@@ -86,10 +86,7 @@ pub fn parse_key<A: Allocator>(
     ensures { Reads (λ key. key.items) (key_word etype digits.now) result }
 {
     if !is_key(etype, digits) {
-        return Err(LineRefusal::Fault(LineFault::BadKey));
+        return Err(LineFault::BadKey.into());
     }
-    match hex::decode(alloc, digits) {
-        Ok(key) => Ok(key),
-        Err(_) => Err(LineRefusal::NoMemory),
-    }
+    hex::decode(alloc, digits).map_err(|_| LineRefusal::NoMemory)
 }

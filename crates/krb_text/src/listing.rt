@@ -8,7 +8,7 @@ ghost use Rattle.krb_text.specs.Listing.{titles, underlines, heading, entry_line
 
 use crate::append::append;
 use crate::columns::KtColumns;
-use crate::gather::{FULL, send_if_full};
+use crate::gather::{room_to_gather, send_if_full};
 use crate::line::{append_entry, append_fault};
 use krb_files::{OutFault, Watched, put};
 use krb_keytab::Keytab;
@@ -120,9 +120,7 @@ pub fn list_keytab<A: Allocator, B: Allocator, W: Write>(
         (list_text columns name.now keytab.now.state)) }
     ensures failed { out.new.failed ≡ is_write_fault result }
 {
-    let Ok(mut gathered) = Vec::with_capacity(alloc, 2 * FULL) else {
-        return Err(OutFault::NoMemory);
-    };
+    let mut gathered = room_to_gather(alloc)?;
     append_heading(name, columns.times, &mut gathered)?;
     list_entries(keytab, columns, &mut gathered, out)?;
     send_last(keytab.fault(), &mut gathered, out)

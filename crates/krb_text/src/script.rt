@@ -1,6 +1,7 @@
 //! Scripts: lines that ask for events.
 
 ghost use Rattle.std.specs.Prelude.{◌≡◌, ◌++◌, ◌∷◌, [], Ok, IfOk, IfErr, OnOk, IsOkAnd};
+ghost use Rattle.krb_text.specs.declared.script.ScriptRefusal.TheVariants.{NoMemory as OutOfMemory};
 ghost use Rattle.krb_text.specs.LineFault.{Reads};
 ghost use Rattle.krb_text.specs.Script.{no_words, lone_number, event_by, event_in, is_asked, script_of, script, RefusesScript};
 
@@ -11,7 +12,7 @@ use crate::pieces::{Lines, Words};
 use crate::word::number_word;
 use krb_keytab::NewEntry;
 use krb_walk::Event;
-use std::alloc::Allocator;
+use std::alloc::{AllocFailed, Allocator};
 use thiserror::Error;
 
 /// Why a script gives no events.
@@ -23,6 +24,14 @@ pub enum ScriptRefusal {
     /// An allocation failed.
     #[error("out of memory")]
     NoMemory,
+}
+
+impl<T: Drop> From<AllocFailed<T>> for ScriptRefusal {
+    ghost from_gives = { λ _ refusal. refusal ≡ OutOfMemory };
+
+    fn from(_refused: AllocFailed<T>) -> ScriptRefusal {
+        ScriptRefusal::NoMemory
+    }
 }
 
 fn no_words(mut words: Words<'_>) -> Result<(), LineFault>
@@ -38,13 +47,9 @@ fn no_words(mut words: Words<'_>) -> Result<(), LineFault>
 fn lone_number(mut words: Words<'_>) -> Result<u32, LineFault>
     ensures { result ≡ lone_number words.entry }
 {
-    let Some(word) = words.next() else {
-        return Err(LineFault::WordCount);
-    };
-    match words.next() {
-        None => number_word(word),
-        Some(_) => Err(LineFault::WordCount),
-    }
+    let word = words.next().ok_or(LineFault::WordCount)?;
+    no_words(words)?;
+    number_word(word)
 }
 
 // The event of a command and the words after it.
@@ -76,13 +81,9 @@ fn parse_line<A: Allocator + Copy>(alloc: A, line: &[u8]) -> Result<Event<NewEnt
     ensures { Reads (λ e. e) (event_in line.now) result }
 {
     let mut words = Words::of(line);
-    let Some(word) = words.next() else {
-        return Err(LineRefusal::Fault(LineFault::UnknownWord));
-    };
-    match Command::named(word) {
-        Some(command) => event_by(alloc, command, words),
-        None => Err(LineRefusal::Fault(LineFault::UnknownWord)),
-    }
+    let word = words.next().ok_or(LineFault::UnknownWord)?;
+    let command = Command::named(word).ok_or(LineFault::UnknownWord)?;
+    event_by(alloc, command, words)
 }
 
 // Whether a line asks for something: it is not empty, and no comment.
@@ -107,10 +108,7 @@ fn add_event<A: Allocator + Copy>(
     ensures err { IfErr result (RefusesScript (script_of ((number, line.now) ∷ []))) }
 {
     match parse_line(alloc, line) {
-        Ok(event) => match events.push(event) {
-            Ok(()) => Ok(()),
-            Err(_) => Err(ScriptRefusal::NoMemory),
-        },
+        Ok(event) => Ok(events.push(event)?),
         Err(LineRefusal::Fault(kind)) => Err(ScriptRefusal::Fault { line: number, kind }),
         Err(LineRefusal::NoMemory) => Err(ScriptRefusal::NoMemory),
     }

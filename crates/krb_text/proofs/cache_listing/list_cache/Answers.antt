@@ -12,7 +12,7 @@ returns-in_err-list_credentials-clause-prefix g c =
     let p = err_from_is_err_and c.from_residual-in_err-list_credentials.result c.from_residual-in_err-list_credentials.ensures.1 in
     let k = c.args.cache.now.state in
     let name = c.args.name.now in
-    let named = c.in_ok-append_title.ensures ∙ ap (λ (t : List ℕ). t ++ title name) c.in-Ok.ensures.items in
+    let named = c.in_ok-append_title.ensures ∙ ap (λ (t : List ℕ). t ++ title name) c.in_ok-gathered.ensures in
     let first = gathered_then [] _ _ (title name) (owner k.principal) named (rw c.default_principal.ensures at c.in_ok-append_owner.ensures) in
     rw p.1 (prefix_of_three _ _ _ (cache_heading name k.principal) (lines_of_credentials c.args.columns (placed_credentials k)) (fault_line (fault_of (store_of k))) first c.in_err-list_credentials.ensures.prefix)
 
@@ -20,7 +20,7 @@ pub returns-clause-ok : goal.returns-clause-ok
 returns-clause-ok g c =
     let k = c.args.cache.now.state in
     let name = c.args.name.now in
-    let named = c.in_ok-append_title.ensures ∙ ap (λ (t : List ℕ). t ++ title name) c.in-Ok.ensures.items in
+    let named = c.in_ok-append_title.ensures ∙ ap (λ (t : List ℕ). t ++ title name) c.in_ok-gathered.ensures in
     let first = gathered_then [] _ _ (title name) (owner k.principal) named (rw c.default_principal.ensures at c.in_ok-append_owner.ensures) in
     on_ok_weaker c.send_last.result (λ sent. passed_end _ _ _ _ (cache_heading name k.principal) (lines_of_credentials c.args.columns (placed_credentials k)) (fault_line (fault_of (store_of k))) _ first c.in_ok-list_credentials.ensures.ok (rw c.fault.ensures at sent)) c.send_last.ensures.ok
 
@@ -28,6 +28,6 @@ pub returns-clause-prefix : goal.returns-clause-prefix
 returns-clause-prefix g c =
     let k = c.args.cache.now.state in
     let name = c.args.name.now in
-    let named = c.in_ok-append_title.ensures ∙ ap (λ (t : List ℕ). t ++ title name) c.in-Ok.ensures.items in
+    let named = c.in_ok-append_title.ensures ∙ ap (λ (t : List ℕ). t ++ title name) c.in_ok-gathered.ensures in
     let first = gathered_then [] _ _ (title name) (owner k.principal) named (rw c.default_principal.ensures at c.in_ok-append_owner.ensures) in
     on_err_weaker c.send_last.result (λ sent. failed_end _ _ _ _ (cache_heading name k.principal) (lines_of_credentials c.args.columns (placed_credentials k)) (fault_line (fault_of (store_of k))) _ first c.in_ok-list_credentials.ensures.ok (rw c.fault.ensures at sent)) c.send_last.ensures.prefix

@@ -10,17 +10,17 @@ pub returns-in_err-list_entries-clause-prefix : goal.returns-in_err-list_entries
 returns-in_err-list_entries-clause-prefix g c =
     let p = err_from_is_err_and c.from_residual-in_err-list_entries.result c.from_residual-in_err-list_entries.ensures.1 in
     let k = c.args.keytab.now.state in
-    let first = c.in_ok-append_heading.ensures ∙ ap (λ (t : List ℕ). t ++ heading c.args.name.now c.args.columns.times) c.in-Ok.ensures.items in
+    let first = c.in_ok-append_heading.ensures ∙ ap (λ (t : List ℕ). t ++ heading c.args.name.now c.args.columns.times) c.in_ok-gathered.ensures in
     rw p.1 (prefix_of_three _ _ _ (heading c.args.name.now c.args.columns.times) (entry_lines c.args.columns k) (fault_line (fault_of (store_of k))) first c.in_err-list_entries.ensures.prefix)
 
 pub returns-clause-ok : goal.returns-clause-ok
 returns-clause-ok g c =
     let k = c.args.keytab.now.state in
-    let first = c.in_ok-append_heading.ensures ∙ ap (λ (t : List ℕ). t ++ heading c.args.name.now c.args.columns.times) c.in-Ok.ensures.items in
+    let first = c.in_ok-append_heading.ensures ∙ ap (λ (t : List ℕ). t ++ heading c.args.name.now c.args.columns.times) c.in_ok-gathered.ensures in
     on_ok_weaker c.send_last.result (λ sent. passed_end _ _ _ _ (heading c.args.name.now c.args.columns.times) (entry_lines c.args.columns k) (fault_line (fault_of (store_of k))) _ first c.in_ok-list_entries.ensures.ok (rw c.fault.ensures at sent)) c.send_last.ensures.ok
 
 pub returns-clause-prefix : goal.returns-clause-prefix
 returns-clause-prefix g c =
     let k = c.args.keytab.now.state in
-    let first = c.in_ok-append_heading.ensures ∙ ap (λ (t : List ℕ). t ++ heading c.args.name.now c.args.columns.times) c.in-Ok.ensures.items in
+    let first = c.in_ok-append_heading.ensures ∙ ap (λ (t : List ℕ). t ++ heading c.args.name.now c.args.columns.times) c.in_ok-gathered.ensures in
     on_err_weaker c.send_last.result (λ sent. failed_end _ _ _ _ (heading c.args.name.now c.args.columns.times) (entry_lines c.args.columns k) (fault_line (fault_of (store_of k))) _ first c.in_ok-list_entries.ensures.ok (rw c.fault.ensures at sent)) c.send_last.ensures.prefix
