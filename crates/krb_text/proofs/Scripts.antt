@@ -1,12 +1,12 @@
 -- Scripts, line by line.
 use Rattle.std.proofs.Common.{◌≡◌, ℕ, ◌+◌, List, [], ◌∷◌, ◌++◌, true, Result, Ok, Err, refl, sym, append_assoc}
-use Rattle.std.specs.Prelude.{IsOkAnd}
+use Rattle.std.specs.Prelude.{IsOk, IsOkAnd}
 use Rattle.krb_walk.specs.declared.event.Event.{Event}
 use Rattle.krb_keytab.specs.Entry.{EntryParts}
 use Rattle.krb_text.specs.declared.line_fault.LineFault.{LineFault}
 use Rattle.krb_text.specs.declared.script.ScriptRefusal.{ScriptRefusal}
 use Rattle.krb_text.specs.declared.script.ScriptRefusal.TheVariants.{Fault, NoMemory}
-use Rattle.krb_text.specs.Script.{event_in, is_asked, asked_from, faults_of, events_of, events_or_fault, script_of, RefusesScript}
+use Rattle.krb_text.specs.Script.{event_in, is_asked, asked_from, faults_of, events_of, events_or_fault, script_of, RefusesScript, TakesMemory}
 
 -- a line gives an event, and those of the lines after it come next
 pub record GivesEvent (n : ℕ) (line : List ℕ) (rest : List (List ℕ)) (old new : List (Event EntryParts)) : Type 0 where
@@ -34,3 +34,12 @@ refused_line n line rest events (Fault m kind) (Err fault) is asked h = rw (aske
 pub refuses_script : (n : ℕ) (line : List ℕ) (rest : List (List ℕ)) (events : List (Event EntryParts)) (e : ScriptRefusal) → is_asked line ≡ true
     → RefusesScript (script_of ((n, line) ∷ [])) e → RefusesScript (events_or_fault (faults_of (asked_from n (line ∷ rest))) events) e
 refuses_script n line rest events e asked h = refused_line n line rest events e (event_in line) refl asked h
+
+-- a line that asks for an event and gives it takes memory
+pub takes_memory : (n : ℕ) (line : List ℕ) (rest : List (List ℕ)) → is_asked line ≡ true → IsOk (event_in line) → TakesMemory (asked_from n (line ∷ rest))
+takes_memory n line rest asked h = rw asked h
+
+-- what is a value of which something holds is a value
+pub ok_of_and : {T E : Type 0} (P : T → Type 0) (r : Result T E) → IsOkAnd r P → IsOk r
+ok_of_and P (Ok x) h = refl
+ok_of_and P (Err e) h = absurd h

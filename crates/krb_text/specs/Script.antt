@@ -1,5 +1,5 @@
 -- Scripts: lines that ask for events.
-use Rattle.std.specs.Prelude.{◌≡◌, ℕ, ◌==◌, List, [], ◌∷◌, codes, Bool, false, not, if◌then◌else◌, filter, bytes_eq, Option, None, Some, ok_or, Result, Ok, Err}
+use Rattle.std.specs.Prelude.{◌≡◌, ℕ, ◌==◌, List, [], ◌∷◌, codes, Bool, false, not, if◌then◌else◌, filter, bytes_eq, Option, None, Some, ok_or, Result, Ok, Err, IsOk}
 use Rattle.std.specs.List.{filter_map, enumerate_from, join_with_byte}
 use Rattle.std.specs.Result.{result_ok}
 use Rattle.krb_walk.specs.declared.event.Event.{Event}
@@ -148,3 +148,8 @@ script text = script_of (asked_from 1 (pieces 10 text))
 abbrev pub RefusesScript : Result (List (Event EntryParts)) ScriptFault → ScriptRefusal → Type 0
 RefusesScript given (Fault line kind) = given ≡ Err (record { line = line; kind = kind })
 RefusesScript given NoMemory = Unit {0}
+
+-- memory may be refused only where the first line that asks for something gives an event
+abbrev pub TakesMemory : List (ℕ × List ℕ) → Type 0
+TakesMemory [] = ⊥
+TakesMemory (line ∷ others) = IsOk (event_in line.1)

@@ -1,9 +1,10 @@
 //! Scripts: lines that ask for events.
 
-ghost use Rattle.std.specs.Prelude.{◌≡◌, ◌++◌, ◌∷◌, [], Ok, IfOk, IfErr, OnOk, IsOkAnd};
+ghost use Rattle.std.specs.Prelude.{◌≡◌, ◌++◌, ◌∷◌, [], Ok, IfOk, IfErr, OnOk, IsOkAnd, IsErrOf};
 ghost use Rattle.krb_text.specs.declared.script.ScriptRefusal.TheVariants.{NoMemory as OutOfMemory};
 ghost use Rattle.krb_text.specs.LineFault.{Reads};
-ghost use Rattle.krb_text.specs.Script.{no_words, lone_number, event_by, event_in, is_asked, script_of, script, RefusesScript};
+ghost use Rattle.krb_text.specs.Pieces.{pieces};
+ghost use Rattle.krb_text.specs.Script.{no_words, lone_number, event_by, event_in, is_asked, asked_from, script_of, script, RefusesScript, TakesMemory};
 
 use crate::addition::parse_addition;
 use crate::command::Command;
@@ -106,6 +107,7 @@ fn add_event<A: Allocator + Copy>(
     ensures ok { OnOk result
         (IsOkAnd (event_in line.now) (λ e. events.new.items ≡ events.old.items ++ e ∷ [])) }
     ensures err { IfErr result (RefusesScript (script_of ((number, line.now) ∷ []))) }
+    ensures memory { IsErrOf result ScriptRefusal.NoMemory → TakesMemory ((number, line.now) ∷ []) }
 {
     match parse_line(alloc, line) {
         Ok(event) => Ok(events.push(event)?),
@@ -122,6 +124,8 @@ pub fn parse_script<A: Allocator + Copy>(
 ) -> Result<Vec<Event<NewEntry<A>>, A>, ScriptRefusal>
     ensures ok { IfOk result (λ events. script text.now ≡ Ok events.items) }
     ensures err { IfErr result (RefusesScript (script text.now)) }
+    ensures memory { IsErrOf result ScriptRefusal.NoMemory
+        → TakesMemory (asked_from 1 (pieces 10 text.now)) }
 {
     let mut events = Vec::new(alloc);
     let mut number = 0;
