@@ -7,8 +7,8 @@ use Rattle.krb_walk.specs.declared.event.Event.TheVariants as event
 use Rattle.krb_keytab.specs.Entry.{EntryParts}
 use Rattle.krb_text.specs.declared.line_fault.LineFault.{LineFault}
 use Rattle.krb_text.specs.declared.line_fault.LineFault.TheVariants.{UnknownWord, WordCount}
-use Rattle.krb_text.specs.declared.command.Command.{Command}
-use Rattle.krb_text.specs.declared.command.Command.TheVariants as command
+use Rattle.krb_text.specs.declared.script.command.Command.{Command}
+use Rattle.krb_text.specs.declared.script.command.Command.TheVariants as command
 use Rattle.krb_text.specs.declared.script.ScriptRefusal.{ScriptRefusal}
 use Rattle.krb_text.specs.declared.script.ScriptRefusal.TheVariants.{Fault, NoMemory}
 use Rattle.krb_text.specs.Pieces.{pieces}

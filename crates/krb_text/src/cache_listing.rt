@@ -7,9 +7,12 @@ ghost use Rattle.krb_files.specs.Bytes.{AppendsPrefix, is_write_fault};
 ghost use Rattle.krb_text.specs.CacheListing.{title, owner, lines_of_credentials, cache_text};
 ghost use Rattle.krb_text.specs.Gathered.{Passed};
 
+mod credential;
+mod escape;
+
 use crate::append::append;
+use crate::cache_listing::credential::append_credential;
 use crate::columns::CcColumns;
-use crate::credential::append_credential;
 use crate::gather::{room_to_gather, send_if_full};
 use crate::listing::send_last;
 use krb_ccache::Ccache;

@@ -1,13 +1,9 @@
 //! Keytabs and credential caches as text, and files by name.
 #![tactic(auto)]
 
-mod addition;
 mod append;
 mod cache_listing;
 mod columns;
-mod command;
-mod credential;
-mod escape;
 mod etype;
 mod find_line;
 mod flags;

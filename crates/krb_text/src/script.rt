@@ -6,10 +6,13 @@ ghost use Rattle.krb_text.specs.LineFault.{Reads};
 ghost use Rattle.krb_text.specs.Pieces.{pieces};
 ghost use Rattle.krb_text.specs.Script.{no_words, lone_number, event_by, event_in, is_asked, asked_from, script_of, script, RefusesScript, TakesMemory};
 
-use crate::addition::parse_addition;
-use crate::command::Command;
+mod addition;
+mod command;
+
 use crate::line_fault::{LineFault, LineRefusal};
 use crate::pieces::{Lines, Words};
+use crate::script::addition::parse_addition;
+use crate::script::command::Command;
 use crate::word::number_word;
 use krb_keytab::NewEntry;
 use krb_walk::Event;

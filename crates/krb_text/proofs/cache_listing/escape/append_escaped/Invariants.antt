@@ -1,6 +1,6 @@
 use Rattle.std.proofs.Common.{◌≡◌, ◌++◌, drop}
 use Rattle.krb_text.specs.Escape.{escaped_text}
-use Rattle.krb_text.proofs.escape.append_escaped.Given as goal
+use Rattle.krb_text.proofs.cache_listing.escape.append_escaped.Given as goal
 
 abbrev pub invariant-bytes : goal.invariant-bytes
 invariant-bytes g l = record {

@@ -4,7 +4,7 @@ use Rattle.krb_keytab.specs.Entry.{EntryParts}
 use Rattle.krb_text.specs.LineFault.{Reads}
 use Rattle.krb_text.specs.Script.{Addition, entry_of}
 use Rattle.krb_text.proofs.Additions.{name_refused}
-use Rattle.krb_text.proofs.addition.entry_of.Goals as goal
+use Rattle.krb_text.proofs.script.addition.entry_of.Goals as goal
 
 pub returns-in_err-principal : goal.returns-in_err-principal
 returns-in_err-principal g c =

@@ -5,8 +5,8 @@ ghost use Rattle.krb_ccache.specs.Typed.{config_parts};
 ghost use Rattle.krb_text.specs.Credential.{valid_from, instant, validity, ticket_line, renew_line, flags_line, etype_line, ticket_lines, about, config_line, credential_lines};
 
 use crate::append::{append, append_byte};
+use crate::cache_listing::escape::append_escaped;
 use crate::columns::CcColumns;
-use crate::escape::append_escaped;
 use crate::etype::etype_text;
 use crate::flags::flag_letters;
 use crate::time::time_text;
