@@ -106,9 +106,7 @@ pub fn image_anew<A: Allocator, B: Allocator>(
     ensures known { IfOk result (λ v. IsKnownEnd V2 v.items (record { place = len; ending = Bare })) }
 {
     anew_is_sound(keytab);
-    let Ok(mut image) = Vec::from_elem(alloc, 0, len) else {
-        return Err(NoMemory);
-    };
+    let mut image = Vec::from_elem(alloc, 0, len)?;
     spell_into(keytab, &mut image);
     bytes_fit(&image);
     Ok(image)

@@ -55,9 +55,7 @@ impl<A: Allocator> Keytab<A> {
         ensures { IfOk result (λ k. k.state ≡ empty format limits) }
     {
         let limit = limits.image();
-        let Ok(image) = Vec::from_slice(alloc, &[5, version_of(format)]) else {
-            return Err(NoMemory);
-        };
+        let image = Vec::from_slice(alloc, &[5, version_of(format)])?;
         let (end, count) = end_of_cells(format, &image);
         Ok(Keytab {
             image,

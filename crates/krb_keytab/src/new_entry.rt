@@ -57,9 +57,7 @@ impl<'a> EntryView<'a> {
         ensures { IfOk result (λ e. e ≡ self.now) }
     {
         let principal = copy_name(alloc, self.principal())?;
-        let Ok(key) = Vec::from_slice(alloc, self.key()) else {
-            return Err(NoMemory);
-        };
+        let key = Vec::from_slice(alloc, self.key())?;
         Ok(NewEntry {
             principal,
             timestamp: self.timestamp(),

@@ -1,5 +1,5 @@
 -- A run goes on by one event.
-use Rattle.std.specs.Prelude.{IfOk, OnOk}
+use Rattle.std.specs.Prelude.{IfOk, OnOk, OnErr}
 use Rattle.std.proofs.Common.{◌≡◌, ℕ, Result, Ok, Err, List, [], ◌∷◌, ◌++◌, refl, sym, ap, ◌∙◌, subst, append_assoc}
 use Rattle.std.proofs.lemmas.List.{append-nil}
 use Rattle.krb_walk.specs.declared.event.Event.{Event}
@@ -65,3 +65,8 @@ ran_step r old new w ready is = ran_one r old new (Step w) _ ready refl is (lawf
 pub ran_applied : {S I A E : Type 0} (r : Rules S I) (old new : SessionState S) (e : Event I) (result : Result (Reply A) E) → IsReady r old → IfOk result (λ x. said x ≡ reply_to r old e) → OnOk result (new ≡ after r old e) → OnOk result (IsLawful r (moment r old e)) → IfOk result (λ x. Ran r old new (e ∷ []) [] (said x ∷ []))
 ran_applied r old new e (Ok x) ready says is lawful = ran_one r old new e (said x) ready says is lawful
 ran_applied r old new e (Err want) ready says is lawful = tt
+
+-- what holds anyway holds where there is an error
+pub on_err : {T E P : Type 0} (r : Result T E) → P → OnErr r P
+on_err (Ok _) holds = tt
+on_err (Err _) holds = holds

@@ -2,6 +2,9 @@
 
 ghost use Rattle.std.specs.Prelude.{◌≡◌};
 ghost use Rattle.krb_walk.specs.Numbers.{code_number};
+ghost use Rattle.krb_walk.specs.declared.refusal.Refusal.TheVariants.{Code as ByCode, NoMemory};
+
+use krb_wire::NoMemory;
 
 /// Why a request is refused.
 #[derive(Clone, Copy, Debug, PartialEq, Eq)]
@@ -45,4 +48,20 @@ impl Code {
 pub enum Refusal {
     Code(Code),
     NoMemory,
+}
+
+impl From<Code> for Refusal {
+    ghost from_gives = { λ code refusal. refusal ≡ ByCode code };
+
+    fn from(code: Code) -> Refusal {
+        Refusal::Code(code)
+    }
+}
+
+impl From<NoMemory> for Refusal {
+    ghost from_gives = { λ _ refusal. refusal ≡ NoMemory };
+
+    fn from(_error: NoMemory) -> Refusal {
+        Refusal::NoMemory
+    }
 }

@@ -90,14 +90,9 @@ impl<A: Allocator> Keytab<A> {
             return Err(Refusal::Code(Code::Full));
         }
         let place = self.end.place as u32;
-        match append_record(&mut self.image, self.end, form) {
-            Ok(end) => {
-                self.end = end;
-                self.count += 1;
-                Ok(place)
-            }
-            Err(_) => Err(Refusal::NoMemory),
-        }
+        self.end = append_record(&mut self.image, self.end, form)?;
+        self.count += 1;
+        Ok(place)
     }
 
     /// How many bytes the record of an entry takes after its length: none where a part of the entry is too long

@@ -32,9 +32,7 @@ impl<A: Allocator + Copy> Keytab<A> {
             return Err(Refusal::Code(Code::Full));
         };
         anew_is_sound(self);
-        let Ok(image) = image_anew(self, *self.image.allocator(), len) else {
-            return Err(Refusal::NoMemory);
-        };
+        let image = image_anew(self, *self.image.allocator(), len)?;
         let end = CellsEnd {
             place: len,
             ending: Ending::Bare,
@@ -80,12 +78,8 @@ impl<A: Allocator + Copy> Keytab<A> {
         ensures keeps { OnErr result (cursors.new ≡ cursors.old) }
         ensures room { OnErr result (self.new.room ≡ self.old.room) }
     {
-        match self.rewritten() {
-            Ok(new) => {
-                self.replace(new, cursors);
-                Ok(())
-            }
-            Err(refusal) => Err(refusal),
-        }
+        let new = self.rewritten()?;
+        self.replace(new, cursors);
+        Ok(())
     }
 }

@@ -46,12 +46,8 @@ impl<P: Placed, A: Allocator + Copy> Session<P, A> {
     {
         let _ = &self.count;
         for event in events {
-            let Ok(()) = replies.reserve(1) else {
-                return Err(NoMemory);
-            };
-            let Ok(reply) = self.answer(event) else {
-                return Err(NoMemory);
-            };
+            replies.reserve(1)?;
+            let reply = self.answer(event)?;
             replies.push_reserved(reply);
         }
         Ok(())
@@ -183,15 +179,6 @@ fn rewrite_with<P: Placed>(store: &mut P, table: &mut [u32], count: usize) -> Re
     store.rewrite(cursors)
 }
 
-fn copy_bytes<A: Allocator>(alloc: A, bytes: &[u8]) -> Result<Vec<u8, A>, NoMemory>
-    ensures { IfOk result (λ v. v.items ≡ bytes.now) }
-{
-    match bytes.to_vec(alloc) {
-        Ok(copy) => Ok(copy),
-        Err(_) => Err(NoMemory),
-    }
-}
-
 /// The reply of a walk that stands at a cursor and stops there.
 fn tell<P: Placed, A: Allocator>(
     alloc: A,
@@ -207,7 +194,7 @@ fn tell<P: Placed, A: Allocator>(
     let _ = store.first();
     match stop {
         Stop::Live { place, next } => {
-            let bytes = copy_bytes(alloc, store.bytes_at(place))?;
+            let bytes = store.bytes_at(place).to_vec(alloc)?;
             Ok(Reply::Gave {
                 walk,
                 place,

@@ -12,5 +12,5 @@ returns-clause-rewrites g c =
     let i = c.self.inside in
     let k = c.args.self.now.state in
     let whole : is_some (fault_of (store_of k)) ≡ false = let a = c.fault.ensures in let b = c.is_some.ensures in let d = c.if-is_some.false in cc in
-    subst (λ (s : KeytabState). Rewrites (store_of k) (store_of s)) (sym (held_anew i.format i.limit i.image.items c.in-Ok.image.items k (state_is c.self.view_is) c.in-Ok.ensures.contents))
+    subst (λ (s : KeytabState). Rewrites (store_of k) (store_of s)) (sym (held_anew i.format i.limit i.image.items c.in_ok-image.image.items k (state_is c.self.view_is) c.in_ok-image.ensures.contents))
     (rewrites_store k c.anew_is_sound.ensures.was c.anew_is_sound.ensures.sound (whole_kind k whole))

@@ -5,7 +5,7 @@ use Rattle.krb_walk.specs.Said.{Said, said}
 use Rattle.krb_walk.specs.History.{IsReady}
 use Rattle.krb_walk.specs.Events.{SessionState, session_of, reply_to}
 use Rattle.krb_walk.specs.Ran.{Ran}
-use Rattle.krb_walk.proofs.Runs.{ran_none, ran_more}
+use Rattle.krb_walk.proofs.Runs.{on_err, ran_none, ran_more}
 use Rattle.krb_walk.proofs.session.Session.run.Goals as goal
 
 pub loop-event-init : goal.loop-event-init
@@ -21,12 +21,26 @@ loop-event-preserved g c =
     let e = c.event-item.result in
     let more : take (c.loop-event.event-index + 1) c.args.events.now ≡ take c.loop-event.event-index c.args.events.now ++ e ∷ [] = take_more c.args.events.now c.loop-event.event-index e c.loop-event-test.true ∙ ap (λ (x : Event g.row.P-Item.Denot). take c.loop-event.event-index c.args.events.now ++ x ∷ []) (sym c.event-item.is) in
     let told : map said c.push_reserved.new.self.items ≡ map said c.loop-event.replies.items ++ reply_to r (now c.loop-event.self) e ∷ [] =
-    ap (map said) c.push_reserved.ensures.items ∙ map-append said c.reserve.new.self.items (c.in-Ok-answer.reply ∷ [])
-    ∙ ap (λ xs. map said xs ++ said c.in-Ok-answer.reply ∷ []) c.in-Ok.ensures.items
-    ∙ ap (λ (x : Said). map said c.loop-event.replies.items ++ x ∷ []) c.in-Ok-answer.ensures.reply in
+    ap (map said) c.push_reserved.ensures.items ∙ map-append said c.reserve.new.self.items (c.in_ok-reply.reply ∷ [])
+    ∙ ap (λ xs. map said xs ++ said c.in_ok-reply.reply ∷ []) c.in_ok-reserve.ensures.items
+    ∙ ap (λ (x : Said). map said c.loop-event.replies.items ++ x ∷ []) c.in_ok-reply.ensures.reply in
     let inv = c.loop-event.invariant in
-    let ran = ran_more r (now c.args.self.now) (now c.loop-event.self) (now c.answer.new.self) (take c.loop-event.event-index c.args.events.now) e _ _ _ inv.ready inv.ran c.in-Ok-answer.ensures.state c.in-Ok-answer.ensures.lawful told in
+    let ran = ran_more r (now c.args.self.now) (now c.loop-event.self) (now c.answer.new.self) (take c.loop-event.event-index c.args.events.now) e _ _ _ inv.ready inv.ran c.in_ok-reply.ensures.state c.in_ok-reply.ensures.lawful told in
     record {
       ran = subst (λ (es : List (Event g.row.P-Item.Denot)). Ran r (now c.args.self.now) (now c.answer.new.self) es (map said c.args.replies.now.items) (map said c.push_reserved.new.self.items)) (sym more) ran;
       ready = inv.ready;
     }
+
+pub returns-in_err-reply-clause-err : goal.returns-in_err-reply-clause-err
+returns-in_err-reply-clause-err g c =
+    let r = g.P.Placed.rules in
+    let now = λ (s : SessionState g.row.P.Denot). session_of g.P.Placed.state_of s in
+    let so_far = take c.loop-event.event-index c.args.events.now in
+    let told = λ (s : SessionState g.P.Placed.State). λ (told : List Said). Ran r (now c.args.self.now) s so_far (map said c.args.replies.now.items) told in
+    let same = sym c.in_err-reply.ensures.err in
+    let kept = ap (map said) (sym c.reserve.ensures.items) in
+    on_err c.from_residual-in_err-reply.result (record {
+      done = c.loop-event.event-index;
+      fewer = c.loop-event-test.true;
+      ran = subst (λ s. told s (map said c.reserve.new.self.items)) same (subst (told (now c.loop-event.self)) kept c.loop-event.invariant.ran);
+    })
