@@ -7,7 +7,7 @@ use crate::height::height_for;
 use crate::slot::Slot;
 use crate::tree::Tree;
 use krb_wire::NoMemory;
-use std::alloc::Allocator;
+use std::alloc::{AllocError, Allocator};
 
 // For how many cells more a full table takes room. A cell has 8 bytes there, and 8 in the tree for each leaf: with
 // one cell more both take no more than 24 bytes for each cell. Nor do they later, when the tree becomes higher,
@@ -24,7 +24,7 @@ fn more_room(count: usize) -> usize
 }
 
 // Takes room for more cells in a table that is full, of so many bytes.
-fn reserve_slots<A: Allocator>(slots: &mut Vec<Slot, A>) -> Result<(), NoMemory>
+fn reserve_slots<A: Allocator>(slots: &mut Vec<Slot, A>) -> Result<(), AllocError>
     requires { vec_len slots.old < 2 ^ 30 }
     ensures slots { slots.new.items ≡ slots.old.items }
     ensures len { vec_len slots.new ≡ vec_len slots.old }
@@ -38,10 +38,7 @@ fn reserve_slots<A: Allocator>(slots: &mut Vec<Slot, A>) -> Result<(), NoMemory>
     if slots.len() < slots.capacity() {
         return Ok(());
     }
-    match slots.reserve_exact(more_room(slots.len())) {
-        Ok(()) => Ok(()),
-        Err(_) => Err(NoMemory),
-    }
+    slots.reserve_exact(more_room(slots.len()))
 }
 
 /// Takes room for one cell more, where there is none.
@@ -61,7 +58,8 @@ pub fn reserve_one<A: Allocator>(
     ensures memory { vec_len slots.old < vec_capacity slots.old → HasRoomFor (vec_len slots.old + 1) tree.old → IsOk result }
 {
     reserve_slots(slots)?;
-    tree.reserve(slots.len() + 1)
+    tree.reserve(slots.len() + 1)?;
+    Ok(())
 }
 
 // Gives a tree over so many cells a leaf more, for which there is room.

@@ -31,9 +31,7 @@ pub fn table_of<A: Allocator, B: Allocator>(
     ensures few { IfOk result (λ t. vec_len t < 2 ^ 30) }
 {
     let count = keytab.cell_count() as usize;
-    let Ok(mut slots) = Vec::with_capacity(alloc, count + 1) else {
-        return Err(NoMemory);
-    };
+    let mut slots = Vec::with_capacity(alloc, count + 1)?;
     fill(&mut slots, keytab);
     Ok(slots)
 }

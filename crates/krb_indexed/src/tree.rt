@@ -9,7 +9,7 @@ use crate::height::height_for;
 use crate::nodes::{first_leaf, put_leaf, raise_all};
 use crate::slot::Slot;
 use krb_wire::NoMemory;
-use std::alloc::Allocator;
+use std::alloc::{AllocError, Allocator};
 use std::marker::Model;
 
 /// Sizes in a row, as many as a power of two, and over each two the greater of them, up to the greatest of
@@ -104,9 +104,7 @@ impl<A: Allocator> Tree<A> {
     {
         let height = height_for(slots.len());
         let more = height_for(slots.len() + 1);
-        let Ok(mut nodes) = Vec::with_capacity(alloc, 2 * more.leaves) else {
-            return Err(NoMemory);
-        };
+        let mut nodes = Vec::with_capacity(alloc, 2 * more.leaves)?;
         make_zeros(&mut nodes, 2 * height.leaves);
         fill(&mut nodes, height.leaves, slots);
         Ok(Tree {
@@ -145,7 +143,7 @@ impl<A: Allocator> Tree<A> {
     }
 
     /// Takes room for so many sizes.
-    pub fn reserve(&mut self, count: usize) -> Result<(), NoMemory>
+    pub fn reserve(&mut self, count: usize) -> Result<(), AllocError>
         requires { count ≤ 2 ^ 30 }
         ensures sizes { self.new.sizes ≡ self.old.sizes }
         ensures height { self.new.height ≡ self.old.height }
@@ -158,10 +156,7 @@ impl<A: Allocator> Tree<A> {
         if nodes <= self.nodes.capacity() {
             return Ok(());
         }
-        match self.nodes.reserve_exact(nodes - self.nodes.len()) {
-            Ok(()) => Ok(()),
-            Err(_) => Err(NoMemory),
-        }
+        self.nodes.reserve_exact(nodes - self.nodes.len())
     }
 
     /// Adds as many sizes of 0, for which there is room.

@@ -11,7 +11,7 @@ use crate::form::Form;
 use crate::image::CellsEnd;
 use crate::put::{bytes_fit, put_record, put_zeros};
 use crate::step::Ending;
-use krb_wire::{Name, NoMemory};
+use krb_wire::Name;
 use std::alloc::{AllocError, Allocator};
 
 // An end mark is kept after an appended record.
@@ -83,7 +83,7 @@ pub fn append_record<A: Allocator, N: Name>(
     image: &mut Vec<u8, A>,
     end: CellsEnd,
     form: &Form<'_, N>,
-) -> Result<CellsEnd, NoMemory>
+) -> Result<CellsEnd, AllocError>
     requires long { 2 ≤ vec_len image.old }
     requires small { vec_len image.old ≤ 2 ^ 30 }
     requires room { len_with end (length form.now.bytes) ≤ 2 ^ 30 }

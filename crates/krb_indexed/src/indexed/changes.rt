@@ -52,13 +52,9 @@ impl<A: Allocator> Indexed<A> {
             place: slot.place as usize,
             size: slot.size() as usize,
         };
-        match self.keytab.add_at(entry, Some(hole)) {
-            Ok(place) => {
-                put_slot(&mut self.slots, &mut self.tree, number, slot.turned());
-                Ok(place)
-            }
-            Err(refusal) => Err(refusal),
-        }
+        let place = self.keytab.add_at(entry, Some(hole))?;
+        put_slot(&mut self.slots, &mut self.tree, number, slot.turned());
+        Ok(place)
     }
 
     // Puts an entry, for whose record no hole is large enough, after the cells.
@@ -80,20 +76,14 @@ impl<A: Allocator> Indexed<A> {
             return Err(Refusal::Code(Code::Full));
         }
         let place = self.end();
-        if reserve_one(&mut self.slots, &mut self.tree).is_err() {
-            return Err(Refusal::NoMemory);
-        }
-        match self.keytab.add_at(entry, None) {
-            Ok(put) => {
-                let slot = Slot {
-                    place,
-                    length: need as u32,
-                };
-                push_live(&mut self.slots, &mut self.tree, slot);
-                Ok(put)
-            }
-            Err(refusal) => Err(refusal),
-        }
+        reserve_one(&mut self.slots, &mut self.tree)?;
+        let put = self.keytab.add_at(entry, None)?;
+        let slot = Slot {
+            place,
+            length: need as u32,
+        };
+        push_live(&mut self.slots, &mut self.tree, slot);
+        Ok(put)
     }
 
     // The first hole that takes a record of so many bytes, by its number among the cells.

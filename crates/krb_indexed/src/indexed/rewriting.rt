@@ -20,10 +20,7 @@ impl<A: Allocator + Copy> Indexed<A> {
         ensures rewrites { IfOk result (λ i. Rewrites (store_of self.now.state) (store_of i.state)) }
         ensures entries { IfOk result (λ i. entries i.state ≡ entries self.now.state) }
     {
-        let keytab = match self.keytab.rewritten() {
-            Ok(keytab) => keytab,
-            Err(refusal) => return Err(refusal),
-        };
+        let keytab = self.keytab.rewritten()?;
         match Indexed::of(*self.slots.allocator(), keytab) {
             Ok(new) => Ok(new),
             Err(_) => Err(Refusal::NoMemory),
@@ -61,12 +58,8 @@ impl<A: Allocator + Copy> Indexed<A> {
         ensures keeps { OnErr result (cursors.new ≡ cursors.old) }
         ensures room { OnErr result (self.new.room ≡ self.old.room) }
     {
-        match self.rewritten() {
-            Ok(new) => {
-                self.replace(new, cursors);
-                Ok(())
-            }
-            Err(refusal) => Err(refusal),
-        }
+        let new = self.rewritten()?;
+        self.replace(new, cursors);
+        Ok(())
     }
 }

@@ -1,5 +1,6 @@
 -- What the keytab answers is what is answered; its table and its tree are kept.
 use Rattle.std.proofs.Common.{◌≡◌, ◌∙◌, true, Ok, Err, length, ap, sym, subst, arith}
+use Rattle.std.proofs.lemmas.Result.{err_from_is_err_and}
 use Rattle.std.specs.Prelude.{vec_len, vec_capacity}
 use Rattle.std.proofs.Math.ListN.{set}
 use Rattle.krb_walk.specs.Rules.{PutGives}
@@ -20,8 +21,8 @@ turned-requires g c =
     let long = hole_length k (length (written_form k.format c.args.entry.now)) c.args.number c.image.ensures.sound c.requires.hole in
     omega (arith, long, ap (λ (s : Slot). s.length) c.slot-slot.ensures)
 
-pub invariant_of-self : goal.invariant_of-self
-invariant_of-self g c =
+pub invariant_of-self-2 : goal.invariant_of-self-2
+invariant_of-self-2 g c =
     let i = c.self.inside in
     let k = c.args.self.now.state in
     let n = c.args.number in
@@ -29,8 +30,8 @@ invariant_of-self g c =
     let new = c.add_at.new.self.state in
     let bytes = written_form k.format e in
     let kept = subst (λ (y : KeytabState). IsKept y i.slots.items (vec_len i.slots) (vec_capacity i.slots) i.tree) (state_is c.self.view_is) c.self.invariant in
-    let gives = subst (λ (y : KeytabState). PutGives (put_result y e) y (Ok c.in-Ok.place) new) (state_is c.self.view_is) c.in-Ok.ensures.gives in
-    let state = filled_state k new e n c.in-Ok.place c.requires.whole c.requires.fits c.requires.hole gives in
+    let gives = subst (λ (y : KeytabState). PutGives (put_result y e) y (Ok c.in_ok-place.place) new) (state_is c.self.view_is) c.in_ok-place.ensures.gives in
+    let state = filled_state k new e n c.in_ok-place.place c.requires.whole c.requires.fits c.requires.hole gives in
     let slot : c.turned.result ≡ turned (slot_at k n) = c.turned.ensures ∙ ap turned c.slot-slot.ensures in
     let put = c.put_slot.new in
     let sizes : put.tree.sizes ≡ set i.tree.sizes n (free_size (turned (slot_at k n))) = c.put_slot.ensures.sizes ∙ ap (λ (x : Slot). set i.tree.sizes n (free_size x)) slot in
@@ -39,17 +40,21 @@ invariant_of-self g c =
     let same = subst (λ (y : KeytabState). IsKept y (set i.slots.items n (turned (slot_at k n))) (vec_len i.slots) (vec_capacity i.slots) put.tree) (sym state) done in
     rw (slots, c.put_slot.ensures.len, c.put_slot.ensures.slot_room) same
 
-pub returns-in-Ok-clause-gives : goal.returns-in-Ok-clause-gives
-returns-in-Ok-clause-gives g c = subst (λ (y : KeytabState). PutGives (put_result y c.args.entry.now) y (Ok c.in-Ok.place) c.add_at.new.self.state) (state_is c.self.view_is) c.in-Ok.ensures.gives
+pub returns-clause-gives : goal.returns-clause-gives
+returns-clause-gives g c = subst (λ (y : KeytabState). PutGives (put_result y c.args.entry.now) y (Ok c.in_ok-place.place) c.add_at.new.self.state) (state_is c.self.view_is) c.in_ok-place.ensures.gives
 
-pub returns-in-Ok-clause-room : goal.returns-in-Ok-clause-room
-returns-in-Ok-clause-room g c = subst (λ (y : InMemory). takes_none y.state c.args.entry.now ≡ true → c.add_at.new.self.room ≡ y.room) c.self.view_is c.in-Ok.ensures.room
+pub returns-clause-room : goal.returns-clause-room
+returns-clause-room g c = subst (λ (y : InMemory). takes_none y.state c.args.entry.now ≡ true → c.add_at.new.self.room ≡ y.room) c.self.view_is c.in_ok-place.ensures.room
 
-pub returns-in-Err-clause-gives : goal.returns-in-Err-clause-gives
-returns-in-Err-clause-gives g c = subst (λ (y : KeytabState). PutGives (put_result y c.args.entry.now) y (Err c.in-Err.refusal) c.add_at.new.self.state) (state_is c.self.view_is) c.in-Err.ensures.gives
+pub returns-in_err-place-clause-gives : goal.returns-in_err-place-clause-gives
+returns-in_err-place-clause-gives g c =
+    let p = err_from_is_err_and c.from_residual.result c.from_residual.ensures.1 in
+    rw (p.1 ∙ ap Err p.2) (subst (λ (y : KeytabState). PutGives (put_result y c.args.entry.now) y (Err c.in_err-place.field-0.0) c.add_at.new.self.state) (state_is c.self.view_is) c.in_err-place.ensures.gives)
 
-pub returns-in-Err-clause-memory : goal.returns-in-Err-clause-memory
-returns-in-Err-clause-memory g c = subst (λ (y : KeytabState). takes_none y c.args.entry.now ≡ true → HadMemory (Err c.in-Err.refusal)) (state_is c.self.view_is) c.in-Err.ensures.memory
+pub returns-in_err-place-clause-memory : goal.returns-in_err-place-clause-memory
+returns-in_err-place-clause-memory g c =
+    let p = err_from_is_err_and c.from_residual.result c.from_residual.ensures.1 in
+    rw (p.1 ∙ ap Err p.2) (subst (λ (y : KeytabState). takes_none y c.args.entry.now ≡ true → HadMemory (Err c.in_err-place.field-0.0)) (state_is c.self.view_is) c.in_err-place.ensures.memory)
 
-pub returns-in-Err-clause-room : goal.returns-in-Err-clause-room
-returns-in-Err-clause-room g c = subst (λ (y : InMemory). takes_none y.state c.args.entry.now ≡ true → c.add_at.new.self.room ≡ y.room) c.self.view_is c.in-Err.ensures.room
+pub returns-in_err-place-clause-room : goal.returns-in_err-place-clause-room
+returns-in_err-place-clause-room g c = subst (λ (y : InMemory). takes_none y.state c.args.entry.now ≡ true → c.add_at.new.self.room ≡ y.room) c.self.view_is c.in_err-place.ensures.room
