@@ -79,15 +79,6 @@ impl<A: Allocator> Cred<A> {
     }
 }
 
-fn copy_bytes<A: Allocator>(alloc: A, bytes: &[u8]) -> Result<Vec<u8, A>, NoMemory>
-    ensures { IfOk result (λ v. v.items ≡ bytes.now) }
-{
-    match bytes.to_vec(alloc) {
-        Ok(copy) => Ok(copy),
-        Err(_) => Err(NoMemory),
-    }
-}
-
 fn copy_items<A: Allocator + Copy>(
     alloc: A,
     list: TypedList<'_>,
@@ -101,18 +92,6 @@ fn copy_items<A: Allocator + Copy>(
     Ok(all)
 }
 
-fn copy_list<A: Allocator + Copy>(
-    alloc: A,
-    list: &TypedList<'_>,
-) -> Result<Vec<(u16, Vec<u8, A>), A>, NoMemory>
-    ensures { IfOk result (λ v. owned_list v.items ≡ list.now) }
-{
-    match copy_items(alloc, list.items()) {
-        Ok(copy) => Ok(copy),
-        Err(_) => Err(NoMemory),
-    }
-}
-
 impl<'a> CredView<'a> {
     /// The same credential with memory of its own; of a version 3 credential without its second enctype.
     pub fn copy<A: Allocator + Copy>(&self, alloc: A) -> Result<Cred<A>, NoMemory>
@@ -120,11 +99,11 @@ impl<'a> CredView<'a> {
     {
         let client = copy_name(alloc, self.client())?;
         let server = copy_name(alloc, self.server())?;
-        let key = copy_bytes(alloc, self.key())?;
-        let addresses = copy_list(alloc, self.addresses())?;
-        let authdata = copy_list(alloc, self.authorizations())?;
-        let ticket = copy_bytes(alloc, self.ticket())?;
-        let second_ticket = copy_bytes(alloc, self.second_ticket())?;
+        let key = Vec::from_slice(alloc, self.key())?;
+        let addresses = copy_items(alloc, self.addresses().items())?;
+        let authdata = copy_items(alloc, self.authorizations().items())?;
+        let ticket = Vec::from_slice(alloc, self.ticket())?;
+        let second_ticket = Vec::from_slice(alloc, self.second_ticket())?;
         Ok(Cred {
             client,
             server,

@@ -140,9 +140,7 @@ pub fn image_anew<N: Name, A: Allocator>(
     requires len { len ≡ length (new_front (N.parts principal.now) offset) + length (texts_anew version cells.now) }
     ensures { IfOk result (λ v. v.items ≡ new_front (N.parts principal.now) offset ++ texts_anew version cells.now) }
 {
-    let Ok(mut image) = Vec::from_elem(alloc, 0, len) else {
-        return Err(NoMemory);
-    };
+    let mut image = Vec::from_elem(alloc, 0, len)?;
     spell_anew_into(principal, offset, version, cells, &mut image);
     Ok(image)
 }

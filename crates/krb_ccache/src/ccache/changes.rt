@@ -41,9 +41,7 @@ impl<A: Allocator> Ccache<A> {
         let Some(len) = front_len(default, offset, limit as usize) else {
             return Err(Refusal::Code(Code::Full));
         };
-        let Ok(mut image) = Vec::from_elem(alloc, 0, len) else {
-            return Err(Refusal::NoMemory);
-        };
+        let mut image = Vec::from_elem(alloc, 0, len)?;
         spell_front(default, offset, &mut image);
         bytes_fit(&image);
         let head = Head {
@@ -118,14 +116,9 @@ impl<A: Allocator> Ccache<A> {
         let Some(len) = cred.len_within(room) else {
             return Err(Refusal::Code(Code::Full));
         };
-        match append_credential(&mut self.image, self.head, cred, len) {
-            Ok(head) => {
-                self.head = head;
-                follow_stored(&mut self.known, cred);
-                Ok(place)
-            }
-            Err(_) => Err(Refusal::NoMemory),
-        }
+        self.head = append_credential(&mut self.image, self.head, cred, len)?;
+        follow_stored(&mut self.known, cred);
+        Ok(place)
     }
 
     /// Puts a credential after the last, and answers its place. The place of a removed one is never used again. A

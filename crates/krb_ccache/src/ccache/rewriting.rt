@@ -69,9 +69,7 @@ impl<A: Allocator + Copy> Ccache<A> {
         let Some((first, len)) = self.lens_anew() else {
             return Err(Refusal::Code(Code::Full));
         };
-        let Ok(image) = self.spelled_anew(len) else {
-            return Err(Refusal::NoMemory);
-        };
+        let image = self.spelled_anew(len)?;
         bytes_fit(&self.image);
         bytes_fit(&image);
         let head = Head {

@@ -31,13 +31,8 @@ impl<A: Allocator + Copy> Ccache<A> {
         let Some(len) = setting.len_within(&self.default_principal(), room) else {
             return Err(Refusal::Code(Code::Full));
         };
-        match replace_settings(&mut self.image, self.head, setting, len, &mut self.known) {
-            Ok(head) => {
-                self.head = head;
-                Ok(place)
-            }
-            Err(_) => Err(Refusal::NoMemory),
-        }
+        self.head = replace_settings(&mut self.image, self.head, setting, len, &mut self.known)?;
+        Ok(place)
     }
 
     /// Sets the value of the default principal for a key and a principal's text, or for the key alone: marks every

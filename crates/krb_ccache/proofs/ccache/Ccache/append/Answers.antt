@@ -18,8 +18,8 @@ returns-in_default-clause-gives g c =
     let long : i.head.limit < length i.image.items + length (credential V4 c.args.cred.now) = let ok = i.image.ok.0 in let none = c.in_default.ensures.none in omega (arith, ok, none, c.len.ensures) in
     (append_full i.head i.image.items k c.args.cred.now fits c.self.invariant.0 same c.requires.whole c.requires.version long, refl)
 
-pub returns-in-Ok-clause-gives : goal.returns-in-Ok-clause-gives
-returns-in-Ok-clause-gives g c =
+pub returns-clause-gives : goal.returns-clause-gives
+returns-clause-gives g c =
     let i = c.self.inside in
     let k = c.args.self.now.state in
     let x = c.args.cred.now in
@@ -28,10 +28,10 @@ returns-in-Ok-clause-gives g c =
     let short : length i.image.items + length (credential V4 x) ≤ i.head.limit = let ok = i.image.ok.0 in let len = c.in-Some.ensures.some in let within = c.in-Some.ensures.within in let all = c.self.invariant.0.within in omega (arith, ok, len, within, all, c.len.ensures) in
     append_fits i.head i.image.items k x fits c.self.invariant.0 same c.requires.whole c.requires.version short
     ∙ ap (λ (n : ℕ). Ok (n, with_last k x)) (sym c.end-place.ensures)
-    ∙ ap (λ (s : CacheState). Ok (c.end-place.result, s)) (ap (λ (s : CacheState). with_last s x) (sym same) ∙ sym c.in-Ok.ensures.ok.state)
+    ∙ ap (λ (s : CacheState). Ok (c.end-place.result, s)) (ap (λ (s : CacheState). with_last s x) (sym same) ∙ sym c.in_ok-self-inside.ensures.ok.state)
 
-pub returns-in-Err-clause-memory : goal.returns-in-Err-clause-memory
-returns-in-Err-clause-memory g c = λ refused.
+pub returns-in_err-self-inside-clause-memory : goal.returns-in_err-self-inside-clause-memory
+returns-in_err-self-inside-clause-memory g c = λ refused.
     let i = c.self.inside in
     let k = c.args.self.now.state in
     let x = c.args.cred.now in
@@ -42,8 +42,8 @@ returns-in-Err-clause-memory g c = λ refused.
     let never = sym no ∙ refused in
     absurd cc
 
-pub returns-in-Err-clause-room : goal.returns-in-Err-clause-room
-returns-in-Err-clause-room g c = λ room.
+pub returns-in_err-self-inside-clause-room : goal.returns-in_err-self-inside-clause-room
+returns-in_err-self-inside-clause-room g c = λ room.
     let i = c.self.inside in
     let fits : IsBytes i.image.items = rw c.deref.ensures.value at c.bytes_fit.ensures in
     let same : held_by i.head i.image.items ≡ c.args.self.now.state = ap (λ (m : InMemory). m.state) c.self.view_is in
@@ -51,5 +51,5 @@ returns-in-Err-clause-room g c = λ room.
     let known = ap (λ (m : InMemory). m.room) c.self.view_is in
     let ok = i.image.ok.0 in
     let len = c.in-Some.ensures.some in
-    let full = c.in-Err.ensures.full in
+    let full = c.in_err-self-inside.ensures.full in
     absurd (omega (arith, room, spells, known, ok, len, full))

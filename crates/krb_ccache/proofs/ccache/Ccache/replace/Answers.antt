@@ -22,8 +22,8 @@ returns-in_default-clause-gives g c =
     let long : i.head.limit < length i.image.items + length (credential V4 (setting_entry k.principal s)) = let ok = i.image.ok.0 in let none = c.in_default.ensures.none in omega (arith, ok, none, c.len.ensures, text) in
     (set_full i.head i.image.items k s (setting_entry k.principal s) fits c.self.invariant.0 same c.requires.whole c.requires.version long, refl)
 
-pub returns-in-Ok-clause-gives : goal.returns-in-Ok-clause-gives
-returns-in-Ok-clause-gives g c =
+pub returns-clause-gives : goal.returns-clause-gives
+returns-clause-gives g c =
     let i = c.self.inside in
     let k = c.args.self.now.state in
     let s = c.args.setting.now in
@@ -34,10 +34,10 @@ returns-in-Ok-clause-gives g c =
     let short : length i.image.items + length (credential V4 x) ≤ i.head.limit = let ok = i.image.ok.0 in let len = c.in-Some.ensures.some in let within = c.in-Some.ensures.within in let all = c.self.invariant.0.within in omega (arith, ok, len, within, all, c.len.ensures, text) in
     set_fits i.head i.image.items k s x fits c.self.invariant.0 same c.requires.whole c.requires.version short
     ∙ ap (λ (n : ℕ). Ok (n, with_last (without_asked k s.key s.principal) x)) (sym c.end-place.ensures)
-    ∙ ap (λ (w : CacheState). Ok (c.end-place.result, w)) (ap (λ (w : CacheState). with_last (without_asked w s.key s.principal) (setting_entry w.principal s)) (sym same) ∙ sym c.in-Ok.ensures.ok.state)
+    ∙ ap (λ (w : CacheState). Ok (c.end-place.result, w)) (ap (λ (w : CacheState). with_last (without_asked w s.key s.principal) (setting_entry w.principal s)) (sym same) ∙ sym c.in_ok-self-inside.ensures.ok.state)
 
-pub returns-in-Err-clause-memory : goal.returns-in-Err-clause-memory
-returns-in-Err-clause-memory g c = λ refused.
+pub returns-in_err-self-inside-clause-memory : goal.returns-in_err-self-inside-clause-memory
+returns-in_err-self-inside-clause-memory g c = λ refused.
     let i = c.self.inside in
     let k = c.args.self.now.state in
     let s = c.args.setting.now in
@@ -50,8 +50,8 @@ returns-in-Err-clause-memory g c = λ refused.
     let never = sym fitting ∙ refused in
     absurd cc
 
-pub returns-in-Err-clause-room : goal.returns-in-Err-clause-room
-returns-in-Err-clause-room g c = λ room.
+pub returns-in_err-self-inside-clause-room : goal.returns-in_err-self-inside-clause-room
+returns-in_err-self-inside-clause-room g c = λ room.
     let i = c.self.inside in
     let s = c.args.setting.now in
     let fits : IsBytes i.image.items = rw c.deref.ensures.value at c.bytes_fit.ensures in
@@ -61,5 +61,5 @@ returns-in-Err-clause-room g c = λ room.
     let known = ap (λ (m : InMemory). m.room) c.self.view_is in
     let ok = i.image.ok.0 in
     let len = c.in-Some.ensures.some in
-    let full = c.in-Err.ensures.full in
+    let full = c.in_err-self-inside.ensures.full in
     absurd (omega (arith, room, spells, known, ok, len, full, text))

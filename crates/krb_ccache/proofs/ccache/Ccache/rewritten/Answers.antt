@@ -15,8 +15,8 @@ pub invariant_of-result : goal.invariant_of-result
 invariant_of-result g c =
     let i = c.self.inside in
     let fits : IsBytes i.image.items = rw c.deref.ensures.value at c.bytes_fit.ensures in
-    let new_fits : IsBytes c.in-Ok.image.items = rw c.deref-2.ensures.value at c.bytes_fit-2.ensures in (
-      (anew_held i.head i.image.items c.in-Ok.image.items c.args.self.now.state c.header_len.result c.in-Some.first c.in-Some.len fits c.self.invariant.0 (ap (λ (m : InMemory). m.state) c.self.view_is) new_fits c.in-Ok.ensures
+    let new_fits : IsBytes c.in_ok-image.image.items = rw c.deref-2.ensures.value at c.bytes_fit-2.ensures in (
+      (anew_held i.head i.image.items c.in_ok-image.image.items c.args.self.now.state c.header_len.result c.in-Some.first c.in-Some.len fits c.self.invariant.0 (ap (λ (m : InMemory). m.state) c.self.view_is) new_fits c.in_ok-image.ensures
           (c.header_len.ensures ∙ ap (λ o. length (header V4 (new_header o))) c.offset.ensures) c.in-Some.ensures.first c.in-Some.ensures.len c.in-Some.ensures.within).kept,
       tt,
     )
@@ -25,8 +25,8 @@ pub returns-clause-ok : goal.returns-clause-ok
 returns-clause-ok g c =
     let i = c.self.inside in
     let fits : IsBytes i.image.items = rw c.deref.ensures.value at c.bytes_fit.ensures in
-    let new_fits : IsBytes c.in-Ok.image.items = rw c.deref-2.ensures.value at c.bytes_fit-2.ensures in
-    (anew_held i.head i.image.items c.in-Ok.image.items c.args.self.now.state c.header_len.result c.in-Some.first c.in-Some.len fits c.self.invariant.0 (ap (λ (m : InMemory). m.state) c.self.view_is) new_fits c.in-Ok.ensures
+    let new_fits : IsBytes c.in_ok-image.image.items = rw c.deref-2.ensures.value at c.bytes_fit-2.ensures in
+    (anew_held i.head i.image.items c.in_ok-image.image.items c.args.self.now.state c.header_len.result c.in-Some.first c.in-Some.len fits c.self.invariant.0 (ap (λ (m : InMemory). m.state) c.self.view_is) new_fits c.in_ok-image.ensures
     (c.header_len.ensures ∙ ap (λ o. length (header V4 (new_header o))) c.offset.ensures) c.in-Some.ensures.first c.in-Some.ensures.len c.in-Some.ensures.within).state
 
 pub returns-clause-gives : goal.returns-clause-gives
