@@ -38,7 +38,7 @@ abbrev pub open_result_in : ℕ → List ℕ → Option KtFormat → Result Keyt
 open_result_in limit bytes None = Err BadVersion
 open_result_in limit bytes (Some f) = if nat_lt limit (length bytes) then Err TooLarge else Ok (record { format = f; limit = limit; contents = contents f (drop 2 bytes) })
 
--- what open_result an image gives: fewer than two bytes are too short, then the version counts, then the length
+-- what opening an image gives: fewer than two bytes are too short, then the version counts, then the length
 abbrev pub open_result : Order → ℕ → List ℕ → Result KeytabState KtOpenFault
 open_result o limit bytes = if nat_lt (length bytes) 2 then Err TooShort else open_result_in limit bytes (format_of o bytes)
 

@@ -26,7 +26,7 @@ pub enum NameFault {
 }
 
 impl NameFault {
-    /// The number that is printed for it.
+    /// Its number, from 1 on in the order above.
     pub fn number(self) -> u32
         ensures { result ≡ name_fault_number self }
     {
