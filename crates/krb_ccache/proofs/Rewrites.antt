@@ -1,12 +1,14 @@
 -- A cache that is written anew, as a store.
-use Rattle.std.proofs.Common.{◌≡◌, ℕ, suc, ◌+◌, ◌≤◌, Bool, true, false, Ok, Some, None, List, [], ◌∷◌, ◌++◌, length, map, refl, sym, ap, subst, ◌∙◌, append_assoc, length-append, arith}
-use Rattle.std.specs.Prelude.{nat_lt, is_some}
+use Rattle.std.proofs.Common.{◌≡◌, ℕ, suc, ◌+◌, ◌≤◌, Bool, true, false, cond, Result, Ok, Err, Some, None, List, [], ◌∷◌, ◌++◌, length, map, refl, sym, ap, subst, ◌∙◌, append_assoc, length-append, arith}
+use Rattle.std.specs.Prelude.{nat_lt, is_some, not, filter}
 use Rattle.std.specs.List.{flat_map, AllByRecursion}
 use Rattle.std.proofs.lemmas.Bool.{le-ltb}
 use Rattle.std.proofs.lemmas.List.{append-nil}
 use Rattle.krb_wire.specs.Spelling.{cc_principal}
 use Rattle.krb_wire.proofs.Fields.{IsBytes}
 use Rattle.krb_walk.specs.Contents.{next_by, spelling}
+use Rattle.krb_walk.specs.declared.refusal.Code.{Code}
+use Rattle.krb_walk.specs.declared.refusal.Code.TheVariants as code
 use Rattle.krb_walk.specs.Store.{Cell, end_of, fault_of}
 use Rattle.krb_walk.specs.Ranks.{Rewrites}
 use Rattle.krb_walk.proofs.Lives.{lives}
@@ -15,8 +17,9 @@ use Rattle.krb_ccache.specs.declared.version.Version.TheVariants.{V4}
 use Rattle.krb_ccache.specs.Credential.{CredParts, credential, is_marked, FitsCredential}
 use Rattle.krb_ccache.specs.Cred.{in_version_4}
 use Rattle.krb_ccache.specs.Header.{header, offset_in}
-use Rattle.krb_ccache.specs.Store.{CacheState, credentials_format, image_of, store_cell, store_of, kind_of, first_place, live_by}
+use Rattle.krb_ccache.specs.Store.{CacheState, PlacedCredential, credentials_format, image_of, store_cell, store_of, kind_of, first_place, live_by, placed_from, is_live}
 use Rattle.krb_ccache.specs.Changes.{new_header, new_front}
+use Rattle.krb_ccache.specs.Laws.{live_credentials}
 use Rattle.krb_ccache.specs.Open.{Holds}
 use Rattle.krb_ccache.specs.Rewrite.{new_cells, rewrite_of, rewrite_result, text_anew}
 use Rattle.krb_ccache.proofs.HeaderFields.{IsBytes-front, IsBytes-back}
@@ -136,3 +139,44 @@ rewrites_store k whole = record {
   all_live = all_live k.contents.cells;
   as_many = as_many k.version k.contents.cells (first_place k) (first_place (rewrite_of k));
 }
+
+-- ---- its live credentials
+
+-- those that bear no mark
+abbrev live : List CredParts → List CredParts
+live cs = filter (λ c. not (is_marked c)) cs
+
+abbrev unplaced : List PlacedCredential → List CredParts
+unplaced xs = map (λ x. x.1) xs
+
+unplaced_by : (v : Version) (at : ℕ) (c : CredParts) (cs : List CredParts) (b : Bool) → is_marked c ≡ b → unplaced (filter is_live (placed_from v (at + length (credential v c)) cs)) ≡ live cs → unplaced (filter is_live (placed_from v at (c ∷ cs))) ≡ live (c ∷ cs)
+unplaced_by v at c cs true e same = rw e same
+unplaced_by v at c cs false e same = rw e (ap (λ (xs : List CredParts). c ∷ xs) same)
+
+unplaced_live : (v : Version) (at : ℕ) (cs : List CredParts) → unplaced (filter is_live (placed_from v at cs)) ≡ live cs
+unplaced_live v at [] = refl
+unplaced_live v at (c ∷ cs) = unplaced_by v at c cs (is_marked c) refl (unplaced_live v (at + length (credential v c)) cs)
+
+live_by_mark : (c : CredParts) (cs : List CredParts) (b : Bool) → is_marked c ≡ b → live (new_cells cs) ≡ new_cells cs → live (new_cells (c ∷ cs)) ≡ new_cells (c ∷ cs)
+live_by_mark c cs true e same = rw e same
+live_by_mark c cs false e same = rw (e, e) (ap (λ (xs : List CredParts). in_version_4 c ∷ xs) same)
+
+live_anew : (cs : List CredParts) → live (new_cells cs) ≡ new_cells cs
+live_anew [] = refl
+live_anew (c ∷ cs) = live_by_mark c cs (is_marked c) refl (live_anew cs)
+
+credentials_kept : (k : CacheState) → live_credentials (rewrite_of k) ≡ map in_version_4 (live_credentials k)
+credentials_kept k =
+    unplaced_live V4 (first_place (rewrite_of k)) (new_cells k.contents.cells) ∙ live_anew k.contents.cells
+    ∙ ap (map in_version_4) (sym (unplaced_live k.version (first_place k) k.contents.cells))
+
+-- what a rewrite gives
+made_is : (k new : CacheState) (damaged full : Bool) → cond {A = Result CacheState Code} damaged (Err code.Damaged) (cond full (Err code.Full) (Ok (rewrite_of k))) ≡ Ok new → rewrite_of k ≡ new
+made_is k new true full made = absurd cc
+made_is k new false true made = absurd cc
+made_is k new false false made = cc
+
+-- it has the same live credentials
+pub rewritten_keeps : (k new : CacheState) → rewrite_result k ≡ Ok new → live_credentials new ≡ map in_version_4 (live_credentials k)
+rewritten_keeps k new made =
+    ap live_credentials (sym (made_is k new (is_some (fault_of (store_of k))) (nat_lt k.limit (length (image_of (rewrite_of k)))) made)) ∙ credentials_kept k

@@ -1,12 +1,14 @@
 -- Laws of the definitions.
-use Rattle.std.specs.Prelude.{◌≡◌, ℕ, ◌<◌, ◌≤◌, List, ◌++◌, length, get_or, Some, Ok}
+use Rattle.std.specs.Prelude.{◌≡◌, ℕ, ◌<◌, ◌≤◌, List, ◌++◌, length, map, get_or, Some, Ok}
 use Rattle.std.specs.List.{flat_map, AllByRecursion}
 use Rattle.krb_wire.specs.Spelling.{FitsCc}
 use Rattle.krb_walk.specs.Contents.{Contents, contents, spelling, IsSound, IsSpelled}
 use Rattle.krb_ccache.specs.declared.version.Version.{Version}
 use Rattle.krb_ccache.specs.Credential.{CredParts, credential, credential_at, FitsCredential}
+use Rattle.krb_ccache.specs.Cred.{in_version_4}
 use Rattle.krb_ccache.specs.Header.{FitsHeader}
-use Rattle.krb_ccache.specs.Store.{CacheState, credentials_format, image_of, open_result}
+use Rattle.krb_ccache.specs.Store.{CacheState, credentials_format, image_of, open_result, placed_credentials}
+use Rattle.krb_ccache.specs.Rewrite.{rewrite_result}
 
 -- numbers below 256
 abbrev pub AreBytes : List ℕ → Type 0
@@ -43,3 +45,11 @@ pub record IsSoundCache (k : CacheState) : Type 0 where
 -- such a cache is the only one with its spelling: it is what its image is opened as
 abbrev pub IsOpenedAgain : Type 0
 IsOpenedAgain = (k : CacheState) → IsSoundCache k → AreBytes (image_of k) → open_result k.limit (image_of k) ≡ Ok k
+
+-- the live credentials of a cache, in file order
+abbrev pub live_credentials : CacheState → List CredParts
+live_credentials k = map (λ x. x.1) (placed_credentials k)
+
+-- a cache that is written anew has the same live credentials, in the same order, as version 4 has them
+abbrev pub IsKeptByRewrites : Type 0
+IsKeptByRewrites = (k new : CacheState) → rewrite_result k ≡ Ok new → live_credentials new ≡ map in_version_4 (live_credentials k)

@@ -1,6 +1,6 @@
 //! Laws of the definitions that the contracts cite.
 
-ghost use Rattle.krb_ccache.specs.Laws.{IsAlwaysSpelled, IsLongest, IsOnlyOne, IsOpenedAgain, IsAlwaysReadBack, HasOwnSpelling};
+ghost use Rattle.krb_ccache.specs.Laws.{IsAlwaysSpelled, IsLongest, IsOnlyOne, IsOpenedAgain, IsAlwaysReadBack, HasOwnSpelling, IsKeptByRewrites};
 
 /// The credentials of a cache and what follows them are one list and one end, and no longer list of credentials
 /// stands at its front.
@@ -19,4 +19,9 @@ pub fn caches_are_opened_again()
 pub fn credentials_are_read_back()
     ensures read { IsAlwaysReadBack }
     ensures own { HasOwnSpelling }
+{}
+
+/// Each rewrite keeps the live credentials, in order: also those in a run of a session, whose store is a cache.
+pub fn rewrites_keep_credentials()
+    ensures { IsKeptByRewrites }
 {}

@@ -37,7 +37,9 @@ pub use cred::Cred;
 pub use credential::CredView;
 pub use credentials::Credentials;
 pub use edit::{EditRefused, edit_cache};
-pub use laws::{caches_are_opened_again, credentials_are_read_back, one_reading};
+pub use laws::{
+    caches_are_opened_again, credentials_are_read_back, one_reading, rewrites_keep_credentials,
+};
 pub use offset::Offset;
 pub use open::{CcOpenFault, CcOpenRefused};
 pub use times::Times;

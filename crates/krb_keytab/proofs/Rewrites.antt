@@ -1,6 +1,6 @@
 -- A keytab that is written anew, as a store.
-use Rattle.std.proofs.Common.{◌≡◌, ℕ, suc, ◌+◌, ◌^◌, ◌<◌, ◌≤◌, Bool, true, false, cond, List, [], ◌∷◌, ◌++◌, length, map, drop, Option, Some, None, refl, sym, ap, subst, ◌∙◌, append_assoc, length-append, arith}
-use Rattle.std.specs.Prelude.{is_some, ◌==◌}
+use Rattle.std.proofs.Common.{◌≡◌, ℕ, suc, ◌+◌, ◌^◌, ◌<◌, ◌≤◌, Bool, true, false, cond, List, [], ◌∷◌, ◌++◌, length, map, drop, Option, Some, None, Result, Ok, Err, refl, sym, ap, subst, ◌∙◌, append_assoc, length-append, arith}
+use Rattle.std.specs.Prelude.{is_some, nat_lt, ◌==◌}
 use Rattle.std.specs.Int.{w32}
 use Rattle.std.specs.List.{filter_map, flat_map, cons_option, AllByRecursion}
 use Rattle.std.proofs.lemmas.List.{append-nil, take_at, drop_at}
@@ -12,6 +12,8 @@ use Rattle.krb_wire.specs.declared.format.KtFormat.TheVariants.{V1, V2}
 use Rattle.krb_wire.specs.Spelling.{order_of, digits, HasNameType}
 use Rattle.krb_wire.specs.Reading.{number_at}
 use Rattle.krb_wire.proofs.Fields.{IsBytes, IsBytes-drop, IsBytes-take, is_some_has, wide32, number_takes}
+use Rattle.krb_walk.specs.declared.refusal.Code.{Code}
+use Rattle.krb_walk.specs.declared.refusal.Code.TheVariants as code
 use Rattle.krb_walk.specs.Store.{Cell as StoreCell, end_of, fault_of}
 use Rattle.krb_walk.specs.Ranks.{Rewrites}
 use Rattle.krb_walk.proofs.Stops.{records_of}
@@ -21,7 +23,7 @@ use Rattle.krb_keytab.specs.Cells.{Cell, Live, Free, Bare, Contents, bytes_of, l
 use Rattle.krb_keytab.specs.Questions.{end_place}
 use Rattle.krb_keytab.specs.Store.{KeytabState, store_cell, store_of, image_of, entries}
 use Rattle.krb_keytab.specs.Form.{written_form, fits, IsEntry}
-use Rattle.krb_keytab.specs.Rewrite.{new_record, rewrite_of}
+use Rattle.krb_keytab.specs.Rewrite.{new_record, rewrite_of, rewrite_result}
 use Rattle.krb_keytab.specs.declared.step.Ending.TheVariants as ending
 use Rattle.krb_keytab.specs.Image.{IsKnownEnd}
 use Rattle.krb_keytab.proofs.CellLemmas.{contents_again}
@@ -57,6 +59,10 @@ new_cells f cs = map new_record (entries_of f cs)
 pub entries_live : (f : KtFormat) (b : List ℕ) (e : EntryParts) (cs : List Cell) → entry_at f b ≡ Some e → entries_of f (Live b ∷ cs) ≡ e ∷ entries_of f cs
 unfolding entries_of
 entries_live f b e cs is = ap (λ (o : Option EntryParts). cons_option o (entries_of f cs)) is
+
+pub entries_unread : (f : KtFormat) (b : List ℕ) (cs : List Cell) → entry_at f b ≡ None → entries_of f (Live b ∷ cs) ≡ entries_of f cs
+unfolding entries_of
+entries_unread f b cs is = ap (λ (o : Option EntryParts). cons_option o (entries_of f cs)) is
 
 pub entries_free : (f : KtFormat) (b : List ℕ) (cs : List Cell) → entries_of f (Free b ∷ cs) ≡ entries_of f cs
 unfolding entries_of
@@ -158,13 +164,19 @@ sound_anew f (Live b ∷ cs) sound fits small =
 
 -- ---- each entry is kept
 
-pub kept_of : (f : KtFormat) (cs : List Cell) → AllByRecursion (IsCell f) cs → AllByRecursion (λ c. IsBytes (bytes_of c)) cs → entries_of V2 (new_cells f cs) ≡ entries_of f cs
-kept_of f [] sound fits = ap (entries_of V2) (anews_none f) ∙ entries_none V2 ∙ sym (entries_none f)
-kept_of f (Free b ∷ cs) sound fits = ap (entries_of V2) (anews_free f b cs) ∙ kept_of f cs sound.1 fits.1 ∙ sym (entries_free f b cs)
-kept_of f (Live b ∷ cs) sound fits =
-    let e = is_some_has (entry_at f b) sound.0.2 in
-    let g = gives_back f b e.0 fits.0 e.1 in
-    ap (entries_of V2) (anews_live f b e.0 cs e.1) ∙ entries_live V2 (written_form V2 e.0) e.0 (new_cells f cs) g.back ∙ ap (λ (es : List EntryParts). e.0 ∷ es) (kept_of f cs sound.1 fits.1) ∙ sym (entries_live f b e.0 cs e.1)
+-- whether one is read in the first of the cells, or none
+kept_by : (f : KtFormat) (b : List ℕ) (cs : List Cell) (o : Option EntryParts) → entry_at f b ≡ o → IsBytes b → entries_of V2 (new_cells f cs) ≡ entries_of f cs → entries_of V2 (new_cells f (Live b ∷ cs)) ≡ entries_of f (Live b ∷ cs)
+kept_by f b cs None is fits kept =
+    let same = entries_unread f b cs is in
+    ap (λ (es : List EntryParts). entries_of V2 (map new_record es)) same ∙ kept ∙ sym same
+kept_by f b cs (Some e) is fits kept =
+    let g = gives_back f b e fits is in
+    ap (entries_of V2) (anews_live f b e cs is) ∙ entries_live V2 (written_form V2 e) e (new_cells f cs) g.back ∙ ap (λ (es : List EntryParts). e ∷ es) kept ∙ sym (entries_live f b e cs is)
+
+pub kept_of : (f : KtFormat) (cs : List Cell) → AllByRecursion (λ c. IsBytes (bytes_of c)) cs → entries_of V2 (new_cells f cs) ≡ entries_of f cs
+kept_of f [] fits = ap (entries_of V2) (anews_none f) ∙ entries_none V2 ∙ sym (entries_none f)
+kept_of f (Free b ∷ cs) fits = ap (entries_of V2) (anews_free f b cs) ∙ kept_of f cs fits.1 ∙ sym (entries_free f b cs)
+kept_of f (Live b ∷ cs) fits = kept_by f b cs (entry_at f b) refl fits.0 (kept_of f cs fits.1)
 
 -- ---- the keytab and its image
 
@@ -178,13 +190,24 @@ new_sound k bytes sound is fits small =
     subst (λ (es : List EntryParts). AllByRecursion (IsCell V2) (map new_record es)) (sym same)
     (sound_anew k.format cells sound.cells (cell_bytes o cells (end_bytes o k.contents.end) inner) (subst (λ (es : List EntryParts). length (flat_map (cell Big) (map new_record es)) < 2 ^ 31) same (omega (arith, len, small))))
 
-pub entries_kept : (k : KeytabState) (bytes : List ℕ) → IsSound k.format k.contents → bytes ≡ image_of k → IsBytes bytes → entries (rewrite_of k) ≡ entries k
-entries_kept k bytes sound is fits =
+pub entries_kept : (k : KeytabState) → IsBytes (image_of k) → entries (rewrite_of k) ≡ entries k
+entries_kept k fits =
     let cells = k.contents.cells in
     let o = order_of k.format in
-    let inner : IsBytes (flat_map (cell o) cells ++ end_bytes o k.contents.end) = IsBytes-drop 2 (image_of k) (subst IsBytes is fits) in
+    let inner : IsBytes (flat_map (cell o) cells ++ end_bytes o k.contents.end) = IsBytes-drop 2 (image_of k) fits in
     entries_all (rewrite_of k) ∙ ap (λ (es : List EntryParts). entries_of V2 (map new_record es)) (entries_all k)
-    ∙ kept_of k.format cells sound.cells (cell_bytes o cells (end_bytes o k.contents.end) inner) ∙ sym (entries_all k)
+    ∙ kept_of k.format cells (cell_bytes o cells (end_bytes o k.contents.end) inner) ∙ sym (entries_all k)
+
+-- what a rewrite gives
+made_is : (k new : KeytabState) (damaged full : Bool) → cond {A = Result KeytabState Code} damaged (Err code.Damaged) (cond full (Err code.Full) (Ok (rewrite_of k))) ≡ Ok new → rewrite_of k ≡ new
+made_is k new true full made = absurd cc
+made_is k new false true made = absurd cc
+made_is k new false false made = cc
+
+-- it has the same entries
+pub rewritten_keeps : (k new : KeytabState) → IsBytes (image_of k) → rewrite_result k ≡ Ok new → entries new ≡ entries k
+rewritten_keeps k new fits made =
+    ap entries (sym (made_is k new (is_some (fault_of (store_of k))) (nat_lt k.limit (length (image_of (rewrite_of k)))) made)) ∙ entries_kept k fits
 
 pub contents_anew : (k : KeytabState) (new : List ℕ) → IsSound V2 (rewrite_of k).contents → new ≡ image_of (rewrite_of k) → IsBytes new → contents V2 (drop 2 new) ≡ (rewrite_of k).contents
 contents_anew k new sound is fits =

@@ -6,8 +6,9 @@ use Rattle.krb_wire.specs.Spelling.{order_of}
 use Rattle.krb_keytab.specs.Entry.{EntryParts, Spells}
 use Rattle.krb_keytab.specs.Form.{fits, written_form, read_back, IsEntry}
 use Rattle.krb_walk.specs.Store.{live_bytes}
-use Rattle.krb_keytab.specs.Store.{KeytabState, store_of, entry_at_place}
+use Rattle.krb_keytab.specs.Store.{KeytabState, image_of, store_of, entries, entry_at_place}
 use Rattle.krb_keytab.specs.Changes.{put_result, cut_result}
+use Rattle.krb_keytab.specs.Rewrite.{rewrite_result}
 use Rattle.krb_keytab.specs.Cells.{Cell, Contents, cell, spelling, contents, IsCell, IsSound, IsSpelled}
 
 -- numbers below 256
@@ -43,3 +44,7 @@ IsReadWhereAdded = (k : KeytabState) (e : EntryParts) (given : ℕ × KeytabStat
 -- where a record was removed, none stands
 abbrev pub IsGoneWhereRemoved : Type 0
 IsGoneWhereRemoved = (k : KeytabState) (place : ℕ) (new : KeytabState) → cut_result k place ≡ Ok new → live_bytes (store_of new) place ≡ None
+
+-- a keytab that is written anew has the same entries, in the same order
+abbrev pub IsKeptByRewrites : Type 0
+IsKeptByRewrites = (k new : KeytabState) → AreBytes (image_of k) → rewrite_result k ≡ Ok new → entries new ≡ entries k

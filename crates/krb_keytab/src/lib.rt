@@ -32,7 +32,7 @@ pub use entry::{EntryView, read_entry};
 pub use fields::Fields;
 pub use hole::Hole;
 pub use keytab::Keytab;
-pub use laws::{changes_are_seen, one_reading, written_is_read_back};
+pub use laws::{changes_are_seen, one_reading, rewrites_keep_entries, written_is_read_back};
 pub use looked::Looked;
 pub use new_entry::NewEntry;
 pub use open::{KtOpenFault, KtOpenRefused};

@@ -1,3 +1,5 @@
+use Rattle.std.proofs.Common.{subst}
+use Rattle.krb_wire.proofs.Fields.{IsBytes}
 use Rattle.krb_keytab.proofs.Rewrites.{new_sound, entries_kept}
 use Rattle.krb_keytab.proofs.anew.anew_is_sound.Goals as goal
 
@@ -7,5 +9,5 @@ returns g c =
     record {
       was = c.image.ensures.sound;
       sound = record { cells = new_sound k c.image.result.now c.image.ensures.sound c.image.ensures.spelled c.bytes_fit.ensures c.requires; end = tt };
-      entries = entries_kept k c.image.result.now c.image.ensures.sound c.image.ensures.spelled c.bytes_fit.ensures;
+      entries = entries_kept k (subst IsBytes c.image.ensures.spelled c.bytes_fit.ensures);
     }
