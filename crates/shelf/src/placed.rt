@@ -71,9 +71,7 @@ impl<A: Allocator> Placed for Shelf<A> {
         if count >= MOST_SLOTS {
             return Err(Refusal::Code(Code::Full));
         }
-        let Ok(()) = self.slots.push(Some(*item)) else {
-            return Err(Refusal::NoMemory);
-        };
+        self.slots.push(Some(*item))?;
         Ok(place_of(count))
     }
 

@@ -21,7 +21,7 @@ returns-clause-puts g c =
     let bytes = c.args.item.now in
     let count : c.len-count.result ≡ length s.slots = cc c.len-count.ensures in
     let place : c.place_of-2.result ≡ place_of (length s.slots) = c.place_of-2.ensures ∙ ap place_of count in
-    let new : with_more s (Some bytes) ≡ record { slots = c.push.new.self.items; fault = s.fault } = sym (ap (λ (slots : List (Option (List ℕ))). record { slots = slots; fault = s.fault }) c.in-Ok.ensures.items) in
+    let new : with_more s (Some bytes) ≡ record { slots = c.push.new.self.items; fault = s.fault } = sym (ap (λ (slots : List (Option (List ℕ))). record { slots = slots; fault = s.fault }) c.in_ok-push.ensures.items) in
     subst (λ (old : Contents). Puts (store_of old) (store_of (record { slots = c.push.new.self.items; fault = s.fault })) c.place_of-2.result) c.self.view_is
     (subst (λ (t : Contents). Puts (store_of s) (store_of t) c.place_of-2.result) new
     (subst (λ (p : ℕ). Puts (store_of s) (store_of (with_more s (Some bytes))) p) (sym place) (appends s bytes whole)))
