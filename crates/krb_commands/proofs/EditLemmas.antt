@@ -17,6 +17,7 @@ use Rattle.krb_files.specs.declared.files.SaveFault.TheVariants as save
 use Rattle.krb_text.specs.declared.script.ScriptRefusal.{ScriptRefusal}
 use Rattle.krb_text.specs.declared.script.ScriptRefusal.TheVariants as refusal
 use Rattle.krb_files.specs.Bytes.{Watch}
+use Rattle.krb_files.specs.Reader.{Source}
 use Rattle.krb_files.specs.Files.{SameFiles, SetsFile, CountsFailure, loaded}
 use Rattle.krb_text.specs.Script.{ScriptFault, RefusesScript, script}
 use Rattle.krb_commands.specs.declared.ktedit.Edited.{Edited}
@@ -237,9 +238,9 @@ refused trait file Holds order given (refusal.Fault line kind) files is holds =
 refused trait file Holds order given refusal.NoMemory files is holds = inl (refl, holds)
 
 -- an edit over what a reader gave
-pub Edits-by : {F : Type 0} (trait : Ghosts F) (file : List ℕ) (order : Order) (given given' : Option (List ℕ)) (old new : F) (out out' : Watch) (ending : Ending) (input : Result (List ℕ) LoadFault)
-    → GivesInput given given' input → EndsInput trait file (λ due. Shows due out out' ending) order old new input → Edits trait file order given given' old new out out' ending
-Edits-by trait file order given given' old new out out' ending input read ends = record {
+pub Edits-by : {F : Type 0} (trait : Ghosts F) (file : List ℕ) (order : Order) (reader reader' : Source) (old new : F) (out out' : Watch) (ending : Ending) (input : Result (List ℕ) LoadFault)
+    → GivesInput reader reader' input → EndsInput trait file (λ due. Shows due out out' ending) order old new input → Edits trait file order reader reader' old new out out' ending
+Edits-by trait file order reader reader' old new out out' ending input read ends = record {
   input = input;
   read = read;
   ends = ends;

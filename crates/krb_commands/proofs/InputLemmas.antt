@@ -1,12 +1,13 @@
 -- Lines that were read from an input.
-use Rattle.std.proofs.Common.{◌≡◌, ℕ, ◌+◌, ◌-◌, ◌<◌, ◌≤◌, List, [], ◌∷◌, ◌++◌, length, drop, Option, Some, None, refl, sym, ap, ◌∙◌, arith, append_assoc, append-nil, length-drop, nat_lt, inl, inr}
+use Rattle.std.proofs.Common.{◌≡◌, ℕ, ◌+◌, ◌-◌, ◌<◌, ◌≤◌, List, [], ◌∷◌, ◌++◌, length, length-append, take, take-add, drop, Option, Some, None, refl, sym, ap, ◌∙◌, arith, append_assoc, append-nil, length-drop, nat_lt, inl, inr}
 use Rattle.std.specs.Prelude.{slice_range, IfSome}
 use Rattle.std.specs.Io.KnownBytes.{IsAtEnd}
-use Rattle.std.proofs.lemmas.List.{take_all, drop_all, drop-append-le}
+use Rattle.std.proofs.lemmas.List.{take_all, take-append-le, length-take-le, drop_all, drop-append-le}
+use Rattle.std.proofs.Math.Seq.{take-append_seam}
 use Rattle.std.proofs.lemmas.Bool.{lt-ltb, le-ltb}
 use Rattle.std.proofs.lemmas.Bool.Decides.{leb_tells}
-use Rattle.krb_commands.specs.InputLines.{InputParts, lines_of, last_line, HasNone, HasLines, IsFirst, Grows, ReadsLine, TakesLine}
-use Rattle.krb_commands.proofs.NewlineLemmas.{lines-first, lines-last, drop_parts}
+use Rattle.krb_commands.specs.InputLines.{InputParts, lines_of, last_line, HasNone, HasLines, IsFirst, Grows, ReadsLine, TakesLine, EndsInNewline}
+use Rattle.krb_commands.proofs.NewlineLemmas.{first-within, lines-first, lines-last, drop_parts}
 
 -- what is to come from a place on is the same after a read
 pub to_come : (old new xs ys : List ℕ) (next : ℕ) → next ≤ length old → Grows old new (Some xs) (Some ys) → drop next old ++ xs ≡ drop next new ++ ys
@@ -46,6 +47,35 @@ TakesLine-first old new left left' end le is grows line next = record {
   first = λ lines h. rw line (line-first old.read new.read old.next end left left' lines le is grows (rw next at h));
   further = (let ahead = is.ahead in omega (arith, ahead, next));
 }
+
+-- a text and one more byte
+take_more : (xs ys : List ℕ) (b n : ℕ) → n ≡ length xs + 1 → take n (xs ++ b ∷ ys) ≡ xs ++ b ∷ []
+take_more xs ys b n is =
+    let len : n ≡ length (xs ++ b ∷ []) = omega (arith, is, length-append xs (b ∷ [])) in
+    ap (take n) (sym (append_assoc xs (b ∷ []) ys)) ∙ ap (λ (m : ℕ). take m ((xs ++ b ∷ []) ++ ys)) len ∙ take-append_seam (xs ++ b ∷ []) ys
+
+-- all up to a newline
+up_to_newline : (xs : List ℕ) (a end : ℕ) → IsFirst xs a end → take (end + 1) xs ≡ take a xs ++ (slice_range xs a end ++ 10 ∷ [])
+up_to_newline xs a end first =
+    let ahead = first.ahead in
+    let within = first-within xs a end first in
+    let sum : end + 1 ≡ a + (end + 1 - a) = omega (arith, ahead) in
+    let long : end - a ≤ length (drop a xs) = omega (arith, ahead, within, length-drop a xs) in
+    let len = length-take-le (end - a) (drop a xs) long in
+    ap (λ (n : ℕ). take n xs) sum ∙ take-add a (end + 1 - a) xs
+    ∙ ap (λ (bs : List ℕ). take a xs ++ take (end + 1 - a) bs) (first_parts xs a end first)
+    ∙ ap (λ (bs : List ℕ). take a xs ++ bs) (take_more (slice_range xs a end) (drop (end + 1) xs) 10 (end + 1 - a) (omega (arith, ahead, len)))
+
+-- the line ended there
+pub EndsInNewline-first : (old new : InputParts) (left left' : Option (List ℕ)) (end : ℕ) → old.next ≤ length old.read → IsFirst new.read old.next end → Grows old.read new.read left left'
+    → new.line ≡ slice_range new.read old.next end → new.next ≡ end + 1 → end < 16777216 → EndsInNewline old new
+EndsInNewline-first old new left left' end le is grows line next most =
+    let front : take old.next new.read ≡ take old.next old.read = ap (take old.next) grows.read ∙ take-append-le old.next old.read grows.given le in
+    record {
+      within = omega (arith, next, most);
+      read = ap (λ (n : ℕ). take n new.read) next ∙ up_to_newline new.read old.next end is
+          ∙ ap (λ (bs : List ℕ). bs ++ (slice_range new.read old.next end ++ 10 ∷ [])) front ∙ ap (λ (l : List ℕ). take old.next old.read ++ (l ++ 10 ∷ [])) (sym line);
+    }
 
 -- the bytes from a place to the end
 to_end : (xs : List ℕ) (a : ℕ) → slice_range xs a (length xs) ≡ drop a xs

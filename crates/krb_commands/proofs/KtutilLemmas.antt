@@ -1,6 +1,8 @@
 -- The lines of ktutil, one after the other.
-use Rattle.std.proofs.Common.{◌≡◌, ◌≢◌, inl, inr, ℕ, ◌+◌, ◌<◌, ◌≤◌, List, [], ◌∷◌, ◌++◌, length, length-append, drop, refl, sym, subst, ◌∙◌, append_assoc, append-nil, arith}
-use Rattle.std.specs.Prelude.{IsFalse, max, Option, None, Some, IfSome}
+use Rattle.std.proofs.Common.{◌≡◌, ◌≢◌, inl, inr, ℕ, ◌⊎◌, ◌+◌, ◌-◌, ◌<◌, ◌≤◌, List, [], ◌∷◌, ◌++◌, length, length-append, take, take-add, drop, refl, sym, ap, subst, ◌∙◌, append_assoc, append-nil, arith}
+use Rattle.std.specs.Prelude.{IsFalse, max, slice_range, ◌||◌, Option, None, Some, IfSome}
+use Rattle.std.proofs.lemmas.List.{drop_all, take-append-le}
+use Rattle.std.proofs.lemmas.Grind.{flat_map-append}
 use Rattle.std.specs.Io.KnownBytes.{Consumes}
 use Rattle.krb_wire.specs.declared.format.Order.{Order}
 use Rattle.krb_files.specs.declared.files.Files.{Ghosts}
@@ -8,12 +10,12 @@ use Rattle.krb_files.specs.declared.files.LoadFault.{LoadFault}
 use Rattle.krb_files.specs.declared.files.LoadFault.TheVariants.{Missing, TooLarge}
 use Rattle.krb_files.specs.Bytes.{Watch}
 use Rattle.krb_commands.specs.Troubles.{input_trouble, trouble_message, trouble_status}
-use Rattle.krb_commands.specs.InputLines.{InputParts, lines_of, HasLines, KeepsLines, TakesLine, Grows, IsWithin}
+use Rattle.krb_commands.specs.InputLines.{InputParts, lines_of, with_newlines, HasLines, KeepsLines, TakesLine, EndsInNewline, IsSpent, HasNoMore, HasNone, CutsOff, Grows, IsWithin}
 use Rattle.krb_commands.specs.Loading.{most_bytes}
 use Rattle.krb_commands.specs.KtutilTalk.{Talk, first_talk, AreFirst, Continues, Stops, TalksOver}
 use Rattle.krb_commands.specs.Ktutil.{RunsKtutil}
 use Rattle.krb_commands.proofs.KtutilHonestly.{honest_after, honest_in_line, honest_unread}
-use Rattle.krb_files.specs.Reader.{ConsumesAtMost}
+use Rattle.krb_files.specs.Reader.{Source, ConsumesAtMost, is_failed}
 use Rattle.krb_commands.specs.Runs.{Says}
 use Rattle.krb_files.proofs.Reading.{Consumes-trans}
 
@@ -47,6 +49,30 @@ none_more : (given : Option (List ℕ)) (lines : List (List ℕ)) → IfSome giv
 none_more None lines is = tt
 none_more (Some bytes) lines is = is ∙ append-nil lines
 
+-- the lines to come of an input that is spent
+spent_has : (input : InputParts) (left : Option (List ℕ)) → IsSpent input left → HasLines input left []
+spent_has input None spent = tt
+spent_has input (Some ys) spent =
+    let none : drop input.next input.read ≡ [] = (let all = spent.all in drop_all input.next input.read (omega (arith, all))) in
+    let both : drop input.next input.read ++ ys ≡ [] = rw (none, spent.at_end) refl in
+    ap lines_of both
+
+-- where these are all lines there is no other
+no_further : (given : Option (List ℕ)) (lines : List (List ℕ)) (line : List ℕ) → IfSome given (λ bytes. lines_of bytes ≡ lines) → AreFirst (lines ++ line ∷ []) given → IfSome given (λ bytes. lines_of bytes ≡ lines ++ line ∷ [])
+no_further None lines line all first = tt
+no_further (Some bytes) lines line all first =
+    let same : length lines ≡ length ((lines ++ line ∷ []) ++ first.0) = ap length (sym all ∙ first.1) in
+    absurd (omega (arith, same, length-append (lines ++ line ∷ []) first.0, length-append lines (line ∷ [])))
+
+-- one more line with its newline
+newline_more : (lines : List (List ℕ)) (line : List ℕ) → with_newlines (lines ++ line ∷ []) ≡ with_newlines lines ++ (line ++ 10 ∷ [])
+newline_more lines line = flat_map-append (λ l. l ++ 10 ∷ []) lines (line ∷ []) ∙ ap (λ (bs : List ℕ). with_newlines lines ++ bs) (append-nil (line ++ 10 ∷ []))
+
+-- what was read and is in lines is these, each with its newline
+pub record AreEnded (lines : List (List ℕ)) (input : InputParts) : Type 0 where
+  pub within : input.next ≤ 16777216
+  pub read : take input.next input.read ≡ with_newlines lines
+
 -- what was read, and what a reader gave besides
 grown : (given left left' : Option (List ℕ)) (old new : List ℕ) → Consumes given left old → Grows old new left left' → Consumes given left' new
 grown given left left' old new consumes g = subst (Consumes given left') (sym g.read) (Consumes-trans given left left' old g.given consumes g.consumes)
@@ -77,6 +103,7 @@ pub record Underway {F : Type 0} (trait : Ghosts F) (now : ℕ) (given : Option 
   pub consumes : Consumes given left input.read
   pub within : IsWithin input
   pub below : number ≤ input.next
+  pub ended : AreEnded lines input ⊎ IfSome given (λ bytes. lines_of bytes ≡ lines)
   pub well : IsFalse talk.out.failed
 
 -- nothing was read
@@ -102,13 +129,14 @@ module _ {F : Type 0} (trait : Ghosts F) (now : ℕ) (given : Option (List ℕ))
         consumes = none_consumed given;
         within = record { next = omega arith; most = omega arith };
         below = omega arith;
+        ended = inl (record { within = omega arith; read = refl });
         well = well;
       })
 
   pub Underway-line : (first : Talk F) (old new : InputParts) (left left' : Option (List ℕ)) (number : ℕ) (talk talk' : Talk F) → Underway trait now given first old left number talk
-      → TakesLine old new left left' → Grows old.read new.read left left' → IsWithin new → Continues trait now (number + 1) new.line talk talk'
+      → TakesLine old new left left' → EndsInNewline old new ⊎ IsSpent new left' → Grows old.read new.read left left' → IsWithin new → Continues trait now (number + 1) new.line talk talk'
       → Underway trait now given first new left' (number + 1) talk'
-  Underway-line first old new left left' number talk talk' u takes grows within continues =
+  Underway-line first old new left left' number talk talk' u takes ends grows within continues =
       let counted = u.counted in
       let below = u.below in
       let further = takes.further in
@@ -120,66 +148,94 @@ module _ {F : Type 0} (trait : Ghosts F) (now : ℕ) (given : Option (List ℕ))
         consumes = grown given left left' old.read new.read u.consumes grows;
         within = within;
         below = omega (arith, below, further);
+        ended = elim ends [
+          | inl newline ↦ elim u.ended [
+            | inl before ↦ inl (record {
+                within = newline.within;
+                read = newline.read ∙ ap (λ (bs : List ℕ). bs ++ (new.line ++ 10 ∷ [])) before.read ∙ sym (newline_more u.lines new.line);
+              })
+            | inr all ↦ inr (no_further given u.lines new.line all (ToCome-first given (u.lines ++ new.line ∷ []) new left' (ToCome-line given u.lines old new left left' u.to_come takes)))
+          ]
+          | inr spent ↦ inr (u.to_come (new.line ∷ []) (takes.first [] (spent_has new left' spent)))
+        ];
         well = continues.well;
       }
 
-  -- what a run has taken of its input
-  taken : (left left' : Option (List ℕ)) (old new : InputParts) → Consumes given left old.read → Grows old.read new.read left left' → IsWithin new → ConsumesAtMost given left' (most_bytes + 1)
-  taken left left' old new consumes grows within = record {
-    taken = new.read;
-    consumes = grown given left left' old.read new.read consumes grows;
-    bound = within.most;
+-- what a run has taken of its input
+taken : (given left left' : Option (List ℕ)) (old new : InputParts) → Consumes given left old.read → Grows old.read new.read left left' → IsWithin new → ConsumesAtMost given left' (most_bytes + 1)
+taken given left left' old new consumes grows within = record {
+  taken = new.read;
+  consumes = grown given left left' old.read new.read consumes grows;
+  bound = within.most;
+}
+
+-- of what was read each line that has its newline was handled
+due_of : (lines : List (List ℕ)) (old new : InputParts) (left left' : Option (List ℕ)) → IsWithin old → Grows old.read new.read left left' → HasNoMore old new → AreEnded lines old → CutsOff lines (take most_bytes new.read)
+due_of lines old new left left' within grows no_more ended =
+    let most = ended.within in
+    let sum : most_bytes ≡ old.next + (most_bytes - old.next) = omega (arith, most) in
+    let front : take old.next new.read ≡ take old.next old.read = ap (take old.next) grows.read ∙ take-append-le old.next old.read grows.given within.next in
+    record {
+      rest = slice_range new.read old.next most_bytes;
+      none = subst (λ (n : ℕ). HasNone (slice_range new.read n most_bytes)) no_more.same no_more.none;
+      bytes_are = ap (λ (n : ℕ). take n new.read) sum ∙ take-add old.next (most_bytes - old.next) new.read
+          ∙ ap (λ (bs : List ℕ). bs ++ slice_range new.read old.next most_bytes) (front ∙ ended.read);
+    }
+
+module _ {F : Type 0} (trait : Ghosts F) (now : ℕ) (order : Order) (files : F) (out err : Watch) (first last : Source) (old new : InputParts) (left : Option (List ℕ)) (number : ℕ) (talk : Talk F)
+    (u : Underway trait now first.left (first_talk order files out err) old left number talk) (grows : Grows old.read new.read left last.left) (within : IsWithin new) where
+  -- the input has ended
+  pub RunsKtutil-after : HasLines old left [] → last.failed ≡ first.failed → RunsKtutil trait order now first last files talk.files out talk.out err talk.err talk.status
+  RunsKtutil-after has well = record {
+    lines = u.lines;
+    last = talk;
+    state = talk.state;
+    talked = u.talked;
+    ends = inl (record { all = none_more first.left u.lines (u.to_come [] has); well = well; same = refl });
+    honest = honest_after trait now first.left u.lines (first_talk order files out err) talk u.talked (u.to_come [] has);
+    taken = taken first.left left last.left old new u.consumes grows within;
   }
 
-  module _ (order : Order) (files : F) (out err : Watch) (old new : InputParts) (left left' : Option (List ℕ)) (number : ℕ) (talk : Talk F) (u : Underway trait now given (first_talk order files out err) old left number talk)
-      (grows : Grows old.read new.read left left') (within : IsWithin new) where
-    -- the input has ended
-    pub RunsKtutil-after : HasLines old left [] → RunsKtutil trait order now given left' files talk.files out talk.out err talk.err talk.status
-    RunsKtutil-after has = record {
-      lines = u.lines;
-      last = talk;
-      state = talk.state;
-      talked = u.talked;
-      ends = inl (record { all = none_more given u.lines (u.to_come [] has); same = refl });
-      honest = honest_after trait now given u.lines (first_talk order files out err) talk u.talked (u.to_come [] has);
-      taken = taken left left' old new u.consumes grows within;
-    }
+  -- a line was the last
+  pub RunsKtutil-in_line : (talk' : Talk F) → TakesLine old new left last.left → last.failed ≡ first.failed → Stops trait now (number + 1) new.line talk talk' → RunsKtutil trait order now first last files talk'.files out talk'.out err talk'.err talk'.status
+  RunsKtutil-in_line talk' takes well stops = record {
+    lines = u.lines;
+    last = talk;
+    state = talk'.state;
+    talked = u.talked;
+    ends = inr (inl (record {
+      line = new.line;
+      well = well;
+      first = ToCome-first first.left (u.lines ++ new.line ∷ []) new last.left (ToCome-line first.left u.lines old new left last.left u.to_come takes);
+      stops = subst (λ (n : ℕ). Stops trait now (n + 1) new.line talk talk') u.counted stops;
+    }));
+    honest = honest_in_line trait now first.left u.lines (first_talk order files out err) talk u.talked new.line talk' (ToCome-first first.left (u.lines ++ new.line ∷ []) new last.left (ToCome-line first.left u.lines old new left last.left u.to_come takes))
+        (subst (λ (n : ℕ). Stops trait now (n + 1) new.line talk talk') u.counted stops);
+    taken = taken first.left left last.left old new u.consumes grows within;
+  }
 
-    -- a line was the last
-    pub RunsKtutil-in_line : (talk' : Talk F) → TakesLine old new left left' → Stops trait now (number + 1) new.line talk talk' → RunsKtutil trait order now given left' files talk'.files out talk'.out err talk'.err talk'.status
-    RunsKtutil-in_line talk' takes stops = record {
-      lines = u.lines;
-      last = talk;
-      state = talk'.state;
-      talked = u.talked;
-      ends = inr (inl (record {
-        line = new.line;
-        first = ToCome-first given (u.lines ++ new.line ∷ []) new left' (ToCome-line given u.lines old new left left' u.to_come takes);
-        stops = subst (λ (n : ℕ). Stops trait now (n + 1) new.line talk talk') u.counted stops;
-      }));
-      honest = honest_in_line trait now given u.lines (first_talk order files out err) talk u.talked new.line talk' (ToCome-first given (u.lines ++ new.line ∷ []) new left' (ToCome-line given u.lines old new left left' u.to_come takes))
-          (subst (λ (n : ℕ). Stops trait now (n + 1) new.line talk talk') u.counted stops);
-      taken = taken left left' old new u.consumes grows within;
-    }
-
-    -- the input was not read further
-    pub RunsKtutil-unread : (fault : LoadFault) (err' : Watch) (status : ℕ) → KeepsLines old new left left' → fault ≢ Missing → (fault ≡ TooLarge → most_bytes < length new.read)
-        → Says talk.err err' (trouble_message [] (input_trouble fault)) → status ≡ max talk.status (trouble_status (input_trouble fault)) → RunsKtutil trait order now given left' files talk.files out talk.out err err' status
-    RunsKtutil-unread fault err' status keeps never too_large said worst = record {
-      lines = u.lines;
-      last = talk;
-      state = talk.state;
-      talked = u.talked;
-      ends = inr (inr (record {
-        fault = fault;
-        first = ToCome-first given u.lines new left' (λ more has. u.to_come more (keeps more has));
-        never = never;
-        too_large = λ e. too_long given left' new.read (grown given left left' old.read new.read u.consumes grows) (too_large e);
-        said = said;
-        worst = worst;
-        files = refl;
-        out = refl;
-      }));
-      honest = honest_unread trait now given u.lines (first_talk order files out err) talk u.talked fault (ToCome-first given u.lines new left' (λ more has. u.to_come more (keeps more has))) err' status said worst;
-      taken = taken left left' old new u.consumes grows within;
-    }
+  -- the input was not read further
+  pub RunsKtutil-unread : (fault : LoadFault) (err' : Watch) (status : ℕ) → KeepsLines old new left last.left → IsWithin old → HasNoMore old new → last.failed ≡ (is_failed fault || first.failed) → fault ≢ Missing → (fault ≡ TooLarge → most_bytes < length new.read)
+      → Says talk.err err' (trouble_message [] (input_trouble fault)) → status ≡ max talk.status (trouble_status (input_trouble fault)) → RunsKtutil trait order now first last files talk.files out talk.out err err' status
+  RunsKtutil-unread fault err' status keeps was no_more failed never too_large said worst = record {
+    lines = u.lines;
+    last = talk;
+    state = talk.state;
+    talked = u.talked;
+    ends = inr (inr (record {
+      fault = fault;
+      failed = failed;
+      read = new.read;
+      consumes = grown first.left left last.left old.read new.read u.consumes grows;
+      due = elim u.ended [ | inl ended ↦ inl (due_of u.lines old new left last.left was grows no_more ended) | inr all ↦ inr all ];
+      first = ToCome-first first.left u.lines new last.left (λ more has. u.to_come more (keeps more has));
+      never = never;
+      too_large = λ e. too_long first.left last.left new.read (grown first.left left last.left old.read new.read u.consumes grows) (too_large e);
+      said = said;
+      worst = worst;
+      files = refl;
+      out = refl;
+    }));
+    honest = honest_unread trait now first.left u.lines (first_talk order files out err) talk u.talked fault (ToCome-first first.left u.lines new last.left (λ more has. u.to_come more (keeps more has))) err' status said worst;
+    taken = taken first.left left last.left old new u.consumes grows within;
+  }

@@ -1,10 +1,10 @@
 -- Bytes that are cut at newlines.
-use Rattle.std.proofs.Common.{◌≡◌, ℕ, ◌+◌, ◌-◌, ◌<◌, ◌≤◌, List, [], ◌∷◌, ◌++◌, length, take, drop, Option, Some, None, refl, sym, ap, ◌∙◌, arith, length-append, append_assoc, append-nil, take-add, drop-drop}
+use Rattle.std.proofs.Common.{◌≡◌, ℕ, ◌+◌, ◌-◌, ◌<◌, ◌≤◌, List, [], ◌∷◌, ◌++◌, length, take, drop, Option, Some, None, refl, sym, ap, subst, ◌∙◌, arith, length-append, append_assoc, append-nil, take-add, drop-drop}
 use Rattle.std.specs.Prelude.{slice_range}
 use Rattle.std.specs.List.{slice_split}
 use Rattle.std.specs.Io.KnownBytes.{Keeps}
 use Rattle.std.proofs.lemmas.List.Splits.{length-slice_split}
-use Rattle.std.proofs.lemmas.List.{take-append-drop}
+use Rattle.std.proofs.lemmas.List.{take-append-drop, take-take}
 use Rattle.std.proofs.lemmas.Grind.{common_steps}
 use Rattle.krb_commands.specs.InputLines.{is_newline, lines_of, last_line, without_empty_last, HasNone, IsFirst, Grows}
 use Rattle.krb_files.proofs.Reading.{Consumes-trans}
@@ -46,6 +46,22 @@ parts_touch xs a b c p q =
 HasNone-append : (xs ys : List ℕ) → HasNone xs → HasNone ys → HasNone (xs ++ ys)
 HasNone-append [] ys h k = k
 HasNone-append (x ∷ xs) ys h k = (h.0, HasNone-append xs ys h.1 k)
+
+-- none at first, where there is none at all
+HasNone-left : (xs ys : List ℕ) → HasNone (xs ++ ys) → HasNone xs
+HasNone-left [] ys h = tt
+HasNone-left (x ∷ xs) ys h = (h.0, HasNone-left xs ys h.1)
+
+HasNone-take : (n : ℕ) (xs : List ℕ) → HasNone xs → HasNone (take n xs)
+HasNone-take n xs h = HasNone-left (take n xs) (drop n xs) (subst HasNone (sym (take-append-drop n xs)) h)
+
+-- none up to a place, where there is none at all
+pub HasNone-up_to : (xs : List ℕ) (a most : ℕ) → HasNone (drop a xs) → HasNone (slice_range xs a most)
+HasNone-up_to xs a most h = HasNone-take (most - a) (drop a xs) h
+
+-- or none up to a later one
+pub HasNone-sooner : (xs : List ℕ) (a end most : ℕ) → most ≤ end → HasNone (slice_range xs a end) → HasNone (slice_range xs a most)
+HasNone-sooner xs a end most le h = subst HasNone (take-take (most - a) (end - a) (drop a xs) (omega (arith, le))) (HasNone-take (most - a) (slice_range xs a end) h)
 
 -- the first newline from one place on is that from an earlier one, if none stands between
 pub IsFirst-earlier : (xs : List ℕ) (a b c : ℕ) → a ≤ b → HasNone (slice_range xs a b) → IsFirst xs b c → IsFirst xs a c

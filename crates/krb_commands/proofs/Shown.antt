@@ -1,11 +1,9 @@
 -- What is shown of a run, and what a reader gave.
 use Rattle.std.proofs.Common.{◌≡◌, ◌≢◌, ℕ, ◌<◌, List, [], refl, sym, ap, subst, ◌∙◌}
-use Rattle.std.specs.Prelude.{◌+◌, length, IsFalse, Option, Result, Ok, Err, is_ok, IfSome}
+use Rattle.std.specs.Prelude.{◌+◌, ◌≤◌, ◌||◌, length, IsFalse, Option, Result, Ok, Err, is_ok, IfSome}
 use Rattle.std.proofs.lemmas.Bool.{false≢true, true≢false}
 use Rattle.krb_files.specs.declared.files.LoadFault.{LoadFault}
 use Rattle.krb_files.specs.declared.files.LoadFault.TheVariants as load
-use Rattle.krb_files.specs.declared.files.SaveFault.{SaveFault}
-use Rattle.krb_files.specs.declared.files.SaveFault.TheVariants as save
 use Rattle.krb_files.specs.Bytes.{Watch}
 use Rattle.std.specs.Io.KnownBytes.{Appends}
 use Rattle.krb_files.specs.declared.files.Files.{Ghosts}
@@ -15,7 +13,7 @@ use Rattle.krb_commands.specs.Loading.{most_bytes, Gives, PrintsOver, run_over}
 use Rattle.krb_commands.specs.Input.{GivesInput}
 use Rattle.krb_commands.specs.Runs.{Run, Shows, Prints, Says, ends_by}
 use Rattle.krb_commands.specs.Troubles.{Ending}
-use Rattle.krb_files.specs.Reader.{ConsumesAtMost}
+use Rattle.krb_files.specs.Reader.{Source, ConsumesAtMost, is_failed}
 
 -- nothing was to be said
 pub Says-nothing : (w : Watch) → Says w w []
@@ -54,13 +52,10 @@ abbrev pub fault_in : Result (List ℕ) LoadFault → LoadFault
 fault_in (Ok bytes) = load.Missing
 fault_in (Err fault) = fault
 
-pub GivesInput-ok : (given given' : Option (List ℕ)) (bytes : List ℕ) → IfSome given (λ left. bytes ≡ left) → ConsumesAtMost given given' (most_bytes + 1) → GivesInput given given' (Ok bytes)
-GivesInput-ok given given' bytes all taken = record { all = all; too_large = λ e. absurd (true≢false (ap is_ok e)); never = tt; taken = taken }
+pub GivesInput-ok : (reader reader' : Source) (bytes : List ℕ) → IfSome reader.left (λ left. bytes ≡ left) → length bytes ≤ most_bytes → reader'.failed ≡ reader.failed → ConsumesAtMost reader.left reader'.left (most_bytes + 1)
+    → GivesInput reader reader' (Ok bytes)
+GivesInput-ok reader reader' bytes all within failed taken = record { all = all; within = within; too_large = λ e. absurd (true≢false (ap is_ok e)); never = tt; failed = failed; taken = taken }
 
-pub GivesInput-err : (given given' : Option (List ℕ)) (fault : LoadFault) → (fault ≡ load.TooLarge → IfSome given (λ left. most_bytes < length left)) → fault ≢ load.Missing
-    → ConsumesAtMost given given' (most_bytes + 1) → GivesInput given given' (Err fault)
-GivesInput-err given given' fault too_large never taken = record { all = tt; too_large = λ e. too_large (ap fault_in e); never = never; taken = taken }
-
-abbrev pub save_fault_in : Result (Unit {0}) SaveFault → SaveFault
-save_fault_in (Ok done) = save.NoMemory
-save_fault_in (Err fault) = fault
+pub GivesInput-err : (reader reader' : Source) (fault : LoadFault) → (fault ≡ load.TooLarge → IfSome reader.left (λ left. most_bytes < length left)) → fault ≢ load.Missing
+    → reader'.failed ≡ (is_failed fault || reader.failed) → ConsumesAtMost reader.left reader'.left (most_bytes + 1) → GivesInput reader reader' (Err fault)
+GivesInput-err reader reader' fault too_large never failed taken = record { all = tt; within = tt; too_large = λ e. too_large (ap fault_in e); never = never; failed = failed; taken = taken }

@@ -1,11 +1,15 @@
 -- Lines out of a reader.
-use Rattle.std.specs.Prelude.{◌≡◌, ℕ, ◌+◌, ◌<◌, ◌≤◌, ◌==◌, List, [], ◌∷◌, ◌++◌, drop, length, slice_range, Bool, true, false, Option, None, Some, IfSome}
-use Rattle.std.specs.List.{slice_split, AllByRecursion}
+use Rattle.std.specs.Prelude.{◌≡◌, ℕ, ◌+◌, ◌<◌, ◌≤◌, ◌==◌, List, [], ◌∷◌, ◌++◌, drop, take, length, slice_range, Bool, true, false, Option, None, Some, IfSome}
+use Rattle.std.specs.List.{flat_map, slice_split, AllByRecursion}
 use Rattle.std.specs.Io.KnownBytes.{Consumes, IsAtEnd}
 
 -- a byte is a newline
 abbrev pub is_newline : ℕ → Bool
 is_newline b = b == 10
+
+-- no byte is a newline
+abbrev pub HasNone : List ℕ → Type 0
+HasNone bytes = AllByRecursion (λ b. is_newline b ≡ false) bytes
 
 -- a last line, if it has a byte
 abbrev pub last_line : List ℕ → List (List ℕ)
@@ -46,6 +50,31 @@ abbrev pub ReadsLine : Bool → InputParts → InputParts → Option (List ℕ) 
 ReadsLine true old new left left' = TakesLine old new left left'
 ReadsLine false old new left left' = HasLines old left []
 
+-- lines, each with its newline
+abbrev pub with_newlines : List (List ℕ) → List ℕ
+with_newlines lines = flat_map (λ line. line ++ 10 ∷ []) lines
+
+-- bytes are these lines, each with its newline, and then some bytes without one
+pub record CutsOff (lines : List (List ℕ)) (bytes : List ℕ) : Type 0 where
+  pub rest : List ℕ
+  pub none : HasNone rest
+  pub bytes_are : bytes ≡ with_newlines lines ++ rest
+
+-- the line that was read ended with a newline, within what an input may have
+pub record EndsInNewline (old new : InputParts) : Type 0 where
+  pub within : new.next ≤ 16777216
+  pub read : take new.next new.read ≡ take old.next old.read ++ (new.line ++ 10 ∷ [])
+
+-- the reader is at its end, and all that was read is in lines
+pub record IsSpent (input : InputParts) (left : Option (List ℕ)) : Type 0 where
+  pub at_end : IsAtEnd left
+  pub all : input.next ≡ length input.read
+
+-- no further newline was read, within what an input may have
+pub record HasNoMore (old new : InputParts) : Type 0 where
+  pub same : new.next ≡ old.next
+  pub none : HasNone (slice_range new.read new.next 16777216)
+
 -- a reader gave some bytes, by which those that were read have grown
 pub record Grows (old new : List ℕ) (left left' : Option (List ℕ)) : Type 0 where
   pub given : List ℕ
@@ -58,10 +87,6 @@ pub record IsWithin (input : InputParts) : Type 0 where
   pub most : length input.read ≤ 16777217
 
 -- ---- for private contracts
-
--- no byte is a newline
-abbrev pub HasNone : List ℕ → Type 0
-HasNone bytes = AllByRecursion (λ b. is_newline b ≡ false) bytes
 
 -- the first newline from a place on stands at another
 pub record IsFirst (bytes : List ℕ) (from end : ℕ) : Type 0 where

@@ -14,6 +14,7 @@ use Rattle.krb_files.specs.declared.files.Files.{Ghosts}
 use Rattle.krb_files.specs.declared.files.LoadFault.{LoadFault}
 use Rattle.krb_files.specs.declared.files.SaveFault.{SaveFault}
 use Rattle.krb_files.specs.Bytes.{Watch}
+use Rattle.krb_files.specs.Reader.{Source}
 use Rattle.krb_files.specs.Files.{SameFiles, SetsFile, CountsFailure, loaded}
 use Rattle.krb_text.specs.Reply.{reply_text}
 use Rattle.krb_text.specs.Script.{ScriptFault, script}
@@ -151,11 +152,11 @@ module _ {F : Type 0} (trait : Ghosts F) (file : List ℕ) (Holds : Run → Type
       ⊎ FailsOverFile old new
       ⊎ (FilesAfter due.saved old new × Holds due.run)
 
-module _ {F : Type 0} (trait : Ghosts F) (file : List ℕ) (order : Order) (given given' : Option (List ℕ)) (old new : F) (out out' : Watch) where
+module _ {F : Type 0} (trait : Ghosts F) (file : List ℕ) (order : Order) (reader reader' : Source) (old new : F) (out out' : Watch) where
   -- an edit: what the reader gives as a script, and what the files answer, decide what is saved and printed and how it ends
   pub record Edits (ending : Ending) : Type 0 where
     pub input : Result (List ℕ) LoadFault
-    pub read : GivesInput given given' input
+    pub read : GivesInput reader reader' input
     pub ends : EndsInput trait file (λ due. Shows due out out' ending) order old new input
     pub honest : trait.is_honest old → EndsHonestly trait file (λ due. Shows due out out' ending) (edit_input order (loaded (trait.file old file) most_bytes) input) old new
     -- where memory runs out nothing is out, and honest files are the same

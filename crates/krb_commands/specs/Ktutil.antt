@@ -1,5 +1,5 @@
 -- What a run of ktutil leaves.
-use Rattle.std.specs.Prelude.{ℕ, ◌+◌, Bool, true, false, List, Option}
+use Rattle.std.specs.Prelude.{ℕ, ◌+◌, Bool, true, false, List}
 use Rattle.krb_wire.specs.declared.format.Order.{Order}
 use Rattle.krb_files.specs.declared.files.Files.{Ghosts}
 use Rattle.krb_files.specs.Bytes.{Watch}
@@ -7,17 +7,17 @@ use Rattle.krb_commands.specs.KtutilPlan.{KtutilState}
 use Rattle.krb_commands.specs.Loading.{most_bytes}
 use Rattle.krb_commands.specs.KtutilTalk.{Talk, first_talk, Continues, Stops, TalksOver, EndsTalk}
 use Rattle.krb_commands.specs.KtutilDue.{TalksHonestly}
-use Rattle.krb_files.specs.Reader.{ConsumesAtMost}
+use Rattle.krb_files.specs.Reader.{Source, ConsumesAtMost}
 
 -- a run of ktutil: the lines of the input are handled in order, up to one that is the last or to the end
-pub record RunsKtutil {F : Type 0} (trait : Ghosts F) (order : Order) (now : ℕ) (given given' : Option (List ℕ)) (old new : F) (out out' err err' : Watch) (status : ℕ) : Type 0 where
+pub record RunsKtutil {F : Type 0} (trait : Ghosts F) (order : Order) (now : ℕ) (input input' : Source) (old new : F) (out out' err err' : Watch) (status : ℕ) : Type 0 where
   pub lines : List (List ℕ)
   pub last : Talk F
   pub state : KtutilState
   pub talked : TalksOver trait now 1 lines (first_talk order old out err) last
-  pub ends : EndsTalk trait now given lines last (record { files = new; state = state; out = out'; err = err'; status = status })
-  pub taken : ConsumesAtMost given given' (most_bytes + 1)
-  pub honest : trait.is_honest old → TalksHonestly trait now given (first_talk order old out err) (record { files = new; state = state; out = out'; err = err'; status = status })
+  pub ends : EndsTalk trait now input input' lines last (record { files = new; state = state; out = out'; err = err'; status = status })
+  pub taken : ConsumesAtMost input.left input'.left (most_bytes + 1)
+  pub honest : trait.is_honest old → TalksHonestly trait now input.left (first_talk order old out err) (record { files = new; state = state; out = out'; err = err'; status = status })
 
 -- ---- for private contracts
 

@@ -1,17 +1,19 @@
 -- A run of ktutil, line after line.
-use Rattle.std.specs.Prelude.{◌≡◌, ◌≢◌, ◌⊎◌, ℕ, ◌+◌, ◌<◌, max, Bool, true, false, IsTrue, IsFalse, List, [], ◌∷◌, ◌++◌, length, Option, None, IfSome, Ok, Err}
+use Rattle.std.specs.Prelude.{◌≡◌, ◌≢◌, ◌⊎◌, ◌||◌, ℕ, ◌+◌, ◌<◌, max, take, Bool, true, false, IsTrue, IsFalse, List, [], ◌∷◌, ◌++◌, length, Option, None, IfSome, Ok, Err}
 use Rattle.krb_wire.specs.declared.format.Order.{Order}
 use Rattle.krb_files.specs.declared.files.Files.{Ghosts}
 use Rattle.krb_files.specs.declared.files.LoadFault.{LoadFault}
 use Rattle.krb_files.specs.declared.files.LoadFault.TheVariants.{Missing, TooLarge}
+use Rattle.std.specs.Io.KnownBytes.{Consumes}
 use Rattle.krb_files.specs.Bytes.{Watch}
+use Rattle.krb_files.specs.Reader.{Source, is_failed}
 use Rattle.krb_commands.specs.declared.ktutil.line_end.LineEnd.{LineEnd}
 use Rattle.krb_commands.specs.declared.ktutil.line_end.LineEnd.TheVariants as end
 use Rattle.krb_commands.specs.declared.trouble.Trouble.TheVariants as trouble
 use Rattle.krb_commands.specs.KtutilWords.{words, second}
 use Rattle.krb_commands.specs.KtutilPlan.{KtutilState, plan_of}
 use Rattle.krb_commands.specs.KtutilFiles.{Handles}
-use Rattle.krb_commands.specs.InputLines.{lines_of}
+use Rattle.krb_commands.specs.InputLines.{CutsOff, lines_of}
 use Rattle.krb_commands.specs.Loading.{most_bytes}
 use Rattle.krb_commands.specs.Runs.{Run, Says, EndsRun}
 use Rattle.krb_commands.specs.Troubles.{Ending, input_trouble, load_trouble, save_trouble, trouble_message, trouble_status}
@@ -90,24 +92,31 @@ module _ {F : Type 0} (trait : Ghosts F) (now : ℕ) where
   TalksOver number [] old new = new ≡ old
   TalksOver number (line ∷ lines) old new = (between : Talk F) × Continues number line old between × TalksOver (number + 1) lines between new
 
-  module _ (given : Option (List ℕ)) (lines : List (List ℕ)) (last end : Talk F) where
+  module _ (input input' : Source) (lines : List (List ℕ)) (last end : Talk F) where
     -- the input has these lines and no more
     pub record EndsAfterLines : Type 0 where
-      pub all : IfSome given (λ bytes. lines_of bytes ≡ lines)
+      pub all : IfSome input.left (λ bytes. lines_of bytes ≡ lines)
+      pub well : input'.failed ≡ input.failed
       pub same : end ≡ last
 
     -- one more line was handled, and was the last
     pub record EndsInLine : Type 0 where
       pub line : List ℕ
-      pub first : AreFirst (lines ++ line ∷ []) given
+      pub first : AreFirst (lines ++ line ∷ []) input.left
+      pub well : input'.failed ≡ input.failed
       pub stops : Stops (length lines + 1) line last end
 
     -- no more of the input was read, and it was said why; a line that was cut off is none
     pub record EndsUnread : Type 0 where
       pub fault : LoadFault
-      pub first : AreFirst lines given
+      pub first : AreFirst lines input.left
       pub never : fault ≢ Missing
-      pub too_large : fault ≡ TooLarge → IfSome given (λ bytes. most_bytes < length bytes)
+      pub too_large : fault ≡ TooLarge → IfSome input.left (λ bytes. most_bytes < length bytes)
+      pub failed : input'.failed ≡ (is_failed fault || input.failed)
+      -- of what was read, as far as an input may go, each line that has its newline was handled
+      pub read : List ℕ
+      pub consumes : Consumes input.left input'.left read
+      pub due : CutsOff lines (take most_bytes read) ⊎ IfSome input.left (λ bytes. lines_of bytes ≡ lines)
       pub said : Says last.err end.err (trouble_message [] (input_trouble fault))
       pub worst : end.status ≡ max last.status (trouble_status (input_trouble fault))
       pub files : end.files ≡ last.files

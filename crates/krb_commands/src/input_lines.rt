@@ -1,9 +1,10 @@
 //! Lines out of a reader, each as soon as its end is read.
 
-ghost use Rattle.std.specs.Prelude.{◌≡◌, ◌≢◌, ◌<◌, ◌≤◌, [], length, IfOk, IfErr, IfSome, OnErr, IsErrOf, vec_len};
-ghost use Rattle.krb_commands.specs.InputLines.{InputParts, ReadsLine, KeepsLines, Grows, IsWithin, FindsNewline, EndsLine};
+ghost use Rattle.std.specs.Prelude.{◌≡◌, ◌≢◌, ◌⊎◌, ◌||◌, ◌<◌, ◌≤◌, [], length, slice_range, IfOk, IfErr, IfSome, IsTrue, OnErr, IsErrOf, vec_len};
+ghost use Rattle.krb_files.specs.Reader.{is_read_fault};
+ghost use Rattle.krb_commands.specs.InputLines.{InputParts, ReadsLine, KeepsLines, Grows, IsWithin, FindsNewline, EndsLine, EndsInNewline, IsSpent, HasNoMore, HasNone};
 
-use krb_files::{LoadFault, append_read, next_read};
+use krb_files::{LoadFault, WatchedReader, append_read, next_read};
 use std::alloc::Allocator;
 use std::io::Read;
 use std::marker::Model;
@@ -49,14 +50,17 @@ fn newline_from(bytes: &[u8], from: usize) -> Option<usize>
 // Reads on until a newline stands behind a place, or the input ends.
 fn read_to_newline<A: Allocator, R: Read>(
     bytes: &mut Vec<u8, A>,
-    reader: &mut R,
+    reader: &mut WatchedReader<R>,
     next: usize,
 ) -> Result<Option<usize>, LoadFault>
     requires { (next ≤ vec_len bytes.old) × (vec_len bytes.old ≤ 16777217) }
-    ensures ok { IfOk result (EndsLine bytes.new.items next (R.remaining reader.new)) }
+    ensures ok { IfOk result (EndsLine bytes.new.items next reader.new.left) }
+    ensures most { IfOk result (λ end. IfSome end (λ place. place < 16777216)) }
+    ensures none { OnErr result (HasNone (slice_range bytes.new.items next 16777216)) }
+    ensures failed { reader.new.failed ≡ (is_read_fault result || reader.old.failed) }
     ensures too_large { IsErrOf result LoadFault.TooLarge → 16777216 < vec_len bytes.new }
     ensures never { IfErr result (λ fault. fault ≢ LoadFault.Missing) }
-    ensures grows { Grows bytes.old.items bytes.new.items (R.remaining reader.old) (R.remaining reader.new) }
+    ensures grows { Grows bytes.old.items bytes.new.items reader.old.left reader.new.left }
     ensures within { vec_len bytes.new ≤ 16777217 }
 {
     let most = MOST_INPUT as usize;
@@ -103,15 +107,19 @@ impl<A: Allocator> InputLines<A> {
 
     /// Reads the next line, and no further than its end is known; false where the input has ended. A last
     /// line needs no newline. At most one byte more than `MOST_INPUT` is read, of all lines together.
-    pub fn read_line<R: Read>(&mut self, reader: &mut R) -> Result<bool, LoadFault>
+    pub fn read_line<R: Read>(&mut self, reader: &mut WatchedReader<R>) -> Result<bool, LoadFault>
         ensures line { IfOk result (λ is_line. ReadsLine is_line self.old self.new
-            (R.remaining reader.old) (R.remaining reader.new)) }
+            reader.old.left reader.new.left) }
+        ensures ended { IfOk result (λ is_line. IsTrue is_line
+            → EndsInNewline self.old self.new ⊎ IsSpent self.new reader.new.left) }
         // Where a read fails no line is lost, but what was cut off is no line.
+        ensures no_more { OnErr result (HasNoMore self.old self.new) }
+        ensures failed { reader.new.failed ≡ (is_read_fault result || reader.old.failed) }
         ensures err { OnErr result (KeepsLines self.old self.new
-            (R.remaining reader.old) (R.remaining reader.new)) }
+            reader.old.left reader.new.left) }
         ensures too_large { IsErrOf result LoadFault.TooLarge → 16777216 < length self.new.read }
         ensures never { IfErr result (λ fault. fault ≢ LoadFault.Missing) }
-        ensures grows { Grows self.old.read self.new.read (R.remaining reader.old) (R.remaining reader.new) }
+        ensures grows { Grows self.old.read self.new.read reader.old.left reader.new.left }
         ensures within { IsWithin self.new }
     {
         let from = self.next;

@@ -10,7 +10,7 @@ use crate::input_lines::MOST_INPUT;
 use crate::loading::load_or_new;
 use crate::telling::{show, tell};
 use crate::trouble::{Trouble, end_if_told};
-use krb_files::{Files, Watched, load};
+use krb_files::{Files, Watched, WatchedReader, load};
 use krb_indexed::Indexed;
 use krb_keytab::{Keytab, NewEntry};
 use krb_text::{parse_script, reply_lines};
@@ -132,11 +132,11 @@ fn edit_file<A: Allocator + Copy, F: Files, R: Read, W: Write>(
     v1_order: Order,
     file: &str,
     files: &mut F,
-    script: &mut R,
+    script: &mut WatchedReader<R>,
     out: &mut Watched<W>,
 ) -> Result<(), Trouble>
     requires { IsFalse out.old.failed }
-    ensures { Edits F.Files file.now v1_order (R.remaining script.old) (R.remaining script.new)
+    ensures { Edits F.Files file.now v1_order script.old script.new
         files.old files.new out.old out.new result }
 {
     let text = match load(alloc, script, MOST_INPUT, 0) {
@@ -160,12 +160,12 @@ pub fn run_ktedit<A: Allocator + Copy, F: Files, R: Read, W: Write, E: Write>(
     v1_order: Order,
     file: &str,
     files: &mut F,
-    script: &mut R,
+    script: &mut WatchedReader<R>,
     out: &mut Watched<W>,
     err: &mut Watched<E>,
 ) -> u8
     requires { IsFalse out.old.failed }
-    ensures { RunsEdit F.Files file.now v1_order (R.remaining script.old) (R.remaining script.new)
+    ensures { RunsEdit F.Files file.now v1_order script.old script.new
         files.old files.new out.old out.new err.old err.new result }
 {
     let ending = edit_file(alloc, v1_order, file, files, script, out);

@@ -17,7 +17,7 @@ mod words;
 use crate::input_lines::InputLines;
 use crate::telling::{show, tell};
 use crate::trouble::Trouble;
-use krb_files::{Files, Watched};
+use krb_files::{Files, Watched, WatchedReader};
 use krb_wire::Order;
 pub use line_end::LineEnd;
 pub use state::Ktutil;
@@ -109,13 +109,13 @@ pub fn run_ktutil<A: Allocator + Copy, F: Files, R: Read, W: Write, E: Write>(
     alloc: A,
     v1_order: Order,
     files: &mut F,
-    input: &mut R,
+    input: &mut WatchedReader<R>,
     now: u32,
     out: &mut Watched<W>,
     err: &mut Watched<E>,
 ) -> u8
     requires { IsFalse out.old.failed }
-    ensures { RunsKtutil F.Files v1_order now (R.remaining input.old) (R.remaining input.new)
+    ensures { RunsKtutil F.Files v1_order now input.old input.new
         files.old files.new out.old out.new err.old err.new result }
 {
     let mut lines = InputLines::new(alloc);

@@ -11,7 +11,7 @@ use crate::ktfind::run_ktfind;
 use crate::ktutil::run_ktutil;
 use crate::telling::{show, tell};
 use crate::trouble::Trouble;
-use krb_files::{Files, Watched};
+use krb_files::{Files, Watched, WatchedReader};
 use std::alloc::Allocator;
 use std::io::{Read, Write};
 
@@ -31,13 +31,13 @@ pub fn respond<A: Allocator + Copy, F: Files, R: Read, W: Write, E: Write>(
     alloc: A,
     asked: &Result<Action, WordFault>,
     files: &mut F,
-    input: &mut R,
+    input: &mut WatchedReader<R>,
     now: u32,
     out: &mut Watched<W>,
     err: &mut Watched<E>,
 ) -> u8
     requires { IsFalse out.old.failed }
-    ensures { EndsAsked F.Files now (R.remaining input.old) (R.remaining input.new) files.old files.new
+    ensures { EndsAsked F.Files now input.old input.new files.old files.new
         out.old out.new err.old err.new result asked.now }
 {
     match asked {

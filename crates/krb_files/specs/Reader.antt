@@ -1,5 +1,5 @@
 -- What a reader gave, where its bytes are known.
-use Rattle.std.specs.Prelude.{ℕ, ◌≤◌, ◌||◌, List, length, Option, Bool, true, false, Result, Ok, Err}
+use Rattle.std.specs.Prelude.{ℕ, ◌≤◌, List, length, Option, Bool, true, false, Result, Ok, Err}
 use Rattle.krb_files.specs.declared.files.LoadFault.{LoadFault}
 use Rattle.krb_files.specs.declared.files.LoadFault.TheVariants.{Failed}
 use Rattle.std.specs.Io.KnownBytes.{Consumes}
@@ -16,6 +16,10 @@ pub record Source : Type 0 where
   pub failed : Bool
 
 -- the reader was at fault
+abbrev pub is_failed : LoadFault → Bool
+is_failed Failed = true
+is_failed fault = false
+
 abbrev pub is_read_fault : {T : Type 0} → Result T LoadFault → Bool
-is_read_fault (Err Failed) = true
-is_read_fault other = false
+is_read_fault (Ok x) = false
+is_read_fault (Err fault) = is_failed fault

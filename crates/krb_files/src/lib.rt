@@ -9,6 +9,7 @@ mod reader;
 #[cfg(test)]
 mod tests;
 mod watched;
+mod watched_reader;
 mod writer;
 
 pub use cause::Cause;
@@ -16,5 +17,6 @@ pub use files::{Files, LoadFault, SaveFault};
 pub use mem_files::MemFiles;
 pub use output::{OutFault, put};
 pub use reader::{append_read, load, next_read};
-pub use watched::{Watched, WatchedReader};
+pub use watched::Watched;
+pub use watched_reader::WatchedReader;
 pub use writer::save;

@@ -5,7 +5,7 @@ ghost use Rattle.std.specs.Io.KnownBytes.{Consumes, IsAtEnd, Keeps};
 ghost use Rattle.krb_files.specs.Reader.{ConsumesAtMost, is_read_fault};
 
 use crate::files::LoadFault;
-use crate::watched::WatchedReader;
+use crate::watched_reader::WatchedReader;
 use std::alloc::Allocator;
 use std::io::Read;
 
@@ -29,7 +29,7 @@ fn read_into<R: Read>(
     ensures end { IfOk result (λ count. count ≡ 0 → IsAtEnd reader.new.left) }
     ensures err { OnErr result (Keeps reader.old.left reader.new.left) }
     ensures why { IfErr result (λ fault. fault ≡ LoadFault.Failed) }
-    ensures failed { reader.new.failed ≡ (reader.old.failed || is_read_fault result) }
+    ensures failed { reader.new.failed ≡ (is_read_fault result || reader.old.failed) }
 {
     match reader.read_some(&mut bytes[at..]) {
         Some(count) => Ok(count),
@@ -52,7 +52,7 @@ pub fn append_read<A: Allocator, R: Read>(
     ensures same { OnErr result (bytes.new.items ≡ bytes.old.items) }
     ensures capacity { vec_capacity bytes.old ≤ vec_capacity bytes.new }
     ensures why { IfErr result (λ fault. (fault ≡ LoadFault.Failed) ⊎ (fault ≡ LoadFault.NoMemory)) }
-    ensures failed { reader.new.failed ≡ (reader.old.failed || is_read_fault result) }
+    ensures failed { reader.new.failed ≡ (is_read_fault result || reader.old.failed) }
 {
     let filled = bytes.len();
     if bytes.resize(filled + most, 0).is_err() {
@@ -114,7 +114,7 @@ pub fn load<A: Allocator, R: Read>(
     ensures too_large { IsErrOf result LoadFault.TooLarge
         → IfSome reader.old.left (λ left. limit < length left) }
     ensures never { IfErr result (λ fault. fault ≢ LoadFault.Missing) }
-    ensures failed { reader.new.failed ≡ (reader.old.failed || is_read_fault result) }
+    ensures failed { reader.new.failed ≡ (is_read_fault result || reader.old.failed) }
     ensures taken { ConsumesAtMost reader.old.left reader.new.left (limit + 1) }
 {
     let most = limit as usize;

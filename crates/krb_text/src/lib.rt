@@ -1,4 +1,4 @@
-//! Keytabs and credential caches as text, and files by name.
+//! Keytabs and credential caches as text.
 #![tactic(auto)]
 
 mod append;

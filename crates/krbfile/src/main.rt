@@ -7,12 +7,12 @@ mod words;
 
 use clock::seconds_now;
 use krb_disk::DiskFiles;
-use krb_files::Watched;
+use krb_files::{Watched, WatchedReader};
 use std::process::ExitCode;
 
 fn main(rt: HostRuntime) -> ExitCode {
     let mut files = DiskFiles::new(&rt);
-    let mut input = rt.stdin();
+    let mut input = WatchedReader::new(rt.stdin());
     let mut out = Watched::new(rt.stdout());
     let mut err = Watched::new(rt.stderr());
     let now = seconds_now(&rt);

@@ -7,7 +7,7 @@ ghost use Rattle.krb_commands.specs.Actions.{EndsAsked};
 
 use crate::words::parse_words;
 use krb_commands::{Action, WordFault, respond};
-use krb_files::{Files, Watched};
+use krb_files::{Files, Watched, WatchedReader};
 use std::io::{Read, Write};
 use std::{env, io, rt};
 
@@ -29,7 +29,7 @@ fn asked<R: rt::Env + AllocGlobal>(rt: &R) -> Result<Action, WordFault> {
 pub fn run<H: rt::Env + AllocGlobal, F: Files, R: Read, W: Write, E: Write>(
     rt: &H,
     files: &mut F,
-    input: &mut R,
+    input: &mut WatchedReader<R>,
     now: u32,
     out: &mut Watched<W>,
     err: &mut Watched<E>,
@@ -38,7 +38,7 @@ pub fn run<H: rt::Env + AllocGlobal, F: Files, R: Read, W: Write, E: Write>(
 
     // Something was asked for, or the line was not read, and that decides the run.
     ensures { (asked : Result Action WordFault)
-        × EndsAsked F.Files now (R.remaining input.old) (R.remaining input.new) files.old files.new
+        × EndsAsked F.Files now input.old input.new files.old files.new
         out.old out.new err.old err.new result asked }
 {
     respond(rt.alloc(), &asked(rt), files, input, now, out, err)

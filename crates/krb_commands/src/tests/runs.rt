@@ -4,7 +4,7 @@ use super::commands::Command;
 use super::images::{CACHE, IMAGE};
 use crate::action::{Action, WordFault};
 use crate::response::respond;
-use krb_files::{MemFiles, Watched};
+use krb_files::{MemFiles, Watched, WatchedReader};
 use refusing::Refusing;
 use std::alloc::{AllocError, Allocator, Global};
 use std::test::Fail;
@@ -99,7 +99,7 @@ pub fn respond_to<'a>(
         heap,
         asked,
         &mut files,
-        &mut reader,
+        &mut WatchedReader::new(reader),
         1_700_000_000,
         &mut Watched::new(&mut out),
         &mut Watched::new(&mut err),

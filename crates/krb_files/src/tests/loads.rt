@@ -1,6 +1,6 @@
 use crate::files::LoadFault;
 use crate::reader::load;
-use crate::watched::WatchedReader;
+use crate::watched_reader::WatchedReader;
 use crate::writer::save;
 use refusing::refuse_each;
 use std::io::{self, Read};

@@ -1,4 +1,4 @@
-use Rattle.std.proofs.Common.{◌≡◌, ap, refl, subst, inr, ◌∙◌}
+use Rattle.std.proofs.Common.{◌≡◌, ap, refl, subst, inr, ◌∙◌, arith}
 use Rattle.std.specs.Prelude.{Ok, Err}
 use Rattle.std.proofs.lemmas.Result.{err_from_is_err_and}
 use Rattle.krb_text.specs.Script.{script}
@@ -14,10 +14,10 @@ use Rattle.krb_commands.proofs.ktedit.edit_file.Goals as goal
 pub returns-in-Err : goal.returns-in-Err
 returns-in-Err g c =
     let fault = c.in-Err.fault in
-    let given = g.R.Read.remaining c.args.script.now in
-    let left = g.R.Read.remaining c.load.new.reader in
+    let given = c.args.script.now in
+    let left = c.load.new.reader in
     rw c.of_input.ensures (Edits-by g.F.Files c.args.file.now c.args.v1_order given left c.args.files.now c.args.files.now c.args.out.now c.args.out.now (Err (input_trouble fault)) (Err fault)
-    (GivesInput-err given left fault (λ e. c.in-Err.ensures.too_large (ap Err e)) c.in-Err.ensures.never c.in-Err.ensures.taken)
+    (GivesInput-err given left fault (λ e. c.in-Err.ensures.too_large (ap Err e)) c.in-Err.ensures.never c.in-Err.ensures.failed c.in-Err.ensures.taken)
     (refl, Shows-trouble (input_trouble fault) c.args.out.now c.requires))
 
 -- it gives no events
@@ -25,11 +25,11 @@ pub returns-in_err-events : goal.returns-in_err-events
 returns-in_err-events g c =
     let p = err_from_is_err_and c.from_residual.result c.from_residual.ensures.1 in
     let why = c.in_err-events.field-0.0 in
-    let given = g.R.Read.remaining c.args.script.now in
-    let left = g.R.Read.remaining c.load.new.reader in
+    let given = c.args.script.now in
+    let left = c.load.new.reader in
     let text = c.in-Ok.text.items in
     rw (p.1 ∙ ap Err p.2) (Edits-by g.F.Files c.args.file.now c.args.v1_order given left c.args.files.now c.args.files.now c.args.out.now c.args.out.now (Err (script_trouble why)) (Ok text)
-    (GivesInput-ok given left text c.in-Ok.ensures.ok c.in-Ok.ensures.taken)
+    (GivesInput-ok given left text c.in-Ok.ensures.ok (let within = c.in-Ok.ensures.within in let len = c.in-Ok.text.ok.0 in omega (arith, within, len)) c.in-Ok.ensures.failed c.in-Ok.ensures.taken)
     (refused g.F.Files c.args.file.now (λ due. Shows due c.args.out.now c.args.out.now (Err (script_trouble why))) c.args.v1_order (script text) why c.args.files.now
     (rw c.deref.ensures.value at c.in_err-events.ensures.err) (Shows-trouble (script_trouble why) c.args.out.now c.requires)))
 
@@ -38,23 +38,23 @@ pub returns-in_err-edited : goal.returns-in_err-edited
 returns-in_err-edited g c =
     let p = err_from_is_err_and c.from_residual-in_err-edited.result c.from_residual-in_err-edited.ensures.1 in
     let trouble = c.in_err-edited.field-0.0 in
-    let given = g.R.Read.remaining c.args.script.now in
-    let left = g.R.Read.remaining c.load.new.reader in
+    let given = c.args.script.now in
+    let left = c.load.new.reader in
     let text = c.in-Ok.text.items in
     let events = c.in_ok-events.events.items in
     let parsed : script text ≡ Ok events = rw c.deref.ensures.value at c.in_ok-events.ensures.ok in
     let out = c.args.out.now in
     let edits = rw (c.deref-3.ensures.value, c.hold_to_change.ensures) at c.in_err-edited.ensures in
     rw (p.1 ∙ ap Err p.2, c.release.ensures) (Edits-by g.F.Files c.args.file.now c.args.v1_order given left c.args.files.now c.edit_held-edited.new.files out out (Err trouble) (Ok text)
-    (GivesInput-ok given left text c.in-Ok.ensures.ok c.in-Ok.ensures.taken)
+    (GivesInput-ok given left text c.in-Ok.ensures.ok (let within = c.in-Ok.ensures.within in let len = c.in-Ok.text.ok.0 in omega (arith, within, len)) c.in-Ok.ensures.failed c.in-Ok.ensures.taken)
     (rw parsed (inr (EditsFile-map g.F.Files c.args.file.now (λ due. run_of {A = g.row.A.Denot} (Err trouble) ≡ due) (λ due. Shows due out out (Err trouble)) (λ due is. subst (λ (d : Run). Shows d out out (Err trouble)) is (Shows-trouble trouble out c.requires))
     c.args.v1_order events c.args.files.now c.edit_held-edited.new.files edits))))
 
 -- they were run, and the replies shown
 pub returns : goal.returns
 returns g c =
-    let given = g.R.Read.remaining c.args.script.now in
-    let left = g.R.Read.remaining c.load.new.reader in
+    let given = c.args.script.now in
+    let left = c.load.new.reader in
     let text = c.in-Ok.text.items in
     let events = c.in_ok-events.events.items in
     let parsed : script text ≡ Ok events = rw c.deref.ensures.value at c.in_ok-events.ensures.ok in
@@ -63,6 +63,6 @@ returns g c =
     let edits = rw (c.deref-3.ensures.value, c.hold_to_change.ensures) at c.in_ok-edited.ensures in
     let shows : Shows (edited_run edited) out c.show.new.out c.show.result = rw (c.deref-4.ensures.value, c.end_if_told.ensures) at c.show.ensures in
     rw c.release.ensures (Edits-by g.F.Files c.args.file.now c.args.v1_order given left c.args.files.now c.edit_held-edited.new.files out c.show.new.out c.show.result (Ok text)
-    (GivesInput-ok given left text c.in-Ok.ensures.ok c.in-Ok.ensures.taken)
+    (GivesInput-ok given left text c.in-Ok.ensures.ok (let within = c.in-Ok.ensures.within in let len = c.in-Ok.text.ok.0 in omega (arith, within, len)) c.in-Ok.ensures.failed c.in-Ok.ensures.taken)
     (rw parsed (inr (EditsFile-map g.F.Files c.args.file.now (λ due. edited_run edited ≡ due) (λ due. Shows due out c.show.new.out c.show.result) (λ due is. subst (λ (d : Run). Shows d out c.show.new.out c.show.result) is shows)
     c.args.v1_order events c.args.files.now c.edit_held-edited.new.files edits))))

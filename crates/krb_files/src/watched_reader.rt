@@ -1,0 +1,60 @@
+//! A reader that remembers whether it failed.
+
+ghost use Rattle.std.specs.Prelude.{◌≡◌, ◌<◌, ◌≤◌, length, take, IsTrue, IsFalse, MatchOption};
+ghost use Rattle.std.specs.Io.KnownBytes.{Consumes, IsAtEnd, Keeps};
+
+use std::io::Read;
+use std::marker::Model;
+
+/// A reader that remembers whether one of its reads failed. It does not forget that. Contracts see what it
+/// has left, where that is known, and whether it has failed.
+#[derive(Drop)]
+pub struct WatchedReader<R: Read> {
+    reader: R,
+    failed: bool,
+}
+
+impl<R: Read> Model for WatchedReader<R> {
+    ghost use Rattle.krb_files.specs.Reader.{Source};
+
+    ghost Value = { Source };
+
+    ghost view = { λ r. record { left = R.remaining r.reader; failed = r.failed } };
+}
+
+impl<R: Read> WatchedReader<R> {
+    /// No read has failed yet.
+    pub fn new(reader: R) -> WatchedReader<R>
+        ensures left { result.left ≡ R.remaining reader }
+        ensures failed { IsFalse result.failed }
+    {
+        WatchedReader {
+            reader,
+            failed: false,
+        }
+    }
+
+    /// The reader that was watched.
+    pub fn into_reader(self) -> R
+        ensures { R.remaining result ≡ self.left }
+    {
+        self.reader
+    }
+
+    /// Makes one read: how many bytes it gave, which is 0 at the end, or none where it failed.
+    pub fn read_some(&mut self, bytes: &mut [u8]) -> Option<usize>
+        requires { 0 < length bytes.old }
+        ensures { MatchOption result
+            (Keeps self.old.left self.new.left × IsTrue self.new.failed)
+            (λ n. (n ≤ length bytes.new) × Consumes self.old.left self.new.left (take n bytes.new)
+            × (n ≡ 0 → IsAtEnd self.new.left) × (self.new.failed ≡ self.old.failed)) }
+    {
+        match self.reader.read(bytes) {
+            Ok(n) => Some(n),
+            Err(_) => {
+                self.failed = true;
+                None
+            }
+        }
+    }
+}
