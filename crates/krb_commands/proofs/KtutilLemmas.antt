@@ -151,9 +151,9 @@ module _ {F : Type 0} (trait : Ghosts F) (now : ℕ) (given : Option (List ℕ))
         ended = elim ends [
           | inl newline ↦ elim u.ended [
             | inl before ↦ inl (record {
-                within = newline.within;
-                read = newline.read ∙ ap (λ (bs : List ℕ). bs ++ (new.line ++ 10 ∷ [])) before.read ∙ sym (newline_more u.lines new.line);
-              })
+              within = newline.within;
+              read = newline.read ∙ ap (λ (bs : List ℕ). bs ++ (new.line ++ 10 ∷ [])) before.read ∙ sym (newline_more u.lines new.line);
+            })
             | inr all ↦ inr (no_further given u.lines new.line all (ToCome-first given (u.lines ++ new.line ∷ []) new left' (ToCome-line given u.lines old new left left' u.to_come takes)))
           ]
           | inr spent ↦ inr (u.to_come (new.line ∷ []) (takes.first [] (spent_has new left' spent)))
@@ -227,7 +227,7 @@ module _ {F : Type 0} (trait : Ghosts F) (now : ℕ) (order : Order) (files : F)
       failed = failed;
       read = new.read;
       consumes = grown first.left left last.left old.read new.read u.consumes grows;
-      due = elim u.ended [ | inl ended ↦ inl (due_of u.lines old new left last.left was grows no_more ended) | inr all ↦ inr all ];
+      due = elim u.ended [ inl ended ↦ inl (due_of u.lines old new left last.left was grows no_more ended) | inr all ↦ inr all ];
       first = ToCome-first first.left u.lines new last.left (λ more has. u.to_come more (keeps more has));
       never = never;
       too_large = λ e. too_long first.left last.left new.read (grown first.left left last.left old.read new.read u.consumes grows) (too_large e);
