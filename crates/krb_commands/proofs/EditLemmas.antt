@@ -1,6 +1,6 @@
 -- How an edit ends.
-use Rattle.std.proofs.Common.{◌≡◌, ◌≢◌, ℕ, ◌<◌, Bool, true, false, List, [], ◌⊎◌, inl, inr, refl, sym, ap, subst, ◌∙◌, arith}
-use Rattle.std.specs.Prelude.{if◌then◌else◌, ◌-◌, ◌^◌, ◌≤◌, IsFalse, Option, None, Some, Result, Ok, Err, is_ok}
+use Rattle.std.proofs.Common.{◌≡◌, ◌≢◌, ℕ, ◌<◌, Bool, true, false, List, ◌⊎◌, inl, inr, refl, sym, ap, subst, ◌∙◌, arith}
+use Rattle.std.specs.Prelude.{if◌then◌else◌, ◌-◌, ◌^◌, ◌≤◌, Option, None, Some, Result, Ok, Err, is_ok}
 use Rattle.std.specs.List.{list_any}
 use Rattle.std.proofs.lemmas.Bool.{false≢true, true≢false}
 use Rattle.std.proofs.Math.Nat.{eq-or-lt_of_le}
@@ -24,13 +24,12 @@ use Rattle.krb_commands.specs.declared.ktedit.Edited.{Edited}
 use Rattle.krb_commands.specs.declared.loading.NoKeytab.{NoKeytab}
 use Rattle.krb_commands.specs.declared.trouble.Trouble.{Trouble}
 use Rattle.krb_commands.specs.declared.trouble.Trouble.TheVariants.{FileNotRead, NoMemory}
-use Rattle.krb_commands.specs.Edits.{edited_run, run_of, IsEdited}
+use Rattle.krb_commands.specs.Edits.{edited_run, IsEdited}
 use Rattle.krb_commands.specs.Loading.{most_bytes, keytab_or_new, LoadsFile, SavesFile, GivesOrRunsOut}
 use Rattle.krb_commands.specs.Input.{GivesInput}
-use Rattle.krb_commands.specs.Ktedit.{is_trouble, moments, is_changed, edit_run, edit_keytab, RunsFairly, Edit, no_edit, edit_script, edit_input, saved_run, LeavesFiles, SavesDue, ComesTo, EditsFile, EndsScript, EndsInput, FilesAfter, EndsHonestly, Edits}
+use Rattle.krb_commands.specs.Ktedit.{is_trouble, moments, is_changed, edit_keytab, RunsFairly, edit_script, edit_input, saved_run, LeavesFiles, SavesDue, ComesTo, EditsFile, EndsScript, EndsInput, EndsHonestly, Edits}
 use Rattle.krb_commands.specs.Runs.{Run, Shows, ends_by}
-use Rattle.krb_commands.specs.Troubles.{Ending, ending_if_told, input_trouble, save_trouble, script_trouble}
-use Rattle.krb_commands.proofs.Shown.{Shows-trouble}
+use Rattle.krb_commands.specs.Troubles.{Ending, ending_if_told, save_trouble, script_trouble}
 
 -- ---- the steps of an edit
 

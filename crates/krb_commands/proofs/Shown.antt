@@ -1,6 +1,6 @@
 -- What is shown of a run, and what a reader gave.
 use Rattle.std.proofs.Common.{◌≡◌, ◌≢◌, ℕ, ◌<◌, List, [], refl, sym, ap, subst, ◌∙◌}
-use Rattle.std.specs.Prelude.{◌+◌, ◌≤◌, ◌||◌, length, IsFalse, Option, Result, Ok, Err, is_ok, IfSome}
+use Rattle.std.specs.Prelude.{◌+◌, ◌≤◌, ◌||◌, length, IsFalse, Result, Ok, Err, is_ok, IfSome}
 use Rattle.std.proofs.lemmas.Bool.{false≢true, true≢false}
 use Rattle.krb_files.specs.declared.files.LoadFault.{LoadFault}
 use Rattle.krb_files.specs.declared.files.LoadFault.TheVariants as load

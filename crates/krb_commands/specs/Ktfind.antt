@@ -1,7 +1,6 @@
 -- What ktfind prints.
-use Rattle.std.specs.Prelude.{ℕ, List, Result, Ok, Err}
+use Rattle.std.specs.Prelude.{ℕ, List, Result, Ok}
 use Rattle.krb_wire.specs.Reading.{principal_parts}
-use Rattle.krb_walk.specs.declared.refusal.Code.{Code}
 use Rattle.krb_keytab.specs.Find.{PlacedEntry, find_result}
 use Rattle.krb_keytab.specs.Store.{KeytabState}
 use Rattle.krb_files.specs.declared.files.LoadFault.{LoadFault}

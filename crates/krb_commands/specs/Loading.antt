@@ -2,9 +2,7 @@
 use Rattle.std.specs.Prelude.{◌≡◌, ◌⊎◌, ◌≤◌, ℕ, List, Result, Ok, Err, OnOk, OnErr}
 use Rattle.krb_wire.specs.declared.format.KtFormat.TheVariants.{V2}
 use Rattle.krb_wire.specs.declared.format.Order.{Order}
-use Rattle.krb_keytab.specs.declared.open.KtOpenFault.{KtOpenFault}
-use Rattle.krb_keytab.specs.Store.{InMemory, KeytabState, empty, open_result}
-use Rattle.krb_ccache.specs.declared.open.CcOpenFault.{CcOpenFault}
+use Rattle.krb_keytab.specs.Store.{KeytabState, empty, open_result}
 use Rattle.krb_ccache.specs.Store.{CacheState, open_result as cache_result}
 use Rattle.krb_files.specs.declared.files.Files.{Ghosts}
 use Rattle.krb_files.specs.declared.files.LoadFault.{LoadFault}

@@ -3,7 +3,6 @@ use Rattle.std.specs.Prelude.{Ok, Err}
 use Rattle.std.proofs.lemmas.Result.{err_from_is_err_and}
 use Rattle.krb_text.specs.Script.{script}
 use Rattle.krb_commands.specs.Edits.{edited_run, run_of}
-use Rattle.krb_commands.specs.Ktedit.{EditsFile}
 use Rattle.krb_commands.specs.Runs.{Run, Shows}
 use Rattle.krb_commands.specs.Troubles.{input_trouble, script_trouble}
 use Rattle.krb_commands.proofs.EditLemmas.{EditsFile-map, Edits-by, refused}
