@@ -234,7 +234,7 @@ module _ {F : Type 0} (trait : Ghosts F) where
   }
   handles_honestly now line files files' old new out out' ending (inr spent) h =
       let leaves = begins-leaves (plan_of old now line) files files' spent.0 in
-      record { honest = leaves.lasts.honest h; comes = inr (inr (record { runs_out = spent.1; same_files = leaves.same h })) }
+      record { honest = leaves.lasts.honest h; comes = inr (inr (record { runs_out = spent.2; same_files = leaves.same h })) }
 
   -- ---- what is spared
 
@@ -264,7 +264,7 @@ module _ {F : Type 0} (trait : Ghosts F) where
       → Handles trait (plan_of old now line) files files' old new out out' ending → Spares trait files files' old new ending
   handles_spares now line files files' old new out out' ending (inl follows) = spares-followed (plan_of old now line) old new files files' out out' ending (careful old now line) follows
   handles_spares now line files files' old new out out' ending (inr spent) = record {
-    entries = λ differ. ap (λ (x : KtutilState). x.entries) spent.1.state_is;
+    entries = λ differ. ap (λ (x : KtutilState). x.entries) spent.2.state_is;
     files_are = λ h differ. (begins-leaves (plan_of old now line) files files' spent.0).same h;
   }
 

@@ -1,7 +1,7 @@
 -- How a plan was followed, put together from its steps.
 use Rattle.std.proofs.Common.{◌≡◌, inl, inr, ℕ, List, refl, sym, ap, subst, ◌∙◌}
-use Rattle.std.specs.Prelude.{Result, Ok, Err, is_ok}
-use Rattle.std.proofs.lemmas.Bool.{true≢false}
+use Rattle.std.specs.Prelude.{Result, Ok, Err, is_ok, IsOk}
+use Rattle.std.proofs.lemmas.Bool.{false≢true, true≢false}
 use Rattle.std.proofs.lemmas.List.{append-nil}
 use Rattle.krb_wire.specs.declared.format.Order.{Order}
 use Rattle.krb_keytab.specs.Entry.{EntryParts}
@@ -13,13 +13,20 @@ use Rattle.krb_commands.specs.declared.ktutil.line_end.LineEnd.{LineEnd}
 use Rattle.krb_commands.specs.declared.ktutil.line_end.LineEnd.TheVariants as end
 use Rattle.krb_commands.specs.declared.loading.NoKeytab.{NoKeytab}
 use Rattle.krb_commands.specs.Loading.{keytab_of, keytab_or_new, LoadsFile, SavesFile, Gives, GivesOrRunsOut}
-use Rattle.krb_commands.specs.KtutilPlan.{KtutilState, Plan, Ends, Loads, Saves, no_keytab_end, save_end, with_added, with_entries, saved_as, written_to}
+use Rattle.krb_text.specs.declared.line_fault.LineFault.{LineFault}
+use Rattle.krb_commands.specs.KtutilCommand.{Awaited, AwaitKey, after}
+use Rattle.krb_commands.specs.KtutilPlan.{KtutilState, Plan, command_plan, Ends, Loads, Saves, no_keytab_end, save_end, with_added, with_entries, saved_as, written_to}
 use Rattle.krb_commands.specs.KtutilFiles.{Shows, Ended, Finishes, EndsAt, Follows, Handles, GoesOn, HandlesQuietly}
 
 -- the end of a line, where there is no keytab
 abbrev end_without : Result KeytabState NoKeytab → LineEnd
 end_without (Ok k) = end.Done
 end_without (Err why) = no_keytab_end why
+
+-- there was no memory for an entry that would have awaited its key
+pub finishes_spent : (s : KtutilState) (given : Result Awaited LineFault) → IsOk given → Finishes (command_plan s (after (λ awaited. Ok (AwaitKey awaited)) given)) s s end.NoMemory
+finishes_spent s (Ok awaited) is = inr (refl, refl, refl)
+finishes_spent s (Err fault) is = absurd (false≢true is)
 
 module _ {F : Type 0} (trait : Ghosts F) where
   -- a plan without files
@@ -31,7 +38,7 @@ module _ {F : Type 0} (trait : Ghosts F) where
   -- the same, or out of memory
   pub goes_finished : (plan : Plan) (files : F) (old new : KtutilState) (ending : LineEnd) → Finishes plan old new ending → GoesOn trait plan files files old new ending
   goes_finished plan files old new ending (inl e) = inl (follows_ended plan files new ending e)
-  goes_finished plan files old new ending (inr out) = inr (refl, out.0, out.1)
+  goes_finished plan files old new ending (inr out) = inr (refl, out.1, out.2)
 
   -- a plan that ends at once
   pub handles_ended : (plan : Plan) (files : F) (old new : KtutilState) (ending : LineEnd) → Ended plan new ending → HandlesQuietly trait plan files files old new ending
@@ -42,7 +49,7 @@ module _ {F : Type 0} (trait : Ghosts F) where
       → LoadsFile trait files name answer between → GoesOn trait (then_ answer) between files' old new ending → HandlesQuietly trait (Loads name then_) files files' old new ending
   handles_loaded name then_ answer files between files' old new ending loads (inl follows) out = inl (answer, (between, (loads, follows out)))
   handles_loaded name then_ answer files between files' old new ending loads (inr no_memory) out =
-      inr (inr (answer, subst (λ (x : F). LoadsFile trait files name answer x) (sym no_memory.0) loads), record { state_is = no_memory.1; same = refl; ending_is = no_memory.2 })
+      inr (inr (answer, subst (λ (x : F). LoadsFile trait files name answer x) (sym no_memory.0) loads), refl, record { state_is = no_memory.1; same = refl; ending_is = no_memory.2 })
 
   -- a load whose keytab was read
   pub handles_read : (s new : KtutilState) (name : List ℕ) (files between : F) (given : Result KeytabState NoKeytab) (ending : LineEnd)
@@ -94,15 +101,15 @@ module _ {F : Type 0} (trait : Ghosts F) where
   -- one that may print
   pub handles_end : (plan : Plan) (files : F) (old new : KtutilState) (out out' : List ℕ) (ending : LineEnd) → EndsAt plan old new out out' ending → Handles trait plan files files old new out out' ending
   handles_end (Ends due) files old new out out' ending (inl shows) = inl (refl, shows)
-  handles_end (Ends due) files old new out out' ending (inr out_of) = inr (refl, out_of)
+  handles_end (Ends due) files old new out out' ending (inr out_of) = inr (refl, out_of.0, out_of.1)
   handles_end (Loads name then_) files old new out out' ending e = absurd e
   handles_end (Saves name bytes then_) files old new out out' ending e = absurd e
 
   -- a plan without files that prints nothing, or out of memory
   pub handles_finished : (plan : Plan) (files : F) (old new : KtutilState) (out : List ℕ) (ending : LineEnd) → Finishes plan old new ending → Handles trait plan files files old new out out ending
   handles_finished (Ends due) files old new out ending (inl e) = inl (follows_ended (Ends due) files new ending e out)
-  handles_finished (Ends due) files old new out ending (inr out_of) = inr (refl, record { state_is = out_of.0; same = refl; ending_is = out_of.1 })
+  handles_finished (Ends due) files old new out ending (inr out_of) = inr (refl, out_of.0, record { state_is = out_of.1; same = refl; ending_is = out_of.2 })
   handles_finished (Loads name then_) files old new out ending (inl e) = absurd e
-  handles_finished (Loads name then_) files old new out ending (inr out_of) = inr (inl refl, record { state_is = out_of.0; same = refl; ending_is = out_of.1 })
+  handles_finished (Loads name then_) files old new out ending (inr out_of) = inr (inl refl, refl, record { state_is = out_of.1; same = refl; ending_is = out_of.2 })
   handles_finished (Saves name bytes then_) files old new out ending (inl e) = absurd e
-  handles_finished (Saves name bytes then_) files old new out ending (inr out_of) = inr (refl, record { state_is = out_of.0; same = refl; ending_is = out_of.1 })
+  handles_finished (Saves name bytes then_) files old new out ending (inr out_of) = inr (refl, refl, record { state_is = out_of.1; same = refl; ending_is = out_of.2 })

@@ -62,12 +62,12 @@ spent_is_not_done ending spent done = false≢true (ap is_spent (sym done ∙ sp
 
 -- what a plan comes to, by its parts
 followed_is : (f : Followed) (state : KtutilState) (text : List ℕ) (ending : LineEnd) (files : FileMap) → state ≡ f.outcome.state → text ≡ f.outcome.text → ending ≡ f.outcome.ending → files ≡ f.files
-    → f ≡ record { outcome = record { state = state; text = text; ending = ending }; files = files }
+    → f ≡ record { outcome = record { state = state; text = text; ending = ending; takes = f.outcome.takes }; files = files }
 followed_is f state text ending files state_is text_is ending_is files_are =
-    ap (λ (s : KtutilState). record { outcome = record { state = s; text = f.outcome.text; ending = f.outcome.ending }; files = f.files }) (sym state_is)
-    ∙ ap (λ (t : List ℕ). record { outcome = record { state = state; text = t; ending = f.outcome.ending }; files = f.files }) (sym text_is)
-    ∙ ap (λ (e : LineEnd). record { outcome = record { state = state; text = text; ending = e }; files = f.files }) (sym ending_is)
-    ∙ ap (λ (m : FileMap). record { outcome = record { state = state; text = text; ending = ending }; files = m }) (sym files_are)
+    ap (λ (s : KtutilState). record { outcome = record { state = s; text = f.outcome.text; ending = f.outcome.ending; takes = f.outcome.takes }; files = f.files }) (sym state_is)
+    ∙ ap (λ (t : List ℕ). record { outcome = record { state = state; text = t; ending = f.outcome.ending; takes = f.outcome.takes }; files = f.files }) (sym text_is)
+    ∙ ap (λ (e : LineEnd). record { outcome = record { state = state; text = text; ending = e; takes = f.outcome.takes }; files = f.files }) (sym ending_is)
+    ∙ ap (λ (m : FileMap). record { outcome = record { state = state; text = text; ending = ending; takes = f.outcome.takes }; files = m }) (sym files_are)
 
 module _ {F : Type 0} (trait : Ghosts F) (now : ℕ) (final : Run) where
   -- what is due of a line that comes to that, and of those after it
@@ -82,7 +82,7 @@ module _ {F : Type 0} (trait : Ghosts F) (now : ℕ) (final : Run) where
 
   module _ (number : ℕ) (line : List ℕ) (more : List (List ℕ)) (old : KtutilState) (before : FileMap) (files : F) (new : KtutilState) (text : List ℕ) (ending : LineEnd)
       (shows : ShowsDue trait files new [] text ending (follow before (plan_of old now line))) where
-    next_is : NextDue number line more (follow before (plan_of old now line)) ≡ NextDue number line more (record { outcome = record { state = new; text = text; ending = ending }; files = trait.file files })
+    next_is : NextDue number line more (follow before (plan_of old now line)) ≡ NextDue number line more (record { outcome = record { state = new; text = text; ending = ending; takes = (follow before (plan_of old now line)).outcome.takes }; files = trait.file files })
     next_is = ap (NextDue number line more) (followed_is (follow before (plan_of old now line)) new text ending (trait.file files) shows.shows.state_is shows.shows.appended shows.shows.ending_is (fun_ext shows.files_are))
 
     due_goes_on : IsTrue (goes_on ending) → talk_due final now number (line ∷ more) old before ≡ due_after (named_in line) (line_run number ending text) (talk_due final now (number + 1) more new (trait.file files))

@@ -98,7 +98,7 @@ module _ {F : Type 0} (trait : Ghosts F) (s new : KtutilState) (out out' : List 
 
   handles_well : (plan : Plan) (files files' : F) → EndsWell s plan → Handles trait plan files files' s new out out' ending → Told
   handles_well plan files files' well (inl follows) = follows_well plan files files' well follows
-  handles_well plan files files' well (inr spent) = (subst TellsMemory (sym spent.1.ending_is) tt, λ is. spent.1)
+  handles_well plan files files' well (inr spent) = (subst TellsMemory (sym spent.2.ending_is) tt, λ is. spent.2)
 
   -- a line that was handled by its plan
   pub handles_memory : (now : ℕ) (line : List ℕ) (files files' : F) → Handles trait (plan_of s now line) files files' s new out out' ending → Told

@@ -1,5 +1,5 @@
 -- What the plan of a line of ktutil comes to with files, honest or not.
-use Rattle.std.specs.Prelude.{◌≡◌, ◌⊎◌, ℕ, List, [], ◌++◌, Result, Err}
+use Rattle.std.specs.Prelude.{◌≡◌, ◌⊎◌, ℕ, IsTrue, List, [], ◌++◌, Result, Err}
 use Rattle.krb_walk.specs.declared.refusal.Code.{Code}
 use Rattle.krb_walk.specs.declared.refusal.Refusal.{Refusal}
 use Rattle.krb_walk.specs.declared.refusal.Refusal.TheVariants.{Code as ByCode, NoMemory}
@@ -10,7 +10,7 @@ use Rattle.krb_files.specs.declared.files.Files.{Ghosts}
 use Rattle.krb_commands.specs.declared.ktutil.line_end.LineEnd.{LineEnd}
 use Rattle.krb_commands.specs.declared.ktutil.line_end.LineEnd.TheVariants as end
 use Rattle.krb_commands.specs.Loading.{LoadsFile, SavesFile}
-use Rattle.krb_commands.specs.KtutilPlan.{KtutilState, Outcome, Plan, Ends, Loads, Saves}
+use Rattle.krb_commands.specs.KtutilPlan.{KtutilState, Outcome, Plan, Ends, Loads, Saves, takes_memory}
 
 -- the state, the bytes that were written and the end are those of an outcome
 pub record Shows (state : KtutilState) (out out' : List ℕ) (ending : LineEnd) (due : Outcome) : Type 0 where
@@ -35,13 +35,13 @@ Ended (Ends due) new ending = (new ≡ due.state) × (due.text ≡ []) × (endin
 Ended (Loads name then_) new ending = ⊥
 Ended (Saves name bytes then_) new ending = ⊥
 
--- the same, or out of memory with the state as it was
+-- the same, or out of the memory that it takes, with the state as it was
 abbrev pub Finishes : Plan → KtutilState → KtutilState → LineEnd → Type 0
-Finishes plan old new ending = Ended plan new ending ⊎ ((new ≡ old) × (ending ≡ end.NoMemory))
+Finishes plan old new ending = Ended plan new ending ⊎ (IsTrue (takes_memory plan) × (new ≡ old) × (ending ≡ end.NoMemory))
 
--- a line that asks for no file was done, and printed this, or out of memory with all as it was
+-- a line that asks for no file was done, and printed this, or was out of the memory that it takes, with all as it was
 abbrev pub EndsAt : Plan → KtutilState → KtutilState → List ℕ → List ℕ → LineEnd → Type 0
-EndsAt (Ends due) old new out out' ending = Shows new out out' ending due ⊎ RunsOut old new out out' ending
+EndsAt (Ends due) old new out out' ending = Shows new out out' ending due ⊎ (IsTrue due.takes × RunsOut old new out out' ending)
 EndsAt (Loads name then_) old new out out' ending = ⊥
 EndsAt (Saves name bytes then_) old new out out' ending = ⊥
 
@@ -60,10 +60,10 @@ module _ {F : Type 0} (trait : Ghosts F) where
   Begins (Loads name then_) old new = (new ≡ old) ⊎ ((answer : Result (List ℕ) LoadFault) × LoadsFile trait old name answer new)
   Begins (Saves name bytes then_) old new = new ≡ old
 
-  -- a line was handled by its plan, or out of memory before it saved anything
+  -- a line was handled by its plan, or one that takes memory was out of it before it saved anything
   abbrev pub Handles : Plan → F → F → KtutilState → KtutilState → List ℕ → List ℕ → LineEnd → Type 0
   Handles plan files files' old new out out' ending =
-      Follows plan files files' (Shows new out out' ending) ⊎ (Begins plan files files' × RunsOut old new out out' ending)
+      Follows plan files files' (Shows new out out' ending) ⊎ (Begins plan files files' × IsTrue (takes_memory plan) × RunsOut old new out out' ending)
 
   -- a plan was followed that prints nothing, or out of memory before anything was done
   abbrev pub GoesOn : Plan → F → F → KtutilState → KtutilState → LineEnd → Type 0

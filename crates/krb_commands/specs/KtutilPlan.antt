@@ -1,5 +1,5 @@
 -- What a line of ktutil does: a plan of what is loaded and saved, and what comes of the answers.
-use Rattle.std.specs.Prelude.{ℕ, ◌-◌, List, [], ◌∷◌, ◌++◌, length, remove, Option, None, Some, is_some, Result, Ok, Err, if◌then◌else◌}
+use Rattle.std.specs.Prelude.{ℕ, ◌-◌, Bool, true, false, List, [], ◌∷◌, ◌++◌, length, remove, Option, None, Some, is_some, Result, Ok, Err, if◌then◌else◌}
 use Rattle.krb_wire.specs.declared.format.Order.{Order}
 use Rattle.krb_walk.specs.declared.refusal.Code.{Code}
 use Rattle.krb_walk.specs.declared.refusal.Code.TheVariants as code
@@ -29,11 +29,12 @@ pub record KtutilState : Type 0 where
   pub entries : List EntryParts
   pub awaited : Option Awaited
 
--- what becomes of a line: the state after it, the text that it prints, and how it ends
+-- what becomes of a line: the state after it, the text that it prints, how it ends, and whether memory is taken for it
 pub record Outcome : Type 0 where
   pub state : KtutilState
   pub text : List ℕ
   pub ending : LineEnd
+  pub takes : Bool
 
 -- what is to be done: an end, or a load or a save whose answer decides how to go on
 pub data Plan : Type 0 where
@@ -43,11 +44,15 @@ pub data Plan : Type 0 where
 
 -- the line is done, and this is the state
 abbrev pub becomes : KtutilState → Plan
-becomes s = Ends (record { state = s; text = []; ending = end.Done })
+becomes s = Ends (record { state = s; text = []; ending = end.Done; takes = false })
+
+-- the same, and memory is taken for it
+abbrev pub grows_to : KtutilState → Plan
+grows_to s = Ends (record { state = s; text = []; ending = end.Done; takes = true })
 
 -- the line ends otherwise, and the state stays
 abbrev pub stays : KtutilState → LineEnd → Plan
-stays s ending = Ends (record { state = s; text = []; ending = ending })
+stays s ending = Ends (record { state = s; text = []; ending = ending; takes = false })
 
 -- ---- files
 
@@ -70,7 +75,7 @@ abbrev pub with_entries : KtutilState → Result KeytabState NoKeytab → Plan
 with_entries s (Err why) = stays s (no_keytab_end why)
 with_entries s (Ok k) =
     if is_some (fault_of (store_of k)) then stays s (end.Refused code.Damaged)
-    else becomes (record s { entries = s.entries ++ entries k })
+    else grows_to (record s { entries = s.entries ++ entries k })
 
 -- a keytab with these entries added one after the other, or the first refusal
 abbrev pub with_added : List EntryParts → Result KeytabState Code → Result KeytabState Code
@@ -100,7 +105,7 @@ entry_of x now key = record { principal = x.principal; timestamp = now; version 
 
 -- the entry comes behind the others; after a faulty key it is dropped
 abbrev pub with_key : KtutilState → Awaited → ℕ → Result (List ℕ) LineFault → Plan
-with_key s x now (Ok key) = becomes (record s { entries = s.entries ++ entry_of x now key ∷ []; awaited = None })
+with_key s x now (Ok key) = grows_to (record s { entries = s.entries ++ entry_of x now key ∷ []; awaited = None })
 with_key s x now (Err fault) = stays (record s { awaited = None }) (end.Fault fault)
 
 -- ---- a line
@@ -109,10 +114,10 @@ with_key s x now (Err fault) = stays (record s { awaited = None }) (end.Fault fa
 abbrev pub command_plan : KtutilState → Result Command LineFault → Plan
 command_plan s (Err fault) = stays s (end.Fault fault)
 command_plan s (Ok Skip) = becomes s
-command_plan s (Ok (ListSlots columns)) = Ends (record { state = s; text = slot_text columns s.entries; ending = end.Done })
+command_plan s (Ok (ListSlots columns)) = Ends (record { state = s; text = slot_text columns s.entries; ending = end.Done; takes = true })
 command_plan s (Ok (ReadFile name)) = Loads name (λ answer. with_entries s (keytab_of s.order answer))
 command_plan s (Ok (WriteFile name)) = Loads name (λ answer. written_to s name (keytab_or_new s.order answer))
-command_plan s (Ok (AwaitKey awaited)) = becomes (record s { awaited = Some awaited })
+command_plan s (Ok (AwaitKey awaited)) = grows_to (record s { awaited = Some awaited })
 command_plan s (Ok (DeleteSlot slot)) = becomes (record s { entries = remove s.entries (slot - 1) })
 command_plan s (Ok ClearList) = becomes (record s { entries = [] })
 command_plan s (Ok Quit) = stays s end.Quit
@@ -125,3 +130,9 @@ plan_by s now line (Some x) = with_key s x now (key_line x.enctype line)
 -- what is done for a line
 abbrev pub plan_of : KtutilState → ℕ → List ℕ → Plan
 plan_of s now line = plan_by s now line s.awaited
+
+-- memory is taken for a plan; a call of a file may take some
+abbrev pub takes_memory : Plan → Bool
+takes_memory (Ends due) = due.takes
+takes_memory (Loads name then_) = true
+takes_memory (Saves name bytes then_) = true
