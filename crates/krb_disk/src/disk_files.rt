@@ -14,10 +14,10 @@ use std::alloc::Allocator;
 use std::marker::Model;
 use std::rt;
 
-/// The files of a disk. Nothing is known of what they hold; contracts see how many calls failed, what the last of
-/// them failed with, and which saves made all their calls. A load reads the whole file. A save makes a new file of the bytes, which then takes
-/// the name: whatever fails, the file is the old or the new one. A file that is held is saved only while it is
-/// as it was loaded.
+/// The files of a disk. Nothing is known of what they hold; contracts see how many calls failed, what the last
+/// of them failed with, and which saves made all their calls. A load reads the whole file. A save makes a new
+/// file of the bytes, which then takes the name: whatever fails, the file is the old or the new one. A file that
+/// is held is saved only while it is as it was loaded.
 #[derive(Drop)]
 pub struct DiskFiles<'a, R: rt::Files + Alloc> {
     calls: Calls<'a, R>,
