@@ -38,7 +38,7 @@ pub enum Trouble {
 }
 
 impl Trouble {
-    /// The status of a run that it ends. Of several the greatest counts: want of memory before a call that
+    /// The status of a run that it ends. Of several the greatest counts: out of memory before a call that
     /// failed, that before a bad command line, and that before what is wrong with an input or a file.
     pub fn status(self) -> u8
         ensures { result ≡ trouble_status self }

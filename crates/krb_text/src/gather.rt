@@ -9,7 +9,7 @@ use krb_wire::NoMemory;
 use std::alloc::Allocator;
 use std::io::Write;
 
-// Once so many bytes are gathered they are written.
+// Once this many bytes are gathered they are written.
 const FULL: usize = 32_768;
 
 /// Nothing gathered yet, and room for what two writes take.
