@@ -1,6 +1,7 @@
 """Each wrong body that no crate may pass for right has its edit in some `must-fail`.
 
-A body that always answers want of memory has none: the tests that docs/CALLS.md names refuse it.
+A body that always answers that it is out of memory has none: the tests that docs/CALLS.md names
+refuse it.
 """
 from __future__ import annotations
 

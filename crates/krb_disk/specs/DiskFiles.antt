@@ -19,7 +19,7 @@ pub record Fails (old new : Disk) : Type 0 where
   pub told : IsSome new.cause
   pub unsaved : new.saved ≡ old.saved
 
--- a load from a disk gives at most so many bytes, and one that does not fail changes nothing
+-- a load from a disk gives at most as many bytes as the limit says, and one that does not fail changes nothing
 abbrev pub AnswersFromDisk : Disk → Disk → ℕ → Result (List ℕ) LoadFault → Type 0
 AnswersFromDisk old new limit (Ok bytes) = (length bytes ≤ limit) × (new ≡ old)
 AnswersFromDisk old new limit (Err load.Failed) = Fails old new
