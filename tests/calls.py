@@ -1,4 +1,4 @@
-"""docs/CALLS.md has each public call of the library, and names clauses and tests that there are."""
+"""docs/CALLS.md has each public call that may be refused, and names clauses and tests that there are."""
 from __future__ import annotations
 
 import glob
@@ -48,7 +48,7 @@ def owner_of(line: str) -> tuple[str, bool]:
 def contract_from(lines: list[str]) -> str:
     """The lines of a function up to its body, or to its end where it has none."""
     for at, line in enumerate(lines):
-        if line.strip() == "{" or line.endswith((" {", ";")):
+        if line.strip() in ("{", "{}") or line.endswith((" {", ";")):
             return "\n".join(lines[: at + 1])
     return "\n".join(lines)
 
@@ -84,10 +84,16 @@ def calls_of(crate: str) -> Calls:
 
 
 def rows_of(crate: str) -> list[list[str]]:
-    """The cells of each row of a crate's tables."""
-    section = read(TABLE).split(f"\n## {crate}\n")[1].split("\n## ")[0]
-    lines = [line for line in section.splitlines() if line.startswith("| `")]
-    return [[cell.strip() for cell in line.strip("|").split(" | ")] for line in lines]
+    """The cells of a crate's rows in both tables: they stand under its name."""
+    rows: list[list[str]] = []
+    above = ""
+    for line in read(TABLE).splitlines():
+        cells = [cell.strip() for cell in line.strip("|").split(" | ")]
+        if line.startswith("| **"):
+            above = cells[0].strip("*")
+        elif line.startswith("| `") and above == crate:
+            rows.append(cells)
+    return rows
 
 
 def quoted(cell: str) -> list[str]:
@@ -95,20 +101,26 @@ def quoted(cell: str) -> list[str]:
     return re.findall(r"`([^`]+)`", cell)
 
 
+def may_be_refused(contract: str) -> bool:
+    """Whether a call answers what may be none or an error."""
+    return re.search(r"-> (?:Option|Result)<", contract) is not None
+
+
 def faults_of_names(calls: Calls, rows: list[list[str]]) -> list[str]:
-    """Each call has one row, and each row is of calls."""
+    """Each call that may be refused has one row, and each row is of calls."""
     named = Counter(name for row in rows for name in quoted(row[0]))
-    wrong = [f"{name} has no row" for name in sorted(calls) if name not in named]
+    wrong = [f"{name} has no row" for name, contract in sorted(calls.items())
+             if may_be_refused(contract) and name not in named]
     wrong += [f"{name} is no call" for name in sorted(named) if name not in calls]
     return wrong + [f"{name} has {count} rows" for name, count in named.items() if count > 1]
 
 
 def faults_of_clauses(calls: Calls, rows: list[list[str]]) -> list[str]:
-    """The last cell but one of a long row, and the last of a short one, names clauses of each of its calls."""
+    """The last cell but one of a long row, and the third of a short one, names clauses of each of its calls."""
     wrong = []
     for row in rows:
         for name in quoted(row[0]):
-            for clause in quoted(row[4] if len(row) == 6 else row[-1]):
+            for clause in quoted(row[4] if len(row) == 6 else "".join(row[2:])):
                 if f"ensures {clause} {{" not in calls.get(name, ""):
                     wrong.append(f"{name} has no clause {clause}")
     return wrong

@@ -5,25 +5,14 @@ import os
 import re
 import shutil
 import subprocess
-from dataclasses import replace
 
-from cache_images import PA_TYPE, TICKET, credentials
 from harness import Outcome, Report, folder_of
-from images import TWO, Entry, entries
+from samples import SAMPLES
 
 PAGE = os.path.join(os.path.dirname(os.path.dirname(os.path.abspath(__file__))), "docs", "krbfile.1")
 
 # The commands that a program may have.
 COMMANDS = ("klist", "ktfind", "ktedit", "ktutil")
-
-# The files of the examples.
-FILES = {
-    "host.keytab": TWO,
-    "other.keytab": entries(
-        Entry((b"nfs", b"a"), version8=5, enctype=18, key=bytes(32), version32=5)
-    ),
-    "krb5cc_0": credentials(replace(TICKET, renew_till=1_700_604_800), PA_TYPE),
-}
 
 
 def check_form(report: Report) -> None:
@@ -67,7 +56,7 @@ def check_examples(report: Report, program: str) -> None:
         os.symlink(program, os.path.join(programs, "krbfile"))
         env = {**os.environ, "PATH": programs + os.pathsep + os.environ["PATH"]}
         for command, wanted in examples():
-            with folder_of(FILES) as folder:
+            with folder_of(SAMPLES) as folder:
                 done = subprocess.run(["sh", "-c", command], cwd=folder, env=env, check=False,
                                       capture_output=True)
             got = Outcome(done.returncode, done.stdout, done.stderr)
