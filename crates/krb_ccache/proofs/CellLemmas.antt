@@ -1,20 +1,32 @@
 -- The credentials of bytes, one after the other.
-use Rattle.std.proofs.Common.{◌≡◌, ℕ, ◌+◌, List, [], ◌∷◌, length, map, ap, ◌∙◌, length-append, arith, ◌-◌, ◌^◌, ◌<◌, ◌≤◌, true, Some, None, sym}
+use Rattle.std.proofs.Common.{◌++◌, take, drop, Option, ◌≡◌, ℕ, ◌+◌, List, [], ◌∷◌, length, map, ap, ◌∙◌, length-append, arith, ◌-◌, ◌^◌, ◌<◌, ◌≤◌, Some, None, refl, sym}
 use Rattle.std.specs.List.{flat_map, AllByRecursion}
+use Rattle.std.proofs.lemmas.List.{take_at, drop_at}
 use Rattle.std.proofs.lemmas.List.Concat.{flat_map-cons}
-use Rattle.krb_wire.proofs.Fields.{IsBytes}
+use Rattle.krb_wire.specs.declared.format.Order.TheVariants.{Big}
+use Rattle.krb_wire.specs.Spelling.{data32, cc_principal}
+use Rattle.krb_wire.proofs.Fields.{IsBytes, wide32}
 use Rattle.krb_walk.specs.Contents.{contents, IsCell}
-use Rattle.krb_walk.specs.Store.{end_from, is_place}
-use Rattle.krb_walk.proofs.Stops.{is_place_from-first}
+use Rattle.krb_walk.specs.Store.{end_from}
 use Rattle.krb_walk.proofs.ContentsLemmas.{ReadsOne, reads_one, reads_none, IsFormat, unframed_cell, unframed_format}
+use Rattle.krb_cells.specs.Front.{seen_in}
+use Rattle.krb_cells.proofs.Formats.{IsSeen}
 use Rattle.krb_ccache.specs.declared.version.Version.{Version}
-use Rattle.krb_ccache.specs.Credential.{CredParts, credential, credential_at, FitsCredential}
-use Rattle.krb_ccache.specs.Store.{credentials_format, store_cell}
-use Rattle.krb_ccache.specs.Cells.{CellsFrom, BeginsWith, store_from}
+use Rattle.krb_ccache.specs.Credential.{CredParts, number32, credential, credential_at, is_marked, FitsCredential}
+use Rattle.krb_ccache.specs.Store.{credentials_format, store_cell, live_by}
+use Rattle.krb_ccache.specs.Cells.{CellsFrom, BeginsWith}
 use Rattle.krb_ccache.proofs.CredentialField.{credential_field}
 
 pub credentials_are : (v : Version) → IsFormat (credentials_format v)
 credentials_are v = unframed_format (credential_field v)
+
+pub credentials_seen : (v : Version) → IsSeen (credentials_format v) (store_cell v)
+credentials_seen v = record {
+  format = credentials_are v;
+  wide = λ c. refl;
+  four = λ c. omega (arith, length-append (number32 c.client.name_type) (number32 (length c.client.components) ++ (data32 Big c.client.realm ++ flat_map (data32 Big) c.client.components)), (wide32 Big).len c.client.name_type, length-append (cc_principal c.client) (drop (length (cc_principal c.client)) (credential v c)));
+  none = refl;
+}
 
 -- credentials that begin at a place end so many bytes after it
 pub end_is : (v : Version) (at : ℕ) (cs : List CredParts) → end_from at (map (store_cell v) cs) ≡ at + length (flat_map (credential v) cs)
@@ -29,6 +41,22 @@ read_one v bytes c after fits e = reads_one (credential_field v) bytes c after f
 -- no credential was read
 pub read_none : (v : Version) (bytes : List ℕ) → IsBytes bytes → credential_at v bytes ≡ None → contents (credentials_format v) bytes ≡ record { cells = []; end = bytes }
 read_none v bytes fits e = reads_none (credential_field v) bytes fits e
+
+-- so the store has it first
+pub cell_first : (v : Version) (bytes : List ℕ) (c : CredParts) (after : List ℕ) (live : Option (List ℕ)) → IsBytes bytes → credential_at v bytes ≡ Some (c, after) → live ≡ live_by (is_marked c) (take (length bytes - length after) bytes)
+    → seen_in (credentials_format v) (store_cell v) bytes ≡ record { width = length bytes - length after; live = live } ∷ seen_in (credentials_format v) (store_cell v) (drop (length bytes - length after) bytes)
+cell_first v bytes c after live fits e is_live =
+    let n = length bytes - length after in
+    let r = read_one v bytes c after fits e in
+    let t = ((credential_field v).takes bytes (c, after) fits e).0 in
+    let len = r.len in
+    let width : length (credential v c) ≡ n = omega (arith, len) in
+    let taken : take n bytes ≡ credential v c = ap (take n) t.parts ∙ take_at (credential v c) after n width in
+    let left : drop n bytes ≡ after = ap (drop n) t.parts ∙ drop_at (credential v c) after n width in
+    let others = seen_in (credentials_format v) (store_cell v) (drop n bytes) in
+    ap (map (store_cell v)) r.cells ∙ ap (λ (b : List ℕ). store_cell v c ∷ seen_in (credentials_format v) (store_cell v) b) (sym left)
+    ∙ ap (λ (m : ℕ). record { width = m; live = live_by (is_marked c) (credential v c) } ∷ others) width
+    ∙ ap (λ (o : Option (List ℕ)). record { width = n; live = o } ∷ others) (sym (is_live ∙ ap (live_by (is_marked c)) taken))
 
 -- it is the first of those of the bytes
 pub begins : (v : Version) (place : ℕ) (bytes : List ℕ) (c : CredParts) (after : List ℕ) (old : CellsFrom) → ReadsOne (credentials_format v) bytes c after → place + length bytes ≤ 2 ^ 30
@@ -48,10 +76,6 @@ begins v place bytes c after old r small is =
 -- one is left fewer
 pub fewer_left : (old new : CellsFrom) (at : ℕ) (c : CredParts) → BeginsWith old at c new → length new.cells < length old.cells
 fewer_left old new at c b = omega (arith, ap length b.cells)
-
--- where they begin is a place
-pub is_first_place : (c : CellsFrom) (p : ℕ) → c.place ≡ p → true ≡ is_place (store_from c) p
-is_first_place c p e = sym (is_place_from-first c.place (map (store_cell c.version) c.cells)) ∙ ap (is_place (store_from c)) e
 
 -- credentials that fit are cells
 pub all_cells : (v : Version) (cs : List CredParts) → AllByRecursion (FitsCredential v) cs → AllByRecursion (IsCell (credentials_format v)) cs

@@ -1,5 +1,5 @@
 -- What is known of an image that is a cache.
-use Rattle.std.proofs.Common.{◌≡◌, ◌≢◌, ℕ, ◌+◌, ◌-◌, ◌^◌, ◌≤◌, true, List, [], ◌∷◌, ◌++◌, length, get_or, take, drop, map, Some, None, refl, sym, ap, subst, ◌∙◌, length-append, arith, Ok, false}
+use Rattle.std.proofs.Common.{◌≡◌, ◌≢◌, ℕ, ◌+◌, ◌-◌, ◌≤◌, List, [], ◌∷◌, ◌++◌, length, get_or, take, drop, map, Some, None, refl, ap, subst, ◌∙◌, length-append, arith, Ok, false}
 use Rattle.std.specs.Prelude.{nat_lt}
 use Rattle.std.specs.List.{flat_map}
 use Rattle.std.proofs.lemmas.Bool.{le-ltb}
@@ -10,9 +10,11 @@ use Rattle.krb_wire.specs.declared.format.Order.TheVariants.{Big}
 use Rattle.krb_wire.proofs.Fields.{IsBytes, IsBytes-drop, Takes, bind_some, some_is}
 use Rattle.krb_wire.proofs.Principals.{cc_principal_field}
 use Rattle.krb_walk.specs.declared.fault.FaultKind.TheVariants.{BadCredential}
-use Rattle.krb_walk.specs.Contents.{contents, IsSpelled}
-use Rattle.krb_walk.specs.Store.{IsSound, end_from, end_of, fault_from, fault_of, is_place}
+use Rattle.krb_walk.specs.Contents.{Contents, contents, IsSpelled}
+use Rattle.krb_walk.specs.Store.{end_from, end_of}
 use Rattle.krb_walk.proofs.ContentsLemmas.{contents_spelled}
+use Rattle.krb_cells.specs.Front.{AreCells, seen_in}
+use Rattle.krb_cells.proofs.Formats.{are_cells}
 use Rattle.krb_ccache.specs.declared.version.Version.{Version}
 use Rattle.krb_ccache.specs.declared.version.Version.TheVariants.{V3, V4}
 use Rattle.krb_ccache.specs.declared.open.Places.{Places}
@@ -20,11 +22,11 @@ use Rattle.krb_ccache.specs.Credential.{CredParts, credential}
 use Rattle.krb_ccache.specs.Header.{Field, header, header_at, fields_format, whole, fields_in, offset_in, header_offset}
 use Rattle.krb_ccache.specs.Store.{CacheState, credentials_format, store_cell, version_byte, version_of, open_result, image_of, kind_of, first_place, store_of}
 use Rattle.krb_ccache.specs.Open.{header_held, name_held, held, IsImage}
-use Rattle.krb_ccache.specs.Cells.{CellsFrom, IsSuffix, cells_of}
+use Rattle.krb_ccache.specs.Cells.{AreCredentials}
 use Rattle.krb_ccache.proofs.HeaderFields.{header_takes}
-use Rattle.krb_ccache.proofs.CellLemmas.{credentials_are, end_is}
+use Rattle.krb_ccache.proofs.CellLemmas.{credentials_are, credentials_seen, end_is}
 use Rattle.krb_ccache.proofs.PlaceLemmas.{opens}
-use Rattle.krb_ccache.proofs.Splits.{SplitsAt, CutAt, splits, cells_sound, cut_at}
+use Rattle.krb_ccache.proofs.Splits.{bare_at}
 
 headed : (bytes : List ℕ) → 2 ≤ length bytes → bytes ≡ get_or bytes 0 0 ∷ get_or bytes 1 0 ∷ drop 2 bytes
 headed [] le = absurd (omega arith)
@@ -70,79 +72,48 @@ is_held v limit image places fits is =
       total = omega (arith, l2, l5, w2, end);
     }
 
-pub store_sound : (v : Version) (limit : ℕ) (image : List ℕ) (places : Places) → IsHeld v limit image places → IsSound (store_of (held v limit image places))
-store_sound v limit image places h = cells_sound v (contents (credentials_format v) (drop places.first image)).cells h.spelled.sound.cells
-
 pub end_held : (v : Version) (limit : ℕ) (image : List ℕ) (places : Places) → IsHeld v limit image places → IsImage v limit image places → places.end ≡ end_of (store_of (held v limit image places))
 end_held v limit image places h is = is.parts.end ∙ ap (λ (n : ℕ). end_from n (map (store_cell v) (contents (credentials_format v) (drop places.first image)).cells)) h.first
 
--- ---- faults
+-- ---- what is wrong after them
 
-whole_end : (rest : List ℕ) (end : ℕ) → length rest ≡ 0 → None ≡ fault_from end (kind_of rest)
-whole_end [] end e = refl
-whole_end (b ∷ bs) end e = absurd (omega (arith, e))
+kind_by : (rest : List ℕ) → length rest ≢ 0 → Some BadCredential ≡ kind_of rest
+kind_by [] ne = absurd (ne refl)
+kind_by (b ∷ bs) ne = refl
 
-bad_end : (rest : List ℕ) (end place : ℕ) → length rest ≢ 0 → place ≡ end → Some (record { place = place; kind = BadCredential }) ≡ fault_from end (kind_of rest)
-bad_end [] end place ne e = absurd (ne refl)
-bad_end (b ∷ bs) end place ne e = ap (λ (n : ℕ). Some (record { place = n; kind = BadCredential })) e
+no_kind_by : (rest : List ℕ) → length rest ≡ 0 → None ≡ kind_of rest
+no_kind_by [] e = refl
+no_kind_by (b ∷ bs) e = absurd (omega (arith, e))
 
-pub no_fault : (v : Version) (limit : ℕ) (image : List ℕ) (places : Places) → IsHeld v limit image places → places.end ≡ length image → None ≡ fault_of (store_of (held v limit image places))
-no_fault v limit image places h e =
-    let total = h.total in
-    whole_end (contents (credentials_format v) (drop places.first image)).end (end_of (store_of (held v limit image places))) (omega (arith, total, e))
+pub no_fault : (v : Version) (limit : ℕ) (image : List ℕ) (places : Places) → IsHeld v limit image places → places.end ≡ length image → None ≡ kind_of (held v limit image places).contents.end
+no_fault v limit image places h e = let total = h.total in no_kind_by (contents (credentials_format v) (drop places.first image)).end (omega (arith, total, e))
 
-pub some_fault : (v : Version) (limit : ℕ) (image : List ℕ) (places : Places) (k : CacheState) (place : ℕ) → IsHeld v limit image places → held v limit image places ≡ k → places.end ≢ length image → place ≡ end_of (store_of k)
-    → Some (record { place = place; kind = BadCredential }) ≡ fault_of (store_of k)
-some_fault v limit image places k place h is ne at =
-    let total = h.total in
-    let rest = (contents (credentials_format v) (drop places.first image)).end in
-    let left : length rest ≢ 0 = λ e. ne (omega (arith, total, e)) in
-    bad_end rest place place left refl ∙ ap (λ (x : CacheState). fault_from place (kind_of x.contents.end)) is ∙ ap (λ (n : ℕ). fault_from n (kind_of k.contents.end)) at
+pub some_fault : (v : Version) (limit : ℕ) (image : List ℕ) (places : Places) → IsHeld v limit image places → places.end ≢ length image → Some BadCredential ≡ kind_of (held v limit image places).contents.end
+some_fault v limit image places h ne = let total = h.total in kind_by (contents (credentials_format v) (drop places.first image)).end (λ e. ne (omega (arith, total, e)))
 
--- ---- the credentials from a place on
+-- ---- the credentials
 
-abbrev pub cells_held : Version → List ℕ → Places → List CredParts
-cells_held v image places = (contents (credentials_format v) (drop places.first image)).cells
+pub ahead_held : (v : Version) (limit : ℕ) (image : List ℕ) (places : Places) → IsHeld v limit image places → places.first ≤ places.end
+ahead_held v limit image places h = let end = h.end in omega (arith, end)
 
-pub split_held : (v : Version) (limit : ℕ) (image : List ℕ) (places : Places) (k : CacheState) (p : ℕ) → IsHeld v limit image places → held v limit image places ≡ k → is_place (store_of k) p ≡ true → SplitsAt v places.first (cells_held v image places) p
-split_held v limit image places k p h is at =
-    let here : is_place (store_of (held v limit image places)) p ≡ true = ap (λ (x : CacheState). is_place (store_of x) p) is ∙ at in
-    subst (λ (n : ℕ). SplitsAt v n (cells_held v image places) p) (sym h.first) (splits v (first_place (held v limit image places)) p (cells_held v image places) here)
-
-pub cut_held : (v : Version) (limit : ℕ) (image : List ℕ) (places : Places) (p : ℕ) → IsBytes image → IsHeld v limit image places → (s : SplitsAt v places.first (cells_held v image places) p) → CutAt v image p places.end s.after
-cut_held v limit image places p fits h s =
-    cut_at v image (contents (credentials_format v) (drop places.first image)).end places.first p places.end (cells_held v image places) fits h.spelled.parts h.spelled.sound.cells h.end s
-
-pub suffix_held : (v : Version) (limit : ℕ) (image bytes : List ℕ) (places : Places) (k : CacheState) (p : ℕ) → IsBytes image → IsHeld v limit image places → held v limit image places ≡ k → is_place (store_of k) p ≡ true → bytes ≡ take (places.end - p) (drop p image)
-    → IsSuffix (cells_of k) (record { version = v; place = p; cells = (contents (credentials_format v) bytes).cells })
-suffix_held v limit image bytes places k p fits h is at is_bytes =
-    let s = split_held v limit image places k p h is at in
-    let cut = cut_held v limit image places p fits h s in
-    let cells : (contents (credentials_format v) bytes).cells ≡ s.after = ap (λ (b : List ℕ). (contents (credentials_format v) b).cells) is_bytes ∙ cut.cells in
-    subst (λ (x : CacheState). IsSuffix (cells_of x) (record { version = v; place = p; cells = (contents (credentials_format v) bytes).cells })) is (record {
-      before = s.before;
-      parts = s.parts ∙ ap (λ (cs : List CredParts). s.before ++ cs) (sym cells);
-      place = s.place ∙ ap (λ (n : ℕ). end_from n (map (store_cell v) s.before)) h.first;
-      version = refl;
+pub credentials_held : (v : Version) (limit : ℕ) (image bytes : List ℕ) (places : Places) (k : CacheState) → IsBytes image → IsImage v limit image places → held v limit image places ≡ k → bytes ≡ take (places.end - places.first) (drop places.first image)
+    → AreCredentials k places.first bytes
+credentials_held v limit image bytes places k fits is same is_bytes =
+    let h = is_held v limit image places fits is in
+    let within = is.within in
+    let limit_fits = is.limit_fits in
+    let end = is.parts.end_within in
+    let ahead = ahead_held v limit image places h in
+    subst (λ (x : CacheState). AreCredentials x places.first bytes) same (record {
+      place = h.first;
+      contents = ap (contents (credentials_format v)) is_bytes ∙ bare_at v image (contents (credentials_format v) (drop places.first image)).end places.first places.end (contents (credentials_format v) (drop places.first image)).cells fits h.spelled.parts h.spelled.sound.cells h.end;
+      small = omega (arith, ahead, within, limit_fits, end, ap length is_bytes, length-take (places.end - places.first) (drop places.first image));
     })
 
-abbrev pub split_first : (v : Version) (image : List ℕ) (places : Places) → SplitsAt v places.first (cells_held v image places) places.first
-split_first v image places = record { before = []; after = cells_held v image places; place = refl; parts = refl }
-
-pub all_held : (v : Version) (limit : ℕ) (image bytes : List ℕ) (places : Places) (k : CacheState) → IsBytes image → IsHeld v limit image places → held v limit image places ≡ k → bytes ≡ take (places.end - places.first) (drop places.first image)
-    → ◌≡◌ {A = CellsFrom} (record { version = v; place = places.first; cells = (contents (credentials_format v) bytes).cells }) (cells_of k)
-all_held v limit image bytes places k fits h is is_bytes =
-    let cut = cut_held v limit image places places.first fits h (split_first v image places) in
-    let cells : (contents (credentials_format v) bytes).cells ≡ cells_held v image places = ap (λ (b : List ℕ). (contents (credentials_format v) b).cells) is_bytes ∙ cut.cells in
-    ap (λ (cs : List CredParts). record { version = v; place = places.first; cells = cs }) cells ∙ ap (λ (n : ℕ). record { version = v; place = n; cells = cells_held v image places }) h.first ∙ ap cells_of is
-
--- so few bytes fit
-pub room_held : (v : Version) (limit : ℕ) (image bytes : List ℕ) (places : Places) (p : ℕ) → IsImage v limit image places → p ≤ places.end → bytes ≡ take (places.end - p) (drop p image) → p + length bytes ≤ 2 ^ 30
-room_held v limit image bytes places p is ahead is_bytes =
-    let within = is.within in
-    let fits = is.limit_fits in
-    let end = is.parts.end_within in
-    omega (arith, ahead, within, fits, end, ap length is_bytes, length-take (places.end - p) (drop p image))
+-- they are cells
+pub cells_held : (v : Version) (bytes : List ℕ) (k : CacheState) (first : ℕ) → IsBytes bytes → v ≡ k.version → AreCredentials k first bytes → AreCells (seen_in (credentials_format v) (store_cell v)) bytes
+cells_held v bytes k first fits is are =
+    are_cells (credentials_format v) (store_cell v) bytes (credentials_seen v) fits (ap (λ (w : Version). (contents (credentials_format w) bytes).end) is ∙ ap (λ (c : Contents CredParts (List ℕ)). c.end) are.contents)
 
 -- ---- the time offset
 

@@ -15,7 +15,6 @@ pub mod FrontLemmas
 pub mod StoreChanges
 pub mod AnewLemmas
 pub mod Rewrites
-pub mod Passed
 pub mod RewriteHeld
 pub mod AskedLemmas
 pub mod LastPlaced

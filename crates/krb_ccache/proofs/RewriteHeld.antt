@@ -1,14 +1,15 @@
 -- A cache that is kept as an image, and written anew.
-use Rattle.std.proofs.Common.{◌≡◌, ℕ, ◌+◌, ◌^◌, ◌<◌, ◌≤◌, List, ◌++◌, length, map, sym, ap, subst, ◌∙◌, length-append, arith}
+use Rattle.std.proofs.Common.{◌-◌, take, None, refl, ◌≡◌, ℕ, ◌+◌, ◌≤◌, List, ◌++◌, length, map, sym, ap, subst, ◌∙◌, length-append, arith}
 use Rattle.std.specs.Prelude.{drop, Option, Result, Ok, Err, IfOk}
-use Rattle.std.specs.List.{flat_map, AllByRecursion}
+use Rattle.std.specs.List.{flat_map}
 use Rattle.krb_wire.specs.Spelling.{Parts}
-use Rattle.krb_wire.proofs.Fields.{IsBytes}
-use Rattle.krb_walk.specs.Contents.{contents}
-use Rattle.krb_walk.specs.Store.{IsPlace, end_of}
-use Rattle.krb_walk.specs.Ranks.{carry, Rewrites}
-use Rattle.krb_walk.specs.Carry.{whole, Replaces}
-use Rattle.krb_walk.proofs.NewPlaces.{replaces, carries}
+use Rattle.krb_wire.proofs.Fields.{IsBytes, IsBytes-drop, IsBytes-take}
+use Rattle.krb_walk.specs.Contents.{Contents}
+use Rattle.krb_walk.specs.declared.fault.FaultKind.{FaultKind}
+use Rattle.krb_walk.specs.Carry.{whole}
+use Rattle.krb_cells.specs.Front.{AreCells, seen_in}
+use Rattle.krb_cells.specs.Carry.{store_in}
+use Rattle.krb_ccache.specs.declared.version.Version.{Version}
 use Rattle.krb_ccache.specs.declared.version.Version.TheVariants.{V4}
 use Rattle.krb_ccache.specs.Credential.{CredParts}
 use Rattle.krb_ccache.specs.declared.open.Head.{Head}
@@ -17,11 +18,10 @@ use Rattle.krb_ccache.specs.Header.{header, offset_in}
 use Rattle.krb_ccache.specs.Store.{CacheState, credentials_format, image_of, store_cell, store_of, first_place}
 use Rattle.krb_ccache.specs.Changes.{new_front, new_header}
 use Rattle.krb_ccache.specs.Open.{Holds, IsImage, held_by}
-use Rattle.krb_ccache.specs.Rewrite.{new_cells, rewrite_of, text_anew, texts_anew}
-use Rattle.krb_ccache.proofs.Held.{is_held, end_held}
+use Rattle.krb_ccache.specs.Rewrite.{rewrite_of, text_anew, texts_anew}
+use Rattle.krb_ccache.proofs.Held.{is_held, ahead_held, credentials_held, cells_held}
 use Rattle.krb_ccache.proofs.Kept.{IsKept, held_kept}
 use Rattle.krb_ccache.proofs.Rewrites.{image_is, rewrite_held}
-use Rattle.krb_ccache.proofs.StoreChanges.{cells_wide}
 
 pub kept_by : (h : Head) (image : List ℕ) (k : CacheState) → IsBytes image → IsImage h.version h.limit image h.places → held_by h image ≡ k → IsKept k
 kept_by h image k fits is same = subst IsKept same (held_kept h image fits is)
@@ -57,42 +57,27 @@ anew_held h image new k front first len fits is same new_fits spelled is_front i
 
 -- ---- cursors
 
-pub first_in : (h : Head) (image : List ℕ) (k : CacheState) → IsBytes image → IsImage h.version h.limit image h.places → held_by h image ≡ k → h.places.first ≡ first_place k
-first_in h image k fits is same = (is_held h.version h.limit image h.places fits is).first ∙ ap first_place same
+-- an image that is replaced: its credentials are this store
+pub record IsOldStore (v : Version) (image : List ℕ) (first end : ℕ) (k : CacheState) : Type 0 where
+  pub ahead : first ≤ end
+  pub are : AreCells (seen_in (credentials_format v) (store_cell v)) (take (end - first) (drop first image))
+  pub store : store_in (seen_in (credentials_format v) (store_cell v)) image first end ≡ store_of k
 
-pub end_in : (h : Head) (image : List ℕ) (k : CacheState) → IsBytes image → IsImage h.version h.limit image h.places → held_by h image ≡ k → end_of (store_of k) ≡ h.places.end
-end_in h image k fits is same = sym (end_held h.version h.limit image h.places (is_held h.version h.limit image h.places fits is) is ∙ ap (λ (s : CacheState). end_of (store_of s)) same)
-
--- the credentials that the bytes of an image spell
-abbrev pub cells_in : Head → List ℕ → List CredParts
-cells_in h bytes = (contents (credentials_format h.version) (drop h.places.first bytes)).cells
-
--- an image, and what it holds; and where the image is to begin that a rewrite leaves of that
-pub record IsOldImage (h : Head) (bytes : List ℕ) (k : CacheState) (to : ℕ) : Type 0 where
-  pub first : h.places.first ≡ first_place k
-  pub cells : map (store_cell h.version) (cells_in h bytes) ≡ (store_of k).cells
-  pub new_first : to ≡ first_place (rewrite_of k)
-  pub new_cells : map (store_cell V4) (new_cells (cells_in h bytes)) ≡ (store_of (rewrite_of k)).cells
-
-pub is_old_image : (h : Head) (image bytes : List ℕ) (k : CacheState) (to : ℕ) → IsBytes image → IsImage h.version h.limit image h.places → bytes ≡ image → held_by h image ≡ k → to ≡ first_place (rewrite_of k) → IsOldImage h bytes k to
-is_old_image h image bytes k to fits is is_bytes same is_to =
-    let there : held_by h bytes ≡ k = ap (held_by h) is_bytes ∙ same in
-    record {
-      first = first_in h image k fits is same;
-      cells = ap (λ (s : CacheState). map (store_cell s.version) s.contents.cells) there;
-      new_first = is_to;
-      new_cells = ap (λ (s : CacheState). map (store_cell V4) (new_cells s.contents.cells)) there;
-    }
-
-pub is_replaced : (h : Head) (bytes : List ℕ) (k : CacheState) (to : ℕ) (cursors : List ℕ) → IsOldImage h bytes k to → Rewrites (store_of k) (store_of (rewrite_of k)) → end_of (store_of (rewrite_of k)) < 2 ^ 32 → AllByRecursion (IsPlace (store_of k)) cursors
-    → Replaces h.places.first (map (store_cell h.version) (cells_in h bytes)) to (map (store_cell V4) (new_cells (cells_in h bytes))) cursors
-is_replaced h bytes k to cursors is rewrites small places =
-    replaces (store_of k) (store_of (rewrite_of k)) h.places.first to _ _ cursors is.first is.cells is.new_first is.new_cells (cells_wide k.version k.contents.cells) rewrites small places
-
-pub all_carried : (h : Head) (bytes : List ℕ) (k after : CacheState) (to : ℕ) (cursors : List ℕ) → IsOldImage h bytes k to → after ≡ rewrite_of k
-    → map (carry (whole h.places.first (map (store_cell h.version) (cells_in h bytes))) (whole to (map (store_cell V4) (new_cells (cells_in h bytes))))) cursors ≡ map (carry (store_of k) (store_of after)) cursors
-all_carried h bytes k after to cursors is is_after =
-    carries (store_of k) (store_of (rewrite_of k)) h.places.first to _ _ cursors is.first is.cells is.new_first is.new_cells ∙ ap (λ (s : CacheState). map (carry (store_of k) (store_of s)) cursors) (sym is_after)
+pub old_store : (h : Head) (image bytes : List ℕ) (k : CacheState) → bytes ≡ image → IsBytes image → IsImage h.version h.limit image h.places → held_by h image ≡ k → (store_of k).fault ≡ None → IsOldStore h.version bytes h.places.first h.places.end k
+old_store h image bytes k is_bytes fits is same no_fault =
+    let v = h.version in
+    let text = take (h.places.end - h.places.first) (drop h.places.first image) in
+    let are = credentials_held v h.limit image text h.places k fits is same refl in
+    let version : v ≡ k.version = ap (λ (x : CacheState). x.version) same in
+    subst (λ (b : List ℕ). IsOldStore v b h.places.first h.places.end k) (sym is_bytes) (record {
+      ahead = ahead_held v h.limit image h.places (is_held v h.limit image h.places fits is);
+      are = cells_held v text k h.places.first (IsBytes-take (h.places.end - h.places.first) (drop h.places.first image) (IsBytes-drop h.places.first image fits)) version are;
+      store =
+          ap (λ (n : ℕ). whole n (seen_in (credentials_format v) (store_cell v) text)) are.place
+          ∙ ap (λ (w : Version). whole (first_place k) (seen_in (credentials_format w) (store_cell w) text)) version
+          ∙ ap (λ (x : Contents CredParts (List ℕ)). whole (first_place k) (map (store_cell k.version) x.cells)) are.contents
+          ∙ ap (λ (y : Option FaultKind). record { first = first_place k; cells = map (store_cell k.version) k.contents.cells; fault = y }) (sym no_fault);
+    })
 
 -- what was answered, told in another way
 pub ok_same : {X E : Type 0} (result : Result X E) (items : X → List ℕ) (a b : List ℕ) → a ≡ b → IfOk result (λ v. items v ≡ a) → IfOk result (λ v. items v ≡ b)

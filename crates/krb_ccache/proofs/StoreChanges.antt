@@ -23,10 +23,6 @@ pub no_rest : (rest : List ℕ) → kind_of rest ≡ None → rest ≡ []
 no_rest [] h = refl
 no_rest (b ∷ bs) h = absurd cc
 
--- where no fault is told, nothing stands after the last credential
-pub whole_end : (k : CacheState) → is_some (fault_of (store_of k)) ≡ false → k.contents.end ≡ []
-whole_end k h = no_rest k.contents.end (whole_of (end_of (store_of k)) (kind_of k.contents.end) h)
-
 -- ---- removals
 
 pub live_cell : (v : Version) (c : CredParts) → is_marked c ≡ false → ◌≡◌ {A = Cell} (store_cell v c) (record { width = length (credential v c); live = Some (credential v c) })

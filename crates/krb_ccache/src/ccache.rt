@@ -131,28 +131,28 @@ impl<A: Allocator> Ccache<A> {
         ensures first { result ≡ (store_of self.now.state).first }
         ensures sound { IsSoundStore (store_of self.now.state) }
     {
-        self.view().first()
+        self.view().cells().first()
     }
 
     /// The place after the last credential.
     pub fn end(&self) -> u32
         ensures { result ≡ end_of (store_of self.now.state) }
     {
-        self.view().end()
+        self.view().cells().end()
     }
 
     /// Bytes that begin with no credential, after the last one.
     pub fn fault(&self) -> Option<Fault>
         ensures { result ≡ fault_of (store_of self.now.state) }
     {
-        self.view().fault()
+        self.view().cells().fault()
     }
 
     /// Is true of the place of each credential, removed ones too, and of `end()`. It reads from the front.
     pub fn is_place(&self, place: u32) -> bool
         ensures { result ≡ is_place (store_of self.now.state) place }
     {
-        self.view().cells().is_place(place as usize)
+        self.view().cells().is_place(place)
     }
 
     /// The first credential at or after a place that is not removed, or what ends the credentials. It reads from
@@ -161,7 +161,7 @@ impl<A: Allocator> Ccache<A> {
         requires { IsPlace (store_of self.now.state) place }
         ensures { result ≡ stop_at (store_of self.now.state) place }
     {
-        self.view().stop_at(place)
+        self.view().cells().stop_at(place)
     }
 
     /// The bytes of the credential at a place, which is not removed. It reads that one.
@@ -169,7 +169,7 @@ impl<A: Allocator> Ccache<A> {
         requires { IsSome (live_bytes (store_of self.now.state) place) }
         ensures { live_bytes (store_of self.now.state) place ≡ Some result.now }
     {
-        self.view().bytes_at(place)
+        self.view().cells().bytes_at(place)
     }
 
     /// The credentials with their places, in file order, up to the end or the fault, without those that are
@@ -177,7 +177,7 @@ impl<A: Allocator> Ccache<A> {
     pub fn credentials(&self) -> Credentials<'_>
         ensures { result ≡ placed_credentials self.now.state }
     {
-        Credentials::of(self.view().cells())
+        Credentials::of(self.view().credentials())
     }
 
     /// The credential at a place: none exactly where no live cell stands. It reads from the front; to go through
@@ -188,7 +188,7 @@ impl<A: Allocator> Ccache<A> {
             ≡ Some (credential self.now.state.version c)) }
         ensures exact { result ≡ credential_at_place self.now.state place }
     {
-        self.view().cells().find(place as usize)
+        self.view().credentials().find(place as usize)
     }
 
     /// The value of the first configuration entry of the default principal for a key and a principal's text, or

@@ -1,18 +1,100 @@
 //! The credentials of a cache, one after the other.
 
-ghost use Rattle.std.specs.Prelude.{◌≡◌};
+ghost use Rattle.std.specs.Prelude.{◌≡◌, [], ◌∷◌, MatchOption};
 ghost use Rattle.std.specs.Iterator.{YieldsFirst, item_count};
-ghost use Rattle.krb_ccache.specs.Cells.{live_from};
+ghost use Rattle.krb_ccache.specs.Store.{if_live};
+ghost use Rattle.krb_ccache.specs.Cells.{GivesCell, live_from, live_at};
 
-use crate::cells::Cells;
-use crate::credential::CredView;
+use crate::cells::bytes_fit;
+use crate::credential::{CredView, split_credential};
+use crate::version::Version;
 use std::marker::Model;
+
+/// The credentials from a place on, removed ones too, with their places. Only their own bytes are here, so
+/// each is read once.
+#[derive(Drop)]
+pub struct AllCredentials<'a> {
+    pub version: Version,
+    pub place: usize,
+    pub bytes: &'a [u8],
+}
+
+impl<'a> Model for AllCredentials<'a> {
+    ghost use Rattle.std.specs.Prelude.{◌≤◌, ◌^◌, ◌+◌, length};
+    ghost use Rattle.krb_walk.specs.Contents.{contents};
+    ghost use Rattle.krb_ccache.specs.Store.{credentials_format};
+    ghost use Rattle.krb_ccache.specs.Cells.{CellsFrom};
+
+    ghost Value = { CellsFrom };
+
+    ghost view = { λ c. record {
+      version = c.version;
+      place = c.place;
+      cells = (contents (credentials_format c.version) c.bytes.now).cells;
+    } };
+
+    ghost invariant = { λ c. c.place + length c.bytes.now ≤ 2 ^ 30 };
+}
+
+impl<'a> Iterator for AllCredentials<'a> {
+    type Item = (usize, CredView<'a>);
+
+    ghost next_gives = { GivesCell (λ c. c) };
+
+    ghost remaining = { item_count (λ c. c.cells) };
+
+    fn next(&mut self) -> Option<(usize, CredView<'a>)> {
+        bytes_fit(self.bytes);
+        let (credential, after) = split_credential(self.version, self.bytes)?;
+        let at = self.place;
+        self.place = at + (self.bytes.len() - after.len());
+        self.bytes = after;
+        Some((at, credential))
+    }
+}
+
+// A credential that has no mark.
+fn live(credential: CredView<'_>) -> Option<CredView<'_>>
+    ensures { result ≡ if_live credential.entry }
+{
+    if credential.is_marked() {
+        return None;
+    }
+    Some(credential)
+}
+
+impl<'a> AllCredentials<'a> {
+    /// The first live one with its place.
+    pub fn next_live(&mut self) -> Option<(u32, CredView<'a>)>
+        ensures { MatchOption result ((live_from self.old ≡ []) × (live_from self.new ≡ []))
+            (λ x. live_from self.old ≡ x ∷ live_from self.new) }
+    {
+        while let Some((at, credential)) = self.next() {
+            if !credential.is_marked() {
+                return Some((at as u32, credential));
+            }
+        }
+        None
+    }
+
+    /// The live one at a place.
+    pub fn find(self, place: usize) -> Option<CredView<'a>>
+        ensures { result ≡ live_at self.entry place }
+    {
+        for (at, credential) in self {
+            if at == place {
+                return live(credential);
+            }
+        }
+        None
+    }
+}
 
 /// The credentials that are still to come, each with its place, in file order, up to the end or the fault.
 /// Those that are marked as removed are passed.
 #[derive(Drop)]
 pub struct Credentials<'a> {
-    cells: Cells<'a>,
+    all: AllCredentials<'a>,
 }
 
 impl<'a> Model for Credentials<'a> {
@@ -22,15 +104,15 @@ impl<'a> Model for Credentials<'a> {
 
     ghost Value = { List PlacedCredential };
 
-    ghost view = { λ e. live_from e.cells };
+    ghost view = { λ e. live_from e.all };
 }
 
 impl<'a> Credentials<'a> {
-    /// Those of cells.
-    pub(crate) fn of(cells: Cells<'a>) -> Credentials<'a>
-        ensures { result ≡ live_from cells.entry }
+    /// Those of them that are live.
+    pub(crate) fn of(all: AllCredentials<'a>) -> Credentials<'a>
+        ensures { result ≡ live_from all.entry }
     {
-        Credentials { cells }
+        Credentials { all }
     }
 }
 
@@ -42,6 +124,6 @@ impl<'a> Iterator for Credentials<'a> {
     ghost remaining = { item_count (λ s. s) };
 
     fn next(&mut self) -> Option<(u32, CredView<'a>)> {
-        self.cells.next_live()
+        self.all.next_live()
     }
 }

@@ -10,9 +10,10 @@ ghost use Rattle.krb_ccache.specs.SetConfig.{marked_texts};
 ghost use Rattle.krb_ccache.specs.Slots.{name_print, slot_of, slots_of, Knows, cells_in, settings_in, NoneAsked, IsFirstAsked, MarksEntry, RemembersEntry, Follows, HasNoPlace, FollowsMark};
 
 use crate::asked::{mark_asked, read_asked};
-use crate::cells::{Cells, bytes_fit};
+use crate::cells::bytes_fit;
 use crate::config::names_config;
 use crate::cred::Cred;
+use crate::credentials::AllCredentials;
 use crate::mark::{mark, mark_cell};
 use crate::open::Head;
 use crate::slot::{Slot, name_print, slot_at};
@@ -30,7 +31,7 @@ fn find_settings<A: Allocator>(alloc: A, version: Version, bytes: &[u8]) -> Opti
     ensures { Knows version (cells_in version bytes.now) result }
 {
     let mut slots = Vec::new(alloc);
-    let cells = Cells {
+    let cells = AllCredentials {
         version,
         place: 0,
         bytes,

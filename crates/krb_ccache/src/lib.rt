@@ -5,7 +5,6 @@
 mod anew;
 mod append;
 mod asked;
-mod carry;
 mod ccache;
 mod cells;
 mod config;

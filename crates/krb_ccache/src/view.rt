@@ -1,20 +1,20 @@
 //! The image of a cache, and what is known of it.
 
-ghost use Rattle.std.specs.Prelude.{◌≡◌, ◌≤◌, ◌-◌, ◌<◌, true, IsSome, Some, take, drop, length};
-ghost use Rattle.krb_wire.specs.Reading.{Gives};
-ghost use Rattle.krb_walk.specs.Contents.{IsSpelled};
-ghost use Rattle.krb_walk.specs.Store.{end_of, fault_of, is_place, stop_at, live_bytes, IsPlace, IsSound};
+ghost use Rattle.std.specs.Prelude.{◌≡◌, ◌≤◌, ◌-◌, take, drop, length};
 ghost use Rattle.krb_ccache.specs.Header.{offset_in};
-ghost use Rattle.krb_ccache.specs.Store.{CacheState, store_of, image_of, placed_credentials, credential_at_place};
+ghost use Rattle.krb_ccache.specs.Store.{store_of, image_of, kind_of};
 ghost use Rattle.krb_ccache.specs.Open.{Reopens};
 ghost use Rattle.krb_ccache.specs.Laws.{AreBytes};
-ghost use Rattle.krb_ccache.specs.Cells.{cells_of, IsSuffix};
+ghost use Rattle.krb_ccache.specs.Cells.{cells_of, AreCredentials};
 
-use crate::cells::{Cells, bytes_fit};
+use crate::cells::bytes_fit;
+use crate::credentials::AllCredentials;
 use crate::header::offset_in;
 use crate::offset::Offset;
 use crate::open::{Head, spelled_of};
-use krb_walk::{Fault, FaultKind, Stop};
+use crate::version::Version;
+use krb_cells::Cells;
+use krb_walk::FaultKind;
 use krb_wire::{PrincipalView, split_cc_principal, tail};
 use std::marker::Model;
 
@@ -55,89 +55,45 @@ impl<'a> CacheView<'a> {
         spelled_of(self.head, self.image)
     }
 
-    /// The place of the first cell.
-    pub fn first(&self) -> u32
-        ensures first { result ≡ (store_of self.now).first }
-        ensures sound { IsSound (store_of self.now) }
-    {
-        bytes_fit(self.image);
-        self.head.places.first as u32
-    }
-
-    /// The place after the last credential.
-    pub fn end(&self) -> u32
-        ensures { result ≡ end_of (store_of self.now) }
-    {
-        bytes_fit(self.image);
-        self.head.places.end as u32
-    }
-
-    /// Bytes that begin with no credential are left after the last one.
-    pub fn fault(&self) -> Option<Fault>
-        ensures { result ≡ fault_of (store_of self.now) }
+    // What is wrong after the last credential: bytes that begin with none are left.
+    fn fault(&self) -> Option<FaultKind>
+        ensures { result ≡ kind_of self.now.contents.end }
     {
         bytes_fit(self.image);
         if self.head.places.end == self.image.len() {
             return None;
         }
-        Some(Fault {
-            place: self.end(),
-            kind: FaultKind::BadCredential,
-        })
+        Some(FaultKind::BadCredential)
     }
 
-    /// The credentials from a place on, removed ones too.
-    pub fn cells_from(&self, place: u32) -> Cells<'a>
-        requires { IsPlace (store_of self.now) place }
-        ensures suffix { IsSuffix (cells_of self.now) result }
-        ensures place { result.place ≡ place }
+    // The place of the first credential, and the bytes of all of them.
+    fn placed(&self) -> (usize, &'a [u8])
+        ensures { AreCredentials self.now result.0 result.1.now }
     {
         bytes_fit(self.image);
-        let place = place as usize;
-        Cells {
-            version: self.head.version,
-            place,
-            bytes: between(self.image, place, self.head.places.end),
-        }
+        let first = self.head.places.first;
+        (first, between(self.image, first, self.head.places.end))
+    }
+
+    /// The store that it is.
+    pub fn cells(&self) -> Cells<'a, Version>
+        ensures { result ≡ store_of self.now }
+    {
+        let (first, bytes) = self.placed();
+        bytes_fit(bytes);
+        Cells::of(self.head.version, first, bytes, self.fault())
     }
 
     /// All credentials, removed ones too.
-    pub fn cells(&self) -> Cells<'a>
+    pub fn credentials(&self) -> AllCredentials<'a>
         ensures { result ≡ cells_of self.now }
     {
-        bytes_fit(self.image);
-        Cells {
+        let (place, bytes) = self.placed();
+        AllCredentials {
             version: self.head.version,
-            place: self.head.places.first,
-            bytes: between(self.image, self.head.places.first, self.head.places.end),
+            place,
+            bytes,
         }
-    }
-
-    /// The first live cell at or after a place, or what ends the cells.
-    pub fn stop_at(&self, place: u32) -> Stop
-        requires { IsPlace (store_of self.now) place }
-        ensures { result ≡ stop_at (store_of self.now) place }
-    {
-        let _ = self.first();
-        if let Some((place, next)) = self.cells_from(place).first_live() {
-            return Stop::Live {
-                place: place as u32,
-                next: next as u32,
-            };
-        }
-        match self.fault() {
-            Some(fault) => Stop::Fault(fault),
-            None => Stop::End { next: self.end() },
-        }
-    }
-
-    /// The bytes of the live cell at a place.
-    pub fn bytes_at(&self, place: u32) -> &'a [u8]
-        requires { IsSome (live_bytes (store_of self.now) place) }
-        ensures { live_bytes (store_of self.now) place ≡ Some result.now }
-    {
-        let _ = self.first();
-        self.cells_from(place).first_bytes()
     }
 
     /// The name that stands after the header.

@@ -7,7 +7,7 @@ use Rattle.std.proofs.lemmas.List.{length-map, take-append-drop}
 use Rattle.krb_keytab.specs.Cells.{Cell, size}
 use Rattle.krb_keytab.specs.Questions.{end_place, is_place_in}
 use Rattle.krb_keytab.proofs.Cuts.{far}
-use Rattle.krb_keytab.proofs.Given.{place_ge}
+use Rattle.krb_keytab.proofs.Cuts.{place_ge}
 use Rattle.krb_indexed.specs.declared.slot.Slot.{Slot}
 use Rattle.krb_indexed.specs.Slot.{places, slots_from, IsRising, IsRank}
 

@@ -1,17 +1,19 @@
 -- Reading one cell, and all of them.
-use Rattle.std.proofs.Common.{◌≡◌, ◌≢◌, ℕ, zero, suc, ◌+◌, ◌-◌, ◌^◌, ◌<◌, ◌≤◌, ◌⊎◌, Bool, true, false, cond, eqb, ltb, List, [], ◌∷◌, ◌++◌, length, get_or, take, drop, Option, Some, None, refl, sym, ap, subst, ◌∙◌, append_assoc, arith, inl, inr}
+use Rattle.std.proofs.Common.{◌≡◌, ◌≢◌, ℕ, ◌-◌, ◌^◌, ◌<◌, ◌≤◌, ◌⊎◌, Bool, true, false, cond, eqb, ltb, List, [], ◌∷◌, ◌++◌, length, get_or, take, drop, Option, Some, None, refl, sym, ap, subst, ◌∙◌, append_assoc, arith, inl, inr}
 use Rattle.std.specs.Prelude.{is_some}
 use Rattle.std.specs.List.{flat_map, AllByRecursion}
 use Rattle.std.specs.Int.{w32}
 use Rattle.std.proofs.lemmas.Bool.{ltb-true, ltb-false, le-ltb, lt-ltb, eqb-true, eqb-false}
-use Rattle.std.proofs.lemmas.List.{append-nil, take_at, drop_at, take-append-drop, length-append, length-take}
+use Rattle.std.proofs.lemmas.List.{take_at, drop_at, take-append-drop, length-append, length-take}
 use Rattle.std.proofs.lemmas.List.Concat.{flat_map-cons}
 use Rattle.krb_wire.specs.declared.format.KtFormat.{KtFormat}
 use Rattle.krb_wire.specs.Spelling.{order_of, digits}
 use Rattle.krb_wire.specs.Reading.{number_at}
 use Rattle.krb_wire.proofs.Fields.{IsBytes, IsBytes-drop, Takes, Takes-then, wide32, number_takes, number_again}
+use Rattle.krb_walk.specs.Contents.{NextCell, More, NoMore, on_next, IsCell as IsReadCell}
+use Rattle.krb_walk.proofs.ContentsLemmas.{IsNext as IsNextIn, IsFormat, behind, contents_next as next_of_contents, contents_spelled as spelled_of, contents_behind as behind_of, contents_again as again_of}
 use Rattle.krb_keytab.specs.Entry.{entry_at}
-use Rattle.krb_keytab.specs.Cells.{Cell, Live, Free, End, Bare, Mark, Damaged, Contents, bytes_of, length_field, cell, end_bytes, spelling, NextCell, More, NoMore, short_end, next_of_size, next_by, next, on_next, walk, contents, IsCell, IsEnd, IsSound, IsSpelled, image, version_byte}
+use Rattle.krb_keytab.specs.Cells.{Cell, Live, Free, End, Bare, Mark, Damaged, Contents, bytes_of, length_field, cell, end_bytes, spelling, short_end, next_of_size, next_by, next, keytab_format, contents, IsCell, IsEnd, IsSound, IsSpelled, image, version_byte}
 
 pub chosen : {A : Type 0} (b : Bool) (x y z : A) → cond b x y ≡ z → ((b ≡ true) × (x ≡ z)) ⊎ ((b ≡ false) × (y ≡ z))
 chosen true x y z e = inl (refl, e)
@@ -28,7 +30,7 @@ pub record IsAtEnd (f : KtFormat) (bytes : List ℕ) (e : End) : Type 0 where
   pub sound : IsEnd f e
 
 -- the outcome of one read
-abbrev pub IsNext : KtFormat → List ℕ → NextCell → Type 0
+abbrev pub IsNext : KtFormat → List ℕ → NextCell Cell End → Type 0
 IsNext f bytes (More c after) = TakesCell f bytes c after
 IsNext f bytes (NoMore e) = IsAtEnd f bytes e
 
@@ -61,7 +63,7 @@ free_taken f bytes n rest t fits big long =
 pub along : {A : Type 0} (P : A → Type 0) {x y : A} → x ≡ y → P x → P y
 along P e p = subst P e p
 
-sized_is : (f : KtFormat) (bytes : List ℕ) (n : ℕ) (rest : List ℕ) (s : NextCell) → next f bytes ≡ s → Takes bytes (digits (order_of f) w32 n) rest → n < 2 ^ 32 → next_of_size f bytes n rest ≡ s → IsNext f bytes s
+sized_is : (f : KtFormat) (bytes : List ℕ) (n : ℕ) (rest : List ℕ) (s : NextCell Cell End) → next f bytes ≡ s → Takes bytes (digits (order_of f) w32 n) rest → n < 2 ^ 32 → next_of_size f bytes n rest ≡ s → IsNext f bytes s
 sized_is f bytes n rest s whole t fits e =
     let P = IsNext f bytes in
     elim (chosen (eqb n 0) _ _ s e) [
@@ -86,18 +88,18 @@ sized_is f bytes n rest s whole t fits e =
           ]
     ]
 
-short_is : (f : KtFormat) (bytes : List ℕ) (s : NextCell) → next f bytes ≡ s → NoMore (short_end bytes) ≡ s → IsNext f bytes s
+short_is : (f : KtFormat) (bytes : List ℕ) (s : NextCell Cell End) → next f bytes ≡ s → NoMore (short_end bytes) ≡ s → IsNext f bytes s
 short_is f [] s whole e = along (IsNext f []) e (record { parts = refl; sound = tt })
 short_is f (b ∷ bs) s whole e = along (IsNext f (b ∷ bs)) e (record { parts = refl; sound = whole ∙ sym e })
 
-next_by_is : (f : KtFormat) (bytes : List ℕ) (s : NextCell) (read : Option (ℕ × List ℕ)) → IsBytes bytes → next f bytes ≡ s → number_at (order_of f) w32 bytes ≡ read → next_by f bytes read ≡ s → IsNext f bytes s
+next_by_is : (f : KtFormat) (bytes : List ℕ) (s : NextCell Cell End) (read : Option (ℕ × List ℕ)) → IsBytes bytes → next f bytes ≡ s → number_at (order_of f) w32 bytes ≡ read → next_by f bytes read ≡ s → IsNext f bytes s
 next_by_is f bytes s None fits whole got e = short_is f bytes s whole e
 next_by_is f bytes s (Some n) fits whole got e =
     let t = number_takes (order_of f) w32 (2 ^ 32) (wide32 (order_of f)) bytes n.0 n.1 fits got in
     sized_is f bytes n.0 n.1 s whole t.0 t.1 e
 
 -- what one read gives is what the bytes spell
-pub next_is : (f : KtFormat) (bytes : List ℕ) (s : NextCell) → IsBytes bytes → next f bytes ≡ s → IsNext f bytes s
+pub next_is : (f : KtFormat) (bytes : List ℕ) (s : NextCell Cell End) → IsBytes bytes → next f bytes ≡ s → IsNext f bytes s
 unfolding next
 next_is f bytes s fits e = next_by_is f bytes s (number_at (order_of f) w32 bytes) fits e refl e
 
@@ -144,98 +146,73 @@ end_again f (Damaged kind rest) sound = sound
 
 -- ---- all cells
 
-pub more_shrinks : (f : KtFormat) (bytes : List ℕ) (c : Cell) (after : List ℕ) → TakesCell f bytes c after → length bytes ≡ 4 + length (bytes_of c) + length after
-more_shrinks f bytes c after t =
-    let o = order_of f in
-    ap length t.takes.parts ∙ omega (arith, length-append (cell o c) after, length-append (digits o w32 (length_field c)) (bytes_of c), (wide32 o).len (length_field c))
-
 pub sound_size : (f : KtFormat) (c : Cell) → IsCell f c → 0 < length (bytes_of c)
 sound_size f (Live b) h = h.0
 sound_size f (Free b) h = h.0
 
--- one read, and the reads after it
-walk_suc : (f : KtFormat) (n : ℕ) (bytes : List ℕ) (s : NextCell) → next f bytes ≡ s → walk f (suc n) bytes ≡ on_next (walk f n) s
-unfolding walk
-walk_suc f n bytes s e = ap (on_next (walk f n)) e
+-- ---- the format of any cells
 
-enough_by : (f : KtFormat) (n m : ℕ) (bytes : List ℕ) (s : NextCell) → ((after : List ℕ) → IsBytes after → length after < n → length after < m → walk f n after ≡ walk f m after)
-    → length bytes < suc n → length bytes < suc m → IsNext f bytes s → on_next (walk f n) s ≡ on_next (walk f m) s
-enough_by f n m bytes (More c after) ih hn hm t =
-    let shrinks = more_shrinks f bytes c after t in
-    let same : walk f n after ≡ walk f m after = ih after t.takes.rest_fits (omega arith) (omega arith) in
-    ap (λ (k : Contents). record { cells = c ∷ k.cells; end = k.end }) same
-enough_by f n m bytes (NoMore e) ih hn hm t = refl
+read_cell : (f : KtFormat) (c : Cell) → IsCell f c → IsReadCell (keytab_format f) c
+read_cell f c sound = record {
+  read = λ rest. cell_again f c rest sound;
+  some = omega (arith, length-append (digits (order_of f) w32 (length_field c)) (bytes_of c), (wide32 (order_of f)).len (length_field c));
+}
 
--- more turns than bytes change nothing
-pub enough : (f : KtFormat) (n m : ℕ) (bytes : List ℕ) → IsBytes bytes → length bytes < n → length bytes < m → walk f n bytes ≡ walk f m bytes
-enough f zero m bytes fits hn hm = absurd (omega arith)
-enough f (suc n) zero bytes fits hn hm = absurd (omega arith)
-enough f (suc n) (suc m) bytes fits hn hm =
-    let s = next f bytes in
-    walk_suc f n bytes s refl ∙ enough_by f n m bytes s (λ after after_fits an am. enough f n m after after_fits an am) hn hm (next_is f bytes s fits refl) ∙ sym (walk_suc f m bytes s refl)
+read_cells : (f : KtFormat) (cs : List Cell) → AllByRecursion (IsCell f) cs → AllByRecursion (IsReadCell (keytab_format f)) cs
+read_cells f [] sound = tt
+read_cells f (c ∷ cs) sound = (read_cell f c sound.0, read_cells f cs sound.1)
 
-contents_by : (f : KtFormat) (bytes : List ℕ) (s : NextCell) → IsNext f bytes s → on_next (walk f (length bytes)) s ≡ on_next (contents f) s
-unfolding contents
-contents_by f bytes (More c after) t =
-    let shrinks = more_shrinks f bytes c after t in
-    let same : walk f (length bytes) after ≡ walk f (suc (length after)) after = enough f (length bytes) (suc (length after)) after t.takes.rest_fits (omega arith) (omega arith) in
-    ap (λ (k : Contents). record { cells = c ∷ k.cells; end = k.end }) same
-contents_by f bytes (NoMore e) t = refl
+next_in : (f : KtFormat) (bytes : List ℕ) (s : NextCell Cell End) → IsNext f bytes s → IsNextIn (keytab_format f) bytes s
+next_in f bytes (More c after) t = (t.takes, read_cell f c t.sound)
+next_in f bytes (NoMore e) t = (t.parts, end_again f e t.sound)
+
+-- its reader tells what is spelled
+pub keytab_is : (f : KtFormat) → IsFormat (keytab_format f)
+keytab_is f bytes fits = next_in f bytes (next f bytes) (next_is f bytes (next f bytes) fits refl)
 
 -- the first cell, and the others
-pub contents_next : (f : KtFormat) (bytes : List ℕ) (s : NextCell) → IsBytes bytes → next f bytes ≡ s → contents f bytes ≡ on_next (contents f) s
+pub contents_next : (f : KtFormat) (bytes : List ℕ) (s : NextCell Cell End) → IsBytes bytes → next f bytes ≡ s → contents f bytes ≡ on_next (contents f) s
 unfolding contents
-contents_next f bytes s fits e = walk_suc f (length bytes) bytes s e ∙ contents_by f bytes s (next_is f bytes s fits e)
-
-spelled_by : (f : KtFormat) (n : ℕ) (bytes : List ℕ) (s : NextCell) → ((after : List ℕ) → IsBytes after → length after < n → IsSpelled f after (contents f after))
-    → length bytes < suc n → IsNext f bytes s → IsSpelled f bytes (on_next (contents f) s)
-spelled_by f n bytes (More c after) ih lt t =
-    let o = order_of f in
-    let shrinks = more_shrinks f bytes c after t in
-    let others = ih after t.takes.rest_fits (omega arith) in
-    let k = contents f after in
-    record {
-      parts = t.takes.parts ∙ ap (λ (b : List ℕ). cell o c ++ b) others.parts ∙ sym (ap (λ (b : List ℕ). b ++ end_bytes o k.end) (flat_map-cons (cell o) c k.cells) ∙ append_assoc (cell o c) (flat_map (cell o) k.cells) (end_bytes o k.end));
-      sound = record { cells = (t.sound, others.sound.cells); end = others.sound.end };
-    }
-spelled_by f n bytes (NoMore e) ih lt t = record { parts = t.parts; sound = record { cells = tt; end = t.sound } }
-
-spelled_within : (f : KtFormat) (n : ℕ) (bytes : List ℕ) → IsBytes bytes → length bytes < n → IsSpelled f bytes (contents f bytes)
-spelled_within f zero bytes fits lt = absurd (omega arith)
-spelled_within f (suc n) bytes fits lt =
-    let s = next f bytes in
-    along (IsSpelled f bytes) (sym (contents_next f bytes s fits refl)) (spelled_by f n bytes s (λ after after_fits an. spelled_within f n after after_fits an) lt (next_is f bytes s fits refl))
-
--- the contents spell the bytes
-pub contents_spelled : (f : KtFormat) (bytes : List ℕ) → IsBytes bytes → IsSpelled f bytes (contents f bytes)
-contents_spelled f bytes fits = spelled_within f (suc (length bytes)) bytes fits (omega arith)
-
--- what contents are after some cells
-abbrev pub behind : List Cell → Contents → Contents
-behind cs k = record { cells = cs ++ k.cells; end = k.end }
+contents_next f bytes s fits e = next_of_contents (keytab_format f) bytes s (keytab_is f) fits e
 
 IsBytes-back : (a b : List ℕ) → IsBytes (a ++ b) → IsBytes b
 IsBytes-back a b fits = subst IsBytes (drop_at a b (length a) refl) (IsBytes-drop (length a) (a ++ b) fits)
 
--- sound cells at the front are the first cells: so the list is the longest one
-pub contents_behind : (f : KtFormat) (cs : List Cell) (rest : List ℕ) → AllByRecursion (IsCell f) cs → IsBytes (flat_map (cell (order_of f)) cs ++ rest) → contents f (flat_map (cell (order_of f)) cs ++ rest) ≡ behind cs (contents f rest)
-contents_behind f [] rest sound fits = refl
-contents_behind f (c ∷ cs) rest sound fits =
+-- cells that are read are sound
+sound_cells : (f : KtFormat) (cs : List Cell) (rest : List ℕ) → AllByRecursion (IsReadCell (keytab_format f)) cs → IsBytes (flat_map (cell (order_of f)) cs ++ rest) → AllByRecursion (IsCell f) cs
+sound_cells f [] rest read fits = tt
+sound_cells f (c ∷ cs) rest read fits =
     let o = order_of f in
     let tail = flat_map (cell o) cs ++ rest in
     let grouped : flat_map (cell o) (c ∷ cs) ++ rest ≡ cell o c ++ tail = ap (λ (b : List ℕ). b ++ rest) (flat_map-cons (cell o) c cs) ∙ append_assoc (cell o c) (flat_map (cell o) cs) rest in
     let fits2 : IsBytes (cell o c ++ tail) = subst IsBytes grouped fits in
-    ap (contents f) grouped ∙ contents_next f (cell o c ++ tail) (More c tail) fits2 (cell_again f c tail sound.0)
-    ∙ ap (λ (k : Contents). record { cells = c ∷ k.cells; end = k.end }) (contents_behind f cs rest sound.1 (IsBytes-back (cell o c) tail fits2))
+    ((next_is f (cell o c ++ tail) (More c tail) fits2 (read.0.read tail)).sound, sound_cells f cs rest read.1 (IsBytes-back (cell o c) tail fits2))
+
+sound_end : (f : KtFormat) (e : End) → next f (end_bytes (order_of f) e) ≡ NoMore e → IsEnd f e
+sound_end f Bare read = tt
+sound_end f (Mark rest) read = tt
+sound_end f (Damaged kind rest) read = read
+
+-- the contents spell the bytes
+pub contents_spelled : (f : KtFormat) (bytes : List ℕ) → IsBytes bytes → IsSpelled f bytes (contents f bytes)
+unfolding contents
+contents_spelled f bytes fits =
+    let k = contents f bytes in
+    let s = spelled_of (keytab_format f) bytes (keytab_is f) fits in
+    record {
+      parts = s.parts;
+      sound = record { cells = sound_cells f k.cells (end_bytes (order_of f) k.end) s.sound.cells (subst IsBytes s.parts fits); end = sound_end f k.end s.sound.end };
+    }
+
+-- sound cells at the front are the first cells: so the list is the longest one
+pub contents_behind : (f : KtFormat) (cs : List Cell) (rest : List ℕ) → AllByRecursion (IsCell f) cs → IsBytes (flat_map (cell (order_of f)) cs ++ rest) → contents f (flat_map (cell (order_of f)) cs ++ rest) ≡ behind cs (contents f rest)
+unfolding contents
+contents_behind f cs rest sound fits = behind_of (keytab_format f) cs rest (keytab_is f) (read_cells f cs sound) fits
 
 -- what is spelled is read
 pub contents_again : (f : KtFormat) (k : Contents) → IsSound f k → IsBytes (spelling (order_of f) k) → contents f (spelling (order_of f) k) ≡ k
-contents_again f k sound fits =
-    let o = order_of f in
-    let e = end_bytes o k.end in
-    contents_behind f k.cells e sound.cells fits
-    ∙ ap (behind k.cells) (contents_next f e (NoMore k.end) (IsBytes-back (flat_map (cell o) k.cells) e fits) (end_again f k.end sound.end))
-    ∙ ap (λ (cs : List Cell). record { cells = cs; end = k.end }) (append-nil k.cells)
+unfolding contents
+contents_again f k sound fits = again_of (keytab_format f) k (keytab_is f) (record { cells = read_cells f k.cells sound.cells; end = end_again f k.end sound.end }) fits
 
 headed : (bytes : List ℕ) → 2 ≤ length bytes → bytes ≡ get_or bytes 0 0 ∷ get_or bytes 1 0 ∷ drop 2 bytes
 headed [] le = absurd (omega arith)

@@ -1,9 +1,7 @@
 -- The cells of an image from a place on.
-use Rattle.std.proofs.Common.{◌≡◌, ◌≢◌, ℕ, ◌+◌, ◌-◌, ◌^◌, ◌<◌, ◌≤◌, true, List, [], ◌∷◌, ◌++◌, length, take, drop, Some, None, refl, sym, ap, subst, ◌∙◌, arith}
-use Rattle.std.specs.Prelude.{Option, IsSome}
+use Rattle.std.proofs.Common.{◌≡◌, ◌≢◌, ℕ, ◌+◌, ◌-◌, ◌^◌, ◌<◌, ◌≤◌, List, ◌∷◌, length, take, drop, Some, sym, ap, subst, ◌∙◌, arith}
 use Rattle.std.specs.Int.{w32}
 use Rattle.std.specs.List.{AllByRecursion}
-use Rattle.std.proofs.lemmas.Bool.{eq-eqb}
 use Rattle.std.proofs.lemmas.List.{length-drop}
 use Rattle.krb_wire.specs.declared.format.Order.{Order}
 use Rattle.krb_wire.specs.declared.format.KtFormat.{KtFormat}
@@ -12,13 +10,10 @@ use Rattle.krb_wire.specs.Reading.{number_at}
 use Rattle.krb_wire.proofs.Fields.{IsBytes, IsBytes-drop}
 use Rattle.krb_keytab.specs.declared.image.CellsEnd.{CellsEnd}
 use Rattle.krb_keytab.specs.declared.step.Step.TheVariants as step
-use Rattle.krb_keytab.specs.Cells.{Cell, Live, Free, End, Contents, bytes_of, contents, IsCell, size}
-use Rattle.krb_keytab.specs.Store.{store_cell}
-use Rattle.krb_keytab.specs.Questions.{end_place, is_place_in, live_bytes_in, stop_in}
-use Rattle.krb_keytab.specs.CellsFrom.{CellsFrom, AreKnown, IsSuffix, BeginsWith}
+use Rattle.krb_keytab.specs.Cells.{Cell, Live, Free, Contents, contents, IsCell, size}
+use Rattle.krb_keytab.specs.CellsFrom.{CellsFrom, AreKnown, BeginsWith}
 use Rattle.krb_keytab.proofs.CellLemmas.{contents_spelled}
 use Rattle.krb_keytab.proofs.Steps.{past4}
-use Rattle.krb_keytab.proofs.Cuts.{Cut, cut, known_from, end_place-append, stop_behind, live_behind}
 use Rattle.krb_keytab.proofs.KnownLemmas.{IsStep, live_step, free_step, number_rest, known_after_live, known_after_free}
 
 -- the cell at a place before the end, and what is known after it
@@ -90,62 +85,3 @@ begins f image rest at n e c d old new t is is_old is_new =
       sound = subst (λ (g : KtFormat). IsCell g d) (sym (ap (λ (x : CellsFrom). x.format) is_old)) (subst (IsCell f) is t.sound);
       small = omega (arith, place, within, small);
     }
-
--- cells of an image from a place on
-cut_of : (f : KtFormat) (image : List ℕ) (at p : ℕ) (e : CellsEnd) (old : CellsFrom) → IsBytes image → AreKnown f image at e → record { format = f; place = at; contents = contents f (drop at image) } ≡ old → is_place_in old.place old.contents.cells p ≡ true → Cut f image at p
-cut_of f image at p e old fits known is h = cut f image at p fits known.within (ap (λ (x : CellsFrom). is_place_in x.place x.contents.cells p) is ∙ h)
-
-pub known_of : (f : KtFormat) (image : List ℕ) (at p : ℕ) (e : CellsEnd) (old : CellsFrom) → IsBytes image → AreKnown f image at e → record { format = f; place = at; contents = contents f (drop at image) } ≡ old → is_place_in old.place old.contents.cells p ≡ true → AreKnown f image p e
-known_of f image at p e old fits known is h =
-    let k = cut_of f image at p e old fits known is h in
-    record { within = k.within; small = known.small; ends = known_from f image at p e k known.ends }
-
--- are the last ones
-pub suffix_of : (f : KtFormat) (image : List ℕ) (at p : ℕ) (e : CellsEnd) (old new : CellsFrom) → IsBytes image → AreKnown f image at e → record { format = f; place = at; contents = contents f (drop at image) } ≡ old → is_place_in old.place old.contents.cells p ≡ true
-    → new ≡ record { format = f; place = p; contents = contents f (drop p image) } → IsSuffix old new
-suffix_of f image at p e old new fits known is h is_new =
-    let k = cut_of f image at p e old fits known is h in
-    record {
-      before = k.before;
-      parts = ap (λ (x : CellsFrom). x.contents.cells) (sym is) ∙ k.parts ∙ ap (λ (x : CellsFrom). k.before ++ x.contents.cells) (sym is_new);
-      place = ap (λ (x : CellsFrom). x.place) is_new ∙ k.place ∙ ap (λ (x : CellsFrom). end_place x.place k.before) is;
-      end = ap (λ (x : CellsFrom). x.contents.end) is_new ∙ k.end ∙ ap (λ (x : CellsFrom). x.contents.end) is;
-      format = ap (λ (x : CellsFrom). x.format) is_new ∙ ap (λ (x : CellsFrom). x.format) is;
-    }
-
--- what is asked of a place is asked of the cells from it on
-pub stop_suffix : (old new : CellsFrom) (p : ℕ) → IsSuffix old new → new.place ≡ p → stop_in new.place new.contents.cells new.contents.end p ≡ stop_in old.place old.contents.cells old.contents.end p
-stop_suffix old new p s is =
-    ap (λ (e : End). stop_in new.place new.contents.cells e p) s.end ∙ ap (λ (n : ℕ). stop_in n new.contents.cells old.contents.end p) is
-    ∙ sym (stop_behind s.before new.contents.cells old.place p old.contents.end (sym is ∙ s.place)) ∙ sym (ap (λ (cs : List Cell). stop_in old.place cs old.contents.end p) s.parts)
-
-pub live_suffix : (old new : CellsFrom) (p : ℕ) → IsSuffix old new → new.place ≡ p → live_bytes_in new.place new.contents.cells p ≡ live_bytes_in old.place old.contents.cells p
-live_suffix old new p s is =
-    ap (λ (n : ℕ). live_bytes_in n new.contents.cells p) is ∙ sym (live_behind s.before new.contents.cells old.place p (sym is ∙ s.place)) ∙ sym (ap (λ (cs : List Cell). live_bytes_in old.place cs p) s.parts)
-
--- the first of them stands at their place
-pub live_first : (old new : CellsFrom) (p at : ℕ) (c : Cell) → BeginsWith old at c new → old.place ≡ p → live_bytes_in old.place old.contents.cells p ≡ (store_cell c).live
-live_first old new p at c b is = ap (λ (cs : List Cell). live_bytes_in old.place cs p) b.cells ∙ rw (eq-eqb p old.place (sym is)) refl
-
--- fewer are left
-pub fewer_left : (old new : CellsFrom) (at : ℕ) (c : Cell) → BeginsWith old at c new → length new.contents.cells < length old.contents.cells
-fewer_left old new at c b = omega (arith, ap length b.cells)
-
--- they end where all end
-pub end_suffix : (old new : CellsFrom) → IsSuffix old new → end_place new.place new.contents.cells ≡ end_place old.place old.contents.cells
-end_suffix old new s =
-    ap (λ (n : ℕ). end_place n new.contents.cells) s.place ∙ sym (end_place-append old.place s.before new.contents.cells) ∙ ap (end_place old.place) (sym s.parts)
-
--- where one is live at a place, it is the first from there on
-live_is : (c : Cell) (o : Option (List ℕ)) → (store_cell c).live ≡ o → IsSome o → Some (bytes_of c) ≡ o
-live_is (Live b) o is some = is
-live_is (Free b) o is some = absurd (let h = subst (λ (x : Option (List ℕ)). IsSome x) (sym is) some in cc)
-
-pub live_given : (old mid new : CellsFrom) (p at : ℕ) (c : Cell) → IsSuffix old mid → mid.place ≡ p → BeginsWith mid at c new → IsSome (live_bytes_in old.place old.contents.cells p) → Some (bytes_of c) ≡ live_bytes_in old.place old.contents.cells p
-live_given old mid new p at c s is b some = live_is c _ (sym (live_first mid new p at c b is) ∙ live_suffix old mid p s is) some
-
-pub some_given : (old mid : CellsFrom) (p : ℕ) → IsSuffix old mid → mid.place ≡ p → IsSome (live_bytes_in old.place old.contents.cells p) → mid.contents.cells ≡ [] → ⊥
-some_given old mid p s is some none =
-    let nothing : Option (List ℕ) = None in
-    let h : IsSome nothing = subst (λ (o : Option (List ℕ)). IsSome o) (sym (live_suffix old mid p s is) ∙ ap (λ (cs : List Cell). live_bytes_in mid.place cs p) none) some in
-    absurd cc

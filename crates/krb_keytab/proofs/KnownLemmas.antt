@@ -12,7 +12,8 @@ use Rattle.krb_wire.proofs.Fields.{IsBytes, IsBytes-drop, some_is, wide32, numbe
 use Rattle.krb_keytab.specs.declared.image.CellsEnd.{CellsEnd}
 use Rattle.krb_keytab.specs.declared.step.Step.{Step}
 use Rattle.krb_keytab.specs.declared.step.Step.TheVariants as step
-use Rattle.krb_keytab.specs.Cells.{Cell, Live, Free, Contents, bytes_of, length_field, cell, end_bytes, More, next, contents, IsCell, IsSpelled, size}
+use Rattle.krb_keytab.specs.Cells.{Cell, Live, Free, Contents, bytes_of, length_field, cell, end_bytes, next, contents, IsCell, IsSpelled, size}
+use Rattle.krb_walk.specs.Contents.{More}
 use Rattle.krb_keytab.specs.Step.{next_of_step, EndsWithin, from_step, CellWithin}
 use Rattle.krb_keytab.specs.Questions.{end_place}
 use Rattle.krb_keytab.specs.Image.{EndsKnown}
@@ -62,7 +63,7 @@ told_of f c rest bytes is sound =
     }
 
 -- the first of the cells that bytes hold is told by its length
-told_by : (f : KtFormat) (bytes : List ℕ) (k : Contents) (c : Cell) (cs : List Cell) → k.cells ≡ c ∷ cs → IsSpelled f bytes k → Told f bytes c
+pub told_by : (f : KtFormat) (bytes : List ℕ) (k : Contents) (c : Cell) (cs : List Cell) → k.cells ≡ c ∷ cs → IsSpelled f bytes k → Told f bytes c
 told_by f bytes k c cs is spelled =
     let o = order_of f in
     let parts : bytes ≡ cell o c ++ (flat_map (cell o) cs ++ end_bytes o k.end) =

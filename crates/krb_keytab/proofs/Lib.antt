@@ -18,6 +18,5 @@ pub mod LookUpLemmas
 pub mod WrittenLemmas
 pub mod FoundAgain
 pub mod AnewLemmas
-pub mod Given
 pub mod Rewrites
-pub mod CarryLemmas
+pub mod Seen

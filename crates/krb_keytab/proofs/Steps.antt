@@ -5,7 +5,8 @@ use Rattle.krb_wire.specs.declared.format.KtFormat.{KtFormat}
 use Rattle.krb_wire.proofs.Fields.{IsBytes, IsBytes-drop}
 use Rattle.krb_keytab.specs.declared.step.Step.{Step}
 use Rattle.krb_keytab.specs.declared.step.Step.TheVariants as step
-use Rattle.krb_keytab.specs.Cells.{next, contents, on_next}
+use Rattle.krb_walk.specs.Contents.{on_next}
+use Rattle.krb_keytab.specs.Cells.{next, contents}
 use Rattle.krb_keytab.specs.Step.{next_of_step, EndsWithin, from_step, CellWithin}
 use Rattle.krb_keytab.proofs.CellLemmas.{contents_next}
 

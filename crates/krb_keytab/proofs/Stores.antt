@@ -9,15 +9,14 @@ use Rattle.krb_wire.specs.Reading.{Gives}
 use Rattle.krb_walk.specs.declared.fault.FaultKind.{FaultKind}
 use Rattle.krb_walk.specs.declared.stop.Stop.{Stop}
 use Rattle.krb_walk.specs.declared.stop.Stop.TheVariants as stop
-use Rattle.krb_walk.specs.declared.fault.Fault.{Fault}
-use Rattle.krb_walk.specs.Store.{Cell as StoreCell, Record, end_from, is_place_from, end_stop, end_of, fault_of, fault_from, is_place as is_store_place, stop_at, live_bytes as store_bytes}
+use Rattle.krb_walk.specs.Store.{Cell as StoreCell, Record, end_from, is_place_from, end_stop, end_of, live_bytes as store_bytes}
 use Rattle.krb_walk.proofs.Stops.{next_from, bytes_from, next_skips, next_stops}
 use Rattle.krb_keytab.specs.declared.image.CellsEnd.{CellsEnd}
 use Rattle.krb_keytab.specs.declared.step.Ending.{Ending}
 use Rattle.krb_keytab.specs.declared.step.Ending.TheVariants as ending
 use Rattle.krb_keytab.specs.Entry.{entry_at}
-use Rattle.krb_keytab.specs.Cells.{Cell, Live, Free, End, Contents, contents, IsCell, IsSound, size, kind_of}
-use Rattle.krb_keytab.specs.Step.{ends, ending_kind, ending_fault}
+use Rattle.krb_keytab.specs.Cells.{Cell, Live, Free, End, contents, IsCell, IsSound, size, kind_of}
+use Rattle.krb_keytab.specs.Step.{ends, ending_kind}
 use Rattle.krb_keytab.specs.Image.{IsKnownEnd}
 use Rattle.krb_keytab.specs.CellsFrom.{CellsFrom, AreKnown, cells_of}
 use Rattle.krb_keytab.specs.Questions.{end_place, is_place_in, stop_in, live_bytes_in}
@@ -121,16 +120,10 @@ keytab_of f limit image = record { format = f; limit = limit; contents = content
 pub end_held : (f : KtFormat) (limit : ℕ) (image : List ℕ) (k : KeytabState) (e : CellsEnd) → IsKnownEnd f image e → keytab_of f limit image ≡ k → e.place ≡ end_of (store_of k)
 end_held f limit image k e known is = sym known.place ∙ end_place-store 2 (contents f (drop 2 image)).cells ∙ ap (λ (x : KeytabState). end_of (store_of x)) is
 
-kind_ends : (bytes : List ℕ) (e : Ending) → kind_of (ends bytes e) ≡ ending_kind e
+pub kind_ends : (bytes : List ℕ) (e : Ending) → kind_of (ends bytes e) ≡ ending_kind e
 kind_ends bytes ending.Bare = refl
 kind_ends bytes ending.Mark = refl
 kind_ends bytes (ending.Damaged kind) = refl
-
-pub fault_held : (f : KtFormat) (limit : ℕ) (image : List ℕ) (k : KeytabState) (e : CellsEnd) (place : ℕ) (answer : Option Fault) → IsKnownEnd f image e → keytab_of f limit image ≡ k → place ≡ end_of (store_of k) → answer ≡ ending_fault place e.ending → answer ≡ fault_of (store_of k)
-fault_held f limit image k e place answer known is at said =
-    let kind : ending_kind e.ending ≡ kind_of (contents f (drop 2 image)).end =
-    sym (ap kind_of known.same ∙ ap (λ (x : Contents). kind_of x.end) known.ending ∙ kind_ends (drop e.place image) e.ending) in
-    said ∙ ap (λ (x : Option FaultKind). fault_from place x) (kind ∙ ap (λ (x : KeytabState). kind_of x.contents.end) is) ∙ ap (λ (n : ℕ). fault_from n (kind_of k.contents.end)) at
 
 pub live_held : (f : KtFormat) (limit : ℕ) (image bytes : List ℕ) (k : KeytabState) (p : ℕ) → bytes ≡ image → keytab_of f limit image ≡ k → live_bytes_in 2 (contents f (drop 2 bytes)).cells p ≡ store_bytes (store_of k) p
 live_held f limit image bytes k p same is =
@@ -155,15 +148,6 @@ known_held f limit image bytes e same is known =
 
 pub cells_held : (f : KtFormat) (limit : ℕ) (image bytes : List ℕ) (k : KeytabState) → bytes ≡ image → keytab_of f limit image ≡ k → ◌≡◌ {A = CellsFrom} (record { format = f; place = 2; contents = contents f (drop 2 bytes) }) (cells_of k)
 cells_held f limit image bytes k same is = ap (λ (b : List ℕ). cells_of (keytab_of f limit b)) same ∙ ap (λ (x : KeytabState). cells_of x) is
-
-pub place_of_cells : (k : KeytabState) (cells : CellsFrom) (p : ℕ) → cells ≡ cells_of k → is_place_in cells.place cells.contents.cells p ≡ is_store_place (store_of k) p
-place_of_cells k cells p is = ap (λ (x : CellsFrom). is_place_in x.place x.contents.cells p) is ∙ is_place_in-store 2 p k.contents.cells
-
-pub stop_of_cells : (k : KeytabState) (cells : CellsFrom) (p : ℕ) → cells ≡ cells_of k → stop_in cells.place cells.contents.cells cells.contents.end p ≡ stop_at (store_of k) p
-stop_of_cells k cells p is = ap (λ (x : CellsFrom). stop_in x.place x.contents.cells x.contents.end p) is ∙ stop_in-store 2 p k.contents.cells k.contents.end
-
-pub live_of_cells : (k : KeytabState) (cells : CellsFrom) (p : ℕ) → cells ≡ cells_of k → live_bytes_in cells.place cells.contents.cells p ≡ store_bytes (store_of k) p
-live_of_cells k cells p is = ap (λ (x : CellsFrom). live_bytes_in x.place x.contents.cells p) is ∙ live_bytes_in-store 2 p k.contents.cells
 
 -- the bytes of a record begin with an entry
 pub entry_held : (k : KeytabState) (p : ℕ) (b : List ℕ) → IsSound k.format k.contents → store_bytes (store_of k) p ≡ Some b → IsSome (entry_at k.format b)

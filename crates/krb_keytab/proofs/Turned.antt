@@ -9,7 +9,8 @@ use Rattle.krb_wire.specs.Spelling.{order_of}
 use Rattle.krb_wire.proofs.Fields.{IsBytes, IsBytes-drop, some_is}
 use Rattle.krb_keytab.specs.declared.image.CellsEnd.{CellsEnd}
 use Rattle.krb_keytab.specs.declared.hole.Hole.{Hole}
-use Rattle.krb_keytab.specs.Cells.{Cell, Live, Free, End, Bare, Contents, cell, next, walk, contents, IsCell, size}
+use Rattle.krb_keytab.specs.Cells.{Cell, Live, Free, End, Bare, Contents, cell, next, contents, IsCell, size}
+use Rattle.krb_walk.specs.Contents.{contents as contents_of, first_cells}
 use Rattle.krb_keytab.specs.Questions.{end_place, live_bytes_in}
 use Rattle.krb_keytab.specs.Image.{IsKnownEnd, IsChanged}
 use Rattle.krb_keytab.specs.Changes.{PlacedCell, placed_cells, turned_at, zero_hole, is_hole, first_hole, with_zeros, record_in}
@@ -21,7 +22,7 @@ use Rattle.krb_keytab.proofs.Replaced.{StandsAt, live_stands, hole_stands, turne
 
 -- no bytes hold no cells
 pub contents_none : (f : KtFormat) → contents f [] ≡ record { cells = []; end = Bare }
-unfolding contents walk next
+unfolding contents contents_of first_cells next
 contents_none f = refl
 
 -- a turned cell leaves as many

@@ -1,5 +1,5 @@
 -- A keytab as a list of cells and an end, and the bytes that spell it (MIT krb5, "Keytab file format").
-use Rattle.std.specs.Prelude.{◌≡◌, ℕ, zero, suc, ◌-◌, ◌<◌, ◌≤◌, ◌^◌, List, [], ◌∷◌, ◌++◌, length, take, drop, Option, Some, None, IsSome, is_some, nat_lt, ◌==◌, if◌then◌else◌}
+use Rattle.std.specs.Prelude.{◌≡◌, ℕ, ◌-◌, ◌<◌, ◌≤◌, ◌^◌, List, [], ◌∷◌, ◌++◌, length, take, drop, Option, Some, None, IsSome, is_some, nat_lt, ◌==◌, if◌then◌else◌}
 use Rattle.std.specs.List.{flat_map, AllByRecursion}
 use Rattle.std.specs.Int.{w32}
 use Rattle.krb_wire.specs.declared.format.Order.{Order}
@@ -9,6 +9,7 @@ use Rattle.krb_wire.specs.Spelling.{order_of, digits}
 use Rattle.krb_wire.specs.Reading.{number_at}
 use Rattle.krb_walk.specs.declared.fault.FaultKind.{FaultKind}
 use Rattle.krb_walk.specs.declared.fault.FaultKind.TheVariants.{CutLength, Overrun, BadEntry}
+use Rattle.krb_walk.specs.Contents.{NextCell, More, NoMore, Format, Contents as ContentsOf, contents as contents_of}
 use Rattle.krb_keytab.specs.Entry.{entry_at}
 
 -- a cell: a record, whose bytes begin with an entry, or a hole
@@ -23,9 +24,8 @@ pub data End : Type 0 where
   Damaged : FaultKind → List ℕ → End
 
 -- what an image holds after its two version bytes
-pub record Contents : Type 0 where
-  pub cells : List Cell
-  pub end : End
+abbrev pub Contents : Type 0
+Contents = ContentsOf Cell End
 
 -- ---- spelling
 
@@ -74,18 +74,13 @@ image f k = 5 ∷ version_byte f ∷ spelling (order_of f) k
 
 -- ---- reading
 
--- one cell more and the bytes after it, or an end
-pub data NextCell : Type 0 where
-  More : Cell → List ℕ → NextCell
-  NoMore : End → NextCell
-
 -- what ends the cells where no length stands
 abbrev pub short_end : List ℕ → End
 short_end [] = Bare
 short_end (b ∷ bs) = Damaged CutLength (b ∷ bs)
 
 -- what stands there by its length: 0 is the end mark, below 2 ^ 31 a record of that many bytes, above a hole
-abbrev pub next_of_size : KtFormat → List ℕ → ℕ → List ℕ → NextCell
+abbrev pub next_of_size : KtFormat → List ℕ → ℕ → List ℕ → NextCell Cell End
 next_of_size f bytes n rest =
     if n == 0 then NoMore (Mark rest)
     else (if nat_lt n (2 ^ 31)
@@ -95,27 +90,21 @@ next_of_size f bytes n rest =
     else More (Free (take (2 ^ 32 - n) rest)) (drop (2 ^ 32 - n) rest)))
 
 -- what stands there by the number read, if one was
-abbrev pub next_by : KtFormat → List ℕ → Option (ℕ × List ℕ) → NextCell
+abbrev pub next_by : KtFormat → List ℕ → Option (ℕ × List ℕ) → NextCell Cell End
 next_by f bytes None = NoMore (short_end bytes)
 next_by f bytes (Some n) = next_of_size f bytes n.0 n.1
 
 -- the cell at the front, and the bytes after it
-unfoldable pub next : KtFormat → List ℕ → NextCell
+unfoldable pub next : KtFormat → List ℕ → NextCell Cell End
 next f bytes = next_by f bytes (number_at (order_of f) w32 bytes)
 
--- the contents, from the first cell and what the others are
-abbrev pub on_next : (List ℕ → Contents) → NextCell → Contents
-on_next others (More c rest) = record { cells = c ∷ (others rest).cells; end = (others rest).end }
-on_next others (NoMore e) = record { cells = []; end = e }
+-- the format of cells
+abbrev pub keytab_format : KtFormat → Format Cell End
+keytab_format f = record { next = next f; cell = cell (order_of f); end_bytes = end_bytes (order_of f); none = Bare }
 
--- at most so many cells
-unfoldable pub walk : KtFormat → ℕ → List ℕ → Contents
-walk f zero bytes = record { cells = []; end = Bare }
-walk f (suc n) bytes = on_next (walk f n) (next f bytes)
-
--- each cell takes more than one byte, so there are no more cells than bytes
+-- the contents of bytes
 unfoldable pub contents : KtFormat → List ℕ → Contents
-contents f bytes = walk f (suc (length bytes)) bytes
+contents f bytes = contents_of (keytab_format f) bytes
 
 -- ---- what is a keytab
 

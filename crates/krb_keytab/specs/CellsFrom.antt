@@ -1,9 +1,8 @@
 -- The cells of an image from a place on.
-use Rattle.std.specs.Prelude.{◌≡◌, ℕ, ◌+◌, ◌≤◌, ◌^◌, List, ◌∷◌, ◌++◌, length}
+use Rattle.std.specs.Prelude.{◌≡◌, ℕ, ◌+◌, ◌≤◌, ◌^◌, List, ◌∷◌, length}
 use Rattle.krb_wire.specs.declared.format.KtFormat.{KtFormat}
 use Rattle.krb_keytab.specs.declared.image.CellsEnd.{CellsEnd}
 use Rattle.krb_keytab.specs.Cells.{Cell, Contents, IsCell, size}
-use Rattle.krb_keytab.specs.Questions.{end_place}
 use Rattle.krb_keytab.specs.Store.{KeytabState}
 use Rattle.krb_keytab.specs.Image.{EndsKnown}
 
@@ -32,11 +31,3 @@ pub record BeginsWith (old : CellsFrom) (at : ℕ) (c : Cell) (new : CellsFrom) 
   pub format : new.format ≡ old.format
   pub sound : IsCell old.format c
   pub small : new.place ≤ 2 ^ 30
-
--- the cells from one of them on, after those before it
-pub record IsSuffix (cells rest : CellsFrom) : Type 0 where
-  pub before : List Cell
-  pub parts : cells.contents.cells ≡ before ++ rest.contents.cells
-  pub place : rest.place ≡ end_place cells.place before
-  pub end : rest.contents.end ≡ cells.contents.end
-  pub format : rest.format ≡ cells.format

@@ -22,4 +22,3 @@ pub mod Looked
 pub mod HasName
 pub mod Hole
 pub mod Append
-pub mod Carry

@@ -2,28 +2,18 @@
 use Rattle.std.specs.Prelude.{ℕ, ◌+◌, ◌<◌, ◌≤◌, ◌≡◌, List, [], ◌∷◌, length, take, drop, Option, Some, None}
 use Rattle.krb_wire.specs.declared.format.KtFormat.{KtFormat}
 use Rattle.krb_walk.specs.declared.fault.FaultKind.{FaultKind}
-use Rattle.krb_walk.specs.declared.fault.Fault.{Fault}
-use Rattle.krb_walk.specs.declared.stop.Stop.{Stop}
-use Rattle.krb_walk.specs.Store.{fault_from, end_stop}
 use Rattle.krb_keytab.specs.declared.step.Ending.{Ending}
 use Rattle.krb_keytab.specs.declared.step.Ending.TheVariants as ending
 use Rattle.krb_keytab.specs.declared.step.Step.{Step}
 use Rattle.krb_keytab.specs.declared.step.Step.TheVariants as step
-use Rattle.krb_keytab.specs.Cells.{Live, Free, End, Bare, Mark, Damaged, NextCell, More, NoMore as Ends, Contents, contents}
+use Rattle.krb_walk.specs.Contents.{NextCell, More, NoMore as Ends}
+use Rattle.krb_keytab.specs.Cells.{Cell, Live, Free, End, Bare, Mark, Damaged, Contents, contents}
 
 -- what is wrong, if something is
 abbrev pub ending_kind : Ending → Option FaultKind
 ending_kind ending.Bare = None
 ending_kind ending.Mark = None
 ending_kind (ending.Damaged kind) = Some kind
-
--- the fault at a place
-abbrev pub ending_fault : ℕ → Ending → Option Fault
-ending_fault at e = fault_from at (ending_kind e)
-
--- where a walk stops that finds no live cell
-abbrev pub ending_stop : ℕ → Ending → Stop
-ending_stop at e = end_stop at (ending_kind e)
 
 -- the end that some bytes are
 abbrev pub ends : List ℕ → Ending → End
@@ -32,7 +22,7 @@ ends bytes ending.Mark = Mark (drop 4 bytes)
 ends bytes (ending.Damaged kind) = Damaged kind bytes
 
 -- a cell of n bytes after its length, or an end
-abbrev pub next_of_step : List ℕ → Step → NextCell
+abbrev pub next_of_step : List ℕ → Step → NextCell Cell End
 next_of_step bytes (step.Live n) = More (Live (take n (drop 4 bytes))) (drop n (drop 4 bytes))
 next_of_step bytes (step.Free n) = More (Free (take n (drop 4 bytes))) (drop n (drop 4 bytes))
 next_of_step bytes (step.End e) = Ends (ends bytes e)

@@ -47,6 +47,10 @@ abbrev pub store_cell : Cell → StoreCell
 store_cell (Live b) = record { width = 4 + length b; live = Some b }
 store_cell (Free b) = record { width = 4 + length b; live = None }
 
+-- the cells that bytes have, as a store has them
+abbrev pub cells_seen : KtFormat → List ℕ → List StoreCell
+cells_seen f bytes = map store_cell (contents f bytes).cells
+
 -- the store that a keytab is: its cells stand after the two version bytes
 abbrev pub store_of : KeytabState → Store
 store_of k = record { first = 2; cells = map store_cell k.contents.cells; fault = kind_of k.contents.end }

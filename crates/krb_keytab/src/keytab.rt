@@ -3,7 +3,7 @@
 mod changes;
 mod rewriting;
 
-ghost use Rattle.std.specs.Prelude.{◌≡◌, IsSome, IfOk, IfErr, IfSome, IfNone, Ok, Err, Some, None, ◌<◌, ◌^◌, length, drop, option_copied, vec_capacity};
+ghost use Rattle.std.specs.Prelude.{◌≡◌, IsSome, IfOk, IfErr, IfSome, IfNone, Ok, Err, Some, None, ◌<◌, ◌≤◌, ◌-◌, ◌^◌, length, take, drop, option_copied, vec_capacity};
 ghost use Rattle.krb_wire.specs.Reading.{Gives};
 ghost use Rattle.krb_walk.specs.Store.{end_of, fault_of, is_place, stop_at, live_bytes, IsPlace, IsSound as IsSoundStore};
 ghost use Rattle.krb_keytab.specs.Entry.{entry_at, Spells};
@@ -18,8 +18,10 @@ use crate::cells::Cells;
 use crate::entries::Entries;
 use crate::entry::{EntryView, read_entry};
 use crate::image::{CellsEnd, end_of_cells, spelled_of};
+use crate::lengths::Lengths;
 use crate::open::{KtOpenRefused, read_head, version_of};
 use crate::put::bytes_fit;
+use krb_cells::Cells as SeenCells;
 use krb_walk::{Fault, Stop};
 use krb_wire::{KtFormat, Limits, NoMemory, Order};
 use std::alloc::Allocator;
@@ -47,6 +49,15 @@ impl<A: Allocator> Model for Keytab<A> {
 
     ghost invariant = { λ k. IsImage k.format k.limit k.image.items × IsKnownEnd k.format k.image.items k.end
         × (k.count ≡ length (contents k.format (drop 2 k.image.items)).cells) };
+}
+
+// The bytes of the cells that end at a place.
+fn cells_in(image: &[u8], end: usize) -> &[u8]
+    requires ahead { 2 ≤ end }
+    requires within { end ≤ length image.now }
+    ensures { result.now ≡ take (end - 2) (drop 2 image.now) }
+{
+    &image[2..end]
 }
 
 impl<A: Allocator> Keytab<A> {
@@ -128,27 +139,40 @@ impl<A: Allocator> Keytab<A> {
         image
     }
 
+    // The store that it is.
+    fn seen(&self) -> SeenCells<'_, Lengths>
+        ensures { result ≡ store_of self.now.state }
+    {
+        let image: &[u8] = &self.image;
+        bytes_fit(image);
+        let cells = cells_in(image, self.end.place);
+        bytes_fit(cells);
+        let front = Lengths {
+            format: self.format,
+        };
+        SeenCells::of(front, 2, cells, self.end.ending.kind())
+    }
+
     /// The place of the first cell: 2, after the version bytes.
     pub fn first(&self) -> u32
         ensures first { result ≡ (store_of self.now.state).first }
         ensures sound { IsSoundStore (store_of self.now.state) }
     {
-        let _ = self.image();
-        2
+        self.seen().first()
     }
 
     /// The place after the last sound cell.
     pub fn end(&self) -> u32
         ensures { result ≡ end_of (store_of self.now.state) }
     {
-        self.end.place as u32
+        self.seen().end()
     }
 
     /// What is wrong after the last sound cell, if something is.
     pub fn fault(&self) -> Option<Fault>
         ensures { result ≡ fault_of (store_of self.now.state) }
     {
-        self.end.ending.fault(self.end())
+        self.seen().fault()
     }
 
     /// How many cells it has.
@@ -184,7 +208,7 @@ impl<A: Allocator> Keytab<A> {
     pub fn is_place(&self, place: u32) -> bool
         ensures { result ≡ is_place (store_of self.now.state) place }
     {
-        self.cells().is_place(place as usize)
+        self.seen().is_place(place)
     }
 
     /// The first live cell at or after a place, or what ends the cells. It looks from that place on.
@@ -192,7 +216,7 @@ impl<A: Allocator> Keytab<A> {
         requires { IsPlace (store_of self.now.state) place }
         ensures { result ≡ stop_at (store_of self.now.state) place }
     {
-        self.cells().stop_at(place as usize)
+        self.seen().stop_at(place)
     }
 
     /// The bytes of the record at a place, after its length: an entry, and what is after it.
@@ -202,7 +226,7 @@ impl<A: Allocator> Keytab<A> {
         ensures entry { IsSome (entry_at self.now.state.format result.now) }
     {
         let _ = self.image();
-        self.cells().live_at(place as usize)
+        self.seen().bytes_at(place)
     }
 
     /// The entries with the places of their records, in file order, up to the end or the fault.
@@ -216,7 +240,7 @@ impl<A: Allocator> Keytab<A> {
     fn record(&self, place: u32) -> Option<&[u8]>
         ensures { option_copied result ≡ live_bytes (store_of self.now.state) place }
     {
-        self.cells().find_live(place as usize)
+        self.seen().find_live(place)
     }
 
     /// The entry of the record at a place: none exactly where no live cell stands. It looks from the

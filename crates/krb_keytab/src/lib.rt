@@ -3,7 +3,6 @@
 
 mod anew;
 mod append;
-mod carry;
 mod cells;
 mod edit;
 mod entries;
@@ -16,6 +15,7 @@ mod hole;
 mod image;
 mod keytab;
 mod laws;
+mod lengths;
 mod looked;
 mod new_entry;
 mod open;

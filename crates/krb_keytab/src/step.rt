@@ -3,10 +3,10 @@
 ghost use Rattle.std.specs.Prelude.{◌≡◌, ◌<◌, ◌^◌, length, is_some};
 ghost use Rattle.krb_keytab.specs.Entry.{entry_at};
 ghost use Rattle.krb_keytab.specs.Cells.{next};
-ghost use Rattle.krb_keytab.specs.Step.{next_of_step, EndsWithin, ending_fault, ending_stop};
+ghost use Rattle.krb_keytab.specs.Step.{next_of_step, EndsWithin, ending_kind};
 
 use crate::entry::entry_from;
-use krb_walk::{Fault, FaultKind, Stop};
+use krb_walk::FaultKind;
 use krb_wire::{KtFormat, split_u32};
 
 /// What ends the cells of an image: nothing, a length 0, or a fault.
@@ -18,23 +18,13 @@ pub enum Ending {
 }
 
 impl Ending {
-    /// The fault at a place, if that is what ends the cells there.
-    pub fn fault(self, place: u32) -> Option<Fault>
-        ensures { result ≡ ending_fault place self }
+    /// What is wrong there, if something is.
+    pub fn kind(self) -> Option<FaultKind>
+        ensures { result ≡ ending_kind self }
     {
         match self {
-            Ending::Damaged(kind) => Some(Fault { place, kind }),
+            Ending::Damaged(kind) => Some(kind),
             _ => None,
-        }
-    }
-
-    /// Where a walk stops that finds no live cell before that place.
-    pub fn stop(self, place: u32) -> Stop
-        ensures { result ≡ ending_stop place self }
-    {
-        match self {
-            Ending::Damaged(kind) => Stop::Fault(Fault { place, kind }),
-            _ => Stop::End { next: place },
         }
     }
 }

@@ -13,12 +13,12 @@ ghost use Rattle.krb_ccache.specs.Rewrite.{rewrite_of, rewrite_result};
 
 use super::Ccache;
 use crate::anew::room_after_anew;
-use crate::carry::OldCells;
 use crate::cells::bytes_fit;
 use crate::front::{front_len, header_len, image_anew};
 use crate::open::{Head, Places};
 use crate::version::Version;
-use krb_walk::{Code, Refusal, carry_cursors};
+use krb_cells::carry_to;
+use krb_walk::{Code, Refusal};
 use krb_wire::{NoMemory, tail};
 use std::alloc::Allocator;
 
@@ -102,15 +102,13 @@ impl<A: Allocator + Copy> Ccache<A> {
     {
         let new = self.rewritten()?;
         bytes_fit(&self.image);
-        bytes_fit(&new.image);
-        let mut cells = OldCells {
-            version: self.head.version,
-        };
-        carry_cursors(
-            &mut cells,
+        let Places { first, end, .. } = self.head.places;
+        carry_to(
+            self.head.version,
             &mut self.image,
-            self.head.places.first,
-            new.head.places.first,
+            first,
+            end,
+            new.view().cells(),
             cursors,
         );
         *self = new;

@@ -10,10 +10,12 @@ ghost use Rattle.krb_keytab.specs.Rewrite.{rewrite_result};
 
 use super::Keytab;
 use crate::anew::{anew_is_sound, image_anew, len_anew};
-use crate::carry::OldCells;
 use crate::image::CellsEnd;
+use crate::lengths::Lengths;
+use crate::put::bytes_fit;
 use crate::step::Ending;
-use krb_walk::{Code, Refusal, carry_cursors};
+use krb_cells::carry_to;
+use krb_walk::{Code, Refusal};
 use krb_wire::KtFormat;
 use std::alloc::Allocator;
 
@@ -54,14 +56,11 @@ impl<A: Allocator + Copy> Keytab<A> {
         ensures replaced { self.new ≡ new }
         ensures carries { cursors.new ≡ map (carry (store_of self.old.state) (store_of self.new.state)) cursors.old }
     {
-        let _ = self.image();
-        let _ = new.end();
-        let mut old = OldCells {
+        bytes_fit(&self.image);
+        let front = Lengths {
             format: self.format,
-            end: self.end,
-            new: new.cells(),
         };
-        carry_cursors(&mut old, &mut self.image, 2, 2, cursors);
+        carry_to(front, &mut self.image, 2, self.end.place, new.seen(), cursors);
         *self = new;
     }
 

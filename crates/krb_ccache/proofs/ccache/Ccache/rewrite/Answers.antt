@@ -1,34 +1,40 @@
-use Rattle.std.proofs.Common.{◌≡◌, ap, ◌∙◌, arith}
+use Rattle.std.proofs.Common.{◌∙◌, map, sym, ap, subst}
+use Rattle.std.specs.List.{AllByRecursion}
 use Rattle.krb_wire.proofs.Fields.{IsBytes}
-use Rattle.krb_ccache.specs.Open.{InMemory, held_by}
-use Rattle.krb_ccache.specs.Rewrite.{rewrite_of}
-use Rattle.krb_ccache.proofs.RewriteHeld.{first_in, end_in, is_old_image, is_replaced, all_carried}
+use Rattle.krb_walk.specs.Store.{Store, IsPlace}
+use Rattle.krb_walk.specs.Ranks.{carry, Rewrites}
+use Rattle.krb_ccache.specs.Store.{CacheState, store_of}
+use Rattle.krb_ccache.specs.Open.{InMemory}
+use Rattle.krb_ccache.proofs.RewriteHeld.{old_store}
 use Rattle.krb_ccache.proofs.ccache.Ccache.rewrite.Goals as goal
 
-pub carry_cursors-requires-clause-replaces : goal.carry_cursors-requires-clause-replaces
-carry_cursors-requires-clause-replaces g c =
+pub carry_to-requires-clause-ahead : goal.carry_to-requires-clause-ahead
+carry_to-requires-clause-ahead g c =
     let i = c.self.inside in
-    let n = c.new.inside in
-    let k = c.args.self.now.state in
-    let fits : IsBytes i.image.items = rw c.deref.ensures.value at c.bytes_fit.ensures in
-    let new_fits : IsBytes n.image.items = rw c.deref-2.ensures.value at c.bytes_fit-2.ensures in
-    let new_is : held_by n.head n.image.items ≡ rewrite_of k = ap (λ (m : InMemory). m.state) c.new.view_is ∙ c.in_ok-new.ensures.ok in
-    let to = first_in n.head n.image.items (rewrite_of k) new_fits c.new.invariant.0 new_is in
-    let end = end_in n.head n.image.items (rewrite_of k) new_fits c.new.invariant.0 new_is in
-    let end_within = c.new.invariant.0.parts.end_within in
-    let within = c.new.invariant.0.within in
-    let limit = c.new.invariant.0.limit_fits in
-    let old = is_old_image i.head i.image.items c.deref_mut.result.now k n.head.places.first fits c.self.invariant.0 c.deref_mut.ensures.value (ap (λ (m : InMemory). m.state) c.self.view_is) to in
-    is_replaced i.head c.deref_mut.result.now k n.head.places.first c.args.cursors.now old c.in_ok-new.ensures.rewrites (omega (arith, end, end_within, within, limit)) c.requires
+    (old_store i.head i.image.items c.deref_mut.result.now c.args.self.now.state c.deref_mut.ensures.value (subst IsBytes c.deref.ensures.value c.bytes_fit.ensures) c.self.invariant.0 (ap (λ (m : InMemory). m.state) c.self.view_is) c.in_ok-new.ensures.rewrites.whole).ahead
+
+pub carry_to-requires-clause-cells : goal.carry_to-requires-clause-cells
+carry_to-requires-clause-cells g c =
+    let i = c.self.inside in
+    (old_store i.head i.image.items c.deref_mut.result.now c.args.self.now.state c.deref_mut.ensures.value (subst IsBytes c.deref.ensures.value c.bytes_fit.ensures) c.self.invariant.0 (ap (λ (m : InMemory). m.state) c.self.view_is) c.in_ok-new.ensures.rewrites.whole).are
+
+pub carry_to-requires-clause-rewrites : goal.carry_to-requires-clause-rewrites
+carry_to-requires-clause-rewrites g c =
+    let i = c.self.inside in
+    let o = (old_store i.head i.image.items c.deref_mut.result.now c.args.self.now.state c.deref_mut.ensures.value (subst IsBytes c.deref.ensures.value c.bytes_fit.ensures) c.self.invariant.0 (ap (λ (m : InMemory). m.state) c.self.view_is) c.in_ok-new.ensures.rewrites.whole) in
+    let new = c.cells.ensures ∙ ap (λ (k : CacheState). store_of k) (c.view.ensures ∙ c.in_ok-new.ensures.ok) in
+    subst (λ (s : Store). Rewrites s c.cells.result) (sym o.store) (subst (λ (s : Store). Rewrites (store_of c.args.self.now.state) s) (sym new) c.in_ok-new.ensures.rewrites)
+
+pub carry_to-requires-clause-places : goal.carry_to-requires-clause-places
+carry_to-requires-clause-places g c =
+    let i = c.self.inside in
+    let o = (old_store i.head i.image.items c.deref_mut.result.now c.args.self.now.state c.deref_mut.ensures.value (subst IsBytes c.deref.ensures.value c.bytes_fit.ensures) c.self.invariant.0 (ap (λ (m : InMemory). m.state) c.self.view_is) c.in_ok-new.ensures.rewrites.whole) in
+    subst (λ (s : Store). AllByRecursion (IsPlace s) c.args.cursors.now) (sym o.store) c.requires
 
 pub returns-clause-carries : goal.returns-clause-carries
 returns-clause-carries g c =
     let i = c.self.inside in
-    let n = c.new.inside in
-    let k = c.args.self.now.state in
-    let fits : IsBytes i.image.items = rw c.deref.ensures.value at c.bytes_fit.ensures in
-    let new_fits : IsBytes n.image.items = rw c.deref-2.ensures.value at c.bytes_fit-2.ensures in
-    let new_is : held_by n.head n.image.items ≡ rewrite_of k = ap (λ (m : InMemory). m.state) c.new.view_is ∙ c.in_ok-new.ensures.ok in
-    let to = first_in n.head n.image.items (rewrite_of k) new_fits c.new.invariant.0 new_is in
-    let old = is_old_image i.head i.image.items c.deref_mut.result.now k n.head.places.first fits c.self.invariant.0 c.deref_mut.ensures.value (ap (λ (m : InMemory). m.state) c.self.view_is) to in
-    c.carry_cursors.ensures ∙ all_carried i.head c.deref_mut.result.now k _ n.head.places.first c.args.cursors.now old new_is
+    let o = (old_store i.head i.image.items c.deref_mut.result.now c.args.self.now.state c.deref_mut.ensures.value (subst IsBytes c.deref.ensures.value c.bytes_fit.ensures) c.self.invariant.0 (ap (λ (m : InMemory). m.state) c.self.view_is) c.in_ok-new.ensures.rewrites.whole) in
+    let new = c.cells.ensures ∙ ap (λ (k : CacheState). store_of k) (c.view.ensures ∙ ap (λ (m : InMemory). m.state) (sym c.drop.view_is)) in
+    c.carry_to.ensures ∙ ap (λ (s : Store). map (carry s c.cells.result) c.args.cursors.now) o.store
+    ∙ ap (λ (s : Store). map (carry (store_of c.args.self.now.state) s) c.args.cursors.now) new

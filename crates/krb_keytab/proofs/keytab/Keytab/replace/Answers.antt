@@ -1,12 +1,38 @@
-use Rattle.std.proofs.Common.{arith}
+use Rattle.std.proofs.Common.{◌∙◌, map, sym, ap, subst}
+use Rattle.std.specs.List.{AllByRecursion}
+use Rattle.krb_wire.proofs.Fields.{IsBytes}
+use Rattle.krb_walk.specs.Store.{Store, IsPlace}
+use Rattle.krb_walk.specs.Ranks.{carry, Rewrites}
+use Rattle.krb_keytab.specs.Store.{InMemory, store_of}
 use Rattle.krb_keytab.proofs.Stores.{state_is}
-use Rattle.krb_keytab.proofs.CarryLemmas.{are_cells, is_replaced}
+use Rattle.krb_keytab.proofs.Seen.{old_store}
 use Rattle.krb_keytab.proofs.keytab.Keytab.replace.Goals as goal
 
-pub carry_cursors-requires-clause-replaces : goal.carry_cursors-requires-clause-replaces
-carry_cursors-requires-clause-replaces g c =
+pub carry_to-requires-clause-ahead : goal.carry_to-requires-clause-ahead
+carry_to-requires-clause-ahead g c =
     let i = c.self.inside in
-    let k = c.args.self.now.state in
-    let new = c.args.new.state in
-    let is = are_cells i.format i.limit i.image.items c.deref_mut.result.now k new c.cells.result c.deref_mut.ensures.value (state_is c.self.view_is) c.cells.ensures in
-    is_replaced i.format c.deref_mut.result.now _ k new c.args.cursors.now is c.image.ensures.sound c.requires.rewrites (omega (arith, c.end.ensures, c.end.type_inv)) c.requires.places
+    (old_store i.format i.limit i.image.items c.deref_mut.result.now i.end c.args.self.now.state c.deref_mut.ensures.value (subst IsBytes c.deref.ensures.value c.bytes_fit.ensures) c.self.invariant.0 c.self.invariant.1 (state_is c.self.view_is) c.requires.rewrites.whole).ahead
+
+pub carry_to-requires-clause-cells : goal.carry_to-requires-clause-cells
+carry_to-requires-clause-cells g c =
+    let i = c.self.inside in
+    (old_store i.format i.limit i.image.items c.deref_mut.result.now i.end c.args.self.now.state c.deref_mut.ensures.value (subst IsBytes c.deref.ensures.value c.bytes_fit.ensures) c.self.invariant.0 c.self.invariant.1 (state_is c.self.view_is) c.requires.rewrites.whole).are
+
+pub carry_to-requires-clause-rewrites : goal.carry_to-requires-clause-rewrites
+carry_to-requires-clause-rewrites g c =
+    let i = c.self.inside in
+    let o = old_store i.format i.limit i.image.items c.deref_mut.result.now i.end c.args.self.now.state c.deref_mut.ensures.value (subst IsBytes c.deref.ensures.value c.bytes_fit.ensures) c.self.invariant.0 c.self.invariant.1 (state_is c.self.view_is) c.requires.rewrites.whole in
+    subst (λ (s : Store). Rewrites s c.seen.result) (sym o.store) (subst (λ (s : Store). Rewrites (store_of c.args.self.now.state) s) (sym c.seen.ensures) c.requires.rewrites)
+
+pub carry_to-requires-clause-places : goal.carry_to-requires-clause-places
+carry_to-requires-clause-places g c =
+    let i = c.self.inside in
+    let o = old_store i.format i.limit i.image.items c.deref_mut.result.now i.end c.args.self.now.state c.deref_mut.ensures.value (subst IsBytes c.deref.ensures.value c.bytes_fit.ensures) c.self.invariant.0 c.self.invariant.1 (state_is c.self.view_is) c.requires.rewrites.whole in
+    subst (λ (s : Store). AllByRecursion (IsPlace s) c.args.cursors.now) (sym o.store) c.requires.places
+
+pub returns-clause-carries : goal.returns-clause-carries
+returns-clause-carries g c =
+    let i = c.self.inside in
+    let o = old_store i.format i.limit i.image.items c.deref_mut.result.now i.end c.args.self.now.state c.deref_mut.ensures.value (subst IsBytes c.deref.ensures.value c.bytes_fit.ensures) c.self.invariant.0 c.self.invariant.1 (state_is c.self.view_is) c.requires.rewrites.whole in
+    c.carry_to.ensures ∙ ap (λ (s : Store). map (carry s c.seen.result) c.args.cursors.now) o.store
+    ∙ ap (λ (s : Store). map (carry (store_of c.args.self.now.state) s) c.args.cursors.now) (c.seen.ensures ∙ ap (λ (k : InMemory). store_of k.state) (sym c.drop.view_is))

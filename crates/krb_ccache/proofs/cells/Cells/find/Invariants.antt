@@ -1,7 +1,0 @@
-use Rattle.std.proofs.Common.{◌≡◌}
-use Rattle.krb_ccache.specs.Cells.{live_at}
-use Rattle.krb_ccache.proofs.cells.Cells.find.Given as goal
-
--- what is asked of the rest is asked of all
-abbrev pub invariant-loop-at : goal.invariant-loop-at
-invariant-loop-at l = live_at l.at-iterator l.place ≡ live_at l.fn.self l.place

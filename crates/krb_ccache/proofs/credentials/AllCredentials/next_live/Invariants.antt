@@ -1,0 +1,10 @@
+use Rattle.std.proofs.Common.{◌≡◌, length}
+use Rattle.krb_ccache.specs.Cells.{live_from}
+use Rattle.krb_ccache.proofs.credentials.AllCredentials.next_live.Given as goal
+
+-- no live one was passed
+abbrev pub invariant-loop-at : goal.invariant-loop-at
+invariant-loop-at l = live_from l.self ≡ live_from l.fn.self
+
+abbrev pub decreases-loop-at : goal.decreases-loop-at
+decreases-loop-at l = length l.self.cells

@@ -1,0 +1,41 @@
+-- Bytes that have a format's contents are their cells.
+use Rattle.std.proofs.Common.{◌≡◌, ℕ, zero, suc, ◌<◌, ◌≤◌, List, [], ◌∷◌, ◌++◌, length, map, drop, refl, sym, ap, subst, ◌∙◌, length-append, arith}
+use Rattle.std.proofs.lemmas.List.{drop_at}
+use Rattle.krb_wire.proofs.Fields.{IsBytes}
+use Rattle.krb_walk.specs.Store.{Cell}
+use Rattle.krb_walk.specs.Contents.{NextCell, More, NoMore, Contents, Format, on_next, contents}
+use Rattle.krb_walk.proofs.ContentsLemmas.{IsNext, IsFormat, contents_next}
+use Rattle.krb_cells.specs.Front.{HasCells, AreCells, seen_in}
+
+-- a format whose cells a store sees as wide as they are, four bytes or more, and which has nothing at the end of no bytes
+pub record IsSeen {C E : Type 0} (f : Format C E) (seen : C → Cell) : Type 0 where
+  pub format : IsFormat f
+  pub wide : (c : C) → (seen c).width ≡ length (f.cell c)
+  pub four : (c : C) → 4 ≤ length (f.cell c)
+  pub none : f.end_bytes f.none ≡ []
+
+are_by : {C E : Type 0} (f : Format C E) (seen : C → Cell) (n : ℕ) (bytes : List ℕ) (s : NextCell C E) → IsSeen f seen → ((after : List ℕ) → IsBytes after → length after < n → (contents f after).end ≡ f.none → AreCells (seen_in f seen) after)
+    → length bytes < suc n → IsNext f bytes s → (on_next (contents f) s).end ≡ f.none → HasCells (seen_in f seen) bytes (map seen (on_next (contents f) s).cells)
+are_by f seen n bytes (More c after) is ih lt next bare =
+    let some = next.1.some in
+    let wide = is.wide c in
+    let four = is.four c in
+    let len = ap length next.0.parts ∙ length-append (f.cell c) after in
+    let left : after ≡ drop (seen c).width bytes = sym (ap (drop (seen c).width) next.0.parts ∙ drop_at (f.cell c) after (seen c).width (sym wide)) in (
+      omega (arith, four, wide),
+      omega (arith, len, wide),
+      sym (ap (seen_in f seen) left),
+      subst (λ (b : List ℕ). HasCells (seen_in f seen) b (seen_in f seen after)) left (ih after next.0.rest_fits (omega (arith, len, some)) bare),
+    )
+are_by f seen n bytes (NoMore e) is ih lt next bare = next.0 ∙ ap f.end_bytes bare ∙ is.none
+
+are_within : {C E : Type 0} (f : Format C E) (seen : C → Cell) (n : ℕ) (bytes : List ℕ) → IsSeen f seen → IsBytes bytes → length bytes < n → (contents f bytes).end ≡ f.none → AreCells (seen_in f seen) bytes
+are_within f seen zero bytes is fit lt bare = absurd (omega arith)
+are_within {C = C} {E = E} f seen (suc n) bytes is fit lt bare =
+    let all = contents_next f bytes (f.next bytes) is.format fit refl in
+    subst (λ (k : Contents C E). HasCells (seen_in f seen) bytes (map seen k.cells)) (sym all)
+    (are_by f seen n bytes (f.next bytes) is (λ after after_fit an end. are_within f seen n after is after_fit an end) lt (is.format bytes fit) (sym (ap (λ (k : Contents C E). k.end) all) ∙ bare))
+
+-- bytes after whose cells nothing is left are those cells
+pub are_cells : {C E : Type 0} (f : Format C E) (seen : C → Cell) (bytes : List ℕ) → IsSeen f seen → IsBytes bytes → (contents f bytes).end ≡ f.none → AreCells (seen_in f seen) bytes
+are_cells f seen bytes is fit bare = are_within f seen (suc (length bytes)) bytes is fit (omega arith) bare

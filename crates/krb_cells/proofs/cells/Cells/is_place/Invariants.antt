@@ -1,0 +1,10 @@
+use Rattle.std.proofs.Common.{◌≡◌, length}
+use Rattle.krb_walk.specs.Store.{is_place}
+use Rattle.krb_cells.proofs.cells.Cells.is_place.Given as goal
+
+-- what is asked of the rest is asked of all
+abbrev pub invariant-loop-rest : goal.invariant-loop-rest
+invariant-loop-rest g l = is_place l.rest l.place ≡ is_place l.fn.self l.place
+
+abbrev pub decreases-loop-rest : goal.decreases-loop-rest
+decreases-loop-rest g l = length l.rest.cells

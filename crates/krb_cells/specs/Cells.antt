@@ -1,0 +1,29 @@
+-- A store of the cells that stand in bytes.
+use Rattle.std.specs.Prelude.{◌≡◌, ℕ, ◌+◌, ◌≤◌, ◌^◌, List, [], ◌∷◌, length, Option, Some, None}
+use Rattle.krb_walk.specs.Store.{Cell, Store, live_bytes, stop_at}
+use Rattle.krb_cells.specs.declared.front.CellView.{CellView}
+use Rattle.krb_cells.specs.Front.{AreCells, cell_of}
+
+-- bytes that are their cells, of which the first has that place
+pub record HoldsCells (cells : List ℕ → List Cell) (place : ℕ) (bytes : List ℕ) : Type 0 where
+  pub are : AreCells cells bytes
+  pub small : place + length bytes ≤ 2 ^ 30
+
+-- the first cell with its place, and the cells after it
+pub record BeginsWith (old : Store) (at : ℕ) (c : Cell) (new : Store) : Type 0 where
+  pub place : at ≡ old.first
+  pub cells : old.cells ≡ c ∷ new.cells
+  pub next : new.first ≡ at + c.width
+  pub fault : new.fault ≡ old.fault
+  pub small : new.first ≤ 2 ^ 30
+
+-- that cell, or none where none is left
+abbrev pub GivesCell : Store → Option (ℕ × CellView) → Store → Type 0
+GivesCell old None new = (old.cells ≡ []) × (new ≡ old)
+GivesCell old (Some x) new = BeginsWith old x.0 (cell_of x.1) new
+
+-- the cells from a place on: what is asked of that place is asked of all
+pub record IsFrom (all : Store) (place : ℕ) (rest : Store) : Type 0 where
+  pub first : rest.first ≡ place
+  pub stop : stop_at rest place ≡ stop_at all place
+  pub bytes : live_bytes rest place ≡ live_bytes all place

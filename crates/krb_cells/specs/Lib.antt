@@ -1,0 +1,4 @@
+-- What the contracts of this crate say.
+pub mod Front
+pub mod Cells
+pub mod Carry
