@@ -6,7 +6,7 @@ use Rattle.krb_wire.specs.Spelling.{Parts}
 use Rattle.krb_wire.proofs.Fields.{IsBytes, IsBytes-drop, IsBytes-take}
 use Rattle.krb_walk.specs.Contents.{Contents}
 use Rattle.krb_walk.specs.declared.fault.FaultKind.{FaultKind}
-use Rattle.krb_walk.specs.Carry.{whole}
+use Rattle.krb_cells.specs.Carry.{whole}
 use Rattle.krb_cells.specs.Front.{AreCells, seen_in}
 use Rattle.krb_cells.specs.Carry.{store_in}
 use Rattle.krb_ccache.specs.declared.version.Version.{Version}

@@ -1,3 +1,5 @@
 pub mod Cuts
+pub mod CursorLemmas
 pub mod Formats
-pub mod Left
+pub mod Given
+pub mod NewPlaces

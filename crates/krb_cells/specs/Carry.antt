@@ -1,13 +1,64 @@
--- Cursors of a store in an image that is replaced.
-use Rattle.std.specs.Prelude.{ℕ, ◌-◌, ◌≤◌, List, length, take, drop, None}
-use Rattle.krb_walk.specs.Store.{Cell, Store}
-use Rattle.krb_cells.specs.Front.{AreCells}
+-- Where a rewrite carries the cursors of a store in an image that is replaced.
+use Rattle.std.specs.Prelude.{◌≡◌, ◌≢◌, ℕ, ◌+◌, ◌-◌, ◌^◌, ◌<◌, ◌≤◌, List, [], ◌∷◌, length, take, drop, Bool, true, false, None, nat_le, is_some, if◌then◌else◌}
+use Rattle.std.specs.Int.{w32}
+use Rattle.krb_wire.specs.declared.format.Order.TheVariants.{Big}
+use Rattle.krb_wire.specs.Spelling.{digits}
+use Rattle.krb_walk.specs.Store.{Cell, Store, end_from, is_place_from}
+
+-- cells from a place on, and nothing wrong after them
+abbrev pub whole : ℕ → List Cell → Store
+whole first cells = record { first = first; cells = cells; fault = None }
+
+-- the bytes between two places
+abbrev pub between : ℕ → ℕ → List ℕ → List ℕ
+between first end bytes = take (end - first) (drop first bytes)
 
 -- the store of the cells that stand between two places
 abbrev pub store_in : (List ℕ → List Cell) → List ℕ → ℕ → ℕ → Store
-store_in cells image first end = record { first = first; cells = cells (take (end - first) (drop first image)); fault = None }
+store_in cells image first end = whole first (cells (between first end image))
 
--- of the bytes from a place on, so many are cells
-pub record LeftCells (cells : List ℕ → List Cell) (left : ℕ) (bytes : List ℕ) : Type 0 where
-  pub within : left ≤ length bytes
-  pub are : AreCells cells (take left bytes)
+-- ---- for private contracts alone
+
+-- how wide what is written anew for a cell is: the first new cell, if the old one is live
+abbrev pub width_anew : Bool → List Cell → ℕ
+width_anew false ds = 0
+width_anew true [] = 0
+width_anew true (d ∷ ds) = d.width
+
+-- the new cells after it
+abbrev pub after_anew : Bool → List Cell → List Cell
+after_anew false ds = ds
+after_anew true [] = []
+after_anew true (d ∷ ds) = ds
+
+-- the cell at the front of some bytes is passed, and with it what is written anew for it
+pub record Passes (cells : List ℕ → List Cell) (bytes : List ℕ) (old : Store) (width : ℕ) (new : Store) : Type 0 where
+  pub cell : Cell
+  pub is_width : width ≡ cell.width
+  pub parts : cells bytes ≡ cell ∷ cells (drop cell.width bytes)
+  pub first : new.first ≡ old.first + width_anew (is_some cell.live) old.cells
+  pub left : new.cells ≡ after_anew (is_some cell.live) old.cells
+
+-- the cells from at on are written anew as those from to on, one for each that is live: where the place p goes
+abbrev pub new_place : ℕ → List Cell → ℕ → List Cell → ℕ → ℕ
+new_place at [] to ds p = to
+new_place at (c ∷ cs) to ds p = if nat_le p at then to else new_place (at + c.width) cs (to + width_anew (is_some c.live) ds) (after_anew (is_some c.live) ds) p
+
+-- the four bytes at a place tell a number
+pub record Tells (image : List ℕ) (p n : ℕ) : Type 0 where
+  pub within : p + 4 ≤ length image
+  pub bytes : take 4 (drop p image) ≡ digits Big w32 n
+
+-- at the place of each cell they tell where it goes
+abbrev pub AreGiven : List ℕ → ℕ → List Cell → ℕ → List Cell → Type 0
+AreGiven image at cs to ds = (p : ℕ) → is_place_from at cs p ≡ true → p < end_from at cs → Tells image p (new_place at cs to ds p)
+
+-- four bytes stand at a place that is not the end
+abbrev pub HasGiven : List ℕ → ℕ → ℕ → Type 0
+HasGiven image end p = p ≢ end → p + 4 ≤ length image
+
+-- they tell where it goes, and the end goes to the last place
+pub record GoesBy (image : List ℕ) (end last : ℕ) (go : ℕ → ℕ) (p : ℕ) : Type 0 where
+  pub small : go p < 2 ^ 32
+  pub ends : p ≡ end → last ≡ go p
+  pub told : p ≢ end → Tells image p (go p)

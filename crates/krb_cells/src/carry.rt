@@ -1,64 +1,91 @@
-//! Cursors of a store that is written anew.
+//! Where the cursors of a store go when it is written anew.
+//!
+//! The old image is no longer needed then. So each of its cells is given, in its first four bytes, the place
+//! that it goes to, and each cursor reads it there: one pass over the cells, one look for each cursor, and no
+//! memory.
 
-ghost use Rattle.std.specs.Prelude.{◌≡◌, ◌≤◌, ◌-◌, ◌+◌, length, take, drop, map, is_some};
+ghost use Rattle.std.specs.Prelude.{◌≡◌, ◌≤◌, ◌<◌, ◌^◌, ◌-◌, ◌+◌, ℕ, [], length, take, drop, map, IfSome, IfNone};
 ghost use Rattle.std.specs.List.{AllByRecursion};
-ghost use Rattle.krb_walk.specs.Store.{IsPlace};
+ghost use Rattle.krb_walk.specs.Store.{IsPlace, end_of, end_from};
 ghost use Rattle.krb_walk.specs.Ranks.{carry as carry_of, Rewrites};
-ghost use Rattle.krb_walk.specs.Carry.{width_anew, after_anew};
-ghost use Rattle.krb_cells.specs.Front.{AreCells, cell_of};
-ghost use Rattle.krb_cells.specs.Carry.{store_in};
+ghost use Rattle.krb_cells.specs.Front.{AreCells};
+ghost use Rattle.krb_cells.specs.Carry.{between, store_in, new_place, Passes, AreGiven, HasGiven, GoesBy};
 
 use crate::cells::Cells;
-use crate::front::{CellView, Front};
-use krb_walk::{Widths, carry_cursors};
+use crate::front::Front;
+use krb_wire::{Order, put_u32, split_u32, tail};
 
-// The cells that are left of an image that is replaced, and those that replace them.
-#[derive(Drop)]
-struct OldCells<'a, F: Front, G: Front> {
+// The bytes between two places.
+fn part(bytes: &[u8], first: usize, end: usize) -> &[u8]
+    requires ahead { first ≤ end }
+    requires within { end ≤ length bytes.now }
+    ensures { result.now ≡ between first end bytes.now }
+{
+    &bytes[first..end]
+}
+
+// Passes the cell at the front of some bytes, and the new one that is written for it, if it is live. The answer is
+// the width of the old one.
+fn pass<F: Front, G: Front>(front: F, bytes: &[u8], new: &mut Cells<'_, G>) -> Option<usize>
+    requires { AreCells (F.cells front) bytes.now }
+    ensures some { IfSome result (λ w. Passes (F.cells front) bytes.now new.old w new.new) }
+    ensures none { IfNone result (F.cells front bytes.now ≡ []) }
+    ensures same { IfNone result (new.new ≡ new.old) }
+{
+    let cell = front.first(bytes)?;
+    if cell.live.is_some() {
+        let _ = new.next();
+    }
+    Some(cell.width)
+}
+
+// Gives each cell between two places the place that it goes to. The answer is where their end goes.
+fn give_places<F: Front, G: Front>(
     front: F,
-    left: usize,
-    new: Cells<'a, G>,
-}
-
-// Passes what is written anew for a cell, and tells how wide it is.
-fn pass<G: Front>(cell: CellView<'_>, new: &mut Cells<'_, G>) -> usize
-    ensures width { result ≡ width_anew (is_some (cell_of cell.entry).live) new.old.cells }
-    ensures left { new.new.cells ≡ after_anew (is_some (cell_of cell.entry).live) new.old.cells }
+    image: &mut [u8],
+    first: usize,
+    end: usize,
+    new: Cells<'_, G>,
+) -> u32
+    requires ahead { first ≤ end }
+    requires within { end ≤ length image.old }
+    requires cells { AreCells (F.cells front) (between first end image.old) }
+    ensures given { AreGiven image.new first (F.cells front (between first end image.old)) new.entry.first new.entry.cells }
+    ensures end { end ≡ end_from first (F.cells front (between first end image.old)) }
+    ensures last { result ≡ new_place first (F.cells front (between first end image.old)) new.entry.first new.entry.cells end }
 {
-    if cell.live.is_none() {
-        return 0;
+    let mut new = new;
+    let mut at = first;
+    let mut to = new.first();
+    'cells: while let Some(width) = pass(front, part(image, at, end), &mut new) {
+        let _ = put_u32(Order::Big, to, image, at);
+        at += width;
+        to = new.first();
     }
-    match new.next() {
-        Some((_, cell)) => cell.width,
-        None => 0,
-    }
+    to
 }
 
-// So many bytes from a place on.
-fn part(image: &[u8], place: usize, len: usize) -> &[u8]
-    requires within { place ≤ length image.now }
-    requires room { len ≤ length (drop place image.now) }
-    ensures { result.now ≡ take len (drop place image.now) }
+// Where a place goes: what its cell was given, or where the end goes.
+fn place_given(image: &[u8], end: usize, last: u32, place: u32) -> u32
+    requires { HasGiven image.now end place }
+    ensures { (go : ℕ → ℕ) → GoesBy image.now end last go place → result ≡ go place }
 {
-    let (_, rest) = image.split_at(place);
-    rest.split_at(len).0
+    if place as usize == end {
+        return last;
+    }
+    match split_u32(Order::Big, tail(image, place as usize)) {
+        Some((given, _)) => given,
+        None => last,
+    }
 }
 
-impl<F: Front, G: Front> Widths for OldCells<'_, F, G> {
-    ghost use Rattle.std.specs.Prelude.{take};
-    ghost use Rattle.krb_cells.specs.Carry.{LeftCells};
-
-    ghost known = { λ s _ bytes. LeftCells (F.cells s.front) s.left bytes };
-
-    ghost cells = { λ s bytes. F.cells s.front (take s.left bytes) };
-
-    ghost anew = { λ s _. s.new.cells };
-
-    fn next(&mut self, image: &[u8], place: usize) -> Option<(usize, usize)> {
-        let cell = self.front.first(part(image, place, self.left))?;
-        self.left -= cell.width;
-        let anew = pass(cell, &mut self.new);
-        Some((cell.width, anew))
+// Carries cursors to the places that they were given.
+fn carry_all(image: &[u8], end: usize, last: u32, cursors: &mut [u32])
+    requires { AllByRecursion (HasGiven image.now end) cursors.old }
+    ensures { (go : ℕ → ℕ) → AllByRecursion (GoesBy image.now end last go) cursors.old → cursors.new ≡ map go cursors.old }
+{
+    for cursor in cursors.iter_mut() {
+        *cursor = place_given(image, end, last, *cursor);
     }
 }
 
@@ -79,12 +106,7 @@ pub fn carry_to<F: Front, G: Front>(
     requires places { AllByRecursion (IsPlace (store_in (F.cells front) image.old first end)) cursors.old }
     ensures { cursors.new ≡ map (carry_of (store_in (F.cells front) image.old first end) new.entry) cursors.old }
 {
-    let to = new.first() as usize;
     let _ = new.end();
-    let mut old = OldCells {
-        front,
-        left: end - first,
-        new,
-    };
-    carry_cursors(&mut old, image, first, to, cursors);
+    let last = give_places(front, image, first, end, new);
+    carry_all(image, end, last, cursors);
 }

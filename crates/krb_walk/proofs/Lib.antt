@@ -12,9 +12,6 @@ pub mod Histories
 pub mod RowsAt
 pub mod Lives
 pub mod Carries
-pub mod Given
-pub mod CursorLemmas
-pub mod NewPlaces
 pub mod Names
 pub mod StepRows
 pub mod Ranked

@@ -14,7 +14,6 @@ pub mod Store
 pub mod Stops
 pub mod Contents
 pub mod Ranks
-pub mod Carry
 pub mod Rules
 pub mod Said
 pub mod Changes

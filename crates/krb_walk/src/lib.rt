@@ -1,7 +1,6 @@
 //! Stores of cells, and sessions in which a store is walked while it is changed.
 #![tactic(auto)]
 
-mod carry;
 mod event;
 mod fault;
 pub mod laws;
@@ -9,13 +8,10 @@ mod placed;
 mod refusal;
 mod session;
 mod stop;
-mod widths;
 
-pub use carry::carry_cursors;
 pub use event::{Event, Reply};
 pub use fault::{Fault, FaultKind};
 pub use placed::Placed;
 pub use refusal::{Code, Refusal};
 pub use session::Session;
 pub use stop::Stop;
-pub use widths::Widths;

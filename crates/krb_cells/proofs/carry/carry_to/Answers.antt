@@ -1,12 +1,18 @@
-use Rattle.std.proofs.Common.{◌-◌, take, drop, refl, arith}
-use Rattle.krb_walk.proofs.NewPlaces.{replaces}
-use Rattle.krb_cells.specs.Carry.{store_in}
+use Rattle.std.proofs.Common.{List, ℕ, arith}
+use Rattle.krb_cells.specs.Carry.{between}
 use Rattle.krb_cells.proofs.Cuts.{sound_by}
+use Rattle.krb_cells.proofs.NewPlaces.{have_given, all_go}
 use Rattle.krb_cells.proofs.carry.carry_to.Goals as goal
 
-pub carry_cursors-requires-clause-replaces : goal.carry_cursors-requires-clause-replaces
-carry_cursors-requires-clause-replaces g c =
-    let a = c.args in
-    let bytes = take (a.end - a.first) (drop a.first a.image.now) in
-    replaces (store_in (g.F.Front.cells a.front) a.image.now a.first a.end) a.new a.first c.first-to.result _ _ a.cursors.now refl refl c.first-to.ensures.first refl (sound_by (g.F.Front.cells a.front) bytes _ c.requires.cells) c.requires.rewrites
-    (omega (arith, c.end.ensures.end, c.end.ensures.small)) c.requires.places
+pub carry_all-requires : goal.carry_all-requires
+carry_all-requires g c =
+    let e = c.give_places-last.ensures in
+    have_given c.give_places-last.new.image (g.F.Front.cells c.args.front (between c.args.first c.args.end c.args.image.now)) c.args.new c.args.first c.args.end c.args.cursors.now e.given e.end c.requires.places
+
+pub returns : goal.returns
+returns g c =
+    let e = c.give_places-last.ensures in
+    let bytes : List ℕ = between c.args.first c.args.end c.args.image.now in
+    let cs = g.F.Front.cells c.args.front bytes in
+    c.carry_all.ensures _ (all_go c.give_places-last.new.image cs c.args.new c.args.first c.args.end c.give_places-last.result c.args.cursors.now e.given e.end e.last (omega (arith, c.end.ensures.end, c.end.ensures.small))
+    (sound_by (g.F.Front.cells c.args.front) bytes cs c.requires.cells) c.requires.rewrites c.requires.places)

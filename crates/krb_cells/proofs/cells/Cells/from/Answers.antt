@@ -1,7 +1,5 @@
-use Rattle.std.proofs.Common.{◌≡◌, ℕ, List, drop, length, ◌-◌, ◌≤◌, sym, ap, subst, arith}
-use Rattle.krb_walk.specs.Store.{Store}
-use Rattle.krb_cells.specs.Cells.{HoldsCells, IsFrom}
-use Rattle.krb_cells.proofs.Cuts.{CutAt, cut_held, holds_from, is_from}
+use Rattle.std.proofs.Common.{arith}
+use Rattle.krb_cells.proofs.Cuts.{cut_held, holds_from, is_from}
 use Rattle.krb_cells.proofs.cells.Cells.from.Goals as goal
 
 pub overflow_sub-place : goal.overflow_sub-place

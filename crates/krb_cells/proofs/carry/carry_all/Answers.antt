@@ -1,8 +1,8 @@
 use Rattle.std.proofs.Common.{◌<◌, length, sym, subst, ◌∙◌, ap, arith}
 use Rattle.std.proofs.lemmas.List.{length-set}
-use Rattle.krb_walk.specs.Carry.{GoesBy}
-use Rattle.krb_walk.proofs.CursorLemmas.{all_at, same_at, carried_more, behind_more}
-use Rattle.krb_walk.proofs.carry.carry_all.Goals as goal
+use Rattle.krb_cells.specs.Carry.{GoesBy}
+use Rattle.krb_cells.proofs.CursorLemmas.{all_at, same_at, carried_more, behind_more}
+use Rattle.krb_cells.proofs.carry.carry_all.Goals as goal
 
 pub loop-cursor-preserved : goal.loop-cursor-preserved
 loop-cursor-preserved c =

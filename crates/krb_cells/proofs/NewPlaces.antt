@@ -1,17 +1,17 @@
 -- Where a place goes, told cell by cell, is where a rewrite carries it.
-use Rattle.std.proofs.Common.{◌≡◌, ◌≢◌, ℕ, ◌+◌, ◌^◌, ◌<◌, ◌≤◌, Bool, true, false, cond, List, [], ◌∷◌, length, map, Option, Some, None, inl, inr, refl, sym, ap, subst, ◌∙◌, arith}
+use Rattle.std.proofs.Common.{◌≡◌, ◌≢◌, ℕ, ◌+◌, ◌^◌, ◌<◌, ◌≤◌, Bool, true, false, cond, List, [], ◌∷◌, length, Option, Some, None, inl, inr, refl, sym, ap, subst, ◌∙◌, arith}
 use Rattle.std.specs.Prelude.{nat_le, is_some}
 use Rattle.std.specs.List.{AllByRecursion}
 use Rattle.std.proofs.lemmas.Bool.{cases_lt}
 use Rattle.std.proofs.lemmas.Bool.Decides.{nat_tests}
-use Rattle.krb_walk.specs.Store.{Cell, Store, end_from, end_of, is_place_from, IsPlace, IsSound}
+use Rattle.krb_walk.specs.Store.{Cell, Store, end_from, end_of, is_place_from, IsPlace}
 use Rattle.krb_walk.specs.Ranks.{nth_or, carry, Rewrites}
-use Rattle.krb_walk.specs.Carry.{whole, Replaces, width_anew, after_anew, new_place, Tells, AreGiven, HasGiven, GoesBy}
+use Rattle.krb_cells.specs.Carry.{whole, width_anew, after_anew, new_place, Tells, AreGiven, HasGiven, GoesBy}
 use Rattle.krb_walk.proofs.Stops.{end_from-ge}
 use Rattle.krb_walk.proofs.Lives.{lives}
 use Rattle.krb_walk.proofs.Places.{place_in}
 use Rattle.krb_walk.proofs.Carries.{lives_rise, below, below_none, below_some}
-use Rattle.krb_walk.proofs.Given.{end_after}
+use Rattle.krb_cells.proofs.Given.{end_after}
 
 -- told by the ranks of live cells
 abbrev by_rank : ℕ → List Cell → ℕ → List Cell → ℕ → ℕ
@@ -65,8 +65,8 @@ goes_to [] at p sound to ds live many = sym (first_of to ds live)
 goes_to (c ∷ cs) at p sound to ds live many = goes_by cs ds c at to p (by_rank at (c ∷ cs) to ds p) (λ le. at_or_after (c ∷ cs) ds at to p sound live le)
     (λ lt. after_cell cs ds at c.width to p c.live lt live many (goes_to cs (at + c.width) p sound.1))
 
-carry_is : (cs ds : List Cell) (first to p : ℕ) → IsSound (whole first cs) → Rewrites (whole first cs) (whole to ds) → new_place first cs to ds p ≡ carry (whole first cs) (whole to ds) p
-carry_is cs ds first to p sound r = goes_to cs first p sound to ds r.all_live r.as_many
+carry_is : (cs : List Cell) (new : Store) (first p : ℕ) → AreSound cs → Rewrites (whole first cs) new → new_place first cs new.first new.cells p ≡ carry (whole first cs) new p
+carry_is cs new first p sound r = goes_to cs first p sound new.first new.cells r.all_live r.as_many
 
 one_of : (b : Bool) (m n end : ℕ) → m ≤ end → n ≤ end → cond b m n ≤ end
 one_of true m n end x y = x
@@ -88,38 +88,21 @@ place_before at cs p end h is ne = elim (cases_lt p end) [
 ]
 
 -- each cursor was given a place
-pub have_given : (image : List ℕ) (cs ds : List Cell) (at to end : ℕ) (cursors : List ℕ) → AreGiven image at cs to ds → end ≡ end_from at cs → AllByRecursion (IsPlace (whole at cs)) cursors → AllByRecursion (HasGiven image end) cursors
-have_given image cs ds at to end [] given is h = tt
-have_given image cs ds at to end (p ∷ ps) given is h = (λ ne. (given p h.0 (let lt = place_before at cs p end h.0 is ne in omega (arith, lt, is))).within, have_given image cs ds at to end ps given is h.1)
+pub have_given : (image : List ℕ) (cs : List Cell) (new : Store) (first end : ℕ) (cursors : List ℕ) → AreGiven image first cs new.first new.cells → end ≡ end_from first cs → AllByRecursion (IsPlace (whole first cs)) cursors → AllByRecursion (HasGiven image end) cursors
+have_given image cs new first end [] given is h = tt
+have_given image cs new first end (p ∷ ps) given is h =
+    (λ ne. (given p h.0 (let lt = place_before first cs p end h.0 is ne in omega (arith, lt, is))).within, have_given image cs new first end ps given is h.1)
 
 -- and goes where it is carried
-pub all_go : (image : List ℕ) (cs ds : List Cell) (at to end last : ℕ) (cursors : List ℕ) → AreGiven image at cs to ds → end ≡ end_from at cs → last ≡ new_place at cs to ds end → end_from to ds < 2 ^ 32
-    → IsSound (whole at cs) → Rewrites (whole at cs) (whole to ds)
-    → AllByRecursion (IsPlace (whole at cs)) cursors → AllByRecursion (GoesBy image end last (carry (whole at cs) (whole to ds))) cursors
-all_go image cs ds at to end last [] given is is_last small sound rewrites h = tt
-all_go image cs ds at to end last (p ∷ ps) given is is_last small sound rewrites h =
-    let carries = carry_is cs ds at to p sound rewrites in (
+pub all_go : (image : List ℕ) (cs : List Cell) (new : Store) (first end last : ℕ) (cursors : List ℕ) → AreGiven image first cs new.first new.cells → end ≡ end_from first cs → last ≡ new_place first cs new.first new.cells end → end_of new ≤ 2 ^ 30
+    → AreSound cs → Rewrites (whole first cs) new → AllByRecursion (IsPlace (whole first cs)) cursors → AllByRecursion (GoesBy image end last (carry (whole first cs) new)) cursors
+all_go image cs new first end last [] given is is_last small sound rewrites h = tt
+all_go image cs new first end last (p ∷ ps) given is is_last small sound rewrites h =
+    let carries = carry_is cs new first p sound rewrites in (
       record {
-        small = omega (arith, goes_within cs ds at to p, carries, small);
-        ends = λ e. is_last ∙ ap (new_place at cs to ds) (sym e) ∙ carries;
-        told = λ ne. subst (Tells image p) carries (given p h.0 (let lt = place_before at cs p end h.0 is ne in omega (arith, lt, is)));
+        small = omega (arith, goes_within cs new.cells first new.first p, carries, small);
+        ends = λ e. is_last ∙ ap (new_place first cs new.first new.cells) (sym e) ∙ carries;
+        told = λ ne. subst (Tells image p) carries (given p h.0 (let lt = place_before first cs p end h.0 is ne in omega (arith, lt, is)));
       },
-      all_go image cs ds at to end last ps given is is_last small sound rewrites h.1,
+      all_go image cs new first end last ps given is is_last small sound rewrites h.1,
     )
-
--- ---- the stores of two images
-
--- the cells of a store, and those of the one that it is rewritten to
-pub replaces : (old new : Store) (first to : ℕ) (cs ds : List Cell) (cursors : List ℕ) → first ≡ old.first → cs ≡ old.cells → to ≡ new.first → ds ≡ new.cells → IsSound old → Rewrites old new → end_of new < 2 ^ 32 → AllByRecursion (IsPlace old) cursors → Replaces first cs to ds cursors
-replaces old new first to cs ds cursors is_first is_cs is_to is_ds sound r small places = rw (is_first, is_cs, is_to, is_ds) (
-    record {
-      sound = sound;
-      rewrites = record { whole = refl; fault = refl; sound = r.sound; all_live = r.all_live; as_many = r.as_many };
-      small = small;
-      places = places;
-    }
-    )
-
--- what is carried from the one to the other
-pub carries : (old new : Store) (first to : ℕ) (cs ds : List Cell) (cursors : List ℕ) → first ≡ old.first → cs ≡ old.cells → to ≡ new.first → ds ≡ new.cells → map (carry (whole first cs) (whole to ds)) cursors ≡ map (carry old new) cursors
-carries old new first to cs ds cursors is_first is_cs is_to is_ds = rw (is_first, is_cs, is_to, is_ds) refl

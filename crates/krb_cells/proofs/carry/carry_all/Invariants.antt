@@ -1,7 +1,7 @@
 use Rattle.std.proofs.Common.{◌≡◌, ℕ, length, take, drop, map}
 use Rattle.std.specs.List.{AllByRecursion}
-use Rattle.krb_walk.specs.Carry.{GoesBy}
-use Rattle.krb_walk.proofs.carry.carry_all.Given as goal
+use Rattle.krb_cells.specs.Carry.{GoesBy}
+use Rattle.krb_cells.proofs.carry.carry_all.Given as goal
 
 abbrev pub invariant-loop-cursor : goal.invariant-loop-cursor
 invariant-loop-cursor l = record {
