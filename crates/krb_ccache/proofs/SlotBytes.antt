@@ -8,7 +8,7 @@ use Rattle.krb_wire.proofs.Fields.{IsBytes}
 use Rattle.krb_walk.specs.Contents.{Contents, contents, spelling, IsCell, IsSound}
 use Rattle.krb_walk.proofs.ContentsLemmas.{contents_spelled, contents_again}
 use Rattle.krb_ccache.specs.declared.version.Version.{Version}
-use Rattle.krb_ccache.specs.declared.slot.Slot.{Slot}
+use Rattle.krb_ccache.specs.declared.setting.slot.Slot.{Slot}
 use Rattle.krb_ccache.specs.Credential.{CredParts, credential, credential_at, FitsCredential}
 use Rattle.krb_ccache.specs.Store.{PlacedCredential, credentials_format}
 use Rattle.krb_ccache.specs.Config.{is_asked}

@@ -5,7 +5,7 @@ use Rattle.std.specs.List.{flat_map}
 use Rattle.krb_wire.specs.Spelling.{Parts}
 use Rattle.krb_wire.proofs.Fields.{IsBytes}
 use Rattle.krb_ccache.specs.declared.open.Head.{Head}
-use Rattle.krb_ccache.specs.declared.slot.Slot.{Slot}
+use Rattle.krb_ccache.specs.declared.setting.slot.Slot.{Slot}
 use Rattle.krb_ccache.specs.Credential.{CredParts, credential}
 use Rattle.krb_ccache.specs.Store.{first_place, credential_at_place}
 use Rattle.krb_ccache.specs.Changes.{marked, marked_at, with_mark}

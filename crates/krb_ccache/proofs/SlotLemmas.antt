@@ -9,7 +9,7 @@ use Rattle.std.proofs.lemmas.List.Concat.{flat_map-cons}
 use Rattle.krb_wire.specs.Spelling.{Parts}
 use Rattle.krb_wire.specs.SameName.{have_same_name}
 use Rattle.krb_ccache.specs.declared.version.Version.{Version}
-use Rattle.krb_ccache.specs.declared.slot.Slot.{Slot}
+use Rattle.krb_ccache.specs.declared.setting.slot.Slot.{Slot}
 use Rattle.krb_ccache.specs.Credential.{CredParts, credential, is_marked}
 use Rattle.krb_ccache.specs.Store.{PlacedCredential, placed_from, is_live}
 use Rattle.krb_ccache.specs.Config.{ConfigParts, config_name, is_config, is_asked, is_under}

@@ -3,7 +3,7 @@ use Rattle.std.proofs.Common.{◌≡◌, ℕ, ◌+◌, ◌<◌, Bool, true, fals
 use Rattle.std.specs.List.{flat_map}
 use Rattle.std.proofs.lemmas.List.{length-map}
 use Rattle.krb_ccache.specs.declared.version.Version.{Version}
-use Rattle.krb_ccache.specs.declared.slot.Slot.{Slot}
+use Rattle.krb_ccache.specs.declared.setting.slot.Slot.{Slot}
 use Rattle.krb_ccache.specs.Credential.{CredParts, credential}
 use Rattle.krb_ccache.specs.Store.{PlacedCredential}
 use Rattle.krb_ccache.specs.Changes.{marked, marked_at}

@@ -11,6 +11,12 @@ pub record ConfigParts : Type 0 where
   pub key : List ℕ
   pub principal : Option (List ℕ)
 
+-- what entries are looked for by: their owner, and what they hold their value under
+pub record QueryParts : Type 0 where
+  pub owner : Parts
+  pub key : List ℕ
+  pub text : Option (List ℕ)
+
 -- the components after the first: one, or two
 abbrev pub config_under : List (List ℕ) → Option ConfigParts
 config_under [] = None

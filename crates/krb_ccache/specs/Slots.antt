@@ -4,7 +4,7 @@ use Rattle.std.specs.List.{flat_map, AllByRecursion}
 use Rattle.krb_wire.specs.Spelling.{Parts}
 use Rattle.krb_walk.specs.Contents.{contents}
 use Rattle.krb_ccache.specs.declared.version.Version.{Version}
-use Rattle.krb_ccache.specs.declared.slot.Slot.{Slot}
+use Rattle.krb_ccache.specs.declared.setting.slot.Slot.{Slot}
 use Rattle.krb_ccache.specs.Credential.{CredParts, credential}
 use Rattle.krb_ccache.specs.Store.{PlacedCredential, credentials_format, placed_from, is_live}
 use Rattle.krb_ccache.specs.Config.{ConfigParts, config_name, is_config, is_asked}

@@ -12,7 +12,7 @@ use crate::cred::Cred;
 use crate::open::{Head, Places};
 use std::alloc::{AllocError, Allocator};
 
-/// Gives an image so many bytes more.
+/// Grows an image by `more` bytes.
 pub fn grow<A: Allocator>(image: &mut Vec<u8, A>, more: usize) -> Result<(), AllocError>
     requires { vec_len image.old + more ≤ 2 ^ 30 }
     ensures ok { OnOk result (image.new.items ≡ image.old.items ++ replicate more 0) }
@@ -54,13 +54,9 @@ pub fn append_credential<A: Allocator, B: Allocator>(
     grow(image, len)?;
     put_into(image, end, cred);
     bytes_fit(image);
-    Ok(Head {
-        version: head.version,
-        limit: head.limit,
-        places: Places {
-            principal: head.places.principal,
-            first: head.places.first,
-            end: end + len,
-        },
-    })
+    let places = Places {
+        end: end + len,
+        ..head.places
+    };
+    Ok(Head { places, ..head })
 }

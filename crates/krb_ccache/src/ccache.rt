@@ -3,6 +3,7 @@
 mod changes;
 mod rewriting;
 mod settings;
+mod view;
 
 ghost use Rattle.std.specs.Prelude.{◌≡◌, IsSome, IfOk, IfErr, IfSome, IfNone, Ok, Err, Some, None, option_copied, vec_capacity};
 ghost use Rattle.krb_wire.specs.Reading.{Gives};
@@ -14,13 +15,13 @@ ghost use Rattle.krb_ccache.specs.Config.{config_of};
 ghost use Rattle.krb_ccache.specs.Laws.{AreBytes};
 ghost use Rattle.krb_ccache.specs.Open.{InMemory, Reopens};
 
-use crate::config::is_asked;
+use crate::ccache::view::CacheView;
 use crate::credential::CredView;
 use crate::credentials::Credentials;
 use crate::offset::Offset;
 use crate::open::{CcOpenRefused, Head, read_head, spelled_of};
-use crate::slot::Slot;
-use crate::view::CacheView;
+use crate::setting::query::Query;
+use crate::setting::slot::Slot;
 use krb_walk::{Fault, Stop};
 use krb_wire::{Limits, PrincipalView};
 use std::alloc::Allocator;
@@ -197,8 +198,13 @@ impl<A: Allocator> Ccache<A> {
         ensures { option_copied result ≡ config_of self.now.state key.now (option_copied principal.entry) }
     {
         let owner = self.default_principal();
+        let query = Query {
+            owner: &owner,
+            key,
+            principal,
+        };
         for (_, credential) in self.credentials() {
-            if is_asked(&owner, key, principal, &credential) {
+            if query.asks_for(&credential) {
                 return Some(credential.ticket());
             }
         }

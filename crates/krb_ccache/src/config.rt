@@ -1,11 +1,11 @@
 //! Configuration entries: credentials that hold a value under a key.
 
-ghost use Rattle.std.specs.Prelude.{◌≡◌, is_some, option_map, option_copied};
-ghost use Rattle.krb_ccache.specs.Config.{ConfigParts, config_name, is_config, is_asked, same_text};
+ghost use Rattle.std.specs.Prelude.{◌≡◌, is_some, option_map};
+ghost use Rattle.krb_ccache.specs.Config.{config_name, is_config};
 ghost use Rattle.krb_ccache.specs.Typed.{config_parts};
 
 use crate::credential::CredView;
-use krb_wire::{Name, PrincipalView, same_name};
+use krb_wire::Name;
 
 /// The realm of the server of each configuration entry.
 pub const REALM: &[u8] = b"X-CACHECONF:";
@@ -60,30 +60,4 @@ pub fn is_config(credential: &CredView<'_>) -> bool
     ensures { result ≡ is_config credential.now }
 {
     config_name(credential).is_some()
-}
-
-// Whether two texts are the same, or neither is there.
-fn same_text(one: Option<&[u8]>, other: Option<&[u8]>) -> bool
-    ensures { result ≡ same_text (option_copied one.entry) (option_copied other.entry) }
-{
-    match (one, other) {
-        (None, None) => true,
-        (Some(one), Some(other)) => one == other,
-        _ => false,
-    }
-}
-
-/// Whether it is a configuration entry of that owner, for that key and principal.
-pub fn is_asked(
-    owner: &PrincipalView<'_>,
-    key: &[u8],
-    principal: Option<&[u8]>,
-    credential: &CredView<'_>,
-) -> bool
-    ensures { result ≡ is_asked owner.now key.now (option_copied principal.entry) credential.now }
-{
-    let Some(name) = config_name(credential) else {
-        return false;
-    };
-    name.key == key && same_text(name.principal, principal) && same_name(owner, credential.client())
 }

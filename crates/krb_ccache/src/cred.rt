@@ -1,12 +1,14 @@
 //! Credentials with memory of their own.
 
+mod writing;
+
 ghost use Rattle.std.specs.Prelude.{◌≡◌, IfOk};
 ghost use Rattle.krb_ccache.specs.Credential.{is_marked};
 ghost use Rattle.krb_ccache.specs.Cred.{owned_list, in_version_4};
 
 use crate::credential::CredView;
+use crate::credential::lists::TypedList;
 use crate::times::Times;
-use crate::typed::TypedList;
 use krb_wire::{NoMemory, Principal, copy_name};
 use std::alloc::{AllocError, Allocator};
 use std::marker::Model;

@@ -1,13 +1,16 @@
 //! Credentials of a cache, read in place.
 
+pub(crate) mod key;
+pub(crate) mod lists;
+
 ghost use Rattle.std.specs.Prelude.{◌≡◌, length, option_map, slice_get, IsTrue};
 ghost use Rattle.krb_wire.specs.Reading.{Gives};
 ghost use Rattle.krb_ccache.specs.Credential.{CredParts, credential_at, is_marked};
 ghost use Rattle.krb_ccache.specs.Typed.{typed_of};
 
-use crate::key::{KeyView, split_key};
+use crate::credential::key::{KeyView, split_key};
+use crate::credential::lists::{TypedList, split_typed_list};
 use crate::times::{Times, split_times};
-use crate::typed::{TypedList, split_typed_list};
 use crate::version::Version;
 use krb_wire::{Order, PrincipalView, split_cc_principal, split_data32, split_u8, split_u32};
 use std::marker::Model;

@@ -8,8 +8,8 @@ ghost use Rattle.krb_ccache.specs.Header.{header, offset_in};
 ghost use Rattle.krb_ccache.specs.Changes.{new_header, new_front};
 ghost use Rattle.krb_ccache.specs.Rewrite.{texts_anew};
 
-use crate::anew::put_cells_anew;
 use crate::offset::Offset;
+use crate::rewrite::put_cells_anew;
 use crate::version::Version;
 use krb_wire::{
     Name, NoMemory, Order, cc_principal_len, put_cc_principal, put_u8, put_u16, put_u32,
@@ -83,7 +83,7 @@ pub fn put_front<N: Name>(principal: &N, offset: Option<Offset>, out: &mut [u8])
     put_cc_principal(principal, out, name)
 }
 
-/// The same as the whole of an image.
+/// Writes them as the whole of an image.
 pub fn spell_front<N: Name, A: Allocator>(
     principal: &N,
     offset: Option<Offset>,
@@ -112,7 +112,7 @@ pub fn spell_anew<N: Name>(
     put_cells_anew(version, cells, out, at);
 }
 
-// The same in a vector.
+// Writes both over a vector.
 fn spell_anew_into<N: Name, A: Allocator>(
     principal: &N,
     offset: Option<Offset>,

@@ -2,9 +2,7 @@
 //! while it is changed.
 #![tactic(auto)]
 
-mod anew;
 mod append;
-mod asked;
 mod ccache;
 mod cells;
 mod config;
@@ -13,22 +11,15 @@ mod credential;
 mod credentials;
 mod edit;
 mod front;
-mod header;
-mod key;
-mod known;
 mod laws;
 mod mark;
 mod offset;
 mod open;
 mod placed;
-mod replace;
+mod rewrite;
 mod setting;
-mod slot;
 mod times;
-mod typed;
 mod version;
-mod view;
-mod written;
 
 pub use ccache::Ccache;
 pub use config::{ConfigName, config_name, is_config};

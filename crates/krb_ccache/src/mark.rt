@@ -10,7 +10,7 @@ ghost use Rattle.krb_ccache.specs.Store.{credential_at_place};
 ghost use Rattle.krb_ccache.specs.Open.{held_by, Holds, IsImage};
 
 use crate::cells::bytes_fit;
-use crate::key::split_key;
+use crate::credential::key::split_key;
 use crate::open::Head;
 use crate::version::Version;
 use krb_wire::{Order, put_u32, split_cc_principal, tail};

@@ -1,5 +1,7 @@
 //! Which images are caches.
 
+pub(crate) mod header;
+
 ghost use Rattle.std.specs.Prelude.{◌≡◌, ◌≤◌, ℕ, length, drop, IfOk, IfErr, Ok, Err};
 ghost use Rattle.krb_ccache.specs.Header.{header_at};
 ghost use Rattle.krb_ccache.specs.Laws.{AreBytes};
@@ -8,7 +10,7 @@ ghost use Rattle.krb_ccache.specs.Open.{open_fault_number, held, cells_len, AreP
 
 use crate::cells::bytes_fit;
 use crate::credential::split_credential;
-use crate::header::skip_header;
+use crate::open::header::skip_header;
 use crate::version::Version;
 use krb_wire::{split_cc_principal, tail};
 use std::alloc::Allocator;

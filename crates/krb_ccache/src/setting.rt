@@ -1,5 +1,11 @@
 //! Configuration entries as version 4 spells them, written over bytes in place.
 
+pub(crate) mod index;
+pub(crate) mod query;
+mod removal;
+pub(crate) mod replacement;
+pub(crate) mod slot;
+
 ghost use Rattle.std.specs.Prelude.{◌≡◌, ◌≤◌, ◌<◌, ◌^◌, ◌+◌, length, replicate, option_copied, IfSome, IfNone};
 ghost use Rattle.std.specs.List.{flat_map, splice, AllByRecursion};
 ghost use Rattle.krb_wire.specs.declared.format.Order.TheVariants.{Big};

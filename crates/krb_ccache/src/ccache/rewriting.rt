@@ -12,10 +12,10 @@ ghost use Rattle.krb_ccache.specs.Changes.{new_front};
 ghost use Rattle.krb_ccache.specs.Rewrite.{rewrite_of, rewrite_result};
 
 use super::Ccache;
-use crate::anew::room_after_anew;
 use crate::cells::bytes_fit;
 use crate::front::{front_len, header_len, image_anew};
 use crate::open::{Head, Places};
+use crate::rewrite::room_after_anew;
 use crate::version::Version;
 use krb_cells::carry_to;
 use krb_walk::{Code, Refusal};

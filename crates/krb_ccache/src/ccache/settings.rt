@@ -11,8 +11,8 @@ ghost use Rattle.krb_ccache.specs.SetConfig.{config_entry, set_config_result, se
 
 use super::Ccache;
 use crate::cells::bytes_fit;
-use crate::replace::replace_settings;
 use crate::setting::Setting;
+use crate::setting::replacement::replace_settings;
 use krb_walk::{Code, Refusal};
 use std::alloc::Allocator;
 

@@ -1,0 +1,12 @@
+use Rattle.std.proofs.Common.{◌≡◌, length}
+use Rattle.std.specs.Prelude.{is_some}
+use Rattle.krb_ccache.specs.Header.{fields_in}
+use Rattle.krb_ccache.specs.Laws.{AreBytes}
+use Rattle.krb_ccache.proofs.open.header.are_fields.Given as goal
+
+-- what is asked of the rest is asked of all
+abbrev pub invariant-loop-after : goal.invariant-loop-after
+invariant-loop-after l = record { same : is_some (fields_in l.rest) ≡ is_some (fields_in l.bytes); fits : AreBytes l.rest }
+
+abbrev pub decreases-loop-after : goal.decreases-loop-after
+decreases-loop-after l = length l.rest

@@ -1,0 +1,11 @@
+use Rattle.std.proofs.Common.{◌≡◌, length}
+use Rattle.krb_ccache.specs.Laws.{AreBytes}
+use Rattle.krb_ccache.proofs.HeaderFields.{offset_among}
+use Rattle.krb_ccache.proofs.open.header.first_offset.Given as goal
+
+-- what is asked of the rest is asked of all
+abbrev pub invariant-loop-tag : goal.invariant-loop-tag
+invariant-loop-tag l = record { same : offset_among l.rest ≡ offset_among l.fields; fits : AreBytes l.rest }
+
+abbrev pub decreases-loop-tag : goal.decreases-loop-tag
+decreases-loop-tag l = length l.rest
