@@ -22,9 +22,8 @@ use Rattle.krb_keytab.specs.Form.{fits, written_form}
 use Rattle.krb_keytab.specs.Hole.{hole_from}
 use Rattle.krb_keytab.specs.Cells.{Cell, Live, Free, End, Bare, Mark, Damaged, IsCell, IsSound, end_bytes, kind_of}
 use Rattle.krb_keytab.specs.Cells as cells
-use Rattle.krb_keytab.specs.Questions.{end_place}
 use Rattle.krb_keytab.specs.Changes.{with_last, end_after, first_hole, put_result, takes_none, is_refused}
-use Rattle.krb_keytab.specs.Store.{KeytabState, image_of, store_of}
+use Rattle.krb_keytab.specs.Store.{KeytabState, image_of, store_of, end_place}
 use Rattle.krb_indexed.specs.declared.slot.Slot.{Slot}
 use Rattle.krb_indexed.specs.Slot.{free_size, slots_from, slot_of}
 use Rattle.krb_indexed.specs.Tree.{SizeTree, IsHeightFor, HasRoomFor, IsGrown}
@@ -34,7 +33,6 @@ use Rattle.krb_indexed.proofs.StopLemmas.{live_slot}
 use Rattle.krb_indexed.proofs.ChangeLemmas.{IsKept, image_len, ok_is}
 use Rattle.krb_keytab.proofs.Cuts.{end_place-append}
 use Rattle.krb_keytab.proofs.StoreChanges.{whole_of}
-use Rattle.krb_keytab.proofs.Stores.{end_place-store}
 use Rattle.krb_keytab.proofs.Additions.{put_after_all, none_large}
 
 -- ---- the height of a tree with one leaf more
@@ -62,30 +60,30 @@ pub five_each : (f : KtFormat) (at : ℕ) (cs : List Cell) → AllByRecursion (I
 five_each f at [] sound = omega arith
 five_each f at (Live b ∷ cs) sound =
     let some = sound.0.0 in
-    omega (arith, some, five_each f (at + 4 + length b) cs sound.1)
+    omega (arith, some, five_each f (at + (4 + length b)) cs sound.1)
 five_each f at (Free b ∷ cs) sound =
     let some = sound.0.0 in
-    omega (arith, some, five_each f (at + 4 + length b) cs sound.1)
+    omega (arith, some, five_each f (at + (4 + length b)) cs sound.1)
 
 pub few_slots : (k : KeytabState) (slots : List Slot) (t : SizeTree) (place : ℕ) → IsIndex k slots t → IsSound k.format k.contents → place ≡ end_of (store_of k) → place < 2 ^ 32 → length slots < 2 ^ 30
 few_slots k slots t place i sound at small =
     let cs = k.contents.cells in
-    omega (arith, at, small, end_place-store 2 cs, five_each k.format 2 cs sound.cells, ap length i.table, slots_len 2 cs)
+    omega (arith, at, small, five_each k.format 2 cs sound.cells, ap length i.table, slots_len 2 cs)
 
 -- no hole has more bytes than a length can say
 pub none_so_large : (f : KtFormat) (at need : ℕ) (cs : List Cell) → AllByRecursion (IsCell f) cs → 2 ^ 31 < need → hole_from at need cs ≡ None
 none_so_large f at need [] sound lt = refl
-none_so_large f at need (Live b ∷ cs) sound lt = none_so_large f (at + 4 + length b) need cs sound.1 lt
+none_so_large f at need (Live b ∷ cs) sound lt = none_so_large f (at + (4 + length b)) need cs sound.1 lt
 none_so_large f at need (Free b ∷ cs) sound lt =
     let small = sound.0.1 in
     let large : nat_le need (length b) ≡ false = lt-leb need (length b) (omega (arith, small, lt)) in
-    rw large (none_so_large f (at + 4 + length b) need cs sound.1 lt)
+    rw large (none_so_large f (at + (4 + length b)) need cs sound.1 lt)
 
 -- ---- table and tree with a record more
 
 slots_last : (at : ℕ) (cs : List Cell) (c : Cell) → slots_from at (cs ++ (c ∷ [])) ≡ slots_from at cs ++ (slot_of (end_place at cs, c) ∷ [])
 slots_last at [] c = refl
-slots_last at (x ∷ cs) c = ap (λ (s : List Slot). slot_of (at, x) ∷ s) (slots_last (at + 4 + cells.size x) cs c)
+slots_last at (x ∷ cs) c = ap (λ (s : List Slot). slot_of (at, x) ∷ s) (slots_last (at + (4 + cells.size x)) cs c)
 
 pub appended_index : (k : KeytabState) (slots : List Slot) (t u : SizeTree) (bytes : List ℕ) → IsIndex k slots t → IsGrown (length slots) t u → length bytes < 2 ^ 31 → IsIndex (with_last k bytes) (slots ++ (slot_of (end_place 2 k.contents.cells, Live bytes) ∷ [])) u
 appended_index k slots t u bytes i grown small =
@@ -116,7 +114,7 @@ tail_short o Bare h = omega arith
 tail_short o (Mark rest) h = omega (arith, length-append (digits o w32 0) [], (wide32 o).len 0)
 tail_short o (Damaged kind rest) h = absurd cc
 
-last_end : (k : KeytabState) (bytes : List ℕ) → end_place 2 (with_last k bytes).contents.cells ≡ end_place 2 k.contents.cells + 4 + length bytes
+last_end : (k : KeytabState) (bytes : List ℕ) → end_place 2 (with_last k bytes).contents.cells ≡ end_place 2 k.contents.cells + (4 + length bytes)
 last_end k bytes = end_place-append 2 k.contents.cells (Live bytes ∷ [])
 
 pub appended_spare : (k : KeytabState) (bytes : List ℕ) (count room : ℕ) (t : SizeTree) → is_some (fault_of (store_of k)) ≡ false → HasSpare (with_last k bytes) count room t
@@ -183,7 +181,7 @@ appended_kept k new e slots items t mid u place need put count room last more n 
     let more_one = subst (λ (m : ℕ). IsGrown m mid u) (counts ∙ ap length (sym same)) grown in
     let done = appended_index k items mid u x index more_one (omega (arith, small, is)) in
     let slot : record { place = place; length = need } ≡ slot_of (end_place 2 k.contents.cells, Live x) =
-    ap (λ (m : ℕ). record { place = m; length = need }) (at ∙ sym (end_place-store 2 k.contents.cells)) ∙ ap (λ (m : ℕ). record { place = end_place 2 k.contents.cells; length = m }) is in
+    ap (λ (m : ℕ). record { place = m; length = need }) at ∙ ap (λ (m : ℕ). record { place = end_place 2 k.contents.cells; length = m }) is in
     let spare : HasSpare (with_last k x) last more u = appended_spare k x last more u whole in
     let all : IsKept (with_last k x) (items ++ (slot_of (end_place 2 k.contents.cells, Live x) ∷ [])) last more u = (done, spare) in
     subst (λ (y : KeytabState). IsKept y (items ++ (record { place = place; length = need } ∷ [])) last more u) (sym state)

@@ -9,8 +9,7 @@ use Rattle.krb_wire.specs.Spelling.{order_of, digits}
 use Rattle.krb_wire.proofs.Fields.{wide32}
 use Rattle.krb_walk.specs.Store.{live_bytes}
 use Rattle.krb_keytab.specs.Cells.{Live, IsSound, cell, end_bytes, version_byte}
-use Rattle.krb_keytab.specs.Store.{KeytabState, image_of, store_of}
-use Rattle.krb_keytab.specs.Questions.{end_place}
+use Rattle.krb_keytab.specs.Store.{KeytabState, image_of, store_of, end_place}
 use Rattle.krb_keytab.proofs.Cuts.{end_place_is}
 use Rattle.krb_keytab.proofs.Replaced.{StandsAt}
 use Rattle.std.specs.Prelude.{Option, IfSome}

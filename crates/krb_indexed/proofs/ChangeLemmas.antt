@@ -15,8 +15,7 @@ use Rattle.krb_keytab.specs.Changes.{put_result}
 use Rattle.krb_keytab.proofs.Additions.{put_in_hole}
 use Rattle.krb_keytab.specs.Cells.{Cell, Live, Free, End, IsCell, IsSound, cell, end_bytes}
 use Rattle.krb_keytab.specs.Cells as cells
-use Rattle.krb_keytab.specs.Questions.{end_place}
-use Rattle.krb_keytab.specs.Store.{KeytabState, store_of, image_of}
+use Rattle.krb_keytab.specs.Store.{KeytabState, store_of, image_of, end_place}
 use Rattle.krb_keytab.proofs.Cuts.{end_place_is, end_place-append}
 use Rattle.krb_keytab.proofs.Replaced.{StandsAt, hole_stands}
 use Rattle.krb_keytab.proofs.Replaced.{turned as turned_cells}
@@ -60,7 +59,7 @@ pub kept_spare : (k new : KeytabState) (front back : List Cell) (c d : Cell) (co
     → k.contents.cells ≡ front ++ (c ∷ back) → new.contents.cells ≡ front ++ (d ∷ back) → cells.size d ≡ cells.size c → new.contents.end ≡ k.contents.end → new.format ≡ k.format → u.room ≡ t.room → HasSpare new count room u
 kept_spare k new front back c d count room t u spare was is same end format rooms =
     let ends : end_place 2 new.contents.cells ≡ end_place 2 k.contents.cells =
-    ap (end_place 2) is ∙ end_place-append 2 front (d ∷ back) ∙ ap (λ (n : ℕ). end_place (end_place 2 front + 4 + n) back) same ∙ sym (ap (end_place 2) was ∙ end_place-append 2 front (c ∷ back)) in
+    ap (end_place 2) is ∙ end_place-append 2 front (d ∷ back) ∙ ap (λ (n : ℕ). end_place (end_place 2 front + (4 + n)) back) same ∙ sym (ap (end_place 2) was ∙ end_place-append 2 front (c ∷ back)) in
     let tail : length (end_bytes (order_of new.format) new.contents.end) ≡ length (end_bytes (order_of k.format) k.contents.end) = ap (λ (f : KtFormat). length (end_bytes (order_of f) new.contents.end)) format ∙ ap (λ (e : End). length (end_bytes (order_of k.format) e)) end in
     λ longer.
     let had = spare (omega (arith, longer, ends, tail, image_len k, image_len new)) in

@@ -14,8 +14,7 @@ use Rattle.krb_keytab.specs.Changes.{PlacedCell, placed_cells}
 use Rattle.krb_keytab.specs.Entries.{entries_in, entry_in}
 use Rattle.krb_keytab.specs.Find.{PlacedEntry, placed_entries}
 use Rattle.krb_keytab.specs.Looked.{IsFoundAmong}
-use Rattle.krb_keytab.specs.Questions.{end_place}
-use Rattle.krb_keytab.specs.Store.{KeytabState, store_of, store_cell}
+use Rattle.krb_keytab.specs.Store.{KeytabState, store_of, store_cell, end_place}
 use Rattle.krb_keytab.proofs.Listed.{entries_of_cells}
 use Rattle.krb_indexed.specs.Index.{slot_at}
 use Rattle.krb_indexed.proofs.IndexLemmas.{slot_place}
@@ -35,7 +34,7 @@ entries_before k number = entries_in k.format 2 (take number k.contents.cells)
 
 placed-append : (at : ℕ) (front : List Cell) (c : Cell) → placed_cells at (front ++ c ∷ []) ≡ placed_cells at front ++ (end_place at front, c) ∷ []
 placed-append at [] c = refl
-placed-append at (x ∷ front) c = ap (λ (xs : List PlacedCell). (at, x) ∷ xs) (placed-append (at + 4 + size x) front c)
+placed-append at (x ∷ front) c = ap (λ (xs : List PlacedCell). (at, x) ∷ xs) (placed-append (at + (4 + size x)) front c)
 
 -- the next cell has at most one entry
 next_entry : (k : KeytabState) (i : ℕ) → i < length k.contents.cells → entries_before k (i + 1) ≡ entries_before k i ++ filter_map (entry_in k.format) ((end_place 2 (take i k.contents.cells), cell_at k i) ∷ [])

@@ -36,24 +36,24 @@ fits_here f at need (Free b ∷ cs) zero some sound lt fits before =
     let yes : nat_le need (length b) ≡ true = le-leb need (length b) large in
     rw yes (ap (λ (n : ℕ). Some (record { place = at; size = n })) (sym (free_size_is at b sound.0.1)))
 fits_here f at need (Live b ∷ cs) (suc i) some sound lt fits before =
-    fits_here f (at + 4 + length b) need cs i some sound.1 (omega arith) fits (λ k lt2. before (suc k) (omega arith))
+    fits_here f (at + (4 + length b)) need cs i some sound.1 (omega arith) fits (λ k lt2. before (suc k) (omega arith))
 fits_here f at need (Free b ∷ cs) (suc i) some sound lt fits before =
     let free = free_slot at b sound.0.1 in
     let first = before 0 (omega arith) in
     let small : length b < need = omega (arith, rw free at first) in
     let no : nat_le need (length b) ≡ false = lt-leb need (length b) small in
-    rw no (fits_here f (at + 4 + length b) need cs i some sound.1 (omega arith) fits (λ k lt2. before (suc k) (omega arith)))
+    rw no (fits_here f (at + (4 + length b)) need cs i some sound.1 (omega arith) fits (λ k lt2. before (suc k) (omega arith)))
 
 -- where no leaf is large enough, there is no such hole
 fits_nowhere : (f : KtFormat) (at need : ℕ) (cs : List Cell) → AllByRecursion (IsCell f) cs → ((k : ℕ) → k < length cs → free_size (get_or (slots_from at cs) k none) < need) → hole_from at need cs ≡ None
 fits_nowhere f at need [] sound small = refl
-fits_nowhere f at need (Live b ∷ cs) sound small = fits_nowhere f (at + 4 + length b) need cs sound.1 (λ k lt. small (suc k) (omega arith))
+fits_nowhere f at need (Live b ∷ cs) sound small = fits_nowhere f (at + (4 + length b)) need cs sound.1 (λ k lt. small (suc k) (omega arith))
 fits_nowhere f at need (Free b ∷ cs) sound small =
     let free = free_slot at b sound.0.1 in
     let first = small 0 (omega arith) in
     let less : length b < need = omega (arith, rw free at first) in
     let no : nat_le need (length b) ≡ false = lt-leb need (length b) less in
-    rw no (fits_nowhere f (at + 4 + length b) need cs sound.1 (λ k lt. small (suc k) (omega arith)))
+    rw no (fits_nowhere f (at + (4 + length b)) need cs sound.1 (λ k lt. small (suc k) (omega arith)))
 
 -- ---- by the leaves
 

@@ -1,17 +1,14 @@
 -- What a keytab answers, by its table.
 use Rattle.std.proofs.Common.{◌≡◌, ℕ, ◌+◌, ◌-◌, ◌^◌, ◌<◌, ◌≤◌, eqb, List, length, take, drop, Option, Some, None, refl, sym, ap, subst, ◌∙◌, arith, inl, inr}
 use Rattle.std.specs.Prelude.{IfSome, option_map, max}
-use Rattle.std.proofs.lemmas.Bool.{eqb-true, eq-eqb, ne_eqb, cases_lt}
-use Rattle.std.proofs.lemmas.Bool.Decides.{eqb_tells}
+use Rattle.std.proofs.lemmas.Bool.{eqb-true, cases_lt}
 use Rattle.std.proofs.lemmas.List.{take_all}
 use Rattle.krb_walk.specs.Store.{end_of, stop_at, is_place, IsPlace}
 use Rattle.krb_keytab.specs.Cells.{IsSound, kind_of}
 use Rattle.krb_keytab.specs.Changes.{PlacedCell, first_hole}
 use Rattle.krb_keytab.specs.Hole.{hole_from, hole_of}
-use Rattle.krb_keytab.specs.Questions.{end_place}
-use Rattle.krb_keytab.specs.Store.{KeytabState, store_of}
+use Rattle.krb_keytab.specs.Store.{KeytabState, store_of, end_place}
 use Rattle.krb_keytab.specs.declared.hole.Hole.{Hole}
-use Rattle.krb_keytab.proofs.Stores.{is_place_in-store, stop_in-store, end_place-store}
 use Rattle.krb_indexed.specs.declared.slot.Slot.{Slot}
 use Rattle.krb_indexed.specs.Slot.{size, places, slots_from, first_live, stop_of_slot, IsRank}
 use Rattle.krb_indexed.specs.Tree.{SizeTree, first_fit, looks_for, IsHeightFor}
@@ -20,12 +17,6 @@ use Rattle.krb_indexed.proofs.SlotLemmas.{place_at}
 use Rattle.krb_indexed.proofs.PlaceLemmas.{slots_len, place_is, place_by_rank}
 use Rattle.krb_indexed.proofs.StopLemmas.{stop_by_rank, slot_within}
 use Rattle.krb_indexed.proofs.FitLemmas.{found_hole, no_hole, leaves_of}
-
-eqb-sym : (a b : ℕ) → eqb a b ≡ eqb b a
-eqb-sym a b = elim (eqb_tells a b) [
-  | inl y ↦ rw (y.0) (sym (eq-eqb b a (sym y.1)))
-  | inr n ↦ rw (n.0) (sym (ne_eqb b a (λ e. n.1 (sym e))))
-]
 
 -- the table of the keytab that is seen
 pub table_held : {old k : KeytabState} {table now : List Slot} {t : SizeTree} → IsIndex old table t → old ≡ k → now ≡ table → now ≡ slots_from 2 k.contents.cells
@@ -40,29 +31,24 @@ slot_place k i lt =
     sym (place_at (slots_from 2 cs) i (record { place = 0; length = 0 }) (omega (arith, slots_len 2 cs))) ∙ place_is 2 cs i lt
 
 pub end_by_table : (k : KeytabState) (rank : ℕ) → length k.contents.cells ≤ rank → end_of (store_of k) ≡ end_place 2 (take rank k.contents.cells)
-end_by_table k rank le = sym (end_place-store 2 k.contents.cells) ∙ ap (end_place 2) (sym (take_all rank k.contents.cells le))
+end_by_table k rank le = ap (end_place 2) (sym (take_all rank k.contents.cells le))
 
 pub is_place_by_rank : (k : KeytabState) (p rank n : ℕ) → IsRank (places (slots_from 2 k.contents.cells)) p rank → n ≡ end_place 2 (take rank k.contents.cells) → eqb n p ≡ is_place (store_of k) p
-is_place_by_rank k p rank n r is = ap (λ (m : ℕ). eqb m p) is ∙ eqb-sym _ p ∙ sym (place_by_rank 2 k.contents.cells p rank r) ∙ is_place_in-store 2 p k.contents.cells
+is_place_by_rank k p rank n r is = ap (λ (m : ℕ). eqb m p) is ∙ sym (place_by_rank 2 k.contents.cells p rank r)
 
 -- a place is that of the cell of its rank, or the end
 pub at_rank : (k : KeytabState) (p rank : ℕ) → IsRank (places (slots_from 2 k.contents.cells)) p rank → IsPlace (store_of k) p → p ≡ end_place 2 (take rank k.contents.cells)
-at_rank k p rank r here = eqb-true _ _ (sym (place_by_rank 2 k.contents.cells p rank r) ∙ is_place_in-store 2 p k.contents.cells ∙ here)
+at_rank k p rank r here = sym (eqb-true _ _ (sym (place_by_rank 2 k.contents.cells p rank r) ∙ here))
 
 -- ---- stops
 
 pub stop_found : (k : KeytabState) (p rank : ℕ) (o : Option Slot) → IsSound k.format k.contents → IsRank (places (slots_from 2 k.contents.cells)) p rank → IsPlace (store_of k) p → o ≡ first_live (drop rank (slots_from 2 k.contents.cells)) → stop_at (store_of k) p ≡ stop_of_slot (end_of (store_of k)) (kind_of k.contents.end) o
 stop_found k p rank o sound r here is =
-    let cs = k.contents.cells in
-    let e = k.contents.end in
-    sym (stop_in-store 2 p cs e) ∙ stop_by_rank k.format 2 p rank cs e (at_rank k p rank r here) sound.cells
-    ∙ ap (λ (n : ℕ). stop_of_slot n (kind_of e) (first_live (drop rank (slots_from 2 cs)))) (end_place-store 2 cs)
-    ∙ ap (stop_of_slot (end_of (store_of k)) (kind_of e)) (sym is)
+    stop_by_rank k p rank sound (at_rank k p rank r here) ∙ ap (stop_of_slot (end_of (store_of k)) (kind_of k.contents.end)) (sym is)
 
-pub found_within : (k : KeytabState) (rank : ℕ) (o : Option Slot) → IsSound k.format k.contents → o ≡ first_live (drop rank (slots_from 2 k.contents.cells)) → IfSome o (λ s. s.place + 4 + size s ≤ end_of (store_of k))
+pub found_within : (k : KeytabState) (rank : ℕ) (o : Option Slot) → IsSound k.format k.contents → o ≡ first_live (drop rank (slots_from 2 k.contents.cells)) → IfSome o (λ s. s.place + (4 + size s) ≤ end_of (store_of k))
 found_within k rank o sound is =
-    subst (λ (n : ℕ). IfSome o (λ s. s.place + 4 + size s ≤ n)) (end_place-store 2 k.contents.cells)
-    (subst (λ (x : Option Slot). IfSome x (λ s. s.place + 4 + size s ≤ end_place 2 k.contents.cells)) (sym is) (slot_within k.format 2 rank k.contents.cells sound.cells))
+    subst (λ (x : Option Slot). IfSome x (λ s. s.place + (4 + size s) ≤ end_of (store_of k))) (sym is) (slot_within k.format 2 rank k.contents.cells sound.cells)
 
 -- ---- holes
 

@@ -3,8 +3,7 @@ use Rattle.std.specs.Prelude.{◌≡◌, ℕ, ◌+◌, ◌-◌, ◌^◌, ◌<◌
 use Rattle.krb_walk.specs.Store.{live_bytes}
 use Rattle.krb_keytab.specs.Changes.{first_hole}
 use Rattle.krb_keytab.specs.Hole.{hole_from}
-use Rattle.krb_keytab.specs.Questions.{end_place}
-use Rattle.krb_keytab.specs.Store.{KeytabState, image_of, store_of}
+use Rattle.krb_keytab.specs.Store.{KeytabState, image_of, store_of, end_place}
 use Rattle.krb_indexed.specs.declared.slot.Slot.{Slot}
 use Rattle.krb_indexed.specs.Slot.{slots_from, free_size, hole_of_slot}
 use Rattle.krb_indexed.specs.Tree.{SizeTree, IsHeightFor, HasRoomFor}

@@ -58,7 +58,7 @@ first_live slots = find (λ s. not (is_free s)) slots
 
 -- where a walk stops that finds this live cell, or none
 abbrev pub stop_of_slot : ℕ → Option FaultKind → Option Slot → Stop
-stop_of_slot end kind (Some s) = Live_at s.place (s.place + 4 + size s)
+stop_of_slot end kind (Some s) = Live_at s.place (s.place + (4 + size s))
 stop_of_slot end kind None = end_stop end kind
 
 -- a hole by its slot

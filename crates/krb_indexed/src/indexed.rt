@@ -9,9 +9,8 @@ ghost use Rattle.krb_wire.specs.Reading.{Gives};
 ghost use Rattle.krb_walk.specs.Store.{end_of, fault_of, is_place, stop_at, live_bytes, IsPlace, IsSound as IsSoundStore};
 ghost use Rattle.krb_keytab.specs.Entry.{entry_at, Spells};
 ghost use Rattle.krb_keytab.specs.Cells.{kind_of, IsSound};
-ghost use Rattle.krb_keytab.specs.Questions.{end_place};
 ghost use Rattle.krb_keytab.specs.Laws.{AreBytes};
-ghost use Rattle.krb_keytab.specs.Store.{image_of, store_of, entry_at_place, Reopens};
+ghost use Rattle.krb_keytab.specs.Store.{image_of, store_of, end_place, entry_at_place, Reopens};
 ghost use Rattle.krb_indexed.specs.Index.{fit_of, slot_at, IsFit, IsLiveNumber};
 ghost use Rattle.krb_indexed.specs.Slot.{places, slots_from, size, stop_of_slot, IsRank};
 ghost use Rattle.krb_indexed.specs.Tree.{looks_for, IsHeightFor};
@@ -167,7 +166,7 @@ impl<A: Allocator> Indexed<A> {
         requires { IsPlace (store_of self.now.state) place }
         ensures stop { stop_at (store_of self.now.state) place
             ≡ stop_of_slot (end_of (store_of self.now.state)) (kind_of self.now.state.contents.end) result }
-        ensures within { IfSome result (λ s. s.place + 4 + size s ≤ end_of (store_of self.now.state)) }
+        ensures within { IfSome result (λ s. s.place + (4 + size s) ≤ end_of (store_of self.now.state)) }
     {
         let _ = self.image();
         let rank = self.rank(place);
@@ -183,7 +182,7 @@ impl<A: Allocator> Indexed<A> {
         if let Some(slot) = self.live_from(place) {
             return Stop::Live {
                 place: slot.place,
-                next: slot.place + 4 + slot.size(),
+                next: slot.place + (4 + slot.size()),
             };
         }
         match self.fault() {

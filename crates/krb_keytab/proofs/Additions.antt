@@ -19,9 +19,8 @@ use Rattle.krb_keytab.specs.declared.hole.Hole.{Hole}
 use Rattle.krb_keytab.specs.Entry.{EntryParts}
 use Rattle.krb_keytab.specs.Cells.{Live, Contents, cell, end_bytes, contents, image, kind_of}
 use Rattle.krb_keytab.specs.Step.{ends}
-use Rattle.krb_keytab.specs.Questions.{end_place}
 use Rattle.krb_keytab.specs.Image.{IsKnownEnd, mark_len, len_with}
-use Rattle.krb_keytab.specs.Store.{KeytabState, InMemory, image_of, store_of}
+use Rattle.krb_keytab.specs.Store.{KeytabState, InMemory, image_of, store_of, end_place}
 use Rattle.krb_keytab.specs.Form.{fits, written_form}
 use Rattle.krb_keytab.specs.Changes.{PlacedCell, first_hole, with_record_in, with_last, end_after, append_result, put_result_into, put_bytes_result, put_result, is_refused, takes_none}
 use Rattle.krb_keytab.specs.Hole.{hole_of, hole_from}
@@ -45,7 +44,7 @@ last_len f limit bytes x e known whole =
     let t = end_bytes o (end_after k.end) in
     let was : k.end ≡ ends (drop e.place bytes) e.ending = known.same ∙ ap (λ (y : Contents). y.end) known.ending in
     let mark : length t ≡ mark_len e.ending = ap length (sym (zeros_after o e.ending k.end (drop e.place bytes) was whole)) ∙ length-replicate {A = ℕ} (mark_len e.ending) 0 in
-    let place : end_place 2 cells ≡ e.place + 4 + length x = end_place-append 2 k.cells (Live x ∷ []) ∙ ap (λ (n : ℕ). n + 4 + length x) known.place in
+    let place : end_place 2 cells ≡ e.place + (4 + length x) = end_place-append 2 k.cells (Live x ∷ []) ∙ ap (λ (n : ℕ). n + (4 + length x)) known.place in
     omega (arith, mark, place, end_place_is o 2 cells, length-append (flat_map (cell o) cells) t)
 
 -- a keytab that is kept, and the record that is put after its cells

@@ -16,7 +16,7 @@ use Rattle.krb_keytab.specs.declared.step.Ending.TheVariants as ending
 use Rattle.krb_keytab.specs.Entry.{entry_at}
 use Rattle.krb_keytab.specs.Cells.{Live, End, Bare, Mark, Damaged, Contents, cell, end_bytes, spelling, contents, IsCell, IsEnd, IsSound, kind_of}
 use Rattle.krb_keytab.specs.Step.{ends}
-use Rattle.krb_keytab.specs.Questions.{end_place}
+use Rattle.krb_keytab.specs.Store.{end_place}
 use Rattle.krb_keytab.specs.Image.{IsKnownEnd, IsChanged, mark_len, len_with}
 use Rattle.krb_keytab.specs.Form.{IsRecord}
 use Rattle.krb_keytab.specs.Changes.{end_after}
@@ -78,7 +78,7 @@ known_after f image' front k x e bytes fits sound whole place was parts len is =
     let again : contents f t ≡ ended = contents_again f ended (record { cells = tt; end = after_sound f k.end sound whole }) (subst IsBytes there (IsBytes-drop (e.place + 4 + length x) image' fits)) in
     let all : length image' ≡ length front + length t = ap length parts ∙ length-append front t in
     record {
-      place = ap (λ (y : Contents). end_place 2 y.cells) is ∙ end_place-append 2 k.cells (Live x ∷ []) ∙ ap (λ (n : ℕ). n + 4 + length x) place;
+      place = ap (λ (y : Contents). end_place 2 y.cells) is ∙ end_place-append 2 k.cells (Live x ∷ []) ∙ omega (arith, place);
       within = omega (arith, all, len);
       same = ap (λ (y : Contents). y.end) is ∙ sym (ap (λ (b : List ℕ). (contents f b).end) there ∙ ap (λ (y : Contents). y.end) again);
       ending = ap (contents f) there ∙ again ∙ ap (λ (y : End). record { cells = []; end = y }) (sym (ap (λ (b : List ℕ). ends b e.ending) there ∙ ends_after o e.ending k.end bytes was whole));

@@ -1,23 +1,21 @@
 -- What was added is read where the addition says, and what was removed stands there no more.
-use Rattle.std.proofs.Common.{◌≡◌, ℕ, true, cond, ltb, List, [], ◌∷◌, ◌++◌, length, replicate, Option, Some, None, Result, Ok, Err, refl, sym, ap, ◌∙◌, inl, inr}
+use Rattle.std.proofs.Common.{◌≡◌, ℕ, true, cond, ltb, List, [], ◌∷◌, ◌++◌, length, map, replicate, Option, Some, None, Result, Ok, Err, refl, sym, ap, ◌∙◌, inl, inr}
 use Rattle.std.specs.Prelude.{is_some}
-use Rattle.std.proofs.lemmas.Bool.{eq-eqb}
 use Rattle.std.proofs.lemmas.List.{append-nil}
 use Rattle.krb_wire.specs.declared.format.KtFormat.{KtFormat}
 use Rattle.krb_wire.specs.Reading.{◌>>=◌}
 use Rattle.krb_walk.specs.declared.refusal.Code.{Code}
 use Rattle.krb_walk.specs.declared.refusal.Code.TheVariants as code
 use Rattle.krb_walk.specs.Store.{end_of, fault_of, live_bytes as store_bytes}
+use Rattle.krb_walk.proofs.Stops.{bytes_from}
 use Rattle.krb_keytab.specs.Entry.{EntryParts, entry_at}
 use Rattle.krb_keytab.specs.Cells.{Cell, Live, size}
-use Rattle.krb_keytab.specs.Questions.{live_bytes_in}
-use Rattle.krb_keytab.specs.Store.{KeytabState, image_of, store_of, entry_at_place}
+use Rattle.krb_keytab.specs.Store.{KeytabState, image_of, store_cell, store_of, entry_at_place}
 use Rattle.krb_keytab.specs.Form.{fits, written_form, read_back, IsEntry}
 use Rattle.krb_keytab.specs.Changes.{PlacedCell, zero_hole, with_zeros, record_in, first_hole, with_hole, with_record_in, with_last, append_result, put_result_into, put_bytes_result, put_result, cut_result}
 use Rattle.krb_keytab.proofs.CellLemmas.{chosen}
-use Rattle.krb_keytab.proofs.Cuts.{live_behind}
+use Rattle.krb_keytab.proofs.Cuts.{live_there}
 use Rattle.krb_keytab.proofs.EntryLemmas.{entry_again}
-use Rattle.krb_keytab.proofs.Stores.{end_place-store, live_bytes_in-store}
 use Rattle.krb_keytab.proofs.Replaced.{StandsAt, live_stands, hole_stands, turned}
 use Rattle.krb_keytab.proofs.Removals.{holds}
 use Rattle.krb_keytab.proofs.WrittenLemmas.{written_spells}
@@ -48,7 +46,7 @@ behind : (k : KeytabState) (e : EntryParts) → fits k.format e ≡ true → IsE
 behind k e fit is =
     let x = written_form k.format e in
     let p = end_of (store_of k) in
-    let held = holds (with_last k x) k.contents.cells [] x p refl (sym (end_place-store 2 k.contents.cells)) in
+    let held = holds (with_last k x) k.contents.cells [] x p refl refl in
     reads (with_last k x) e p 0 fit is (held ∙ ap (λ (b : List ℕ). Some b) (sym (append-nil x)))
 
 appended_reads : (k : KeytabState) (e : EntryParts) (given : ℕ × KeytabState) → fits k.format e ≡ true → IsEntry e → append_result k (written_form k.format e) ≡ Ok given → entry_at_place given.1 given.0 ≡ Some (read_back k.format e)
@@ -86,10 +84,8 @@ state_is a b e = cc
 freed_none : (k : KeytabState) (p : ℕ) (o : Option (List ℕ)) → store_bytes (store_of k) p ≡ o → is_some o ≡ true → store_bytes (store_of (with_hole k p)) p ≡ None
 freed_none k p None is some = absurd cc
 freed_none k p (Some b) is some =
-    let s = live_stands k.contents.cells 2 p b (live_bytes_in-store 2 p k.contents.cells ∙ is) in
-    let here : live_bytes_in p (zero_hole (Live b) ∷ s.back) p ≡ None = rw (eq-eqb p p refl) refl in
-    sym (live_bytes_in-store 2 p (with_hole k p).contents.cells) ∙ ap (λ (cs : List Cell). live_bytes_in 2 cs p) (turned zero_hole k.contents.cells p (Live b) s)
-    ∙ live_behind s.front (zero_hole (Live b) ∷ s.back) 2 p s.place ∙ here
+    let s = live_stands k.contents.cells 2 p b is in
+    ap (λ (cs : List Cell). bytes_from 2 (map store_cell cs) p) (turned zero_hole k.contents.cells p (Live b) s) ∙ live_there s.front s.back (zero_hole (Live b)) p s.place
 
 -- what was removed stands there no more
 pub removed_none : (k : KeytabState) (p : ℕ) (new : KeytabState) → cut_result k p ≡ Ok new → store_bytes (store_of new) p ≡ None

@@ -15,7 +15,7 @@ use Rattle.krb_keytab.specs.declared.step.Step.TheVariants as step
 use Rattle.krb_keytab.specs.Cells.{Cell, Live, Free, Contents, bytes_of, length_field, cell, end_bytes, next, contents, IsCell, IsSpelled, size}
 use Rattle.krb_walk.specs.Contents.{More}
 use Rattle.krb_keytab.specs.Step.{next_of_step, EndsWithin, from_step, CellWithin}
-use Rattle.krb_keytab.specs.Questions.{end_place}
+use Rattle.krb_keytab.specs.Store.{end_place}
 use Rattle.krb_keytab.specs.Image.{EndsKnown}
 use Rattle.krb_keytab.proofs.CellLemmas.{contents_spelled, cell_again, sound_size}
 use Rattle.krb_keytab.proofs.Steps.{step_is, within_is}
@@ -115,21 +115,21 @@ tells_free f bytes s n rest e le =
     record { next = s.told.next ∙ ap (next_of_step bytes) is; within = subst (EndsWithin bytes) is s.told.within }
 
 -- the end is known from the next cell on
-pub known_after_live : (f : KtFormat) (image : List ℕ) (at n : ℕ) (e : CellsEnd) → EndsKnown f image at e → contents f (drop at image) ≡ from_step f image at (step.Live n) → length (take n (drop (at + 4) image)) ≡ n → EndsKnown f image (at + 4 + n) e
+pub known_after_live : (f : KtFormat) (image : List ℕ) (at n : ℕ) (e : CellsEnd) → EndsKnown f image at e → contents f (drop at image) ≡ from_step f image at (step.Live n) → length (take n (drop (at + 4) image)) ≡ n → EndsKnown f image (at + (4 + n)) e
 known_after_live f image at n e known is len =
     let place : end_place at (from_step f image at (step.Live n)).cells ≡ e.place = ap (λ (k : Contents). end_place at k.cells) (sym is) ∙ known.place in
     record {
-      place = ap (λ (m : ℕ). end_place (at + 4 + m) (contents f (drop (at + 4 + n) image)).cells) (sym len) ∙ place;
+      place = ap (λ (m : ℕ). end_place (at + (4 + m)) (contents f (drop (at + (4 + n)) image)).cells) (sym len) ∙ place;
       within = known.within;
       same = ap (λ (k : Contents). k.end) (sym is) ∙ known.same;
       ending = known.ending;
     }
 
-pub known_after_free : (f : KtFormat) (image : List ℕ) (at n : ℕ) (e : CellsEnd) → EndsKnown f image at e → contents f (drop at image) ≡ from_step f image at (step.Free n) → length (take n (drop (at + 4) image)) ≡ n → EndsKnown f image (at + 4 + n) e
+pub known_after_free : (f : KtFormat) (image : List ℕ) (at n : ℕ) (e : CellsEnd) → EndsKnown f image at e → contents f (drop at image) ≡ from_step f image at (step.Free n) → length (take n (drop (at + 4) image)) ≡ n → EndsKnown f image (at + (4 + n)) e
 known_after_free f image at n e known is len =
     let place : end_place at (from_step f image at (step.Free n)).cells ≡ e.place = ap (λ (k : Contents). end_place at k.cells) (sym is) ∙ known.place in
     record {
-      place = ap (λ (m : ℕ). end_place (at + 4 + m) (contents f (drop (at + 4 + n) image)).cells) (sym len) ∙ place;
+      place = ap (λ (m : ℕ). end_place (at + (4 + m)) (contents f (drop (at + (4 + n)) image)).cells) (sym len) ∙ place;
       within = known.within;
       same = ap (λ (k : Contents). k.end) (sym is) ∙ known.same;
       ending = known.ending;

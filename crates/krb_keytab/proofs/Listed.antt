@@ -13,7 +13,6 @@ use Rattle.krb_keytab.specs.CellsFrom.{CellsFrom, BeginsWith, cells_of}
 use Rattle.krb_keytab.specs.Looked.{IsFoundAmong, IsLookedUpTo}
 use Rattle.krb_keytab.specs.Find.{PlacedEntry, placed_entries}
 use Rattle.krb_keytab.specs.Entries.{entries_in}
-use Rattle.krb_keytab.proofs.Stores.{past}
 
 -- the entries of the records of a store's cells
 abbrev record_entries : KtFormat → ℕ → List Cell → List PlacedEntry
@@ -22,8 +21,8 @@ record_entries f at cs = filter_map (λ (r : Record). option_map (λ (e : EntryP
 listed_stored : (f : KtFormat) (at : ℕ) (cs : List Cell) → entries_in f at cs ≡ record_entries f at cs
 listed_stored f at [] = refl
 listed_stored f at (Live b ∷ cs) =
-    ap (cons_option (option_map (λ (e : EntryParts). (at, e)) (entry_at f b))) (listed_stored f (at + 4 + length b) cs ∙ ap (λ (n : ℕ). record_entries f n cs) (past at (length b)))
-listed_stored f at (Free b ∷ cs) = listed_stored f (at + 4 + length b) cs ∙ ap (λ (n : ℕ). record_entries f n cs) (past at (length b))
+    ap (cons_option (option_map (λ (e : EntryParts). (at, e)) (entry_at f b))) (listed_stored f (at + (4 + length b)) cs)
+listed_stored f at (Free b ∷ cs) = listed_stored f (at + (4 + length b)) cs
 
 -- those of the cells of a keytab are its entries
 pub entries_of_cells : (k : KeytabState) (cells : CellsFrom) → cells ≡ cells_of k → entries_in cells.format cells.place cells.contents.cells ≡ placed_entries k
@@ -34,8 +33,8 @@ entries_of_cells k cells is = ap (λ (x : CellsFrom). entries_in x.format x.plac
 pub listed_live : (old new : CellsFrom) (at : ℕ) (b : List ℕ) (e : EntryParts) → BeginsWith old at (Live b) new → entry_at old.format b ≡ Some e → entries_in old.format old.place old.contents.cells ≡ (at, e) ∷ entries_in new.format new.place new.contents.cells
 listed_live old new at b e s is =
     ap (entries_in old.format old.place) s.cells
-    ∙ ap (λ (o : Option EntryParts). cons_option (option_map (λ (x : EntryParts). (old.place, x)) o) (entries_in old.format (old.place + 4 + length b) new.contents.cells)) is
-    ∙ ap (λ (p : ℕ). (p, e) ∷ entries_in old.format (p + 4 + length b) new.contents.cells) (sym s.place)
+    ∙ ap (λ (o : Option EntryParts). cons_option (option_map (λ (x : EntryParts). (old.place, x)) o) (entries_in old.format (old.place + (4 + length b)) new.contents.cells)) is
+    ∙ ap (λ (p : ℕ). (p, e) ∷ entries_in old.format (p + (4 + length b)) new.contents.cells) (sym s.place)
     ∙ ap (λ (p : ℕ). (at, e) ∷ entries_in old.format p new.contents.cells) (sym s.next)
     ∙ ap (λ (f : KtFormat). (at, e) ∷ entries_in f new.place new.contents.cells) (sym s.format)
 

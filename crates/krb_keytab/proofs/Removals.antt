@@ -2,20 +2,18 @@
 use Rattle.std.proofs.Common.{◌≡◌, ℕ, ◌+◌, Bool, true, false, cond, List, [], ◌∷◌, ◌++◌, map, Option, Some, None, Ok, Err, length, refl, sym, ap, subst, ◌∙◌, append_assoc, inl, inr}
 use Rattle.std.specs.Prelude.{◌==◌, is_some, option_map, filter, find, IfSome}
 use Rattle.std.specs.List.{filter_map, cons_option, AllByRecursion}
-use Rattle.std.proofs.lemmas.Bool.{eq-eqb}
 use Rattle.krb_wire.specs.Spelling.{Parts}
 use Rattle.krb_wire.proofs.Fields.{some_is}
 use Rattle.krb_walk.specs.declared.refusal.Code.TheVariants.{Damaged, NotLive}
 use Rattle.krb_walk.specs.Store.{fault_of, live_bytes as store_bytes, standing, record_of}
+use Rattle.krb_walk.proofs.Stops.{bytes_from}
 use Rattle.krb_keytab.specs.Entry.{EntryParts, entry_at}
 use Rattle.krb_keytab.specs.Cells.{Cell, Live, Free, size}
-use Rattle.krb_keytab.specs.Questions.{end_place, live_bytes_in}
-use Rattle.krb_keytab.specs.Store.{KeytabState, store_cell, store_of}
+use Rattle.krb_keytab.specs.Store.{KeytabState, store_cell, store_of, end_place}
 use Rattle.krb_keytab.specs.Find.{PlacedEntry, is_asked, version_asked, first_or_missing, look_up_in, look_up, find_result, placed_entry, placed_entries}
 use Rattle.krb_keytab.specs.Changes.{with_hole, cut_result}
 use Rattle.krb_keytab.proofs.CellLemmas.{chosen}
-use Rattle.krb_keytab.proofs.Cuts.{end_place-append, live_behind}
-use Rattle.krb_keytab.proofs.Stores.{past, live_bytes_in-store}
+use Rattle.krb_keytab.proofs.Cuts.{end_place-append, live_there}
 
 -- a record stands at the place
 abbrev IsLiveAt : KeytabState → PlacedEntry → Type 0
@@ -50,16 +48,14 @@ if_placed k p None h = tt
 
 -- a live cell after others holds its bytes in the store
 pub holds : (k : KeytabState) (front back : List Cell) (b : List ℕ) (p : ℕ) → k.contents.cells ≡ front ++ (Live b ∷ back) → p ≡ end_place 2 front → store_bytes (store_of k) p ≡ Some b
-holds k front back b p parts place =
-    let here : live_bytes_in p (Live b ∷ back) p ≡ Some b = rw (eq-eqb p p refl) refl in
-    sym (live_bytes_in-store 2 p k.contents.cells) ∙ ap (λ (cs : List Cell). live_bytes_in 2 cs p) parts ∙ live_behind front (Live b ∷ back) 2 p place ∙ here
+holds k front back b p parts place = ap (λ (cs : List Cell). bytes_from 2 (map store_cell cs) p) parts ∙ live_there front back (Live b) p place
 
 stands : (k : KeytabState) (front back : List Cell) (b : List ℕ) (p : ℕ) → k.contents.cells ≡ front ++ (Live b ∷ back) → p ≡ end_place 2 front → is_some (store_bytes (store_of k) p) ≡ true
 stands k front back b p parts place = ap is_some (holds k front back b p parts place)
 
 -- the place after one cell more
 next_place : (front : List Cell) (c : Cell) (p : ℕ) → p ≡ end_place 2 front → p + (4 + size c) ≡ end_place 2 (front ++ c ∷ [])
-next_place front c p place = sym (past p (size c)) ∙ ap (λ (n : ℕ). n + 4 + size c) place ∙ sym (end_place-append 2 front (c ∷ []))
+next_place front c p place = ap (λ (n : ℕ). n + (4 + size c)) place ∙ sym (end_place-append 2 front (c ∷ []))
 
 -- the entries of the cells from one on
 all_live : (k : KeytabState) (front cs : List Cell) (p : ℕ) → k.contents.cells ≡ front ++ cs → p ≡ end_place 2 front → AllByRecursion (IsLiveAt k) (filter_map (placed_entry k) (filter_map record_of (standing p (map store_cell cs))))

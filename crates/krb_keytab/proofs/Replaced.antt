@@ -1,5 +1,5 @@
 -- A cell in the place of another of the same size.
-use Rattle.std.proofs.Common.{◌≡◌, ℕ, ◌+◌, ◌<◌, ◌≤◌, true, false, eqb, List, [], ◌∷◌, ◌++◌, length, take, drop, Some, refl, sym, ap, subst, ◌∙◌, append_assoc, length-append, arith, inl, inr}
+use Rattle.std.proofs.Common.{◌≡◌, ℕ, ◌+◌, ◌<◌, ◌≤◌, true, false, eqb, List, [], ◌∷◌, ◌++◌, length, map, take, drop, Some, refl, sym, ap, subst, ◌∙◌, append_assoc, length-append, arith, inl, inr}
 use Rattle.std.specs.List.{flat_map, splice, AllByRecursion}
 use Rattle.std.proofs.lemmas.Bool.{eq-eqb, ne_eqb}
 use Rattle.std.proofs.lemmas.Bool.Decides.{eqb_tells}
@@ -10,15 +10,16 @@ use Rattle.krb_wire.specs.declared.format.Order.{Order}
 use Rattle.krb_wire.specs.declared.format.KtFormat.{KtFormat}
 use Rattle.krb_wire.specs.Spelling.{order_of}
 use Rattle.krb_wire.proofs.Fields.{IsBytes, IsBytes-drop, some_is}
+use Rattle.krb_walk.specs.Store.{record_of_some, bytes_of_some}
+use Rattle.krb_walk.proofs.Stops.{bytes_from, end_from-ge}
 use Rattle.krb_keytab.specs.declared.image.CellsEnd.{CellsEnd}
 use Rattle.krb_keytab.specs.Cells.{Cell, Live, Free, End, Contents, cell, end_bytes, spelling, contents, IsCell, IsSound, size}
 use Rattle.krb_keytab.specs.Step.{ends}
-use Rattle.krb_keytab.specs.Store.{store_cell}
-use Rattle.krb_keytab.specs.Questions.{end_place, live_bytes_in}
+use Rattle.krb_keytab.specs.Store.{store_cell, end_place}
 use Rattle.krb_keytab.specs.Image.{IsKnownEnd, IsChanged}
 use Rattle.krb_keytab.specs.Changes.{PlacedCell, turned_at, is_hole, first_hole}
 use Rattle.krb_keytab.proofs.CellLemmas.{chosen, contents_spelled, contents_again}
-use Rattle.krb_keytab.proofs.Cuts.{cell_len, end_place_is, end_place-append, all_back, far}
+use Rattle.krb_keytab.proofs.Cuts.{cell_len, end_place_is, end_place-append, all_back}
 use Rattle.krb_keytab.proofs.Splices.{splice-len, splice-behind}
 
 pub all_front : (P : Cell → Type 0) (xs ys : List Cell) → AllByRecursion P (xs ++ ys) → AllByRecursion P xs
@@ -41,19 +42,23 @@ pub record StandsAt (cs : List Cell) (at p : ℕ) (c : Cell) : Type 0 where
 here : (c d : Cell) (cs : List Cell) (at p : ℕ) → p ≡ at → c ≡ d → StandsAt (c ∷ cs) at p d
 here c d cs at p is same = record { front = []; back = cs; parts = ap (λ (x : Cell). x ∷ cs) same; place = is }
 
-further : (c d : Cell) (cs : List Cell) (at p : ℕ) → StandsAt cs (at + 4 + size c) p d → StandsAt (c ∷ cs) at p d
+further : (c d : Cell) (cs : List Cell) (at p : ℕ) → StandsAt cs (at + (4 + size c)) p d → StandsAt (c ∷ cs) at p d
 further c d cs at p s = record { front = c ∷ s.front; back = s.back; parts = ap (λ (xs : List Cell). c ∷ xs) s.parts; place = s.place }
 
-is_live : (c : Cell) (b : List ℕ) → (store_cell c).live ≡ Some b → c ≡ Live b
-is_live (Live x) b e = ap (λ (y : List ℕ). Live y) (some_is x b e)
-is_live (Free x) b e = absurd cc
+is_live : (at : ℕ) (c : Cell) (b : List ℕ) → bytes_of_some (record_of_some (Some (record { place = at; cell = store_cell c }))) ≡ Some b → c ≡ Live b
+is_live at (Live x) b e = ap (λ (y : List ℕ). Live y) (some_is x b e)
+is_live at (Free x) b e = absurd cc
 
-pub live_stands : (cs : List Cell) (at p : ℕ) (b : List ℕ) → live_bytes_in at cs p ≡ Some b → StandsAt cs at p (Live b)
+pub live_stands : (cs : List Cell) (at p : ℕ) (b : List ℕ) → bytes_from at (map store_cell cs) p ≡ Some b → StandsAt cs at p (Live b)
 live_stands [] at p b e = absurd cc
-live_stands (c ∷ cs) at p b e = elim (eqb_tells p at) [
-  | inl y ↦ let yes = y.0 in here c (Live b) cs at p y.1 (is_live c b (rw yes at e))
-  | inr n ↦ let no = n.0 in further c (Live b) cs at p (live_stands cs (at + 4 + size c) p b (rw no at e))
+live_stands (c ∷ cs) at p b e = elim (eqb_tells at p) [
+  | inl y ↦ let yes = y.0 in here c (Live b) cs at p (sym y.1) (is_live at c b (rw yes at e))
+  | inr n ↦ let no = n.0 in further c (Live b) cs at p (live_stands cs (at + (4 + size c)) p b (rw no at e))
 ]
+
+-- what stands there is sound
+pub stands_sound : (f : KtFormat) (cs : List Cell) (at p : ℕ) (c : Cell) → AllByRecursion (IsCell f) cs → StandsAt cs at p c → IsCell f c
+stands_sound f cs at p c sound s = (all_back (IsCell f) s.front (c ∷ s.back) (subst (AllByRecursion (IsCell f)) s.parts sound)).0
 
 -- the first hole that is large enough
 pub record HoleAt (cs : List Cell) (at n p : ℕ) (c : Cell) : Type 0 where
@@ -63,13 +68,13 @@ pub record HoleAt (cs : List Cell) (at n p : ℕ) (c : Cell) : Type 0 where
 pub hole_stands : (cs : List Cell) (at n p : ℕ) (c : Cell) → first_hole at n cs ≡ Some (p, c) → HoleAt cs at n p c
 hole_stands [] at n p c e = absurd cc
 hole_stands (d ∷ cs) at n p c e =
-    elim (chosen (is_hole n d) (Some (at, d)) (first_hole (at + 4 + size d) n cs) (Some (p, c)) e) [
+    elim (chosen (is_hole n d) (Some (at, d)) (first_hole (at + (4 + size d)) n cs) (Some (p, c)) e) [
       | inl h ↦
           let same : ◌≡◌ {A = PlacedCell} (at, d) (p, c) = some_is (at, d) (p, c) h.1 in
           let is_c : d ≡ c = ap (λ (x : PlacedCell). x.1) same in
           record { stands = here d c cs at p (sym (ap (λ (x : PlacedCell). x.0) same)) is_c; large = ap (is_hole n) (sym is_c) ∙ h.0 }
       | inr h ↦
-          let others = hole_stands cs (at + 4 + size d) n p c h.1 in
+          let others = hole_stands cs (at + (4 + size d)) n p c h.1 in
           record { stands = further d c cs at p others.stands; large = others.large }
     ]
 
@@ -79,15 +84,15 @@ unturned : (turn : Cell → Cell) (p at : ℕ) (cs : List Cell) → p < at → t
 unturned turn p at [] lt = refl
 unturned turn p at (c ∷ cs) lt =
     let no : eqb at p ≡ false = ne_eqb at p (λ e. omega arith) in
-    rw no (ap (λ (xs : List Cell). c ∷ xs) (unturned turn p (at + 4 + size c) cs (omega arith)))
+    rw no (ap (λ (xs : List Cell). c ∷ xs) (unturned turn p (at + (4 + size c)) cs (omega arith)))
 
 turned_one : (turn : Cell → Cell) (at p : ℕ) (front back : List Cell) (c : Cell) → p ≡ end_place at front → turned_at at turn p (front ++ (c ∷ back)) ≡ front ++ (turn c ∷ back)
 turned_one turn at p [] back c is =
     let yes : eqb at p ≡ true = eq-eqb at p (sym is) in
-    rw yes (ap (λ (xs : List Cell). turn c ∷ xs) (unturned turn p (at + 4 + size c) back (omega arith)))
+    rw yes (ap (λ (xs : List Cell). turn c ∷ xs) (unturned turn p (at + (4 + size c)) back (omega arith)))
 turned_one turn at p (x ∷ front) back c is =
-    let no : eqb at p ≡ false = ne_eqb at p (λ e. omega (arith, far front (at + 4 + size x))) in
-    rw no (ap (λ (xs : List Cell). x ∷ xs) (turned_one turn (at + 4 + size x) p front back c is))
+    let no : eqb at p ≡ false = ne_eqb at p (λ e. omega (arith, end_from-ge (at + (4 + size x)) (map store_cell front))) in
+    rw no (ap (λ (xs : List Cell). x ∷ xs) (turned_one turn (at + (4 + size x)) p front back c is))
 
 -- all cells but the one at the place are as they were
 pub turned : (turn : Cell → Cell) (cs : List Cell) (p : ℕ) (c : Cell) (s : StandsAt cs 2 p c) → turned_at 2 turn p cs ≡ s.front ++ (turn c ∷ s.back)
@@ -165,11 +170,11 @@ replaced f image image' front back old new e p end r fits fits' known written =
     let is : contents f (drop 2 image') ≡ k = ap (contents f) body ∙ contents_again f k (record { cells = cells; end = sound.end }) fits_k in
     let was = r.before in
     let at : p ≡ end_place 2 front = r.place in
-    let behind : end_place 2 (front ++ (old ∷ back)) ≡ end_place (p + 4 + size old) back = end_place-append 2 front (old ∷ back) ∙ ap (λ (n : ℕ). end_place (n + 4 + size old) back) (sym at) in
-    let behind' : end_place 2 (front ++ (new ∷ back)) ≡ end_place (p + 4 + size old) back = end_place-append 2 front (new ∷ back) ∙ ap (λ (n : ℕ). end_place (n + 4 + size new) back) (sym at) ∙ ap (λ (n : ℕ). end_place (p + 4 + n) back) r.same_size in
-    let stops : end.place ≡ end_place (p + 4 + size old) back = sym known.place ∙ ap (λ (x : Contents). end_place 2 x.cells) was ∙ behind in
+    let behind : end_place 2 (front ++ (old ∷ back)) ≡ end_place (p + (4 + size old)) back = end_place-append 2 front (old ∷ back) ∙ ap (λ (n : ℕ). end_place (n + (4 + size old)) back) (sym at) in
+    let behind' : end_place 2 (front ++ (new ∷ back)) ≡ end_place (p + (4 + size old)) back = end_place-append 2 front (new ∷ back) ∙ ap (λ (n : ℕ). end_place (n + (4 + size new)) back) (sym at) ∙ ap (λ (n : ℕ). end_place (p + (4 + n)) back) r.same_size in
+    let stops : end.place ≡ end_place (p + (4 + size old)) back = sym known.place ∙ ap (λ (x : Contents). end_place 2 x.cells) was ∙ behind in
     let within = known.within in
-    let last = far back (p + 4 + size old) in
+    let last = end_from-ge (p + (4 + size old)) (map store_cell back) in
     let room : p + 4 + size old ≤ length image = omega (arith, stops, last, within) in
     let same_len = r.same_size in
     let new_len : length (cell o new) ≡ 4 + size old = omega (arith, cell_len o new, same_len) in

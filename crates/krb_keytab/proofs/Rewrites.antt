@@ -20,8 +20,7 @@ use Rattle.krb_walk.proofs.Stops.{records_of}
 use Rattle.krb_walk.proofs.Lives.{lives}
 use Rattle.krb_keytab.specs.Entry.{EntryParts, entry_at, front, entry_of, Spells, version_by}
 use Rattle.krb_keytab.specs.Cells.{Cell, Live, Free, Bare, Contents, bytes_of, length_field, cell, end_bytes, contents, IsCell, IsSound, kind_of}
-use Rattle.krb_keytab.specs.Questions.{end_place}
-use Rattle.krb_keytab.specs.Store.{KeytabState, store_cell, store_of, image_of, entries}
+use Rattle.krb_keytab.specs.Store.{KeytabState, store_cell, store_of, end_place, image_of, entries}
 use Rattle.krb_keytab.specs.Form.{written_form, fits, IsEntry}
 use Rattle.krb_keytab.specs.Rewrite.{new_record, rewrite_of, rewrite_result}
 use Rattle.krb_keytab.specs.declared.step.Ending.TheVariants as ending
@@ -29,10 +28,10 @@ use Rattle.krb_keytab.specs.Image.{IsKnownEnd}
 use Rattle.krb_keytab.proofs.CellLemmas.{contents_again}
 use Rattle.krb_keytab.proofs.Turned.{contents_none}
 use Rattle.std.proofs.Math.ListN.{drop_of_length-le}
-use Rattle.krb_keytab.proofs.Cuts.{cell_len, end_place_is}
+use Rattle.krb_keytab.proofs.Cuts.{cell_len, end_place_is, store_sound}
 use Rattle.krb_keytab.proofs.EntryLemmas.{entry_spelled, entry_again}
 use Rattle.krb_keytab.proofs.WrittenLemmas.{written_spells, written_len}
-use Rattle.krb_keytab.proofs.Stores.{store_sound, keytab_of}
+use Rattle.krb_keytab.proofs.Stores.{keytab_of}
 use Rattle.krb_keytab.proofs.AnewLemmas.{fits_anew}
 use Rattle.krb_keytab.proofs.StoreChanges.{whole_of}
 
@@ -230,7 +229,7 @@ pub rewrites_store : (k : KeytabState) → IsSound k.format k.contents → IsSou
 rewrites_store k was sound whole = record {
   whole = whole;
   fault = refl;
-  sound = store_sound V2 (rewrite_of k).contents.cells sound.cells;
+  sound = store_sound (rewrite_of k).contents.cells;
   all_live = all_live_of (entries k);
   as_many = ap (λ (es : List EntryParts). length (lives 2 (map store_cell (map new_record es)))) (entries_all k) ∙ as_many_of k.format k.contents.cells 2 2 was.cells;
 }

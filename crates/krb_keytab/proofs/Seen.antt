@@ -10,6 +10,7 @@ use Rattle.krb_wire.proofs.Fields.{IsBytes, IsBytes-drop, IsBytes-take, some_is}
 use Rattle.krb_walk.specs.declared.fault.FaultKind.{FaultKind}
 use Rattle.krb_walk.specs.Store.{Store}
 use Rattle.krb_walk.proofs.ContentsLemmas.{behind}
+use Rattle.krb_walk.proofs.Stops.{end_from-ge}
 use Rattle.krb_cells.specs.Front.{AreCells, HasCells}
 use Rattle.krb_cells.specs.Carry.{store_in}
 use Rattle.krb_cells.proofs.Formats.{IsSeen, are_cells}
@@ -20,7 +21,7 @@ use Rattle.krb_keytab.specs.Step.{next_of_step, ending_kind}
 use Rattle.krb_keytab.specs.Image.{IsKnownEnd}
 use Rattle.krb_keytab.specs.Store.{KeytabState, IsImage, store_cell, cells_seen, store_of}
 use Rattle.krb_keytab.proofs.CellLemmas.{keytab_is, contents_next, contents_spelled, contents_behind}
-use Rattle.krb_keytab.proofs.Cuts.{cell_len, end_place_is, far}
+use Rattle.krb_keytab.proofs.Cuts.{cell_len, end_place_is}
 use Rattle.krb_keytab.proofs.KnownLemmas.{Stands, told_by, tells_live, tells_free, not_none}
 use Rattle.krb_keytab.proofs.Stores.{keytab_of, kind_ends}
 use Rattle.krb_keytab.proofs.Turned.{contents_none}
@@ -90,7 +91,7 @@ keytab_seen : (f : KtFormat) → IsSeen (keytab_format f) store_cell
 keytab_seen f = record {
   format = keytab_is f;
   four = λ c. omega (arith, cell_len (order_of f) c);
-  wide = elim [ Live b ↦ sym (cell_len (order_of f) (Live b)) | Free b ↦ sym (cell_len (order_of f) (Free b)) ];
+  wide = λ c. sym (cell_len (order_of f) c);
   none = refl;
 }
 
@@ -100,7 +101,7 @@ are_seen f bytes fits bare = are_cells (keytab_format f) store_cell bytes (keyta
 
 -- the cells end behind the version bytes
 pub ahead : (f : KtFormat) (image : List ℕ) (e : CellsEnd) → IsKnownEnd f image e → 2 ≤ e.place
-ahead f image e known = let place = known.place in omega (arith, place, far (contents f (drop 2 image)).cells 2)
+ahead f image e known = let place = known.place in omega (arith, place, end_from-ge 2 (cells_seen f (drop 2 image)))
 
 -- the bytes up to their end hold them and nothing else
 bare : (f : KtFormat) (image : List ℕ) (e : CellsEnd) → IsBytes image → IsKnownEnd f image e → contents f (take (e.place - 2) (drop 2 image)) ≡ record { cells = (contents f (drop 2 image)).cells; end = Bare }

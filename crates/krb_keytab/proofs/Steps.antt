@@ -13,8 +13,8 @@ use Rattle.krb_keytab.proofs.CellLemmas.{contents_next}
 pub past4 : (image : List ℕ) (at : ℕ) → drop 4 (drop at image) ≡ drop (at + 4) image
 past4 image at = drop-drop 4 at image
 
-past_cell : (image : List ℕ) (at n : ℕ) → drop n (drop 4 (drop at image)) ≡ drop (at + 4 + n) image
-past_cell image at n = ap (drop n) (past4 image at) ∙ drop-drop n (at + 4) image
+past_cell : (image : List ℕ) (at n : ℕ) → drop n (drop 4 (drop at image)) ≡ drop (at + (4 + n)) image
+past_cell image at n = drop-drop n 4 (drop at image) ∙ drop-drop (4 + n) at image
 
 pub from_is : (f : KtFormat) (image : List ℕ) (at : ℕ) (s : Step) → on_next (contents f) (next_of_step (drop at image) s) ≡ from_step f image at s
 from_is f image at (step.Live n) = rw (past_cell image at n, past4 image at) refl

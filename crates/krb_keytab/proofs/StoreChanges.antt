@@ -18,7 +18,6 @@ use Rattle.krb_keytab.specs.Changes.{PlacedCell, turned_at, zero_hole, is_hole, 
 use Rattle.krb_walk.specs.Rules.{PutGives, CutGives}
 use Rattle.krb_keytab.proofs.CellLemmas.{chosen}
 use Rattle.krb_keytab.proofs.FoundAgain.{added_reads}
-use Rattle.krb_keytab.proofs.Stores.{end_place-store, live_bytes_in-store}
 use Rattle.krb_keytab.proofs.Turned.{padded_len}
 use Rattle.krb_keytab.proofs.Replaced.{StandsAt, live_stands, hole_stands, turned}
 
@@ -28,7 +27,7 @@ turned_cell : (k : KeytabState) (turn : Cell → Cell) (p : ℕ) (c : Cell) → 
 turned_cell k turn p c s = record {
   before = map store_cell s.front;
   after = map store_cell s.back;
-  place = s.place ∙ end_place-store 2 s.front;
+  place = s.place;
   old_cells = ap (map store_cell) s.parts ∙ map-append store_cell s.front (c ∷ s.back);
   new_cells = ap (map store_cell) (turned turn k.contents.cells p c s) ∙ map-append store_cell s.front (turn c ∷ s.back);
   first = refl;
@@ -46,7 +45,7 @@ freed_len n = length-replicate n 0
 
 cuts_at : (k : KeytabState) (p : ℕ) (b : List ℕ) → (store_of k).fault ≡ None → store_bytes (store_of k) p ≡ Some b → Cuts (store_of k) (store_of (with_hole k p)) p
 cuts_at k p b whole held =
-    let s = live_stands k.contents.cells 2 p b (live_bytes_in-store 2 p k.contents.cells ∙ held) in
+    let s = live_stands k.contents.cells 2 p b held in
     let one = turned_cell k zero_hole p (Live b) s in
     record {
       whole = whole;

@@ -1,7 +1,7 @@
 -- What the changes of cells make of an image.
-use Rattle.std.proofs.Common.{◌≡◌, ℕ, suc, ◌+◌, ◌-◌, ◌^◌, ◌<◌, ◌≤◌, true, List, [], ◌∷◌, ◌++◌, length, drop, replicate, Option, Some, None, refl, sym, ap, subst, ◌∙◌, arith}
+use Rattle.std.proofs.Common.{◌≡◌, ℕ, suc, ◌+◌, ◌-◌, ◌^◌, ◌<◌, ◌≤◌, true, List, [], ◌∷◌, ◌++◌, length, map, drop, replicate, Option, Some, None, refl, sym, ap, subst, ◌∙◌, arith}
 use Rattle.std.specs.Prelude.{option_map, IsSome, IfSome, ◌==◌, if◌then◌else◌}
-use Rattle.std.specs.List.{splice, AllByRecursion}
+use Rattle.std.specs.List.{splice}
 use Rattle.std.proofs.lemmas.Bool.{leb-true}
 use Rattle.std.proofs.lemmas.List.{append-nil, length-append, length-map, length-replicate}
 use Rattle.krb_wire.specs.declared.format.KtFormat.{KtFormat}
@@ -11,14 +11,16 @@ use Rattle.krb_keytab.specs.declared.image.CellsEnd.{CellsEnd}
 use Rattle.krb_keytab.specs.declared.hole.Hole.{Hole}
 use Rattle.krb_keytab.specs.Cells.{Cell, Live, Free, End, Bare, Contents, cell, next, contents, IsCell, size}
 use Rattle.krb_walk.specs.Contents.{contents as contents_of, first_cells}
-use Rattle.krb_keytab.specs.Questions.{end_place, live_bytes_in}
+use Rattle.krb_walk.specs.Store.{live_bytes}
+use Rattle.krb_walk.proofs.Stops.{end_from-ge}
+use Rattle.krb_keytab.specs.Store.{store_cell, store_seen, end_place}
 use Rattle.krb_keytab.specs.Image.{IsKnownEnd, IsChanged}
 use Rattle.krb_keytab.specs.Changes.{PlacedCell, placed_cells, turned_at, zero_hole, is_hole, first_hole, with_zeros, record_in}
 use Rattle.krb_keytab.specs.Hole.{hole_of, hole_from}
 use Rattle.krb_keytab.specs.Form.{IsRecord}
 use Rattle.krb_keytab.proofs.CellLemmas.{contents_spelled, sound_size}
-use Rattle.krb_keytab.proofs.Cuts.{end_place-append, all_back, far}
-use Rattle.krb_keytab.proofs.Replaced.{StandsAt, live_stands, hole_stands, turned, IsReplaced, replaced}
+use Rattle.krb_keytab.proofs.Cuts.{end_place-append}
+use Rattle.krb_keytab.proofs.Replaced.{StandsAt, live_stands, stands_sound, hole_stands, turned, IsReplaced, replaced}
 
 -- no bytes hold no cells
 pub contents_none : (f : KtFormat) → contents f [] ≡ record { cells = []; end = Bare }
@@ -28,7 +30,7 @@ contents_none f = refl
 -- a turned cell leaves as many
 pub placed_len : (at : ℕ) (cs : List Cell) → length (placed_cells at cs) ≡ length cs
 placed_len at [] = refl
-placed_len at (c ∷ cs) = ap suc (placed_len (at + 4 + size c) cs)
+placed_len at (c ∷ cs) = ap suc (placed_len (at + (4 + size c)) cs)
 
 pub turned_len : (at : ℕ) (turn : Cell → Cell) (p : ℕ) (cs : List Cell) → length (turned_at at turn p cs) ≡ length cs
 turned_len at turn p cs = length-map (placed_cells at cs) (λ (x : PlacedCell). if x.0 == p then turn x.1 else x.1) ∙ placed_len at cs
@@ -40,9 +42,9 @@ as_many f old new turn p e end changed = ap (λ (k : Contents). length k.cells) 
 pub ends_within : (cs : List Cell) (p : ℕ) (c : Cell) → StandsAt cs 2 p c → p + 4 + size c ≤ end_place 2 cs
 ends_within cs p c s =
     let at : p ≡ end_place 2 s.front = s.place in
-    let whole : end_place 2 cs ≡ end_place (p + 4 + size c) s.back =
-    ap (end_place 2) s.parts ∙ end_place-append 2 s.front (c ∷ s.back) ∙ ap (λ (n : ℕ). end_place (n + 4 + size c) s.back) (sym at) in
-    omega (arith, whole, far s.back (p + 4 + size c))
+    let whole : end_place 2 cs ≡ end_place (p + (4 + size c)) s.back =
+    ap (end_place 2) s.parts ∙ end_place-append 2 s.front (c ∷ s.back) ∙ ap (λ (n : ℕ). end_place (n + (4 + size c)) s.back) (sym at) in
+    omega (arith, whole, end_from-ge (p + (4 + size c)) (map store_cell s.back))
 
 -- what is known of a cell of an image
 pub record StandsIn (f : KtFormat) (image : List ℕ) (p : ℕ) (c : Cell) : Type 0 where
@@ -57,10 +59,10 @@ stands_in f image p c end fits known s =
     let sound = (contents_spelled f (drop 2 image) (IsBytes-drop 2 image fits)).sound in
     record {
       room = omega (arith, ends_within cs p c s, stops, within);
-      sound = (all_back (IsCell f) s.front (c ∷ s.back) (subst (AllByRecursion (IsCell f)) s.parts sound.cells)).0;
+      sound = stands_sound f cs 2 p c sound.cells s;
     }
 
-pub live_in : (f : KtFormat) (image : List ℕ) (p : ℕ) (b : List ℕ) (end : CellsEnd) → IsBytes image → IsKnownEnd f image end → Some b ≡ live_bytes_in 2 (contents f (drop 2 image)).cells p → StandsIn f image p (Live b)
+pub live_in : (f : KtFormat) (image : List ℕ) (p : ℕ) (b : List ℕ) (end : CellsEnd) → IsBytes image → IsKnownEnd f image end → Some b ≡ live_bytes (store_seen f image) p → StandsIn f image p (Live b)
 live_in f image p b end fits known live = stands_in f image p (Live b) end fits known (live_stands (contents f (drop 2 image)).cells 2 p b (sym live))
 
 -- the bytes that stand there, and how many they are
@@ -70,7 +72,7 @@ bytes_of_size None n some len = absurd cc
 
 -- a live cell is made a hole of zeros
 pub freed_is : (f : KtFormat) (image image' b : List ℕ) (p n : ℕ) (end : CellsEnd) → 2 ≤ length image → 0 < n → n ≤ 2 ^ 31 → IsBytes image → IsBytes image' → IsKnownEnd f image end
-    → Some b ≡ live_bytes_in 2 (contents f (drop 2 image)).cells p → n ≡ length b
+    → Some b ≡ live_bytes (store_seen f image) p → n ≡ length b
     → image' ≡ splice image p (p + 4 + n) (cell (order_of f) (Free (replicate {A = ℕ} n 0)))
     → IsChanged f image image' (record { cells = turned_at 2 zero_hole p (contents f (drop 2 image)).cells; end = (contents f (drop 2 image)).end }) end
 freed_is f image image' b p n end long some small fits fits' known live len written =

@@ -27,7 +27,7 @@ pub record BeginsWith (old : CellsFrom) (at : ℕ) (c : Cell) (new : CellsFrom) 
   pub place : at ≡ old.place
   pub cells : old.contents.cells ≡ c ∷ new.contents.cells
   pub end : old.contents.end ≡ new.contents.end
-  pub next : new.place ≡ at + 4 + size c
+  pub next : new.place ≡ at + (4 + size c)
   pub format : new.format ≡ old.format
   pub sound : IsCell old.format c
   pub small : new.place ≤ 2 ^ 30

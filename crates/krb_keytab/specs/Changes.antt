@@ -17,7 +17,7 @@ PlacedCell = ℕ × Cell
 -- the cells with their places, where the first has that one
 abbrev pub placed_cells : ℕ → List Cell → List PlacedCell
 placed_cells at [] = []
-placed_cells at (c ∷ cs) = (at, c) ∷ placed_cells (at + 4 + size c) cs
+placed_cells at (c ∷ cs) = (at, c) ∷ placed_cells (at + (4 + size c)) cs
 
 -- the cells, with the one at a place turned into another
 abbrev pub turned_at : ℕ → (Cell → Cell) → ℕ → List Cell → List Cell

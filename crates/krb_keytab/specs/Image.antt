@@ -7,7 +7,7 @@ use Rattle.krb_keytab.specs.declared.step.Ending.TheVariants as ending
 use Rattle.krb_keytab.specs.declared.step.Step.TheVariants as step
 use Rattle.krb_keytab.specs.Cells.{Contents, contents}
 use Rattle.krb_keytab.specs.Step.{from_step}
-use Rattle.krb_keytab.specs.Questions.{end_place}
+use Rattle.krb_keytab.specs.Store.{end_place}
 
 -- the cells from a place on end where it is said, by what it is said
 pub record EndsKnown (f : KtFormat) (image : List ℕ) (at : ℕ) (e : CellsEnd) : Type 0 where

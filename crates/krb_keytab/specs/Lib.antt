@@ -15,7 +15,6 @@ pub mod Laws
 -- For private contracts alone.
 pub mod Step
 pub mod Image
-pub mod Questions
 pub mod CellsFrom
 pub mod CellView
 pub mod Looked

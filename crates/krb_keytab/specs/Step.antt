@@ -35,12 +35,12 @@ EndsWithin bytes (step.End e) = Unit {0}
 
 -- the contents from a place on, by what stands there
 abbrev pub from_step : KtFormat → List ℕ → ℕ → Step → Contents
-from_step f image at (step.Live n) = record { cells = Live (take n (drop (at + 4) image)) ∷ (contents f (drop (at + 4 + n) image)).cells; end = (contents f (drop (at + 4 + n) image)).end }
-from_step f image at (step.Free n) = record { cells = Free (take n (drop (at + 4) image)) ∷ (contents f (drop (at + 4 + n) image)).cells; end = (contents f (drop (at + 4 + n) image)).end }
+from_step f image at (step.Live n) = record { cells = Live (take n (drop (at + 4) image)) ∷ (contents f (drop (at + (4 + n)) image)).cells; end = (contents f (drop (at + (4 + n)) image)).end }
+from_step f image at (step.Free n) = record { cells = Free (take n (drop (at + 4) image)) ∷ (contents f (drop (at + (4 + n)) image)).cells; end = (contents f (drop (at + (4 + n)) image)).end }
 from_step f image at (step.End e) = record { cells = []; end = ends (drop at image) e }
 
 -- the cell that begins at a place ends within the image
 abbrev pub CellWithin : List ℕ → ℕ → Step → Type 0
-CellWithin image at (step.Live n) = (0 < n) × (at + 4 + n ≤ length image) × (length (take n (drop (at + 4) image)) ≡ n)
-CellWithin image at (step.Free n) = (0 < n) × (at + 4 + n ≤ length image) × (length (take n (drop (at + 4) image)) ≡ n)
+CellWithin image at (step.Live n) = (0 < n) × (at + (4 + n) ≤ length image) × (length (take n (drop (at + 4) image)) ≡ n)
+CellWithin image at (step.Free n) = (0 < n) × (at + (4 + n) ≤ length image) × (length (take n (drop (at + 4) image)) ≡ n)
 CellWithin image at (step.End e) = Unit {0}

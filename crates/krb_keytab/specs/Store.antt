@@ -5,11 +5,11 @@ use Rattle.krb_wire.specs.declared.format.Order.{Order}
 use Rattle.krb_wire.specs.declared.format.KtFormat.{KtFormat}
 use Rattle.krb_wire.specs.declared.format.KtFormat.TheVariants.{V1, V2}
 use Rattle.krb_wire.specs.Reading.{◌>>=◌}
-use Rattle.krb_walk.specs.Store.{Cell as StoreCell, Store, records, live_bytes}
+use Rattle.krb_walk.specs.Store.{Cell as StoreCell, Store, end_from, records, live_bytes}
 use Rattle.krb_keytab.specs.declared.open.KtOpenFault.{KtOpenFault}
 use Rattle.krb_keytab.specs.declared.open.KtOpenFault.TheVariants.{TooShort, BadVersion, TooLarge}
 use Rattle.krb_keytab.specs.Entry.{EntryParts, entry_at}
-use Rattle.krb_keytab.specs.Cells.{Cell, Live, Free, Bare, Contents, contents, image, version_byte, kind_of}
+use Rattle.krb_keytab.specs.Cells.{Cell, Live, Free, Bare, Contents, contents, size, image, version_byte, kind_of}
 
 -- a keytab: its format, the greatest length of its image, and its cells with what ends them
 pub record KeytabState : Type 0 where
@@ -42,16 +42,28 @@ open_result_in limit bytes (Some f) = if nat_lt limit (length bytes) then Err To
 abbrev pub open_result : Order → ℕ → List ℕ → Result KeytabState KtOpenFault
 open_result o limit bytes = if nat_lt (length bytes) 2 then Err TooShort else open_result_in limit bytes (format_of o bytes)
 
+-- the bytes of a record; a hole has none
+abbrev pub live_of : Cell → Option (List ℕ)
+live_of (Live b) = Some b
+live_of (Free b) = None
+
 -- a cell as a store has it: its length takes four places
 abbrev pub store_cell : Cell → StoreCell
-store_cell (Live b) = record { width = 4 + length b; live = Some b }
-store_cell (Free b) = record { width = 4 + length b; live = None }
+store_cell c = record { width = 4 + size c; live = live_of c }
 
 -- the cells that bytes have, as a store has them
 abbrev pub cells_seen : KtFormat → List ℕ → List StoreCell
 cells_seen f bytes = map store_cell (contents f bytes).cells
 
--- the store that a keytab is: its cells stand after the two version bytes
+-- the place after cells that begin at a place
+abbrev pub end_place : ℕ → List Cell → ℕ
+end_place at cells = end_from at (map store_cell cells)
+
+-- the store that an image has: its cells stand after the two version bytes
+abbrev pub store_seen : KtFormat → List ℕ → Store
+store_seen f image = record { first = 2; cells = cells_seen f (drop 2 image); fault = kind_of (contents f (drop 2 image)).end }
+
+-- the store that a keytab is
 abbrev pub store_of : KeytabState → Store
 store_of k = record { first = 2; cells = map store_cell k.contents.cells; fault = kind_of k.contents.end }
 

@@ -91,11 +91,11 @@ impl<'a> Cells<'a> {
         let (field, rest) = split_u32(format.order(), tail(self.image, at))?;
         if field < 0x8000_0000 {
             let size = field as usize;
-            self.place = at + 4 + size;
+            self.place = at + (4 + size);
             return Some((at, CellView::Live(rest.split_at(size).0)));
         }
         let size = 0x1_0000_0000 - field as usize;
-        self.place = at + 4 + size;
+        self.place = at + (4 + size);
         Some((at, CellView::Free(rest.split_at(size).0)))
     }
 }

@@ -37,8 +37,8 @@ fn end_of_cells_in(format: KtFormat, image: &[u8]) -> (CellsEnd, u32)
     let mut count: u32 = 0;
     'cells: loop {
         match step_at(format, image, at) {
-            Step::Live(size) => at = at + 4 + size,
-            Step::Free(size) => at = at + 4 + size,
+            Step::Live(size) => at += 4 + size,
+            Step::Free(size) => at += 4 + size,
             Step::End(ending) => return (CellsEnd { place: at, ending }, count),
         }
         count += 1;

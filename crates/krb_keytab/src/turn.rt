@@ -2,7 +2,8 @@
 
 ghost use Rattle.std.specs.Prelude.{◌≡◌, length, drop, IfSome, IsSome, Some};
 ghost use Rattle.krb_keytab.specs.Cells.{contents};
-ghost use Rattle.krb_keytab.specs.Questions.{live_bytes_in};
+ghost use Rattle.krb_walk.specs.Store.{live_bytes};
+ghost use Rattle.krb_keytab.specs.Store.{store_seen};
 ghost use Rattle.krb_keytab.specs.CellsFrom.{AreKnown};
 ghost use Rattle.krb_keytab.specs.Image.{IsChanged};
 ghost use Rattle.krb_keytab.specs.Changes.{turned_at, zero_hole, record_in};
@@ -17,8 +18,8 @@ use krb_wire::{KtFormat, Name};
 /// Makes the live cell of so many bytes at a place a hole of zeros.
 pub fn free_cell(format: KtFormat, image: &mut [u8], end: CellsEnd, place: usize, size: usize)
     requires known { AreKnown format image.old 2 end }
-    requires live { IsSome (live_bytes_in 2 (contents format (drop 2 image.old)).cells place) }
-    requires size { IfSome (live_bytes_in 2 (contents format (drop 2 image.old)).cells place) (λ b. length b ≡ size) }
+    requires live { IsSome (live_bytes (store_seen format image.old) place) }
+    requires size { IfSome (live_bytes (store_seen format image.old) place) (λ b. length b ≡ size) }
     ensures len { length image.new ≡ length image.old }
     ensures count { length (contents format (drop 2 image.new)).cells ≡ length (contents format (drop 2 image.old)).cells }
     ensures changed { IsChanged format image.old image.new (record {

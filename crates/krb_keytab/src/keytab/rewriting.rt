@@ -60,7 +60,14 @@ impl<A: Allocator + Copy> Keytab<A> {
         let front = Lengths {
             format: self.format,
         };
-        carry_to(front, &mut self.image, 2, self.end.place, new.seen(), cursors);
+        carry_to(
+            front,
+            &mut self.image,
+            2,
+            self.end.place,
+            new.seen(),
+            cursors,
+        );
         *self = new;
     }
 
