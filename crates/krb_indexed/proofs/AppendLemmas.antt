@@ -10,7 +10,9 @@ use Rattle.std.proofs.lemmas.List.{append-nil, map-append, replicate-append-repl
 use Rattle.krb_wire.specs.declared.format.KtFormat.{KtFormat}
 use Rattle.std.specs.Int.{w32}
 use Rattle.std.proofs.Common.{Bool, cond}
-use Rattle.std.proofs.lemmas.Bool.{lt-leb, le-ltb, leb-true}
+use Rattle.std.proofs.lemmas.Bool.{lt-leb, lt-ltb, le-ltb, leb-true}
+use Rattle.std.proofs.lemmas.Bool.Decides.{eqb_tells}
+use Rattle.krb_keytab.specs.Length.{length_of}
 use Rattle.krb_wire.specs.declared.format.Order.{Order}
 use Rattle.krb_wire.specs.Spelling.{order_of, digits}
 use Rattle.krb_wire.proofs.Fields.{wide32}
@@ -25,11 +27,10 @@ use Rattle.krb_keytab.specs.Cells as cells
 use Rattle.krb_keytab.specs.Changes.{with_last, end_after, first_hole, put_result, takes_none, is_refused}
 use Rattle.krb_keytab.specs.Store.{KeytabState, image_of, store_of, end_place}
 use Rattle.krb_indexed.specs.declared.slot.Slot.{Slot}
-use Rattle.krb_indexed.specs.Slot.{free_size, slots_from, slot_of}
+use Rattle.krb_indexed.specs.Slot.{free_size, room_of, slots_from, slot_of}
 use Rattle.krb_indexed.specs.Tree.{SizeTree, IsHeightFor, HasRoomFor, IsGrown}
 use Rattle.krb_indexed.specs.Index.{IsIndex, HasSpare}
 use Rattle.krb_indexed.proofs.PlaceLemmas.{slots_len}
-use Rattle.krb_indexed.proofs.StopLemmas.{live_slot}
 use Rattle.krb_indexed.proofs.ChangeLemmas.{IsKept, image_len, ok_is}
 use Rattle.krb_keytab.proofs.Cuts.{end_place-append}
 use Rattle.krb_keytab.proofs.StoreChanges.{whole_of}
@@ -85,11 +86,16 @@ slots_last : (at : ℕ) (cs : List Cell) (c : Cell) → slots_from at (cs ++ (c 
 slots_last at [] c = refl
 slots_last at (x ∷ cs) c = ap (λ (s : List Slot). slot_of (at, x) ∷ s) (slots_last (at + (4 + cells.size x)) cs c)
 
+no_room : (n : ℕ) → n < 2 ^ 31 → room_of (length_of n) ≡ 0
+no_room n small =
+    let is : nat_lt n (2 ^ 31) ≡ true = lt-ltb n (2 ^ 31) small in
+    elim (eqb_tells n 0) [ inl y ↦ rw (y.0) refl | inr more ↦ rw (more.0, is) refl ]
+
 pub appended_index : (k : KeytabState) (slots : List Slot) (t u : SizeTree) (bytes : List ℕ) → IsIndex k slots t → IsGrown (length slots) t u → length bytes < 2 ^ 31 → IsIndex (with_last k bytes) (slots ++ (slot_of (end_place 2 k.contents.cells, Live bytes) ∷ [])) u
 appended_index k slots t u bytes i grown small =
     let s = slot_of (end_place 2 k.contents.cells, Live bytes) in
     let n = length slots in
-    let live : free_size s ≡ 0 = let is = live_slot (end_place 2 k.contents.cells) bytes small in rw is refl in
+    let live : free_size s ≡ 0 = no_room (length bytes) small in
     let len : length (slots ++ (s ∷ [])) ≡ n + 1 = length-append slots (s ∷ []) in
     let more : map free_size (slots ++ (s ∷ [])) ≡ map free_size slots ++ (0 ∷ []) = map-append free_size slots (s ∷ []) ∙ ap (λ (x : ℕ). map free_size slots ++ (x ∷ [])) live in
     let zeros = replicate {A = ℕ} (2 ^ u.height - (n + 1)) 0 in
@@ -169,7 +175,7 @@ doubles_grown t u n full len sizes height =
 -- table and tree after an addition after the cells
 pub appended_kept : (k new : KeytabState) (e : EntryParts) (slots items : List Slot) (t mid u : SizeTree) (place need put count room last more n : ℕ) → IsKept k slots count room t → is_some (fault_of (store_of k)) ≡ false → fits k.format e ≡ true
     → hole_from 2 need k.contents.cells ≡ None → need ≡ length (written_form k.format e) → nat_le (length (image_of (with_last k (written_form k.format e)))) k.limit ≡ true → need < 2 ^ 31 → PutGives (put_result k e) k (Ok put) new → place ≡ end_of (store_of k)
-    → items ≡ slots → mid.sizes ≡ t.sizes → mid.height ≡ t.height → n ≡ length slots → IsGrown n mid u → IsKept new (items ++ (record { place = place; length = need } ∷ [])) last more u
+    → items ≡ slots → mid.sizes ≡ t.sizes → mid.height ≡ t.height → n ≡ length slots → IsGrown n mid u → IsKept new (items ++ (record { place = place; field = need } ∷ [])) last more u
 appended_kept k new e slots items t mid u place need put count room last more n kept whole fit none is h small gives at same sizes height counts grown =
     let x = written_form k.format e in
     let state = appended_state k new e put whole fit (subst (λ (m : ℕ). hole_from 2 m k.contents.cells ≡ None) is none) h gives in
@@ -180,9 +186,9 @@ appended_kept k new e slots items t mid u place need put count room last more n 
     } in
     let more_one = subst (λ (m : ℕ). IsGrown m mid u) (counts ∙ ap length (sym same)) grown in
     let done = appended_index k items mid u x index more_one (omega (arith, small, is)) in
-    let slot : record { place = place; length = need } ≡ slot_of (end_place 2 k.contents.cells, Live x) =
-    ap (λ (m : ℕ). record { place = m; length = need }) at ∙ ap (λ (m : ℕ). record { place = end_place 2 k.contents.cells; length = m }) is in
+    let slot : record { place = place; field = need } ≡ slot_of (end_place 2 k.contents.cells, Live x) =
+    ap (λ (m : ℕ). record { place = m; field = need }) at ∙ ap (λ (m : ℕ). record { place = end_place 2 k.contents.cells; field = m }) is in
     let spare : HasSpare (with_last k x) last more u = appended_spare k x last more u whole in
     let all : IsKept (with_last k x) (items ++ (slot_of (end_place 2 k.contents.cells, Live x) ∷ [])) last more u = (done, spare) in
-    subst (λ (y : KeytabState). IsKept y (items ++ (record { place = place; length = need } ∷ [])) last more u) (sym state)
+    subst (λ (y : KeytabState). IsKept y (items ++ (record { place = place; field = need } ∷ [])) last more u) (sym state)
     (subst (λ (s : Slot). IsKept (with_last k x) (items ++ (s ∷ [])) last more u) (sym slot) all)

@@ -49,13 +49,13 @@ bytes_stand k p b image is s =
 pub number_bytes : (k : KeytabState) (number p : ℕ) (image : List ℕ) → image ≡ image_of k → IsSound k.format k.contents → (h : IsLiveNumber k p number) → BytesAt image (live_at k number p h).bytes p × (size (slot_at k number) ≡ length (live_at k number p h).bytes)
 number_bytes k number p image is sound h =
     let l = live_at k number p h in
-    let small = (stands_sound k p (Live l.bytes) sound l.stands).1 in
-    (bytes_stand k p l.bytes image is l.stands, ap size l.slot ∙ live_size (end_place 2 l.stands.front) l.bytes small)
+    let is_cell = stands_sound k p (Live l.bytes) sound l.stands in
+    (bytes_stand k p l.bytes image is l.stands, ap size l.slot ∙ live_size (end_place 2 l.stands.front) l.bytes (is_cell.0, is_cell.1))
 
 -- how many bytes it has
 pub live_count : (k : KeytabState) (number p : ℕ) (slot : Slot) → IsSound k.format k.contents → IsLiveNumber k p number → slot ≡ slot_at k number → IfSome (live_bytes (store_of k) p) (λ b. length b ≡ size slot)
 live_count k number p slot sound h is =
     let l = live_at k number p h in
-    let small = (stands_sound k p (Live l.bytes) sound l.stands).1 in
-    let count : length l.bytes ≡ size slot = sym (ap size is ∙ ap size l.slot ∙ live_size (end_place 2 l.stands.front) l.bytes small) in
+    let is_cell = stands_sound k p (Live l.bytes) sound l.stands in
+    let count : length l.bytes ≡ size slot = sym (ap size is ∙ ap size l.slot ∙ live_size (end_place 2 l.stands.front) l.bytes (is_cell.0, is_cell.1)) in
     subst (λ (o : Option (List ℕ)). IfSome o (λ b. length b ≡ size slot)) (sym l.is) count

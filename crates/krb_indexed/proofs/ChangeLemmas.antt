@@ -80,7 +80,7 @@ freed_kept k slots t u count room number place kept h sizes height rooms =
     let p = end_place 2 s.front in
     let same : cells.size d ≡ cells.size old = length-replicate {A = ℕ} (length l.bytes) 0 in
     let cells_are = turned_cells zero_hole k.contents.cells place old s in
-    let slot : turned (slot_at k number) ≡ slot_of (p, d) = ap turned l.slot ∙ ap (λ (n : ℕ). record { place = p; length = 2 ^ 32 - n }) (sym same) in
+    let slot : turned (slot_at k number) ≡ slot_of (p, d) = ap turned l.slot ∙ ap (λ (n : ℕ). record { place = p; field = 2 ^ 32 - n }) (sym same) in
     let new_sizes : u.sizes ≡ set t.sizes number (free_size (slot_of (p, d))) = sizes ∙ ap (λ (x : Slot). set t.sizes number (free_size x)) slot in
     let index = kept_index k (with_hole k place) slots t u s.front s.back old d number kept.0 s.parts cells_are same l.count new_sizes height in (
       subst (λ (x : Slot). IsIndex (with_hole k place) (set slots number x) u) (sym slot) index,
@@ -118,10 +118,10 @@ hole_from_first k need number (Some x) lt is e =
 pub hole_at : (k : KeytabState) (need number : ℕ) → IsFit k need (Some number) → HoleOf k need number
 hole_at k need number fit = hole_from_first k need number (first_hole 2 need k.contents.cells) fit.0 refl fit.1
 
-pub hole_length : (k : KeytabState) (need number : ℕ) → IsSound k.format k.contents → IsFit k need (Some number) → 0 < (slot_at k number).length
+pub hole_length : (k : KeytabState) (need number : ℕ) → IsSound k.format k.contents → IsFit k need (Some number) → 0 < (slot_at k number).field
 hole_length k need number sound fit =
     let h = hole_at k need number fit in
-    omega (arith, ap (λ (s : Slot). s.length) h.slot, (stands_sound k (slot_at k number).place (Free h.bytes) sound h.stands).1)
+    omega (arith, ap (λ (s : Slot). s.field) h.slot, (stands_sound k (slot_at k number).place (Free h.bytes) sound h.stands).1)
 
 -- the hole of a number takes a record
 pub filled_kept : (k : KeytabState) (slots : List Slot) (t u : SizeTree) (count room number : ℕ) (bytes : List ℕ) → IsSound k.format k.contents → IsKept k slots count room t → IsFit k (length bytes) (Some number) → u.sizes ≡ set t.sizes number (free_size (turned (slot_at k number))) → u.height ≡ t.height → u.room ≡ t.room
@@ -137,7 +137,7 @@ filled_kept k slots t u count room number bytes sound kept fit sizes height room
     let same : cells.size d ≡ cells.size old = padded_len bytes (length h.bytes) h.large in
     let cells_are = turned_cells (record_in bytes) k.contents.cells place old s in
     let back_again : 2 ^ 32 - (2 ^ 32 - length h.bytes) ≡ cells.size d = omega (arith, small, same) in
-    let slot : turned (slot_at k number) ≡ slot_of (p, d) = ap turned h.slot ∙ ap (λ (n : ℕ). record { place = p; length = n }) back_again in
+    let slot : turned (slot_at k number) ≡ slot_of (p, d) = ap turned h.slot ∙ ap (λ (n : ℕ). record { place = p; field = n }) back_again in
     let new_sizes : u.sizes ≡ set t.sizes number (free_size (slot_of (p, d))) = sizes ∙ ap (λ (x : Slot). set t.sizes number (free_size x)) slot in
     let index = kept_index k (with_record_in k bytes place) slots t u s.front s.back old d number kept.0 s.parts cells_are same h.count new_sizes height in (
       subst (λ (x : Slot). IsIndex (with_record_in k bytes place) (set slots number x) u) (sym slot) index,

@@ -16,11 +16,11 @@ use Rattle.krb_indexed.specs.declared.slot.Slot.{Slot}
 use Rattle.krb_indexed.specs.Slot.{free_size, slots_from, hole_of_slot}
 use Rattle.krb_indexed.specs.Tree.{first_fit}
 use Rattle.krb_indexed.proofs.PlaceLemmas.{slots_len}
-use Rattle.krb_indexed.proofs.StopLemmas.{live_slot, free_slot, free_size_is}
+use Rattle.krb_indexed.proofs.StopLemmas.{live_room, hole_size, hole_room}
 
 -- the default that stands where no slot does
 abbrev pub none : Slot
-none = record { place = 0; length = 0 }
+none = record { place = 0; field = 0 }
 
 -- a cell whose leaf is large enough, after others whose leaves are not, is the first hole
 fits_here : (f : KtFormat) (at need : ℕ) (cs : List Cell) (i : ℕ) → 0 < need → AllByRecursion (IsCell f) cs → i < length cs
@@ -28,19 +28,16 @@ fits_here : (f : KtFormat) (at need : ℕ) (cs : List Cell) (i : ℕ) → 0 < ne
     → hole_from at need cs ≡ Some (hole_of_slot (get_or (slots_from at cs) i none))
 fits_here f at need [] i some sound lt fits before = absurd (omega arith)
 fits_here f at need (Live b ∷ cs) zero some sound lt fits before =
-    let live = live_slot at b sound.0.1 in
-    absurd (omega (arith, some, rw live at fits))
+    absurd (omega (arith, some, fits, live_room at b (sound.0.0, sound.0.1)))
 fits_here f at need (Free b ∷ cs) zero some sound lt fits before =
-    let free = free_slot at b sound.0.1 in
-    let large : need ≤ length b = omega (arith, rw free at fits) in
+    let large : need ≤ length b = omega (arith, fits, hole_room at b sound.0) in
     let yes : nat_le need (length b) ≡ true = le-leb need (length b) large in
-    rw yes (ap (λ (n : ℕ). Some (record { place = at; size = n })) (sym (free_size_is at b sound.0.1)))
+    rw yes (ap (λ (n : ℕ). Some (record { place = at; size = n })) (sym (hole_size at b sound.0)))
 fits_here f at need (Live b ∷ cs) (suc i) some sound lt fits before =
     fits_here f (at + (4 + length b)) need cs i some sound.1 (omega arith) fits (λ k lt2. before (suc k) (omega arith))
 fits_here f at need (Free b ∷ cs) (suc i) some sound lt fits before =
-    let free = free_slot at b sound.0.1 in
     let first = before 0 (omega arith) in
-    let small : length b < need = omega (arith, rw free at first) in
+    let small : length b < need = omega (arith, first, hole_room at b sound.0) in
     let no : nat_le need (length b) ≡ false = lt-leb need (length b) small in
     rw no (fits_here f (at + (4 + length b)) need cs i some sound.1 (omega arith) fits (λ k lt2. before (suc k) (omega arith)))
 
@@ -49,9 +46,8 @@ fits_nowhere : (f : KtFormat) (at need : ℕ) (cs : List Cell) → AllByRecursio
 fits_nowhere f at need [] sound small = refl
 fits_nowhere f at need (Live b ∷ cs) sound small = fits_nowhere f (at + (4 + length b)) need cs sound.1 (λ k lt. small (suc k) (omega arith))
 fits_nowhere f at need (Free b ∷ cs) sound small =
-    let free = free_slot at b sound.0.1 in
     let first = small 0 (omega arith) in
-    let less : length b < need = omega (arith, rw free at first) in
+    let less : length b < need = omega (arith, first, hole_room at b sound.0) in
     let no : nat_le need (length b) ≡ false = lt-leb need (length b) less in
     rw no (fits_nowhere f (at + (4 + length b)) need cs sound.1 (λ k lt. small (suc k) (omega arith)))
 

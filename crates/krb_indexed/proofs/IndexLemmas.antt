@@ -28,7 +28,7 @@ table_held i is same = same ∙ i.table ∙ ap (λ (y : KeytabState). slots_from
 pub slot_place : (k : KeytabState) (i : ℕ) → i < length k.contents.cells → (slot_at k i).place ≡ end_place 2 (take i k.contents.cells)
 slot_place k i lt =
     let cs = k.contents.cells in
-    sym (place_at (slots_from 2 cs) i (record { place = 0; length = 0 }) (omega (arith, slots_len 2 cs))) ∙ place_is 2 cs i lt
+    sym (place_at (slots_from 2 cs) i (record { place = 0; field = 0 }) (omega (arith, slots_len 2 cs))) ∙ place_is 2 cs i lt
 
 pub end_by_table : (k : KeytabState) (rank : ℕ) → length k.contents.cells ≤ rank → end_of (store_of k) ≡ end_place 2 (take rank k.contents.cells)
 end_by_table k rank le = ap (end_place 2) (sym (take_all rank k.contents.cells le))

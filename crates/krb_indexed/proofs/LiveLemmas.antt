@@ -41,7 +41,7 @@ set_slot at front back c d same =
 
 pub slot_seam : (k : KeytabState) (front back : List Cell) (c : Cell) → k.contents.cells ≡ front ++ (c ∷ back) → slot_at k (length front) ≡ slot_of (end_place 2 front, c)
 slot_seam k front back c parts =
-    let none : Slot = record { place = 0; length = 0 } in
+    let none : Slot = record { place = 0; field = 0 } in
     let s = slots_from 2 front in
     ap (λ (xs : List Cell). get_or (slots_from 2 xs) (length front) none) parts
     ∙ ap (λ (t : List Slot). get_or t (length front) none) (slots_parts 2 front back c)
@@ -75,11 +75,11 @@ bytes_of_live None h = absurd cc
 
 free_none : (f : KtFormat) (c : Cell) (p : ℕ) → IsCell f c → is_free (slot_of (p, c)) ≡ true → (store_cell c).live ≡ None
 free_none f (Free b) p sound h = refl
-free_none f (Live b) p sound h = let no = live_slot p b sound.1 in absurd (cc (no, h))
+free_none f (Live b) p sound h = let no = live_slot p b (sound.0, sound.1) in absurd (cc (no, h))
 
 live_some : (f : KtFormat) (c : Cell) (p : ℕ) → IsCell f c → is_free (slot_of (p, c)) ≡ false → IsSome (store_cell c).live
 live_some f (Live b) p sound h = refl
-live_some f (Free b) p sound h = let is = free_slot p b sound.1 in absurd (cc (is, h))
+live_some f (Free b) p sound h = let is = free_slot p b sound in absurd (cc (is, h))
 
 -- the cell of a number, and those after it
 slot_is : (at : ℕ) (cs : List Cell) (i : ℕ) (d : Cell) (e : Slot) → i < length cs → get_or (slots_from at cs) i e ≡ slot_of (end_place at (take i cs), get_or cs i d)
@@ -117,14 +117,14 @@ pub live_free : (k : KeytabState) (p rank : ℕ) → IsSound k.format k.contents
 live_free k p rank sound lt is free =
     let cs = k.contents.cells in
     let d = Free [] in
-    let slot = slot_is 2 cs rank d (record { place = 0; length = 0 }) lt in
+    let slot = slot_is 2 cs rank d (record { place = 0; field = 0 }) lt in
     live_is k p rank d lt is ∙ free_none k.format (get_or cs rank d) (end_place 2 (take rank cs)) (sound_at k.format cs rank d sound.cells lt) (sym (ap is_free slot) ∙ free)
 
 pub live_number : (k : KeytabState) (p rank : ℕ) → IsSound k.format k.contents → rank < length k.contents.cells → (slot_at k rank).place ≡ p → is_free (slot_at k rank) ≡ false → IsLiveNumber k p rank
 live_number k p rank sound lt is live =
     let cs = k.contents.cells in
     let d = Free [] in
-    let slot = slot_is 2 cs rank d (record { place = 0; length = 0 }) lt in
+    let slot = slot_is 2 cs rank d (record { place = 0; field = 0 }) lt in
     record {
       inside = lt;
       place = is;
@@ -150,7 +150,7 @@ live_at k number place h =
 pub stands_sound : (k : KeytabState) (p : ℕ) (c : Cell) → IsSound k.format k.contents → StandsAt k.contents.cells 2 p c → IsCell k.format c
 stands_sound k p c sound s = sound_there k.format k.contents.cells 2 p c sound.cells s
 
-pub live_length : (k : KeytabState) (number place : ℕ) → IsSound k.format k.contents → IsLiveNumber k place number → 0 < (slot_at k number).length
+pub live_length : (k : KeytabState) (number place : ℕ) → IsSound k.format k.contents → IsLiveNumber k place number → 0 < (slot_at k number).field
 live_length k number place sound h =
     let l = live_at k number place h in
-    omega (arith, ap (λ (s : Slot). s.length) l.slot, (stands_sound k place (Live l.bytes) sound l.stands).0)
+    omega (arith, ap (λ (s : Slot). s.field) l.slot, (stands_sound k place (Live l.bytes) sound l.stands).0)

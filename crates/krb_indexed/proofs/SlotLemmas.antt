@@ -23,7 +23,7 @@ partitioned_by_place slots p rising i j d le lt h =
     ]
 
 none : Slot
-none = record { place = 0; length = 0 }
+none = record { place = 0; field = 0 }
 
 not_below : (a b : ℕ) → nat_lt a b ≡ false → b ≤ a
 not_below a b h = elim (leb_tells (suc a) b) [

@@ -2,7 +2,6 @@
 use Rattle.std.proofs.Common.{◌≡◌, ℕ, zero, suc, ◌+◌, ◌-◌, ◌^◌, ◌<◌, ◌≤◌, true, false, List, [], ◌∷◌, ◌++◌, length, map, take, drop, Some, None, refl, sym, ap, subst, ◌∙◌, arith}
 use Rattle.std.specs.Prelude.{◌&&◌, nat_le, IfSome}
 use Rattle.std.specs.List.{AllByRecursion}
-use Rattle.std.proofs.lemmas.Bool.{le-leb, lt-leb}
 use Rattle.std.proofs.lemmas.Bool.Decides.{nat_tests}
 use Rattle.std.proofs.lemmas.List.{map-append}
 use Rattle.krb_wire.specs.declared.format.KtFormat.{KtFormat}
@@ -12,24 +11,34 @@ use Rattle.krb_walk.proofs.Stops.{next_from, next_skips, next_stops, end_from-ge
 use Rattle.krb_walk.proofs.Splits.{next_ahead}
 use Rattle.krb_keytab.specs.Cells.{Cell, Live, Free, IsCell, IsSound, kind_of}
 use Rattle.krb_keytab.specs.Cells as cells
+use Rattle.krb_keytab.specs.declared.length.Length.TheVariants as says
+use Rattle.krb_keytab.specs.Length.{size_of, HasField}
+use Rattle.krb_keytab.proofs.LengthLemmas.{length_again}
 use Rattle.krb_keytab.specs.Store.{KeytabState, store_cell, store_of, end_place}
 use Rattle.krb_keytab.proofs.Cuts.{all_back, store_sound}
-use Rattle.krb_indexed.specs.Slot.{is_free, size, slots_from, slot_of, first_live, stop_of_slot}
+use Rattle.krb_indexed.specs.Slot.{is_free, is_hole, room_of, size, free_size, slots_from, slot_of, first_live, stop_of_slot}
 use Rattle.krb_indexed.proofs.PlaceLemmas.{cells_at_rank, slots_drop}
 
 -- ---- a cell by its slot
 
-pub live_slot : (at : ℕ) (b : List ℕ) → length b < 2 ^ 31 → is_free (slot_of (at, Live b)) ≡ false
-live_slot at b small = lt-leb (2 ^ 31) (length b) small
+pub live_slot : (at : ℕ) (b : List ℕ) → HasField (says.Live (length b)) → is_free (slot_of (at, Live b)) ≡ false
+live_slot at b has = ap is_hole (length_again (says.Live (length b)) has)
 
-pub free_slot : (at : ℕ) (b : List ℕ) → length b ≤ 2 ^ 31 → is_free (slot_of (at, Free b)) ≡ true
-free_slot at b small = le-leb (2 ^ 31) (2 ^ 32 - length b) (omega arith)
+pub free_slot : (at : ℕ) (b : List ℕ) → HasField (says.Free (length b)) → is_free (slot_of (at, Free b)) ≡ true
+free_slot at b has = ap is_hole (length_again (says.Free (length b)) has)
 
-pub live_size : (at : ℕ) (b : List ℕ) → length b < 2 ^ 31 → size (slot_of (at, Live b)) ≡ length b
-live_size at b small = rw (live_slot at b small) refl
+pub live_size : (at : ℕ) (b : List ℕ) → HasField (says.Live (length b)) → size (slot_of (at, Live b)) ≡ length b
+live_size at b has = ap size_of (length_again (says.Live (length b)) has)
 
-pub free_size_is : (at : ℕ) (b : List ℕ) → length b ≤ 2 ^ 31 → size (slot_of (at, Free b)) ≡ length b
-free_size_is at b small = rw (free_slot at b small) (omega arith)
+pub hole_size : (at : ℕ) (b : List ℕ) → HasField (says.Free (length b)) → size (slot_of (at, Free b)) ≡ length b
+hole_size at b has = ap size_of (length_again (says.Free (length b)) has)
+
+-- what may be taken there
+pub live_room : (at : ℕ) (b : List ℕ) → HasField (says.Live (length b)) → free_size (slot_of (at, Live b)) ≡ 0
+live_room at b has = ap room_of (length_again (says.Live (length b)) has)
+
+pub hole_room : (at : ℕ) (b : List ℕ) → HasField (says.Free (length b)) → free_size (slot_of (at, Free b)) ≡ length b
+hole_room at b has = ap room_of (length_again (says.Free (length b)) has)
 
 -- ---- stops
 
@@ -42,13 +51,13 @@ stops_live s at b cs live len =
 stop_from : (f : KtFormat) (s : Store) (at p : ℕ) (cs : List Cell) → p ≤ at → AllByRecursion (IsCell f) cs → stop_of s (next_from at (map store_cell cs) p) ≡ stop_of_slot (end_of s) s.fault (first_live (slots_from at cs))
 stop_from f s at p [] le sound = refl
 stop_from f s at p (Free b ∷ cs) le sound =
-    let free = free_slot at b sound.0.1 in
+    let free = free_slot at b sound.0 in
     let skip : (nat_le p at && false) ≡ false = grind (arith, nat_tests) in
     let ih = ap (stop_of s) (next_skips at p (4 + length b) None (map store_cell cs) skip) ∙ stop_from f s (at + (4 + length b)) p cs (omega arith) sound.1 in
     rw free ih
 stop_from f s at p (Live b ∷ cs) le sound =
-    let live = live_slot at b sound.0.1 in
-    ap (stop_of s) (next_stops at p (4 + length b) b (map store_cell cs) le) ∙ stops_live s at b cs live (live_size at b sound.0.1)
+    let live = live_slot at b (sound.0.0, sound.0.1) in
+    ap (stop_of s) (next_stops at p (4 + length b) b (map store_cell cs) le) ∙ stops_live s at b cs live (live_size at b (sound.0.0, sound.0.1))
 
 -- the same from the cell of a rank on
 pub stop_by_rank : (k : KeytabState) (p rank : ℕ) → IsSound k.format k.contents → p ≡ end_place 2 (take rank k.contents.cells) → stop_at (store_of k) p ≡ stop_of_slot (end_of (store_of k)) (kind_of k.contents.end) (first_live (drop rank (slots_from 2 k.contents.cells)))
@@ -71,8 +80,8 @@ slot_within f at zero [] sound = tt
 slot_within f at (suc rank) [] sound = tt
 slot_within f at (suc rank) (c ∷ cs) sound = slot_within f (at + (4 + cells.size c)) rank cs sound.1
 slot_within f at zero (Free b ∷ cs) sound =
-    let free = free_slot at b sound.0.1 in
+    let free = free_slot at b sound.0 in
     rw free (slot_within f (at + (4 + length b)) zero cs sound.1)
 slot_within f at zero (Live b ∷ cs) sound =
-    let live = live_slot at b sound.0.1 in
-    rw live (omega (arith, end_from-ge (at + (4 + length b)) (map store_cell cs), live_size at b sound.0.1))
+    let live = live_slot at b (sound.0.0, sound.0.1) in
+    rw live (omega (arith, end_from-ge (at + (4 + length b)) (map store_cell cs), live_size at b (sound.0.0, sound.0.1)))

@@ -14,7 +14,7 @@ fit_of k need = option_map (λ x. x.0) (first_hole 2 (max need 1) k.contents.cel
 
 -- what the table knows of the cell of a number
 abbrev pub slot_at : KeytabState → ℕ → Slot
-slot_at k number = slice_index_or (slots_from 2 k.contents.cells) number (record { place = 0; length = 0 })
+slot_at k number = slice_index_or (slots_from 2 k.contents.cells) number (record { place = 0; field = 0 })
 
 -- the cell of a number stands at a place, and is live
 pub record IsLiveNumber (k : KeytabState) (p number : ℕ) : Type 0 where

@@ -1,38 +1,48 @@
 -- What a table knows of one cell.
-use Rattle.std.specs.Prelude.{◌+◌, Option, Some, None, find, not, ℕ, ◌-◌, ◌^◌, ◌<◌, ◌≤◌, Bool, List, length, map, nat_le, slice_index, if◌then◌else◌}
+use Rattle.std.specs.Prelude.{◌+◌, Option, Some, None, find, not, ℕ, ◌-◌, ◌^◌, ◌<◌, ◌≤◌, Bool, true, false, List, length, map, slice_index}
 use Rattle.krb_walk.specs.declared.fault.FaultKind.{FaultKind}
 use Rattle.krb_walk.specs.declared.stop.Stop.{Stop}
 use Rattle.krb_walk.specs.declared.stop.Stop.TheVariants.{Live as Live_at}
 use Rattle.krb_walk.specs.Store.{end_stop}
 use Rattle.krb_keytab.specs.declared.hole.Hole.{Hole}
-use Rattle.krb_keytab.specs.Cells.{Cell, Live, Free, length_field}
+use Rattle.krb_keytab.specs.declared.length.Length.{Length}
+use Rattle.krb_keytab.specs.declared.length.Length.TheVariants as says
+use Rattle.krb_keytab.specs.Length.{length_of, size_of}
+use Rattle.krb_keytab.specs.Cells.{Cell, length_field}
 use Rattle.krb_keytab.specs.Changes.{PlacedCell, placed_cells}
 use Rattle.krb_indexed.specs.declared.slot.Slot.{Slot}
 
+-- a hole's length
+abbrev pub is_hole : Length → Bool
+is_hole says.End = false
+is_hole (says.Live n) = false
+is_hole (says.Free n) = true
+
+-- how many bytes a hole has by its length: none where it is no hole's
+abbrev pub room_of : Length → ℕ
+room_of says.End = 0
+room_of (says.Live n) = 0
+room_of (says.Free n) = n
+
 -- its length is that of a free cell
 abbrev pub is_free : Slot → Bool
-is_free s = nat_le (2 ^ 31) s.length
+is_free s = is_hole (length_of s.field)
 
 -- how many bytes the cell has after its length
 abbrev pub size : Slot → ℕ
-size s = if is_free s then 2 ^ 32 - s.length else s.length
+size s = size_of (length_of s.field)
 
 -- how many bytes an entry may take there: none where the cell is live
 abbrev pub free_size : Slot → ℕ
-free_size s = if is_free s then 2 ^ 32 - s.length else 0
+free_size s = room_of (length_of s.field)
 
 -- the cell is live if it was free, and free if it was live
 abbrev pub turned : Slot → Slot
-turned s = record { place = s.place; length = 2 ^ 32 - s.length }
-
--- its length is not 0, and fits its field
-abbrev pub IsShort : Cell → Type 0
-IsShort (Live b) = (0 < length b) × (length b < 2 ^ 31)
-IsShort (Free b) = (0 < length b) × (length b ≤ 2 ^ 31)
+turned s = record { place = s.place; field = 2 ^ 32 - s.field }
 
 -- what is known of a cell that stands at a place
 abbrev pub slot_of : PlacedCell → Slot
-slot_of x = record { place = x.0; length = length_field x.1 }
+slot_of x = record { place = x.0; field = length_field x.1 }
 
 -- what is known of cells that begin at a place
 abbrev pub slots_from : ℕ → List Cell → List Slot

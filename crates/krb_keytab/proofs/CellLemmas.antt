@@ -1,9 +1,9 @@
 -- Reading one cell, and all of them.
-use Rattle.std.proofs.Common.{◌≡◌, ◌≢◌, ℕ, ◌-◌, ◌^◌, ◌<◌, ◌≤◌, ◌⊎◌, Bool, true, false, cond, eqb, ltb, List, [], ◌∷◌, ◌++◌, length, get_or, take, drop, Option, Some, None, refl, sym, ap, subst, ◌∙◌, append_assoc, arith, inl, inr}
+use Rattle.std.proofs.Common.{◌≡◌, ℕ, ◌-◌, ◌^◌, ◌<◌, ◌≤◌, ◌⊎◌, Bool, true, false, cond, eqb, ltb, List, [], ◌∷◌, ◌++◌, length, get_or, take, drop, Option, Some, None, refl, sym, ap, subst, ◌∙◌, append_assoc, arith, inl, inr}
 use Rattle.std.specs.Prelude.{is_some}
 use Rattle.std.specs.List.{flat_map, AllByRecursion}
 use Rattle.std.specs.Int.{w32}
-use Rattle.std.proofs.lemmas.Bool.{ltb-true, ltb-false, le-ltb, lt-ltb, eqb-true, eqb-false}
+use Rattle.std.proofs.lemmas.Bool.{ltb-false, le-ltb}
 use Rattle.std.proofs.lemmas.List.{take_at, drop_at, take-append-drop, length-append, length-take}
 use Rattle.std.proofs.lemmas.List.Concat.{flat_map-cons}
 use Rattle.krb_wire.specs.declared.format.KtFormat.{KtFormat}
@@ -12,8 +12,12 @@ use Rattle.krb_wire.specs.Reading.{number_at}
 use Rattle.krb_wire.proofs.Fields.{IsBytes, IsBytes-drop, Takes, Takes-then, wide32, number_takes, number_again}
 use Rattle.krb_walk.specs.Contents.{NextCell, More, NoMore, on_next, IsCell as IsReadCell}
 use Rattle.krb_walk.proofs.ContentsLemmas.{IsNext as IsNextIn, IsFormat, behind, contents_next as next_of_contents, contents_spelled as spelled_of, contents_behind as behind_of, contents_again as again_of}
+use Rattle.krb_keytab.specs.declared.length.Length.{Length}
+use Rattle.krb_keytab.specs.declared.length.Length.TheVariants as says
 use Rattle.krb_keytab.specs.Entry.{entry_at}
-use Rattle.krb_keytab.specs.Cells.{Cell, Live, Free, End, Bare, Mark, Damaged, Contents, bytes_of, length_field, cell, end_bytes, spelling, short_end, next_of_size, next_by, next, keytab_format, contents, IsCell, IsEnd, IsSound, IsSpelled, image, version_byte}
+use Rattle.krb_keytab.specs.Length.{length_of, field_of, HasField}
+use Rattle.krb_keytab.specs.Cells.{Cell, Live, Free, End, Bare, Mark, Damaged, Contents, bytes_of, length_of_cell, length_field, cell, end_bytes, spelling, short_end, next_of_length, next_by, next, keytab_format, contents, IsCell, IsEnd, IsSound, IsSpelled, image, version_byte}
+use Rattle.krb_keytab.proofs.LengthLemmas.{said, length_again, cell_has}
 
 pub chosen : {A : Type 0} (b : Bool) (x y z : A) → cond b x y ≡ z → ((b ≡ true) × (x ≡ z)) ⊎ ((b ≡ false) × (y ≡ z))
 chosen true x y z e = inl (refl, e)
@@ -34,58 +38,49 @@ abbrev pub IsNext : KtFormat → List ℕ → NextCell Cell End → Type 0
 IsNext f bytes (More c after) = TakesCell f bytes c after
 IsNext f bytes (NoMore e) = IsAtEnd f bytes e
 
-live_taken : (f : KtFormat) (bytes : List ℕ) (n : ℕ) (rest : List ℕ) → Takes bytes (digits (order_of f) w32 n) rest → 0 < n → n < 2 ^ 31 → n ≤ length rest → is_some (entry_at f (take n rest)) ≡ true
+live_taken : (f : KtFormat) (bytes : List ℕ) (n : ℕ) (rest : List ℕ) → Takes bytes (digits (order_of f) w32 n) rest → HasField (says.Live n) → n ≤ length rest → is_some (entry_at f (take n rest)) ≡ true
     → TakesCell f bytes (Live (take n rest)) (drop n rest)
-live_taken f bytes n rest t pos small long entry =
+live_taken f bytes n rest t has long entry =
     let o = order_of f in
     let len : length (take n rest) ≡ n = omega (arith, length-take n rest) in
     let second : Takes rest (take n rest) (drop n rest) = record { parts = sym (take-append-drop n rest); rest_fits = IsBytes-drop n rest t.rest_fits } in
     let both = Takes-then bytes (digits o w32 n) rest (take n rest) (drop n rest) t second in
     record {
       takes = subst (λ (k : ℕ). Takes bytes (digits o w32 k ++ take n rest) (drop n rest)) (sym len) both;
-      sound = (omega arith, omega arith, entry);
+      sound = (omega (arith, len, has.0), omega (arith, len, has.1), entry);
     }
 
-free_taken : (f : KtFormat) (bytes : List ℕ) (n : ℕ) (rest : List ℕ) → Takes bytes (digits (order_of f) w32 n) rest → n < 2 ^ 32 → 2 ^ 31 ≤ n → 2 ^ 32 - n ≤ length rest
-    → TakesCell f bytes (Free (take (2 ^ 32 - n) rest)) (drop (2 ^ 32 - n) rest)
-free_taken f bytes n rest t fits big long =
+free_taken : (f : KtFormat) (bytes : List ℕ) (n : ℕ) (rest : List ℕ) → Takes bytes (digits (order_of f) w32 (2 ^ 32 - n)) rest → HasField (says.Free n) → n ≤ length rest → TakesCell f bytes (Free (take n rest)) (drop n rest)
+free_taken f bytes n rest t has long =
     let o = order_of f in
-    let m = 2 ^ 32 - n in
-    let len : length (take m rest) ≡ m = omega (arith, length-take m rest) in
-    let back : 2 ^ 32 - length (take m rest) ≡ n = omega arith in
-    let second : Takes rest (take m rest) (drop m rest) = record { parts = sym (take-append-drop m rest); rest_fits = IsBytes-drop m rest t.rest_fits } in
-    let both = Takes-then bytes (digits o w32 n) rest (take m rest) (drop m rest) t second in
+    let len : length (take n rest) ≡ n = omega (arith, length-take n rest) in
+    let second : Takes rest (take n rest) (drop n rest) = record { parts = sym (take-append-drop n rest); rest_fits = IsBytes-drop n rest t.rest_fits } in
+    let both = Takes-then bytes (digits o w32 (2 ^ 32 - n)) rest (take n rest) (drop n rest) t second in
     record {
-      takes = subst (λ (k : ℕ). Takes bytes (digits o w32 k ++ take m rest) (drop m rest)) (sym back) both;
-      sound = (omega arith, omega arith);
+      takes = subst (λ (k : ℕ). Takes bytes (digits o w32 (2 ^ 32 - k) ++ take n rest) (drop n rest)) (sym len) both;
+      sound = (omega (arith, len, has.0), omega (arith, len, has.1));
     }
 
 pub along : {A : Type 0} (P : A → Type 0) {x y : A} → x ≡ y → P x → P y
 along P e p = subst P e p
 
-sized_is : (f : KtFormat) (bytes : List ℕ) (n : ℕ) (rest : List ℕ) (s : NextCell Cell End) → next f bytes ≡ s → Takes bytes (digits (order_of f) w32 n) rest → n < 2 ^ 32 → next_of_size f bytes n rest ≡ s → IsNext f bytes s
-sized_is f bytes n rest s whole t fits e =
+told_is : (f : KtFormat) (bytes rest : List ℕ) (l : Length) (s : NextCell Cell End) → next f bytes ≡ s → Takes bytes (digits (order_of f) w32 (field_of l)) rest → HasField l → next_of_length f bytes rest l ≡ s → IsNext f bytes s
+told_is f bytes rest says.End s whole t has e = along (IsNext f bytes) e (record { parts = t.parts; sound = tt })
+told_is f bytes rest (says.Live n) s whole t has e =
     let P = IsNext f bytes in
-    elim (chosen (eqb n 0) _ _ s e) [
-      | inl h ↦ along P h.1 (record { parts = t.parts ∙ ap (λ (k : ℕ). digits (order_of f) w32 k ++ rest) (eqb-true n 0 h.0); sound = tt })
-      | inr h ↦
-          let pos : n ≢ 0 = eqb-false n 0 h.0 in
-          elim (chosen (ltb n (2 ^ 31)) _ _ s h.1) [
-            | inl p ↦
-                elim (chosen (ltb (length rest) n) _ _ s p.1) [
-                  | inl q ↦ along P q.1 (record { parts = refl; sound = whole ∙ sym q.1 })
-                  | inr q ↦
-                      elim (chosen (is_some (entry_at f (take n rest))) _ _ s q.1) [
-                        | inl r ↦ along P r.1 (live_taken f bytes n rest t (omega arith) (ltb-true _ _ p.0) (ltb-false _ _ q.0) r.0)
-                        | inr r ↦ along P r.1 (record { parts = refl; sound = whole ∙ sym r.1 })
-                      ]
-                ]
-            | inr p ↦
-                elim (chosen (ltb (length rest) (2 ^ 32 - n)) _ _ s p.1) [
-                  | inl q ↦ along P q.1 (record { parts = refl; sound = whole ∙ sym q.1 })
-                  | inr q ↦ along P q.1 (free_taken f bytes n rest t fits (ltb-false _ _ p.0) (ltb-false _ _ q.0))
-                ]
+    elim (chosen (ltb (length rest) n) _ _ s e) [
+      | inl q ↦ along P q.1 (record { parts = refl; sound = whole ∙ sym q.1 })
+      | inr q ↦
+          elim (chosen (is_some (entry_at f (take n rest))) _ _ s q.1) [
+            | inl r ↦ along P r.1 (live_taken f bytes n rest t has (ltb-false _ _ q.0) r.0)
+            | inr r ↦ along P r.1 (record { parts = refl; sound = whole ∙ sym r.1 })
           ]
+    ]
+told_is f bytes rest (says.Free n) s whole t has e =
+    let P = IsNext f bytes in
+    elim (chosen (ltb (length rest) n) _ _ s e) [
+      | inl q ↦ along P q.1 (record { parts = refl; sound = whole ∙ sym q.1 })
+      | inr q ↦ along P q.1 (free_taken f bytes n rest t has (ltb-false _ _ q.0))
     ]
 
 short_is : (f : KtFormat) (bytes : List ℕ) (s : NextCell Cell End) → next f bytes ≡ s → NoMore (short_end bytes) ≡ s → IsNext f bytes s
@@ -96,7 +91,9 @@ next_by_is : (f : KtFormat) (bytes : List ℕ) (s : NextCell Cell End) (read : O
 next_by_is f bytes s None fits whole got e = short_is f bytes s whole e
 next_by_is f bytes s (Some n) fits whole got e =
     let t = number_takes (order_of f) w32 (2 ^ 32) (wide32 (order_of f)) bytes n.0 n.1 fits got in
-    sized_is f bytes n.0 n.1 s whole t.0 t.1 e
+    let l = length_of n.0 in
+    let is = said n.0 l t.1 refl in
+    told_is f bytes n.1 l s whole (subst (λ (m : ℕ). Takes bytes (digits (order_of f) w32 m) n.1) (sym is.field) t.0) is.has e
 
 -- what one read gives is what the bytes spell
 pub next_is : (f : KtFormat) (bytes : List ℕ) (s : NextCell Cell End) → IsBytes bytes → next f bytes ≡ s → IsNext f bytes s
@@ -105,36 +102,31 @@ next_is f bytes s fits e = next_by_is f bytes s (number_at (order_of f) w32 byte
 
 -- ---- what is spelled is read
 
-pub live_again : (f : KtFormat) (b rest : List ℕ) → IsCell f (Live b) → next f (cell (order_of f) (Live b) ++ rest) ≡ More (Live b) rest
-unfolding next
-live_again f b rest sound =
-    let o = order_of f in
-    let n = length b in
-    let whole = cell o (Live b) ++ rest in
-    let grouped : whole ≡ digits o w32 n ++ (b ++ rest) = append_assoc (digits o w32 n) b rest in
-    let got : number_at o w32 whole ≡ Some (n, b ++ rest) = ap (number_at o w32) grouped ∙ number_again o w32 (2 ^ 32) (wide32 o) n (b ++ rest) (omega arith) in
-    let not_zero : eqb n 0 ≡ false = grind arith in
-    let small : ltb n (2 ^ 31) ≡ true = lt-ltb _ _ sound.1 in
-    let long : ltb (length (b ++ rest)) n ≡ false = le-ltb _ _ (omega (arith, length-append b rest)) in
-    ap (next_by f whole) got ∙ rw (not_zero, small, long, take_at b rest n refl, drop_at b rest n refl, sound.2) refl
-
-pub free_again : (f : KtFormat) (b rest : List ℕ) → IsCell f (Free b) → next f (cell (order_of f) (Free b) ++ rest) ≡ More (Free b) rest
-unfolding next
-free_again f b rest sound =
-    let o = order_of f in
-    let n = 2 ^ 32 - length b in
-    let whole = cell o (Free b) ++ rest in
-    let grouped : whole ≡ digits o w32 n ++ (b ++ rest) = append_assoc (digits o w32 n) b rest in
-    let got : number_at o w32 whole ≡ Some (n, b ++ rest) = ap (number_at o w32) grouped ∙ number_again o w32 (2 ^ 32) (wide32 o) n (b ++ rest) (omega arith) in
-    let not_zero : eqb n 0 ≡ false = grind arith in
-    let big : ltb n (2 ^ 31) ≡ false = le-ltb _ _ (omega arith) in
-    let back : 2 ^ 32 - n ≡ length b = omega arith in
+last_again : (f : KtFormat) (c : Cell) (rest bytes : List ℕ) → IsCell f c → next_of_length f bytes (bytes_of c ++ rest) (length_of_cell c) ≡ More c rest
+last_again f (Live b) rest bytes sound =
     let long : ltb (length (b ++ rest)) (length b) ≡ false = le-ltb _ _ (omega (arith, length-append b rest)) in
-    ap (next_by f whole) got ∙ rw (not_zero, big, back, long, take_at b rest (length b) refl, drop_at b rest (length b) refl) refl
+    rw (long, take_at b rest (length b) refl, drop_at b rest (length b) refl, sound.2) refl
+last_again f (Free b) rest bytes sound =
+    let long : ltb (length (b ++ rest)) (length b) ≡ false = le-ltb _ _ (omega (arith, length-append b rest)) in
+    rw (long, take_at b rest (length b) refl, drop_at b rest (length b) refl) refl
+
+field_small : (l : Length) → HasField l → field_of l < 2 ^ 32
+field_small says.End has = omega arith
+field_small (says.Live n) has = omega (arith, has.1)
+field_small (says.Free n) has = omega (arith, has.0)
+
+-- the number that stands before a cell
+pub field_again : (f : KtFormat) (c : Cell) (rest : List ℕ) → IsCell f c → number_at (order_of f) w32 (cell (order_of f) c ++ rest) ≡ Some (length_field c, bytes_of c ++ rest)
+field_again f c rest sound =
+    let o = order_of f in
+    ap (number_at o w32) (append_assoc (digits o w32 (length_field c)) (bytes_of c) rest)
+    ∙ number_again o w32 (2 ^ 32) (wide32 o) (length_field c) (bytes_of c ++ rest) (field_small (length_of_cell c) (cell_has f c sound))
 
 pub cell_again : (f : KtFormat) (c : Cell) (rest : List ℕ) → IsCell f c → next f (cell (order_of f) c ++ rest) ≡ More c rest
-cell_again f (Live b) rest sound = live_again f b rest sound
-cell_again f (Free b) rest sound = free_again f b rest sound
+unfolding next
+cell_again f c rest sound =
+    let whole = cell (order_of f) c ++ rest in
+    ap (next_by f whole) (field_again f c rest sound) ∙ ap (next_of_length f whole (bytes_of c ++ rest)) (length_again (length_of_cell c) (cell_has f c sound)) ∙ last_again f c rest whole sound
 
 pub end_again : (f : KtFormat) (e : End) → IsEnd f e → next f (end_bytes (order_of f) e) ≡ NoMore e
 unfolding next

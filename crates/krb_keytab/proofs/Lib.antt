@@ -1,9 +1,10 @@
 pub mod Splices
 pub mod EntryLemmas
+pub mod LengthLemmas
 pub mod CellLemmas
 pub mod Steps
 pub mod Cuts
-pub mod KnownLemmas
+pub mod FirstLemmas
 pub mod CellsFromLemmas
 pub mod Stores
 pub mod Listed

@@ -1,12 +1,10 @@
 -- The store that the cells of an image are, as their lengths tell it.
 use Rattle.std.proofs.Common.{◌≡◌, ℕ, ◌+◌, ◌-◌, ◌^◌, ◌<◌, ◌≤◌, List, [], ◌∷◌, ◌++◌, length, take, drop, map, Option, Some, None, refl, sym, ap, subst, ◌∙◌, arith}
 use Rattle.std.specs.List.{flat_map}
-use Rattle.std.specs.Int.{w32}
-use Rattle.std.proofs.lemmas.List.{append-nil, take_at, length-take, length-drop, drop-drop}
+use Rattle.std.proofs.lemmas.List.{append-nil, take_at, length-take}
 use Rattle.krb_wire.specs.declared.format.KtFormat.{KtFormat}
 use Rattle.krb_wire.specs.Spelling.{order_of}
-use Rattle.krb_wire.specs.Reading.{number_at}
-use Rattle.krb_wire.proofs.Fields.{IsBytes, IsBytes-drop, IsBytes-take, some_is}
+use Rattle.krb_wire.proofs.Fields.{IsBytes, IsBytes-drop, IsBytes-take}
 use Rattle.krb_walk.specs.declared.fault.FaultKind.{FaultKind}
 use Rattle.krb_walk.specs.Store.{Store}
 use Rattle.krb_walk.proofs.ContentsLemmas.{behind}
@@ -15,75 +13,32 @@ use Rattle.krb_cells.specs.Front.{AreCells, HasCells}
 use Rattle.krb_cells.specs.Carry.{store_in}
 use Rattle.krb_cells.proofs.Formats.{IsSeen, are_cells}
 use Rattle.krb_keytab.specs.declared.image.CellsEnd.{CellsEnd}
-use Rattle.krb_keytab.specs.declared.step.Step.TheVariants as step
-use Rattle.krb_keytab.specs.Cells.{Cell, Live, Free, Bare, Contents, cell, end_bytes, keytab_format, contents, kind_of, length_field}
-use Rattle.krb_keytab.specs.Step.{next_of_step, ending_kind}
+use Rattle.krb_keytab.specs.Cells.{Cell, Bare, Contents, cell, end_bytes, keytab_format, contents, kind_of, size}
+use Rattle.krb_keytab.specs.CellsFrom.{IsCellOrNothing, IsFirst}
+use Rattle.krb_keytab.specs.Step.{ending_kind}
 use Rattle.krb_keytab.specs.Image.{IsKnownEnd}
-use Rattle.krb_keytab.specs.Store.{KeytabState, IsImage, store_cell, cells_seen, store_of}
-use Rattle.krb_keytab.proofs.CellLemmas.{keytab_is, contents_next, contents_spelled, contents_behind}
+use Rattle.krb_keytab.specs.Store.{KeytabState, IsImage, live_of, store_cell, cells_seen, store_of}
+use Rattle.krb_keytab.proofs.CellLemmas.{keytab_is, contents_spelled, contents_behind}
 use Rattle.krb_keytab.proofs.Cuts.{cell_len, end_place_is}
-use Rattle.krb_keytab.proofs.KnownLemmas.{Stands, told_by, tells_live, tells_free, not_none}
 use Rattle.krb_keytab.proofs.Stores.{keytab_of, kind_ends}
 use Rattle.krb_keytab.proofs.Turned.{contents_none}
 
 -- ---- the cell at the front
 
--- a number tells that cell, and what is left after it
-pub record SeenFirst (f : KtFormat) (bytes rest : List ℕ) (n : ℕ) (live : Option (List ℕ)) : Type 0 where
-  pub room : n ≤ length rest
-  pub cells : cells_seen f bytes ≡ record { width = 4 + n; live = live } ∷ cells_seen f (drop (4 + n) bytes)
+none_left : (f : KtFormat) (bytes : List ℕ) (cs : List Cell) → HasCells (cells_seen f) bytes (map store_cell cs) → cs ≡ [] → bytes ≡ []
+none_left f bytes [] has e = has
+none_left f bytes (c ∷ cs) has e = absurd cc
 
-no_number : (f : KtFormat) (n : ℕ) (rest : List ℕ) → number_at (order_of f) w32 [] ≡ Some (n, rest) → ⊥
-no_number f n rest e = cc
+-- where no cell begins, none of their bytes are left
+pub cell_or_nothing : (f : KtFormat) (bytes : List ℕ) → AreCells (cells_seen f) bytes → IsCellOrNothing f bytes
+cell_or_nothing f bytes are = none_left f bytes (contents f bytes).cells are
 
-stands_by : (f : KtFormat) (bytes : List ℕ) (cs : List Cell) (n : ℕ) (rest : List ℕ) → IsBytes bytes → (contents f bytes).cells ≡ cs → HasCells (cells_seen f) bytes (map store_cell cs) → number_at (order_of f) w32 bytes ≡ Some (n, rest) → Stands f bytes
-stands_by f bytes [] n rest fits is has e = absurd (no_number f n rest (ap (number_at (order_of f) w32) (sym has) ∙ e))
-stands_by f bytes (c ∷ cs) n rest fits is has e = record { cell = c; told = told_by f bytes (contents f bytes) c cs is (contents_spelled f bytes fits) }
-
-stands : (f : KtFormat) (bytes : List ℕ) (n : ℕ) (rest : List ℕ) → IsBytes bytes → AreCells (cells_seen f) bytes → number_at (order_of f) w32 bytes ≡ Some (n, rest) → Stands f bytes
-stands f bytes n rest fits are e = stands_by f bytes (contents f bytes).cells n rest fits refl are e
-
-none_by : (f : KtFormat) (bytes : List ℕ) (cs : List Cell) → IsBytes bytes → (contents f bytes).cells ≡ cs → number_at (order_of f) w32 bytes ≡ None → map store_cell cs ≡ []
-none_by f bytes [] fits is e = refl
-none_by f bytes (c ∷ cs) fits is e = absurd (not_none f bytes (record { cell = c; told = told_by f bytes (contents f bytes) c cs is (contents_spelled f bytes fits) }) e)
-
--- no number stands there where no cell is left
-pub none_seen : (f : KtFormat) (bytes : List ℕ) → IsBytes bytes → number_at (order_of f) w32 bytes ≡ None → cells_seen f bytes ≡ []
-none_seen f bytes fits e = none_by f bytes (contents f bytes).cells fits refl e
-
-pub live_seen : (f : KtFormat) (bytes : List ℕ) (n : ℕ) (rest : List ℕ) → IsBytes bytes → AreCells (cells_seen f) bytes → number_at (order_of f) w32 bytes ≡ Some (n, rest) → n < 2 ^ 31 → SeenFirst f bytes rest n (Some (take n rest))
-live_seen f bytes n rest fits are e lt =
-    let s = stands f bytes n rest fits are e in
-    let t = tells_live f bytes s n rest e lt in
-    let behind4 : rest ≡ drop 4 bytes = ap (λ (x : ℕ × List ℕ). x.1) (some_is (n, rest) (length_field s.cell, drop 4 bytes) (sym e ∙ s.told.number)) in
-    let within = t.within.1 in
-    let size : length (take n (drop 4 bytes)) ≡ n = omega (arith, within, length-take n (drop 4 bytes), length-drop 4 bytes) in
-    let others : drop n (drop 4 bytes) ≡ drop (4 + n) bytes = drop-drop n 4 bytes in
-    record {
-      room = omega (arith, within, ap length behind4, length-drop 4 bytes);
-      cells =
-          ap (λ (k : Contents). map store_cell k.cells) (contents_next f bytes (next_of_step bytes (step.Live n)) fits t.next)
-          ∙ ap (λ (b : List ℕ). record { width = 4 + length (take n (drop 4 bytes)); live = Some (take n (drop 4 bytes)) } ∷ cells_seen f b) others
-          ∙ ap (λ (m : ℕ). record { width = 4 + m; live = Some (take n (drop 4 bytes)) } ∷ cells_seen f (drop (4 + n) bytes)) size
-          ∙ ap (λ (b : List ℕ). record { width = 4 + n; live = Some (take n b) } ∷ cells_seen f (drop (4 + n) bytes)) (sym behind4);
-    }
-
-pub free_seen : (f : KtFormat) (bytes : List ℕ) (field : ℕ) (rest : List ℕ) → IsBytes bytes → AreCells (cells_seen f) bytes → number_at (order_of f) w32 bytes ≡ Some (field, rest) → 2 ^ 31 ≤ field → SeenFirst f bytes rest (2 ^ 32 - field) None
-free_seen f bytes field rest fits are e big =
-    let n = 2 ^ 32 - field in
-    let s = stands f bytes field rest fits are e in
-    let t = tells_free f bytes s field rest e big in
-    let behind4 : rest ≡ drop 4 bytes = ap (λ (x : ℕ × List ℕ). x.1) (some_is (field, rest) (length_field s.cell, drop 4 bytes) (sym e ∙ s.told.number)) in
-    let within = t.within.1 in
-    let size : length (take n (drop 4 bytes)) ≡ n = omega (arith, within, length-take n (drop 4 bytes), length-drop 4 bytes) in
-    let others : drop n (drop 4 bytes) ≡ drop (4 + n) bytes = drop-drop n 4 bytes in
-    record {
-      room = omega (arith, within, ap length behind4, length-drop 4 bytes);
-      cells =
-          ap (λ (k : Contents). map store_cell k.cells) (contents_next f bytes (next_of_step bytes (step.Free n)) fits t.next)
-          ∙ ap (λ (b : List ℕ). record { width = 4 + length (take n (drop 4 bytes)); live = None } ∷ cells_seen f b) others
-          ∙ ap (λ (m : ℕ). record { width = 4 + m; live = None } ∷ cells_seen f (drop (4 + n) bytes)) size;
-    }
+-- the first cell, as the store has it
+pub first_seen : (f : KtFormat) (bytes : List ℕ) (c : Cell) (width : ℕ) (live : Option (List ℕ)) → IsFirst f bytes c → width ≡ 4 + size c → live ≡ live_of c → cells_seen f bytes ≡ record { width = width; live = live } ∷ cells_seen f (drop width bytes)
+first_seen f bytes c width live first is_width is_live =
+    ap (λ (k : Contents). map store_cell k.cells) first.contents
+    ∙ ap (λ (n : ℕ). record { width = n; live = live_of c } ∷ cells_seen f (drop n bytes)) (sym is_width)
+    ∙ ap (λ (o : Option (List ℕ)). record { width = width; live = o } ∷ cells_seen f (drop width bytes)) (sym is_live)
 
 -- ---- the cells of an image
 

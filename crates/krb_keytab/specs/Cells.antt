@@ -1,5 +1,5 @@
 -- A keytab as a list of cells and an end, and the bytes that spell it (MIT krb5, "Keytab file format").
-use Rattle.std.specs.Prelude.{◌≡◌, ℕ, ◌-◌, ◌<◌, ◌≤◌, ◌^◌, List, [], ◌∷◌, ◌++◌, length, take, drop, Option, Some, None, IsSome, is_some, nat_lt, ◌==◌, if◌then◌else◌}
+use Rattle.std.specs.Prelude.{◌≡◌, ℕ, ◌-◌, ◌<◌, ◌≤◌, ◌^◌, List, [], ◌∷◌, ◌++◌, length, take, drop, Option, Some, None, IsSome, is_some, nat_lt, if◌then◌else◌}
 use Rattle.std.specs.List.{flat_map, AllByRecursion}
 use Rattle.std.specs.Int.{w32}
 use Rattle.krb_wire.specs.declared.format.Order.{Order}
@@ -10,7 +10,10 @@ use Rattle.krb_wire.specs.Reading.{number_at}
 use Rattle.krb_walk.specs.declared.fault.FaultKind.{FaultKind}
 use Rattle.krb_walk.specs.declared.fault.FaultKind.TheVariants.{CutLength, Overrun, BadEntry}
 use Rattle.krb_walk.specs.Contents.{NextCell, More, NoMore, Format, Contents as ContentsOf, contents as contents_of}
+use Rattle.krb_keytab.specs.declared.length.Length.{Length}
+use Rattle.krb_keytab.specs.declared.length.Length.TheVariants as says
 use Rattle.krb_keytab.specs.Entry.{entry_at}
+use Rattle.krb_keytab.specs.Length.{length_of, field_of}
 
 -- a cell: a record, whose bytes begin with an entry, or a hole
 pub data Cell : Type 0 where
@@ -38,10 +41,14 @@ bytes_of (Free b) = b
 abbrev pub size : Cell → ℕ
 size c = length (bytes_of c)
 
--- the length, in two's complement, negated where the cell is free
+-- its length
+abbrev pub length_of_cell : Cell → Length
+length_of_cell (Live b) = says.Live (length b)
+length_of_cell (Free b) = says.Free (length b)
+
+-- the field of its length
 abbrev pub length_field : Cell → ℕ
-length_field (Live b) = length b
-length_field (Free b) = 2 ^ 32 - length b
+length_field c = field_of (length_of_cell c)
 
 -- the spelling of a cell
 abbrev pub cell : Order → Cell → List ℕ
@@ -79,20 +86,26 @@ abbrev pub short_end : List ℕ → End
 short_end [] = Bare
 short_end (b ∷ bs) = Damaged CutLength (b ∷ bs)
 
--- what stands there by its length: 0 is the end mark, below 2 ^ 31 a record of that many bytes, above a hole
-abbrev pub next_of_size : KtFormat → List ℕ → ℕ → List ℕ → NextCell Cell End
-next_of_size f bytes n rest =
-    if n == 0 then NoMore (Mark rest)
-    else (if nat_lt n (2 ^ 31)
-    then (if nat_lt (length rest) n then NoMore (Damaged Overrun bytes)
-    else (if is_some (entry_at f (take n rest)) then More (Live (take n rest)) (drop n rest) else NoMore (Damaged BadEntry bytes)))
-    else (if nat_lt (length rest) (2 ^ 32 - n) then NoMore (Damaged Overrun bytes)
-    else More (Free (take (2 ^ 32 - n) rest)) (drop (2 ^ 32 - n) rest)))
+-- the cell that a length and the bytes after it are
+abbrev pub cell_in : Length → List ℕ → Cell
+cell_in says.End b = Free b
+cell_in (says.Live n) b = Live b
+cell_in (says.Free n) b = Free b
+
+-- what stands there by its length: the end mark, a record if an entry is read, or a hole
+abbrev pub next_of_length : KtFormat → List ℕ → List ℕ → Length → NextCell Cell End
+next_of_length f bytes rest says.End = NoMore (Mark rest)
+next_of_length f bytes rest (says.Live n) =
+    if nat_lt (length rest) n then NoMore (Damaged Overrun bytes)
+    else (if is_some (entry_at f (take n rest)) then More (Live (take n rest)) (drop n rest) else NoMore (Damaged BadEntry bytes))
+next_of_length f bytes rest (says.Free n) =
+    if nat_lt (length rest) n then NoMore (Damaged Overrun bytes)
+    else More (Free (take n rest)) (drop n rest)
 
 -- what stands there by the number read, if one was
 abbrev pub next_by : KtFormat → List ℕ → Option (ℕ × List ℕ) → NextCell Cell End
 next_by f bytes None = NoMore (short_end bytes)
-next_by f bytes (Some n) = next_of_size f bytes n.0 n.1
+next_by f bytes (Some n) = next_of_length f bytes n.1 (length_of n.0)
 
 -- the cell at the front, and the bytes after it
 unfoldable pub next : KtFormat → List ℕ → NextCell Cell End

@@ -1,8 +1,8 @@
 -- The cells of an image from a place on.
-use Rattle.std.specs.Prelude.{◌≡◌, ℕ, ◌+◌, ◌≤◌, ◌^◌, List, ◌∷◌, length}
+use Rattle.std.specs.Prelude.{◌≡◌, ℕ, ◌+◌, ◌≤◌, ◌^◌, List, [], ◌∷◌, length, drop}
 use Rattle.krb_wire.specs.declared.format.KtFormat.{KtFormat}
 use Rattle.krb_keytab.specs.declared.image.CellsEnd.{CellsEnd}
-use Rattle.krb_keytab.specs.Cells.{Cell, Contents, IsCell, size}
+use Rattle.krb_keytab.specs.Cells.{Cell, Contents, contents, IsCell, size}
 use Rattle.krb_keytab.specs.Store.{KeytabState}
 use Rattle.krb_keytab.specs.Image.{EndsKnown}
 
@@ -21,6 +21,16 @@ pub record AreKnown (f : KtFormat) (image : List ℕ) (at : ℕ) (e : CellsEnd) 
   pub within : at ≤ length image
   pub small : length image ≤ 2 ^ 30
   pub ends : EndsKnown f image at e
+
+-- where no cell begins, no bytes are left
+abbrev pub IsCellOrNothing : KtFormat → List ℕ → Type 0
+IsCellOrNothing f bytes = (contents f bytes).cells ≡ [] → bytes ≡ []
+
+-- a cell stands at the front of bytes, and the others after it
+pub record IsFirst (f : KtFormat) (bytes : List ℕ) (c : Cell) : Type 0 where
+  pub contents : contents f bytes ≡ record { cells = c ∷ (contents f (drop (4 + size c) bytes)).cells; end = (contents f (drop (4 + size c) bytes)).end }
+  pub sound : IsCell f c
+  pub within : 4 + size c ≤ length bytes
 
 -- the first cell, and the cells after it
 pub record BeginsWith (old : CellsFrom) (at : ℕ) (c : Cell) (new : CellsFrom) : Type 0 where

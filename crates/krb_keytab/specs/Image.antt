@@ -4,9 +4,8 @@ use Rattle.krb_wire.specs.declared.format.KtFormat.{KtFormat}
 use Rattle.krb_keytab.specs.declared.image.CellsEnd.{CellsEnd}
 use Rattle.krb_keytab.specs.declared.step.Ending.{Ending}
 use Rattle.krb_keytab.specs.declared.step.Ending.TheVariants as ending
-use Rattle.krb_keytab.specs.declared.step.Step.TheVariants as step
 use Rattle.krb_keytab.specs.Cells.{Contents, contents}
-use Rattle.krb_keytab.specs.Step.{from_step}
+use Rattle.krb_keytab.specs.Step.{EndsThere}
 use Rattle.krb_keytab.specs.Store.{end_place}
 
 -- the cells from a place on end where it is said, by what it is said
@@ -14,7 +13,7 @@ pub record EndsKnown (f : KtFormat) (image : List ℕ) (at : ℕ) (e : CellsEnd)
   pub place : end_place at (contents f (drop at image)).cells ≡ e.place
   pub within : e.place ≤ length image
   pub same : (contents f (drop at image)).end ≡ (contents f (drop e.place image)).end
-  pub ending : contents f (drop e.place image) ≡ from_step f image e.place (step.End e.ending)
+  pub ending : EndsThere f image e.place e.ending
 
 -- so do all cells
 abbrev pub IsKnownEnd : KtFormat → List ℕ → CellsEnd → Type 0

@@ -1,5 +1,6 @@
 -- What the contracts of this crate say.
 pub mod Entry
+pub mod Length
 pub mod Cells
 pub mod Store
 pub mod Find

@@ -1,13 +1,14 @@
 -- What the reader of one cell answers, as the definitions have it.
-use Rattle.std.specs.Prelude.{ℕ, ◌+◌, ◌<◌, ◌≤◌, ◌≡◌, List, [], ◌∷◌, length, take, drop, Option, Some, None}
+use Rattle.std.specs.Prelude.{ℕ, ◌+◌, ◌<◌, ◌≤◌, ◌≡◌, List, [], length, take, drop, Option, Some, None, Result, Ok, Err}
 use Rattle.krb_wire.specs.declared.format.KtFormat.{KtFormat}
 use Rattle.krb_walk.specs.declared.fault.FaultKind.{FaultKind}
+use Rattle.krb_keytab.specs.declared.length.Length.{Length}
 use Rattle.krb_keytab.specs.declared.step.Ending.{Ending}
 use Rattle.krb_keytab.specs.declared.step.Ending.TheVariants as ending
-use Rattle.krb_keytab.specs.declared.step.Step.{Step}
-use Rattle.krb_keytab.specs.declared.step.Step.TheVariants as step
-use Rattle.krb_walk.specs.Contents.{NextCell, More, NoMore as Ends}
-use Rattle.krb_keytab.specs.Cells.{Cell, Live, Free, End, Bare, Mark, Damaged, Contents, contents}
+use Rattle.krb_walk.specs.Contents.{NextCell, More, NoMore}
+use Rattle.krb_keytab.specs.Length.{size_of}
+use Rattle.krb_keytab.specs.Cells.{Cell, End, Bare, Mark, Damaged, cell_in, contents}
+use Rattle.krb_keytab.specs.Store.{end_place}
 
 -- what is wrong, if something is
 abbrev pub ending_kind : Ending → Option FaultKind
@@ -21,26 +22,29 @@ ends bytes ending.Bare = Bare
 ends bytes ending.Mark = Mark (drop 4 bytes)
 ends bytes (ending.Damaged kind) = Damaged kind bytes
 
--- a cell of n bytes after its length, or an end
-abbrev pub next_of_step : List ℕ → Step → NextCell Cell End
-next_of_step bytes (step.Live n) = More (Live (take n (drop 4 bytes))) (drop n (drop 4 bytes))
-next_of_step bytes (step.Free n) = More (Free (take n (drop 4 bytes))) (drop n (drop 4 bytes))
-next_of_step bytes (step.End e) = Ends (ends bytes e)
+-- a cell by its length, or an end
+abbrev pub next_told : List ℕ → Result Length Ending → NextCell Cell End
+next_told bytes (Ok l) = More (cell_in l (take (size_of l) (drop 4 bytes))) (drop (size_of l) (drop 4 bytes))
+next_told bytes (Err e) = NoMore (ends bytes e)
 
 -- the cell ends within the bytes
-abbrev pub EndsWithin : List ℕ → Step → Type 0
-EndsWithin bytes (step.Live n) = (0 < n) × (4 + n ≤ length bytes)
-EndsWithin bytes (step.Free n) = (0 < n) × (4 + n ≤ length bytes)
-EndsWithin bytes (step.End e) = Unit {0}
+abbrev pub EndsWithin : List ℕ → Result Length Ending → Type 0
+EndsWithin bytes (Ok l) = (0 < size_of l) × (4 + size_of l ≤ length bytes)
+EndsWithin bytes (Err e) = Unit {0}
 
--- the contents from a place on, by what stands there
-abbrev pub from_step : KtFormat → List ℕ → ℕ → Step → Contents
-from_step f image at (step.Live n) = record { cells = Live (take n (drop (at + 4) image)) ∷ (contents f (drop (at + (4 + n)) image)).cells; end = (contents f (drop (at + (4 + n)) image)).end }
-from_step f image at (step.Free n) = record { cells = Free (take n (drop (at + 4) image)) ∷ (contents f (drop (at + (4 + n)) image)).cells; end = (contents f (drop (at + (4 + n)) image)).end }
-from_step f image at (step.End e) = record { cells = []; end = ends (drop at image) e }
+-- no cell begins at a place: that ends them there
+abbrev pub EndsThere : KtFormat → List ℕ → ℕ → Ending → Type 0
+EndsThere f image at e = contents f (drop at image) ≡ record { cells = []; end = ends (drop at image) e }
 
--- the cell that begins at a place ends within the image
-abbrev pub CellWithin : List ℕ → ℕ → Step → Type 0
-CellWithin image at (step.Live n) = (0 < n) × (at + (4 + n) ≤ length image) × (length (take n (drop (at + 4) image)) ≡ n)
-CellWithin image at (step.Free n) = (0 < n) × (at + (4 + n) ≤ length image) × (length (take n (drop (at + 4) image)) ≡ n)
-CellWithin image at (step.End e) = Unit {0}
+-- one cell stands between two places
+pub record IsPassed (f : KtFormat) (image : List ℕ) (at next : ℕ) : Type 0 where
+  pub ahead : at < next
+  pub within : next ≤ length image
+  pub place : end_place at (contents f (drop at image)).cells ≡ end_place next (contents f (drop next image)).cells
+  pub count : length (contents f (drop at image)).cells ≡ 1 + length (contents f (drop next image)).cells
+  pub end : (contents f (drop at image)).end ≡ (contents f (drop next image)).end
+
+-- the place after the cell at a place, or what ends the cells there
+abbrev pub GivesPlace : KtFormat → List ℕ → ℕ → Result ℕ Ending → Type 0
+GivesPlace f image at (Ok next) = IsPassed f image at next
+GivesPlace f image at (Err e) = EndsThere f image at e

@@ -1,12 +1,14 @@
 //! The cells of an image, one after the other.
 
-ghost use Rattle.std.specs.Prelude.{◌≡◌};
+ghost use Rattle.std.specs.Prelude.{◌≡◌, ◌+◌, [], IfSome, IfNone, option_copied};
 ghost use Rattle.std.specs.Iterator.{item_count};
-ghost use Rattle.krb_keytab.specs.Cells.{bytes_of};
-ghost use Rattle.krb_keytab.specs.Store.{store_cell};
+ghost use Rattle.krb_keytab.specs.Cells.{bytes_of, cell_in, contents, size};
+ghost use Rattle.krb_keytab.specs.CellsFrom.{IsCellOrNothing, IsFirst};
+ghost use Rattle.krb_keytab.specs.Store.{live_of};
 ghost use Rattle.krb_keytab.specs.CellView.{cell_of, GivesCell};
 
 use crate::image::CellsEnd;
+use crate::length::Length;
 use crate::put::bytes_fit;
 use krb_wire::{KtFormat, split_u32, tail};
 use std::marker::Model;
@@ -29,7 +31,19 @@ pub struct Cells<'a> {
 }
 
 impl<'a> CellView<'a> {
+    // The cell that a length and the bytes after it are.
+    #[inline(always)]
+    fn of(length: Length, bytes: &'a [u8]) -> CellView<'a>
+        ensures { cell_of result ≡ cell_in length bytes.now }
+    {
+        match length {
+            Length::Live(_) => CellView::Live(bytes),
+            _ => CellView::Free(bytes),
+        }
+    }
+
     // Its bytes.
+    #[inline(always)]
     fn bytes(self) -> &'a [u8]
         ensures { result.now ≡ bytes_of (cell_of self.entry) }
     {
@@ -40,11 +54,36 @@ impl<'a> CellView<'a> {
     }
 
     /// How wide it is, with its length.
+    #[inline(always)]
     pub(crate) fn width(self) -> usize
-        ensures { result ≡ (store_cell (cell_of self.entry)).width }
+        ensures { result ≡ 4 + size (cell_of self.entry) }
     {
         4 + self.bytes().len()
     }
+
+    /// The bytes of a record.
+    #[inline(always)]
+    pub(crate) fn live(self) -> Option<&'a [u8]>
+        ensures { option_copied result ≡ live_of (cell_of self.entry) }
+    {
+        match self {
+            CellView::Live(bytes) => Some(bytes),
+            CellView::Free(_) => None,
+        }
+    }
+}
+
+/// The cell at the front of bytes whose entries were read before: its length alone tells it.
+#[inline(always)]
+pub fn first_cell(format: KtFormat, bytes: &[u8]) -> Option<CellView<'_>>
+    requires { IsCellOrNothing format bytes.now }
+    ensures some { IfSome result (λ c. IsFirst format bytes.now (cell_of c)) }
+    ensures none { IfNone result ((contents format bytes.now).cells ≡ []) }
+{
+    bytes_fit(bytes);
+    let (field, rest) = split_u32(format.order(), bytes)?;
+    let length = Length::of_field(field);
+    Some(CellView::of(length, rest.split_at(length.size() as usize).0))
 }
 
 impl<'a> Model for Cells<'a> {
@@ -88,14 +127,8 @@ impl<'a> Cells<'a> {
         if at == self.end.place {
             return None;
         }
-        let (field, rest) = split_u32(format.order(), tail(self.image, at))?;
-        if field < 0x8000_0000 {
-            let size = field as usize;
-            self.place = at + (4 + size);
-            return Some((at, CellView::Live(rest.split_at(size).0)));
-        }
-        let size = 0x1_0000_0000 - field as usize;
-        self.place = at + (4 + size);
-        Some((at, CellView::Free(rest.split_at(size).0)))
+        let cell = first_cell(format, tail(self.image, at))?;
+        self.place = at + cell.width();
+        Some((at, cell))
     }
 }

@@ -2,10 +2,10 @@
 
 ghost use Rattle.std.specs.Prelude.{◌≡◌, ◌≤◌, ◌^◌, length, drop, slice_index};
 ghost use Rattle.krb_keytab.specs.Cells.{contents, image as image_of, version_byte, IsSpelled};
-ghost use Rattle.krb_keytab.specs.Step.{from_step, CellWithin};
+ghost use Rattle.krb_keytab.specs.Step.{GivesPlace};
 ghost use Rattle.krb_keytab.specs.Image.{IsKnownEnd};
 
-use crate::step::{Ending, Step, next_of};
+use crate::step::{Ending, next_of};
 use krb_wire::{KtFormat, tail};
 
 /// Where the cells of an image end, and what ends them.
@@ -15,17 +15,20 @@ pub struct CellsEnd {
     pub ending: Ending,
 }
 
-// What stands at a place, found by reading it whole.
-fn step_at(format: KtFormat, image: &[u8], at: usize) -> Step
+// The place after the cell at a place, which is read whole, or what ends the cells there.
+fn next_place(format: KtFormat, image: &[u8], at: usize) -> Result<usize, Ending>
     requires within { at ≤ length image.now }
     requires small { length image.now ≤ 2 ^ 30 }
-    ensures value { contents format (drop at image.now) ≡ from_step format image.now at result }
-    ensures within { CellWithin image.now at result }
+    ensures { GivesPlace format image.now at result }
 {
-    next_of(format, tail(image, at))
+    match next_of(format, tail(image, at)) {
+        Ok(length) => Ok(at + (4 + length.size() as usize)),
+        Err(ending) => Err(ending),
+    }
 }
 
-// The same for a format that is known where this is inlined, so that the loop asks for it no more.
+// Where the cells end, and how many they are. The format is known where this is inlined, so that the
+// loop does not ask for it.
 #[inline(always)]
 fn end_of_cells_in(format: KtFormat, image: &[u8]) -> (CellsEnd, u32)
     requires long { 2 ≤ length image.now }
@@ -36,10 +39,9 @@ fn end_of_cells_in(format: KtFormat, image: &[u8]) -> (CellsEnd, u32)
     let mut at: usize = 2;
     let mut count: u32 = 0;
     'cells: loop {
-        match step_at(format, image, at) {
-            Step::Live(size) => at += 4 + size,
-            Step::Free(size) => at += 4 + size,
-            Step::End(ending) => return (CellsEnd { place: at, ending }, count),
+        match next_place(format, image, at) {
+            Ok(next) => at = next,
+            Err(ending) => return (CellsEnd { place: at, ending }, count),
         }
         count += 1;
     }

@@ -1,12 +1,12 @@
-//! Cells of an image whose entries were read: a length alone tells each.
+//! The cells of an image as a store: lengths alone tell them, since the entries were read before.
 
 ghost use Rattle.std.specs.Prelude.{◌≡◌};
 
-use crate::put::bytes_fit;
+use crate::cells::first_cell;
 use krb_cells::{CellView, Front};
-use krb_wire::{KtFormat, split_u32};
+use krb_wire::KtFormat;
 
-/// A format, of cells that were read.
+/// The format of an image whose entries were read.
 #[derive(Clone, Copy, Debug)]
 pub struct Lengths {
     pub format: KtFormat,
@@ -19,19 +19,10 @@ impl Front for Lengths {
 
     #[inline(always)]
     fn first<'b>(self, bytes: &'b [u8]) -> Option<CellView<'b>> {
-        bytes_fit(bytes);
-        let (field, rest) = split_u32(self.format.order(), bytes)?;
-        if field < 0x8000_0000 {
-            let size = field as usize;
-            return Some(CellView {
-                width: 4 + size,
-                live: Some(rest.split_at(size).0),
-            });
-        }
-        let size = 0x1_0000_0000 - field as usize;
+        let cell = first_cell(self.format, bytes)?;
         Some(CellView {
-            width: 4 + size,
-            live: None,
+            width: cell.width(),
+            live: cell.live(),
         })
     }
 }

@@ -8,6 +8,7 @@ ghost use Rattle.krb_keytab.specs.Changes.{with_zeros};
 ghost use Rattle.krb_keytab.specs.Laws.{AreBytes};
 
 use crate::form::Form;
+use crate::length::Length;
 use krb_wire::{KtFormat, Name, put_u32};
 
 /// What a slice of bytes holds is below 256.
@@ -32,7 +33,7 @@ pub fn put_hole(format: KtFormat, image: &mut [u8], at: usize, size: usize)
     ensures { image.new ≡ splice image.old at (at + 4 + size)
         (cell (order_of format) (Free (replicate size 0))) }
 {
-    let from = put_u32(format.order(), (0x1_0000_0000 - size) as u32, image, at);
+    let from = put_u32(format.order(), Length::Free(size as u32).field(), image, at);
     put_zeros(image, from, from + size);
 }
 
@@ -40,11 +41,17 @@ pub fn put_hole(format: KtFormat, image: &mut [u8], at: usize, size: usize)
 pub fn put_record<N: Name>(image: &mut [u8], at: usize, size: usize, form: &Form<'_, N>)
     requires room { at + 4 + size ≤ length image.old }
     requires fits { length form.now.bytes ≤ size }
+    requires some { 0 < size }
     requires small { size < 2 ^ 31 }
     ensures { image.new ≡ splice image.old at (at + 4 + size)
         (cell (order_of form.now.format) (Live (with_zeros form.now.bytes size))) }
 {
-    let from = put_u32(form.format().order(), size as u32, image, at);
+    let from = put_u32(
+        form.format().order(),
+        Length::Live(size as u32).field(),
+        image,
+        at,
+    );
     let after = form.put(image, from);
     put_zeros(image, after, from + size);
 }

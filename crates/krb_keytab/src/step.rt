@@ -1,11 +1,12 @@
 //! What stands at a place of an image: a cell, or what ends the cells.
 
-ghost use Rattle.std.specs.Prelude.{◌≡◌, ◌<◌, ◌^◌, length, is_some};
+ghost use Rattle.std.specs.Prelude.{◌≡◌, ◌<◌, ◌^◌, length, is_some, Err};
 ghost use Rattle.krb_keytab.specs.Entry.{entry_at};
 ghost use Rattle.krb_keytab.specs.Cells.{next};
-ghost use Rattle.krb_keytab.specs.Step.{next_of_step, EndsWithin, ending_kind};
+ghost use Rattle.krb_keytab.specs.Step.{next_told, EndsWithin, ending_kind};
 
 use crate::entry::entry_from;
+use crate::length::Length;
 use krb_walk::FaultKind;
 use krb_wire::{KtFormat, split_u32};
 
@@ -29,19 +30,11 @@ impl Ending {
     }
 }
 
-/// A live or a free cell of so many bytes after its length, or what ends the cells.
-#[derive(Clone, Copy, Debug, PartialEq, Eq)]
-pub enum Step {
-    Live(usize),
-    Free(usize),
-    End(Ending),
-}
-
 // A fault ends the cells there.
-fn damaged(kind: FaultKind) -> Step
-    ensures { result ≡ Step.End (Ending.Damaged kind) }
+fn damaged(kind: FaultKind) -> Result<Length, Ending>
+    ensures { result ≡ Err (Ending.Damaged kind) }
 {
-    Step::End(Ending::Damaged(kind))
+    Err(Ending::Damaged(kind))
 }
 
 fn is_entry(format: KtFormat, bytes: &[u8]) -> bool
@@ -50,35 +43,36 @@ fn is_entry(format: KtFormat, bytes: &[u8]) -> bool
     entry_from(format, bytes).is_some()
 }
 
-/// What stands at the front of the bytes, found by reading it whole.
+/// The length of the cell at the front of the bytes, which is read whole, or what ends the cells.
 #[tactic(auto, unfolding(crate::specs::Cells::next))]
-pub fn next_of(format: KtFormat, bytes: &[u8]) -> Step
+pub fn next_of(format: KtFormat, bytes: &[u8]) -> Result<Length, Ending>
     requires { length bytes.now < 2 ^ 32 }
-    ensures value { next format bytes.now ≡ next_of_step bytes.now result }
+    ensures value { next format bytes.now ≡ next_told bytes.now result }
     ensures within { EndsWithin bytes.now result }
 {
     let Some((field, rest)) = split_u32(format.order(), bytes) else {
         if bytes.is_empty() {
-            return Step::End(Ending::Bare);
+            return Err(Ending::Bare);
         }
         return damaged(FaultKind::CutLength);
     };
-    if field == 0 {
-        return Step::End(Ending::Mark);
-    }
-    if field < 0x8000_0000 {
-        let size = field as usize;
-        if rest.len() < size {
-            return damaged(FaultKind::Overrun);
+    let length = Length::of_field(field);
+    match length {
+        Length::End => Err(Ending::Mark),
+        Length::Live(size) => {
+            if rest.len() < size as usize {
+                return damaged(FaultKind::Overrun);
+            }
+            if is_entry(format, rest.split_at(size as usize).0) {
+                return Ok(length);
+            }
+            damaged(FaultKind::BadEntry)
         }
-        if is_entry(format, rest.split_at(size).0) {
-            return Step::Live(size);
+        Length::Free(size) => {
+            if rest.len() < size as usize {
+                return damaged(FaultKind::Overrun);
+            }
+            Ok(length)
         }
-        return damaged(FaultKind::BadEntry);
     }
-    let size = 0x1_0000_0000 - field as usize;
-    if rest.len() < size {
-        return damaged(FaultKind::Overrun);
-    }
-    Step::Free(size)
 }

@@ -15,7 +15,7 @@ use super::Indexed;
 use crate::grow::{push_live, reserve_one};
 use crate::slot::Slot;
 use crate::turn::put_slot;
-use krb_keytab::{Hole, NewEntry};
+use krb_keytab::{Hole, Length, NewEntry};
 use krb_walk::{Code, Refusal};
 use krb_wire::Name;
 use std::alloc::Allocator;
@@ -80,7 +80,7 @@ impl<A: Allocator> Indexed<A> {
         let put = self.keytab.add_at(entry, None)?;
         let slot = Slot {
             place,
-            length: need as u32,
+            field: Length::Live(need as u32).field(),
         };
         push_live(&mut self.slots, &mut self.tree, slot);
         Ok(put)
@@ -92,10 +92,10 @@ impl<A: Allocator> Indexed<A> {
         ensures { IsFit self.now.state need result }
     {
         let _ = self.image();
-        if need > 0x8000_0000 {
+        let Ok(need) = u32::try_from(need) else {
             return None;
-        }
-        let (number, _) = self.fit(need as u32);
+        };
+        let (number, _) = self.fit(need);
         number
     }
 

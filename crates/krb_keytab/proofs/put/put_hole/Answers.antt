@@ -27,4 +27,4 @@ hole_written o q old mid new at from size room is_q is_from first second =
 pub returns : goal.returns
 returns c =
     hole_written (order_of c.args.format) c.order.result c.args.image.now c.put_u32-from.new.out c.put_zeros.new.out c.args.at c.put_u32-from.result c.args.size
-    c.requires.room c.order.ensures c.put_u32-from.ensures.next c.put_u32-from.ensures.written c.put_zeros.ensures
+    c.requires.room c.order.ensures c.put_u32-from.ensures.next (rw c.field.ensures at c.put_u32-from.ensures.written) c.put_zeros.ensures

@@ -36,4 +36,4 @@ record_written o q old a b new x at from behind size room fits is_q is_from is_b
 pub returns : goal.returns
 returns g c =
     record_written (order_of c.args.form.now.format) c.order.result c.args.image.now c.put_u32-from.new.out c.put-after.new.out c.put_zeros.new.out c.args.form.now.bytes c.args.at c.put_u32-from.result c.put-after.result c.args.size
-    c.requires.room c.requires.fits (c.order.ensures ∙ ap (λ (f : KtFormat). order_of f) c.format.ensures) c.put_u32-from.ensures.next c.put-after.ensures.next c.put_u32-from.ensures.written c.put-after.ensures.written c.put_zeros.ensures
+    c.requires.room c.requires.fits (c.order.ensures ∙ ap (λ (f : KtFormat). order_of f) c.format.ensures) c.put_u32-from.ensures.next c.put-after.ensures.next (rw c.field.ensures at c.put_u32-from.ensures.written) c.put-after.ensures.written c.put_zeros.ensures

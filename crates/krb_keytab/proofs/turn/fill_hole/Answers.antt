@@ -25,3 +25,7 @@ pub returns-clause-count : goal.returns-clause-count
 returns-clause-count g c =
     as_many c.args.form.now.format c.args.image.now c.put_record.new.image (record_in c.args.form.now.bytes) c.args.hole.place _ c.args.end
     (filled_is c.args.form.now.format c.args.image.now c.put_record.new.image c.args.form.now.bytes c.args.hole c.args.end c.requires.known.within c.requires.known.small c.bytes_fit.ensures (λ i. omega (arith, c.type_inv.image i)) c.requires.known.ends c.len.ensures.record c.requires.hole c.put_record.ensures)
+
+pub put_record-requires-clause-some : goal.put_record-requires-clause-some
+put_record-requires-clause-some g c =
+    (hole_in c.args.form.now.format c.args.image.now (length c.args.form.now.bytes) c.args.hole c.args.end c.bytes_fit.ensures c.requires.known.ends c.requires.hole).some

@@ -56,7 +56,7 @@ invariant_of-self-2 g c =
     let counts : vec_len c.reserve_one.new.slots ≡ length i.slots.items = omega (arith, c.reserve_one.ensures.len, i.slots.ok) in
     let done = appended_kept k c.add_at.new.self.state e i.slots.items c.reserve_one.new.slots.items i.tree mid u c.end-place.result c.args.need c.in_ok-put.put (vec_len i.slots) (vec_capacity i.slots) (vec_len s) (vec_capacity s) (vec_len c.reserve_one.new.slots)
     kept c.requires.whole c.requires.fits c.requires.none c.requires.need fits_limit (omega (arith, small)) gives c.end-place.ensures c.reserve_one.ensures.slots c.reserve_one.ensures.sizes c.reserve_one.ensures.height counts c.push_live.ensures.grown in
-    subst (λ (y : List Slot). IsKept c.add_at.new.self.state y (vec_len s) (vec_capacity s) u) (sym c.push_live.ensures.slots) done
+    subst (λ (y : List Slot). IsKept c.add_at.new.self.state y (vec_len s) (vec_capacity s) u) (sym (rw c.field.ensures at c.push_live.ensures.slots)) done
 
 pub returns-clause-room : goal.returns-clause-room
 returns-clause-room g c = subst (λ (y : InMemory). takes_none y.state c.args.entry.now ≡ true → c.add_at.new.self.room ≡ y.room) c.self.view_is c.in_ok-put.ensures.room

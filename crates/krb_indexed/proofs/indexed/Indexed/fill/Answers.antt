@@ -19,7 +19,7 @@ pub turned-requires : goal.turned-requires
 turned-requires g c =
     let k = c.args.self.now.state in
     let long = hole_length k (length (written_form k.format c.args.entry.now)) c.args.number c.image.ensures.sound c.requires.hole in
-    omega (arith, long, ap (λ (s : Slot). s.length) c.slot-slot.ensures)
+    omega (arith, long, ap (λ (s : Slot). s.field) c.slot-slot.ensures)
 
 pub invariant_of-self-2 : goal.invariant_of-self-2
 invariant_of-self-2 g c =

@@ -16,7 +16,7 @@ use Rattle.krb_indexed.proofs.indexed.Indexed.free.Goals as goal
 pub turned-hole-requires : goal.turned-hole-requires
 turned-hole-requires g c =
     let long = live_length c.args.self.now.state c.args.number c.args.place c.image.ensures.sound c.requires in
-    omega (arith, long, ap (λ (s : Slot). s.length) c.slot-record.ensures)
+    omega (arith, long, ap (λ (s : Slot). s.field) c.slot-record.ensures)
 
 pub free_at-requires-clause-live : goal.free_at-requires-clause-live
 free_at-requires-clause-live g c = subst (λ (y : KeytabState). IsSome (live_bytes (store_of y) c.args.place)) (sym (state_is c.self.view_is)) c.requires.live
@@ -26,7 +26,7 @@ free_at-requires-clause-size g c =
     let k = c.args.self.now.state in
     let count = live_count k c.args.number c.args.place c.slot-record.result c.image.ensures.sound c.requires c.slot-record.ensures in
     subst (λ (y : KeytabState). IfSome (live_bytes (store_of y) c.args.place) (λ b. length b ≡ c.size.result)) (sym (state_is c.self.view_is))
-    (subst (λ (n : ℕ). IfSome (live_bytes (store_of k) c.args.place) (λ b. length b ≡ n)) (sym c.size.ensures.size) count)
+    (subst (λ (n : ℕ). IfSome (live_bytes (store_of k) c.args.place) (λ b. length b ≡ n)) (sym c.size.ensures) count)
 
 pub invariant_of-self : goal.invariant_of-self
 invariant_of-self g c =

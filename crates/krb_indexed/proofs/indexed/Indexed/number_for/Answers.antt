@@ -1,5 +1,8 @@
+use Rattle.std.proofs.Common.{arith}
 use Rattle.krb_indexed.proofs.AppendLemmas.{none_so_large}
 use Rattle.krb_indexed.proofs.indexed.Indexed.number_for.Goals as goal
 
-pub returns-then-need-gt2147483648 : goal.returns-then-need-gt2147483648
-returns-then-need-gt2147483648 g c = none_so_large c.args.self.now.state.format 2 c.args.need c.args.self.now.state.contents.cells c.image.ensures.sound.cells c.if-need-gt2147483648.true
+pub returns-in_default : goal.returns-in_default
+returns-in_default g c =
+    let large = c.in_default.ensures in
+    none_so_large c.args.self.now.state.format 2 c.args.need c.args.self.now.state.contents.cells c.image.ensures.sound.cells (omega (arith, large))

@@ -18,7 +18,7 @@ record_bytes-requires g c =
     let place = ap (λ (s : Slot). s.place) c.slot-slot.ensures in
     let live = live_number k (slot_at k c.args.number).place c.args.number c.image-image.ensures.sound c.requires refl (ap is_free (sym c.slot-slot.ensures) ∙ sym c.is_free.ensures ∙ c.if-is_free.false) in
     let there = number_bytes k c.args.number (slot_at k c.args.number).place c.image-image.result.now c.image-image.ensures.spelled c.image-image.ensures.sound live in
-    omega (arith, place, there.0.within, there.1, c.size.ensures.size, ap size c.slot-slot.ensures)
+    omega (arith, place, there.0.within, there.1, c.size.ensures, ap size c.slot-slot.ensures)
 
 pub returns-clause-live : goal.returns-clause-live
 returns-clause-live g c =
@@ -29,5 +29,5 @@ returns-clause-live g c =
     let live = live_number k p c.args.number c.image-image.ensures.sound c.requires refl (ap is_free (sym c.slot-slot.ensures) ∙ sym c.is_free.ensures ∙ c.if-is_free.false) in
     let there = number_bytes k c.args.number p image c.image-image.ensures.spelled c.image-image.ensures.sound live in
     let l = live_at k c.args.number p live in
-    let count : c.size.result ≡ length l.bytes = c.size.ensures.size ∙ ap size c.slot-slot.ensures ∙ there.1 in
+    let count : c.size.result ≡ length l.bytes = c.size.ensures ∙ ap size c.slot-slot.ensures ∙ there.1 in
     l.is ∙ sym (ap Some (c.record_bytes.ensures ∙ ap (λ (n : ℕ). take n (drop (c.slot-slot.result.place + 4) image)) count ∙ ap (λ (n : ℕ). take (length l.bytes) (drop (n + 4) image)) place ∙ there.0.bytes))

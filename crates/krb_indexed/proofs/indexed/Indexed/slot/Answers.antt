@@ -17,5 +17,5 @@ returns g c =
     let k = c.args.self.now.state in
     let table = table_held c.self.invariant.0 (state_is c.self.view_is) refl in
     let inside : c.args.number < length c.self.inside.slots.items = omega (arith, ap length table, slots_len 2 k.contents.cells, c.requires) in
-    c.index.ensures ∙ get_or_default c.self.inside.slots.items c.args.number c.index.result.now (record { place = 0; length = 0 }) inside
-    ∙ ap (λ (s : List Slot). get_or s c.args.number (record { place = 0; length = 0 })) table
+    c.index.ensures ∙ get_or_default c.self.inside.slots.items c.args.number c.index.result.now (record { place = 0; field = 0 }) inside
+    ∙ ap (λ (s : List Slot). get_or s c.args.number (record { place = 0; field = 0 })) table

@@ -1,0 +1,90 @@
+-- The first cell of bytes, told by its length.
+use Rattle.std.proofs.Common.{◌≡◌, ◌≢◌, ℕ, ◌+◌, ◌≤◌, List, [], ◌∷◌, ◌++◌, length, take, drop, Option, Some, None, refl, sym, ap, subst, ◌∙◌, append_assoc, length-append, arith}
+use Rattle.std.specs.List.{flat_map, AllByRecursion}
+use Rattle.std.specs.Int.{w32}
+use Rattle.std.proofs.lemmas.List.{take_at, drop_at, drop-drop, length-take, length-drop}
+use Rattle.std.proofs.lemmas.List.Concat.{flat_map-cons}
+use Rattle.krb_wire.specs.declared.format.KtFormat.{KtFormat}
+use Rattle.krb_wire.specs.Spelling.{order_of, digits}
+use Rattle.krb_wire.specs.Reading.{number_at}
+use Rattle.krb_wire.proofs.Fields.{IsBytes, some_is, wide32}
+use Rattle.krb_walk.specs.Contents.{More}
+use Rattle.krb_keytab.specs.declared.length.Length.{Length}
+use Rattle.krb_keytab.specs.Length.{length_of, size_of}
+use Rattle.krb_keytab.specs.Cells.{Cell, Contents, bytes_of, length_of_cell, length_field, cell, cell_in, end_bytes, next, contents, IsCell, IsSpelled, size}
+use Rattle.krb_keytab.specs.CellsFrom.{IsCellOrNothing, IsFirst}
+use Rattle.krb_keytab.proofs.CellLemmas.{contents_next, contents_spelled, cell_again, field_again}
+use Rattle.krb_keytab.proofs.Cuts.{cell_len}
+use Rattle.krb_keytab.proofs.LengthLemmas.{length_again, cell_has, size_is, cell_again as cell_of_bytes}
+
+-- a cell at the front of bytes
+record Told (f : KtFormat) (bytes : List ℕ) (c : Cell) : Type 0 where
+  pub sound : IsCell f c
+  pub number : number_at (order_of f) w32 bytes ≡ Some (length_field c, drop 4 bytes)
+  pub taken : take (size c) (drop 4 bytes) ≡ bytes_of c
+  pub next : next f bytes ≡ More c (drop (4 + size c) bytes)
+  pub within : 4 + size c ≤ length bytes
+
+told_of : (f : KtFormat) (c : Cell) (rest bytes : List ℕ) → bytes ≡ cell (order_of f) c ++ rest → IsCell f c → Told f bytes c
+told_of f c rest bytes is sound =
+    let o = order_of f in
+    let d = digits o w32 (length_field c) in
+    let four : length d ≡ 4 = (wide32 o).len (length_field c) in
+    let behind : drop 4 bytes ≡ bytes_of c ++ rest = ap (drop 4) (is ∙ append_assoc d (bytes_of c) rest) ∙ drop_at d (bytes_of c ++ rest) 4 four in
+    let left : drop (4 + size c) bytes ≡ rest = ap (drop (4 + size c)) is ∙ drop_at (cell o c) rest (4 + size c) (cell_len o c) in
+    record {
+      sound = sound;
+      number = ap (number_at o w32) is ∙ field_again f c rest sound ∙ ap (λ (b : List ℕ). Some (length_field c, b)) (sym behind);
+      taken = ap (take (size c)) behind ∙ take_at (bytes_of c) rest (size c) refl;
+      next = ap (next f) is ∙ cell_again f c rest sound ∙ ap (More c) (sym left);
+      within = omega (arith, ap length is, length-append (cell o c) rest, cell_len o c);
+    }
+
+-- the first of the cells that bytes hold is told by its length
+told_by : (f : KtFormat) (bytes : List ℕ) (k : Contents) (c : Cell) (cs : List Cell) → k.cells ≡ c ∷ cs → IsSpelled f bytes k → Told f bytes c
+told_by f bytes k c cs is spelled =
+    let o = order_of f in
+    let parts : bytes ≡ cell o c ++ (flat_map (cell o) cs ++ end_bytes o k.end) =
+    spelled.parts ∙ ap (λ (x : List Cell). flat_map (cell o) x ++ end_bytes o k.end) is
+    ∙ ap (λ (b : List ℕ). b ++ end_bytes o k.end) (flat_map-cons (cell o) c cs) ∙ append_assoc (cell o c) (flat_map (cell o) cs) (end_bytes o k.end) in
+    told_of f c (flat_map (cell o) cs ++ end_bytes o k.end) bytes parts (subst (AllByRecursion (IsCell f)) is spelled.sound.cells).0
+
+-- ---- by the number that was read
+
+-- a length, and bytes that hold its cell and others
+pub record FirstRead (f : KtFormat) (bytes rest : List ℕ) (l : Length) : Type 0 where
+  pub room : size_of l ≤ length rest
+  pub first : IsFirst f bytes (cell_in l (take (size_of l) rest))
+
+read_first : (f : KtFormat) (bytes rest : List ℕ) (n : ℕ) (l : Length) (c : Cell) → IsBytes bytes → Told f bytes c → number_at (order_of f) w32 bytes ≡ Some (n, rest) → l ≡ length_of n → FirstRead f bytes rest l
+read_first f bytes rest n l c fits t e is =
+    let same = some_is (n, rest) (length_field c, drop 4 bytes) (sym e ∙ t.number) in
+    let behind : rest ≡ drop 4 bytes = ap (λ (x : ℕ × List ℕ). x.1) same in
+    let says : l ≡ length_of_cell c = is ∙ ap (λ (x : ℕ × List ℕ). length_of x.0) same ∙ length_again (length_of_cell c) (cell_has f c t.sound) in
+    let as_many : size_of l ≡ size c = ap size_of says ∙ size_is c in
+    let is_cell : cell_in l (take (size_of l) rest) ≡ c = ap (λ (b : List ℕ). cell_in l (take (size_of l) b)) behind ∙ cell_of_bytes c l (drop 4 bytes) says t.taken in
+    let within = t.within in
+    record {
+      room = omega (arith, as_many, within, ap length behind, length-drop 4 bytes);
+      first = subst (IsFirst f bytes) (sym is_cell) (record { contents = contents_next f bytes (More c (drop (4 + size c) bytes)) fits t.next; sound = t.sound; within = within });
+    }
+
+no_number : (f : KtFormat) (n : ℕ) (rest : List ℕ) → number_at (order_of f) w32 [] ≡ Some (n, rest) → ⊥
+no_number f n rest e = cc
+
+first_by : (f : KtFormat) (bytes rest : List ℕ) (n : ℕ) (l : Length) (cs : List Cell) → IsBytes bytes → IsCellOrNothing f bytes → (contents f bytes).cells ≡ cs → number_at (order_of f) w32 bytes ≡ Some (n, rest) → l ≡ length_of n → FirstRead f bytes rest l
+first_by f bytes rest n l [] fits some cells e is = absurd (no_number f n rest (ap (number_at (order_of f) w32) (sym (some cells)) ∙ e))
+first_by f bytes rest n l (c ∷ cs) fits some cells e is = read_first f bytes rest n l c fits (told_by f bytes (contents f bytes) c cs cells (contents_spelled f bytes fits)) e is
+
+pub first_read : (f : KtFormat) (bytes rest : List ℕ) (n : ℕ) (l : Length) → IsBytes bytes → IsCellOrNothing f bytes → number_at (order_of f) w32 bytes ≡ Some (n, rest) → l ≡ length_of n → FirstRead f bytes rest l
+first_read f bytes rest n l fits some e is = first_by f bytes rest n l (contents f bytes).cells fits some refl e is
+
+none_by : (f : KtFormat) (bytes : List ℕ) (cs : List Cell) → IsBytes bytes → (contents f bytes).cells ≡ cs → number_at (order_of f) w32 bytes ≡ None → cs ≡ []
+none_by f bytes [] fits cells e = refl
+none_by f bytes (c ∷ cs) fits cells e =
+    let n = (told_by f bytes (contents f bytes) c cs cells (contents_spelled f bytes fits)).number in
+    absurd (cc (n, e))
+
+-- where no number is left, no cell is
+pub none_read : (f : KtFormat) (bytes : List ℕ) → IsBytes bytes → number_at (order_of f) w32 bytes ≡ None → (contents f bytes).cells ≡ []
+none_read f bytes fits e = none_by f bytes (contents f bytes).cells fits refl e

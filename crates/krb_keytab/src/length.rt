@@ -1,0 +1,66 @@
+//! The length that stands before each cell.
+
+ghost use Rattle.std.specs.Prelude.{◌≡◌, ◌<◌, ◌≤◌, ◌^◌, ◌-◌};
+ghost use Rattle.krb_keytab.specs.Length.{length_of, field_of, size_of, HasField};
+
+/// What a length says (MIT krb5, "Keytab file format").
+#[derive(Clone, Copy, Debug, PartialEq, Eq)]
+pub enum Length {
+    /// No cell begins here.
+    End,
+    /// A record of so many bytes.
+    Live(u32),
+    /// A hole of so many bytes.
+    Free(u32),
+}
+
+impl Length {
+    /// The field of a hole as large as a record, by the record's, and the other way round: its two's
+    /// complement.
+    pub fn negated(field: u32) -> u32
+        requires { 0 < field }
+        ensures { result ≡ 2 ^ 32 - field }
+    {
+        (0x1_0000_0000 - field as u64) as u32
+    }
+
+    /// What a field says: 0 is no length, and a number below 2^31 that of a record. Any other is the
+    /// negated length of a hole.
+    #[inline(always)]
+    pub fn of_field(field: u32) -> Length
+        ensures { result ≡ length_of field }
+    {
+        if field == 0 {
+            return Length::End;
+        }
+        if field < 0x8000_0000 {
+            return Length::Live(field);
+        }
+        Length::Free(Length::negated(field))
+    }
+
+    /// The field that says it.
+    #[inline(always)]
+    pub fn field(self) -> u32
+        requires { HasField self }
+        ensures { result ≡ field_of self }
+    {
+        match self {
+            Length::End => 0,
+            Length::Live(size) => size,
+            Length::Free(size) => Length::negated(size),
+        }
+    }
+
+    /// How many bytes stand after it.
+    #[inline(always)]
+    pub fn size(self) -> u32
+        ensures { result ≡ size_of self }
+    {
+        match self {
+            Length::End => 0,
+            Length::Live(size) => size,
+            Length::Free(size) => size,
+        }
+    }
+}
