@@ -1,29 +1,36 @@
 -- A name that is read is the name that was written, and what was written is read again.
-use Rattle.std.proofs.Common.{◌≡◌, ℕ, zero, suc, ◌+◌, ◌^◌, ◌<◌, List, [], ◌++◌, length, Some, None, refl, sym, ap, subst, ◌∙◌, append_assoc, arith}
+use Rattle.std.proofs.Common.{◌≡◌, ℕ, ◌+◌, ◌-◌, ◌^◌, ◌<◌, Bool, true, false, cond, ltb, List, [], ◌++◌, length, Some, None, refl, sym, ap, subst, ◌∙◌, append_assoc, arith}
 use Rattle.std.specs.List.{flat_map}
 use Rattle.std.specs.Int.{w16, w32}
 use Rattle.std.proofs.lemmas.List.{length-append}
+use Rattle.std.proofs.lemmas.Bool.{le-ltb, ltb-false}
 use Rattle.krb_wire.specs.declared.format.Order.{Order}
 use Rattle.krb_wire.specs.declared.format.Order.TheVariants.{Big}
 use Rattle.krb_wire.specs.declared.format.Lengths.{Lengths}
 use Rattle.krb_wire.specs.declared.format.Lengths.TheVariants.{Bits16, Bits32}
 use Rattle.krb_wire.specs.declared.format.KtFormat.{KtFormat}
 use Rattle.krb_wire.specs.declared.format.KtFormat.TheVariants.{V1, V2}
-use Rattle.krb_wire.specs.Spelling.{Parts, digits, data16, data32, order_of, count_field, name_type_field, kt_principal, cc_principal, HasNameType, IsShort, IsLong, FitsKt, FitsCc, data_text, FitsLength}
+use Rattle.krb_wire.specs.Spelling.{Parts, digits, data16, data32, order_of, counted_realms, count_field, name_type_field, kt_principal, cc_principal, HasNameType, IsShort, IsLong, FitsKt, FitsCc, data_text, FitsLength}
 use Rattle.krb_wire.specs.Reading.{◌>>=◌, number_at, data16_at, data32_at, data_at, list_at, components_at, components_of_count, name_type_at, kt_principal_at, cc_principal_at}
 use Rattle.krb_wire.proofs.Fields.{IsBytes, bind_some, some_is, Takes, Takes-then, wide16, wide32, number_takes, number_again, data16_takes, data16_again, data32_takes, data32_again}
 use Rattle.krb_wire.proofs.NamesTold.{lengths_of, lengths_fit}
 use Rattle.krb_wire.proofs.Places.{IsField}
 use Rattle.krb_wire.proofs.ReadLists.{length_list, list_takes, list_again}
 
+taken_off : (less : Bool) (k field n : ℕ) → ltb field k ≡ less → cond less None (Some (field - k)) ≡ Some n → field ≡ n + k
+taken_off true k field n less e = absurd cc
+taken_off false k field n less e = let same : field - k ≡ n = some_is (field - k) n e in omega (arith, ltb-false field k less)
+
 count_is : (f : KtFormat) (field n : ℕ) → components_of_count f field ≡ Some n → field ≡ count_field f n
-count_is (V1 o) zero n e = absurd cc
-count_is (V1 o) (suc m) n e = let same : m ≡ n = some_is m n e in omega arith
-count_is V2 field n e = some_is field n e
+count_is f field n e = taken_off (ltb field (counted_realms f)) (counted_realms f) field n refl e
+
+added_again : (k n : ℕ) → cond (ltb (n + k) k) None (Some (n + k - k)) ≡ Some n
+added_again k n =
+    let same : n + k - k ≡ n = omega arith in
+    rw (le-ltb (n + k) k (omega arith)) (ap (λ (m : ℕ). Some m) same)
 
 count_again : (f : KtFormat) (n : ℕ) → components_of_count f (count_field f n) ≡ Some n
-count_again (V1 o) n = let e : n + 1 ≡ suc n = omega arith in ap (components_of_count (V1 o)) e
-count_again V2 n = refl
+count_again f n = added_again (counted_realms f) n
 
 name_type_takes : (f : KtFormat) (bytes : List ℕ) (x : ℕ × List ℕ) → IsBytes bytes → name_type_at f bytes ≡ Some x → Takes bytes (name_type_field f x.0) x.1 × HasNameType f x.0
 name_type_takes (V1 o) bytes x fits e = subst (λ (y : ℕ × List ℕ). Takes bytes [] y.1 × (y.0 ≡ 0)) (some_is (0, bytes) x e) (record { parts = refl; rest_fits = fits }, refl)

@@ -1,5 +1,5 @@
 -- Reading from left to right: a part and the bytes after it, where the bytes begin with one.
-use Rattle.std.specs.Prelude.{◌≡◌, ℕ, zero, suc, ◌≤◌, List, [], ◌∷◌, length, take, drop, Option, Some, None, nat_lt, if◌then◌else◌, option_map, unwrap_or, map, Vec}
+use Rattle.std.specs.Prelude.{◌≡◌, ℕ, zero, suc, ◌≤◌, ◌-◌, List, [], ◌∷◌, length, take, drop, Option, Some, None, nat_lt, if◌then◌else◌, option_map, unwrap_or, map, Vec}
 use Rattle.std.specs.Int.{Width, w16, w32, byte_len}
 use Rattle.std.specs.Vec.{vec_items}
 use Rattle.krb_wire.specs.declared.format.Order.{Order}
@@ -8,8 +8,7 @@ use Rattle.krb_wire.specs.declared.format.Order.TheVariants.{Big}
 use Rattle.krb_wire.specs.declared.format.Lengths.{Lengths}
 use Rattle.krb_wire.specs.declared.format.Lengths.TheVariants.{Bits16, Bits32}
 use Rattle.krb_wire.specs.declared.format.KtFormat.{KtFormat}
-use Rattle.krb_wire.specs.declared.format.KtFormat.TheVariants.{V1, V2}
-use Rattle.krb_wire.specs.Spelling.{Parts, number, order_of}
+use Rattle.krb_wire.specs.Spelling.{Parts, number, order_of, counted_realms, has_name_type}
 
 infixl 10 ◌>>=◌
 -- the next step of a reading, where the step before it found something
@@ -76,14 +75,11 @@ components_at o n bytes = list_at (data16_at o) n bytes
 
 -- how many components a count stands for
 abbrev pub components_of_count : KtFormat → ℕ → Option ℕ
-components_of_count V2 n = Some n
-components_of_count (V1 o) zero = None
-components_of_count (V1 o) (suc n) = Some n
+components_of_count f n = if nat_lt n (counted_realms f) then None else Some (n - counted_realms f)
 
--- the name type that the bytes begin with; in version 1 it is not written, and 0
+-- the name type that the bytes begin with, or 0 where none is written
 abbrev pub name_type_at : KtFormat → List ℕ → Option (ℕ × List ℕ)
-name_type_at (V1 o) bytes = Some (0, bytes)
-name_type_at V2 bytes = number_at Big w32 bytes
+name_type_at f bytes = if has_name_type f then number_at Big w32 bytes else Some (0, bytes)
 
 -- the name that the bytes begin with
 unfoldable pub kt_principal_at : KtFormat → List ℕ → Option (Parts × List ℕ)

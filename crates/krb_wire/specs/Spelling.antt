@@ -1,5 +1,5 @@
 -- What names are, and the one spelling of each.
-use Rattle.std.specs.Prelude.{◌≡◌, ℕ, ◌+◌, ◌<◌, ◌^◌, ◌≤◌, List, [], ◌++◌, length, drop, Bool, ◌&&◌, nat_lt, IsTrue}
+use Rattle.std.specs.Prelude.{◌≡◌, ℕ, ◌+◌, ◌<◌, ◌^◌, ◌≤◌, List, [], ◌++◌, length, drop, Bool, true, false, ◌&&◌, nat_lt, if◌then◌else◌, IsTrue}
 use Rattle.std.specs.List.{flat_map, list_all, AllByRecursion}
 use Rattle.std.specs.Int.{Width, w16, w32, to_be_bytes, to_le_bytes, from_be_bytes, from_le_bytes}
 use Rattle.krb_wire.specs.declared.format.Order.{Order}
@@ -37,20 +37,33 @@ data16 o bytes = counted o w16 bytes
 abbrev pub data32 : Order → List ℕ → List ℕ
 data32 o bytes = counted o w32 bytes
 
--- the byte order of a format
+-- the second byte of a keytab
+abbrev pub version_byte : KtFormat → ℕ
+version_byte (V1 o) = 1
+version_byte V2 = 2
+
+-- the byte order of its numbers
 abbrev pub order_of : KtFormat → Order
 order_of (V1 o) = o
 order_of V2 = Big
 
--- what stands in the place of the number of components: version 1 counts the realm
-abbrev pub count_field : KtFormat → ℕ → ℕ
-count_field (V1 o) n = n + 1
-count_field V2 n = n
+-- how many realms are counted among the components
+abbrev pub counted_realms : KtFormat → ℕ
+counted_realms (V1 o) = 1
+counted_realms V2 = 0
 
--- version 1 has no name type
+-- whether its names have a type
+abbrev pub has_name_type : KtFormat → Bool
+has_name_type (V1 o) = false
+has_name_type V2 = true
+
+-- what stands in the place of the number of components
+abbrev pub count_field : KtFormat → ℕ → ℕ
+count_field f n = n + counted_realms f
+
+-- the bytes of a name type
 abbrev pub name_type_field : KtFormat → ℕ → List ℕ
-name_type_field (V1 o) t = []
-name_type_field V2 t = digits Big w32 t
+name_type_field f t = if has_name_type f then digits Big w32 t else []
 
 -- the spelling of a name in a keytab
 abbrev pub kt_principal : KtFormat → Parts → List ℕ

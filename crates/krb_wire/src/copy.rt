@@ -6,12 +6,12 @@ ghost use Rattle.krb_wire.specs.Reading.{items_of, principal_parts};
 use crate::memory::NoMemory;
 use crate::name::Name;
 use crate::principal::Principal;
-use std::alloc::{AllocError, Allocator};
+use std::alloc::Allocator;
 
 fn copy_components<N: Name, A: Allocator + Copy>(
     alloc: A,
     name: &N,
-) -> Result<Vec<Vec<u8, A>, A>, AllocError>
+) -> Result<Vec<Vec<u8, A>, A>, NoMemory>
     ensures { IfOk result (λ v. items_of v.items ≡ (N.parts name.now).components) }
 {
     let mut all = Vec::with_capacity(alloc, name.count())?;
@@ -21,7 +21,8 @@ fn copy_components<N: Name, A: Allocator + Copy>(
     Ok(all)
 }
 
-fn copy_parts<N: Name, A: Allocator + Copy>(alloc: A, name: &N) -> Result<Principal<A>, AllocError>
+/// An owned copy: the same name type, realm and components.
+pub fn copy_name<N: Name, A: Allocator + Copy>(alloc: A, name: &N) -> Result<Principal<A>, NoMemory>
     ensures { IfOk result (λ p. principal_parts p ≡ N.parts name.now) }
 {
     let realm = Vec::from_slice(alloc, name.realm())?;
@@ -31,14 +32,4 @@ fn copy_parts<N: Name, A: Allocator + Copy>(alloc: A, name: &N) -> Result<Princi
         realm,
         components,
     })
-}
-
-/// An owned copy: the same name type, realm and components.
-pub fn copy_name<N: Name, A: Allocator + Copy>(alloc: A, name: &N) -> Result<Principal<A>, NoMemory>
-    ensures { IfOk result (λ p. principal_parts p ≡ N.parts name.now) }
-{
-    match copy_parts(alloc, name) {
-        Ok(copy) => Ok(copy),
-        Err(_) => Err(NoMemory),
-    }
 }

@@ -1,7 +1,7 @@
 //! How a keytab spells its numbers and names.
 
 ghost use Rattle.std.specs.Prelude.{◌≡◌};
-ghost use Rattle.krb_wire.specs.Spelling.{order_of};
+ghost use Rattle.krb_wire.specs.Spelling.{version_byte, order_of, counted_realms, has_name_type};
 
 /// Which byte of a number comes first.
 #[derive(Clone, Copy, Debug, PartialEq, Eq)]
@@ -18,7 +18,7 @@ pub enum Lengths {
 }
 
 /// The version of a keytab. Version 1 has the order of the machine that wrote it; version 2 is
-/// big-endian.
+/// big-endian (MIT krb5, "Keytab file format").
 #[derive(Clone, Copy, Debug, PartialEq, Eq)]
 pub enum KtFormat {
     V1(Order),
@@ -33,6 +33,36 @@ impl KtFormat {
         match self {
             KtFormat::V1(order) => order,
             KtFormat::V2 => Order::Big,
+        }
+    }
+
+    /// The second byte of a keytab.
+    pub fn version(self) -> u8
+        ensures { result ≡ version_byte self }
+    {
+        match self {
+            KtFormat::V1(_) => 1,
+            KtFormat::V2 => 2,
+        }
+    }
+
+    /// How many realms the count of a name's components counts too: one in version 1.
+    pub fn counted_realms(self) -> usize
+        ensures { result ≡ counted_realms self }
+    {
+        match self {
+            KtFormat::V1(_) => 1,
+            KtFormat::V2 => 0,
+        }
+    }
+
+    /// Whether names have a type. Version 1 has none, and each reads as 0.
+    pub fn has_name_type(self) -> bool
+        ensures { result ≡ has_name_type self }
+    {
+        match self {
+            KtFormat::V1(_) => false,
+            KtFormat::V2 => true,
         }
     }
 }

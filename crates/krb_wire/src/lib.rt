@@ -3,7 +3,6 @@
 #![tactic(auto)]
 
 mod atom;
-mod cc_spelling;
 mod components;
 mod copy;
 mod counted;
@@ -22,7 +21,6 @@ mod spelling;
 mod text;
 mod view;
 
-pub use cc_spelling::{cc_principal_len, put_cc_principal};
 pub use components::Components;
 pub use copy::copy_name;
 pub use counted::{
@@ -38,7 +36,8 @@ pub use numbers::{put_u8, put_u16, put_u32, read_u16, read_u32, split_u8, split_
 pub use parse::parse_name;
 pub use principal::Principal;
 pub use same::same_name;
-pub use spelling::{kt_principal_len, put_kt_principal};
+pub use spelling::cache::{cc_principal_len, put_cc_principal};
+pub use spelling::keytab::{kt_principal_len, put_kt_principal};
 pub use text::{all_or_nothing, write_name};
 pub use view::{
     PrincipalView, read_cc_principal, read_kt_principal, split_cc_principal, split_kt_principal,

@@ -31,30 +31,21 @@ impl<'a> Model for PrincipalView<'a> {
     ghost invariant = { λ v. IsSome (list_at (data_at v.lengths) v.count v.components.now) };
 }
 
-// How many components a count stands for: version 1 counts the realm too.
+// How many components a count stands for.
 fn component_count(format: KtFormat, field: u16) -> Option<usize>
     ensures { result ≡ components_of_count format field }
 {
-    match format {
-        KtFormat::V1(_) => {
-            if field == 0 {
-                None
-            } else {
-                Some(field as usize - 1)
-            }
-        }
-        KtFormat::V2 => Some(field as usize),
-    }
+    (field as usize).checked_sub(format.counted_realms())
 }
 
-// The name type that the bytes begin with: version 1 has none, and it reads as 0.
+// The name type that the bytes begin with, or 0 where the format has none.
 fn name_type_of(format: KtFormat, bytes: &[u8]) -> Option<(u32, &[u8])>
     ensures { Gives (λ x. (x.0, x.1.now)) result (name_type_at format bytes.now) }
 {
-    match format {
-        KtFormat::V1(_) => Some((0, bytes)),
-        KtFormat::V2 => split_u32(Order::Big, bytes),
+    if !format.has_name_type() {
+        return Some((0, bytes));
     }
+    split_u32(Order::Big, bytes)
 }
 
 // The bytes after so many components.

@@ -1,7 +1,7 @@
 use Rattle.std.proofs.Common.{◌≡◌, ◌<◌, ◌+◌, ◌*◌, ◌^◌, ◌↔◌, length}
 use Rattle.std.specs.List.{flat_map, AllByRecursion}
 use Rattle.krb_wire.specs.Spelling.{data16, IsShort, order_of, kt_principal}
-use Rattle.krb_wire.proofs.spelling.kt_principal_len.Given as goal
+use Rattle.krb_wire.proofs.spelling.keytab.kt_principal_len.Given as goal
 
 abbrev pub invariant-loop-component : goal.invariant-loop-component
 invariant-loop-component g l = record {

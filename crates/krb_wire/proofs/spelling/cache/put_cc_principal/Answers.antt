@@ -6,7 +6,7 @@ use Rattle.krb_wire.specs.Spelling.{digits, data32, cc_principal}
 use Rattle.krb_wire.proofs.Fields.{wide32}
 use Rattle.krb_wire.proofs.NamesTold.{long_lengths_of}
 use Rattle.krb_wire.proofs.SpliceLemmas.{splice-four}
-use Rattle.krb_wire.proofs.cc_spelling.put_cc_principal.Goals as goal
+use Rattle.krb_wire.proofs.spelling.cache.put_cc_principal.Goals as goal
 
 pub put_components-requires-clause-fits : goal.put_components-requires-clause-fits
 put_components-requires-clause-fits g c = (long_lengths_of (g.N.Name.parts c.args.name.now) c.requires.spelled).components

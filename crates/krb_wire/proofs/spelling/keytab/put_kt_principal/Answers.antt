@@ -5,7 +5,7 @@ use Rattle.krb_wire.specs.Spelling.{digits, data16, kt_principal, name_type_fiel
 use Rattle.krb_wire.proofs.Fields.{wide16}
 use Rattle.krb_wire.proofs.NamesTold.{lengths_of}
 use Rattle.krb_wire.proofs.SpliceLemmas.{splice-four}
-use Rattle.krb_wire.proofs.spelling.put_kt_principal.Goals as goal
+use Rattle.krb_wire.proofs.spelling.keytab.put_kt_principal.Goals as goal
 
 pub returns-clause-written : goal.returns-clause-written
 returns-clause-written g c =

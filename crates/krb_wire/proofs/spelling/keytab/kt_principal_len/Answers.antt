@@ -1,11 +1,11 @@
-use Rattle.std.proofs.Common.{rules, ◌≡◌, ◌<◌, ◌^◌, ◌+◌, ◌++◌, ◌∙◌, length, ap, sym, subst, length-append, arith}
+use Rattle.std.proofs.Common.{rules, ◌≡◌, ◌<◌, ◌^◌, ◌+◌, ◌++◌, ◌∙◌, ℕ, List, length, ap, sym, subst, length-append, arith}
 use Rattle.std.specs.Int.{w16}
 use Rattle.std.specs.List.{flat_map, AllByRecursion}
 use Rattle.std.proofs.lemmas.List.Concat.{flat_map-cons}
-use Rattle.krb_wire.specs.Spelling.{digits, data16, order_of, kt_principal, IsShort, count_field}
+use Rattle.krb_wire.specs.Spelling.{digits, data16, order_of, kt_principal, IsShort, count_field, name_type_field}
 use Rattle.krb_wire.proofs.Fields.{wide16}
 use Rattle.krb_wire.proofs.NamesTold.{lengths_fit, fits_not}
-use Rattle.krb_wire.proofs.spelling.kt_principal_len.Goals as goal
+use Rattle.krb_wire.proofs.spelling.keytab.kt_principal_len.Goals as goal
 
 pub returns-then-component-gt65535-clause-some : goal.returns-then-component-gt65535-clause-some
 returns-then-component-gt65535-clause-some g c =
@@ -14,6 +14,24 @@ returns-then-component-gt65535-clause-some g c =
     let short = left.0 in
     let long = c.if-component-gt65535.true in
     absurd (omega (arith, short, long)))
+
+pub loop-component-init : goal.loop-component-init
+loop-component-init g c =
+    let f = c.args.format in
+    let p = g.N.Name.parts c.args.name.now in
+    let o = order_of f in
+    let name_type = name_type_field f p.name_type in
+    let own = c.name_type_len.ensures.len p.name_type in
+    let all = flat_map (data16 o) p.components in
+    let same = ap (λ (cs : List (List ℕ)). length (flat_map (data16 o) cs)) (c.into_iter-component-iterator.ensures.into_iter_gives ∙ c.components-component-items.ensures) in
+    let realm = ap length c.realm-realm.ensures in
+    let field = digits o w16 (count_field f (length p.components)) in
+    let len = digits o w16 (length p.realm) in
+    record {
+      len = omega (arith, own, same, realm, length-append field (data16 o p.realm ++ (all ++ name_type)), length-append (data16 o p.realm) (all ++ name_type), length-append all name_type, length-append len p.realm, (wide16 o).len (count_field f (length p.components)), (wide16 o).len (length p.realm));
+      small = search rules;
+      short = search rules;
+    }
 
 pub loop-component-preserved : goal.loop-component-preserved
 loop-component-preserved g c = record {

@@ -1,0 +1,83 @@
+//! Names as a keytab spells them.
+
+ghost use Rattle.std.specs.Prelude.{◌≡◌, ◌≤◌, ◌<◌, ◌^◌, ◌+◌, ◌↔◌, ℕ, length, is_some, IsTrue, IsSome, IfSome};
+ghost use Rattle.std.specs.List.{splice};
+ghost use Rattle.krb_wire.specs.Spelling.{name_fits, count_field, kt_principal, name_type_field};
+
+use crate::counted::put_data16;
+use crate::format::{KtFormat, Lengths, Order};
+use crate::name::Name;
+use crate::numbers::{put_u16, put_u32};
+use crate::spelling::put_components;
+
+// What stands in the place of a number of components, where it fits 16 bits.
+fn count_field_of(format: KtFormat, count: usize) -> Option<u16>
+    ensures some { IsSome result ↔ (count_field format count < 2 ^ 16) }
+    ensures value { IfSome result (λ n. n ≡ count_field format count) }
+{
+    let field = count.checked_add(format.counted_realms())?;
+    u16::try_from(field).ok()
+}
+
+// How many bytes a name type takes.
+fn name_type_len(format: KtFormat) -> u64
+    ensures len { (name_type : ℕ) → result ≡ length (name_type_field format name_type) }
+    ensures small { result ≤ 4 }
+{
+    if format.has_name_type() { 4 } else { 0 }
+}
+
+/// How many bytes the name takes in a keytab (MIT krb5, "Keytab file format", section "Key entry
+/// format"); in version 1 its name type is left out. `None` where a count or a length does not fit its
+/// 16 bits: more than 65,535 components (65,534 in version 1), or a realm or a component of more than
+/// 65,535 bytes.
+pub fn kt_principal_len<N: Name>(format: KtFormat, name: &N) -> Option<u64>
+    ensures some { is_some result ≡ name_fits format (N.parts name.now) }
+    ensures len { IfSome result (λ n. n ≡ length (kt_principal format (N.parts name.now))) }
+    // Each such sum fits a u64, with room to add more.
+    ensures small { IfSome result (λ n. n < 2 ^ 33) }
+{
+    let _ = count_field_of(format, name.count())?;
+    let realm = name.realm().len();
+    if realm > 65_535 {
+        return None;
+    }
+    let mut len = 4 + realm as u64 + name_type_len(format);
+    for component in name.components() {
+        if component.len() > 65_535 {
+            return None;
+        }
+        len += 2 + component.len() as u64;
+    }
+    Some(len)
+}
+
+// Writes a name type at a place, where the format has one; the answer is the place after it.
+fn put_name_type(format: KtFormat, name_type: u32, out: &mut [u8], at: usize) -> usize
+    requires { at + length (name_type_field format name_type) ≤ length out.old }
+    ensures next { result ≡ at + length (name_type_field format name_type) }
+    ensures written { out.new ≡ splice out.old at result (name_type_field format name_type) }
+{
+    if !format.has_name_type() {
+        return at;
+    }
+    put_u32(Order::Big, name_type, out, at)
+}
+
+/// Writes the name at a place as a keytab spells it, and no other byte; the answer is the place after
+/// it. `kt_principal_len` says whether it has a spelling, and how much room that takes.
+pub fn put_kt_principal<N: Name>(format: KtFormat, name: &N, out: &mut [u8], at: usize) -> usize
+    requires spelled { IsTrue (name_fits format (N.parts name.now)) }
+    requires room { at + length (kt_principal format (N.parts name.now)) ≤ length out.old }
+    ensures next { result ≡ at + length (kt_principal format (N.parts name.now)) }
+    ensures written { out.new ≡ splice out.old at result (kt_principal format (N.parts name.now)) }
+{
+    let order = format.order();
+    let Some(count) = count_field_of(format, name.count()) else {
+        unreachable!()
+    };
+    let realm = put_u16(order, count, out, at);
+    let components = put_data16(order, name.realm(), out, realm);
+    let name_type = put_components(Lengths::Bits16(order), name, out, components);
+    put_name_type(format, name.name_type(), out, name_type)
+}
