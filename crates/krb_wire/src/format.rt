@@ -1,7 +1,8 @@
 //! How a keytab spells its numbers and names.
 
-ghost use Rattle.std.specs.Prelude.{◌≡◌};
-ghost use Rattle.krb_wire.specs.Spelling.{version_byte, order_of, counted_realms, has_name_type};
+ghost use Rattle.std.specs.Prelude.{◌≡◌, ◌<◌, ◌^◌, ◌↔◌, IsSome, IfSome};
+ghost use Rattle.krb_wire.specs.Spelling.{version_byte, order_of, counted_realms, has_name_type, count_field};
+ghost use Rattle.krb_wire.specs.Reading.{components_of_count};
 
 /// Which byte of a number comes first.
 #[derive(Clone, Copy, Debug, PartialEq, Eq)]
@@ -46,14 +47,30 @@ impl KtFormat {
         }
     }
 
-    /// How many realms the count of a name's components counts too: one in version 1.
-    pub fn counted_realms(self) -> usize
+    // How many realms the count of a name's components counts too: one in version 1.
+    fn counted_realms(self) -> usize
         ensures { result ≡ counted_realms self }
     {
         match self {
             KtFormat::V1(_) => 1,
             KtFormat::V2 => 0,
         }
+    }
+
+    /// How many components a count stands for; in version 1 none has the count 0.
+    pub fn components_of(self, field: u16) -> Option<usize>
+        ensures { result ≡ components_of_count self field }
+    {
+        (field as usize).checked_sub(self.counted_realms())
+    }
+
+    /// The count that stands for so many components, where it fits 16 bits.
+    pub fn count_of(self, components: usize) -> Option<u16>
+        ensures some { IsSome result ↔ (count_field self components < 2 ^ 16) }
+        ensures value { IfSome result (λ n. n ≡ count_field self components) }
+    {
+        let field = components.checked_add(self.counted_realms())?;
+        u16::try_from(field).ok()
     }
 
     /// Whether names have a type. Version 1 has none, and each reads as 0.

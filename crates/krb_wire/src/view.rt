@@ -3,7 +3,7 @@
 ghost use Rattle.std.specs.Prelude.{◌≡◌, ◌≤◌, ◌+◌, ◌++◌, ℕ, List, length, drop, IsSome, IfSome, Some, slice_get, option_copied};
 ghost use Rattle.std.specs.Int.{w16, w32};
 ghost use Rattle.krb_wire.specs.Spelling.{Parts, order_of, FitsKt, FitsCc, Stands, kt_principal, cc_principal};
-ghost use Rattle.krb_wire.specs.Reading.{Gives, ReadsAt, number_at, data_at, list_at, list_in, list_end, components_of_count, name_type_at, kt_principal_at, cc_principal_at};
+ghost use Rattle.krb_wire.specs.Reading.{Gives, ReadsAt, number_at, data_at, list_at, list_in, list_end, name_type_at, kt_principal_at, cc_principal_at};
 
 use crate::components::Components;
 use crate::counted::{split_data, split_data16, split_data32, tail};
@@ -29,13 +29,6 @@ impl<'a> Model for PrincipalView<'a> {
     ghost view = { λ v. record { name_type = v.name_type; realm = v.realm.now; components = list_in (data_at v.lengths) v.count v.components.now } };
 
     ghost invariant = { λ v. IsSome (list_at (data_at v.lengths) v.count v.components.now) };
-}
-
-// How many components a count stands for.
-fn component_count(format: KtFormat, field: u16) -> Option<usize>
-    ensures { result ≡ components_of_count format field }
-{
-    (field as usize).checked_sub(format.counted_realms())
 }
 
 // The name type that the bytes begin with, or 0 where the format has none.
@@ -80,7 +73,7 @@ pub fn split_kt_principal(format: KtFormat, bytes: &[u8]) -> Option<(PrincipalVi
 {
     let order = format.order();
     let (field, rest) = split_u16(order, bytes)?;
-    let count = component_count(format, field)?;
+    let count = format.components_of(field)?;
     let (realm, components) = split_data16(order, rest)?;
     let lengths = Lengths::Bits16(order);
     let after = skip_components(lengths, count, components)?;

@@ -2,22 +2,13 @@
 
 ghost use Rattle.std.specs.Prelude.{◌≡◌, ◌≤◌, ◌<◌, ◌^◌, ◌+◌, ◌↔◌, ℕ, length, is_some, IsTrue, IsSome, IfSome};
 ghost use Rattle.std.specs.List.{splice};
-ghost use Rattle.krb_wire.specs.Spelling.{name_fits, count_field, kt_principal, name_type_field};
+ghost use Rattle.krb_wire.specs.Spelling.{name_fits, kt_principal, name_type_field};
 
 use crate::counted::put_data16;
 use crate::format::{KtFormat, Lengths, Order};
 use crate::name::Name;
 use crate::numbers::{put_u16, put_u32};
 use crate::spelling::put_components;
-
-// What stands in the place of a number of components, where it fits 16 bits.
-fn count_field_of(format: KtFormat, count: usize) -> Option<u16>
-    ensures some { IsSome result ↔ (count_field format count < 2 ^ 16) }
-    ensures value { IfSome result (λ n. n ≡ count_field format count) }
-{
-    let field = count.checked_add(format.counted_realms())?;
-    u16::try_from(field).ok()
-}
 
 // How many bytes a name type takes.
 fn name_type_len(format: KtFormat) -> u64
@@ -37,7 +28,7 @@ pub fn kt_principal_len<N: Name>(format: KtFormat, name: &N) -> Option<u64>
     // Each such sum fits a u64, with room to add more.
     ensures small { IfSome result (λ n. n < 2 ^ 33) }
 {
-    let _ = count_field_of(format, name.count())?;
+    let _ = format.count_of(name.count())?;
     let realm = name.realm().len();
     if realm > 65_535 {
         return None;
@@ -73,7 +64,7 @@ pub fn put_kt_principal<N: Name>(format: KtFormat, name: &N, out: &mut [u8], at:
     ensures written { out.new ≡ splice out.old at result (kt_principal format (N.parts name.now)) }
 {
     let order = format.order();
-    let Some(count) = count_field_of(format, name.count()) else {
+    let Some(count) = format.count_of(name.count()) else {
         unreachable!()
     };
     let realm = put_u16(order, count, out, at);
