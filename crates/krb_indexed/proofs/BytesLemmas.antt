@@ -5,10 +5,10 @@ use Rattle.std.specs.List.{flat_map}
 use Rattle.std.proofs.lemmas.Grind.{flat_map-append}
 use Rattle.std.proofs.lemmas.List.{drop_at, take_at}
 use Rattle.std.proofs.lemmas.List.Concat.{flat_map-cons}
-use Rattle.krb_wire.specs.Spelling.{order_of, digits}
+use Rattle.krb_wire.specs.Spelling.{order_of, digits, version_byte}
 use Rattle.krb_wire.proofs.Fields.{wide32}
 use Rattle.krb_walk.specs.Store.{live_bytes}
-use Rattle.krb_keytab.specs.Cells.{Live, IsSound, cell, end_bytes, version_byte}
+use Rattle.krb_keytab.specs.Cells.{Live, IsSound, cell, end_bytes}
 use Rattle.krb_keytab.specs.Store.{KeytabState, image_of, store_of, end_place}
 use Rattle.krb_keytab.proofs.Cuts.{end_place_is}
 use Rattle.krb_keytab.proofs.Replaced.{StandsAt}

@@ -88,9 +88,8 @@ spelled_all out whole xs to none so_far =
 
 -- ---- an entry that was read fits version 2
 
-count_fits : (f : KtFormat) (n : ℕ) → count_field f n < 2 ^ 16 → n < 2 ^ 16
-count_fits (V1 o) n lt = omega arith
-count_fits V2 n lt = lt
+count_fits : (f : KtFormat) (n : ℕ) → count_field f n < 2 ^ 16 → count_field V2 n < 2 ^ 16
+count_fits f n lt = omega (arith, lt)
 
 name_fits_anew : (f : KtFormat) (p : Parts) → name_fits f p ≡ true → name_fits V2 p ≡ true
 name_fits_anew f p h = let l = lengths_of f p h in lengths_fit V2 p (record { count = count_fits f (length p.components) l.count; realm = l.realm; components = l.components })

@@ -7,7 +7,7 @@ use Rattle.std.proofs.lemmas.Bool.{ltb-false, le-ltb}
 use Rattle.std.proofs.lemmas.List.{take_at, drop_at, take-append-drop, length-append, length-take}
 use Rattle.std.proofs.lemmas.List.Concat.{flat_map-cons}
 use Rattle.krb_wire.specs.declared.format.KtFormat.{KtFormat}
-use Rattle.krb_wire.specs.Spelling.{order_of, digits}
+use Rattle.krb_wire.specs.Spelling.{order_of, digits, version_byte}
 use Rattle.krb_wire.specs.Reading.{number_at}
 use Rattle.krb_wire.proofs.Fields.{IsBytes, IsBytes-drop, Takes, Takes-then, wide32, number_takes, number_again}
 use Rattle.krb_walk.specs.Contents.{NextCell, More, NoMore, on_next, IsCell as IsReadCell}
@@ -16,7 +16,7 @@ use Rattle.krb_keytab.specs.declared.length.Length.{Length}
 use Rattle.krb_keytab.specs.declared.length.Length.TheVariants as says
 use Rattle.krb_keytab.specs.Entry.{entry_at}
 use Rattle.krb_keytab.specs.Length.{length_of, field_of, HasField}
-use Rattle.krb_keytab.specs.Cells.{Cell, Live, Free, End, Bare, Mark, Damaged, Contents, bytes_of, length_of_cell, length_field, cell, end_bytes, spelling, short_end, next_of_length, next_by, next, keytab_format, contents, IsCell, IsEnd, IsSound, IsSpelled, image, version_byte}
+use Rattle.krb_keytab.specs.Cells.{Cell, Live, Free, End, Bare, Mark, Damaged, Contents, bytes_of, length_of_cell, length_field, cell, end_bytes, spelling, short_end, next_of_length, next_by, next, keytab_format, contents, IsCell, IsEnd, IsSound, IsSpelled, image}
 use Rattle.krb_keytab.proofs.LengthLemmas.{said, length_again, cell_has}
 
 pub chosen : {A : Type 0} (b : Bool) (x y z : A) → cond b x y ≡ z → ((b ≡ true) × (x ≡ z)) ⊎ ((b ≡ false) × (y ≡ z))

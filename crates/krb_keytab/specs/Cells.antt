@@ -4,8 +4,7 @@ use Rattle.std.specs.List.{flat_map, AllByRecursion}
 use Rattle.std.specs.Int.{w32}
 use Rattle.krb_wire.specs.declared.format.Order.{Order}
 use Rattle.krb_wire.specs.declared.format.KtFormat.{KtFormat}
-use Rattle.krb_wire.specs.declared.format.KtFormat.TheVariants.{V1, V2}
-use Rattle.krb_wire.specs.Spelling.{order_of, digits}
+use Rattle.krb_wire.specs.Spelling.{order_of, digits, version_byte}
 use Rattle.krb_wire.specs.Reading.{number_at}
 use Rattle.krb_walk.specs.declared.fault.FaultKind.{FaultKind}
 use Rattle.krb_walk.specs.declared.fault.FaultKind.TheVariants.{CutLength, Overrun, BadEntry}
@@ -69,11 +68,6 @@ abbrev pub kind_of : End → Option FaultKind
 kind_of Bare = None
 kind_of (Mark rest) = None
 kind_of (Damaged kind rest) = Some kind
-
--- the second byte of an image
-abbrev pub version_byte : KtFormat → ℕ
-version_byte (V1 o) = 1
-version_byte V2 = 2
 
 -- the spelling of a keytab
 abbrev pub image : KtFormat → Contents → List ℕ

@@ -1,9 +1,8 @@
 -- The one spelling that is written for an entry: fields as in MIT's "Keytab file format", section "Key entry format"; that the 32-bit version always stands is our choice.
-use Rattle.std.specs.Prelude.{ℕ, ◌<◌, ◌^◌, ◌%◌, List, ◌++◌, replicate, Bool, ◌&&◌, IsSome}
+use Rattle.std.specs.Prelude.{ℕ, ◌<◌, ◌^◌, ◌%◌, List, ◌++◌, replicate, Bool, ◌&&◌, if◌then◌else◌, IsSome}
 use Rattle.std.specs.Int.{w32}
 use Rattle.krb_wire.specs.declared.format.KtFormat.{KtFormat}
-use Rattle.krb_wire.specs.declared.format.KtFormat.TheVariants.{V1, V2}
-use Rattle.krb_wire.specs.Spelling.{digits, order_of, is_short, name_fits}
+use Rattle.krb_wire.specs.Spelling.{digits, order_of, has_name_type, is_short, name_fits}
 use Rattle.krb_keytab.specs.Entry.{EntryParts, Front, front, entry_at}
 
 -- each length and count of an entry fits its field of sixteen bits
@@ -27,10 +26,9 @@ pub record FormParts : Type 0 where
 abbrev pub IsRecord : KtFormat → List ℕ → Type 0
 IsRecord f bytes = (n : ℕ) → IsSome (entry_at f (bytes ++ replicate n 0))
 
--- the name type that is written: version 1 leaves it out, and 0 is read there
+-- the name type that is read where one was written
 abbrev pub kept_type : KtFormat → ℕ → ℕ
-kept_type (V1 o) t = 0
-kept_type V2 t = t
+kept_type f t = if has_name_type f then t else 0
 
 -- the entry that is read where an entry was written
 abbrev pub read_back : KtFormat → EntryParts → EntryParts

@@ -5,11 +5,12 @@ use Rattle.krb_wire.specs.declared.format.Order.{Order}
 use Rattle.krb_wire.specs.declared.format.KtFormat.{KtFormat}
 use Rattle.krb_wire.specs.declared.format.KtFormat.TheVariants.{V1, V2}
 use Rattle.krb_wire.specs.Reading.{◌>>=◌}
+use Rattle.krb_wire.specs.Spelling.{version_byte}
 use Rattle.krb_walk.specs.Store.{Cell as StoreCell, Store, end_from, records, live_bytes}
 use Rattle.krb_keytab.specs.declared.open.KtOpenFault.{KtOpenFault}
 use Rattle.krb_keytab.specs.declared.open.KtOpenFault.TheVariants.{TooShort, BadVersion, TooLarge}
 use Rattle.krb_keytab.specs.Entry.{EntryParts, entry_at}
-use Rattle.krb_keytab.specs.Cells.{Cell, Live, Free, Bare, Contents, contents, size, image, version_byte, kind_of}
+use Rattle.krb_keytab.specs.Cells.{Cell, Live, Free, Bare, Contents, contents, size, image, kind_of}
 
 -- a keytab: its format, the greatest length of its image, and its cells with what ends them
 pub record KeytabState : Type 0 where

@@ -8,14 +8,11 @@ ghost use Rattle.krb_keytab.specs.HasName.{begin_with};
 
 use krb_wire::{KtFormat, Name, Order, split_data16, split_u16};
 
-// Whether a count that was read stands for so many components: version 1 counts the realm too.
+// Whether a count that was read stands for so many components.
 fn is_count(format: KtFormat, field: u16, count: usize) -> bool
     ensures { IsTrue result ↔ (components_of_count format field ≡ Some count) }
 {
-    match format {
-        KtFormat::V1(_) => field != 0 && field as usize - 1 == count,
-        KtFormat::V2 => field as usize == count,
-    }
+    format.components_of(field) == Some(count)
 }
 
 // Whether the bytes begin with the components of a name.

@@ -1,7 +1,8 @@
 //! Where the cells of an image end.
 
 ghost use Rattle.std.specs.Prelude.{◌≡◌, ◌≤◌, ◌^◌, length, drop, slice_index};
-ghost use Rattle.krb_keytab.specs.Cells.{contents, image as image_of, version_byte, IsSpelled};
+ghost use Rattle.krb_wire.specs.Spelling.{version_byte};
+ghost use Rattle.krb_keytab.specs.Cells.{contents, image as image_of, IsSpelled};
 ghost use Rattle.krb_keytab.specs.Step.{GivesPlace};
 ghost use Rattle.krb_keytab.specs.Image.{IsKnownEnd};
 

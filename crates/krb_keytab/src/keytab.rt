@@ -19,7 +19,7 @@ use crate::entries::Entries;
 use crate::entry::{EntryView, read_entry};
 use crate::image::{CellsEnd, end_of_cells, spelled_of};
 use crate::lengths::Lengths;
-use crate::open::{KtOpenRefused, read_head, version_of};
+use crate::open::{KtOpenRefused, read_head};
 use crate::put::bytes_fit;
 use krb_cells::Cells as SeenCells;
 use krb_walk::{Fault, Stop};
@@ -66,7 +66,7 @@ impl<A: Allocator> Keytab<A> {
         ensures { IfOk result (λ k. k.state ≡ empty format limits) }
     {
         let limit = limits.image();
-        let image = Vec::from_slice(alloc, &[5, version_of(format)])?;
+        let image = Vec::from_slice(alloc, &[5, format.version()])?;
         let (end, count) = end_of_cells(format, &image);
         Ok(Keytab {
             image,

@@ -1,7 +1,7 @@
 //! Which images are keytabs.
 
 ghost use Rattle.std.specs.Prelude.{◌≡◌, ◌≤◌, length, drop, IfOk, IfErr, Ok, Err};
-ghost use Rattle.krb_keytab.specs.Cells.{contents, image as image_of, version_byte};
+ghost use Rattle.krb_keytab.specs.Cells.{contents, image as image_of};
 ghost use Rattle.krb_keytab.specs.Image.{IsKnownEnd};
 ghost use Rattle.krb_keytab.specs.Store.{format_of, open_result, IsImage};
 ghost use Rattle.krb_keytab.specs.Open.{open_fault_number};
@@ -96,15 +96,5 @@ pub fn format_in(v1_order: Order, image: &[u8]) -> Option<KtFormat>
         1 => Some(KtFormat::V1(v1_order)),
         2 => Some(KtFormat::V2),
         _ => None,
-    }
-}
-
-/// The second byte of an image of a format.
-pub fn version_of(format: KtFormat) -> u8
-    ensures { result ≡ version_byte format }
-{
-    match format {
-        KtFormat::V1(_) => 1,
-        KtFormat::V2 => 2,
     }
 }

@@ -10,4 +10,4 @@ holds_nothing : (f : KtFormat) (limit most version : ℕ) (bytes : List ℕ) →
 holds_nothing f limit most version bytes is_limit is_bytes = rw (is_limit, is_bytes, contents_none f) refl
 
 pub returns : goal.returns
-returns g c = holds_nothing c.args.format c.image-limit.result c.args.limits c.version_of.result c.in_ok-image.image.items c.image-limit.ensures.value c.in_ok-image.ensures.items
+returns g c = holds_nothing c.args.format c.image-limit.result c.args.limits c.version.result c.in_ok-image.image.items c.image-limit.ensures.value c.in_ok-image.ensures.items
