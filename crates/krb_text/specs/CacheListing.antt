@@ -9,17 +9,11 @@ use Rattle.krb_text.specs.declared.columns.CcColumns.{CcColumns}
 use Rattle.krb_text.specs.Credential.{credential_lines}
 use Rattle.krb_text.specs.Listing.{fault_line}
 
--- the line that names the file
-abbrev pub title : List ℕ → List ℕ
-title name = codes "Ticket cache: FILE:" ++ (name ++ codes "\n")
-
--- the line that tells whose it is, and the titles of the columns
-abbrev pub owner : Parts → List ℕ
-owner principal = codes "Default principal: " ++ (name_text principal ++ codes "\n\nValid starting       Expires              Service principal\n")
-
--- what comes before the credentials
+-- what comes before the credentials: the file, whose it is, and the titles of the columns
 abbrev pub cache_heading : List ℕ → Parts → List ℕ
-cache_heading name principal = title name ++ owner principal
+cache_heading name principal =
+    codes "Ticket cache: FILE:" ++ (name ++ (codes "\nDefault principal: " ++ (name_text principal
+    ++ codes "\n\nValid starting       Expires              Service principal\n")))
 
 -- the lines of some credentials
 abbrev pub lines_of_credentials : CcColumns → List PlacedCredential → List ℕ

@@ -12,14 +12,14 @@ use std::alloc::Allocator;
 pub fn append<A: Allocator>(bytes: &[u8], out: &mut Vec<u8, A>) -> Result<(), NoMemory>
     ensures { Appended bytes.now out.old out.new result }
 {
-    out.extend_from_slice(bytes).map_err(|_| NoMemory)
+    Ok(out.extend_from_slice(bytes)?)
 }
 
 /// Appends a byte.
 pub fn append_byte<A: Allocator>(byte: u8, out: &mut Vec<u8, A>) -> Result<(), NoMemory>
     ensures { Appended (byte ∷ []) out.old out.new result }
 {
-    out.push(byte).map_err(|_| NoMemory)
+    Ok(out.push(byte)?)
 }
 
 /// Appends a label and a number in decimal.

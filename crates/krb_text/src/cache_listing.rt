@@ -4,7 +4,7 @@ ghost use Rattle.std.specs.Prelude.{◌≡◌, ◌++◌, [], OnOk, OnErr, IsFals
 ghost use Rattle.std.specs.Io.KnownBytes.{Appends};
 ghost use Rattle.krb_ccache.specs.Store.{placed_credentials};
 ghost use Rattle.krb_files.specs.Bytes.{AppendsPrefix, is_write_fault};
-ghost use Rattle.krb_text.specs.CacheListing.{title, owner, lines_of_credentials, cache_text};
+ghost use Rattle.krb_text.specs.CacheListing.{cache_heading, lines_of_credentials, cache_text};
 ghost use Rattle.krb_text.specs.Gathered.{Passed};
 
 mod credential;
@@ -21,18 +21,17 @@ use krb_wire::{Name, NoMemory, write_name};
 use std::alloc::Allocator;
 use std::io::Write;
 
-fn append_title<A: Allocator>(name: &str, out: &mut Vec<u8, A>) -> Result<(), NoMemory>
-    ensures { OnOk result (out.new.items ≡ out.old.items ++ title name.now) }
+fn append_heading<N: Name, A: Allocator>(
+    name: &str,
+    principal: &N,
+    out: &mut Vec<u8, A>,
+) -> Result<(), NoMemory>
+    ensures { OnOk result
+        (out.new.items ≡ out.old.items ++ cache_heading name.now (N.parts principal.now)) }
 {
     append(b"Ticket cache: FILE:", out)?;
     append(name.as_bytes(), out)?;
-    append(b"\n", out)
-}
-
-fn append_owner<N: Name, A: Allocator>(principal: &N, out: &mut Vec<u8, A>) -> Result<(), NoMemory>
-    ensures { OnOk result (out.new.items ≡ out.old.items ++ owner (N.parts principal.now)) }
-{
-    append(b"Default principal: ", out)?;
+    append(b"\nDefault principal: ", out)?;
     write_name(principal, out)?;
     append(
         b"\n\nValid starting       Expires              Service principal\n",
@@ -80,8 +79,7 @@ pub fn list_cache<A: Allocator, B: Allocator, W: Write>(
     ensures failed { out.new.failed ≡ is_write_fault result }
 {
     let mut gathered = room_to_gather(alloc)?;
-    append_title(name, &mut gathered)?;
-    append_owner(&cache.default_principal(), &mut gathered)?;
+    append_heading(name, &cache.default_principal(), &mut gathered)?;
     list_credentials(cache, columns, &mut gathered, out)?;
     send_last(cache.fault(), &mut gathered, out)
 }

@@ -95,8 +95,5 @@ fn named(text: &[u8]) -> Option<u16>
 pub fn etype_of(text: &[u8]) -> Option<u16>
     ensures { result ≡ etype_in text.now }
 {
-    match named(text) {
-        Some(etype) => Some(etype),
-        None => parse_u16(text),
-    }
+    named(text).or_else(|| parse_u16(text))
 }

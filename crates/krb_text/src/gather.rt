@@ -16,7 +16,7 @@ const FULL: usize = 32_768;
 pub fn room_to_gather<A: Allocator>(alloc: A) -> Result<Vec<u8, A>, NoMemory>
     ensures { IfOk result (λ gathered. gathered.items ≡ []) }
 {
-    Vec::with_capacity(alloc, 2 * FULL).map_err(|_| NoMemory)
+    Ok(Vec::with_capacity(alloc, 2 * FULL)?)
 }
 
 /// Writes what is gathered where it is much.

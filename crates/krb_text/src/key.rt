@@ -39,9 +39,7 @@ pub fn key_text<A: Allocator>(key: &[u8], out: &mut Vec<u8, A>) -> Result<(), No
     let Some(end) = end_of(start, key.len()) else {
         return Err(NoMemory);
     };
-    let Ok(()) = out.resize(end, 0) else {
-        return Err(NoMemory);
-    };
+    out.resize(end, 0)?;
     fill_text(key, &mut out[start..]);
     Ok(())
 }
@@ -50,10 +48,7 @@ pub fn key_text<A: Allocator>(key: &[u8], out: &mut Vec<u8, A>) -> Result<(), No
 fn is_key_size(etype: u16, size: usize) -> bool
     ensures { result ≡ is_key_size etype size }
 {
-    match key_size(etype) {
-        Some(right) => size == right,
-        None => true,
-    }
+    key_size(etype).is_none_or(|right| size == right)
 }
 
 fn are_hex_digits(text: &[u8]) -> bool

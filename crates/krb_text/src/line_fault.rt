@@ -33,16 +33,7 @@ impl LineFault {
     pub fn number(self) -> u32
         ensures { result ≡ line_fault_number self }
     {
-        match self {
-            LineFault::UnknownWord => 1,
-            LineFault::WordCount => 2,
-            LineFault::BadNumber => 3,
-            LineFault::BadEtype => 4,
-            LineFault::BadKey => 5,
-            LineFault::BadName => 6,
-            LineFault::BadSlot => 7,
-            LineFault::BadFileName => 8,
-        }
+        self as u32
     }
 }
 

@@ -94,10 +94,7 @@ fn parse_line<A: Allocator + Copy>(alloc: A, line: &[u8]) -> Result<Event<NewEnt
 fn is_asked(line: &[u8]) -> bool
     ensures { result ≡ is_asked line.now }
 {
-    match line {
-        [] => false,
-        [first, ..] => *first != b'#',
-    }
+    line.first().is_some_and(|first| *first != b'#')
 }
 
 // Appends the event of a line.
