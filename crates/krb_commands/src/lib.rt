@@ -24,4 +24,4 @@ pub use options::{
     KlistWords, KteditWords, KtfindWords, KtutilWords, klist_action, ktedit_action, ktfind_action,
     ktutil_action,
 };
-pub use response::respond;
+pub use response::{Streams, respond};

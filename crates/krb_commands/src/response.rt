@@ -15,6 +15,16 @@ use krb_files::{Files, Watched, WatchedReader};
 use std::alloc::Allocator;
 use std::io::{Read, Write};
 
+/// The streams of a run.
+#[derive(Drop)]
+pub struct Streams<R: Read, W: Write, E: Write> {
+    /// Gives scripts, and the lines of ktutil.
+    pub input: WatchedReader<R>,
+    pub out: Watched<W>,
+    /// Takes what is said of what goes wrong.
+    pub err: Watched<E>,
+}
+
 // Shows help that was asked for.
 fn show_help<W: Write, E: Write>(text: &str, out: &mut Watched<W>, err: &mut Watched<E>) -> u8
     requires { IsFalse out.old.failed }
@@ -24,22 +34,20 @@ fn show_help<W: Write, E: Write>(text: &str, out: &mut Watched<W>, err: &mut Wat
     tell(ending, b"", err)
 }
 
-/// Does what was asked for, or says why the command line was not read, and answers the status. Scripts and
-/// the lines of ktutil come from `input`, and entries are made at `now`, in seconds. What goes wrong is said
-/// on `err`; a failure of `err` changes nothing else.
+/// Does what was asked for, or says why the command line was not read, and answers the status. Entries are
+/// made at `now`, in seconds. A failure of `err` changes nothing else.
 pub fn respond<A: Allocator + Copy, F: Files, R: Read, W: Write, E: Write>(
     alloc: A,
     asked: &Result<Action, WordFault>,
     files: &mut F,
-    input: &mut WatchedReader<R>,
     now: u32,
-    out: &mut Watched<W>,
-    err: &mut Watched<E>,
+    streams: &mut Streams<R, W, E>,
 ) -> u8
-    requires { IsFalse out.old.failed }
-    ensures { EndsAsked F.Files now input.old input.new files.old files.new
-        out.old out.new err.old err.new result asked.now }
+    requires { IsFalse streams.old.out.failed }
+    ensures { EndsAsked F.Files now streams.old.input streams.new.input files.old files.new
+        streams.old.out streams.new.out streams.old.err streams.new.err result asked.now }
 {
+    let Streams { input, out, err } = streams;
     match asked {
         Ok(Action::Klist(options, file)) => {
             run_klist(alloc, options, file.as_str(), files, out, err)

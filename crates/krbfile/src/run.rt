@@ -6,8 +6,8 @@ ghost use Rattle.krb_commands.specs.declared.action.WordFault.{WordFault};
 ghost use Rattle.krb_commands.specs.Actions.{EndsAsked};
 
 use crate::words::parse_words;
-use krb_commands::{Action, WordFault, respond};
-use krb_files::{Files, Watched, WatchedReader};
+use krb_commands::{Action, Streams, WordFault, respond};
+use krb_files::Files;
 use std::io::{Read, Write};
 use std::{env, io, rt};
 
@@ -29,17 +29,15 @@ fn asked<R: rt::Env + AllocGlobal>(rt: &R) -> Result<Action, WordFault> {
 pub fn run<H: rt::Env + AllocGlobal, F: Files, R: Read, W: Write, E: Write>(
     rt: &H,
     files: &mut F,
-    input: &mut WatchedReader<R>,
     now: u32,
-    out: &mut Watched<W>,
-    err: &mut Watched<E>,
+    streams: &mut Streams<R, W, E>,
 ) -> u8
-    requires { IsFalse out.old.failed }
+    requires { IsFalse streams.old.out.failed }
 
     // Something was asked for, or the line was not read, and that decides the run.
     ensures { (asked : Result Action WordFault)
-        × EndsAsked F.Files now input.old input.new files.old files.new
-        out.old out.new err.old err.new result asked }
+        × EndsAsked F.Files now streams.old.input streams.new.input files.old files.new
+        streams.old.out streams.new.out streams.old.err streams.new.err result asked }
 {
-    respond(rt.alloc(), &asked(rt), files, input, now, out, err)
+    respond(rt.alloc(), &asked(rt), files, now, streams)
 }

@@ -3,7 +3,7 @@
 use super::commands::Command;
 use super::images::{CACHE, IMAGE};
 use crate::action::{Action, WordFault};
-use crate::response::respond;
+use crate::response::{Streams, respond};
 use krb_files::{MemFiles, Watched, WatchedReader};
 use refusing::Refusing;
 use std::alloc::{AllocError, Allocator, Global};
@@ -99,10 +99,12 @@ pub fn respond_to<'a>(
         heap,
         asked,
         &mut files,
-        &mut WatchedReader::new(reader),
         1_700_000_000,
-        &mut Watched::new(&mut out),
-        &mut Watched::new(&mut err),
+        &mut Streams {
+            input: WatchedReader::new(reader),
+            out: Watched::new(&mut out),
+            err: Watched::new(&mut err),
+        },
     );
     Ok(Outcome {
         out,
