@@ -247,3 +247,10 @@ Edits-by trait file order reader reader' old new out out' ending input read ends
   quiet = λ spent. (spent_input trait file out out' ending spent order input old new ends).0;
   spared = λ spent. (spent_input trait file out out' ending spent order input old new ends).1;
 }
+
+-- the events of a script were run, and what came of it was shown
+pub Edits-ran : {F : Type 0} (trait : Ghosts F) (file : List ℕ) (order : Order) (reader reader' : Source) (old new : F) (out out' : Watch) (ending : Ending) (text : List ℕ) (events : List (Event EntryParts)) (run : Run)
+    → GivesInput reader reader' (Ok text) → script text ≡ Ok events → EditsFile trait file (λ due. run ≡ due) order events old new → Shows run out out' ending → Edits trait file order reader reader' old new out out' ending
+Edits-ran trait file order reader reader' old new out out' ending text events run read parsed edits shows =
+    Edits-by trait file order reader reader' old new out out' ending (Ok text) read
+    (rw parsed (inr (EditsFile-map trait file (λ due. run ≡ due) (λ due. Shows due out out' ending) (λ due is. subst (λ (d : Run). Shows d out out' ending) is shows) order events old new edits)))

@@ -1,5 +1,5 @@
 -- What is shown of a run, and what a reader gave.
-use Rattle.std.proofs.Common.{◌≡◌, ◌≢◌, ℕ, ◌<◌, List, [], refl, sym, ap, subst, ◌∙◌}
+use Rattle.std.proofs.Common.{◌≡◌, ◌≢◌, ℕ, ◌<◌, List, [], inl, refl, sym, ap, subst, ◌∙◌}
 use Rattle.std.specs.Prelude.{◌+◌, ◌≤◌, ◌||◌, length, IsFalse, Result, Ok, Err, is_ok, IfSome}
 use Rattle.std.proofs.lemmas.Bool.{false≢true, true≢false}
 use Rattle.krb_files.specs.declared.files.LoadFault.{LoadFault}
@@ -45,6 +45,12 @@ PrintsOver-given trait old name new gives x why then_ out out' ending given prin
   loads = given.loads;
   prints = subst (λ (run : Run). Prints run out out' ending) (sym (ap (run_over why then_) given.gives)) prints;
 }
+
+-- the whole text of what a load gave was shown
+pub PrintsOver-whole : {X E F : Type 0} (trait : Ghosts F) (old : F) (name : List ℕ) (new : F) (gives : Result (List ℕ) LoadFault → Result X E) (x : X) (why : E → Trouble) (then_ : X → Run) (out out' : Watch) (ending : Ending)
+    → Gives trait old name gives (Ok x) new → IsFalse out.failed → IsFalse out'.failed → Appends out.contents out'.contents (then_ x).out → ending ≡ (then_ x).ending → PrintsOver trait old name (λ answer. run_over why then_ (gives answer)) new out out' ending
+PrintsOver-whole trait old name new gives x why then_ out out' ending given well still appends is =
+    PrintsOver-given trait old name new gives x why then_ out out' ending given (inl (Shows-done (then_ x) out out' ending well still appends is))
 
 -- ---- what a reader gave
 

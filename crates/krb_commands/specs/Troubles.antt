@@ -29,10 +29,9 @@ word_trouble word.NoMemory = trouble.NoMemory
 
 -- an input that was not read; a reader is never missing
 abbrev pub input_trouble : LoadFault → Trouble
-input_trouble load.Missing = trouble.InputNotRead
 input_trouble load.TooLarge = trouble.InputTooLarge
-input_trouble load.Failed = trouble.InputNotRead
 input_trouble load.NoMemory = trouble.NoMemory
+input_trouble other = trouble.InputNotRead
 
 -- a script that gives no events
 abbrev pub script_trouble : ScriptRefusal → Trouble

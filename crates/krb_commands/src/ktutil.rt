@@ -1,6 +1,6 @@
 //! Runs the lines of ktutil.
 
-ghost use Rattle.std.specs.Prelude.{◌≡◌, [], None, IsFalse};
+ghost use Rattle.std.specs.Prelude.{◌≡◌, ◌&&◌, [], None, IsFalse, not};
 ghost use Rattle.krb_commands.specs.Ktutil.{HandlesNext, RunsKtutil};
 ghost use Rattle.krb_commands.specs.KtutilTalk.{ending_of, goes_on};
 
@@ -37,11 +37,11 @@ struct Talk<A: Allocator> {
     status: u8,
 }
 
-// Whether another line may come after one that ended so.
-fn goes_on(ending: LineEnd) -> bool
-    ensures { result ≡ goes_on ending }
+// Whether another line may come after one that ended so, by the output too.
+fn goes_on(ending: LineEnd, has_out_failed: bool) -> bool
+    ensures { result ≡ (goes_on ending && not has_out_failed) }
 {
-    !matches!(ending, LineEnd::Quit | LineEnd::NoMemory)
+    !matches!(ending, LineEnd::Quit | LineEnd::NoMemory) && !has_out_failed
 }
 
 // How a line of that number ended.
@@ -97,7 +97,7 @@ impl<A: Allocator + Copy> Talk<A> {
         let shown = show(&self.text, ending_of(number, ending), out);
         let status = tell(shown, file_word(line), err);
         self.status = self.status.max(status);
-        goes_on(ending) && !out.has_failed()
+        goes_on(ending, out.has_failed())
     }
 }
 
@@ -126,9 +126,8 @@ pub fn run_ktutil<A: Allocator + Copy, F: Files, R: Read, W: Write, E: Write>(
             Ok(true) => {}
             Ok(false) => return talk.status,
             Err(fault) => {
-                return talk
-                    .status
-                    .max(tell(Err(Trouble::of_input(fault)), b"", err));
+                let status = tell(Err(Trouble::of_input(fault)), b"", err);
+                return talk.status.max(status);
             }
         }
         number += 1;

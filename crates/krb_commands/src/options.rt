@@ -142,12 +142,8 @@ fn find_options(alloc: Global, words: &KtfindWords<'_>) -> Result<FindOptions<Gl
     ensures bad { IsErrOf result WordFault.BadLine → IsUnreadable words.now }
     ensures memory { IsErrOf result WordFault.NoMemory → IsReadable words.now }
 {
-    let Some(kvno) = parse_u32(words.kvno.as_bytes()) else {
-        return Err(WordFault::BadLine);
-    };
-    let Some(enctype) = etype_of(words.etype.as_bytes()) else {
-        return Err(WordFault::BadLine);
-    };
+    let kvno = parse_u32(words.kvno.as_bytes()).ok_or(WordFault::BadLine)?;
+    let enctype = etype_of(words.etype.as_bytes()).ok_or(WordFault::BadLine)?;
     Ok(FindOptions {
         name: name_of(alloc, words.name)?,
         kvno,

@@ -50,15 +50,7 @@ impl Trouble {
             | Trouble::FileNotWritten
             | Trouble::OutputNotWritten => 3,
             Trouble::BadCommandLine => 2,
-            Trouble::InputTooLarge
-            | Trouble::FaultyLine { .. }
-            | Trouble::LineRefused { .. }
-            | Trouble::NoSuchFile
-            | Trouble::FileTooLarge
-            | Trouble::NotAKeytab(_)
-            | Trouble::NotACache(_)
-            | Trouble::Refused(_)
-            | Trouble::Told => 1,
+            _ => 1,
         }
     }
 

@@ -19,9 +19,7 @@ pub fn is_bare(rest: &[u8]) -> bool
 fn only(rest: &[u8]) -> Result<&[u8], LineFault>
     ensures { result_map (λ word. word.now) result ≡ only (words rest.now) }
 {
-    let Some((word, after)) = next_word(rest) else {
-        return Err(LineFault::WordCount);
-    };
+    let (word, after) = next_word(rest).ok_or(LineFault::WordCount)?;
     if is_bare(after) {
         Ok(word)
     } else {
@@ -42,10 +40,7 @@ fn utf8(word: &[u8]) -> Result<&str, LineFault>
 pub fn file_name(rest: &[u8]) -> Result<&str, LineFault>
     ensures { result_map (λ name. name.now) result ≡ after file_word (only (words rest.now)) }
 {
-    match only(rest) {
-        Ok(word) => utf8(word),
-        Err(fault) => Err(fault),
-    }
+    utf8(only(rest)?)
 }
 
 fn checked_slot(slot: u32, count: usize) -> Result<u32, LineFault>
@@ -62,13 +57,7 @@ fn checked_slot(slot: u32, count: usize) -> Result<u32, LineFault>
 pub fn slot(rest: &[u8], count: usize) -> Result<u32, LineFault>
     ensures { result ≡ after (slot_of count) (after number_word (only (words rest.now))) }
 {
-    match only(rest) {
-        Ok(word) => match number_word(word) {
-            Ok(slot) => checked_slot(slot, count),
-            Err(fault) => Err(fault),
-        },
-        Err(fault) => Err(fault),
-    }
+    checked_slot(number_word(only(rest)?)?, count)
 }
 
 fn with_column(columns: KtColumns, option: &[u8]) -> Option<KtColumns>

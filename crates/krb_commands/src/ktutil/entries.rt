@@ -20,9 +20,7 @@ pub fn copy_entries<A: Allocator + Copy, B: Allocator>(
 {
     let mut copies = Vec::new(alloc);
     'entries: for (_, entry) in keytab.entries() {
-        let Ok(()) = copies.push(entry.copy(alloc)?) else {
-            return Err(NoMemory);
-        };
+        copies.push(entry.copy(alloc)?)?;
     }
     Ok(copies)
 }
@@ -36,9 +34,7 @@ pub fn add_all<A: Allocator, B: Allocator>(
     ensures err { IfErr result (RefusesAdded (with_added entries.now (Ok keytab.old.state))) }
 {
     'entries: for entry in entries {
-        if let Err(refused) = keytab.add(entry) {
-            return Err(refused);
-        }
+        keytab.add(entry)?;
     }
     Ok(())
 }

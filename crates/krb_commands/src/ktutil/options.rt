@@ -109,39 +109,28 @@ fn addition_of<A: Allocator + Copy>(
     ensures { Reads (λ x. x) (awaited_of
         (record { name = name.now; version = kvno.now; enctype = etype.now })) result }
 {
-    let kvno = match number_word(kvno) {
-        Ok(kvno) => kvno,
-        Err(fault) => return Err(LineRefusal::Fault(fault)),
-    };
-    let enctype = match etype_word(etype) {
-        Ok(enctype) => enctype,
-        Err(fault) => return Err(LineRefusal::Fault(fault)),
-    };
-    match name_word(alloc, name) {
-        Ok(principal) => Ok(Addition {
-            principal,
-            kvno,
-            enctype,
-        }),
-        Err(LineRefusal::Fault(fault)) => Err(LineRefusal::Fault(fault)),
-        Err(LineRefusal::NoMemory) => Err(LineRefusal::NoMemory),
-    }
+    let kvno = number_word(kvno)?;
+    let enctype = etype_word(etype)?;
+    let principal = name_word(alloc, name)?;
+    Ok(Addition {
+        principal,
+        kvno,
+        enctype,
+    })
 }
 
 /// An entry whose key is still to come.
 pub fn addition<A: Allocator + Copy>(alloc: A, rest: &[u8]) -> Result<Addition<A>, LineRefusal>
     ensures { Reads (λ x. x) (after awaited_of (add_words (words rest.now))) result }
 {
-    let Some(options) = options(rest) else {
-        return Err(LineRefusal::Fault(LineFault::WordCount));
-    };
+    let options = options(rest).ok_or(LineFault::WordCount)?;
     let (true, Some(name), Some(kvno), Some(etype)) = (
         options.key,
         options.name,
         options.kvno,
         options.etype,
     ) else {
-        return Err(LineRefusal::Fault(LineFault::WordCount));
+        return Err(LineFault::WordCount.into());
     };
     addition_of(alloc, name, kvno, etype)
 }

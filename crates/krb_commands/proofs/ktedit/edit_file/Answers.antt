@@ -1,11 +1,11 @@
-use Rattle.std.proofs.Common.{◌≡◌, ap, refl, subst, inr, ◌∙◌, arith}
+use Rattle.std.proofs.Common.{ap, refl, ◌∙◌, arith}
 use Rattle.std.specs.Prelude.{Ok, Err}
 use Rattle.std.proofs.lemmas.Result.{err_from_is_err_and}
 use Rattle.krb_text.specs.Script.{script}
-use Rattle.krb_commands.specs.Edits.{edited_run, run_of}
-use Rattle.krb_commands.specs.Runs.{Run, Shows}
+use Rattle.krb_commands.specs.Edits.{edited_run}
+use Rattle.krb_commands.specs.Runs.{Shows, ends_by}
 use Rattle.krb_commands.specs.Troubles.{input_trouble, script_trouble}
-use Rattle.krb_commands.proofs.EditLemmas.{EditsFile-map, Edits-by, refused}
+use Rattle.krb_commands.proofs.EditLemmas.{Edits-by, Edits-ran, refused}
 use Rattle.krb_commands.proofs.Shown.{GivesInput-err, GivesInput-ok, Shows-trouble}
 use Rattle.krb_commands.proofs.ktedit.edit_file.Goals as goal
 
@@ -37,31 +37,15 @@ pub returns-in_err-edited : goal.returns-in_err-edited
 returns-in_err-edited g c =
     let p = err_from_is_err_and c.from_residual-in_err-edited.result c.from_residual-in_err-edited.ensures.1 in
     let trouble = c.in_err-edited.field-0.0 in
-    let given = c.args.script.now in
-    let left = c.load.new.reader in
-    let text = c.in-Ok.text.items in
-    let events = c.in_ok-events.events.items in
-    let parsed : script text ≡ Ok events = rw c.deref.ensures.value at c.in_ok-events.ensures.ok in
     let out = c.args.out.now in
-    let edits = rw (c.deref-3.ensures.value, c.hold_to_change.ensures) at c.in_err-edited.ensures in
-    rw (p.1 ∙ ap Err p.2, c.release.ensures) (Edits-by g.F.Files c.args.file.now c.args.v1_order given left c.args.files.now c.edit_held-edited.new.files out out (Err trouble) (Ok text)
-    (GivesInput-ok given left text c.in-Ok.ensures.ok (let within = c.in-Ok.ensures.within in let len = c.in-Ok.text.ok.0 in omega (arith, within, len)) c.in-Ok.ensures.failed c.in-Ok.ensures.taken)
-    (rw parsed (inr (EditsFile-map g.F.Files c.args.file.now (λ due. run_of {A = g.row.A.Denot} (Err trouble) ≡ due) (λ due. Shows due out out (Err trouble)) (λ due is. subst (λ (d : Run). Shows d out out (Err trouble)) is (Shows-trouble trouble out c.requires))
-    c.args.v1_order events c.args.files.now c.edit_held-edited.new.files edits))))
+    rw (p.1 ∙ ap Err p.2, c.release.ensures) (Edits-ran g.F.Files c.args.file.now c.args.v1_order c.args.script.now c.load.new.reader c.args.files.now c.edit_held-edited.new.files out out (Err trouble) c.in-Ok.text.items c.in_ok-events.events.items (ends_by trouble)
+    (GivesInput-ok c.args.script.now c.load.new.reader c.in-Ok.text.items c.in-Ok.ensures.ok (let within = c.in-Ok.ensures.within in let len = c.in-Ok.text.ok.0 in omega (arith, within, len)) c.in-Ok.ensures.failed c.in-Ok.ensures.taken)
+    (rw c.deref.ensures.value at c.in_ok-events.ensures.ok) (rw (c.deref-3.ensures.value, c.hold_to_change.ensures) at c.in_err-edited.ensures) (Shows-trouble trouble out c.requires))
 
 -- they were run, and the replies shown
 pub returns : goal.returns
 returns g c =
-    let given = c.args.script.now in
-    let left = c.load.new.reader in
-    let text = c.in-Ok.text.items in
-    let events = c.in_ok-events.events.items in
-    let parsed : script text ≡ Ok events = rw c.deref.ensures.value at c.in_ok-events.ensures.ok in
-    let out = c.args.out.now in
-    let edited = c.in_ok-edited.edited in
-    let edits = rw (c.deref-3.ensures.value, c.hold_to_change.ensures) at c.in_ok-edited.ensures in
-    let shows : Shows (edited_run edited) out c.show.new.out c.show.result = rw (c.deref-4.ensures.value, c.end_if_told.ensures) at c.show.ensures in
-    rw c.release.ensures (Edits-by g.F.Files c.args.file.now c.args.v1_order given left c.args.files.now c.edit_held-edited.new.files out c.show.new.out c.show.result (Ok text)
-    (GivesInput-ok given left text c.in-Ok.ensures.ok (let within = c.in-Ok.ensures.within in let len = c.in-Ok.text.ok.0 in omega (arith, within, len)) c.in-Ok.ensures.failed c.in-Ok.ensures.taken)
-    (rw parsed (inr (EditsFile-map g.F.Files c.args.file.now (λ due. edited_run edited ≡ due) (λ due. Shows due out c.show.new.out c.show.result) (λ due is. subst (λ (d : Run). Shows d out c.show.new.out c.show.result) is shows)
-    c.args.v1_order events c.args.files.now c.edit_held-edited.new.files edits))))
+    let shows : Shows (edited_run c.in_ok-edited.edited) c.args.out.now c.show.new.out c.show.result = rw (c.deref-4.ensures.value, c.end_if_told.ensures) at c.show.ensures in
+    rw c.release.ensures (Edits-ran g.F.Files c.args.file.now c.args.v1_order c.args.script.now c.load.new.reader c.args.files.now c.edit_held-edited.new.files c.args.out.now c.show.new.out c.show.result c.in-Ok.text.items c.in_ok-events.events.items (edited_run c.in_ok-edited.edited)
+    (GivesInput-ok c.args.script.now c.load.new.reader c.in-Ok.text.items c.in-Ok.ensures.ok (let within = c.in-Ok.ensures.within in let len = c.in-Ok.text.ok.0 in omega (arith, within, len)) c.in-Ok.ensures.failed c.in-Ok.ensures.taken)
+    (rw c.deref.ensures.value at c.in_ok-events.ensures.ok) (rw (c.deref-3.ensures.value, c.hold_to_change.ensures) at c.in_ok-edited.ensures) shows)
