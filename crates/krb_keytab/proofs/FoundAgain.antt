@@ -1,5 +1,5 @@
 -- What was added is read where the addition says, and what was removed stands there no more.
-use Rattle.std.proofs.Common.{◌≡◌, ℕ, true, cond, ltb, List, [], ◌∷◌, ◌++◌, length, map, replicate, Option, Some, None, Result, Ok, Err, refl, sym, ap, ◌∙◌, inl, inr}
+use Rattle.std.proofs.Common.{◌≡◌, ℕ, true, cond, ltb, List, [], ◌++◌, length, map, replicate, Option, Some, None, Result, Ok, Err, refl, sym, ap, ◌∙◌, inl, inr}
 use Rattle.std.specs.Prelude.{is_some}
 use Rattle.std.proofs.lemmas.List.{append-nil}
 use Rattle.krb_wire.specs.declared.format.KtFormat.{KtFormat}

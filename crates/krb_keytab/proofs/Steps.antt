@@ -8,7 +8,7 @@ use Rattle.krb_keytab.specs.declared.length.Length.TheVariants as says
 use Rattle.krb_keytab.specs.declared.step.Ending.{Ending}
 use Rattle.krb_walk.specs.Contents.{NoMore, More}
 use Rattle.krb_keytab.specs.Length.{size_of}
-use Rattle.krb_keytab.specs.Cells.{Cell, Contents, cell_in, next, contents, size}
+use Rattle.krb_keytab.specs.Cells.{Contents, cell_in, next, contents, size}
 use Rattle.krb_keytab.specs.Step.{ends, IsPassed, EndsThere}
 use Rattle.krb_keytab.specs.Store.{end_place}
 use Rattle.krb_keytab.proofs.CellLemmas.{contents_next}
