@@ -5,7 +5,6 @@ pub mod CellLemmas
 pub mod Steps
 pub mod Cuts
 pub mod FirstLemmas
-pub mod CellsFromLemmas
 pub mod Stores
 pub mod Listed
 pub mod Replaced

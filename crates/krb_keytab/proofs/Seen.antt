@@ -23,23 +23,6 @@ use Rattle.krb_keytab.proofs.Cuts.{cell_len, end_place_is}
 use Rattle.krb_keytab.proofs.Stores.{keytab_of, kind_ends}
 use Rattle.krb_keytab.proofs.Turned.{contents_none}
 
--- ---- the cell at the front
-
-none_left : (f : KtFormat) (bytes : List ℕ) (cs : List Cell) → HasCells (cells_seen f) bytes (map store_cell cs) → cs ≡ [] → bytes ≡ []
-none_left f bytes [] has e = has
-none_left f bytes (c ∷ cs) has e = absurd cc
-
--- where no cell begins, none of their bytes are left
-pub cell_or_nothing : (f : KtFormat) (bytes : List ℕ) → AreCells (cells_seen f) bytes → IsCellOrNothing f bytes
-cell_or_nothing f bytes are = none_left f bytes (contents f bytes).cells are
-
--- the first cell, as the store has it
-pub first_seen : (f : KtFormat) (bytes : List ℕ) (c : Cell) (width : ℕ) (live : Option (List ℕ)) → IsFirst f bytes c → width ≡ 4 + size c → live ≡ live_of c → cells_seen f bytes ≡ record { width = width; live = live } ∷ cells_seen f (drop width bytes)
-first_seen f bytes c width live first is_width is_live =
-    ap (λ (k : Contents). map store_cell k.cells) first.contents
-    ∙ ap (λ (n : ℕ). record { width = n; live = live_of c } ∷ cells_seen f (drop n bytes)) (sym is_width)
-    ∙ ap (λ (o : Option (List ℕ)). record { width = width; live = o } ∷ cells_seen f (drop width bytes)) (sym is_live)
-
 -- ---- the cells of an image
 
 keytab_seen : (f : KtFormat) → IsSeen (keytab_format f) store_cell
