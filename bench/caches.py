@@ -50,7 +50,7 @@ def credential(realm, client, server, number):
 
 
 def tickets(count):
-    """Tickets of so many servers."""
+    """Tickets of that many servers."""
     realm, client = b"AD.TEST", [b"user"]
     made = [b"\x05\x04" + OFFSET + principal(realm, client)]
     for number in range(count):

@@ -47,7 +47,7 @@ def service(number):
 
 
 def services(entries):
-    """So many entries of services."""
+    """That many entries of services."""
     return HEAD + b"".join(map(service, range(entries)))
 
 
@@ -56,7 +56,7 @@ def hole(size):
 
 
 def mixed(cells, fitting, size):
-    """So many cells. Each fourth is a hole, of 1 to SIZE - 1 bytes, and the last FITTING are holes of SIZE."""
+    """That many cells. Each fourth is a hole, of 1 to SIZE - 1 bytes, and the last FITTING are holes of SIZE."""
     made = [HEAD]
     for number in range(cells - fitting):
         made.append(hole(number * 7 % (size - 1) + 1) if number % 4 == 3 else service(number))
@@ -64,7 +64,7 @@ def mixed(cells, fitting, size):
 
 
 def last_service(entries):
-    """The enctype and the name of the last entry of so many services, an even number."""
+    """The enctype and the name of the last entry of that many services, an even number."""
     return ["18", f"host/server{entries // 2 - 1:05d}.ad.test@AD.TEST"]
 
 

@@ -81,7 +81,7 @@ class Credential:
 
 
 def counted32(data: bytes) -> bytes:
-    """A 32-bit length and so many bytes."""
+    """A 32-bit length, and the bytes."""
     return number(len(data), 4) + data
 
 

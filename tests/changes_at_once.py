@@ -30,7 +30,7 @@ from reading import no_keytab, read_image
 MANY = 60
 ROUNDS = 2
 
-# A run that is refused has waited for another for so many seconds, or it says something else.
+# A run that is refused has waited for another for this many seconds, or it says something else.
 LEAST_WAIT = 9
 
 KEY = "000102030405060708090a0b0c0d0e0f"

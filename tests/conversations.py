@@ -34,7 +34,7 @@ class Talk:
         os.write(self.input_end, data)
 
     def take(self, count: int, stream) -> bytes:
-        """Waits for so many bytes of an output."""
+        """Waits for that many bytes of an output."""
         heard = b""
         while len(heard) < count and select.select([stream], [], [], 5)[0]:
             piece = stream.read(count - len(heard))

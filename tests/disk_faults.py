@@ -143,7 +143,7 @@ def check_preloaded(report: Report, program: str) -> None:
 
 
 def check_sizes(report: Report, program: str) -> None:
-    """Files may have so many bytes at most: the write that would pass them is cut."""
+    """Files are limited in size: the write that would pass the limit is cut."""
     for most in range(len(NEW) + 1):
 
         def limit(most: int = most) -> None:

@@ -169,7 +169,7 @@ def links_to(*links: tuple[str, str], data: bytes | None = OLD, target: str = "t
 
 
 def long_chain(count: int) -> list[tuple[str, str]]:
-    """So many links, of which the first is `k` and the last leads to `t/k`."""
+    """A chain of that many links, from `k` to `t/k`."""
     names = ["k", *(f"k{number}" for number in range(1, count)), "t/k"]
     return [*zip(names, names[1:])]
 

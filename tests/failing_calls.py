@@ -55,7 +55,7 @@ def check_memory(report: Report, program: Preloaded, lines: list[Line], faults: 
 def check_calls(
     report: Report, program: Preloaded, line: Line, setting: str, most: int, faults: Faults
 ) -> None:
-    """Each call of a kind failing, where one moves at most so many bytes."""
+    """Each call of a kind failing, where a call moves at most that many bytes."""
     program.sweep(report, f"{setting} at most {most} bytes: {line}", line,
                   lambda nth: {setting: nth, "MOST": most}, faults)
 

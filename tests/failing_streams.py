@@ -19,7 +19,7 @@ ERRORS = (EINTR, EAGAIN, ENOSPC, ENOMEM, EACCES)
 # How few bytes one read or write moves.
 FEW = 60
 
-# A long test has one run for so many of its count.
+# A long test has its count divided by this many runs.
 SHARE = 4
 
 NO_OUTPUT = message(3, "cannot write output")
@@ -93,7 +93,7 @@ class Ends:
         return [(message(3, f"{words[1]}: cannot write"), self.run.case.files)]
 
     def of_input(self, given: int) -> End:
-        """How it ends where its input fails after so many bytes."""
+        """How it ends where its input fails after that many bytes."""
         case = self.run.case
         if case.words[0] == "ktutil":
             return handled(case.files, case.stdin[:given], NOW, is_cut=True)
@@ -154,7 +154,7 @@ def settings_of(run: Modelled) -> tuple[str, ...]:
 
 
 def check_few_bytes(report: Report, over: Preloaded, run: Modelled, most: int) -> None:
-    """Reads and writes of so many bytes at most change nothing."""
+    """Reads and writes of at most that many bytes change nothing."""
     got = over.run(Line(run.case.words, run.case.stdin), CLOCK=NOW, MOST=most)
     is_whole = run.is_whole(got.outcome, got.files)
     faults = [] if is_whole else [*differences(run.case.wanted, got.outcome), "or other files"]

@@ -52,12 +52,12 @@ B = Entry(components=(b"b",), key=bytes(range(16, 32)))
 
 
 def number(value: int, width: int, order: str = BIG) -> bytes:
-    """An unsigned number in so many bytes."""
+    """An unsigned number of that many bytes."""
     return value.to_bytes(width, order)
 
 
 def counted(data: bytes, order: str = BIG) -> bytes:
-    """A 16-bit length and so many bytes."""
+    """A 16-bit length, and the bytes."""
     return number(len(data), 2, order) + data
 
 

@@ -42,7 +42,7 @@ def words_in(line: bytes) -> list[bytes]:
 
 
 def check_count(words: list[bytes], count: int) -> None:
-    """So many words."""
+    """That many words."""
     if len(words) != count:
         raise LineFault(WORD_COUNT)
 

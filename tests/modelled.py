@@ -125,7 +125,7 @@ def mixed_keytab(count: int) -> bytes:
 
 
 def mixed_script(image: bytes, count: int) -> bytes:
-    """Two walks over a keytab that loses and gains so many entries, and is written anew."""
+    """Two walks over a keytab that loses and gains that many entries, and is rewritten."""
     records = [place for place, cell in zip(Keytab(image).places(), Keytab(image).cells)
                if cell.is_record]
     lines = ["start", "start"]

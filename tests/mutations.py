@@ -30,7 +30,7 @@ def set_byte(random: Random, image: bytes, _: bytes) -> bytes:
 
 
 def likely_numbers(image: bytes, width: int, order: str) -> list[int]:
-    """The places where a number of so many bytes is so small that it may be a count or a length."""
+    """The places where a number of that width is small enough to be a count or a length."""
     high = slice(0, width // 2) if order == BIG else slice(width - width // 2, width)
     zeros = bytes(width // 2)
     return [at for at in range(len(image) - width + 1) if image[at : at + width][high] == zeros]
@@ -96,7 +96,7 @@ CHANGES: dict[Change, int] = {
 
 
 def damaged(random: Random, image: bytes, other: bytes, most: int = 3) -> bytes:
-    """The file with one to so many changes, mostly one."""
+    """The file with up to that many changes, mostly one."""
     for _ in range(random.choice([1, 1, *range(1, most + 1)])):
         if image:
             change = random.choices(list(CHANGES), CHANGES.values())[0]

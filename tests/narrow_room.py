@@ -24,7 +24,7 @@ SPACE = 64 * 1024 * 1024
 # itself takes up to more than any run does.
 LEAST_POWER, MOST_POWER = 22, 30
 
-# A long test has one run for so many of its count.
+# A long test has its count divided by this many runs.
 SHARE = 200
 
 

@@ -77,7 +77,7 @@ def check_no_error_output(report: Report, program: str) -> None:
 def limited(
     program: str, words: tuple[str, ...], folder: str, stream: str, most: int, stdin: bytes = b""
 ) -> tuple[Outcome, bytes]:
-    """A run that writes one output into a file of at most so many bytes, and that file.
+    """A run that writes one output into a file of limited size, and that file.
 
     The write that passes them is cut.
     """
@@ -131,7 +131,7 @@ def piped(program: str, words: tuple[str, ...], folder: str, **more) -> subproce
 def closed_pipe(
     program: str, words: tuple[str, ...], folder: str, taken: int, action: signal.Handlers
 ) -> Outcome:
-    """A run into a pipe whose reader closes it after so many bytes, and what SIGPIPE then does."""
+    """A run into a pipe whose reader closes it after some bytes, and what SIGPIPE then does."""
     with piped(program, words, folder,
                preexec_fn=lambda: signal.signal(signal.SIGPIPE, action)) as started:
         out = started.stdout.read(taken)

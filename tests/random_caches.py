@@ -28,7 +28,7 @@ ALL_COLUMNS = ("-c", "-e", "-f", "-C", "c")
 
 
 def random_number(random: Random, bits: int) -> int:
-    """A number of so many bits, often at an end."""
+    """A number of that many bits, often the least or the greatest."""
     return random.choice([0, 2**bits - 1, random.randrange(2**bits), random.randrange(30)])
 
 

@@ -22,7 +22,7 @@ def random_part(random: Random, version: int, order: str) -> bytes:
 
 
 def random_keytab(random: Random, most: int = 7) -> tuple[bytes, bool]:
-    """A keytab of so many parts at most, and whether it is read as big-endian.
+    """A keytab of at most that many parts, and whether it is read as big-endian.
 
     Some are damaged, some no keytabs.
     """

@@ -73,7 +73,7 @@ class Topic:
     kinds: tuple[str, ...]
     # How many numbers a short run takes.
     usual: int
-    # A long run takes one number for so many of its count.
+    # A long run takes its count divided by this many numbers.
     share: int = 1
     # What is wrong with a run of a case.
     run: Callable[[str, CaseAt], list[str]] = faults_by_clock

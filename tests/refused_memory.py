@@ -12,7 +12,7 @@ from modelled import NO_MEMORY, NOW, Modelled, large, small
 from preload import Counted, Line, Preloaded, preloaded
 
 # How many requests of a run are refused: over small files all that there are, and over larger ones
-# some. Of the latter a long test has one for so many of its count.
+# some. Of the latter a long test runs its count divided by SHARE.
 FEW = 5_000
 SOME = 45
 SHARE = 100

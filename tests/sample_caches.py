@@ -29,7 +29,7 @@ INITIAL, PRE_AUTHENT = 0x0040_0000, 0x0020_0000
 
 
 def ciphered(size: int) -> bytes:
-    """So many bytes without order, as a ticket has them."""
+    """That many random bytes, as a ticket has them."""
     blocks = (sha256(b"%d" % at).digest() for at in range(size // 32 + 1))
     return b"".join(blocks)[:size]
 

@@ -9,7 +9,7 @@ USER = Entry((b"user",), REALM, timestamp=1_795_331_043, version8=2, version32=2
 
 
 def key(size: int) -> bytes:
-    """A key of so many bytes, which differ."""
+    """A key of that many different bytes."""
     return bytes(37 * at % 251 for at in range(1, size + 1))
 
 

@@ -232,7 +232,7 @@ def check_locks(report: Report, program: str) -> None:
 
 
 def check_many_locks(report: Report, program: str) -> None:
-    """A run finds a lock among so many that the list of locks is read in parts."""
+    """A run finds a lock in a list of locks that is too long for one read."""
     with folder_of({"k": OLD}) as folder, ExitStack() as stack:
         for number in range(MANY):
             if number == MANY // 2:
