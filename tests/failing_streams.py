@@ -4,7 +4,7 @@ What is wanted is what the models say. A read or write that is interrupted count
 """
 from __future__ import annotations
 
-from collections.abc import Iterator
+from collections.abc import Iterable, Iterator
 from errno import EACCES, EAGAIN, EINTR, ENOMEM, ENOSPC, errorcode
 from functools import cached_property
 from random import Random
@@ -113,7 +113,7 @@ class Ends:
 
 
 def ends_in_output(run: Modelled, got: Counted) -> bool:
-    """Whether a run ended as its output failed: a front was printed, and a script is saved."""
+    """Whether a run ended as its output failed: a prefix was printed, and a script is saved."""
     is_talk = run.case.words[0] == "ktutil"
     stages = run.stages if is_talk else (Stage(b"", b"", run.after()),)
     printing = Modelled(run.case, stages, may_print=True)
@@ -135,9 +135,16 @@ def faults_of_call(
         got.failures)
 
 
-def check_setting(report: Report, over: Preloaded, ends: Ends, setting: str) -> None:
-    """Each call of a kind fails by each error, and by one where each moves few bytes."""
-    for most, error in (*((WHOLE, error) for error in ERRORS), (FEW, EINTR)):
+# How many bytes a call moves, and how one fails: over small files, and over larger ones.
+OF_SMALL = (*((WHOLE, error) for error in ERRORS), (FEW, EINTR))
+OF_LARGE = ((WHOLE, EINTR), (20_000, EACCES))
+
+
+def check_setting(
+    report: Report, over: Preloaded, ends: Ends, setting: str, ways: Iterable[tuple[int, int]]
+) -> None:
+    """Each call of a kind fails in each way."""
+    for most, error in ways:
         faults = []
         for nth in range(1, MOST_CALLS):
             found, is_made = faults_of_call(over, ends, setting, nth, most, error)
@@ -166,10 +173,11 @@ def check(report: Report, program: str) -> None:
     with preloaded(report, program, "failing streams", {}) as under:
         if under is None:
             return
-        for run in small():
+        runs = [*((run, OF_SMALL) for run in small()), *((run, OF_LARGE) for run in large())]
+        for run, ways in runs:
             ends = Ends(run)
             for setting in settings_of(run):
-                check_setting(report, under.over(run.case.files), ends, setting)
+                check_setting(report, under.over(run.case.files), ends, setting, ways)
         for run in [*small(), *large()]:
             for most in (1, 7, 4_095):
                 check_few_bytes(report, under.over(run.case.files), run, most)

@@ -38,7 +38,7 @@ class Modelled:
 
     case: Case
     stages: tuple[Stage, ...]
-    # Whether a front of the text that follows may be printed beside.
+    # Whether a prefix of the text that follows may be printed beside.
     may_print: bool = False
 
     def after(self) -> dict[str, bytes]:

@@ -1,7 +1,7 @@
 """The greatest files and inputs, run in plenty of room, on a small stack, and in little memory.
 
 On a small stack each run is as it is to be. In little memory it is too, or says that there is none:
-then a front of its text may be printed, and each file is as before or as after the whole run. Where
+then a prefix of its text may be printed, and each file is as before or as after the whole run. Where
 a file would take all of the memory, each command has to say so.
 """
 from __future__ import annotations

@@ -1,4 +1,4 @@
-"""Writes that fail: what was written until then is a front of the text, and the status says so."""
+"""Outputs that take less than the text: what they took is a prefix of it, and the status says so."""
 from __future__ import annotations
 
 import os
@@ -7,12 +7,15 @@ import signal
 import subprocess
 from dataclasses import dataclass, replace
 
-from harness import SECONDS, Case, Outcome, Report, faults_of, folder_of, message, run, run_case
+from cache_images import TICKET, USUAL, Name, credentials
+from cache_listings import CONFIG_LINE, ETYPE_LINE, FLAGS_LINE, TICKET_LINE
+from cache_listings import TIMES as CACHE_TIMES
+from cache_reading import listed as cache_listed
+from harness import SECONDS, Case, Outcome, Report, folder_of, message, run
 from images import TWO, Entry, entries
 from ktutil_lines import HEADING, lines
 from listings import B_LINE, HOST_LINE, listed
 
-KTFIND = ("ktfind", "k", "0", "0", "b@R")
 FAILED = message(3, "cannot write output")
 
 
@@ -41,37 +44,13 @@ LONG_NAME = b"x" * 992
 LONG = Listing(KLIST.words, entries(*[Entry((LONG_NAME,))] * 300),
                listed(*[b"   3 " + LONG_NAME + b"@R"] * 300))
 
+CACHE = Listing(("klist", "-cefC", "c"), USUAL,
+                cache_listed(b"u@R", TICKET_LINE, FLAGS_LINE, ETYPE_LINE, CONFIG_LINE))
 
-def check_lost(report: Report, program: str, stream: str, cases: list[Case]) -> None:
-    """Runs each case with that output on a full device, and then with it closed."""
-    number = {"stdout": 1, "stderr": 2}[stream]
-    with open("/dev/full", "wb") as full:
-        lost = {"full": {stream: full},
-                "closed": {stream: None, "preexec_fn": lambda: os.close(number)}}
-        for case in cases:
-            for how, options in lost.items():
-                found = faults_of(case, *run_case(program, case, **options))
-                report.check(f"{how} {stream}: {' '.join(case.words)}", found)
-
-
-def check_no_output(report: Report, program: str) -> None:
-    """The output fails: for listings, for help, and where nothing is printed."""
-    files = {"k": TWO, "damaged": TWO[:-1]}
-    lines = [KLIST.words, ("klist", "-k", "damaged"), KTFIND, ("--help",), ("klist", "--help")]
-    wanted = [*((words, FAILED) for words in lines),
-              (("klist", "-k", "no"), message(1, "no: no such file"))]
-    check_lost(report, program, "stdout", [Case("", *one, files) for one in wanted])
-
-
-def check_no_error_output(report: Report, program: str) -> None:
-    """A failure of the error output changes neither the status nor what is printed."""
-    wanted = [
-        (KLIST.words, Outcome(0, KLIST.text)),
-        (KTFIND, Outcome(0, b"found 53 kvno 3 etype 17 b@R\n")),
-        (("klist", "-k", "no"), Outcome(1)),
-        (("frob",), Outcome(2)),
-    ]
-    check_lost(report, program, "stderr", [Case("", *one, {"k": TWO}) for one in wanted])
+LONG_SERVER = b"x" * 955
+LONG_CACHE = Listing(("klist", "c"),
+                     credentials(*[replace(TICKET, server=Name((LONG_SERVER,)))] * 300),
+                     cache_listed(b"u@R", *[CACHE_TIMES + LONG_SERVER + b"@R"] * 300))
 
 
 def limited(
@@ -170,7 +149,6 @@ def check_listing(report: Report, program: str, listing: Listing, long: Listing)
 
 def check(report: Report, program: str) -> None:
     """Runs all of this topic."""
-    check_no_output(report, program)
-    check_no_error_output(report, program)
     check_each_byte_of_messages(report, program, FAULTY)
     check_listing(report, program, KLIST, LONG)
+    check_listing(report, program, CACHE, LONG_CACHE)

@@ -6,11 +6,11 @@ import shutil
 import struct
 import subprocess
 import tempfile
-from collections.abc import Callable, Iterator
+from collections.abc import Iterator
 from contextlib import contextmanager
 from dataclasses import dataclass
 
-from harness import Outcome, Report, differences, files_in, folder_of, run
+from harness import Outcome, Report, files_in, folder_of, run
 
 SOURCE = os.path.join(os.path.dirname(os.path.abspath(__file__)), "preload.c")
 
@@ -42,11 +42,6 @@ class Counted:
     failures: int
 
 
-# What is wrong with a run in which the nth call fails, given that number, the run in which none
-# fails, and that run.
-Faults = Callable[[int, Counted, Counted], list[str]]
-
-
 class Preloaded:
     """Runs a program in a folder with some of its calls failing, each time over the same files."""
 
@@ -71,51 +66,6 @@ class Preloaded:
             with open(counts, "rb") as file:
                 requests, _, _, failures = struct.unpack("=4Q", file.read(32))
             return Counted(outcome, files_in(folder), requests, failures)
-
-    def sweep(
-        self,
-        report: Report,
-        name: str,
-        line: Line,
-        settings: Callable[[int], dict[str, int]],
-        faults: Faults,
-    ) -> None:
-        """Lets the first call fail, then the second, and so on up to one that is not made.
-
-        `settings` has what makes the nth fail. At the end the program has to answer as where none
-        fails. All of it counts as one case, and of its faults those of three runs are told.
-        """
-        whole = self.run(line)
-        faulty = []
-        for nth in range(1, MOST_CALLS):
-            got = self.run(line, **settings(nth))
-            if got.failures > 0:
-                found = faults(nth, whole, got)
-            else:
-                found = differences(whole.outcome, got.outcome) + other_files(got, whole.files)
-            if found:
-                faulty.append(f"at {nth} {', '.join(found)}")
-            if got.failures == 0:
-                break
-        else:
-            faulty.append(f"there is no end at {MOST_CALLS}")
-        if nth == 1:
-            faulty.append("no such call was made")
-        if len(faulty) > 3:
-            faulty[3:] = [f"and {len(faulty) - 3} runs more, of {nth}"]
-        report.check(name, faulty)
-
-
-def other_files(got: Counted, *wanted: dict[str, bytes]) -> list[str]:
-    """That the files are none of those that may be there."""
-    return [] if got.files in wanted else [f"the files {sorted(got.files)} are not as wanted"]
-
-
-def with_prefix(wanted: Outcome, whole: Counted, got: Counted) -> list[str]:
-    """Differences from what is wanted, where a prefix of the whole text may have been printed."""
-    out = got.outcome.out
-    prefix = out if whole.outcome.out.startswith(out) else b""
-    return differences(Outcome(wanted.status, prefix, wanted.err), got.outcome)
 
 
 def built_library(folder: str) -> str | None:

@@ -1,14 +1,15 @@
 """Each request for memory of each command refused, once and from it on, beside the models.
 
-A run that is refused memory says so, with status 4. klist and ktfind may have printed a front of
-their text, ktedit has neither printed nor saved, and ktutil has done its lines up to some line.
+A run that is refused memory says so, with status 4. klist and ktfind may have printed a prefix of
+their text, ktedit has neither printed nor saved, and ktutil has done its lines up to some line. Help
+is printed, or a prefix of it.
 """
 from __future__ import annotations
 
 from random import Random
 
-from harness import Report, differences
-from modelled import NO_MEMORY, NOW, Modelled, large, small
+from harness import Report, differences, message
+from modelled import NO_MEMORY, NOW, Modelled, large, listing, small
 from preload import Counted, Line, Preloaded, preloaded
 
 # How many requests of a run are refused: over small files all that there are, and over larger ones
@@ -60,11 +61,22 @@ def check_run(report: Report, under: Preloaded, run: Modelled, numbers) -> None:
         report.check(f"memory refused {way}: {run.case.name}", faults[:3])
 
 
+def command_lines(under: Preloaded) -> list[Modelled]:
+    """Runs that ask for help, or that are not read. Help is what it is where nothing is refused."""
+    asked = (("--help",), ("klist", "--help"))
+    wanted = [(words, under.run(Line(words)).outcome) for words in asked]
+    unread = message(2, "bad command line")
+    wanted += [(words, unread) for words in (("frob",), ("klist", "-k", "k", "--nosuch"))]
+    return [listing(" ".join(words), words, b"", outcome) for words, outcome in wanted]
+
+
 def check(report: Report, program: str) -> None:
     """Runs all of this topic."""
     with preloaded(report, program, "memory that is refused", {}) as under:
         if under is None:
             return
+        for run in command_lines(under):
+            check_run(report, under, run, lambda requests: spread(requests, FEW))
         for run in small():
             check_run(report, under, run, lambda requests: spread(requests, FEW))
         for run in large():

@@ -1,0 +1,93 @@
+"""Outputs that take nothing and inputs that give nothing, from a run's start to its end."""
+from __future__ import annotations
+
+import os
+import subprocess
+
+from cache_images import USUAL
+from cache_listings import CONFIG_LINE, TICKET_LINE
+from cache_reading import listed as cache_listed
+from edits import GAVE_HOST, text
+from harness import Case, Outcome, Report, faults_of, folder_of, message, run_case
+from images import B, HOST, TWO, entries, hole, keytab
+from listings import B_LINE, B_RECORD, HOST_LINE, listed
+
+NO_OUTPUT = message(3, "cannot write output")
+NO_INPUT = message(3, "cannot read input")
+
+# `no` is missing. A script makes of `k` what stands in `CUT`.
+FILES = {"k": TWO, "j": entries(HOST), "c": USUAL, "damaged": TWO[:-1]}
+CUT = {**FILES, "k": keytab(hole(bytes(47)), B_RECORD)}
+
+WALK = b"start\nstep 0\n"
+SCRIPT = WALK + b"cut 2\n"
+TALK = b"rkt j\nl\nwkt k\n"
+
+KLIST, CACHE, KTFIND = ("klist", "-k", "k"), ("klist", "-C", "c"), ("ktfind", "k", "0", "0", "b@R")
+
+
+def case(
+    words: tuple[str, ...], wanted: Outcome, stdin: bytes = b"", after: dict[str, bytes] = FILES
+) -> Case:
+    """Words over the files."""
+    return Case("", words, wanted, FILES, after, stdin)
+
+
+# A lost output is not missed where nothing is to be printed. What a script changes is saved before its
+# replies are printed.
+WITHOUT_OUTPUT = [
+    *(case(words, NO_OUTPUT) for words in (
+        KLIST, CACHE, KTFIND, ("klist", "-k", "damaged"), ("--help",), ("klist", "--help"))),
+    case(("ktedit", "k"), NO_OUTPUT, SCRIPT, CUT),
+    case(("ktedit", "k"), NO_OUTPUT, WALK),
+    case(("ktutil",), NO_OUTPUT, TALK),
+    case(("ktedit", "k"), Outcome(0), b"# none\n"),
+    case(("ktutil",), Outcome(0), b"rkt j\ndelent 1\n"),
+    case(("klist", "-k", "no"), message(1, "no: no such file")),
+    case(("klist", "-k", "c"), message(1, "c: not a keytab (2)")),
+]
+
+# A lost error output changes neither the status nor what is printed and saved.
+WITHOUT_ERROR_OUTPUT = [
+    case(KLIST, Outcome(0, listed(HOST_LINE, B_LINE))),
+    case(CACHE, Outcome(0, cache_listed(b"u@R", TICKET_LINE, CONFIG_LINE))),
+    case(KTFIND, Outcome(0, b"found 53 kvno 3 etype 17 b@R\n")),
+    case(("ktedit", "k"), Outcome(0, text(["walk 0 at 2", GAVE_HOST, "gone 2"])), SCRIPT, CUT),
+    case(("klist", "-k", "no"), Outcome(1)),
+    case(("ktedit", "k"), Outcome(1), b"frob\n"),
+    case(("ktutil",), Outcome(1), b"frob\nrkt k\nrkt j\nwkt j\n",
+         {**FILES, "j": entries(HOST, HOST, B, HOST)}),
+    case(("frob",), Outcome(2)),
+]
+
+
+def check_lost(report: Report, program: str, stream: str, cases: list[Case]) -> None:
+    """Runs each case with that output on a full device, and then with it closed."""
+    number = {"stdout": 1, "stderr": 2}[stream]
+    with open("/dev/full", "wb") as full:
+        lost = {"full": {stream: full},
+                "closed": {stream: None, "preexec_fn": lambda: os.close(number)}}
+        for one in cases:
+            for how, options in lost.items():
+                found = faults_of(one, *run_case(program, one, **options))
+                report.check(f"{how} {stream}: {' '.join(one.words)}", found)
+
+
+def check_lost_input(report: Report, program: str, words: tuple[str, ...]) -> None:
+    """An input that is a folder, or closed."""
+    with folder_of(FILES) as folder:
+        for name, close in (("a folder", None), ("closed", lambda: os.close(0))):
+            opened = os.open(folder, os.O_RDONLY)
+            done = subprocess.run([program, *words], cwd=folder, stdin=opened, check=False,
+                                  capture_output=True, preexec_fn=close)
+            os.close(opened)
+            got = Outcome(done.returncode, done.stdout, done.stderr)
+            report.compare(f"input that is {name}: {' '.join(words)}", NO_INPUT, got)
+
+
+def check(report: Report, program: str) -> None:
+    """Runs all of this topic."""
+    check_lost(report, program, "stdout", WITHOUT_OUTPUT)
+    check_lost(report, program, "stderr", WITHOUT_ERROR_OUTPUT)
+    for words in (("ktedit", "k"), ("ktutil",)):
+        check_lost_input(report, program, words)
