@@ -19,7 +19,7 @@ map-onto_first a [] = refl
 map-onto_first a (p ∷ ps) = refl
 
 -- the components are the first one and those after its `/`
-pub components_of-first : (text : List Atom) → components_of text ≡ first_component text ∷ option_map_or components_of (after_first text) []
+components_of-first : (text : List Atom) → components_of text ≡ first_component text ∷ option_map_or components_of (after_first text) []
 components_of-first [] = refl
 components_of-first (Byte b ∷ rest) = map-onto_first (Byte b) (slice_split is_slash (before_at rest)) ∙ ap (onto_first b) (components_of-first rest)
 components_of-first (Slash ∷ rest) = refl

@@ -1,10 +1,9 @@
 pub mod Fields
 pub mod ReadLists
 pub mod Places
-pub mod SpliceLemmas
+pub mod PenLemmas
 pub mod NamesTold
 pub mod Principals
-pub mod WidthLemmas
 pub mod QuoteLemmas
 pub mod TextLemmas
 pub mod AtomLemmas

@@ -18,7 +18,7 @@ use Rattle.krb_wire.specs.SameName.{have_same_name}
 
 -- ---- tests
 
-pub same_bool : (a b : Bool) → (a ≡ true → b ≡ true) → (b ≡ true → a ≡ true) → a ≡ b
+same_bool : (a b : Bool) → (a ≡ true → b ≡ true) → (b ≡ true → a ≡ true) → a ≡ b
 same_bool true b to from = sym (to refl)
 same_bool false true to from = from refl
 same_bool false false to from = refl
@@ -30,7 +30,7 @@ and_both false b e = absurd cc
 pub both_and : (a b : Bool) → a ≡ true → b ≡ true → (a && b) ≡ true
 both_and a b x y = rw (x, y) refl
 
-pub no_test : (b : Bool) → (b ≡ true → ⊥) → false ≡ b
+no_test : (b : Bool) → (b ≡ true → ⊥) → false ≡ b
 no_test true not_so = absurd (not_so refl)
 no_test false not_so = refl
 
@@ -70,7 +70,7 @@ lengths_fit f p h =
 pub fits_not : (f : KtFormat) (p : Parts) → (Lengths f p → ⊥) → false ≡ name_fits f p
 fits_not f p not_so = no_test (name_fits f p) (λ e. not_so (lengths_of f p e))
 
--- the same in a credential cache
+-- each length and count fits its field in a credential cache
 pub record LongLengths (p : Parts) : Type 0 where
   pub count : length p.components < 2 ^ 32
   pub realm : IsLong p.realm
@@ -91,7 +91,7 @@ long_lengths_fit p h =
     both_and (ltb (length p.components) (2 ^ 32)) (is_long p.realm && list_all is_long p.components) (lt-ltb (length p.components) (2 ^ 32) h.count)
     (both_and (is_long p.realm) (list_all is_long p.components) (lt-ltb (length p.realm) (2 ^ 32) h.realm) (fit_all (2 ^ 32) p.components h.components))
 
--- the length is told
+-- whether a name in a credential cache has a length of 64 bits
 abbrev pub has_cc_len : Parts → Bool
 has_cc_len p = cc_name_fits p && ltb (length (cc_principal p)) (2 ^ 64)
 
@@ -105,11 +105,11 @@ pub some_cc_len : (p : Parts) → LongLengths p → length (cc_principal p) < 2 
 some_cc_len p h lt = sym (both_and (cc_name_fits p) (ltb (length (cc_principal p)) (2 ^ 64)) (long_lengths_fit p h) (lt-ltb (length (cc_principal p)) (2 ^ 64) lt))
 
 -- each component takes a byte at least
-pub count_le : (o : Order) (cs : List (List ℕ)) → length cs ≤ length (flat_map (data32 o) cs)
+count_le : (o : Order) (cs : List (List ℕ)) → length cs ≤ length (flat_map (data32 o) cs)
 count_le o [] = omega arith
 count_le o (c ∷ cs) = omega (arith, count_le o cs, ap length (flat_map-cons (data32 o) c cs), length-append (data32 o c) (flat_map (data32 o) cs), length-append (digits o w32 (length c)) c, (wide32 o).len (length c))
 
--- so many components are too long
+-- more components than a count can tell are too long
 pub many_long : (p : Parts) → 2 ^ 32 ≤ length p.components → 2 ^ 32 ≤ length (cc_principal p)
 many_long p many =
     omega (arith, many, count_le Big p.components, length-append p.realm (flat_map (data32 Big) p.components))

@@ -1,4 +1,4 @@
--- So many things one after the other, each read in the same way.
+-- Items one after the other, each read in the same way.
 use Rattle.std.proofs.Common.{◌≡◌, ℕ, zero, suc, ◌+◌, ◌-◌, ◌<◌, ◌≤◌, List, [], ◌∷◌, ◌++◌, length, Option, Some, None, refl, sym, ap, subst, ◌∙◌, append_assoc, arith}
 use Rattle.std.specs.Prelude.{option_map, slice_get, IsSome}
 use Rattle.std.specs.List.{flat_map, AllByRecursion}
@@ -17,10 +17,10 @@ end_of_bind x (Some y) = refl
 end_of_bind x None = refl
 
 -- one more to skip
-pub skip_one : {X : Type 0} (read : Reader X) (n : ℕ) (bytes : List ℕ) (x : X) (after : List ℕ) → read bytes ≡ Some (x, after) → list_end read (suc n) bytes ≡ list_end read n after
+skip_one : {X : Type 0} (read : Reader X) (n : ℕ) (bytes : List ℕ) (x : X) (after : List ℕ) → read bytes ≡ Some (x, after) → list_end read (suc n) bytes ≡ list_end read n after
 skip_one read n bytes x after e = rw e (end_of_bind x (list_at read n after))
 
-pub skip_none : {X : Type 0} (read : Reader X) (n : ℕ) (bytes : List ℕ) → read bytes ≡ None → list_end read (suc n) bytes ≡ None
+skip_none : {X : Type 0} (read : Reader X) (n : ℕ) (bytes : List ℕ) → read bytes ≡ None → list_end read (suc n) bytes ≡ None
 skip_none read n bytes e = rw e refl
 
 pub goes_on : {X : Type 0} (read : Reader X) (count i : ℕ) (bytes : List ℕ) (x : X) (after : List ℕ) (total : Option (List ℕ)) → i < count → read bytes ≡ Some (x, after)
@@ -41,7 +41,7 @@ is_done read count i bytes total le so_far =
     sym so_far ∙ ap (λ (n : ℕ). list_end read n bytes) k
 
 -- the first of them, and the others
-pub first_and_others : {X : Type 0} (read : Reader X) (n : ℕ) (bytes : List ℕ) (x : List X × List ℕ) → list_at read (suc n) bytes ≡ Some x
+first_and_others : {X : Type 0} (read : Reader X) (n : ℕ) (bytes : List ℕ) (x : List X × List ℕ) → list_at read (suc n) bytes ≡ Some x
     → (first : X × List ℕ) × (others : List X × List ℕ) × (read bytes ≡ Some first) × (list_at read n first.1 ≡ Some others) × ((first.0 ∷ others.0, others.1) ≡ x)
 first_and_others read n bytes x e =
     let a = bind_some (read bytes) (λ first. list_at read n first.1 >>= λ others. Some (first.0 ∷ others.0, others.1)) x e in
@@ -71,9 +71,9 @@ nth {X = X} read (suc n) (suc i) bytes x e lt =
     let ih = nth read n i f.0.1 f.1 f.3 (omega arith) in
     (ih.0, ih.1, skip_one read i bytes f.0.0 f.0.1 f.2 ∙ ih.2, ih.3, ap (λ (y : List X × List ℕ). slice_get y.0 (suc i)) (sym f.4) ∙ ih.4)
 
--- ---- the things that a view holds
+-- ---- the items that a view holds
 
-pub list_in-is : {X : Type 0} (read : Reader X) (n : ℕ) (bytes : List ℕ) (x : List X × List ℕ) → list_at read n bytes ≡ Some x → list_in read n bytes ≡ x.0
+list_in-is : {X : Type 0} (read : Reader X) (n : ℕ) (bytes : List ℕ) (x : List X × List ℕ) → list_at read n bytes ≡ Some x → list_in read n bytes ≡ x.0
 list_in-is read n bytes x e = rw e refl
 
 pub length_held : {X : Type 0} (read : Reader X) (n : ℕ) (bytes : List ℕ) → IsSome (list_at read n bytes) → n ≡ length (list_in read n bytes)

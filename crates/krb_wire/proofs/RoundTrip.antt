@@ -73,12 +73,12 @@ split-others : (cs : List (List ℕ)) (realm : List ℕ) → slice_split is_slas
 split-others [] realm = refl
 split-others (c ∷ cs) realm = ap (λ (ps : List (List Atom)). [] ∷ ps) (split-bytes c (others_atoms cs (At ∷ map Byte realm)) (map (map Byte) cs) (split-others cs realm))
 
--- the bytes of bytes as atoms are those
+-- the bytes of bytes as atoms are those bytes
 bytes_again : (bs : List ℕ) → map byte_of (map Byte bs) ≡ bs
 bytes_again [] = refl
 bytes_again (b ∷ bs) = ap (λ (l : List ℕ). b ∷ l) (bytes_again bs)
 
--- the same of components
+-- the bytes of components as atoms are those components
 components_again : (cs : List (List ℕ)) → map (map byte_of) (map (map Byte) cs) ≡ cs
 components_again [] = refl
 components_again (c ∷ cs) = ap (λ (l : List ℕ). l ∷ map (map byte_of) (map (map Byte) cs)) (bytes_again c) ∙ ap (λ (l : List (List ℕ)). c ∷ l) (components_again cs)
@@ -102,7 +102,7 @@ realm-text : (c : List ℕ) (cs : List (List ℕ)) (realm : List ℕ) (d : Optio
 realm-text c cs realm d =
     rw (after_at-bytes c (others_atoms cs (At ∷ map Byte realm)) ∙ after_at-others cs realm) (ap Some (bytes_again realm))
 
--- the same, by the components
+-- the text of a name with these components has that name
 named_again : (p : Parts) (d : Option (List ℕ)) (cs : List (List ℕ)) → p.components ≡ cs → 0 < length cs → name_of (name_text p) d ≡ Ok (record p { name_type = 1 })
 named_again p d [] e lt = absurd (omega arith)
 named_again p d (c ∷ cs) e lt =

@@ -13,7 +13,7 @@ Grew-none a b same = record { more = []; parts = same ∙ sym (append-nil a) }
 Grew-then : (a b c : List ℕ) → Grew a b → Grew b c → Grew a c
 Grew-then a b c p q = record { more = p.more ++ q.more; parts = q.parts ∙ ap (λ (x : List ℕ). x ++ q.more) p.parts ∙ append_assoc a p.more q.more }
 
--- where nothing was left behind, no more than a part was
+-- who appended all or nothing appended all or a part
 pub appended_part : {A E : Type 0} (text : List ℕ) (old new : Vec ℕ A) (r : Result (Unit {0}) E) → Appended text old new r → AppendedPart text old new r
 appended_part text old new r h = record { ok = h.ok; err = on_err_weaker r (Grew-none old.items new.items) h.err; capacity = h.capacity; full = h.full }
 
@@ -35,7 +35,7 @@ left_next text left piece rest old out new h is piece_is = record {
   capacity = (let before = h.capacity in let after = piece_is.capacity in omega (arith, before, after));
 }
 
--- memory was refused for the next piece
+-- an allocation failed for the next piece
 pub left_fails : {A E F : Type 0} (text left piece rest : List ℕ) (old out new : Vec ℕ A) (e : E) (f : F) → Left text left old out → left ≡ piece ++ rest → AppendedPart piece out new (Err e) → AppendedPart text old new (Err f)
 left_fails text left piece rest old out new e f h is refused = record {
   ok = tt;

@@ -15,7 +15,7 @@ meaning b =
 abbrev pub unquoted_atom : ℕ → Atom
 unquoted_atom b = if b == 47 then Slash else (if b == 64 then At else Byte b)
 
--- a byte that is more than itself where no backslash stands before it
+-- a byte that stands for more than itself where it is not quoted: `/`, `@` and the backslash
 abbrev pub is_special : ℕ → Bool
 is_special b = b == 47 || b == 64 || b == 92
 

@@ -1,5 +1,5 @@
 -- The name that a text has, or what is wrong with the text.
-use Rattle.std.specs.Prelude.{ℕ, List, [], ◌∷◌, ◌++◌, map, Option, Some, None, option_map, unwrap_or, Result, Ok, Err}
+use Rattle.std.specs.Prelude.{ℕ, List, [], ◌∷◌, ◌++◌, map, Option, Some, None, option_map, unwrap_or, Result, Ok, Err, codes}
 use Rattle.std.specs.List.{filter_map, slice_split}
 use Rattle.std.specs.Option.{option_or}
 use Rattle.krb_wire.specs.declared.name_fault.NameFault.{NameFault}
@@ -16,6 +16,14 @@ name_fault_number LoneBackslash = 2
 name_fault_number SecondAt = 3
 name_fault_number SlashInRealm = 4
 name_fault_number NoMemory = 5
+
+-- a fault in words
+abbrev pub name_fault_phrase : NameFault → List ℕ
+name_fault_phrase NoRealm = codes "no realm"
+name_fault_phrase LoneBackslash = codes "a backslash at the end"
+name_fault_phrase SecondAt = codes "a second @"
+name_fault_phrase SlashInRealm = codes "a / in the realm"
+name_fault_phrase NoMemory = codes "out of memory"
 
 -- what is wrong with an atom before any `@`
 abbrev pub component_fault : Atom → Option NameFault

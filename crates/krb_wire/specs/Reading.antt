@@ -16,7 +16,7 @@ abbrev pub ◌>>=◌ : {A B : Type 0} → Option A → (A → Option B) → Opti
 (Some x) >>= f = f x
 None >>= f = None
 
--- what a read answered, seen by view, is what reading gives
+-- the answer of a call, seen by view, is what the definition reads
 abbrev pub Gives : {X Y : Type 0} → (X → Y) → Option X → Option Y → Type 0
 Gives view (Some x) read = read ≡ Some (view x)
 Gives view None read = read ≡ None
@@ -30,7 +30,7 @@ abbrev pub byte_at : List ℕ → Option (ℕ × List ℕ)
 byte_at [] = None
 byte_at (b ∷ rest) = Some (b, rest)
 
--- so many bytes from the front
+-- the first n bytes, and those after them
 abbrev pub bytes_at : ℕ → List ℕ → Option (List ℕ × List ℕ)
 bytes_at n bytes = if nat_lt (length bytes) n then None else Some (take n bytes, drop n bytes)
 
@@ -44,7 +44,7 @@ counted_at o w bytes = do
 unfoldable pub data16_at : Order → List ℕ → Option (List ℕ × List ℕ)
 data16_at o bytes = counted_at o w16 bytes
 
--- the same, where its length has thirty-two bits
+-- the counted data that the bytes begin with, where its length has thirty-two bits
 unfoldable pub data32_at : Order → List ℕ → Option (List ℕ × List ℕ)
 data32_at o bytes = counted_at o w32 bytes
 
@@ -53,7 +53,7 @@ abbrev pub data_at : Lengths → List ℕ → Option (List ℕ × List ℕ)
 data_at (Bits16 o) = data16_at o
 data_at (Bits32 o) = data32_at o
 
--- so many things that the bytes begin with, each read so
+-- the n items that the bytes begin with, each read by `read`
 abbrev pub list_at : {X : Type 0} → (List ℕ → Option (X × List ℕ)) → ℕ → List ℕ → Option (List X × List ℕ)
 list_at read zero bytes = Some ([], bytes)
 list_at read (suc n) bytes = do
@@ -61,7 +61,7 @@ list_at read (suc n) bytes = do
   others ← list_at read n first.1
   Some (first.0 ∷ others.0, others.1)
 
--- those things, or none where the bytes begin with fewer
+-- those items, or none where the bytes begin with fewer
 abbrev pub list_in : {X : Type 0} → (List ℕ → Option (X × List ℕ)) → ℕ → List ℕ → List X
 list_in read n bytes = unwrap_or (option_map (λ x. x.0) (list_at read n bytes)) []
 
@@ -69,7 +69,7 @@ list_in read n bytes = unwrap_or (option_map (λ x. x.0) (list_at read n bytes))
 abbrev pub list_end : {X : Type 0} → (List ℕ → Option (X × List ℕ)) → ℕ → List ℕ → Option (List ℕ)
 list_end read n bytes = option_map (λ x. x.1) (list_at read n bytes)
 
--- that many components of a keytab's name that the bytes begin with
+-- the n components of a keytab's name that the bytes begin with
 unfoldable pub components_at : Order → ℕ → List ℕ → Option (List (List ℕ) × List ℕ)
 components_at o n bytes = list_at (data16_at o) n bytes
 
@@ -100,7 +100,7 @@ cc_principal_at bytes = do
   components ← list_at (data32_at Big) count.0 realm.1
   Some (record { name_type = name_type.0; realm = realm.0; components = components.0 }, components.1)
 
--- what a read at a place answered, its part seen by view: that part and the place after it
+-- the answer of a call at a place, a part seen by view and the place after it, is what the definition reads there
 abbrev pub ReadsAt : {X Y : Type 0} → (X → Y) → List ℕ → Option (X × ℕ) → Option (Y × List ℕ) → Type 0
 ReadsAt view bytes (Some x) read = (read ≡ Some (view x.0, drop x.1 bytes)) × (x.1 ≤ length bytes)
 ReadsAt view bytes None read = read ≡ None

@@ -9,7 +9,7 @@ use Rattle.krb_wire.specs.declared.format.Lengths.TheVariants.{Bits16, Bits32}
 use Rattle.krb_wire.specs.declared.format.KtFormat.{KtFormat}
 use Rattle.krb_wire.specs.declared.format.KtFormat.TheVariants.{V1, V2}
 
--- a name without where it lies in memory
+-- a name: its type, its realm and its components
 pub record Parts : Type 0 where
   pub name_type : ℕ
   pub realm : List ℕ
@@ -20,12 +20,12 @@ abbrev pub digits : Order → Width → ℕ → List ℕ
 digits Big w n = to_be_bytes w n
 digits Little w n = to_le_bytes w n
 
--- the number of bytes
+-- the number that the bytes spell
 abbrev pub number : Order → Width → List ℕ → ℕ
 number Big w bytes = from_be_bytes w bytes
 number Little w bytes = from_le_bytes w bytes
 
--- a length of some bits, and that many bytes
+-- a length of this width, and that many bytes
 abbrev pub counted : Order → Width → List ℕ → List ℕ
 counted o w bytes = digits o w (length bytes) ++ bytes
 
@@ -57,7 +57,7 @@ abbrev pub has_name_type : KtFormat → Bool
 has_name_type (V1 o) = false
 has_name_type V2 = true
 
--- what stands in the place of the number of components
+-- the count that is written for this many components
 abbrev pub count_field : KtFormat → ℕ → ℕ
 count_field f n = n + counted_realms f
 
@@ -85,11 +85,11 @@ IsShort bytes = length bytes < 2 ^ 16
 abbrev pub is_short : List ℕ → Bool
 is_short bytes = nat_lt (length bytes) (2 ^ 16)
 
--- so does each length and count of a name: then it can be written, and version 1 leaves the name type out
+-- each length and count of a name fits its sixteen bits: then it can be written, and version 1 leaves the name type out
 abbrev pub name_fits : KtFormat → Parts → Bool
 name_fits f p = nat_lt (count_field f (length p.components)) (2 ^ 16) && (is_short p.realm && list_all is_short p.components)
 
--- what has a spelling
+-- a name that a keytab can spell
 pub record FitsKt (f : KtFormat) (p : Parts) : Type 0 where
   pub lengths : IsTrue (name_fits f p)
   pub name_type : HasNameType f p.name_type
@@ -108,11 +108,11 @@ IsLong bytes = length bytes < 2 ^ 32
 abbrev pub is_long : List ℕ → Bool
 is_long bytes = nat_lt (length bytes) (2 ^ 32)
 
--- so does each length and count of a name: then it can be written
+-- each length and count of a name fits its thirty-two bits: then it can be written
 abbrev pub cc_name_fits : Parts → Bool
 cc_name_fits p = nat_lt (length p.components) (2 ^ 32) && (is_long p.realm && list_all is_long p.components)
 
--- what has a spelling there
+-- a name that a credential cache can spell
 pub record FitsCc (p : Parts) : Type 0 where
   pub name_type : p.name_type < 2 ^ 32
   pub count : length p.components < 2 ^ 32

@@ -15,14 +15,14 @@ pub record Grew (old new : List ℕ) : Type 0 where
 abbrev pub HadNoRoom : {A : Type 0} → Vec ℕ A → List ℕ → Type 0
 HadNoRoom old text = vec_capacity old < vec_len old + length text
 
--- the text was appended, or memory was refused: then nothing was appended, and the text did not fit the room that was there
+-- the text was appended; or an allocation failed, nothing was appended, and the text did not fit the room that was there
 pub record Appended {A E : Type 0} (text : List ℕ) (old new : Vec ℕ A) (result : Result (Unit {0}) E) : Type 0 where
   pub ok : OnOk result (new.items ≡ old.items ++ text)
   pub err : OnErr result (new.items ≡ old.items)
   pub capacity : vec_capacity old ≤ vec_capacity new
   pub full : OnErr result (HadNoRoom old text)
 
--- the same of a writer that may leave some bytes behind where memory was refused
+-- the text was appended; or an allocation failed, and a part of the text may have been appended
 pub record AppendedPart {A E : Type 0} (text : List ℕ) (old new : Vec ℕ A) (result : Result (Unit {0}) E) : Type 0 where
   pub ok : OnOk result (new.items ≡ old.items ++ text)
   pub err : OnErr result (Grew old.items new.items)

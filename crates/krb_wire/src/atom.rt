@@ -36,7 +36,7 @@ fn plain_atom(byte: u8) -> Atom
     }
 }
 
-// Whether a byte is more than itself where no backslash stands before it.
+// Whether an unquoted byte stands for more than itself: `/`, `@` and the backslash.
 fn is_special(byte: u8) -> bool
     ensures { result ≡ is_special byte }
 {

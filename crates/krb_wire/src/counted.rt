@@ -1,14 +1,13 @@
 //! Counted data: a length of 16 or 32 bits, and that many bytes.
 
-ghost use Rattle.std.specs.Prelude.{◌≡◌, ◌≤◌, ◌+◌, ◌++◌, ℕ, List, length, drop, IfSome, Some};
-ghost use Rattle.std.specs.List.{splice};
-ghost use Rattle.krb_wire.specs.Spelling.{data16, data32, data_text, FitsLength, IsShort, IsLong, Stands};
+ghost use Rattle.std.specs.Prelude.{◌≡◌, ◌≤◌, ◌++◌, ℕ, List, length, drop, IfSome, Some};
+ghost use Rattle.krb_wire.specs.Spelling.{data16, data32, IsShort, IsLong, Stands};
 ghost use Rattle.krb_wire.specs.Reading.{Gives, ReadsAt, bytes_at, data16_at, data32_at, data_at};
 
 use crate::format::{Lengths, Order};
-use crate::numbers::{put_u16, put_u32, split_u16, split_u32};
+use crate::numbers::{split_u16, split_u32};
 
-// So many bytes from the front, and the bytes after them.
+// The first `len` bytes, and those after them.
 #[inline(always)]
 fn split_len(len: usize, bytes: &[u8]) -> Option<(&[u8], &[u8])>
     ensures { Gives (λ x. (x.0.now, x.1.now)) result (bytes_at len bytes.now) }
@@ -71,10 +70,10 @@ fn data_from(lengths: Lengths, bytes: &[u8], at: usize) -> Option<(&[u8], usize)
 
 /// The counted data at a place, without its length of 16 bits, and the place after it.
 pub fn read_data16(order: Order, bytes: &[u8], at: usize) -> Option<(&[u8], usize)>
-    // What is found is spelled so.
+    // What is read has this spelling.
     ensures found { IfSome result (λ x. IsShort x.0.now
         × Stands bytes.now at x.1 (data16 order x.0.now)) }
-    // What is spelled so is found, and nothing else.
+    // What has this spelling is read.
     ensures only { (text rest : List ℕ) → IsShort text
         → drop at bytes.now ≡ data16 order text ++ rest
         → ReadsAt (λ v. v.now) bytes.now result (Some (text, rest)) }
@@ -85,61 +84,14 @@ pub fn read_data16(order: Order, bytes: &[u8], at: usize) -> Option<(&[u8], usiz
 
 /// The counted data at a place, without its length of 32 bits, and the place after it.
 pub fn read_data32(order: Order, bytes: &[u8], at: usize) -> Option<(&[u8], usize)>
-    // What is found is spelled so.
+    // What is read has this spelling.
     ensures found { IfSome result (λ x. IsLong x.0.now
         × Stands bytes.now at x.1 (data32 order x.0.now)) }
-    // What is spelled so is found, and nothing else.
+    // What has this spelling is read.
     ensures only { (text rest : List ℕ) → IsLong text
         → drop at bytes.now ≡ data32 order text ++ rest
         → ReadsAt (λ v. v.now) bytes.now result (Some (text, rest)) }
     ensures exact { ReadsAt (λ v. v.now) bytes.now result (data32_at order (drop at bytes.now)) }
 {
     data_from(Lengths::Bits32(order), bytes, at)
-}
-
-// Writes bytes at a place; the answer is the place after them.
-fn put_bytes(bytes: &[u8], out: &mut [u8], at: usize) -> usize
-    requires { at + length bytes.now ≤ length out.old }
-    ensures next { result ≡ at + length bytes.now }
-    ensures written { out.new ≡ splice out.old at result bytes.now }
-{
-    let next = at + bytes.len();
-    out[at..next].copy_from_slice(bytes);
-    next
-}
-
-/// Writes counted data at a place, its length of 16 bits first; the answer is the place after it.
-pub fn put_data16(order: Order, text: &[u8], out: &mut [u8], at: usize) -> usize
-    requires short { IsShort text.now }
-    requires room { at + length (data16 order text.now) ≤ length out.old }
-    ensures next { result ≡ at + length (data16 order text.now) }
-    ensures written { out.new ≡ splice out.old at result (data16 order text.now) }
-{
-    let next = put_u16(order, text.len() as u16, out, at);
-    put_bytes(text, out, next)
-}
-
-/// Writes counted data at a place, its length of 32 bits first; the answer is the place after it.
-pub fn put_data32(order: Order, text: &[u8], out: &mut [u8], at: usize) -> usize
-    requires long { IsLong text.now }
-    requires room { at + length (data32 order text.now) ≤ length out.old }
-    ensures next { result ≡ at + length (data32 order text.now) }
-    ensures written { out.new ≡ splice out.old at result (data32 order text.now) }
-{
-    let next = put_u32(order, text.len() as u32, out, at);
-    put_bytes(text, out, next)
-}
-
-/// Writes counted data at a place, its length first; the answer is the place after it.
-#[inline(always)]
-pub fn put_data(lengths: Lengths, text: &[u8], out: &mut [u8], at: usize) -> usize
-    requires fits { FitsLength lengths text.now }
-    requires room { at + length (data_text lengths text.now) ≤ length out.old }
-    ensures next { result ≡ at + length (data_text lengths text.now) }
-    ensures written { out.new ≡ splice out.old at result (data_text lengths text.now) }
-{
-    match lengths {
-        Lengths::Bits16(order) => put_data16(order, text, out, at),
-        Lengths::Bits32(order) => put_data32(order, text, out, at),
-    }
 }

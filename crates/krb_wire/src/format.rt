@@ -47,7 +47,7 @@ impl KtFormat {
         }
     }
 
-    // How many realms the count of a name's components counts too: one in version 1.
+    // Version 1 counts the realm as a component of a name.
     fn counted_realms(self) -> usize
         ensures { result ≡ counted_realms self }
     {
@@ -57,14 +57,14 @@ impl KtFormat {
         }
     }
 
-    /// How many components a count stands for; in version 1 none has the count 0.
+    /// How many components a count stands for. Version 1 counts the realm too, so there 0 is no count.
     pub fn components_of(self, field: u16) -> Option<usize>
         ensures { result ≡ components_of_count self field }
     {
         (field as usize).checked_sub(self.counted_realms())
     }
 
-    /// The count that stands for so many components, where it fits 16 bits.
+    /// The count that is written for this many components, if it fits 16 bits.
     pub fn count_of(self, components: usize) -> Option<u16>
         ensures some { IsSome result ↔ (count_field self components < 2 ^ 16) }
         ensures value { IfSome result (λ n. n ≡ count_field self components) }

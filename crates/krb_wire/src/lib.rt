@@ -14,6 +14,7 @@ mod name;
 mod name_fault;
 mod numbers;
 mod parse;
+mod pen;
 mod principal;
 mod quote;
 mod same;
@@ -23,17 +24,16 @@ mod view;
 
 pub use components::Components;
 pub use copy::copy_name;
-pub use counted::{
-    put_data16, put_data32, read_data16, read_data32, split_data16, split_data32, tail,
-};
+pub use counted::{read_data16, read_data32, split_data16, split_data32, tail};
 pub use format::{KtFormat, Lengths, Order};
 pub use laws::texts_name_their_names;
 pub use limits::Limits;
 pub use memory::NoMemory;
 pub use name::Name;
 pub use name_fault::NameFault;
-pub use numbers::{put_u8, put_u16, put_u32, read_u16, read_u32, split_u8, split_u16, split_u32};
+pub use numbers::{read_u16, read_u32, split_u8, split_u16, split_u32};
 pub use parse::parse_name;
+pub use pen::Pen;
 pub use principal::Principal;
 pub use same::same_name;
 pub use spelling::cache::{cc_principal_len, put_cc_principal};

@@ -1,14 +1,31 @@
 //! Out of memory.
 
-ghost use Rattle.std.specs.Prelude.{◌≡◌};
+ghost use Rattle.std.specs.Prelude.{◌≡◌, codes};
 
 use std::alloc::{AllocError, AllocFailed};
-use thiserror::Error;
+use std::error::Error;
+use std::fmt;
 
 /// An allocation failed.
-#[derive(Clone, Copy, Debug, PartialEq, Eq, Error)]
-#[error("out of memory")]
+#[derive(Clone, Copy, Debug, PartialEq, Eq)]
 pub struct NoMemory;
+
+impl NoMemory {
+    /// What it is, in words.
+    pub fn phrase(self) -> &'static str
+        ensures { result.now ≡ codes "out of memory" }
+    {
+        "out of memory"
+    }
+}
+
+impl fmt::Display for NoMemory {
+    fn fmt<W: fmt::Write>(&self, f: &mut fmt::Formatter<W>) -> fmt::Result {
+        f.write_str(self.phrase())
+    }
+}
+
+impl Error for NoMemory {}
 
 impl From<AllocError> for NoMemory {
     ghost from_gives = { λ _ e. e ≡ record {} };
@@ -18,7 +35,7 @@ impl From<AllocError> for NoMemory {
     }
 }
 
-/// What was not stored is dropped.
+/// The value that was not stored is dropped.
 impl<T: Drop> From<AllocFailed<T>> for NoMemory {
     ghost from_gives = { λ _ e. e ≡ record {} };
 

@@ -25,8 +25,8 @@ pub trait Name {
     fn count(&self) -> usize
         ensures { result ≡ length (parts self.now).components };
 
-    /// One component. Where it was spelled in bytes, those before it are passed: to go through all,
-    /// take `components`.
+    /// The component at an index. A name in bytes passes those before it: to go through all, take
+    /// `components`.
     fn component(&self, i: usize) -> Option<&[u8]>
         ensures { option_copied result ≡ slice_get (parts self.now).components i };
 

@@ -1,27 +1,23 @@
 //! What is wrong with the text of a name.
 
 ghost use Rattle.std.specs.Prelude.{◌≡◌};
-ghost use Rattle.krb_wire.specs.NameOf.{name_fault_number};
+ghost use Rattle.krb_wire.specs.NameOf.{name_fault_number, name_fault_phrase};
 
-use thiserror::Error;
+use std::error::Error;
+use std::fmt;
 
 /// Why a text gives no name.
-#[derive(Clone, Copy, Debug, PartialEq, Eq, Error)]
+#[derive(Clone, Copy, Debug, PartialEq, Eq)]
 pub enum NameFault {
     /// It has no unquoted `@`, and there is no default realm.
-    #[error("no realm")]
     NoRealm = 1,
     /// Its last byte is a backslash that quotes nothing.
-    #[error("a backslash at the end")]
     LoneBackslash = 2,
     /// It has a second unquoted `@`.
-    #[error("a second @")]
     SecondAt = 3,
     /// It has an unquoted `/` after the `@`.
-    #[error("a / in the realm")]
     SlashInRealm = 4,
     /// An allocation failed.
-    #[error("out of memory")]
     NoMemory = 5,
 }
 
@@ -38,4 +34,25 @@ impl NameFault {
             NameFault::NoMemory => 5,
         }
     }
+
+    /// What it is, in words.
+    pub fn phrase(self) -> &'static str
+        ensures { result.now ≡ name_fault_phrase self }
+    {
+        match self {
+            NameFault::NoRealm => "no realm",
+            NameFault::LoneBackslash => "a backslash at the end",
+            NameFault::SecondAt => "a second @",
+            NameFault::SlashInRealm => "a / in the realm",
+            NameFault::NoMemory => "out of memory",
+        }
+    }
 }
+
+impl fmt::Display for NameFault {
+    fn fmt<W: fmt::Write>(&self, f: &mut fmt::Formatter<W>) -> fmt::Result {
+        f.write_str(self.phrase())
+    }
+}
+
+impl Error for NameFault {}

@@ -1,7 +1,6 @@
 //! Numbers of 8, 16 and 32 bits, in either order.
 
-ghost use Rattle.std.specs.Prelude.{◌≡◌, ◌≤◌, ◌+◌, ◌++◌, ◌∷◌, [], length, drop};
-ghost use Rattle.std.specs.List.{splice};
+ghost use Rattle.std.specs.Prelude.{◌≡◌, ◌≤◌, length};
 ghost use Rattle.std.specs.Int.{w16, w32};
 ghost use Rattle.krb_wire.specs.Spelling.{digits, number};
 ghost use Rattle.krb_wire.specs.Reading.{Gives, number_at, byte_at};
@@ -61,56 +60,28 @@ pub fn split_u32(order: Order, bytes: &[u8]) -> Option<(u32, &[u8])>
     Some((read_u32(order, front), rest))
 }
 
-// Writes a number over the first two bytes.
-fn write_u16(order: Order, n: u16, out: &mut [u8])
-    requires { 2 ≤ length out.old }
-    ensures { out.new ≡ digits order w16 n ++ drop 2 out.old }
+/// The two bytes of a number.
+#[inline]
+pub fn bytes_of_u16(order: Order, n: u16) -> [u8; 2]
+    ensures { result ≡ digits order w16 n }
 {
+    let mut bytes = [0; 2];
     match order {
-        Order::Big => BigEndian::write_u16(out, n),
-        Order::Little => LittleEndian::write_u16(out, n),
+        Order::Big => BigEndian::write_u16(&mut bytes, n),
+        Order::Little => LittleEndian::write_u16(&mut bytes, n),
     }
+    bytes
 }
 
-// Writes a number over the first four bytes.
-fn write_u32(order: Order, n: u32, out: &mut [u8])
-    requires { 4 ≤ length out.old }
-    ensures { out.new ≡ digits order w32 n ++ drop 4 out.old }
+/// The four bytes of a number.
+#[inline]
+pub fn bytes_of_u32(order: Order, n: u32) -> [u8; 4]
+    ensures { result ≡ digits order w32 n }
 {
+    let mut bytes = [0; 4];
     match order {
-        Order::Big => BigEndian::write_u32(out, n),
-        Order::Little => LittleEndian::write_u32(out, n),
+        Order::Big => BigEndian::write_u32(&mut bytes, n),
+        Order::Little => LittleEndian::write_u32(&mut bytes, n),
     }
-}
-
-/// Writes a byte at a place; the answer is the place after it.
-pub fn put_u8(n: u8, out: &mut [u8], at: usize) -> usize
-    requires { at + 1 ≤ length out.old }
-    ensures next { result ≡ at + 1 }
-    ensures written { out.new ≡ splice out.old at result (n ∷ []) }
-{
-    out[at] = n;
-    at + 1
-}
-
-/// Writes a number at a place; the answer is the place after it.
-pub fn put_u16(order: Order, n: u16, out: &mut [u8], at: usize) -> usize
-    requires { at + 2 ≤ length out.old }
-    ensures next { result ≡ at + 2 }
-    ensures written { out.new ≡ splice out.old at result (digits order w16 n) }
-{
-    let (_, rest) = out.split_at_mut(at);
-    write_u16(order, n, rest);
-    at + 2
-}
-
-/// Writes a number at a place; the answer is the place after it.
-pub fn put_u32(order: Order, n: u32, out: &mut [u8], at: usize) -> usize
-    requires { at + 4 ≤ length out.old }
-    ensures next { result ≡ at + 4 }
-    ensures written { out.new ≡ splice out.old at result (digits order w32 n) }
-{
-    let (_, rest) = out.split_at_mut(at);
-    write_u32(order, n, rest);
-    at + 4
+    bytes
 }

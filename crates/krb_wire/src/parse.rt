@@ -11,7 +11,7 @@ use crate::name_fault::NameFault;
 use crate::principal::Principal;
 use std::alloc::{AllocError, Allocator};
 
-// The text without the plain bytes that it begins with: nothing is wrong with them, and they begin no realm.
+// The text from its first special byte on. The plain bytes before it have no fault and begin no realm.
 fn from_special(text: &[u8]) -> &[u8]
     ensures faults { (in_realm : Bool) → first_fault (faults_from in_realm (atoms result.now))
         ≡ first_fault (faults_from in_realm (atoms text.now)) }
@@ -21,7 +21,7 @@ fn from_special(text: &[u8]) -> &[u8]
     split_plain(text).1
 }
 
-// The fault furthest left. Where one is found, what follows it is not looked at.
+// The leftmost fault. What follows it is not read.
 fn leftmost_fault(text: &[u8]) -> Option<NameFault>
     ensures { result ≡ first_fault (faults_of (atoms text.now)) }
 {
@@ -54,7 +54,7 @@ fn realm_text(text: &[u8]) -> Option<&[u8]>
     None
 }
 
-// What is wrong with a text, memory aside.
+// Why a text gives no name, apart from memory.
 fn fault_of(text: &[u8], default_realm: Option<&[u8]>) -> Option<NameFault>
     ensures { MatchOption result (IsOk (name_of text.now (option_copied default_realm.entry)))
         (λ fault. name_of text.now (option_copied default_realm.entry) ≡ Err fault) }
@@ -94,7 +94,7 @@ fn read_first_component<A: Allocator>(
     Ok((bytes, None))
 }
 
-// The components one by one.
+// All components, in order.
 fn read_components<A: Allocator + Copy>(
     alloc: A,
     text: &[u8],
@@ -123,7 +123,7 @@ fn read_realm<A: Allocator>(
     ensures { IfOk result (λ v. realm_of (atoms text.now) (option_copied default_realm.entry)
         ≡ Some v.items) }
 {
-    // A realm with nothing wrong has neither `/` nor `@`: it reads as a component does.
+    // A sound realm has neither `/` nor `@`, so it reads like a component.
     if let Some(realm) = realm_text(text) {
         let (bytes, _) = read_first_component(alloc, realm)?;
         return Ok(bytes);
@@ -154,8 +154,8 @@ fn read_name<A: Allocator + Copy>(
 
 /// The name that a text has, of type 1. Components are separated by `/`, and the realm stands after
 /// an `@` or is the default realm. A backslash quotes the next byte: `\n`, `\t`, `\b` and `\0` are
-/// newline, tab, backspace and NUL, and any other byte is itself. Of a backslash at the end, a second
-/// `@` and a `/` in the realm, the fault is the one furthest left; a missing realm comes after them.
+/// newline, tab, backspace and NUL, and any other byte is itself. The fault is the leftmost of a
+/// backslash at the end, a second `@` and a `/` in the realm; a missing realm comes after these.
 pub fn parse_name<A: Allocator + Copy>(
     alloc: A,
     text: &[u8],
@@ -163,7 +163,7 @@ pub fn parse_name<A: Allocator + Copy>(
 ) -> Result<Principal<A>, NameFault>
     ensures ok { IfOk result (λ p. name_of text.now (option_copied default_realm.entry)
         ≡ Ok (principal_parts p)) }
-    // It runs out of memory only where the text has a name.
+    // Only a text that has a name can run out of memory.
     ensures err { IfErr result (λ fault.
         (name_of text.now (option_copied default_realm.entry) ≡ Err fault)
         ⊎ ((fault ≡ NameFault.NoMemory)

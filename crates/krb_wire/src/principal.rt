@@ -1,7 +1,4 @@
 //! Owned names.
-
-ghost use Rattle.std.specs.Prelude.{◌≡◌};
-ghost use Rattle.krb_wire.specs.Spelling.{Parts};
 ghost use Rattle.krb_wire.specs.Reading.{principal_parts};
 
 use crate::components::Components;

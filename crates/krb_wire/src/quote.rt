@@ -7,14 +7,14 @@ ghost use Rattle.krb_wire.specs.Text.{Appended, AppendedPart};
 
 use std::alloc::{AllocError, Allocator};
 
-// True of no byte that is quoted.
+// False of each byte that is quoted.
 fn is_plain(byte: u8) -> bool
     ensures { IsTrue result → IsPlain byte }
 {
     (byte > b'\n') & (byte != b'/') & (byte != b'@') & (byte != b'\\')
 }
 
-// True only where no byte is quoted. It reads all of them, many at once.
+// False where a byte is quoted. It reads all bytes, many at once.
 #[inline(always)]
 fn is_plain_run(bytes: &[u8]) -> bool
     ensures { IsTrue result → All IsPlain bytes.now }
@@ -26,7 +26,7 @@ fn is_plain_run(bytes: &[u8]) -> bool
     plain
 }
 
-// The same in runs of N bytes, so that no byte is tested alone: the last run may overlap the one before.
+// False where a byte is quoted. It tests N bytes at a time; the last run may overlap the one before.
 #[inline(always)]
 fn is_plain_in_runs<const N: usize>(bytes: &[u8]) -> bool
     requires nonzero { 0 < N }
@@ -44,7 +44,7 @@ fn is_plain_in_runs<const N: usize>(bytes: &[u8]) -> bool
     is_plain_run(&bytes[last..])
 }
 
-// How many bytes are tested at once: short names have no long run.
+// How many bytes are tested at once, in texts that are at least as long.
 const LONG_RUN: usize = 16;
 
 const SHORT_RUN: usize = 4;

@@ -1,7 +1,7 @@
 mod cc_spelled;
 mod spelled;
 
-use crate::{Name, Principal, copy_name, parse_name, write_name};
+use crate::{Name, NameFault, NoMemory, Principal, copy_name, parse_name, write_name};
 use refusing::refuse_each;
 use std::alloc::Global;
 use std::test::Fail;
@@ -57,6 +57,13 @@ fn texts_that_are_no_names(rt: HostRuntime) -> Result<(), Fail> {
         })?;
         assert_eq!(rt; requests, 0, "{text}");
     }
+    Ok(())
+}
+
+#[test]
+fn faults_as_text(rt: HostRuntime) -> Result<(), Fail> {
+    let text = format!(in rt.alloc(); "{}, {}", NameFault::SecondAt, NoMemory)?;
+    assert_eq!(rt; text.as_str(), "a second @, out of memory");
     Ok(())
 }
 

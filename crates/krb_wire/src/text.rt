@@ -10,7 +10,7 @@ use crate::name::Name;
 use crate::quote::push_quote;
 use std::alloc::{AllocError, Allocator};
 
-/// Takes off again what stands behind the first `len` bytes where not all of a text was appended.
+/// Cuts `out` back to its first `len` bytes where an append failed.
 pub fn all_or_nothing<E: Drop, A: Allocator>(
     appended: Result<(), E>,
     len: usize,

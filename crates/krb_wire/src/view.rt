@@ -1,9 +1,8 @@
 //! Names that borrow from an image.
 
-ghost use Rattle.std.specs.Prelude.{◌≡◌, ◌≤◌, ◌+◌, ◌++◌, ℕ, List, length, drop, IsSome, IfSome, Some, slice_get, option_copied};
-ghost use Rattle.std.specs.Int.{w16, w32};
-ghost use Rattle.krb_wire.specs.Spelling.{Parts, order_of, FitsKt, FitsCc, Stands, kt_principal, cc_principal};
-ghost use Rattle.krb_wire.specs.Reading.{Gives, ReadsAt, number_at, data_at, list_at, list_in, list_end, name_type_at, kt_principal_at, cc_principal_at};
+ghost use Rattle.std.specs.Prelude.{◌≡◌, ◌+◌, ◌++◌, ℕ, List, drop, IsSome, IfSome, Some, slice_get, option_copied};
+ghost use Rattle.krb_wire.specs.Spelling.{Parts, FitsKt, FitsCc, Stands, kt_principal, cc_principal};
+ghost use Rattle.krb_wire.specs.Reading.{Gives, ReadsAt, data_at, list_at, list_in, list_end, name_type_at, kt_principal_at, cc_principal_at};
 
 use crate::components::Components;
 use crate::counted::{split_data, split_data16, split_data32, tail};
@@ -41,7 +40,7 @@ fn name_type_of(format: KtFormat, bytes: &[u8]) -> Option<(u32, &[u8])>
     split_u32(Order::Big, bytes)
 }
 
-// The bytes after so many components.
+// The bytes after `count` components.
 fn skip_components(lengths: Lengths, count: usize, bytes: &[u8]) -> Option<&[u8]>
     ensures { Gives (λ x. x.now) result (list_end (data_at lengths) count bytes.now) }
 {
@@ -161,10 +160,10 @@ pub fn read_kt_principal(
     bytes: &[u8],
     at: usize,
 ) -> Option<(PrincipalView<'_>, usize)>
-    // What is found is spelled so.
+    // What is read has this spelling.
     ensures found { IfSome result (λ x. FitsKt format x.0
         × Stands bytes.now at x.1 (kt_principal format x.0)) }
-    // What is spelled so is found, and nothing else.
+    // What has this spelling is read.
     ensures only { (p : Parts) (rest : List ℕ) → FitsKt format p
         → drop at bytes.now ≡ kt_principal format p ++ rest
         → ReadsAt (λ v. v) bytes.now result (Some (p, rest)) }
@@ -188,10 +187,10 @@ fn cc_principal_from(bytes: &[u8], at: usize) -> Option<(PrincipalView<'_>, usiz
 /// The name that a credential cache has at a place, and the place after it (MIT krb5, "Credential cache
 /// file format", section "Principal").
 pub fn read_cc_principal(bytes: &[u8], at: usize) -> Option<(PrincipalView<'_>, usize)>
-    // What is found is spelled so.
+    // What is read has this spelling.
     ensures found { IfSome result (λ x. FitsCc x.0
         × Stands bytes.now at x.1 (cc_principal x.0)) }
-    // What is spelled so is found, and nothing else.
+    // What has this spelling is read.
     ensures only { (p : Parts) (rest : List ℕ) → FitsCc p
         → drop at bytes.now ≡ cc_principal p ++ rest
         → ReadsAt (λ v. v) bytes.now result (Some (p, rest)) }

@@ -2,13 +2,12 @@
 
 ghost use Rattle.std.specs.Prelude.{◌≡◌, ◌≤◌, ◌^◌, ◌+◌, ◌&&◌, length, is_some, nat_lt, IsTrue, IfSome, IfNone};
 ghost use Rattle.std.specs.List.{splice};
+ghost use Rattle.krb_wire.specs.Pen.{HasRoom, Puts};
 ghost use Rattle.krb_wire.specs.Spelling.{cc_name_fits, cc_principal};
 
-use crate::counted::put_data32;
 use crate::format::{Lengths, Order};
 use crate::name::Name;
-use crate::numbers::put_u32;
-use crate::spelling::put_components;
+use crate::pen::Pen;
 
 /// How many bytes the name takes in a credential cache (MIT krb5, "Credential cache file format", section
 /// "Principal"). `None` where a count or a length does not fit its 32 bits, or the sum a u64.
@@ -16,7 +15,7 @@ pub fn cc_principal_len<N: Name>(name: &N) -> Option<u64>
     ensures some { is_some result ≡ (cc_name_fits (N.parts name.now)
         && nat_lt (length (cc_principal (N.parts name.now))) (2 ^ 64)) }
     ensures len { IfSome result (λ n. n ≡ length (cc_principal (N.parts name.now))) }
-    // Without an answer it is too long for any cache.
+    // With `None` it is too long for any cache.
     ensures none { IfNone result (2 ^ 32 ≤ length (cc_principal (N.parts name.now))) }
 {
     if name.count() > u32::MAX as usize {
@@ -36,6 +35,21 @@ pub fn cc_principal_len<N: Name>(name: &N) -> Option<u64>
     Some(len)
 }
 
+impl Pen<'_> {
+    /// Writes the name as a credential cache spells it. `cc_principal_len` says whether it has a spelling, and
+    /// how much room that takes.
+    pub fn put_cc_principal<N: Name>(&mut self, name: &N)
+        requires spelled { IsTrue (cc_name_fits (N.parts name.now)) }
+        requires room { HasRoom self.old (cc_principal (N.parts name.now)) }
+        ensures { Puts self.old self.new (cc_principal (N.parts name.now)) }
+    {
+        self.put_u32(Order::Big, name.name_type());
+        self.put_u32(Order::Big, name.count() as u32);
+        self.put_data32(Order::Big, name.realm());
+        self.put_components(Lengths::Bits32(Order::Big), name);
+    }
+}
+
 /// Writes the name at a place as a credential cache spells it, and no other byte; the answer is the place
 /// after it. `cc_principal_len` says whether it has a spelling, and how much room that takes.
 pub fn put_cc_principal<N: Name>(name: &N, out: &mut [u8], at: usize) -> usize
@@ -44,8 +58,7 @@ pub fn put_cc_principal<N: Name>(name: &N, out: &mut [u8], at: usize) -> usize
     ensures next { result ≡ at + length (cc_principal (N.parts name.now)) }
     ensures written { out.new ≡ splice out.old at result (cc_principal (N.parts name.now)) }
 {
-    let count = put_u32(Order::Big, name.name_type(), out, at);
-    let realm = put_u32(Order::Big, name.count() as u32, out, count);
-    let components = put_data32(Order::Big, name.realm(), out, realm);
-    put_components(Lengths::Bits32(Order::Big), name, out, components)
+    let mut pen = Pen::new(out, at);
+    pen.put_cc_principal(name);
+    pen.place()
 }

@@ -1,14 +1,13 @@
 //! Names as a keytab spells them.
 
-ghost use Rattle.std.specs.Prelude.{◌≡◌, ◌≤◌, ◌<◌, ◌^◌, ◌+◌, ◌↔◌, ℕ, length, is_some, IsTrue, IsSome, IfSome};
+ghost use Rattle.std.specs.Prelude.{◌≡◌, ◌≤◌, ◌<◌, ◌^◌, ◌+◌, ℕ, length, is_some, IsTrue, IfSome};
 ghost use Rattle.std.specs.List.{splice};
+ghost use Rattle.krb_wire.specs.Pen.{HasRoom, Puts};
 ghost use Rattle.krb_wire.specs.Spelling.{name_fits, kt_principal, name_type_field};
 
-use crate::counted::put_data16;
 use crate::format::{KtFormat, Lengths, Order};
 use crate::name::Name;
-use crate::numbers::{put_u16, put_u32};
-use crate::spelling::put_components;
+use crate::pen::Pen;
 
 // How many bytes a name type takes.
 fn name_type_len(format: KtFormat) -> u64
@@ -25,7 +24,7 @@ fn name_type_len(format: KtFormat) -> u64
 pub fn kt_principal_len<N: Name>(format: KtFormat, name: &N) -> Option<u64>
     ensures some { is_some result ≡ name_fits format (N.parts name.now) }
     ensures len { IfSome result (λ n. n ≡ length (kt_principal format (N.parts name.now))) }
-    // Each such sum fits a u64, with room to add more.
+    // So the sum fits a u64, with room to add more.
     ensures small { IfSome result (λ n. n < 2 ^ 33) }
 {
     let _ = format.count_of(name.count())?;
@@ -43,16 +42,33 @@ pub fn kt_principal_len<N: Name>(format: KtFormat, name: &N) -> Option<u64>
     Some(len)
 }
 
-// Writes a name type at a place, where the format has one; the answer is the place after it.
-fn put_name_type(format: KtFormat, name_type: u32, out: &mut [u8], at: usize) -> usize
-    requires { at + length (name_type_field format name_type) ≤ length out.old }
-    ensures next { result ≡ at + length (name_type_field format name_type) }
-    ensures written { out.new ≡ splice out.old at result (name_type_field format name_type) }
-{
-    if !format.has_name_type() {
-        return at;
+impl Pen<'_> {
+    // Writes a name type, where the format has one.
+    fn put_name_type(&mut self, format: KtFormat, name_type: u32)
+        requires { HasRoom self.old (name_type_field format name_type) }
+        ensures { Puts self.old self.new (name_type_field format name_type) }
+    {
+        if format.has_name_type() {
+            self.put_u32(Order::Big, name_type);
+        }
     }
-    put_u32(Order::Big, name_type, out, at)
+
+    /// Writes the name as a keytab spells it. `kt_principal_len` says whether it has a spelling, and how much
+    /// room that takes.
+    pub fn put_kt_principal<N: Name>(&mut self, format: KtFormat, name: &N)
+        requires spelled { IsTrue (name_fits format (N.parts name.now)) }
+        requires room { HasRoom self.old (kt_principal format (N.parts name.now)) }
+        ensures { Puts self.old self.new (kt_principal format (N.parts name.now)) }
+    {
+        let order = format.order();
+        let Some(count) = format.count_of(name.count()) else {
+            unreachable!()
+        };
+        self.put_u16(order, count);
+        self.put_data16(order, name.realm());
+        self.put_components(Lengths::Bits16(order), name);
+        self.put_name_type(format, name.name_type());
+    }
 }
 
 /// Writes the name at a place as a keytab spells it, and no other byte; the answer is the place after
@@ -63,12 +79,7 @@ pub fn put_kt_principal<N: Name>(format: KtFormat, name: &N, out: &mut [u8], at:
     ensures next { result ≡ at + length (kt_principal format (N.parts name.now)) }
     ensures written { out.new ≡ splice out.old at result (kt_principal format (N.parts name.now)) }
 {
-    let order = format.order();
-    let Some(count) = format.count_of(name.count()) else {
-        unreachable!()
-    };
-    let realm = put_u16(order, count, out, at);
-    let components = put_data16(order, name.realm(), out, realm);
-    let name_type = put_components(Lengths::Bits16(order), name, out, components);
-    put_name_type(format, name.name_type(), out, name_type)
+    let mut pen = Pen::new(out, at);
+    pen.put_kt_principal(format, name);
+    pen.place()
 }

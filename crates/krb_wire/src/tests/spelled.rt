@@ -1,7 +1,7 @@
 use super::named;
 use crate::{
-    KtFormat, Name, Order, Principal, kt_principal_len, put_data16, put_kt_principal, put_u8,
-    put_u16, put_u32, read_kt_principal, same_name,
+    KtFormat, Name, Order, Pen, Principal, kt_principal_len, put_kt_principal, read_kt_principal,
+    same_name,
 };
 use std::alloc::Global;
 use std::test::Fail;
@@ -113,19 +113,22 @@ fn fields_are_written_one_after_the_other(rt: HostRuntime) -> Result<(), Fail> {
     for (order, want) in [
         (
             Order::Big,
-            b"\xff\x01\x02\x03\x04\x05\x06\x07\0\x02ab\xff".as_slice(),
+            b"\xff\x01\x02\x03\x04\x05\x06\x07\0\x02ab\0\0\0\x01c\0\0\xff".as_slice(),
         ),
         (
             Order::Little,
-            b"\xff\x01\x03\x02\x07\x06\x05\x04\x02\0ab\xff".as_slice(),
+            b"\xff\x01\x03\x02\x07\x06\x05\x04\x02\0ab\x01\0\0\0c\0\0\xff".as_slice(),
         ),
     ] {
-        let mut out = [0xff; 13];
-        let next = put_u8(1, &mut out, 1);
-        let next = put_u16(order, 0x0203, &mut out, next);
-        let next = put_u32(order, 0x0405_0607, &mut out, next);
-        let next = put_data16(order, b"ab", &mut out, next);
-        assert_eq!(rt; next, 12);
+        let mut out = [0xff; 20];
+        let mut pen = Pen::new(&mut out, 1);
+        pen.put_u8(1);
+        pen.put_u16(order, 0x0203);
+        pen.put_u32(order, 0x0405_0607);
+        pen.put_data16(order, b"ab");
+        pen.put_data32(order, b"c");
+        pen.put_zeros(2);
+        assert_eq!(rt; pen.place(), 19);
         assert!(rt; out.as_slice() == want);
     }
     Ok(())
