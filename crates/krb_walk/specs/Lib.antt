@@ -10,6 +10,7 @@
 -- due: the rows of the live cells that the cursor passes, step by step
 -- rewrite: the live cells alone are written anew, in order, and each cursor is carried to the first that it had ahead
 pub mod Numbers
+pub mod Phrases
 pub mod Store
 pub mod Stops
 pub mod Contents

@@ -2,6 +2,10 @@
 
 ghost use Rattle.std.specs.Prelude.{◌≡◌};
 ghost use Rattle.krb_walk.specs.Numbers.{fault_number};
+ghost use Rattle.krb_walk.specs.Phrases.{fault_phrase};
+
+use std::error::Error;
+use std::fmt;
 
 /// What is wrong with the bytes after the last sound cell.
 #[derive(Clone, Copy, Debug, PartialEq, Eq)]
@@ -28,7 +32,31 @@ impl FaultKind {
             FaultKind::BadCredential => 4,
         }
     }
+
+    /// What it is, in words.
+    pub fn phrase(self) -> &'static str
+        ensures { result.now ≡ fault_phrase self }
+    {
+        match self {
+            FaultKind::CutLength => "the file ends within a length",
+            FaultKind::Overrun => "a record or a hole is longer than the rest of the file",
+            FaultKind::BadEntry => "a record holds no entry",
+            FaultKind::BadCredential => "no whole credential follows; cut off, or being written",
+        }
+    }
 }
+
+impl fmt::Display for FaultKind {
+    ghost use Rattle.std.specs.Prelude.{Some};
+
+    ghost output = { λ kind. Some (fault_phrase kind) };
+
+    fn fmt<W: fmt::Write>(&self, f: &mut fmt::Formatter<W>) -> fmt::Result {
+        f.write_str(self.phrase())
+    }
+}
+
+impl Error for FaultKind {}
 
 /// A fault, at the end place of the sound cells.
 #[derive(Clone, Copy, Debug, PartialEq, Eq)]
@@ -36,3 +64,14 @@ pub struct Fault {
     pub place: u32,
     pub kind: FaultKind,
 }
+
+impl fmt::Display for Fault {
+    fn fmt<W: fmt::Write>(&self, f: &mut fmt::Formatter<W>) -> fmt::Result {
+        let number = self.kind.number();
+        let place = self.place;
+        let phrase = self.kind.phrase();
+        write!(f, "fault {number} at {place}: {phrase}")
+    }
+}
+
+impl Error for Fault {}

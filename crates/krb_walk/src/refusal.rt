@@ -2,10 +2,13 @@
 
 ghost use Rattle.std.specs.Prelude.{◌≡◌};
 ghost use Rattle.krb_walk.specs.Numbers.{code_number};
+ghost use Rattle.krb_walk.specs.Phrases.{code_phrase, refusal_phrase};
 ghost use Rattle.krb_walk.specs.declared.refusal.Refusal.TheVariants.{Code as ByCode, NoMemory};
 
 use krb_wire::NoMemory;
 use std::alloc::{AllocError, AllocFailed};
+use std::error::Error;
+use std::fmt;
 
 /// Why a request is refused.
 #[derive(Clone, Copy, Debug, PartialEq, Eq)]
@@ -42,7 +45,38 @@ impl Code {
             Code::Marked => 11,
         }
     }
+
+    /// What it is, in words that fit any command.
+    pub fn phrase(self) -> &'static str
+        ensures { result.now ≡ code_phrase self }
+    {
+        match self {
+            Code::Damaged => "the file is damaged; klist tells where",
+            Code::TooLong => "a name or a key is too long for a keytab",
+            Code::Full => "the file would be longer than its limit",
+            Code::NotAPlace => "this is no place of the file",
+            Code::NotLive => "nothing to remove stands at this place",
+            Code::NoSuchWalk => "no such walk",
+            Code::TooManyWalks => "there are 1,024 walks already",
+            Code::ReadOnly => "a cache of version 3 is changed only by a rewrite",
+            Code::NotFound => "no entry of this name and encryption type",
+            Code::KvnoNotFound => "this name and encryption type have no such version",
+            Code::Marked => "the credential bears the mark of a removed one",
+        }
+    }
 }
+
+impl fmt::Display for Code {
+    ghost use Rattle.std.specs.Prelude.{Some};
+
+    ghost output = { λ code. Some (code_phrase code) };
+
+    fn fmt<W: fmt::Write>(&self, f: &mut fmt::Formatter<W>) -> fmt::Result {
+        f.write_str(self.phrase())
+    }
+}
+
+impl Error for Code {}
 
 /// A refusal, or an allocation that failed.
 #[derive(Clone, Copy, Debug, PartialEq, Eq)]
@@ -50,6 +84,30 @@ pub enum Refusal {
     Code(Code),
     NoMemory,
 }
+
+impl Refusal {
+    /// What it is, in words that fit any command.
+    pub fn phrase(self) -> &'static str
+        ensures { result.now ≡ refusal_phrase self }
+    {
+        match self {
+            Refusal::Code(code) => code.phrase(),
+            Refusal::NoMemory => "out of memory",
+        }
+    }
+}
+
+impl fmt::Display for Refusal {
+    ghost use Rattle.std.specs.Prelude.{Some};
+
+    ghost output = { λ refusal. Some (refusal_phrase refusal) };
+
+    fn fmt<W: fmt::Write>(&self, f: &mut fmt::Formatter<W>) -> fmt::Result {
+        f.write_str(self.phrase())
+    }
+}
+
+impl Error for Refusal {}
 
 impl From<Code> for Refusal {
     ghost from_gives = { λ code refusal. refusal ≡ ByCode code };

@@ -1,6 +1,6 @@
 //! Stores with a fault.
 
-ghost use Rattle.std.specs.Prelude.{◌≡◌, ℕ, List, Some};
+ghost use Rattle.std.specs.Prelude.{◌≡◌, List, Some};
 ghost use Rattle.krb_walk.specs.declared.event.Event.{Event};
 ghost use Rattle.krb_walk.specs.declared.fault.FaultKind.{FaultKind};
 ghost use Rattle.krb_walk.specs.Events.{SessionState};

@@ -1,7 +1,7 @@
 //! Records: each comes exactly if it has a turn. All of it holds along each walk, over one run or over runs
 //! that join, rewrites included; only what speaks of places presupposes that no event rewrites the store.
 
-ghost use Rattle.std.specs.Prelude.{◌≡◌, ◌↔◌, ◌≤◌, ℕ, List, Option, filter, length, map};
+ghost use Rattle.std.specs.Prelude.{◌≡◌, ◌↔◌, ◌≤◌, ℕ, Option, filter, length, map};
 ghost use Rattle.std.specs.List.{AllByRecursion};
 ghost use Rattle.krb_walk.specs.Store.{Store};
 ghost use Rattle.krb_walk.specs.Ranks.{live_places};

@@ -1,13 +1,9 @@
 //! Walks that go on over a rewrite of the store.
 
 ghost use Rattle.std.specs.Prelude.{◌≡◌, ◌↔◌, ◌≤◌, ℕ, List, Option, Some};
-ghost use Rattle.krb_walk.specs.declared.event.Event.{Event};
 ghost use Rattle.krb_walk.specs.Store.{Store, IsSound};
-ghost use Rattle.krb_walk.specs.Events.{SessionState};
-ghost use Rattle.krb_walk.specs.History.{IsRun, history, given};
-ghost use Rattle.krb_walk.specs.Due.{due_by_steps};
 ghost use Rattle.krb_walk.specs.Ranks.{live_places, rank, carry, Rewrites};
-ghost use Rattle.krb_walk.specs.Track.{RecordName, Track, track_of, IsWalk};
+ghost use Rattle.krb_walk.specs.Track.{RecordName, Track, IsWalk};
 ghost use Rattle.krb_walk.specs.Records.{place_among, EachComesAsDue};
 
 use crate::placed::Placed;

@@ -1,0 +1,34 @@
+-- The phrases that say in words what codes and faults are.
+use Rattle.std.specs.Prelude.{ℕ, List, codes}
+use Rattle.krb_walk.specs.declared.fault.FaultKind.{FaultKind}
+use Rattle.krb_walk.specs.declared.fault.FaultKind.TheVariants.{CutLength, Overrun, BadEntry, BadCredential}
+use Rattle.krb_walk.specs.declared.refusal.Code.{Code}
+use Rattle.krb_walk.specs.declared.refusal.Code.TheVariants.{Damaged, TooLong, Full, NotAPlace, NotLive, NoSuchWalk, TooManyWalks, ReadOnly, NotFound, KvnoNotFound, Marked}
+use Rattle.krb_walk.specs.declared.refusal.Refusal.{Refusal}
+use Rattle.krb_walk.specs.declared.refusal.Refusal.TheVariants.{Code as ByCode, NoMemory}
+
+-- what a fault is
+abbrev pub fault_phrase : FaultKind → List ℕ
+fault_phrase CutLength = codes "the file ends within a length"
+fault_phrase Overrun = codes "a record or a hole is longer than the rest of the file"
+fault_phrase BadEntry = codes "a record holds no entry"
+fault_phrase BadCredential = codes "no whole credential follows; cut off, or being written"
+
+-- why a request is refused, where no command is known
+abbrev pub code_phrase : Code → List ℕ
+code_phrase Damaged = codes "the file is damaged; klist tells where"
+code_phrase TooLong = codes "a name or a key is too long for a keytab"
+code_phrase Full = codes "the file would be longer than its limit"
+code_phrase NotAPlace = codes "this is no place of the file"
+code_phrase NotLive = codes "nothing to remove stands at this place"
+code_phrase NoSuchWalk = codes "no such walk"
+code_phrase TooManyWalks = codes "there are 1,024 walks already"
+code_phrase ReadOnly = codes "a cache of version 3 is changed only by a rewrite"
+code_phrase NotFound = codes "no entry of this name and encryption type"
+code_phrase KvnoNotFound = codes "this name and encryption type have no such version"
+code_phrase Marked = codes "the credential bears the mark of a removed one"
+
+-- why a request is refused, or that memory ran out
+abbrev pub refusal_phrase : Refusal → List ℕ
+refusal_phrase (ByCode code) = code_phrase code
+refusal_phrase NoMemory = codes "out of memory"
