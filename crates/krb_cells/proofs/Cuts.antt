@@ -9,7 +9,7 @@ use Rattle.krb_walk.specs.declared.fault.FaultKind.{FaultKind}
 use Rattle.krb_walk.specs.Store.{Cell, Store, Record, end_from, end_of, is_place, is_place_from, live_bytes, stop_of, end_stop, IsSound, IsPlace}
 use Rattle.krb_walk.proofs.Stops.{next_from, bytes_from, is_place_from-first}
 use Rattle.krb_walk.proofs.Splits.{end_from-append, next_ahead, bytes_ahead, live_splits, split_is_place}
-use Rattle.krb_cells.specs.Front.{HasCells, AreCells}
+use Rattle.krb_cells.specs.CellFormat.{HasCells, AreCells}
 use Rattle.krb_cells.specs.Cells.{HoldsCells, IsFrom}
 
 -- cells of bytes take up places

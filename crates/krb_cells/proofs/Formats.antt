@@ -5,7 +5,7 @@ use Rattle.krb_wire.proofs.Fields.{IsBytes}
 use Rattle.krb_walk.specs.Store.{Cell}
 use Rattle.krb_walk.specs.Contents.{NextCell, More, NoMore, Contents, Format, on_next, contents}
 use Rattle.krb_walk.proofs.ContentsLemmas.{IsNext, IsFormat, contents_next}
-use Rattle.krb_cells.specs.Front.{HasCells, AreCells, seen_in}
+use Rattle.krb_cells.specs.CellFormat.{HasCells, AreCells, seen_in}
 
 -- a format whose cells a store sees as wide as they are, four bytes or more, and which has nothing at the end of no bytes
 pub record IsSeen {C E : Type 0} (f : Format C E) (seen : C → Cell) : Type 0 where

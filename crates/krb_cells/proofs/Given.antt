@@ -11,8 +11,8 @@ use Rattle.krb_wire.specs.declared.format.Order.TheVariants.{Big}
 use Rattle.krb_wire.specs.Spelling.{digits}
 use Rattle.krb_wire.proofs.Fields.{wide32}
 use Rattle.krb_walk.specs.Store.{Cell, Store, end_from, is_place_from}
-use Rattle.krb_cells.specs.declared.front.CellView.{CellView}
-use Rattle.krb_cells.specs.Front.{HasCells, AreCells}
+use Rattle.krb_cells.specs.declared.cell_format.CellView.{CellView}
+use Rattle.krb_cells.specs.CellFormat.{HasCells, AreCells}
 use Rattle.krb_cells.specs.Cells.{GivesCell}
 use Rattle.krb_cells.specs.Carry.{between, width_anew, after_anew, Passes, new_place, AreGiven}
 

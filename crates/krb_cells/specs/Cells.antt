@@ -1,8 +1,8 @@
 -- A store of the cells that stand in bytes.
 use Rattle.std.specs.Prelude.{◌≡◌, ℕ, ◌+◌, ◌≤◌, ◌^◌, List, [], ◌∷◌, length, Option, Some, None}
 use Rattle.krb_walk.specs.Store.{Cell, Store, live_bytes, stop_at}
-use Rattle.krb_cells.specs.declared.front.CellView.{CellView}
-use Rattle.krb_cells.specs.Front.{AreCells, cell_of}
+use Rattle.krb_cells.specs.declared.cell_format.CellView.{CellView}
+use Rattle.krb_cells.specs.CellFormat.{AreCells, cell_of}
 
 -- bytes that are their cells, of which the first has that place
 pub record HoldsCells (cells : List ℕ → List Cell) (place : ℕ) (bytes : List ℕ) : Type 0 where

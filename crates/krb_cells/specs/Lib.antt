@@ -1,4 +1,4 @@
 -- What the contracts of this crate say.
-pub mod Front
+pub mod CellFormat
 pub mod Cells
 pub mod Carry

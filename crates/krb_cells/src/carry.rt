@@ -4,16 +4,19 @@
 //! that it goes to, and each cursor reads it there: one pass over the cells, one look for each cursor, and no
 //! memory.
 
-ghost use Rattle.std.specs.Prelude.{◌≡◌, ◌≤◌, ◌<◌, ◌^◌, ◌-◌, ◌+◌, ℕ, [], length, take, drop, map, IfSome, IfNone};
-ghost use Rattle.std.specs.List.{AllByRecursion};
-ghost use Rattle.krb_walk.specs.Store.{IsPlace, end_of, end_from};
+ghost use Rattle.std.specs.Prelude.{◌≡◌, ◌≤◌, ◌<◌, ◌-◌, ◌+◌, ℕ, [], length, take, drop, map, IfSome, IfNone};
+ghost use Rattle.std.specs.Int.{w32};
+ghost use Rattle.std.specs.List.{AllByRecursion, splice};
+ghost use Rattle.krb_wire.specs.declared.format.Order.TheVariants.{Big};
+ghost use Rattle.krb_wire.specs.Spelling.{digits};
+ghost use Rattle.krb_walk.specs.Store.{IsPlace, end_from};
 ghost use Rattle.krb_walk.specs.Ranks.{carry as carry_of, Rewrites};
-ghost use Rattle.krb_cells.specs.Front.{AreCells};
+ghost use Rattle.krb_cells.specs.CellFormat.{AreCells};
 ghost use Rattle.krb_cells.specs.Carry.{between, store_in, new_place, Passes, AreGiven, HasGiven, GoesBy};
 
+use crate::cell_format::CellFormat;
 use crate::cells::Cells;
-use crate::front::Front;
-use krb_wire::{Order, put_u32, split_u32, tail};
+use krb_wire::{Order, Pen, split_u32, tail};
 
 // The bytes between two places.
 fn part(bytes: &[u8], first: usize, end: usize) -> &[u8]
@@ -26,7 +29,11 @@ fn part(bytes: &[u8], first: usize, end: usize) -> &[u8]
 
 // Passes the cell at the front of some bytes, and the new one that is written for it, if it is live. The answer is
 // the width of the old one.
-fn pass<F: Front, G: Front>(front: F, bytes: &[u8], new: &mut Cells<'_, G>) -> Option<usize>
+fn pass<F: CellFormat, G: CellFormat>(
+    front: F,
+    bytes: &[u8],
+    new: &mut Cells<'_, G>,
+) -> Option<usize>
     requires { AreCells (F.cells front) bytes.now }
     ensures some { IfSome result (λ w. Passes (F.cells front) bytes.now new.old w new.new) }
     ensures none { IfNone result (F.cells front bytes.now ≡ []) }
@@ -39,8 +46,16 @@ fn pass<F: Front, G: Front>(front: F, bytes: &[u8], new: &mut Cells<'_, G>) -> O
     Some(cell.width)
 }
 
+// Gives the cell at a place the one that it goes to, in its first four bytes.
+fn give_place(to: u32, image: &mut [u8], at: usize)
+    requires { at + 4 ≤ length image.old }
+    ensures { image.new ≡ splice image.old at (at + 4) (digits Big w32 to) }
+{
+    Pen::new(image, at).put_u32(Order::Big, to);
+}
+
 // Gives each cell between two places the place that it goes to. The answer is where their end goes.
-fn give_places<F: Front, G: Front>(
+fn give_places<F: CellFormat, G: CellFormat>(
     front: F,
     image: &mut [u8],
     first: usize,
@@ -58,7 +73,7 @@ fn give_places<F: Front, G: Front>(
     let mut at = first;
     let mut to = new.first();
     'cells: while let Some(width) = pass(front, part(image, at, end), &mut new) {
-        let _ = put_u32(Order::Big, to, image, at);
+        give_place(to, image, at);
         at += width;
         to = new.first();
     }
@@ -91,7 +106,7 @@ fn carry_all(image: &[u8], end: usize, last: u32, cursors: &mut [u32])
 
 /// Carries cursors from the places of the store that stands in an image to those of the new one that it was
 /// written anew as. The old image is spent, and no memory is taken.
-pub fn carry_to<F: Front, G: Front>(
+pub fn carry_to<F: CellFormat, G: CellFormat>(
     front: F,
     image: &mut [u8],
     first: usize,

@@ -3,23 +3,23 @@
 ghost use Rattle.std.specs.Prelude.{◌≡◌, ◌≤◌, ◌^◌, ◌+◌, length, IsSome, Some, option_copied};
 ghost use Rattle.std.specs.Iterator.{item_count};
 ghost use Rattle.krb_walk.specs.Store.{end_of, fault_of, is_place, live_bytes, stop_at, IsPlace, IsSound};
-ghost use Rattle.krb_cells.specs.Front.{AreCells};
+ghost use Rattle.krb_cells.specs.CellFormat.{AreCells};
 ghost use Rattle.krb_cells.specs.Cells.{GivesCell, IsFrom};
 
-use crate::front::{CellView, Front};
+use crate::cell_format::{CellFormat, CellView};
 use krb_walk::{Fault, FaultKind, Stop};
 use std::marker::Model;
 
 /// The cells from a place on, a place for each byte, and what is wrong after them, if something is.
 #[derive(Drop)]
-pub struct Cells<'a, F: Front> {
+pub struct Cells<'a, F: CellFormat> {
     front: F,
     place: usize,
     bytes: &'a [u8],
     fault: Option<FaultKind>,
 }
 
-impl<'a, F: Front> Model for Cells<'a, F> {
+impl<'a, F: CellFormat> Model for Cells<'a, F> {
     ghost use Rattle.krb_walk.specs.Store.{Store};
     ghost use Rattle.krb_cells.specs.Cells.{HoldsCells};
 
@@ -34,7 +34,7 @@ impl<'a, F: Front> Model for Cells<'a, F> {
     ghost invariant = { λ c. HoldsCells (F.cells c.front) c.place c.bytes.now };
 }
 
-impl<'a, F: Front> Iterator for Cells<'a, F> {
+impl<'a, F: CellFormat> Iterator for Cells<'a, F> {
     type Item = (usize, CellView<'a>);
 
     ghost next_gives = { GivesCell };
@@ -51,7 +51,7 @@ impl<'a, F: Front> Iterator for Cells<'a, F> {
     }
 }
 
-impl<'a, F: Front> Cells<'a, F> {
+impl<'a, F: CellFormat> Cells<'a, F> {
     /// The cells that the bytes spell, where the first stands at that place.
     pub fn of(front: F, place: usize, bytes: &'a [u8], fault: Option<FaultKind>) -> Cells<'a, F>
         requires cells { AreCells (F.cells front) bytes.now }

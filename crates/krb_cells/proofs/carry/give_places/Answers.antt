@@ -1,14 +1,14 @@
-use Rattle.std.proofs.Common.{arith}
+use Rattle.std.proofs.Common.{refl, arith}
 use Rattle.krb_cells.proofs.Given.{none_given, one_given, all_given}
 use Rattle.krb_cells.proofs.carry.give_places.Goals as goal
 
 pub cells-init : goal.cells-init
-cells-init g c = none_given (g.F.Front.cells c.args.front) c.args.new c.args.first c.args.end c.args.image.now c.first-to.result c.requires.ahead c.requires.within c.requires.cells c.first-to.ensures.first
+cells-init g c = none_given (g.F.CellFormat.cells c.args.front) c.args.new c.args.first c.args.end c.args.image.now c.first-to.result c.requires.ahead c.requires.within c.requires.cells c.first-to.ensures.first
 
 pub cells-preserved : goal.cells-preserved
 cells-preserved g c =
-    let len = c.put_u32.auto.out in
-    one_given _ _ _ _ _ _ _ _ _ _ _ _ _ _ _ c.cells.invariant c.part.ensures c.in-Some.ensures.some c.put_u32.ensures.written c.put_u32.ensures.next (omega (arith, len)) c.first-to-in-Some.ensures.first
+    let len = c.give_place.auto.image in
+    one_given _ _ _ _ _ _ _ _ _ _ _ _ _ _ _ c.cells.invariant c.part.ensures c.in-Some.ensures.some c.give_place.ensures refl (omega (arith, len)) c.first-to-in-Some.ensures.first
 
 pub returns-clause-given : goal.returns-clause-given
 returns-clause-given g c = (all_given _ _ _ _ _ _ _ _ _ _ c.cells.invariant c.part.ensures c.in_default.ensures.none).given

@@ -2,7 +2,7 @@
 
 ghost use Rattle.std.specs.Prelude.{◌≡◌, ℕ, List, [], ◌∷◌, drop, IfSome, IfNone};
 ghost use Rattle.krb_walk.specs.Store.{Cell};
-ghost use Rattle.krb_cells.specs.Front.{AreCells, cell_of};
+ghost use Rattle.krb_cells.specs.CellFormat.{AreCells, cell_of};
 
 /// A cell: its width in bytes, and what a store gives of it, if it is live.
 #[derive(Clone, Copy, Debug)]
@@ -12,7 +12,7 @@ pub struct CellView<'a> {
 }
 
 /// A format whose cells touch one another in bytes.
-pub trait Front: Copy {
+pub trait CellFormat: Copy {
     /// The cells that bytes spell.
     ghost cells: { Self → List ℕ → List Cell };
 

@@ -2,7 +2,7 @@
 use Rattle.std.specs.Prelude.{◌≡◌, ℕ, ◌≤◌, List, [], ◌∷◌, length, drop, map, option_copied}
 use Rattle.krb_walk.specs.Contents.{Format, contents}
 use Rattle.krb_walk.specs.Store.{Cell}
-use Rattle.krb_cells.specs.declared.front.CellView.{CellView}
+use Rattle.krb_cells.specs.declared.cell_format.CellView.{CellView}
 
 -- the cell, without where its bytes lie in memory
 abbrev pub cell_of : CellView → Cell
