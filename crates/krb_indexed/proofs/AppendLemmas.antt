@@ -1,16 +1,14 @@
 -- A table and a tree where one cell more stands after the others.
-use Rattle.std.proofs.Common.{◌≡◌, ℕ, ◌+◌, ◌-◌, ◌*◌, ◌^◌, ◌<◌, ◌≤◌, true, false, List, [], ◌∷◌, ◌++◌, length, map, replicate, None, Ok, Err, refl, sym, ap, subst, ◌∙◌, arith, inl, inr, append_assoc, length-append}
+use Rattle.std.proofs.Common.{◌≡◌, ℕ, ◌+◌, ◌-◌, ◌*◌, ◌^◌, ◌<◌, ◌≤◌, true, false, List, [], ◌∷◌, ◌++◌, length, map, replicate, None, Ok, Err, refl, sym, ap, subst, ◌∙◌, arith, inl, inr, append_assoc, length-append, Bool, cond}
 use Rattle.std.specs.Prelude.{is_some, nat_le, nat_lt}
 use Rattle.std.specs.List.{AllByRecursion}
 use Rattle.std.proofs.Math.Nat.{pow-suc}
 use Rattle.std.proofs.Math.Pow.{pow_mono}
 use Rattle.std.proofs.lemmas.Nat.{pow_pos}
-use Rattle.std.proofs.lemmas.Bool.{cases_lt}
+use Rattle.std.proofs.lemmas.Bool.{cases_lt, lt-leb, lt-ltb, le-ltb, leb-true}
 use Rattle.std.proofs.lemmas.List.{append-nil, map-append, replicate-append-replicate}
 use Rattle.krb_wire.specs.declared.format.KtFormat.{KtFormat}
 use Rattle.std.specs.Int.{w32}
-use Rattle.std.proofs.Common.{Bool, cond}
-use Rattle.std.proofs.lemmas.Bool.{lt-leb, lt-ltb, le-ltb, leb-true}
 use Rattle.std.proofs.lemmas.Bool.Decides.{eqb_tells}
 use Rattle.krb_keytab.specs.Length.{length_of}
 use Rattle.krb_wire.specs.declared.format.Order.{Order}
@@ -21,10 +19,9 @@ use Rattle.krb_walk.specs.Rules.{PutGives}
 use Rattle.krb_walk.specs.Store.{end_of, fault_of}
 use Rattle.krb_keytab.specs.Entry.{EntryParts}
 use Rattle.krb_keytab.specs.Form.{fits, written_form}
-use Rattle.krb_keytab.specs.Hole.{hole_from}
+use Rattle.krb_keytab.specs.Changes.{hole_from, with_last, end_after, first_hole, put_result, takes_none, is_refused}
 use Rattle.krb_keytab.specs.Cells.{Cell, Live, Free, End, Bare, Mark, Damaged, IsCell, IsSound, end_bytes, kind_of}
 use Rattle.krb_keytab.specs.Cells as cells
-use Rattle.krb_keytab.specs.Changes.{with_last, end_after, first_hole, put_result, takes_none, is_refused}
 use Rattle.krb_keytab.specs.Store.{KeytabState, image_of, store_of, end_place}
 use Rattle.krb_indexed.specs.declared.slot.Slot.{Slot}
 use Rattle.krb_indexed.specs.Slot.{free_size, room_of, slots_from, slot_of}
@@ -33,7 +30,7 @@ use Rattle.krb_indexed.specs.Index.{IsIndex, HasSpare}
 use Rattle.krb_indexed.proofs.PlaceLemmas.{slots_len}
 use Rattle.krb_indexed.proofs.ChangeLemmas.{IsKept, image_len, ok_is}
 use Rattle.krb_keytab.proofs.Cuts.{end_place-append}
-use Rattle.krb_keytab.proofs.StoreChanges.{whole_of}
+use Rattle.krb_keytab.proofs.Stores.{whole_of}
 use Rattle.krb_keytab.proofs.Additions.{put_after_all, none_large}
 
 -- ---- the height of a tree with one leaf more

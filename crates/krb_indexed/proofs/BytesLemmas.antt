@@ -1,5 +1,5 @@
 -- The bytes of a record, where the table says that it stands.
-use Rattle.std.proofs.Common.{◌≡◌, ℕ, ◌+◌, ◌≤◌, List, [], ◌∷◌, ◌++◌, length, take, drop, sym, refl, ap, ◌∙◌, arith, append_assoc, length-append}
+use Rattle.std.proofs.Common.{◌≡◌, ℕ, ◌+◌, ◌≤◌, List, [], ◌∷◌, ◌++◌, length, take, drop, sym, refl, ap, ◌∙◌, arith, append_assoc, length-append, subst}
 use Rattle.std.specs.Int.{w32}
 use Rattle.std.specs.List.{flat_map}
 use Rattle.std.proofs.lemmas.Grind.{flat_map-append}
@@ -11,9 +11,8 @@ use Rattle.krb_walk.specs.Store.{live_bytes}
 use Rattle.krb_keytab.specs.Cells.{Live, IsSound, cell, end_bytes}
 use Rattle.krb_keytab.specs.Store.{KeytabState, image_of, store_of, end_place}
 use Rattle.krb_keytab.proofs.Cuts.{end_place_is}
-use Rattle.krb_keytab.proofs.Replaced.{StandsAt}
+use Rattle.krb_keytab.proofs.Replacements.{StandsAt}
 use Rattle.std.specs.Prelude.{Option, IfSome}
-use Rattle.std.proofs.Common.{subst}
 use Rattle.krb_indexed.specs.declared.slot.Slot.{Slot}
 use Rattle.krb_indexed.specs.Slot.{size}
 use Rattle.krb_indexed.specs.Index.{slot_at, IsLiveNumber}

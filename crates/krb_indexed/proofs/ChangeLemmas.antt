@@ -7,24 +7,22 @@ use Rattle.std.proofs.lemmas.Bool.{leb-true}
 use Rattle.std.proofs.lemmas.List.{map-set, length-map, length-set, set-append_left, length-replicate}
 use Rattle.krb_wire.specs.declared.format.KtFormat.{KtFormat}
 use Rattle.krb_wire.specs.Spelling.{order_of}
+use Rattle.krb_wire.proofs.Fields.{some_is}
 use Rattle.krb_walk.specs.Rules.{PutGives}
 use Rattle.krb_walk.specs.Store.{fault_of}
 use Rattle.krb_keytab.specs.Entry.{EntryParts}
 use Rattle.krb_keytab.specs.Form.{fits, written_form}
-use Rattle.krb_keytab.specs.Changes.{put_result}
+use Rattle.krb_keytab.specs.Changes.{put_result, hole_of, PlacedCell, first_hole, is_hole, zero_hole, record_in, with_hole, with_record_in}
 use Rattle.krb_keytab.proofs.Additions.{put_in_hole}
-use Rattle.krb_keytab.specs.Cells.{Cell, Live, Free, End, IsCell, IsSound, cell, end_bytes}
+use Rattle.krb_keytab.specs.Cells.{Cell, Live, Free, End, IsSound, cell, end_bytes}
 use Rattle.krb_keytab.specs.Cells as cells
 use Rattle.krb_keytab.specs.Store.{KeytabState, store_of, image_of, end_place}
 use Rattle.krb_keytab.proofs.Cuts.{end_place_is, end_place-append}
-use Rattle.krb_keytab.proofs.Replaced.{StandsAt, hole_stands}
-use Rattle.krb_keytab.proofs.Replaced.{turned as turned_cells}
-use Rattle.krb_keytab.proofs.Turned.{padded_len}
-use Rattle.krb_keytab.specs.declared.hole.Hole.{Hole}
-use Rattle.krb_keytab.specs.Hole.{hole_of}
-use Rattle.krb_keytab.specs.Changes.{PlacedCell, first_hole, is_hole, zero_hole, record_in, with_hole, with_record_in}
+use Rattle.krb_keytab.proofs.Replacements.{StandsAt, hole_stands, replaced_cells}
+use Rattle.krb_keytab.proofs.ImageChanges.{padded_len}
+use Rattle.krb_keytab.specs.declared.cells.Hole.{Hole}
 use Rattle.krb_indexed.specs.declared.slot.Slot.{Slot}
-use Rattle.krb_indexed.specs.Slot.{free_size, slots_from, slot_of, turned, hole_of_slot}
+use Rattle.krb_indexed.specs.Slot.{free_size, slots_from, slot_of, negated, hole_of_slot}
 use Rattle.krb_indexed.specs.Tree.{SizeTree}
 use Rattle.krb_indexed.specs.Index.{IsIndex, HasSpare, slot_at, IsFit, IsLiveNumber}
 use Rattle.krb_indexed.proofs.PlaceLemmas.{slots_len}
@@ -70,8 +68,8 @@ abbrev pub IsKept : KeytabState → List Slot → ℕ → ℕ → SizeTree → T
 IsKept k slots count room t = IsIndex k slots t × HasSpare k count room t
 
 -- the live cell of a number is made a hole
-pub freed_kept : (k : KeytabState) (slots : List Slot) (t u : SizeTree) (count room number place : ℕ) → IsKept k slots count room t → IsLiveNumber k place number → u.sizes ≡ set t.sizes number (free_size (turned (slot_at k number))) → u.height ≡ t.height → u.room ≡ t.room
-    → IsKept (with_hole k place) (set slots number (turned (slot_at k number))) count room u
+pub freed_kept : (k : KeytabState) (slots : List Slot) (t u : SizeTree) (count room number place : ℕ) → IsKept k slots count room t → IsLiveNumber k place number → u.sizes ≡ set t.sizes number (free_size (negated (slot_at k number))) → u.height ≡ t.height → u.room ≡ t.room
+    → IsKept (with_hole k place) (set slots number (negated (slot_at k number))) count room u
 freed_kept k slots t u count room number place kept h sizes height rooms =
     let l = live_at k number place h in
     let s = l.stands in
@@ -79,8 +77,8 @@ freed_kept k slots t u count room number place kept h sizes height rooms =
     let d = zero_hole old in
     let p = end_place 2 s.front in
     let same : cells.size d ≡ cells.size old = length-replicate {A = ℕ} (length l.bytes) 0 in
-    let cells_are = turned_cells zero_hole k.contents.cells place old s in
-    let slot : turned (slot_at k number) ≡ slot_of (p, d) = ap turned l.slot ∙ ap (λ (n : ℕ). record { place = p; field = 2 ^ 32 - n }) (sym same) in
+    let cells_are = replaced_cells zero_hole k.contents.cells place old s in
+    let slot : negated (slot_at k number) ≡ slot_of (p, d) = ap negated l.slot ∙ ap (λ (n : ℕ). record { place = p; field = 2 ^ 32 - n }) (sym same) in
     let new_sizes : u.sizes ≡ set t.sizes number (free_size (slot_of (p, d))) = sizes ∙ ap (λ (x : Slot). set t.sizes number (free_size x)) slot in
     let index = kept_index k (with_hole k place) slots t u s.front s.back old d number kept.0 s.parts cells_are same l.count new_sizes height in (
       subst (λ (x : Slot). IsIndex (with_hole k place) (set slots number x) u) (sym slot) index,
@@ -91,9 +89,6 @@ freed_kept k slots t u count room number place kept h sizes height rooms =
 
 pub ok_is : {X Y : Type 0} (a b : X) → ◌≡◌ {A = Result X Y} (Ok a) (Ok b) → a ≡ b
 ok_is a b e = cc
-
-some_is : {X : Type 0} (a b : X) → Some a ≡ Some b → a ≡ b
-some_is a b e = cc
 
 pub record HoleOf (k : KeytabState) (need number : ℕ) : Type 0 where
   pub bytes : List ℕ
@@ -124,8 +119,8 @@ hole_length k need number sound fit =
     omega (arith, ap (λ (s : Slot). s.field) h.slot, (stands_sound k (slot_at k number).place (Free h.bytes) sound h.stands).1)
 
 -- the hole of a number takes a record
-pub filled_kept : (k : KeytabState) (slots : List Slot) (t u : SizeTree) (count room number : ℕ) (bytes : List ℕ) → IsSound k.format k.contents → IsKept k slots count room t → IsFit k (length bytes) (Some number) → u.sizes ≡ set t.sizes number (free_size (turned (slot_at k number))) → u.height ≡ t.height → u.room ≡ t.room
-    → IsKept (with_record_in k bytes (slot_at k number).place) (set slots number (turned (slot_at k number))) count room u
+pub filled_kept : (k : KeytabState) (slots : List Slot) (t u : SizeTree) (count room number : ℕ) (bytes : List ℕ) → IsSound k.format k.contents → IsKept k slots count room t → IsFit k (length bytes) (Some number) → u.sizes ≡ set t.sizes number (free_size (negated (slot_at k number))) → u.height ≡ t.height → u.room ≡ t.room
+    → IsKept (with_record_in k bytes (slot_at k number).place) (set slots number (negated (slot_at k number))) count room u
 filled_kept k slots t u count room number bytes sound kept fit sizes height rooms =
     let h = hole_at k (length bytes) number fit in
     let place = (slot_at k number).place in
@@ -135,9 +130,9 @@ filled_kept k slots t u count room number bytes sound kept fit sizes height room
     let p = end_place 2 s.front in
     let small = (stands_sound k place old sound s).1 in
     let same : cells.size d ≡ cells.size old = padded_len bytes (length h.bytes) h.large in
-    let cells_are = turned_cells (record_in bytes) k.contents.cells place old s in
+    let cells_are = replaced_cells (record_in bytes) k.contents.cells place old s in
     let back_again : 2 ^ 32 - (2 ^ 32 - length h.bytes) ≡ cells.size d = omega (arith, small, same) in
-    let slot : turned (slot_at k number) ≡ slot_of (p, d) = ap turned h.slot ∙ ap (λ (n : ℕ). record { place = p; field = n }) back_again in
+    let slot : negated (slot_at k number) ≡ slot_of (p, d) = ap negated h.slot ∙ ap (λ (n : ℕ). record { place = p; field = n }) back_again in
     let new_sizes : u.sizes ≡ set t.sizes number (free_size (slot_of (p, d))) = sizes ∙ ap (λ (x : Slot). set t.sizes number (free_size x)) slot in
     let index = kept_index k (with_record_in k bytes place) slots t u s.front s.back old d number kept.0 s.parts cells_are same h.count new_sizes height in (
       subst (λ (x : Slot). IsIndex (with_record_in k bytes place) (set slots number x) u) (sym slot) index,

@@ -1,17 +1,14 @@
 -- The first hole, by the sizes of the leaves.
 use Rattle.std.proofs.Common.{◌≡◌, ℕ, zero, suc, ◌+◌, ◌-◌, ◌<◌, ◌≤◌, true, false, List, [], ◌∷◌, ◌++◌, length, map, get_or, replicate, Some, None, refl, sym, ap, ◌∙◌, arith, inl, inr}
 use Rattle.std.specs.Prelude.{nat_le, nat_lt, not}
-use Rattle.std.specs.List.{AllByRecursion}
-use Rattle.std.proofs.lemmas.Bool.{le-leb, lt-leb, lt-ltb, leb-true, cases_lt}
+use Rattle.std.specs.List.{AllByRecursion, position_or_len}
+use Rattle.std.proofs.lemmas.Bool.{leb-false, le-leb, lt-leb, lt-ltb, leb-true, cases_lt, not-true}
 use Rattle.std.proofs.lemmas.List.{length-map, length-append, length-replicate, get_or-map, get_or_append_left, get_or-append_right, get_or-replicate, get_or_past}
 use Rattle.std.proofs.lemmas.List.Quantifiers.{position-Some}
 use Rattle.std.proofs.lemmas.List.Sums.{prefix_len_passes}
-use Rattle.std.specs.List.{position_or_len}
-use Rattle.std.proofs.lemmas.Bool.{not-true}
-use Rattle.std.proofs.lemmas.Bool.Decides.{leb_tells}
 use Rattle.krb_wire.specs.declared.format.KtFormat.{KtFormat}
 use Rattle.krb_keytab.specs.Cells.{Cell, Live, Free, IsCell}
-use Rattle.krb_keytab.specs.Hole.{hole_from}
+use Rattle.krb_keytab.specs.Changes.{hole_from}
 use Rattle.krb_indexed.specs.declared.slot.Slot.{Slot}
 use Rattle.krb_indexed.specs.Slot.{free_size, slots_from, hole_of_slot}
 use Rattle.krb_indexed.specs.Tree.{first_fit}
@@ -57,18 +54,12 @@ fits_nowhere f at need (Free b ∷ cs) sound small =
 abbrev pub leaves_of : List Slot → ℕ → List ℕ
 leaves_of slots spare = map free_size slots ++ replicate spare 0
 
-less : (a b : ℕ) → nat_le a b ≡ false → b < a
-less a b h = elim (leb_tells a b) [
-  | inl y ↦ let is = y.0 in absurd (cc (is, h))
-  | inr n ↦ n.1
-]
-
 all_small : (sizes : List ℕ) (need : ℕ) → first_fit need sizes ≡ None → (k : ℕ) → k < length sizes → get_or sizes k 0 < need
 all_small sizes need h k lt =
     let n = position_or_len (λ (m : ℕ). nat_le need m) sizes in
     elim (cases_lt n (length sizes)) [
       | inl inside ↦ let is : nat_lt n (length sizes) ≡ true = lt-ltb n (length sizes) inside in absurd (cc (rw is at h))
-      | inr all ↦ less need (get_or sizes k 0) (not-true _ (prefix_len_passes (λ (m : ℕ). not (nat_le need m)) sizes k 0 (omega arith)))
+      | inr all ↦ leb-false need (get_or sizes k 0) (not-true _ (prefix_len_passes (λ (m : ℕ). not (nat_le need m)) sizes k 0 (omega arith)))
     ]
 
 leaf_is : (slots : List Slot) (spare k : ℕ) → k < length slots → get_or (leaves_of slots spare) k 0 ≡ free_size (get_or slots k none)
@@ -95,7 +86,7 @@ found_hole f need spare cs i some sound found =
       | inl inside ↦ (
         omega (arith, slots_len 2 cs, inside),
         fits_here f 2 need cs i some sound (omega (arith, slots_len 2 cs, inside)) (omega (arith, fits, leaf_is slots spare i inside))
-            (λ k lt. let small = less need (get_or sizes k 0) (is.2 k lt) in omega (arith, small, leaf_is slots spare k (omega arith))),
+            (λ k lt. let small = leb-false need (get_or sizes k 0) (is.2 k lt) in omega (arith, small, leaf_is slots spare k (omega arith))),
       )
       | inr beyond ↦ absurd (omega (arith, some, fits, leaf_beyond slots spare i beyond))
     ]

@@ -5,10 +5,9 @@ use Rattle.std.proofs.lemmas.Bool.{eqb-true, cases_lt}
 use Rattle.std.proofs.lemmas.List.{take_all}
 use Rattle.krb_walk.specs.Store.{end_of, stop_at, is_place, IsPlace}
 use Rattle.krb_keytab.specs.Cells.{IsSound, kind_of}
-use Rattle.krb_keytab.specs.Changes.{PlacedCell, first_hole}
-use Rattle.krb_keytab.specs.Hole.{hole_from, hole_of}
+use Rattle.krb_keytab.specs.Changes.{PlacedCell, first_hole, hole_from, hole_of}
 use Rattle.krb_keytab.specs.Store.{KeytabState, store_of, end_place}
-use Rattle.krb_keytab.specs.declared.hole.Hole.{Hole}
+use Rattle.krb_keytab.specs.declared.cells.Hole.{Hole}
 use Rattle.krb_indexed.specs.declared.slot.Slot.{Slot}
 use Rattle.krb_indexed.specs.Slot.{size, places, slots_from, first_live, stop_of_slot, IsRank}
 use Rattle.krb_indexed.specs.Tree.{SizeTree, first_fit, looks_for, IsHeightFor}

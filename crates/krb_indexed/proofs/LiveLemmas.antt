@@ -6,16 +6,18 @@ use Rattle.std.proofs.Math.ListN.{set}
 use Rattle.std.proofs.Math.Seq.{set-append_seam, get_or-append_seam, drop-cons}
 use Rattle.std.proofs.lemmas.Bool.{cases_lt}
 use Rattle.std.proofs.lemmas.List.{take_at, take_all, append-nil}
+use Rattle.std.proofs.lemmas.List.Elements.{All-from_recursion}
 use Rattle.krb_wire.specs.declared.format.KtFormat.{KtFormat}
+use Rattle.krb_wire.proofs.Fields.{is_some_has}
 use Rattle.krb_walk.specs.Store.{Cell as StoreCell, live_bytes}
 use Rattle.krb_walk.proofs.Stops.{bytes_from}
 use Rattle.krb_walk.proofs.Splits.{bytes_ahead}
 use Rattle.krb_cells.proofs.Cuts.{live_is_place}
-use Rattle.krb_keytab.specs.Cells.{Cell, Live, Free, End, IsCell, IsSound, cell, end_bytes}
+use Rattle.krb_keytab.specs.Cells.{Cell, Live, Free, IsCell, IsSound, cell}
 use Rattle.krb_keytab.specs.Cells as cells
 use Rattle.krb_keytab.specs.Store.{KeytabState, store_of, store_cell, end_place}
 use Rattle.krb_keytab.proofs.Cuts.{live_there, store_sound}
-use Rattle.krb_keytab.proofs.Replaced.{StandsAt, live_stands, stands_sound as sound_there}
+use Rattle.krb_keytab.proofs.Replacements.{StandsAt, live_stands, stands_sound as sound_there}
 use Rattle.krb_indexed.specs.declared.slot.Slot.{Slot}
 use Rattle.krb_indexed.specs.Slot.{is_free, slots_from, slot_of, places, IsRank}
 use Rattle.krb_indexed.specs.Index.{slot_at, IsLiveNumber}
@@ -69,10 +71,6 @@ pub none_of : (o : Option (List ℕ)) → (IsSome o → ⊥) → o ≡ None
 none_of None h = refl
 none_of (Some b) h = absurd (h refl)
 
-bytes_of_live : (o : Option (List ℕ)) → IsSome o → (b : List ℕ) × (o ≡ Some b)
-bytes_of_live (Some b) h = (b, refl)
-bytes_of_live None h = absurd cc
-
 free_none : (f : KtFormat) (c : Cell) (p : ℕ) → IsCell f c → is_free (slot_of (p, c)) ≡ true → (store_cell c).live ≡ None
 free_none f (Free b) p sound h = refl
 free_none f (Live b) p sound h = let no = live_slot p b (sound.0, sound.1) in absurd (cc (no, h))
@@ -87,10 +85,8 @@ slot_is at [] i d e lt = absurd (omega arith)
 slot_is at (c ∷ cs) zero d e lt = refl
 slot_is at (c ∷ cs) (suc i) d e lt = slot_is (at + (4 + cells.size c)) cs i d e (omega arith)
 
-pub sound_at : (f : KtFormat) (cs : List Cell) (i : ℕ) (d : Cell) → AllByRecursion (IsCell f) cs → i < length cs → IsCell f (get_or cs i d)
-sound_at f [] i d all lt = absurd (omega arith)
-sound_at f (c ∷ cs) zero d all lt = all.0
-sound_at f (c ∷ cs) (suc i) d all lt = sound_at f cs i d all.1 (omega arith)
+sound_at : (f : KtFormat) (cs : List Cell) (i : ℕ) (d : Cell) → AllByRecursion (IsCell f) cs → i < length cs → IsCell f (get_or cs i d)
+sound_at f cs i d all lt = All-from_recursion (IsCell f) cs all i d lt
 
 -- a live cell stands at a place that is one
 live_here : (k : KeytabState) (p rank : ℕ) → IsRank (places (slots_from 2 k.contents.cells)) p rank → IsSome (live_bytes (store_of k) p) → p ≡ end_place 2 (take rank k.contents.cells)
@@ -142,7 +138,7 @@ pub record LiveAt (k : KeytabState) (number place : ℕ) : Type 0 where
 pub live_at : (k : KeytabState) (number place : ℕ) → IsLiveNumber k place number → LiveAt k number place
 live_at k number place h =
     let cs = k.contents.cells in
-    let b = bytes_of_live (live_bytes (store_of k) place) h.live in
+    let b = is_some_has (live_bytes (store_of k) place) h.live in
     let s = live_stands cs 2 place b.0 b.1 in
     let count = number_is cs s.front (Live b.0 ∷ s.back) number s.parts h.inside (sym s.place ∙ sym h.place ∙ slot_place k number h.inside) in
     record { bytes = b.0; stands = s; count = count; slot = ap (slot_at k) (sym count) ∙ slot_seam k s.front s.back (Live b.0) s.parts; is = b.1 }

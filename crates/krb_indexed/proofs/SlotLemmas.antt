@@ -1,9 +1,8 @@
 -- The table of cells.
-use Rattle.std.proofs.Common.{◌≡◌, ℕ, suc, ◌<◌, ◌≤◌, true, false, List, length, get_or, sym, subst, arith, inl, inr}
+use Rattle.std.proofs.Common.{◌≡◌, ℕ, ◌<◌, ◌≤◌, true, false, List, length, get_or, sym, subst, arith, inl, inr}
 use Rattle.std.specs.Prelude.{nat_lt, slice_index}
 use Rattle.std.specs.List.Sorted.{IsPartitionedBy, IsPartitionPoint}
-use Rattle.std.proofs.lemmas.Bool.{cases_lt, lt-ltb, ltb-true}
-use Rattle.std.proofs.lemmas.Bool.Decides.{leb_tells}
+use Rattle.std.proofs.lemmas.Bool.{cases_lt, lt-ltb, ltb-true, ltb-false}
 use Rattle.std.proofs.lemmas.List.{length-map, get_or-map}
 use Rattle.krb_indexed.specs.declared.slot.Slot.{Slot}
 use Rattle.krb_indexed.specs.Slot.{places, IsRising, IsRank}
@@ -25,12 +24,6 @@ partitioned_by_place slots p rising i j d le lt h =
 none : Slot
 none = record { place = 0; field = 0 }
 
-not_below : (a b : ℕ) → nat_lt a b ≡ false → b ≤ a
-not_below a b h = elim (leb_tells (suc a) b) [
-  | inl y ↦ let yes = y.0 in absurd (cc (yes, h))
-  | inr n ↦ let m = n.1 in omega (arith, m)
-]
-
 -- the partition point is the rank
 pub is_rank : (slots : List Slot) (p rank : ℕ) → rank ≤ length slots → IsPartitionPoint (λ (s : Slot). nat_lt s.place p ≡ true) (λ (s : Slot). nat_lt s.place p ≡ false) slots rank → IsRank (places slots) p rank
 is_rank slots p rank bound point =
@@ -38,5 +31,5 @@ is_rank slots p rank bound point =
     record {
       within = omega (arith, len);
       below = λ i lt. let yes = ltb-true _ _ (point.0 i none (omega arith) lt) in omega (arith, yes, place_at slots i none (omega arith));
-      rest = λ i le lt. let no = not_below _ _ (point.1 i none le (omega (arith, len, lt))) in omega (arith, no, place_at slots i none (omega (arith, len, lt)));
+      rest = λ i le lt. let no = ltb-false _ _ (point.1 i none le (omega (arith, len, lt))) in omega (arith, no, place_at slots i none (omega (arith, len, lt)));
     }

@@ -1,8 +1,7 @@
 -- A table of a keytab's cells, and a tree over what may be taken in each.
 use Rattle.std.specs.Prelude.{◌≡◌, ℕ, ◌+◌, ◌-◌, ◌^◌, ◌<◌, List, ◌++◌, length, map, max, replicate, slice_index_or, Option, Some, None, option_map, IsSome}
 use Rattle.krb_walk.specs.Store.{live_bytes}
-use Rattle.krb_keytab.specs.Changes.{first_hole}
-use Rattle.krb_keytab.specs.Hole.{hole_from}
+use Rattle.krb_keytab.specs.Changes.{first_hole, hole_from}
 use Rattle.krb_keytab.specs.Store.{KeytabState, image_of, store_of, end_place}
 use Rattle.krb_indexed.specs.declared.slot.Slot.{Slot}
 use Rattle.krb_indexed.specs.Slot.{slots_from, free_size, hole_of_slot}

@@ -5,19 +5,19 @@ use Rattle.std.specs.Prelude.{◌≡◌, ◌≢◌, ℕ, ◌+◌, ◌*◌, ◌^�
 abbrev pub IsNode : List ℕ → ℕ → Type 0
 IsNode nodes i = slice_index nodes i ≡ max (slice_index nodes (2 * i)) (slice_index nodes (2 * i + 1))
 
--- so has each node over so many leaves but perhaps one
+-- so has each node over this many leaves but perhaps one
 abbrev pub AreNodesBut : ℕ → ℕ → List ℕ → Type 0
 AreNodesBut but leaves nodes = (i : ℕ) → 0 < i → i < leaves → i ≢ but → IsNode nodes i
 
--- so has each node over so many leaves from one on
+-- so has each node over this many leaves from one on
 abbrev pub AreNodesFrom : ℕ → ℕ → List ℕ → Type 0
 AreNodesFrom first leaves nodes = (i : ℕ) → first ≤ i → i < leaves → IsNode nodes i
 
--- so has each node over so many leaves
+-- so has each node over this many leaves
 abbrev pub AreNodes : ℕ → List ℕ → Type 0
 AreNodes leaves nodes = AreNodesFrom 1 leaves nodes
 
--- a tree of so many levels over its leaves
+-- a tree of this many levels over its leaves
 pub record IsTree (height : ℕ) (nodes : List ℕ) : Type 0 where
   pub len : length nodes ≡ 2 * 2 ^ height
   pub low : height ≤ 30
@@ -27,7 +27,7 @@ pub record IsTree (height : ℕ) (nodes : List ℕ) : Type 0 where
 abbrev pub child_with : ℕ → ℕ → List ℕ → ℕ
 child_with need i nodes = if nat_le need (slice_index nodes (2 * i)) then 2 * i else 2 * i + 1
 
--- after so many levels a descent stands at a node of the next: a leaf under it is large enough, and no leaf before those under it is
+-- after this many levels a descent stands at a node of the next: a leaf under it is large enough, and no leaf before those under it is
 pub record Descends (height : ℕ) (nodes : List ℕ) (need level node : ℕ) : Type 0 where
   pub low : level ≤ height
   pub from : 2 ^ level ≤ node

@@ -4,7 +4,7 @@ use Rattle.krb_walk.specs.declared.fault.FaultKind.{FaultKind}
 use Rattle.krb_walk.specs.declared.stop.Stop.{Stop}
 use Rattle.krb_walk.specs.declared.stop.Stop.TheVariants.{Live as Live_at}
 use Rattle.krb_walk.specs.Store.{end_stop}
-use Rattle.krb_keytab.specs.declared.hole.Hole.{Hole}
+use Rattle.krb_keytab.specs.declared.cells.Hole.{Hole}
 use Rattle.krb_keytab.specs.declared.length.Length.{Length}
 use Rattle.krb_keytab.specs.declared.length.Length.TheVariants as says
 use Rattle.krb_keytab.specs.Length.{length_of, size_of}
@@ -37,8 +37,8 @@ abbrev pub free_size : Slot → ℕ
 free_size s = room_of (length_of s.field)
 
 -- the cell is live if it was free, and free if it was live
-abbrev pub turned : Slot → Slot
-turned s = record { place = s.place; field = 2 ^ 32 - s.field }
+abbrev pub negated : Slot → Slot
+negated s = record { place = s.place; field = 2 ^ 32 - s.field }
 
 -- what is known of a cell that stands at a place
 abbrev pub slot_of : PlacedCell → Slot
@@ -56,7 +56,7 @@ places slots = map (λ s. s.place) slots
 abbrev pub IsRising : List ℕ → Type 0
 IsRising xs = (i j : ℕ) → i < j → j < length xs → slice_index xs i < slice_index xs j
 
--- so many of the numbers are less than one, and the others are not
+-- this many of the numbers are less than one, and the others are not
 pub record IsRank (xs : List ℕ) (p rank : ℕ) : Type 0 where
   pub within : rank ≤ length xs
   pub below : (i : ℕ) → i < rank → slice_index xs i < p

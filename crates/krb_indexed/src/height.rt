@@ -10,7 +10,7 @@ pub struct Height {
     pub leaves: usize,
 }
 
-/// The least height with so many leaves: their number is a power of two.
+/// The least height with this many leaves: their number is a power of two.
 pub fn height_for(count: usize) -> Height
     requires { count ≤ 2 ^ 30 }
     ensures least { IsHeightFor count result.levels }

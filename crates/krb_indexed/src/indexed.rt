@@ -1,8 +1,8 @@
 //! Keytabs with a table of their cells.
 
 mod changes;
-mod finding;
-mod rewriting;
+mod find;
+mod rewrite;
 
 ghost use Rattle.std.specs.Prelude.{◌≡◌, IsSome, IfOk, IfErr, IfSome, IfNone, ℕ, Some, None, ◌+◌, ◌<◌, ◌≤◌, length, take, vec_capacity};
 ghost use Rattle.krb_wire.specs.Reading.{Gives};
@@ -127,6 +127,13 @@ impl<A: Allocator> Indexed<A> {
         self.keytab.fault()
     }
 
+    // How many cells it has.
+    fn count(&self) -> usize
+        ensures { result ≡ length self.now.state.contents.cells }
+    {
+        self.keytab.cell_count() as usize
+    }
+
     // What is known of the cell of a number.
     fn slot(&self, number: usize) -> Slot
         requires { number < length self.now.state.contents.cells }
@@ -135,12 +142,13 @@ impl<A: Allocator> Indexed<A> {
         self.slots[number]
     }
 
-    // The place after so many cells.
+    // The place after this many cells.
+    #[tactic(auto, using(crate::proofs::IndexLemmas::slot_place, crate::proofs::IndexLemmas::end_by_table))]
     fn place_of(&self, rank: usize) -> u32
         requires { rank ≤ length self.now.state.contents.cells }
         ensures { result ≡ end_place 2 (take rank self.now.state.contents.cells) }
     {
-        if rank < self.slots.len() {
+        if rank < self.count() {
             return self.slot(rank).place;
         }
         self.end()
@@ -155,6 +163,7 @@ impl<A: Allocator> Indexed<A> {
     }
 
     // How many cells stand before a place.
+    #[tactic(auto, using(crate::proofs::PlaceLemmas::places_rise))]
     fn rank(&self, place: u32) -> usize
         ensures { IsRank (places (slots_from 2 self.now.state.contents.cells)) place result }
     {
@@ -191,7 +200,7 @@ impl<A: Allocator> Indexed<A> {
         }
     }
 
-    // The first hole of at least so many bytes, by its number among the cells, and the looks for it.
+    // The first hole of at least this many bytes, by its number among the cells, and the looks for it.
     fn fit(&self, need: u32) -> (Option<usize>, u32)
         requires { 0 < need }
         ensures fit { IsFit self.now.state need result.0 }
@@ -202,7 +211,7 @@ impl<A: Allocator> Indexed<A> {
         self.tree.first_fit(need)
     }
 
-    /// The place of the first hole of at least so many bytes, and how many nodes of the tree were looked at to
+    /// The place of the first hole of at least this many bytes, and how many nodes of the tree were looked at to
     /// find it. A need of 0 asks what a need of 1 asks.
     pub fn first_fit(&self, need: u32) -> (Option<u32>, u32)
         ensures first { result.0 ≡ fit_of self.now.state need }
@@ -223,7 +232,7 @@ impl<A: Allocator> Indexed<A> {
     {
         let _ = self.image();
         let number = self.rank(place);
-        if number >= self.slots.len() {
+        if number >= self.count() {
             return None;
         }
         let slot = self.slot(number);
@@ -236,17 +245,26 @@ impl<A: Allocator> Indexed<A> {
         Some(number)
     }
 
+    // The bytes of the record of a number, at a place.
+    fn bytes_of(&self, number: usize, place: u32) -> &[u8]
+        requires { IsLiveNumber self.now.state place number }
+        ensures { live_bytes (store_of self.now.state) place ≡ Some result.now }
+    {
+        record_bytes(self.image(), place, self.slot(number).size())
+    }
+
     /// The bytes of the record at a place, after its length: an entry, and what is after it.
+    #[tactic(auto, using(krb_keytab::proofs::Stores::entry_held))]
     pub fn bytes_at(&self, place: u32) -> &[u8]
         requires { IsSome (live_bytes (store_of self.now.state) place) }
         ensures bytes { live_bytes (store_of self.now.state) place ≡ Some result.now }
         ensures entry { IsSome (entry_at self.now.state.format result.now) }
     {
-        let image = self.image();
+        let _ = self.image();
         let Some(number) = self.live(place) else {
             return &[];
         };
-        record_bytes(image, place, self.slot(number).size())
+        self.bytes_of(number, place)
     }
 
     /// The entry of the record at a place: none exactly where no live cell stands.

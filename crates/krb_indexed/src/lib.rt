@@ -1,8 +1,8 @@
 //! A keytab with a table of its cells, and a tree that finds the first hole.
 #![tactic(auto)]
 
-mod grow;
 mod height;
+mod index;
 mod indexed;
 mod nodes;
 mod placed;
@@ -11,6 +11,5 @@ mod table;
 #[cfg(test)]
 mod tests;
 mod tree;
-mod turn;
 
 pub use indexed::Indexed;

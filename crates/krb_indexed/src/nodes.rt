@@ -1,6 +1,6 @@
 //! The nodes of a tree, in one row: each has the greater of its two children.
 
-ghost use Rattle.std.specs.Prelude.{◌≡◌, ◌<◌, ◌≤◌, ◌+◌, ◌-◌, ◌*◌, ◌/◌, ◌^◌, length, drop, max, slice_index, slice_set};
+ghost use Rattle.std.specs.Prelude.{◌≡◌, ◌<◌, ◌+◌, ◌-◌, ◌*◌, ◌/◌, ◌^◌, length, drop, max, slice_index, slice_set};
 ghost use Rattle.krb_indexed.specs.Nodes.{AreNodes, AreNodesBut, IsTree, child_with};
 ghost use Rattle.krb_indexed.specs.Tree.{first_fit, looks_for};
 
@@ -26,7 +26,7 @@ fn greater_child(nodes: &[u32], node: usize) -> u32
     left.max(right)
 }
 
-// Makes the nodes over one anew, up to the root.
+// Computes the nodes over one again, up to the root.
 fn raise(nodes: &mut [u32], leaves: usize, node: usize)
     requires len { length nodes.old ≡ 2 * leaves }
     requires above { 0 < node }
@@ -43,7 +43,7 @@ fn raise(nodes: &mut [u32], leaves: usize, node: usize)
     }
 }
 
-/// Makes all nodes over the leaves anew.
+/// Computes all nodes over the leaves.
 pub fn raise_all(nodes: &mut [u32], leaves: usize)
     requires len { length nodes.old ≡ 2 * leaves }
     requires some { 0 < leaves }

@@ -45,6 +45,7 @@ impl<A: Allocator + Copy> Placed for Indexed<A> {
         self.add(item)
     }
 
+    #[tactic(auto, using(krb_keytab::proofs::StoreChanges::removal_cuts))]
     fn cut(&mut self, place: u32) -> Result<(), Code> {
         self.remove_at(place)
     }

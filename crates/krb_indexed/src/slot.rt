@@ -1,12 +1,12 @@
 //! What a table knows of one cell.
 
-ghost use Rattle.std.specs.Prelude.{◌≡◌, ◌<◌, ◌≤◌, ◌^◌};
-ghost use Rattle.krb_indexed.specs.Slot.{free_size, is_free, size, slot_of, turned};
+ghost use Rattle.std.specs.Prelude.{◌≡◌, ◌<◌, ◌^◌};
+ghost use Rattle.krb_indexed.specs.Slot.{free_size, is_free, size, slot_of, negated};
 ghost use Rattle.krb_keytab.specs.Length.{length_of, HasField};
 ghost use Rattle.krb_keytab.specs.Cells.{length_of_cell};
-ghost use Rattle.krb_keytab.specs.CellView.{cell_of};
+ghost use Rattle.krb_keytab.specs.CellViews.{cell_of};
 
-use krb_keytab::{CellView, Length};
+use krb_keytab::{KtCell, Length};
 
 /// The place of a cell, and the field of its length.
 #[derive(Clone, Copy, Debug, PartialEq, Eq)]
@@ -17,14 +17,14 @@ pub struct Slot {
 
 impl Slot {
     /// What is known of a cell at a place.
-    pub fn of(place: usize, cell: CellView<'_>) -> Slot
+    pub fn of(place: usize, cell: KtCell<'_>) -> Slot
         requires place { place < 2 ^ 32 }
         requires cell { HasField (length_of_cell (cell_of cell)) }
         ensures { result ≡ slot_of (place, cell_of cell.entry) }
     {
         let length = match cell {
-            CellView::Live(bytes) => Length::Live(bytes.len() as u32),
-            CellView::Free(bytes) => Length::Free(bytes.len() as u32),
+            KtCell::Live(bytes) => Length::Live(bytes.len() as u32),
+            KtCell::Free(bytes) => Length::Free(bytes.len() as u32),
         };
         Slot {
             place: place as u32,
@@ -67,9 +67,9 @@ impl Slot {
     }
 
     /// The same, where its cell is live if it was free, and free if it was live.
-    pub fn turned(self) -> Slot
+    pub fn negated(self) -> Slot
         requires { 0 < self.field }
-        ensures { result ≡ turned self }
+        ensures { result ≡ negated self }
     {
         Slot {
             place: self.place,

@@ -4,12 +4,12 @@ ghost use Rattle.std.specs.Prelude.{◌≡◌, ◌<◌, ◌≤◌, ◌+◌, ◌^
 ghost use Rattle.krb_indexed.specs.Slot.{first_live, slots_from, places, IsRising, IsRank};
 
 use crate::slot::Slot;
-use krb_keytab::{CellView, Keytab};
+use krb_keytab::Keytab;
 use krb_wire::NoMemory;
 use std::alloc::Allocator;
 
-// Fills an empty table with a keytab's cells, for which there is room.
-fn fill<A: Allocator, B: Allocator>(slots: &mut Vec<Slot, A>, keytab: &Keytab<B>)
+// Pushes a slot for each cell of a keytab into an empty table, for which there is room.
+fn push_slots<A: Allocator, B: Allocator>(slots: &mut Vec<Slot, A>, keytab: &Keytab<B>)
     requires empty { slots.old.items ≡ [] }
     requires room { length keytab.now.state.contents.cells ≤ vec_capacity slots.old }
     ensures slots { slots.new.items ≡ slots_from 2 keytab.now.state.contents.cells }
@@ -32,7 +32,7 @@ pub fn table_of<A: Allocator, B: Allocator>(
 {
     let count = keytab.cell_count() as usize;
     let mut slots = Vec::with_capacity(alloc, count + 1)?;
-    fill(&mut slots, keytab);
+    push_slots(&mut slots, keytab);
     Ok(slots)
 }
 

@@ -37,7 +37,7 @@ impl<A: Allocator> Model for Tree<A> {
 }
 
 // Gives the leaves what may be taken in each cell, and makes the nodes over them.
-fn fill(nodes: &mut [u32], leaves: usize, slots: &[Slot])
+fn put_leaves(nodes: &mut [u32], leaves: usize, slots: &[Slot])
     requires len { length nodes.old ≡ 2 * leaves }
     requires some { 0 < leaves }
     requires fits { length slots.now ≤ leaves }
@@ -59,7 +59,7 @@ fn put_sizes(sizes: &mut [u32], slots: &[Slot])
     }
 }
 
-// Puts so many zeros into an empty vector, for which there is room.
+// Puts this many zeros into an empty vector, for which there is room.
 fn make_zeros<A: Allocator>(nodes: &mut Vec<u32, A>, len: usize)
     requires empty { nodes.old.items ≡ [] }
     requires room { len ≤ vec_capacity nodes.old }
@@ -106,7 +106,7 @@ impl<A: Allocator> Tree<A> {
         let more = height_for(slots.len() + 1);
         let mut nodes = Vec::with_capacity(alloc, 2 * more.leaves)?;
         make_zeros(&mut nodes, 2 * height.leaves);
-        fill(&mut nodes, height.leaves, slots);
+        put_leaves(&mut nodes, height.leaves, slots);
         Ok(Tree {
             nodes,
             height: height.levels,
@@ -142,7 +142,7 @@ impl<A: Allocator> Tree<A> {
         put_leaf(&mut self.nodes, leaves, leaf, size);
     }
 
-    /// Takes room for so many sizes.
+    /// Takes room for this many sizes.
     pub fn reserve(&mut self, count: usize) -> Result<(), AllocError>
         requires { count ≤ 2 ^ 30 }
         ensures sizes { self.new.sizes ≡ self.old.sizes }

@@ -7,33 +7,26 @@ use Rattle.std.proofs.lemmas.List.{length-replicate}
 use Rattle.krb_wire.specs.declared.format.KtFormat.{KtFormat}
 use Rattle.krb_wire.specs.Spelling.{order_of}
 use Rattle.krb_wire.proofs.Fields.{some_is}
-use Rattle.krb_walk.specs.declared.fault.FaultKind.{FaultKind}
 use Rattle.krb_walk.specs.declared.refusal.Code.TheVariants as code
 use Rattle.krb_walk.specs.declared.refusal.Refusal.{Refusal}
 use Rattle.krb_walk.specs.declared.refusal.Refusal.TheVariants.{Code as ByCode, NoMemory}
 use Rattle.krb_walk.specs.Rules.{PutGives}
 use Rattle.krb_walk.specs.Memory.{HadMemory}
-use Rattle.krb_walk.specs.Store.{end_of, fault_from, fault_of}
+use Rattle.krb_walk.specs.Store.{end_of, fault_of}
 use Rattle.krb_keytab.specs.declared.image.CellsEnd.{CellsEnd}
-use Rattle.krb_keytab.specs.declared.hole.Hole.{Hole}
+use Rattle.krb_keytab.specs.declared.cells.Hole.{Hole}
 use Rattle.krb_keytab.specs.Entry.{EntryParts}
 use Rattle.krb_keytab.specs.Cells.{Live, Contents, cell, end_bytes, contents, image, kind_of}
-use Rattle.krb_keytab.specs.Step.{ends}
-use Rattle.krb_keytab.specs.Image.{IsKnownEnd, mark_len, len_with}
+use Rattle.krb_keytab.specs.Image.{ends, IsKnownEnd, mark_len, len_with}
 use Rattle.krb_keytab.specs.Store.{KeytabState, InMemory, image_of, store_of, end_place}
 use Rattle.krb_keytab.specs.Form.{fits, written_form}
-use Rattle.krb_keytab.specs.Changes.{PlacedCell, first_hole, with_record_in, with_last, end_after, append_result, put_result_into, put_bytes_result, put_result, is_refused, takes_none}
-use Rattle.krb_keytab.specs.Hole.{hole_of, hole_from}
+use Rattle.krb_keytab.specs.Changes.{PlacedCell, first_hole, with_record_in, with_last, end_after, append_result, put_result_into, put_bytes_result, put_result, is_refused, takes_none, hole_of, hole_from}
 use Rattle.krb_keytab.specs.Append.{AnswersAppend, KeepsRoom}
 use Rattle.krb_keytab.proofs.Cuts.{end_place_is, end_place-append}
-use Rattle.krb_keytab.proofs.Stores.{keytab_of, end_held}
-use Rattle.krb_keytab.proofs.Appended.{zeros_after}
+use Rattle.krb_keytab.proofs.Stores.{keytab_of, end_held, whole_of}
+use Rattle.krb_keytab.proofs.AppendLemmas.{zeros_after}
 
 -- ---- after the cells
-
-none_from : (place : ℕ) (kind : Option FaultKind) → fault_from place kind ≡ None → kind ≡ None
-none_from place None h = refl
-none_from place (Some kind) h = absurd cc
 
 -- how long the image is with one record more
 last_len : (f : KtFormat) (limit : ℕ) (bytes x : List ℕ) (e : CellsEnd) → IsKnownEnd f bytes e → kind_of (contents f (drop 2 bytes)).end ≡ None → length (image_of (with_last (keytab_of f limit bytes) x)) ≡ len_with e (length x)
@@ -58,7 +51,7 @@ pub appends : (f : KtFormat) (limit : ℕ) (bytes x : List ℕ) (k : KeytabState
 appends f limit bytes x k e n need known is whole len is_need = record {
   known = known;
   is = is;
-  whole = none_from (end_of (store_of (keytab_of f limit bytes))) (kind_of (contents f (drop 2 bytes)).end) (ap (λ (y : KeytabState). fault_of (store_of y)) is ∙ whole);
+  whole = whole_of (end_of (store_of (keytab_of f limit bytes))) (kind_of (contents f (drop 2 bytes)).end) (ap (λ (y : KeytabState). is_some (fault_of (store_of y))) is ∙ ap is_some whole);
   len = len ∙ ap (len_with e) is_need;
 }
 

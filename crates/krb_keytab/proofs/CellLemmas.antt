@@ -38,54 +38,46 @@ abbrev pub IsNext : KtFormat → List ℕ → NextCell Cell End → Type 0
 IsNext f bytes (More c after) = TakesCell f bytes c after
 IsNext f bytes (NoMore e) = IsAtEnd f bytes e
 
+-- a length, and the bytes of its cell after it
+taken : (f : KtFormat) (bytes rest : List ℕ) (c : Cell) (n m : ℕ) → Takes bytes (digits (order_of f) w32 m) rest → bytes_of c ≡ take n rest → m ≡ length_field c → IsCell f c → TakesCell f bytes c (drop n rest)
+taken f bytes rest c n m t is field sound =
+    let o = order_of f in
+    let second : Takes rest (bytes_of c) (drop n rest) = record { parts = sym (ap (λ (b : List ℕ). b ++ drop n rest) is ∙ take-append-drop n rest); rest_fits = IsBytes-drop n rest t.rest_fits } in
+    record { takes = Takes-then bytes (digits o w32 (length_field c)) rest (bytes_of c) (drop n rest) (subst (λ (k : ℕ). Takes bytes (digits o w32 k) rest) field t) second; sound = sound }
+
 live_taken : (f : KtFormat) (bytes : List ℕ) (n : ℕ) (rest : List ℕ) → Takes bytes (digits (order_of f) w32 n) rest → HasField (says.Live n) → n ≤ length rest → is_some (entry_at f (take n rest)) ≡ true
     → TakesCell f bytes (Live (take n rest)) (drop n rest)
 live_taken f bytes n rest t has long entry =
-    let o = order_of f in
     let len : length (take n rest) ≡ n = omega (arith, length-take n rest) in
-    let second : Takes rest (take n rest) (drop n rest) = record { parts = sym (take-append-drop n rest); rest_fits = IsBytes-drop n rest t.rest_fits } in
-    let both = Takes-then bytes (digits o w32 n) rest (take n rest) (drop n rest) t second in
-    record {
-      takes = subst (λ (k : ℕ). Takes bytes (digits o w32 k ++ take n rest) (drop n rest)) (sym len) both;
-      sound = (omega (arith, len, has.0), omega (arith, len, has.1), entry);
-    }
+    taken f bytes rest (Live (take n rest)) n n t refl (sym len) (omega (arith, len, has.0), omega (arith, len, has.1), entry)
 
 free_taken : (f : KtFormat) (bytes : List ℕ) (n : ℕ) (rest : List ℕ) → Takes bytes (digits (order_of f) w32 (2 ^ 32 - n)) rest → HasField (says.Free n) → n ≤ length rest → TakesCell f bytes (Free (take n rest)) (drop n rest)
 free_taken f bytes n rest t has long =
-    let o = order_of f in
     let len : length (take n rest) ≡ n = omega (arith, length-take n rest) in
-    let second : Takes rest (take n rest) (drop n rest) = record { parts = sym (take-append-drop n rest); rest_fits = IsBytes-drop n rest t.rest_fits } in
-    let both = Takes-then bytes (digits o w32 (2 ^ 32 - n)) rest (take n rest) (drop n rest) t second in
-    record {
-      takes = subst (λ (k : ℕ). Takes bytes (digits o w32 (2 ^ 32 - k) ++ take n rest) (drop n rest)) (sym len) both;
-      sound = (omega (arith, len, has.0), omega (arith, len, has.1));
-    }
-
-pub along : {A : Type 0} (P : A → Type 0) {x y : A} → x ≡ y → P x → P y
-along P e p = subst P e p
+    taken f bytes rest (Free (take n rest)) n (2 ^ 32 - n) t refl (ap (λ (k : ℕ). 2 ^ 32 - k) (sym len)) (omega (arith, len, has.0), omega (arith, len, has.1))
 
 told_is : (f : KtFormat) (bytes rest : List ℕ) (l : Length) (s : NextCell Cell End) → next f bytes ≡ s → Takes bytes (digits (order_of f) w32 (field_of l)) rest → HasField l → next_of_length f bytes rest l ≡ s → IsNext f bytes s
-told_is f bytes rest says.End s whole t has e = along (IsNext f bytes) e (record { parts = t.parts; sound = tt })
+told_is f bytes rest says.End s whole t has e = subst (IsNext f bytes) e (record { parts = t.parts; sound = tt })
 told_is f bytes rest (says.Live n) s whole t has e =
     let P = IsNext f bytes in
     elim (chosen (ltb (length rest) n) _ _ s e) [
-      | inl q ↦ along P q.1 (record { parts = refl; sound = whole ∙ sym q.1 })
+      | inl q ↦ subst P q.1 (record { parts = refl; sound = whole ∙ sym q.1 })
       | inr q ↦
           elim (chosen (is_some (entry_at f (take n rest))) _ _ s q.1) [
-            | inl r ↦ along P r.1 (live_taken f bytes n rest t has (ltb-false _ _ q.0) r.0)
-            | inr r ↦ along P r.1 (record { parts = refl; sound = whole ∙ sym r.1 })
+            | inl r ↦ subst P r.1 (live_taken f bytes n rest t has (ltb-false _ _ q.0) r.0)
+            | inr r ↦ subst P r.1 (record { parts = refl; sound = whole ∙ sym r.1 })
           ]
     ]
 told_is f bytes rest (says.Free n) s whole t has e =
     let P = IsNext f bytes in
     elim (chosen (ltb (length rest) n) _ _ s e) [
-      | inl q ↦ along P q.1 (record { parts = refl; sound = whole ∙ sym q.1 })
-      | inr q ↦ along P q.1 (free_taken f bytes n rest t has (ltb-false _ _ q.0))
+      | inl q ↦ subst P q.1 (record { parts = refl; sound = whole ∙ sym q.1 })
+      | inr q ↦ subst P q.1 (free_taken f bytes n rest t has (ltb-false _ _ q.0))
     ]
 
 short_is : (f : KtFormat) (bytes : List ℕ) (s : NextCell Cell End) → next f bytes ≡ s → NoMore (short_end bytes) ≡ s → IsNext f bytes s
-short_is f [] s whole e = along (IsNext f []) e (record { parts = refl; sound = tt })
-short_is f (b ∷ bs) s whole e = along (IsNext f (b ∷ bs)) e (record { parts = refl; sound = whole ∙ sym e })
+short_is f [] s whole e = subst (IsNext f []) e (record { parts = refl; sound = tt })
+short_is f (b ∷ bs) s whole e = subst (IsNext f (b ∷ bs)) e (record { parts = refl; sound = whole ∙ sym e })
 
 next_by_is : (f : KtFormat) (bytes : List ℕ) (s : NextCell Cell End) (read : Option (ℕ × List ℕ)) → IsBytes bytes → next f bytes ≡ s → number_at (order_of f) w32 bytes ≡ read → next_by f bytes read ≡ s → IsNext f bytes s
 next_by_is f bytes s None fits whole got e = short_is f bytes s whole e
@@ -167,7 +159,7 @@ pub contents_next : (f : KtFormat) (bytes : List ℕ) (s : NextCell Cell End) �
 unfolding contents
 contents_next f bytes s fits e = next_of_contents (keytab_format f) bytes s (keytab_is f) fits e
 
-IsBytes-back : (a b : List ℕ) → IsBytes (a ++ b) → IsBytes b
+pub IsBytes-back : (a b : List ℕ) → IsBytes (a ++ b) → IsBytes b
 IsBytes-back a b fits = subst IsBytes (drop_at a b (length a) refl) (IsBytes-drop (length a) (a ++ b) fits)
 
 -- cells that are read are sound

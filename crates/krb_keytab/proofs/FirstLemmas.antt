@@ -12,7 +12,7 @@ use Rattle.krb_walk.specs.Contents.{More}
 use Rattle.krb_keytab.specs.declared.length.Length.{Length}
 use Rattle.krb_keytab.specs.Length.{length_of, size_of}
 use Rattle.krb_keytab.specs.Cells.{Cell, Contents, bytes_of, length_of_cell, length_field, cell, cell_in, end_bytes, next, contents, IsCell, IsSpelled, size}
-use Rattle.krb_keytab.specs.CellsFrom.{IsCellOrNothing, IsFirst}
+use Rattle.krb_keytab.specs.CellViews.{IsCellOrNothing, IsFirst}
 use Rattle.krb_keytab.proofs.CellLemmas.{contents_next, contents_spelled, cell_again, field_again}
 use Rattle.krb_keytab.proofs.Cuts.{cell_len}
 use Rattle.krb_keytab.proofs.LengthLemmas.{length_again, cell_has, size_is, cell_again as cell_of_bytes}

@@ -4,6 +4,7 @@ use Rattle.std.specs.Prelude.{◌&&◌}
 use Rattle.std.specs.Int.{w16, w32}
 use Rattle.std.specs.Str.{bytes_eq}
 use Rattle.std.specs.Cmp.Lexicographic.{pointwise}
+use Rattle.std.proofs.lemmas.Bool.{and_right}
 use Rattle.krb_wire.specs.declared.format.Order.{Order}
 use Rattle.krb_wire.specs.declared.format.KtFormat.{KtFormat}
 use Rattle.krb_wire.specs.Spelling.{Parts, order_of}
@@ -15,7 +16,7 @@ use Rattle.krb_keytab.specs.HasName.{same_first, begin_with}
 
 -- ---- components
 
--- so many components were read
+-- this many components were read
 counted : (o : Order) (n : ℕ) (bytes : List ℕ) (x : List (List ℕ) × List ℕ) → components_at o n bytes ≡ Some x → length x.0 ≡ n
 unfolding components_at
 counted o zero bytes x e = sym (ap (λ (y : List (List ℕ) × List ℕ). length y.0) (some_is ([], bytes) x e))
@@ -34,16 +35,12 @@ compared o (c ∷ cs) bytes x e =
     ap (same_first (begin_with o cs) c) a.1 ∙ ap (λ (t : Bool). bytes_eq c a.0.0 && t) (compared o cs a.0.1 b.0 b.1)
     ∙ ap (λ (y : List (List ℕ) × List ℕ). pointwise bytes_eq (c ∷ cs) y.0) (some_is (a.0.0 ∷ b.0.0, b.0.1) x b.2)
 
-and_false : (b : Bool) → (b && false) ≡ false
-and_false true = refl
-and_false false = refl
-
 -- lists of other lengths are not the same
 other_length : (xs ys : List (List ℕ)) → length xs ≢ length ys → pointwise bytes_eq xs ys ≡ false
 other_length [] [] ne = absurd (ne refl)
 other_length [] (y ∷ ys) ne = refl
 other_length (x ∷ xs) [] ne = refl
-other_length (x ∷ xs) (y ∷ ys) ne = ap (λ (b : Bool). bytes_eq x y && b) (other_length xs ys (λ e. ne (ap suc e))) ∙ and_false (bytes_eq x y)
+other_length (x ∷ xs) (y ∷ ys) ne = and_right (bytes_eq x y) _ (other_length xs ys (λ e. ne (ap suc e)))
 
 -- ---- entries
 
@@ -135,7 +132,7 @@ begins f bytes o field rest realm components e r read =
 pub other_count : (f : KtFormat) (field : ℕ) (realm components : List ℕ) (n p : Parts) → Begins f field realm components p → (components_of_count f field ≡ Some (length n.components) → ⊥) → false ≡ have_same_name n p
 other_count f field realm components n p b not =
     let ne : length n.components ≢ length p.components = λ e. not (b.count_read ∙ ap (λ (m : ℕ). Some m) (sym (e ∙ ap length b.components_are ∙ counted (order_of f) b.count components b.others b.components_read))) in
-    sym (ap (λ (x : Bool). bytes_eq n.realm p.realm && x) (other_length n.components p.components ne) ∙ and_false (bytes_eq n.realm p.realm))
+    sym (and_right (bytes_eq n.realm p.realm) _ (other_length n.components p.components ne))
 
 -- of the same count, the components and the realm decide
 pub by_components : (f : KtFormat) (o : Order) (field : ℕ) (realm components : List ℕ) (n p : Parts) → o ≡ order_of f → Begins f field realm components p → components_of_count f field ≡ Some (length n.components) → begin_with o n.components components ≡ pointwise bytes_eq n.components p.components
@@ -144,12 +141,12 @@ by_components f o field realm components n p is_o b is =
     let read : components_at (order_of f) (length n.components) components ≡ Some b.others = ap (λ (m : ℕ). components_at (order_of f) m components) (sym same) ∙ b.components_read in
     ap (λ (q : Order). begin_with q n.components components) is_o ∙ compared (order_of f) n.components components b.others read ∙ ap (pointwise bytes_eq n.components) (sym b.components_are)
 
-and_true : (b : Bool) → (b && true) ≡ b
+pub and_true : (b : Bool) → (b && true) ≡ b
 and_true true = refl
 and_true false = refl
 
 pub other_components : (n p : Parts) → pointwise bytes_eq n.components p.components ≡ false → false ≡ have_same_name n p
-other_components n p e = sym (ap (λ (b : Bool). bytes_eq n.realm p.realm && b) e ∙ and_false (bytes_eq n.realm p.realm))
+other_components n p e = sym (and_right (bytes_eq n.realm p.realm) _ e)
 
 pub same_by : (n p : Parts) (realm : List ℕ) (same : Bool) → pointwise bytes_eq n.components p.components ≡ true → p.realm ≡ realm → same ≡ bytes_eq n.realm realm → same ≡ have_same_name n p
 same_by n p realm same comps is e = e ∙ ap (bytes_eq n.realm) (sym is) ∙ sym (ap (λ (b : Bool). bytes_eq n.realm p.realm && b) comps ∙ and_true (bytes_eq n.realm p.realm))

@@ -5,8 +5,7 @@ use Rattle.krb_wire.specs.declared.format.KtFormat.{KtFormat}
 use Rattle.krb_keytab.specs.declared.length.Length.{Length}
 use Rattle.krb_keytab.specs.declared.length.Length.TheVariants.{End, Live, Free}
 use Rattle.krb_keytab.specs.Length.{length_of, field_of, size_of, HasField}
-use Rattle.krb_keytab.specs.Cells.{Cell, IsCell, bytes_of, size, length_of_cell, cell_in}
-use Rattle.krb_keytab.specs.Cells.{Live as LiveCell, Free as FreeCell}
+use Rattle.krb_keytab.specs.Cells.{Cell, IsCell, bytes_of, size, length_of_cell, cell_in, Live as LiveCell, Free as FreeCell}
 
 -- a field says a length that has it
 pub record Said (n : ℕ) (l : Length) : Type 0 where

@@ -7,8 +7,9 @@ use Rattle.std.proofs.lemmas.Bool.{cases_lt, lt-ltb, le-ltb, eq-eqb, ne_eqb}
 use Rattle.std.proofs.lemmas.Bool.Decides.{eqb_tells}
 use Rattle.krb_wire.specs.Spelling.{Parts}
 use Rattle.krb_wire.specs.SameName.{have_same_name}
-use Rattle.krb_keytab.specs.Looked.{answer, IsFoundAmong}
-use Rattle.krb_keytab.specs.Find.{PlacedEntry, is_asked, greatest, version_asked, first_or_missing, look_up_in}
+use Rattle.krb_keytab.specs.LookUp.{answer, IsFoundAmong}
+use Rattle.krb_keytab.proofs.HasNameLemmas.{and_true}
+use Rattle.krb_keytab.specs.Find.{PlacedEntry, is_match, greatest, version_asked, first_or_missing, look_up_in}
 
 -- ---- one entry after the other
 
@@ -147,27 +148,19 @@ next_found v named best xs x version better is_version is so_far =
     ∙ ap (λ (b : Bool). answer true (cond b (Some x) best)) (sym is)
     ∙ answer_cond better x best
 
-filter-asked : (n : Parts) (t : ℕ) (xs : List PlacedEntry) (x : PlacedEntry) (b : Bool) → is_asked n t x ≡ b → filter (is_asked n t) (xs ++ x ∷ []) ≡ filter (is_asked n t) xs ++ cond b (x ∷ []) []
-filter-asked n t xs x b e = filter-append (is_asked n t) xs (x ∷ []) ∙ ap (λ (c : Bool). filter (is_asked n t) xs ++ cond c (x ∷ []) []) e
+filter-match : (n : Parts) (t : ℕ) (xs : List PlacedEntry) (x : PlacedEntry) (b : Bool) → is_match n t x ≡ b → filter (is_match n t) (xs ++ x ∷ []) ≡ filter (is_match n t) xs ++ cond b (x ∷ []) []
+filter-match n t xs x b e = filter-append (is_match n t) xs (x ∷ []) ∙ ap (λ (c : Bool). filter (is_match n t) xs ++ cond c (x ∷ []) []) e
 
 -- an entry that is not asked for changes nothing
-pub not_asked : (n : Parts) (v t : ℕ) (xs : List PlacedEntry) (x : PlacedEntry) (named : Bool) (best : Option PlacedEntry) → is_asked n t x ≡ false → IsFoundAmong n v t xs named best → IsFoundAmong n v t (xs ++ x ∷ []) named best
-not_asked n v t xs x named best other so_far =
-    so_far ∙ ap (look_up_in v) (sym (filter-asked n t xs x false other ∙ append-nil (filter (is_asked n t) xs)))
+pub no_match : (n : Parts) (v t : ℕ) (xs : List PlacedEntry) (x : PlacedEntry) (named : Bool) (best : Option PlacedEntry) → is_match n t x ≡ false → IsFoundAmong n v t xs named best → IsFoundAmong n v t (xs ++ x ∷ []) named best
+no_match n v t xs x named best other so_far =
+    so_far ∙ ap (look_up_in v) (sym (filter-match n t xs x false other ∙ append-nil (filter (is_match n t) xs)))
 
 -- one that is asked for is the one that is looked for, or not
-pub asked : (n : Parts) (v t : ℕ) (xs : List PlacedEntry) (x : PlacedEntry) (better : Bool) (best : Option PlacedEntry) → is_asked n t x ≡ true → look_up_in v (filter (is_asked n t) xs ++ x ∷ []) ≡ cond better (Ok x) (answer true best)
+pub one_match : (n : Parts) (v t : ℕ) (xs : List PlacedEntry) (x : PlacedEntry) (better : Bool) (best : Option PlacedEntry) → is_match n t x ≡ true → look_up_in v (filter (is_match n t) xs ++ x ∷ []) ≡ cond better (Ok x) (answer true best)
     → IsFoundAmong n v t (xs ++ x ∷ []) true (cond better (Some x) best)
-asked n v t xs x better best is next = answer_cond better x best ∙ sym next ∙ ap (look_up_in v) (sym (filter-asked n t xs x true is))
-
-and_false : (b : Bool) → (b && false) ≡ false
-and_false true = refl
-and_false false = refl
-
-and_true : (b : Bool) → (b && true) ≡ b
-and_true true = refl
-and_true false = refl
+one_match n v t xs x better best is next = answer_cond better x best ∙ sym next ∙ ap (look_up_in v) (sym (filter-match n t xs x true is))
 
 -- one with the name is asked for exactly where it has the enctype
-pub asked_by_enctype : (n : Parts) (t : ℕ) (x : PlacedEntry) (has : Bool) → have_same_name n x.1.principal ≡ true → has ≡ (t == 0 || x.1.enctype == t) → is_asked n t x ≡ has
-asked_by_enctype n t x has e is = ap (λ (b : Bool). (t == 0 || x.1.enctype == t) && b) e ∙ and_true (t == 0 || x.1.enctype == t) ∙ sym is
+pub match_by_enctype : (n : Parts) (t : ℕ) (x : PlacedEntry) (has : Bool) → have_same_name n x.1.principal ≡ true → has ≡ (t == 0 || x.1.enctype == t) → is_match n t x ≡ has
+match_by_enctype n t x has e is = ap (λ (b : Bool). (t == 0 || x.1.enctype == t) && b) e ∙ and_true (t == 0 || x.1.enctype == t) ∙ sym is

@@ -10,7 +10,7 @@ use Rattle.krb_walk.proofs.Stops.{bytes_from}
 use Rattle.krb_keytab.specs.Entry.{EntryParts, entry_at}
 use Rattle.krb_keytab.specs.Cells.{Cell, Live, Free, size}
 use Rattle.krb_keytab.specs.Store.{KeytabState, store_cell, store_of, end_place}
-use Rattle.krb_keytab.specs.Find.{PlacedEntry, is_asked, version_asked, first_or_missing, look_up_in, look_up, find_result, placed_entry, placed_entries}
+use Rattle.krb_keytab.specs.Find.{PlacedEntry, is_match, version_asked, first_or_missing, look_up_in, look_up, find_result, placed_entry, placed_entries}
 use Rattle.krb_keytab.specs.Changes.{with_hole, cut_result}
 use Rattle.krb_keytab.proofs.CellLemmas.{chosen}
 use Rattle.krb_keytab.proofs.Cuts.{end_place-append, live_there}
@@ -81,8 +81,8 @@ found_is_cut k n v t x e =
     elim (chosen (is_some (fault_of (store_of k))) (Err Damaged) (look_up k n v t) (Ok x) e) [
       | inl h ↦ absurd (let no = h.1 in cc)
       | inr h ↦
-          let all = all_filter (IsLiveAt k) (is_asked n t) (placed_entries k) (all_live k [] k.contents.cells 2 refl refl) in
-          let live : is_some (store_bytes (store_of k) x.0) ≡ true = found_live k v (filter (is_asked n t) (placed_entries k)) x all h.1 in
+          let all = all_filter (IsLiveAt k) (is_match n t) (placed_entries k) (all_live k [] k.contents.cells 2 refl refl) in
+          let live : is_some (store_bytes (store_of k) x.0) ≡ true = found_live k v (filter (is_match n t) (placed_entries k)) x all h.1 in
           ap (λ (b : Bool). cond b (Err Damaged) (cond (is_some (store_bytes (store_of k) x.0)) (Ok (with_hole k x.0)) (Err NotLive))) h.0
           ∙ ap (λ (b : Bool). cond b (Ok (with_hole k x.0)) (Err NotLive)) live
     ]

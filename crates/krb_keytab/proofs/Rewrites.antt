@@ -3,7 +3,7 @@ use Rattle.std.proofs.Common.{◌≡◌, ℕ, suc, ◌+◌, ◌^◌, ◌<◌, �
 use Rattle.std.specs.Prelude.{is_some, nat_lt, ◌==◌}
 use Rattle.std.specs.Int.{w32}
 use Rattle.std.specs.List.{filter_map, flat_map, cons_option, AllByRecursion}
-use Rattle.std.proofs.lemmas.List.{append-nil, take_at, drop_at}
+use Rattle.std.proofs.lemmas.List.{append-nil, take_at}
 use Rattle.std.proofs.lemmas.List.Concat.{flat_map-cons}
 use Rattle.krb_wire.specs.declared.format.Order.{Order}
 use Rattle.krb_wire.specs.declared.format.Order.TheVariants.{Big}
@@ -14,36 +14,34 @@ use Rattle.krb_wire.specs.Reading.{number_at}
 use Rattle.krb_wire.proofs.Fields.{IsBytes, IsBytes-drop, IsBytes-take, is_some_has, wide32, number_takes}
 use Rattle.krb_walk.specs.declared.refusal.Code.{Code}
 use Rattle.krb_walk.specs.declared.refusal.Code.TheVariants as code
-use Rattle.krb_walk.specs.Store.{Cell as StoreCell, end_of, fault_of}
+use Rattle.krb_walk.specs.Store.{Cell as StoreCell, fault_of}
 use Rattle.krb_walk.specs.Ranks.{Rewrites}
 use Rattle.krb_walk.proofs.Stops.{records_of}
 use Rattle.krb_walk.proofs.Lives.{lives}
 use Rattle.krb_keytab.specs.Entry.{EntryParts, entry_at, front, entry_of, Spells, version_by}
-use Rattle.krb_keytab.specs.Cells.{Cell, Live, Free, Bare, Contents, bytes_of, length_field, cell, end_bytes, contents, IsCell, IsSound, kind_of}
+use Rattle.krb_keytab.specs.Cells.{Cell, Live, Free, Bare, Contents, bytes_of, length_field, cell, end_bytes, contents, IsCell, IsSound}
 use Rattle.krb_keytab.specs.Store.{KeytabState, store_cell, store_of, end_place, image_of, entries}
 use Rattle.krb_keytab.specs.Form.{written_form, fits, IsEntry}
 use Rattle.krb_keytab.specs.Rewrite.{new_record, rewrite_of, rewrite_result}
-use Rattle.krb_keytab.specs.declared.step.Ending.TheVariants as ending
+use Rattle.krb_keytab.specs.declared.image.Ending.TheVariants as ending
 use Rattle.krb_keytab.specs.Image.{IsKnownEnd}
-use Rattle.krb_keytab.proofs.CellLemmas.{contents_again}
-use Rattle.krb_keytab.proofs.Turned.{contents_none}
+use Rattle.krb_keytab.proofs.CellLemmas.{IsBytes-back, contents_again}
+use Rattle.krb_keytab.proofs.ImageChanges.{contents_none}
 use Rattle.std.proofs.Math.ListN.{drop_of_length-le}
 use Rattle.krb_keytab.proofs.Cuts.{cell_len, end_place_is, store_sound}
 use Rattle.krb_keytab.proofs.EntryLemmas.{entry_spelled, entry_again}
 use Rattle.krb_keytab.proofs.WrittenLemmas.{written_spells, written_len}
 use Rattle.krb_keytab.proofs.Stores.{keytab_of}
-use Rattle.krb_keytab.proofs.AnewLemmas.{fits_anew}
-use Rattle.krb_keytab.proofs.StoreChanges.{whole_of}
+use Rattle.krb_keytab.proofs.NewRecords.{fits_v2}
 
 -- ---- the entries of cells
 
-pub entries_of : KtFormat → List Cell → List EntryParts
+abbrev pub entries_of : KtFormat → List Cell → List EntryParts
 entries_of f [] = []
 entries_of f (Free b ∷ cs) = entries_of f cs
 entries_of f (Live b ∷ cs) = cons_option (entry_at f b) (entries_of f cs)
 
 pub entries_is : (f : KtFormat) (at : ℕ) (cs : List Cell) → filter_map (λ r. entry_at f r.bytes) (records_of at (map store_cell cs)) ≡ entries_of f cs
-unfolding entries_of
 entries_is f at [] = refl
 entries_is f at (Free b ∷ cs) = entries_is f (at + (4 + length b)) cs
 entries_is f at (Live b ∷ cs) = ap (cons_option (entry_at f b)) (entries_is f (at + (4 + length b)) cs)
@@ -55,39 +53,18 @@ entries_all k = entries_is k.format 2 k.contents.cells
 abbrev pub new_cells : KtFormat → List Cell → List Cell
 new_cells f cs = map new_record (entries_of f cs)
 
-pub entries_live : (f : KtFormat) (b : List ℕ) (e : EntryParts) (cs : List Cell) → entry_at f b ≡ Some e → entries_of f (Live b ∷ cs) ≡ e ∷ entries_of f cs
-unfolding entries_of
+-- those of a record that is read, and then the others
+entries_live : (f : KtFormat) (b : List ℕ) (e : EntryParts) (cs : List Cell) → entry_at f b ≡ Some e → entries_of f (Live b ∷ cs) ≡ e ∷ entries_of f cs
 entries_live f b e cs is = ap (λ (o : Option EntryParts). cons_option o (entries_of f cs)) is
-
-pub entries_unread : (f : KtFormat) (b : List ℕ) (cs : List Cell) → entry_at f b ≡ None → entries_of f (Live b ∷ cs) ≡ entries_of f cs
-unfolding entries_of
-entries_unread f b cs is = ap (λ (o : Option EntryParts). cons_option o (entries_of f cs)) is
-
-pub entries_free : (f : KtFormat) (b : List ℕ) (cs : List Cell) → entries_of f (Free b ∷ cs) ≡ entries_of f cs
-unfolding entries_of
-entries_free f b cs = refl
-
-pub entries_none : (f : KtFormat) → entries_of f [] ≡ []
-unfolding entries_of
-entries_none f = refl
-
-pub anews_live : (f : KtFormat) (b : List ℕ) (e : EntryParts) (cs : List Cell) → entry_at f b ≡ Some e → new_cells f (Live b ∷ cs) ≡ new_record e ∷ new_cells f cs
-anews_live f b e cs is = ap (map new_record) (entries_live f b e cs is)
-
-pub anews_free : (f : KtFormat) (b : List ℕ) (cs : List Cell) → new_cells f (Free b ∷ cs) ≡ new_cells f cs
-anews_free f b cs = ap (map new_record) (entries_free f b cs)
-
-pub anews_none : (f : KtFormat) → new_cells f [] ≡ []
-anews_none f = ap (map new_record) (entries_none f)
 
 -- ---- as many live cells
 
 pub as_many_of : (f : KtFormat) (cs : List Cell) (at to : ℕ) → AllByRecursion (IsCell f) cs → length (lives to (map store_cell (new_cells f cs))) ≡ length (lives at (map store_cell cs))
-as_many_of f [] at to sound = ap (λ (ds : List Cell). length (lives to (map store_cell ds))) (anews_none f)
-as_many_of f (Free b ∷ cs) at to sound = ap (λ (ds : List Cell). length (lives to (map store_cell ds))) (anews_free f b cs) ∙ as_many_of f cs (at + (4 + length b)) to sound.1
+as_many_of f [] at to sound = refl
+as_many_of f (Free b ∷ cs) at to sound = as_many_of f cs (at + (4 + length b)) to sound.1
 as_many_of f (Live b ∷ cs) at to sound =
     let e = is_some_has (entry_at f b) sound.0.2 in
-    ap (λ (ds : List Cell). length (lives to (map store_cell ds))) (anews_live f b e.0 cs e.1) ∙ ap suc (as_many_of f cs (at + (4 + length b)) (to + (4 + length (written_form V2 e.0))) sound.1)
+    ap (λ (es : List EntryParts). length (lives to (map store_cell (map new_record es)))) (entries_live f b e.0 cs e.1) ∙ ap suc (as_many_of f cs (at + (4 + length b)) (to + (4 + length (written_form V2 e.0))) sound.1)
 
 all_live_of : (es : List EntryParts) → AllByRecursion (λ (c : StoreCell). is_some c.live ≡ true) (map store_cell (map new_record es))
 all_live_of [] = tt
@@ -107,9 +84,6 @@ version_fits_by : (low : ℕ) (read : Option (ℕ × List ℕ)) → low < 256 �
 version_fits_by low None lt h = omega arith
 version_fits_by low (Some n) lt h = one_below (n.0 == 0) low n.0 lt (h n refl)
 
-IsBytes-behind : (a b : List ℕ) → IsBytes (a ++ b) → IsBytes b
-IsBytes-behind a b fits = subst IsBytes (drop_at a b (length a) refl) (IsBytes-drop (length a) (a ++ b) fits)
-
 IsBytes-front : (a b : List ℕ) → IsBytes (a ++ b) → IsBytes a
 IsBytes-front a b fits = subst IsBytes (take_at a b (length a) refl) (IsBytes-take (length a) (a ++ b) fits)
 
@@ -117,7 +91,7 @@ is_entry : (f : KtFormat) (e : EntryParts) (b : List ℕ) → IsBytes b → Spel
 is_entry f e b fits s =
     let same = s.entry in
     let o = order_of f in
-    let tail_fits : IsBytes s.tail = IsBytes-behind (front f s.fields) s.tail (subst IsBytes s.parts fits) in
+    let tail_fits : IsBytes s.tail = IsBytes-back (front f s.fields) s.tail (subst IsBytes s.parts fits) in
     let version : version_by s.fields.low_version (number_at o w32 s.tail) < 2 ^ 32 =
     version_fits_by s.fields.low_version (number_at o w32 s.tail) s.fit.low_version (λ n got. (number_takes o w32 (2 ^ 32) (wide32 o) s.tail n.0 n.1 tail_fits got).1) in
     let made : IsEntry (entry_of f s.fields s.tail) = record { name_type = type_fits f s.fields.principal.name_type s.fit.principal.name_type; timestamp = s.fit.timestamp; version = version; enctype = s.fit.enctype } in
@@ -132,7 +106,7 @@ pub record GivesBack (e : EntryParts) : Type 0 where
 pub gives_back : (f : KtFormat) (b : List ℕ) (e : EntryParts) → IsBytes b → entry_at f b ≡ Some e → GivesBack e
 gives_back f b e fits is =
     let s = entry_spelled f b e fits is in
-    let fit = fits_anew f e b s in
+    let fit = fits_v2 f e b s in
     let ok = is_entry f e b fits s in
     record { fit = fit; entry = ok; back = ap (entry_at V2) (sym (append-nil (written_form V2 e))) ∙ entry_again V2 e (written_form V2 e ++ []) (written_spells V2 e 0 fit ok) }
 
@@ -143,38 +117,37 @@ cell_bytes o [] more fits = tt
 cell_bytes o (c ∷ cs) more fits =
     let grouped : flat_map (cell o) (c ∷ cs) ++ more ≡ cell o c ++ (flat_map (cell o) cs ++ more) = ap (λ (b : List ℕ). b ++ more) (flat_map-cons (cell o) c cs) ∙ append_assoc (cell o c) (flat_map (cell o) cs) more in
     let fits2 = subst IsBytes grouped fits in
-    (IsBytes-behind (digits o w32 (length_field c)) (bytes_of c) (IsBytes-front (cell o c) (flat_map (cell o) cs ++ more) fits2), cell_bytes o cs more (IsBytes-behind (cell o c) (flat_map (cell o) cs ++ more) fits2))
+    (IsBytes-back (digits o w32 (length_field c)) (bytes_of c) (IsBytes-front (cell o c) (flat_map (cell o) cs ++ more) fits2), cell_bytes o cs more (IsBytes-back (cell o c) (flat_map (cell o) cs ++ more) fits2))
 
 written_some : (e : EntryParts) → 0 < length (written_form V2 e)
 written_some e = let len = written_len V2 e in omega (arith, len)
 
-pub sound_anew : (f : KtFormat) (cs : List Cell) → AllByRecursion (IsCell f) cs → AllByRecursion (λ c. IsBytes (bytes_of c)) cs → length (flat_map (cell Big) (new_cells f cs)) < 2 ^ 31 → AllByRecursion (IsCell V2) (new_cells f cs)
-sound_anew f [] sound fits small = subst (AllByRecursion (IsCell V2)) (sym (anews_none f)) tt
-sound_anew f (Free b ∷ cs) sound fits small =
-    subst (AllByRecursion (IsCell V2)) (sym (anews_free f b cs)) (sound_anew f cs sound.1 fits.1 (subst (λ (ds : List Cell). length (flat_map (cell Big) ds) < 2 ^ 31) (anews_free f b cs) small))
-sound_anew f (Live b ∷ cs) sound fits small =
+pub new_cells_sound : (f : KtFormat) (cs : List Cell) → AllByRecursion (IsCell f) cs → AllByRecursion (λ c. IsBytes (bytes_of c)) cs → length (flat_map (cell Big) (new_cells f cs)) < 2 ^ 31 → AllByRecursion (IsCell V2) (new_cells f cs)
+new_cells_sound f [] sound fits small = tt
+new_cells_sound f (Free b ∷ cs) sound fits small = new_cells_sound f cs sound.1 fits.1 small
+new_cells_sound f (Live b ∷ cs) sound fits small =
     let e = is_some_has (entry_at f b) sound.0.2 in
-    let is = anews_live f b e.0 cs e.1 in
+    let is = ap (map new_record) (entries_live f b e.0 cs e.1) in
     let g = gives_back f b e.0 fits.0 e.1 in
     let len : length (flat_map (cell Big) (new_record e.0 ∷ new_cells f cs)) ≡ (4 + length (written_form V2 e.0)) + length (flat_map (cell Big) (new_cells f cs)) =
     ap length (flat_map-cons (cell Big) (new_record e.0) (new_cells f cs)) ∙ length-append (cell Big (new_record e.0)) (flat_map (cell Big) (new_cells f cs)) ∙ ap (λ (n : ℕ). n + length (flat_map (cell Big) (new_cells f cs))) (cell_len Big (new_record e.0)) in
     let whole : length (flat_map (cell Big) (new_record e.0 ∷ new_cells f cs)) < 2 ^ 31 = subst (λ (ds : List Cell). length (flat_map (cell Big) ds) < 2 ^ 31) is small in
-    subst (AllByRecursion (IsCell V2)) (sym is) ((written_some e.0, omega (arith, len, whole), ap is_some g.back), sound_anew f cs sound.1 fits.1 (omega (arith, len, whole)))
+    subst (AllByRecursion (IsCell V2)) (sym is) ((written_some e.0, omega (arith, len, whole), ap is_some g.back), new_cells_sound f cs sound.1 fits.1 (omega (arith, len, whole)))
 
 -- ---- each entry is kept
 
 -- whether one is read in the first of the cells, or none
 kept_by : (f : KtFormat) (b : List ℕ) (cs : List Cell) (o : Option EntryParts) → entry_at f b ≡ o → IsBytes b → entries_of V2 (new_cells f cs) ≡ entries_of f cs → entries_of V2 (new_cells f (Live b ∷ cs)) ≡ entries_of f (Live b ∷ cs)
 kept_by f b cs None is fits kept =
-    let same = entries_unread f b cs is in
+    let same = ap (λ (o : Option EntryParts). cons_option o (entries_of f cs)) is in
     ap (λ (es : List EntryParts). entries_of V2 (map new_record es)) same ∙ kept ∙ sym same
 kept_by f b cs (Some e) is fits kept =
     let g = gives_back f b e fits is in
-    ap (entries_of V2) (anews_live f b e cs is) ∙ entries_live V2 (written_form V2 e) e (new_cells f cs) g.back ∙ ap (λ (es : List EntryParts). e ∷ es) kept ∙ sym (entries_live f b e cs is)
+    ap (λ (es : List EntryParts). entries_of V2 (map new_record es)) (entries_live f b e cs is) ∙ entries_live V2 (written_form V2 e) e (new_cells f cs) g.back ∙ ap (λ (es : List EntryParts). e ∷ es) kept ∙ sym (entries_live f b e cs is)
 
 pub kept_of : (f : KtFormat) (cs : List Cell) → AllByRecursion (λ c. IsBytes (bytes_of c)) cs → entries_of V2 (new_cells f cs) ≡ entries_of f cs
-kept_of f [] fits = ap (entries_of V2) (anews_none f) ∙ entries_none V2 ∙ sym (entries_none f)
-kept_of f (Free b ∷ cs) fits = ap (entries_of V2) (anews_free f b cs) ∙ kept_of f cs fits.1 ∙ sym (entries_free f b cs)
+kept_of f [] fits = refl
+kept_of f (Free b ∷ cs) fits = kept_of f cs fits.1
 kept_of f (Live b ∷ cs) fits = kept_by f b cs (entry_at f b) refl fits.0 (kept_of f cs fits.1)
 
 -- ---- the keytab and its image
@@ -187,7 +160,7 @@ new_sound k bytes sound is fits small =
     let same = entries_all k in
     let len : length (flat_map (cell Big) (map new_record (entries k))) ≤ length (image_of (rewrite_of k)) = omega (arith, length-append (flat_map (cell Big) (map new_record (entries k))) []) in
     subst (λ (es : List EntryParts). AllByRecursion (IsCell V2) (map new_record es)) (sym same)
-    (sound_anew k.format cells sound.cells (cell_bytes o cells (end_bytes o k.contents.end) inner) (subst (λ (es : List EntryParts). length (flat_map (cell Big) (map new_record es)) < 2 ^ 31) same (omega (arith, len, small))))
+    (new_cells_sound k.format cells sound.cells (cell_bytes o cells (end_bytes o k.contents.end) inner) (subst (λ (es : List EntryParts). length (flat_map (cell Big) (map new_record es)) < 2 ^ 31) same (omega (arith, len, small))))
 
 pub entries_kept : (k : KeytabState) → IsBytes (image_of k) → entries (rewrite_of k) ≡ entries k
 entries_kept k fits =
@@ -208,12 +181,12 @@ pub rewritten_keeps : (k new : KeytabState) → IsBytes (image_of k) → rewrite
 rewritten_keeps k new fits made =
     ap entries (sym (made_is k new (is_some (fault_of (store_of k))) (nat_lt k.limit (length (image_of (rewrite_of k)))) made)) ∙ entries_kept k fits
 
-pub contents_anew : (k : KeytabState) (new : List ℕ) → IsSound V2 (rewrite_of k).contents → new ≡ image_of (rewrite_of k) → IsBytes new → contents V2 (drop 2 new) ≡ (rewrite_of k).contents
-contents_anew k new sound is fits =
+pub rewrite_contents : (k : KeytabState) (new : List ℕ) → IsSound V2 (rewrite_of k).contents → new ≡ image_of (rewrite_of k) → IsBytes new → contents V2 (drop 2 new) ≡ (rewrite_of k).contents
+rewrite_contents k new sound is fits =
     ap (λ (b : List ℕ). contents V2 (drop 2 b)) is ∙ contents_again V2 (rewrite_of k).contents sound (IsBytes-drop 2 (image_of (rewrite_of k)) (subst IsBytes is fits))
 
-pub known_anew : (k : KeytabState) (new : List ℕ) (len : ℕ) → contents V2 (drop 2 new) ≡ (rewrite_of k).contents → new ≡ image_of (rewrite_of k) → len ≡ length (image_of (rewrite_of k)) → IsKnownEnd V2 new (record { place = len; ending = ending.Bare })
-known_anew k new len is spelled is_len =
+pub rewrite_known : (k : KeytabState) (new : List ℕ) (len : ℕ) → contents V2 (drop 2 new) ≡ (rewrite_of k).contents → new ≡ image_of (rewrite_of k) → len ≡ length (image_of (rewrite_of k)) → IsKnownEnd V2 new (record { place = len; ending = ending.Bare })
+rewrite_known k new len is spelled is_len =
     let ds = (rewrite_of k).contents.cells in
     let at_end : drop len new ≡ [] = drop_of_length-le new {i = len} (omega (arith, is_len, ap length spelled)) in
     let none : contents V2 (drop len new) ≡ record { cells = []; end = Bare } = ap (contents V2) at_end ∙ contents_none V2 in
@@ -235,9 +208,6 @@ rewrites_store k was sound whole = record {
 }
 
 -- the new image, as a keytab
-pub held_anew : (f : KtFormat) (limit : ℕ) (image new : List ℕ) (k : KeytabState) → keytab_of f limit image ≡ k → contents V2 (drop 2 new) ≡ (rewrite_of k).contents → keytab_of V2 limit new ≡ rewrite_of k
-held_anew f limit image new k is spelled =
+pub rewrite_held : (f : KtFormat) (limit : ℕ) (image new : List ℕ) (k : KeytabState) → keytab_of f limit image ≡ k → contents V2 (drop 2 new) ≡ (rewrite_of k).contents → keytab_of V2 limit new ≡ rewrite_of k
+rewrite_held f limit image new k is spelled =
     ap (λ (x : Contents). record { format = V2; limit = limit; contents = x }) spelled ∙ ap (λ (n : ℕ). record { format = V2; limit = n; contents = (rewrite_of k).contents }) (ap (λ (s : KeytabState). s.limit) is)
-
-pub whole_kind : (k : KeytabState) → is_some (fault_of (store_of k)) ≡ false → (store_of k).fault ≡ None
-whole_kind k h = whole_of (end_of (store_of k)) (kind_of k.contents.end) h

@@ -1,20 +1,20 @@
 -- The store that a keytab is, by the fields that it is kept in.
-use Rattle.std.proofs.Common.{◌≡◌, ℕ, ◌<◌, ◌^◌, List, length, drop, Option, Some, None, refl, sym, ap, subst, ◌∙◌, arith}
-use Rattle.std.specs.Prelude.{IsSome, IfNone}
+use Rattle.std.proofs.Common.{◌≡◌, ℕ, ◌<◌, ◌^◌, List, length, drop, Option, Some, None, false, refl, sym, ap, subst, ◌∙◌, arith}
+use Rattle.std.specs.Prelude.{is_some, IsSome, IfNone}
 use Rattle.krb_wire.specs.declared.format.KtFormat.{KtFormat}
 use Rattle.krb_wire.specs.Reading.{Gives}
-use Rattle.krb_walk.specs.Store.{end_of, live_bytes as store_bytes}
+use Rattle.krb_walk.specs.declared.fault.FaultKind.{FaultKind}
+use Rattle.krb_walk.specs.Store.{end_of, fault_from, live_bytes as store_bytes}
 use Rattle.krb_keytab.specs.declared.image.CellsEnd.{CellsEnd}
-use Rattle.krb_keytab.specs.declared.step.Ending.{Ending}
-use Rattle.krb_keytab.specs.declared.step.Ending.TheVariants as ending
+use Rattle.krb_keytab.specs.declared.image.Ending.{Ending}
+use Rattle.krb_keytab.specs.declared.image.Ending.TheVariants as ending
 use Rattle.krb_keytab.specs.Entry.{entry_at}
 use Rattle.krb_keytab.specs.Cells.{Live, contents, IsSound, kind_of}
-use Rattle.krb_keytab.specs.Step.{ends, ending_kind}
-use Rattle.krb_keytab.specs.Image.{IsKnownEnd}
-use Rattle.krb_keytab.specs.CellsFrom.{CellsFrom, AreKnown, cells_of}
-use Rattle.krb_keytab.specs.Store.{KeytabState, InMemory, IsImage, store_seen, store_of}
+use Rattle.krb_keytab.specs.Image.{ends, ending_kind, IsKnownEnd}
+use Rattle.krb_keytab.specs.CellViews.{CellsFrom, AreKnown, cells_of}
+use Rattle.krb_keytab.specs.Store.{KeytabState, InMemory, IsImage, store_of_image, store_of}
 use Rattle.krb_keytab.proofs.Cuts.{places_for}
-use Rattle.krb_keytab.proofs.Replaced.{live_stands, stands_sound}
+use Rattle.krb_keytab.proofs.Replacements.{live_stands, stands_sound}
 
 -- ---- a keytab that is kept as an image
 
@@ -29,14 +29,19 @@ keytab_of f limit image = record { format = f; limit = limit; contents = content
 pub end_held : (f : KtFormat) (limit : ℕ) (image : List ℕ) (k : KeytabState) (e : CellsEnd) → IsKnownEnd f image e → keytab_of f limit image ≡ k → e.place ≡ end_of (store_of k)
 end_held f limit image k e known is = sym known.place ∙ ap (λ (x : KeytabState). end_of (store_of x)) is
 
+-- nothing is wrong where no fault is told
+pub whole_of : (place : ℕ) (kind : Option FaultKind) → is_some (fault_from place kind) ≡ false → kind ≡ None
+whole_of place None h = refl
+whole_of place (Some kind) h = absurd cc
+
 pub kind_ends : (bytes : List ℕ) (e : Ending) → kind_of (ends bytes e) ≡ ending_kind e
 kind_ends bytes ending.Bare = refl
 kind_ends bytes ending.Mark = refl
 kind_ends bytes (ending.Damaged kind) = refl
 
-pub live_held : (f : KtFormat) (limit : ℕ) (image bytes : List ℕ) (k : KeytabState) (p : ℕ) → bytes ≡ image → keytab_of f limit image ≡ k → store_bytes (store_seen f bytes) p ≡ store_bytes (store_of k) p
+pub live_held : (f : KtFormat) (limit : ℕ) (image bytes : List ℕ) (k : KeytabState) (p : ℕ) → bytes ≡ image → keytab_of f limit image ≡ k → store_bytes (store_of_image f bytes) p ≡ store_bytes (store_of k) p
 live_held f limit image bytes k p same is =
-    ap (λ (b : List ℕ). store_bytes (store_seen f b) p) same ∙ ap (λ (x : KeytabState). store_bytes (store_of x) p) is
+    ap (λ (b : List ℕ). store_bytes (store_of_image f b) p) same ∙ ap (λ (x : KeytabState). store_bytes (store_of x) p) is
 
 pub few_cells : (f : KtFormat) (limit : ℕ) (image : List ℕ) (e : CellsEnd) (count : ℕ) → IsImage f limit image → IsKnownEnd f image e → count ≡ length (contents f (drop 2 image)).cells → count < 2 ^ 30
 few_cells f limit image e count is known counted =

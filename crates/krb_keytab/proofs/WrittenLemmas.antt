@@ -1,5 +1,5 @@
 -- What is written for an entry: whether it fits, how long it is, its parts, and that it is read again.
-use Rattle.std.proofs.Common.{◌≡◌, ℕ, ◌+◌, ◌%◌, ◌^◌, ◌<◌, ◌≤◌, Bool, true, false, List, [], ◌∷◌, ◌++◌, length, replicate, Some, refl, sym, ap, subst, ◌∙◌, append_assoc, length-append, arith, inl, inr}
+use Rattle.std.proofs.Common.{◌≡◌, ℕ, ◌+◌, ◌%◌, ◌^◌, ◌<◌, ◌≤◌, Bool, true, false, List, ◌∷◌, ◌++◌, length, replicate, Some, refl, sym, ap, ◌∙◌, append_assoc, length-append, arith, inl, inr}
 use Rattle.std.specs.Prelude.{◌&&◌, is_some}
 use Rattle.std.specs.Int.{w16, w32}
 use Rattle.std.proofs.lemmas.Bool.{ltb-true, lt-ltb}
@@ -13,7 +13,6 @@ use Rattle.krb_keytab.specs.Entry.{EntryParts, front, version_by, Spells}
 use Rattle.krb_keytab.specs.Form.{fits, front_of, written_form, kept_type, read_back, IsEntry, IsRecord}
 use Rattle.krb_keytab.proofs.EntryLemmas.{entry_again}
 use Rattle.krb_wire.proofs.NamesTold.{and_both, both_and}
-use Rattle.krb_keytab.proofs.Splices.{Wrote, wrote-then}
 
 -- ---- what fits
 
@@ -87,27 +86,3 @@ only_written f e x n fit is s =
 
 pub written_is_record : (f : KtFormat) (e : EntryParts) → fits f e ≡ true → IsEntry e → IsRecord f (written_form f e)
 written_is_record f e fit is = λ n. ap is_some (entry_again f (read_back f e) (written_form f e ++ replicate {A = ℕ} n 0) (written_spells f e n fit is))
-
--- ---- written part by part
-
-regroup : (a b c d e f : List ℕ) → ((((a ++ b) ++ c) ++ d) ++ e) ++ f ≡ (a ++ (b ++ (c ++ (d ++ e)))) ++ f
-regroup a b c d e f = simp append_assoc
-
-pub entry_put : (f : KtFormat) (e : EntryParts) (o : Order) (bytes old a b c d x new : List ℕ) (at i j k l m n : ℕ) → o ≡ order_of f → bytes ≡ e.key → at ≤ length old
-    → Wrote old a at i (kt_principal f e.principal) → Wrote a b i j (digits o w32 e.timestamp) → Wrote b c j k ((e.version % 256) ∷ []) → Wrote c d k l (digits o w16 e.enctype) → Wrote d x l m (data16 o bytes) → Wrote x new m n (digits o w32 e.version)
-    → Wrote old new at n (written_form f e)
-entry_put f e o bytes old a b c d x new at i j k l m n is_o is_key le w0 w1 w2 w3 w4 w5 =
-    let d0 = kt_principal f e.principal in
-    let d1 = digits o w32 e.timestamp in
-    let d2 : List ℕ = (e.version % 256) ∷ [] in
-    let d3 = digits o w16 e.enctype in
-    let d4 = data16 o bytes in
-    let d5 = digits o w32 e.version in
-    let two = wrote-then old a b at i j d0 d1 le w0 w1 in
-    let three = wrote-then old b c at j k (d0 ++ d1) d2 le two w2 in
-    let four = wrote-then old c d at k l ((d0 ++ d1) ++ d2) d3 le three w3 in
-    let five = wrote-then old d x at l m (((d0 ++ d1) ++ d2) ++ d3) d4 le four w4 in
-    let six = wrote-then old x new at m n ((((d0 ++ d1) ++ d2) ++ d3) ++ d4) d5 le five w5 in
-    let whole = subst (Wrote old new at n) (regroup d0 d1 d2 d3 d4 d5) six in
-    subst (λ (q : Order). Wrote old new at n ((d0 ++ (digits q w32 e.timestamp ++ (d2 ++ (digits q w16 e.enctype ++ data16 q e.key)))) ++ digits q w32 e.version)) is_o
-    (subst (λ (y : List ℕ). Wrote old new at n ((d0 ++ (d1 ++ (d2 ++ (d3 ++ data16 o y)))) ++ d5)) is_key whole)

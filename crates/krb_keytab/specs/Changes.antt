@@ -1,14 +1,18 @@
 -- Adding an entry to a keytab, and removing one. A keytab is a store for walks: `store_of` is how it is seen, `put_result` what an addition gives, and `cut_result` what a removal gives.
-use Rattle.std.specs.Prelude.{ℕ, ◌+◌, ◌-◌, List, [], ◌∷◌, ◌++◌, length, map, find, replicate, Option, Some, None, is_some, Result, Ok, Err, Bool, true, false, ◌||◌, nat_lt, nat_le, ◌==◌, if◌then◌else◌}
+use Rattle.std.specs.Prelude.{ℕ, ◌+◌, ◌-◌, List, [], ◌∷◌, ◌++◌, length, map, find, replicate, Option, Some, None, is_some, IfOk, Result, Ok, Err, Bool, true, false, ◌||◌, nat_lt, nat_le, ◌==◌, if◌then◌else◌, option_map, ◌≡◌}
 use Rattle.krb_wire.specs.Spelling.{Parts}
 use Rattle.krb_walk.specs.declared.refusal.Code.{Code}
-use Rattle.krb_walk.specs.declared.refusal.Code.TheVariants as code
+use Rattle.krb_walk.specs.declared.refusal.Refusal.{Refusal}
+use Rattle.krb_walk.specs.Rules.{PutGives}
+use Rattle.krb_walk.specs.Memory.{HadMemory}
 use Rattle.krb_walk.specs.Store.{end_of, fault_of, live_bytes}
 use Rattle.krb_keytab.specs.Entry.{EntryParts}
 use Rattle.krb_keytab.specs.Cells.{Cell, Live, Free, End, Bare, Mark, Damaged, size}
-use Rattle.krb_keytab.specs.Store.{KeytabState, image_of, store_of}
+use Rattle.krb_keytab.specs.Store.{KeytabState, InMemory, image_of, store_of, entry_at_place}
 use Rattle.krb_keytab.specs.Find.{PlacedEntry, find_result}
-use Rattle.krb_keytab.specs.Form.{fits, written_form}
+use Rattle.krb_keytab.specs.Form.{fits, written_form, read_back}
+use Rattle.krb_keytab.specs.declared.cells.Hole.{Hole}
+use Rattle.krb_walk.specs.declared.refusal.Code.TheVariants as code
 
 -- the place of a cell, and the cell
 abbrev pub PlacedCell : Type 0
@@ -19,9 +23,9 @@ abbrev pub placed_cells : ℕ → List Cell → List PlacedCell
 placed_cells at [] = []
 placed_cells at (c ∷ cs) = (at, c) ∷ placed_cells (at + (4 + size c)) cs
 
--- the cells, with the one at a place turned into another
-abbrev pub turned_at : ℕ → (Cell → Cell) → ℕ → List Cell → List Cell
-turned_at at turn p cells = map (λ x. if x.0 == p then turn x.1 else x.1) (placed_cells at cells)
+-- the cells, with the one at a place replaced by what a function makes of it
+abbrev pub replaced_at : ℕ → (Cell → Cell) → ℕ → List Cell → List Cell
+replaced_at at change p cells = map (λ x. if x.0 == p then change x.1 else x.1) (placed_cells at cells)
 
 -- ---- removing
 
@@ -31,7 +35,7 @@ zero_hole c = Free (replicate (size c) 0)
 
 -- the keytab, where the cell at a place is such a hole and all else is as it was
 abbrev pub with_hole : KeytabState → ℕ → KeytabState
-with_hole k p = record k { contents = record { cells = turned_at 2 zero_hole p k.contents.cells; end = k.contents.end } }
+with_hole k p = record k { contents = record { cells = replaced_at 2 zero_hole p k.contents.cells; end = k.contents.end } }
 
 -- what a removal gives: a damaged keytab refuses it, and so does each number where no record stands
 abbrev pub cut_result : KeytabState → ℕ → Result KeytabState Code
@@ -48,9 +52,14 @@ cut_result_of k (Err refused) = Err refused
 abbrev pub remove_result : KeytabState → Parts → ℕ → ℕ → Result (ℕ × KeytabState) Code
 remove_result k name kvno enctype = cut_result_of k (find_result k name kvno enctype)
 
+-- a removal by name answered what it gives, with the place; where it was refused, the keytab is as it was
+abbrev pub AnswersRemove : KeytabState → Result (ℕ × KeytabState) Code → Result ℕ Code → KeytabState → Type 0
+AnswersRemove k given (Ok place) new = given ≡ Ok (place, new)
+AnswersRemove k given (Err refused) new = (given ≡ Err refused) × (new ≡ k)
+
 -- ---- adding
 
--- a hole of at least so many bytes
+-- a hole of at least this many bytes
 abbrev pub is_hole : ℕ → Cell → Bool
 is_hole n (Live b) = false
 is_hole n (Free b) = nat_le n (length b)
@@ -58,6 +67,14 @@ is_hole n (Free b) = nat_le n (length b)
 -- the first such hole, with its place
 abbrev pub first_hole : ℕ → ℕ → List Cell → Option PlacedCell
 first_hole at n cells = find (λ x. is_hole n x.1) (placed_cells at cells)
+
+-- the hole that a cell is, from its place and the cell
+abbrev pub hole_of : PlacedCell → Hole
+hole_of x = record { place = x.0; size = size x.1 }
+
+-- the first hole of at least this many bytes, in the cells that begin at a place
+abbrev pub hole_from : ℕ → ℕ → List Cell → Option Hole
+hole_from at n cells = option_map hole_of (first_hole at n cells)
 
 -- bytes, and zeros after them up to a size
 abbrev pub with_zeros : List ℕ → ℕ → List ℕ
@@ -69,7 +86,7 @@ record_in bytes c = Live (with_zeros bytes (size c))
 
 -- the keytab, where the cell at a place is such a record and all else is as it was
 abbrev pub with_record_in : KeytabState → List ℕ → ℕ → KeytabState
-with_record_in k bytes p = record k { contents = record { cells = turned_at 2 (record_in bytes) p k.contents.cells; end = k.contents.end } }
+with_record_in k bytes p = record k { contents = record { cells = replaced_at 2 (record_in bytes) p k.contents.cells; end = k.contents.end } }
 
 -- what ends the cells after one more: after an end mark nothing is left
 abbrev pub end_after : End → End
@@ -113,3 +130,10 @@ takes_none k e =
     is_refused (put_result k e)
     || is_some (first_hole 2 (length (written_form k.format e)) k.contents.cells)
     || nat_le (length (image_of (with_last k (written_form k.format e)))) (length (image_of k))
+
+-- an addition to a keytab in memory answered what it gives, took memory only where it has to, and left its entry where it says
+pub record Adds (old : InMemory) (e : EntryParts) (answer : Result ℕ Refusal) (new : InMemory) : Type 0 where
+  pub gives : PutGives (put_result old.state e) old.state answer new.state
+  pub memory : takes_none old.state e ≡ true → HadMemory answer
+  pub room : takes_none old.state e ≡ true → new.room ≡ old.room
+  pub read : IfOk answer (λ place. entry_at_place new.state place ≡ Some (read_back old.state.format e))

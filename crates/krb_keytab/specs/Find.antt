@@ -22,8 +22,8 @@ abbrev pub placed_entries : KeytabState → List PlacedEntry
 placed_entries k = filter_map (placed_entry k) (records (store_of k))
 
 -- the entry has the name, and the enctype unless that is 0
-abbrev pub is_asked : Parts → ℕ → PlacedEntry → Bool
-is_asked name enctype x = (enctype == 0 || x.1.enctype == enctype) && have_same_name name x.1.principal
+abbrev pub is_match : Parts → ℕ → PlacedEntry → Bool
+is_match name enctype x = (enctype == 0 || x.1.enctype == enctype) && have_same_name name x.1.principal
 
 -- the greatest version
 abbrev pub greatest : List PlacedEntry → ℕ
@@ -46,7 +46,7 @@ look_up_in kvno (x ∷ xs) = first_or_missing (find (λ y. y.1.version == versio
 
 -- look-up: of the entries with the name and the enctype, the first in file order with the version
 abbrev pub look_up : KeytabState → Parts → ℕ → ℕ → Result PlacedEntry Code
-look_up k name kvno enctype = look_up_in kvno (filter (is_asked name enctype) (placed_entries k))
+look_up k name kvno enctype = look_up_in kvno (filter (is_match name enctype) (placed_entries k))
 
 -- what a look-up answers: a damaged keytab refuses it
 abbrev pub find_result : KeytabState → Parts → ℕ → ℕ → Result PlacedEntry Code

@@ -7,18 +7,14 @@ pub mod Find
 pub mod Entries
 pub mod Form
 pub mod Changes
-pub mod Remove
 pub mod Rewrite
 pub mod Placed
 pub mod Edit
 pub mod Open
 pub mod Laws
 -- For private contracts alone.
-pub mod Step
 pub mod Image
-pub mod CellsFrom
-pub mod CellView
-pub mod Looked
+pub mod CellViews
+pub mod LookUp
 pub mod HasName
-pub mod Hole
 pub mod Append

@@ -53,16 +53,16 @@ abbrev pub store_cell : Cell → StoreCell
 store_cell c = record { width = 4 + size c; live = live_of c }
 
 -- the cells that bytes have, as a store has them
-abbrev pub cells_seen : KtFormat → List ℕ → List StoreCell
-cells_seen f bytes = map store_cell (contents f bytes).cells
+abbrev pub store_cells : KtFormat → List ℕ → List StoreCell
+store_cells f bytes = map store_cell (contents f bytes).cells
 
 -- the place after cells that begin at a place
 abbrev pub end_place : ℕ → List Cell → ℕ
 end_place at cells = end_from at (map store_cell cells)
 
 -- the store that an image has: its cells stand after the two version bytes
-abbrev pub store_seen : KtFormat → List ℕ → Store
-store_seen f image = record { first = 2; cells = cells_seen f (drop 2 image); fault = kind_of (contents f (drop 2 image)).end }
+abbrev pub store_of_image : KtFormat → List ℕ → Store
+store_of_image f image = record { first = 2; cells = store_cells f (drop 2 image); fault = kind_of (contents f (drop 2 image)).end }
 
 -- the store that a keytab is
 abbrev pub store_of : KeytabState → Store

@@ -8,10 +8,9 @@ ghost use Rattle.krb_keytab.specs.Image.{IsKnownEnd, IsChanged, mark_len, len_wi
 ghost use Rattle.krb_keytab.specs.Changes.{end_after};
 
 use crate::form::Form;
-use crate::image::CellsEnd;
-use crate::put::{bytes_fit, put_record, put_zeros};
-use crate::step::Ending;
-use krb_wire::Name;
+use crate::image::{CellsEnd, Ending};
+use crate::put::{bytes_fit, put_form};
+use krb_wire::{Name, Pen};
 use std::alloc::{AllocError, Allocator};
 
 // An end mark is kept after an appended record.
@@ -24,7 +23,7 @@ fn mark_len(ending: Ending) -> usize
     }
 }
 
-/// How long an image is with a record of so many bytes after its cells.
+/// How long an image is with a record of this many bytes after its cells.
 pub fn len_with(end: CellsEnd, need: usize) -> usize
     requires place { end.place ≤ 2 ^ 30 }
     requires need { need < 2 ^ 34 }
@@ -60,11 +59,12 @@ fn put_last<N: Name>(image: &mut [u8], at: usize, form: &Form<'_, N>)
 {
     let need = form.len();
     let len = image.len();
-    put_record(image, at, need, form);
-    put_zeros(image, at + 4 + need, len);
+    let mut pen = Pen::new(image, at);
+    put_form(form, &mut pen);
+    pen.put_zeros(len - (at + 4 + need));
 }
 
-// The same in a vector, whose length stays.
+// As `put_last`, over a vector, whose length stays.
 fn put_after<A: Allocator, N: Name>(image: &mut Vec<u8, A>, at: usize, form: &Form<'_, N>)
     requires room { at + 4 + length form.now.bytes ≤ vec_len image.old }
     requires small { length form.now.bytes < 2 ^ 31 }

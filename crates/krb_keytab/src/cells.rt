@@ -1,21 +1,22 @@
 //! The cells of an image, one after the other.
 
-ghost use Rattle.std.specs.Prelude.{◌≡◌, ◌+◌, [], IfSome, IfNone, option_copied};
+ghost use Rattle.std.specs.Prelude.{◌≡◌, ◌≤◌, ◌^◌, ◌+◌, [], IfSome, IfNone, option_copied};
 ghost use Rattle.std.specs.Iterator.{item_count};
 ghost use Rattle.krb_keytab.specs.Cells.{bytes_of, cell_in, contents, size};
-ghost use Rattle.krb_keytab.specs.CellsFrom.{IsCellOrNothing, IsFirst};
+ghost use Rattle.krb_keytab.specs.CellViews.{cell_of, GivesCell, IsCellOrNothing, IsFirst};
+ghost use Rattle.krb_keytab.specs.Changes.{hole_from};
 ghost use Rattle.krb_keytab.specs.Store.{live_of};
-ghost use Rattle.krb_keytab.specs.CellView.{cell_of, GivesCell};
 
 use crate::image::CellsEnd;
 use crate::length::Length;
 use crate::put::bytes_fit;
+use krb_cells::{CellFormat, CellView};
 use krb_wire::{KtFormat, split_u32, tail};
 use std::marker::Model;
 
 /// A cell: the bytes of a record, or of a hole, after their length.
 #[derive(Clone, Copy, Debug)]
-pub enum CellView<'a> {
+pub enum KtCell<'a> {
     Live(&'a [u8]),
     Free(&'a [u8]),
 }
@@ -23,22 +24,22 @@ pub enum CellView<'a> {
 /// The cells from a place on, where it is known what ends them. There a length tells each cell, and
 /// no entry is read again.
 #[derive(Drop)]
-pub struct Cells<'a> {
+pub struct CellViews<'a> {
     pub(crate) format: KtFormat,
     pub(crate) image: &'a [u8],
     pub(crate) end: CellsEnd,
     pub(crate) place: usize,
 }
 
-impl<'a> CellView<'a> {
+impl<'a> KtCell<'a> {
     // The cell that a length and the bytes after it are.
     #[inline(always)]
-    fn of(length: Length, bytes: &'a [u8]) -> CellView<'a>
+    fn of(length: Length, bytes: &'a [u8]) -> KtCell<'a>
         ensures { cell_of result ≡ cell_in length bytes.now }
     {
         match length {
-            Length::Live(_) => CellView::Live(bytes),
-            _ => CellView::Free(bytes),
+            Length::Live(_) => KtCell::Live(bytes),
+            _ => KtCell::Free(bytes),
         }
     }
 
@@ -48,8 +49,8 @@ impl<'a> CellView<'a> {
         ensures { result.now ≡ bytes_of (cell_of self.entry) }
     {
         match self {
-            CellView::Live(bytes) => bytes,
-            CellView::Free(bytes) => bytes,
+            KtCell::Live(bytes) => bytes,
+            KtCell::Free(bytes) => bytes,
         }
     }
 
@@ -67,15 +68,15 @@ impl<'a> CellView<'a> {
         ensures { option_copied result ≡ live_of (cell_of self.entry) }
     {
         match self {
-            CellView::Live(bytes) => Some(bytes),
-            CellView::Free(_) => None,
+            KtCell::Live(bytes) => Some(bytes),
+            KtCell::Free(_) => None,
         }
     }
 }
 
 /// The cell at the front of bytes whose entries were read before: its length alone tells it.
 #[inline(always)]
-pub fn first_cell(format: KtFormat, bytes: &[u8]) -> Option<CellView<'_>>
+pub fn first_cell(format: KtFormat, bytes: &[u8]) -> Option<KtCell<'_>>
     requires { IsCellOrNothing format bytes.now }
     ensures some { IfSome result (λ c. IsFirst format bytes.now (cell_of c)) }
     ensures none { IfNone result ((contents format bytes.now).cells ≡ []) }
@@ -83,13 +84,13 @@ pub fn first_cell(format: KtFormat, bytes: &[u8]) -> Option<CellView<'_>>
     bytes_fit(bytes);
     let (field, rest) = split_u32(format.order(), bytes)?;
     let length = Length::of_field(field);
-    Some(CellView::of(length, rest.split_at(length.size() as usize).0))
+    Some(KtCell::of(length, rest.split_at(length.size() as usize).0))
 }
 
-impl<'a> Model for Cells<'a> {
+impl<'a> Model for CellViews<'a> {
     ghost use Rattle.std.specs.Prelude.{drop};
     ghost use Rattle.krb_keytab.specs.Cells.{contents};
-    ghost use Rattle.krb_keytab.specs.CellsFrom.{CellsFrom, AreKnown};
+    ghost use Rattle.krb_keytab.specs.CellViews.{CellsFrom, AreKnown};
 
     ghost Value = { CellsFrom };
 
@@ -102,23 +103,23 @@ impl<'a> Model for Cells<'a> {
     ghost invariant = { λ c. AreKnown c.format c.image.now c.place c.end };
 }
 
-impl<'a> Iterator for Cells<'a> {
-    type Item = (usize, CellView<'a>);
+impl<'a> Iterator for CellViews<'a> {
+    type Item = (usize, KtCell<'a>);
 
     ghost next_gives = { GivesCell };
 
     ghost remaining = { item_count (λ c. c.contents.cells) };
 
     #[inline(always)]
-    fn next(&mut self) -> Option<(usize, CellView<'a>)> {
+    fn next(&mut self) -> Option<(usize, KtCell<'a>)> {
         self.next_in(self.format)
     }
 }
 
-impl<'a> Cells<'a> {
+impl<'a> CellViews<'a> {
     /// The next cell, for a format that is known where this is inlined.
     #[inline(always)]
-    pub(crate) fn next_in(&mut self, format: KtFormat) -> Option<(usize, CellView<'a>)>
+    pub(crate) fn next_in(&mut self, format: KtFormat) -> Option<(usize, KtCell<'a>)>
         requires { format ≡ self.old.format }
         ensures { GivesCell self.old result self.new }
     {
@@ -130,5 +131,50 @@ impl<'a> Cells<'a> {
         let cell = first_cell(format, tail(self.image, at))?;
         self.place = at + cell.width();
         Some((at, cell))
+    }
+}
+
+/// A free cell: its place, and how many bytes it has after its length.
+#[derive(Clone, Copy, Debug, PartialEq, Eq)]
+pub struct Hole {
+    pub place: usize,
+    pub size: usize,
+}
+
+/// The first of the cells that is a hole of at least this many bytes.
+pub fn first_hole(cells: CellViews<'_>, need: usize) -> Option<Hole>
+    ensures first { result ≡ hole_from cells.entry.place need cells.entry.contents.cells }
+    ensures small { IfSome result (λ h. h.place + 4 + h.size ≤ 2 ^ 30) }
+{
+    for (place, cell) in cells {
+        if let KtCell::Free(bytes) = cell {
+            let size = bytes.len();
+            if need <= size {
+                return Some(Hole { place, size });
+            }
+        }
+    }
+    None
+}
+
+/// The format of an image whose entries were read before, as stores know formats: lengths alone tell
+/// its cells.
+#[derive(Clone, Copy, Debug)]
+pub struct KnownFormat {
+    pub format: KtFormat,
+}
+
+impl CellFormat for KnownFormat {
+    ghost use Rattle.krb_keytab.specs.Store.{store_cells};
+
+    ghost cells = { λ s. store_cells s.format };
+
+    #[inline(always)]
+    fn first<'b>(self, bytes: &'b [u8]) -> Option<CellView<'b>> {
+        let cell = first_cell(self.format, bytes)?;
+        Some(CellView {
+            width: cell.width(),
+            live: cell.live(),
+        })
     }
 }

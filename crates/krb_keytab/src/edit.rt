@@ -1,6 +1,6 @@
 //! Events over an image.
 
-ghost use Rattle.std.specs.Prelude.{◌≡◌, map, IfOk, IfErr};
+ghost use Rattle.std.specs.Prelude.{map, IfOk, IfErr};
 ghost use Rattle.krb_walk.specs.Said.{said};
 ghost use Rattle.krb_keytab.specs.Edit.{EditsImage, EditRefuses};
 

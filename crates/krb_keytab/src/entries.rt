@@ -5,7 +5,7 @@ ghost use Rattle.std.specs.Iterator.{YieldsFirst, item_count};
 ghost use Rattle.krb_keytab.specs.Entries.{entries_in};
 ghost use Rattle.krb_keytab.specs.Find.{PlacedEntry};
 
-use crate::cells::{CellView, Cells};
+use crate::cells::{CellViews, KtCell};
 use crate::entry::{EntryView, read_entry};
 use krb_wire::KtFormat;
 use std::marker::Model;
@@ -14,7 +14,7 @@ use std::marker::Model;
 /// or the fault.
 #[derive(Drop)]
 pub struct Entries<'a> {
-    cells: Cells<'a>,
+    cells: CellViews<'a>,
 }
 
 impl<'a> Model for Entries<'a> {
@@ -23,7 +23,7 @@ impl<'a> Model for Entries<'a> {
     ghost view = { λ e. entries_in e.cells.format e.cells.place e.cells.contents.cells };
 }
 
-impl<'a> Cells<'a> {
+impl<'a> CellViews<'a> {
     // The next entry of cells of that format, with the place of its record.
     #[inline(always)]
     fn next_entry(&mut self, format: KtFormat) -> Option<(u32, EntryView<'a>)>
@@ -35,7 +35,7 @@ impl<'a> Cells<'a> {
             ≡ x ∷ entries_in self.new.format self.new.place self.new.contents.cells) }
     {
         while let Some((at, cell)) = self.next_in(format) {
-            if let CellView::Live(bytes) = cell {
+            if let KtCell::Live(bytes) = cell {
                 if let Some(entry) = read_entry(format, bytes) {
                     return Some((at as u32, entry));
                 }
@@ -47,7 +47,7 @@ impl<'a> Cells<'a> {
 
 impl<'a> Entries<'a> {
     /// Those of cells.
-    pub(crate) fn of(cells: Cells<'a>) -> Entries<'a>
+    pub(crate) fn of(cells: CellViews<'a>) -> Entries<'a>
         ensures { result ≡ entries_in cells.entry.format cells.entry.place cells.entry.contents.cells }
     {
         Entries { cells }

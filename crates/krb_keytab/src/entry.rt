@@ -130,6 +130,7 @@ pub fn entry_from(format: KtFormat, bytes: &[u8]) -> Option<EntryView<'_>>
 /// The entry that a record's bytes spell: its fields up to the key, perhaps a 32-bit version, and then
 /// any bytes.
 #[inline(always)]
+#[tactic(auto, using(crate::proofs::EntryLemmas::found_entry, crate::proofs::EntryLemmas::only_entry))]
 pub fn read_entry(format: KtFormat, bytes: &[u8]) -> Option<EntryView<'_>>
     // What is found is spelled so.
     ensures found { IfSome result (λ v. Spells format v bytes.now) }

@@ -1,71 +1,52 @@
 //! Looking up an entry.
 
 ghost use Rattle.std.specs.Prelude.{◌≡◌};
-ghost use Rattle.krb_keytab.specs.Find.{placed_entries, look_up, find_result};
-ghost use Rattle.krb_keytab.specs.Looked.{IsFoundAmong};
+ghost use Rattle.krb_keytab.specs.Find.{placed_entries, find_result};
+ghost use Rattle.krb_keytab.specs.LookUp.{IsFoundAmong};
 
-use crate::cells::CellView;
+use crate::cells::KtCell;
 use crate::entry::EntryView;
 use crate::keytab::Keytab;
-use crate::looked::Looked;
+use crate::look_up::{LookUp, Query};
 use krb_walk::Code;
 use krb_wire::{KtFormat, Name};
 use std::alloc::Allocator;
 
 // What is found after all entries of a keytab of that format.
 #[inline(always)]
-fn look_in<'a, N: Name, A: Allocator>(
+fn consider_all_in<'a, N: Name, A: Allocator>(
     format: KtFormat,
     keytab: &'a Keytab<A>,
-    name: &N,
-    kvno: u32,
-    enctype: u16,
-) -> Looked<'a>
+    query: &Query<'_, N>,
+) -> LookUp<'a>
     requires { format ≡ keytab.now.state.format }
-    ensures { IsFoundAmong (N.parts name.now) kvno enctype (placed_entries keytab.entry.now.state)
-        result.named result.best }
+    ensures { IsFoundAmong (N.parts query.now.name.now) query.now.kvno query.now.enctype
+        (placed_entries keytab.entry.now.state) result.named result.best }
 {
-    let mut looked = Looked {
-        named: false,
-        best: None,
-    };
+    let mut look_up = LookUp::new();
     for (place, cell) in keytab.cells_in(format) {
-        if let CellView::Live(bytes) = cell {
-            looked.look_at(name, kvno, enctype, format, place as u32, bytes);
+        if let KtCell::Live(bytes) = cell {
+            look_up.consider(query, format, place as u32, bytes);
         }
     }
-    looked
+    look_up
 }
 
 // The same of any format: in each arm it is known, and the loop asks for it no more.
-fn look_at_all<'a, N: Name, A: Allocator>(
+fn consider_all<'a, N: Name, A: Allocator>(
     keytab: &'a Keytab<A>,
-    name: &N,
-    kvno: u32,
-    enctype: u16,
-) -> Looked<'a>
-    ensures { IsFoundAmong (N.parts name.now) kvno enctype (placed_entries keytab.entry.now.state)
-        result.named result.best }
+    query: &Query<'_, N>,
+) -> LookUp<'a>
+    ensures { IsFoundAmong (N.parts query.now.name.now) query.now.kvno query.now.enctype
+        (placed_entries keytab.entry.now.state) result.named result.best }
 {
     match keytab.format() {
-        KtFormat::V2 => look_in(KtFormat::V2, keytab, name, kvno, enctype),
-        KtFormat::V1(order) => look_in(KtFormat::V1(order), keytab, name, kvno, enctype),
+        KtFormat::V2 => consider_all_in(KtFormat::V2, keytab, query),
+        KtFormat::V1(order) => consider_all_in(KtFormat::V1(order), keytab, query),
     }
 }
 
 impl<A: Allocator> Keytab<A> {
-    // The same of a keytab that is whole.
-    fn look_up<N: Name>(
-        &self,
-        name: &N,
-        kvno: u32,
-        enctype: u16,
-    ) -> Result<(u32, EntryView<'_>), Code>
-        ensures { result ≡ look_up self.now.state (N.parts name.now) kvno enctype }
-    {
-        look_at_all(self, name, kvno, enctype).answer()
-    }
-
     /// The entry of that name, version and enctype, with its place: version 0 asks for the highest,
     /// enctype 0 for any, and the first in file order wins. A damaged keytab refuses. One pass, without
     /// memory.
@@ -80,6 +61,11 @@ impl<A: Allocator> Keytab<A> {
         if self.fault().is_some() {
             return Err(Code::Damaged);
         }
-        self.look_up(name, kvno, enctype)
+        let query = Query {
+            name,
+            kvno,
+            enctype,
+        };
+        consider_all(self, &query).answer()
     }
 }

@@ -1,16 +1,13 @@
 //! The written form of an entry.
 
-ghost use Rattle.std.specs.Prelude.{◌≡◌, ◌≤◌, ◌<◌, ◌^◌, ◌+◌, length, is_some, IsTrue, IfSome};
-ghost use Rattle.std.specs.List.{splice};
+ghost use Rattle.std.specs.Prelude.{◌≡◌, ◌<◌, ◌^◌, length, is_some, IsTrue, IfSome};
+ghost use Rattle.krb_wire.specs.Pen.{HasRoom, Puts};
 ghost use Rattle.krb_wire.specs.declared.format.KtFormat.TheVariants.{V2};
 ghost use Rattle.krb_keytab.specs.Form.{fits, written_form, FormParts, IsRecord};
 
 use crate::entry::EntryView;
 use crate::fields::Fields;
-use krb_wire::{
-    KtFormat, Name, PrincipalView, kt_principal_len, put_data16, put_kt_principal, put_u8, put_u16,
-    put_u32,
-};
+use krb_wire::{KtFormat, Name, Pen, PrincipalView, kt_principal_len};
 use std::marker::Model;
 
 /// The written form of an entry, with its length. Contracts see its bytes, and the format that they
@@ -48,20 +45,19 @@ fn entry_len<N: Name>(format: KtFormat, entry: &Fields<'_, N>) -> Option<u64>
     Some(principal + 13 + key as u64)
 }
 
-// Writes an entry at a place; the answer is the place after it.
-fn put_entry<N: Name>(format: KtFormat, entry: &Fields<'_, N>, out: &mut [u8], at: usize) -> usize
+// Writes an entry.
+fn put_entry<N: Name>(format: KtFormat, entry: &Fields<'_, N>, pen: &mut Pen<'_>)
     requires fits { IsTrue (fits format entry.now) }
-    requires room { at + length (written_form format entry.now) ≤ length out.old }
-    ensures next { result ≡ at + length (written_form format entry.now) }
-    ensures written { out.new ≡ splice out.old at result (written_form format entry.now) }
+    requires room { HasRoom pen.old (written_form format entry.now) }
+    ensures { Puts pen.old pen.new (written_form format entry.now) }
 {
     let order = format.order();
-    let timestamp = put_kt_principal(format, entry.principal, out, at);
-    let low = put_u32(order, entry.timestamp, out, timestamp);
-    let enctype = put_u8((entry.kvno % 256) as u8, out, low);
-    let key = put_u16(order, entry.enctype, out, enctype);
-    let version = put_data16(order, entry.key, out, key);
-    put_u32(order, entry.kvno, out, version)
+    pen.put_kt_principal(format, entry.principal);
+    pen.put_u32(order, entry.timestamp);
+    pen.put_u8((entry.kvno % 256) as u8);
+    pen.put_u16(order, entry.enctype);
+    pen.put_data16(order, entry.key);
+    pen.put_u32(order, entry.kvno);
 }
 
 impl<'a, N: Name> Form<'a, N> {
@@ -86,6 +82,7 @@ impl<'a, N: Name> Form<'a, N> {
     }
 
     /// How many bytes it has. They begin with an entry, whatever zeros stand after them.
+    #[tactic(auto, using(crate::proofs::WrittenLemmas::written_is_record))]
     pub fn len(&self) -> usize
         ensures len { result ≡ length self.now.bytes }
         ensures some { 0 < result }
@@ -95,19 +92,18 @@ impl<'a, N: Name> Form<'a, N> {
         self.len
     }
 
-    /// Writes it at a place; the answer is the place after it.
-    pub fn put(&self, out: &mut [u8], at: usize) -> usize
-        requires { at + length self.now.bytes ≤ length out.old }
-        ensures next { result ≡ at + length self.now.bytes }
-        ensures written { out.new ≡ splice out.old at result self.now.bytes }
+    /// Writes it.
+    pub fn put(&self, pen: &mut Pen<'_>)
+        requires { HasRoom pen.old self.now.bytes }
+        ensures { Puts pen.old pen.new self.now.bytes }
     {
-        put_entry(self.format, &self.entry, out, at)
+        put_entry(self.format, &self.entry, pen);
     }
 }
 
 impl<'a> Form<'a, PrincipalView<'a>> {
     /// The written form in version 2 of an entry that was read: all of them fit.
-    pub fn anew(entry: &'a EntryView<'a>) -> Form<'a, PrincipalView<'a>>
+    pub fn in_version_2(entry: &'a EntryView<'a>) -> Form<'a, PrincipalView<'a>>
         ensures { result ≡ record { format = V2; bytes = written_form V2 entry.now } }
     {
         let entry = entry.fields();

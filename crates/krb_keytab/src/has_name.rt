@@ -1,6 +1,6 @@
 //! The name of an entry, compared where it stands.
 
-ghost use Rattle.std.specs.Prelude.{◌≡◌, ◌↔◌, IsTrue, Some, length};
+ghost use Rattle.std.specs.Prelude.{◌≡◌, ◌↔◌, IsTrue, Some};
 ghost use Rattle.krb_wire.specs.SameName.{have_same_name};
 ghost use Rattle.krb_wire.specs.Reading.{components_of_count};
 ghost use Rattle.krb_keytab.specs.Entry.{EntryParts, entry_at};
@@ -8,7 +8,7 @@ ghost use Rattle.krb_keytab.specs.HasName.{begin_with};
 
 use krb_wire::{KtFormat, Name, Order, split_data16, split_u16};
 
-// Whether a count that was read stands for so many components.
+// Whether a count that was read stands for this many components.
 fn is_count(format: KtFormat, field: u16, count: usize) -> bool
     ensures { IsTrue result ↔ (components_of_count format field ≡ Some count) }
 {

@@ -1,27 +1,26 @@
 //! Keytabs, kept as their images.
 
 mod changes;
-mod rewriting;
+mod rewrite;
 
 ghost use Rattle.std.specs.Prelude.{◌≡◌, IsSome, IfOk, IfErr, IfSome, IfNone, Ok, Err, Some, None, ◌<◌, ◌≤◌, ◌-◌, ◌^◌, length, take, drop, option_copied, vec_capacity};
 ghost use Rattle.krb_wire.specs.Reading.{Gives};
 ghost use Rattle.krb_walk.specs.Store.{end_of, fault_of, is_place, stop_at, live_bytes, IsPlace, IsSound as IsSoundStore};
 ghost use Rattle.krb_keytab.specs.Entry.{entry_at, Spells};
 ghost use Rattle.krb_keytab.specs.Cells.{contents, IsSound};
-ghost use Rattle.krb_keytab.specs.CellsFrom.{cells_of};
+ghost use Rattle.krb_keytab.specs.CellViews.{cells_of};
 ghost use Rattle.krb_keytab.specs.Image.{IsKnownEnd};
 ghost use Rattle.krb_keytab.specs.Laws.{AreBytes};
 ghost use Rattle.krb_keytab.specs.Find.{placed_entries};
 ghost use Rattle.krb_keytab.specs.Store.{InMemory, open_result, image_of, store_of, entry_at_place, IsImage, Reopens, empty};
 
-use crate::cells::Cells;
+use crate::cells::{CellViews, KnownFormat};
 use crate::entries::Entries;
 use crate::entry::{EntryView, read_entry};
 use crate::image::{CellsEnd, end_of_cells, spelled_of};
-use crate::lengths::Lengths;
 use crate::open::{KtOpenRefused, read_head};
 use crate::put::bytes_fit;
-use krb_cells::Cells as SeenCells;
+use krb_cells::Cells;
 use krb_walk::{Fault, Stop};
 use krb_wire::{KtFormat, Limits, NoMemory, Order};
 use std::alloc::Allocator;
@@ -140,17 +139,17 @@ impl<A: Allocator> Keytab<A> {
     }
 
     // The store that it is.
-    fn seen(&self) -> SeenCells<'_, Lengths>
+    fn store(&self) -> Cells<'_, KnownFormat>
         ensures { result ≡ store_of self.now.state }
     {
         let image: &[u8] = &self.image;
         bytes_fit(image);
         let cells = cells_in(image, self.end.place);
         bytes_fit(cells);
-        let front = Lengths {
+        let front = KnownFormat {
             format: self.format,
         };
-        SeenCells::of(front, 2, cells, self.end.ending.kind())
+        Cells::of(front, 2, cells, self.end.ending.kind())
     }
 
     /// The place of the first cell: 2, after the version bytes.
@@ -158,21 +157,21 @@ impl<A: Allocator> Keytab<A> {
         ensures first { result ≡ (store_of self.now.state).first }
         ensures sound { IsSoundStore (store_of self.now.state) }
     {
-        self.seen().first()
+        self.store().first()
     }
 
     /// The place after the last sound cell.
     pub fn end(&self) -> u32
         ensures { result ≡ end_of (store_of self.now.state) }
     {
-        self.seen().end()
+        self.store().end()
     }
 
     /// What is wrong after the last sound cell, if something is.
     pub fn fault(&self) -> Option<Fault>
         ensures { result ≡ fault_of (store_of self.now.state) }
     {
-        self.seen().fault()
+        self.store().fault()
     }
 
     /// How many cells it has.
@@ -185,11 +184,11 @@ impl<A: Allocator> Keytab<A> {
 
     // Its cells, for a format that is known where this is inlined.
     #[inline(always)]
-    pub(crate) fn cells_in(&self, format: KtFormat) -> Cells<'_>
+    pub(crate) fn cells_in(&self, format: KtFormat) -> CellViews<'_>
         requires { format ≡ self.now.state.format }
         ensures { result ≡ cells_of self.now.state }
     {
-        Cells {
+        CellViews {
             format,
             image: &self.image,
             end: self.end,
@@ -198,7 +197,7 @@ impl<A: Allocator> Keytab<A> {
     }
 
     /// Its cells with their places, in file order, up to the end or the fault.
-    pub fn cells(&self) -> Cells<'_>
+    pub fn cells(&self) -> CellViews<'_>
         ensures { result ≡ cells_of self.now.state }
     {
         self.cells_in(self.format())
@@ -208,7 +207,7 @@ impl<A: Allocator> Keytab<A> {
     pub fn is_place(&self, place: u32) -> bool
         ensures { result ≡ is_place (store_of self.now.state) place }
     {
-        self.seen().is_place(place)
+        self.store().is_place(place)
     }
 
     /// The first live cell at or after a place, or what ends the cells. It looks from that place on.
@@ -216,20 +215,22 @@ impl<A: Allocator> Keytab<A> {
         requires { IsPlace (store_of self.now.state) place }
         ensures { result ≡ stop_at (store_of self.now.state) place }
     {
-        self.seen().stop_at(place)
+        self.store().stop_at(place)
     }
 
     /// The bytes of the record at a place, after its length: an entry, and what is after it.
+    #[tactic(auto, using(crate::proofs::Stores::entry_held))]
     pub fn bytes_at(&self, place: u32) -> &[u8]
         requires { IsSome (live_bytes (store_of self.now.state) place) }
         ensures bytes { live_bytes (store_of self.now.state) place ≡ Some result.now }
         ensures entry { IsSome (entry_at self.now.state.format result.now) }
     {
         let _ = self.image();
-        self.seen().bytes_at(place)
+        self.store().bytes_at(place)
     }
 
     /// The entries with the places of their records, in file order, up to the end or the fault.
+    #[tactic(auto, using(crate::proofs::EntryLists::entries_of_cells))]
     pub fn entries(&self) -> Entries<'_>
         ensures { result ≡ placed_entries self.now.state }
     {
@@ -240,7 +241,7 @@ impl<A: Allocator> Keytab<A> {
     fn record(&self, place: u32) -> Option<&[u8]>
         ensures { option_copied result ≡ live_bytes (store_of self.now.state) place }
     {
-        self.seen().find_live(place)
+        self.store().find_live(place)
     }
 
     /// The entry of the record at a place: none exactly where no live cell stands. It looks from the

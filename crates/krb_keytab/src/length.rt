@@ -1,6 +1,6 @@
 //! The length that stands before each cell.
 
-ghost use Rattle.std.specs.Prelude.{◌≡◌, ◌<◌, ◌≤◌, ◌^◌, ◌-◌};
+ghost use Rattle.std.specs.Prelude.{◌≡◌, ◌<◌, ◌^◌, ◌-◌};
 ghost use Rattle.krb_keytab.specs.Length.{length_of, field_of, size_of, HasField};
 
 /// What a length says (MIT krb5, "Keytab file format").
@@ -8,9 +8,9 @@ ghost use Rattle.krb_keytab.specs.Length.{length_of, field_of, size_of, HasField
 pub enum Length {
     /// No cell begins here.
     End,
-    /// A record of so many bytes.
+    /// A record of this many bytes.
     Live(u32),
-    /// A hole of so many bytes.
+    /// A hole of this many bytes.
     Free(u32),
 }
 

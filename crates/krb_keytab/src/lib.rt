@@ -1,7 +1,6 @@
 //! Keytab images: a keytab is a list of cells, and each live cell begins with an entry.
 #![tactic(auto)]
 
-mod anew;
 mod append;
 mod cells;
 mod edit;
@@ -11,30 +10,25 @@ mod fields;
 mod find;
 mod form;
 mod has_name;
-mod hole;
 mod image;
 mod keytab;
 mod laws;
 mod length;
-mod lengths;
-mod looked;
+mod look_up;
 mod new_entry;
 mod open;
 mod placed;
 mod put;
-mod remove;
-mod step;
-mod turn;
+mod replace;
 
-pub use cells::{CellView, Cells};
+pub use cells::{CellViews, Hole, KtCell};
 pub use edit::{EditRefused, edit_image};
 pub use entries::Entries;
 pub use entry::{EntryView, read_entry};
 pub use fields::Fields;
-pub use hole::Hole;
 pub use keytab::Keytab;
 pub use laws::{changes_are_seen, one_reading, rewrites_keep_entries, written_is_read_back};
 pub use length::Length;
-pub use looked::Looked;
+pub use look_up::{LookUp, Query};
 pub use new_entry::NewEntry;
 pub use open::{KtOpenFault, KtOpenRefused};

@@ -4,11 +4,13 @@ ghost use Rattle.std.specs.Prelude.{◌≡◌, ◌≤◌, length, drop, IfOk, If
 ghost use Rattle.krb_keytab.specs.Cells.{contents, image as image_of};
 ghost use Rattle.krb_keytab.specs.Image.{IsKnownEnd};
 ghost use Rattle.krb_keytab.specs.Store.{format_of, open_result, IsImage};
-ghost use Rattle.krb_keytab.specs.Open.{open_fault_number};
+ghost use Rattle.krb_keytab.specs.Open.{open_fault_number, open_fault_phrase};
 
 use crate::image::{CellsEnd, end_of_cells, spelled_of};
 use krb_wire::{KtFormat, Order};
 use std::alloc::Allocator;
+use std::error::Error;
+use std::fmt;
 
 /// Why an image is no keytab.
 #[derive(Clone, Copy, Debug, PartialEq, Eq)]
@@ -32,13 +34,55 @@ impl KtOpenFault {
             KtOpenFault::TooLarge => 3,
         }
     }
+
+    /// What it is, in words.
+    pub fn phrase(self) -> &'static str
+        ensures { result.now ≡ open_fault_phrase self }
+    {
+        match self {
+            KtOpenFault::TooShort => "it has fewer than two bytes",
+            KtOpenFault::BadVersion => "it does not begin as a keytab of version 1 or 2",
+            KtOpenFault::TooLarge => "it is longer than the limit",
+        }
+    }
 }
+
+impl fmt::Display for KtOpenFault {
+    ghost use Rattle.std.specs.Prelude.{Some};
+
+    ghost output = { λ fault. Some (open_fault_phrase fault) };
+
+    fn fmt<W: fmt::Write>(&self, f: &mut fmt::Formatter<W>) -> fmt::Result {
+        f.write_str(self.phrase())
+    }
+}
+
+impl Error for KtOpenFault {}
 
 /// An image that is no keytab, handed back as it was.
 #[derive(Drop)]
 pub struct KtOpenRefused<A: Allocator> {
     pub why: KtOpenFault,
     pub image: Vec<u8, A>,
+}
+
+impl<A: Allocator> fmt::Display for KtOpenRefused<A> {
+    ghost use Rattle.std.specs.Prelude.{Some};
+
+    ghost output = { λ refused. Some (open_fault_phrase refused.why) };
+
+    fn fmt<W: fmt::Write>(&self, f: &mut fmt::Formatter<W>) -> fmt::Result {
+        f.write_str(self.why.phrase())
+    }
+}
+
+/// The image is dropped.
+impl<A: Allocator> From<KtOpenRefused<A>> for KtOpenFault {
+    ghost from_gives = { λ refused why. why ≡ refused.why };
+
+    fn from(refused: KtOpenRefused<A>) -> KtOpenFault {
+        refused.why
+    }
 }
 
 /// What is known of an image that is a keytab.

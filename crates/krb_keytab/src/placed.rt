@@ -45,6 +45,7 @@ impl<A: Allocator + Copy> Placed for Keytab<A> {
         self.add(item)
     }
 
+    #[tactic(auto, using(crate::proofs::StoreChanges::removal_cuts))]
     fn cut(&mut self, place: u32) -> Result<(), Code> {
         self.remove_at(place)
     }

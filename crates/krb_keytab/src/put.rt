@@ -1,7 +1,8 @@
 //! Cells, written over an image in place.
 
-ghost use Rattle.std.specs.Prelude.{◌≡◌, ◌≤◌, ◌<◌, ◌^◌, ◌+◌, ◌-◌, length, replicate};
+ghost use Rattle.std.specs.Prelude.{◌≡◌, ◌≤◌, ◌<◌, ◌^◌, ◌+◌, length, replicate};
 ghost use Rattle.std.specs.List.{splice};
+ghost use Rattle.krb_wire.specs.Pen.{HasRoom, Puts};
 ghost use Rattle.krb_wire.specs.Spelling.{order_of};
 ghost use Rattle.krb_keytab.specs.Cells.{cell, Live, Free};
 ghost use Rattle.krb_keytab.specs.Changes.{with_zeros};
@@ -9,23 +10,14 @@ ghost use Rattle.krb_keytab.specs.Laws.{AreBytes};
 
 use crate::form::Form;
 use crate::length::Length;
-use krb_wire::{KtFormat, Name, put_u32};
+use krb_wire::{KtFormat, Name, Pen};
 
 /// What a slice of bytes holds is below 256.
 pub fn bytes_fit(bytes: &[u8])
     ensures { AreBytes bytes.now }
 {}
 
-/// Writes zeros from a place to another.
-pub fn put_zeros(out: &mut [u8], at: usize, to: usize)
-    requires ahead { at ≤ to }
-    requires room { to ≤ length out.old }
-    ensures { out.new ≡ splice out.old at to (replicate (to - at) 0) }
-{
-    out[at..to].fill(0);
-}
-
-/// Makes the bytes at a place a hole of so many zeros.
+/// Makes the bytes at a place a hole of this many zeros.
 pub fn put_hole(format: KtFormat, image: &mut [u8], at: usize, size: usize)
     requires room { at + 4 + size ≤ length image.old }
     requires some { 0 < size }
@@ -33,11 +25,23 @@ pub fn put_hole(format: KtFormat, image: &mut [u8], at: usize, size: usize)
     ensures { image.new ≡ splice image.old at (at + 4 + size)
         (cell (order_of format) (Free (replicate size 0))) }
 {
-    let from = put_u32(format.order(), Length::Free(size as u32).field(), image, at);
-    put_zeros(image, from, from + size);
+    let mut pen = Pen::new(image, at);
+    pen.put_u32(format.order(), Length::Free(size as u32).field());
+    pen.put_zeros(size);
 }
 
-/// Makes the bytes at a place a record of so many bytes: a written form, and zeros after it.
+/// Writes a record that is a written form, and no more.
+pub fn put_form<N: Name>(form: &Form<'_, N>, pen: &mut Pen<'_>)
+    requires room { HasRoom pen.old (cell (order_of form.now.format) (Live form.now.bytes)) }
+    requires small { length form.now.bytes < 2 ^ 31 }
+    ensures { Puts pen.old pen.new (cell (order_of form.now.format) (Live form.now.bytes)) }
+{
+    let order = form.format().order();
+    pen.put_u32(order, Length::Live(form.len() as u32).field());
+    form.put(pen);
+}
+
+/// Makes the bytes at a place a record of this many bytes: a written form, and zeros after it.
 pub fn put_record<N: Name>(image: &mut [u8], at: usize, size: usize, form: &Form<'_, N>)
     requires room { at + 4 + size ≤ length image.old }
     requires fits { length form.now.bytes ≤ size }
@@ -46,12 +50,9 @@ pub fn put_record<N: Name>(image: &mut [u8], at: usize, size: usize, form: &Form
     ensures { image.new ≡ splice image.old at (at + 4 + size)
         (cell (order_of form.now.format) (Live (with_zeros form.now.bytes size))) }
 {
-    let from = put_u32(
-        form.format().order(),
-        Length::Live(size as u32).field(),
-        image,
-        at,
-    );
-    let after = form.put(image, from);
-    put_zeros(image, after, from + size);
+    let order = form.format().order();
+    let mut pen = Pen::new(image, at);
+    pen.put_u32(order, Length::Live(size as u32).field());
+    form.put(&mut pen);
+    pen.put_zeros(size - form.len());
 }

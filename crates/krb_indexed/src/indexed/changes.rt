@@ -1,20 +1,17 @@
 //! Changes of a keytab and of its table: each is one of one cell.
 
-ghost use Rattle.std.specs.Prelude.{◌≡◌, ◌<◌, ◌^◌, true, false, length, is_some, IsSome, Some, None, IfOk, OnOk};
+ghost use Rattle.std.specs.Prelude.{◌≡◌, ◌<◌, ◌^◌, true, false, length, is_some, Some, None, IfOk, OnOk};
 ghost use Rattle.krb_walk.specs.Rules.{PutGives, CutGives};
 ghost use Rattle.krb_walk.specs.Memory.{HadMemory};
 ghost use Rattle.krb_walk.specs.Store.{fault_of, live_bytes};
 ghost use Rattle.krb_keytab.specs.Store.{store_of, entry_at_place};
 ghost use Rattle.krb_keytab.specs.Form.{fits, read_back, written_form, IsEntry};
-ghost use Rattle.krb_keytab.specs.Hole.{hole_from};
-ghost use Rattle.krb_keytab.specs.Changes.{cut_result, put_result, remove_result, takes_none, with_hole};
-ghost use Rattle.krb_keytab.specs.Remove.{AnswersRemove};
+ghost use Rattle.krb_keytab.specs.Changes.{Adds, hole_from, cut_result, put_result, remove_result, takes_none, with_hole, AnswersRemove};
 ghost use Rattle.krb_indexed.specs.Index.{IsFit, IsLiveNumber};
 
 use super::Indexed;
-use crate::grow::{push_live, reserve_one};
+use crate::index::{push_live, put_slot, reserve_one};
 use crate::slot::Slot;
-use crate::turn::put_slot;
 use krb_keytab::{Hole, Length, NewEntry};
 use krb_walk::{Code, Refusal};
 use krb_wire::Name;
@@ -29,7 +26,7 @@ impl<A: Allocator> Indexed<A> {
     {
         let _ = self.image();
         let record = self.slot(number);
-        let hole = record.turned();
+        let hole = record.negated();
         self.keytab.free_at(place, record.size() as usize);
         put_slot(&mut self.slots, &mut self.tree, number, hole);
     }
@@ -39,11 +36,7 @@ impl<A: Allocator> Indexed<A> {
         requires whole { is_some (fault_of (store_of self.old.state)) ≡ false }
         requires fits { fits self.old.state.format entry.now ≡ true }
         requires hole { IsFit self.old.state (length (written_form self.old.state.format entry.now)) (Some number) }
-        ensures gives { PutGives (put_result self.old.state entry.now) self.old.state result self.new.state }
-        ensures memory { takes_none self.old.state entry.now ≡ true → HadMemory result }
-        ensures room { takes_none self.old.state entry.now ≡ true → self.new.room ≡ self.old.room }
-        ensures read { IfOk result (λ place. entry_at_place self.new.state place
-            ≡ Some (read_back self.old.state.format entry.now)) }
+        ensures adds { Adds self.old entry.now result self.new }
         ensures numbers { IsEntry entry.now }
     {
         let _ = self.image();
@@ -53,7 +46,7 @@ impl<A: Allocator> Indexed<A> {
             size: slot.size() as usize,
         };
         let place = self.keytab.add_at(entry, Some(hole))?;
-        put_slot(&mut self.slots, &mut self.tree, number, slot.turned());
+        put_slot(&mut self.slots, &mut self.tree, number, slot.negated());
         Ok(place)
     }
 
@@ -65,11 +58,7 @@ impl<A: Allocator> Indexed<A> {
         requires some { (0 < need) × (need < 2 ^ 34) }
         requires none { hole_from 2 need self.old.state.contents.cells ≡ None }
         requires entry { IsEntry entry.now }
-        ensures gives { PutGives (put_result self.old.state entry.now) self.old.state result self.new.state }
-        ensures memory { takes_none self.old.state entry.now ≡ true → HadMemory result }
-        ensures room { takes_none self.old.state entry.now ≡ true → self.new.room ≡ self.old.room }
-        ensures read { IfOk result (λ place. entry_at_place self.new.state place
-            ≡ Some (read_back self.old.state.format entry.now)) }
+        ensures { Adds self.old entry.now result self.new }
     {
         let _ = self.image();
         if !self.keytab.has_room(need) {
@@ -86,7 +75,7 @@ impl<A: Allocator> Indexed<A> {
         Ok(put)
     }
 
-    // The first hole that takes a record of so many bytes, by its number among the cells.
+    // The first hole that takes a record of this many bytes, by its number among the cells.
     fn number_for(&self, need: usize) -> Option<usize>
         requires { 0 < need }
         ensures { IsFit self.now.state need result }

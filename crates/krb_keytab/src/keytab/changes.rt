@@ -6,23 +6,22 @@ ghost use Rattle.krb_walk.specs.Memory.{HadMemory};
 ghost use Rattle.krb_walk.specs.Store.{fault_of, live_bytes};
 ghost use Rattle.krb_keytab.specs.Store.{image_of, store_of, entry_at_place};
 ghost use Rattle.krb_keytab.specs.Form.{fits, read_back, written_form, IsEntry};
-ghost use Rattle.krb_keytab.specs.Changes.{cut_result, put_result, takes_none, with_last, with_record_in, with_hole};
-ghost use Rattle.krb_keytab.specs.Hole.{hole_from};
+ghost use Rattle.krb_keytab.specs.Changes.{Adds, AnswersRemove, cut_result, put_result, remove_result, takes_none, with_last, with_record_in, with_hole, hole_from};
 ghost use Rattle.krb_keytab.specs.Append.{AnswersAppend, KeepsRoom};
 
 use super::Keytab;
 use crate::append::{append_record, len_with};
+use crate::cells::{Hole, first_hole};
 use crate::form::Form;
-use crate::hole::{Hole, first_hole};
 use crate::image::spelled_of;
 use crate::new_entry::NewEntry;
-use crate::turn::{fill_hole, free_cell};
+use crate::replace::{fill_hole, free_cell};
 use krb_walk::{Code, Refusal};
 use krb_wire::Name;
 use std::alloc::Allocator;
 
 impl<A: Allocator> Keytab<A> {
-    /// Makes the record of so many bytes that stands at a place a hole of its size, all zeros. Nothing is read.
+    /// Makes the record of this many bytes that stands at a place a hole of its size, all zeros. Nothing is read.
     pub fn free_at(&mut self, place: u32, size: usize)
         requires live { IsSome (live_bytes (store_of self.old.state) place) }
         requires size { IfSome (live_bytes (store_of self.old.state) place) (λ b. length b ≡ size) }
@@ -60,7 +59,21 @@ impl<A: Allocator> Keytab<A> {
         Ok(())
     }
 
-    // The first hole of at least so many bytes.
+    /// Removes the record that `find` gives for the same arguments, and answers its place. It refuses
+    /// as `find` does.
+    pub fn remove<N: Name>(&mut self, name: &N, kvno: u32, enctype: u16) -> Result<u32, Code>
+        ensures gives { AnswersRemove self.old.state (remove_result self.old.state (N.parts name.now) kvno enctype)
+            result self.new.state }
+        // No record stands there any more.
+        ensures gone { IfOk result (λ place. live_bytes (store_of self.new.state) place ≡ None) }
+        ensures room { self.new.room ≡ self.old.room }
+    {
+        let (place, _) = self.find(name, kvno, enctype)?;
+        self.remove_at(place)?;
+        Ok(place)
+    }
+
+    // The first hole of at least this many bytes.
     fn hole(&self, need: usize) -> Option<Hole>
         ensures first { result ≡ hole_from 2 need self.now.state.contents.cells }
         ensures within { IfSome result (λ h. h.place < 2 ^ 32) }
@@ -109,7 +122,7 @@ impl<A: Allocator> Keytab<A> {
         Some(form.len())
     }
 
-    /// Whether the limit allows a record of so many bytes after the cells of a keytab that is whole.
+    /// Whether the limit allows a record of this many bytes after the cells of a keytab that is whole.
     pub fn has_room(&self, need: usize) -> bool
         requires whole { fault_of (store_of self.now.state) ≡ None }
         requires small { need < 2 ^ 34 }
@@ -129,11 +142,7 @@ impl<A: Allocator> Keytab<A> {
         requires first { fits self.old.state.format entry.now ≡ true
             → hole ≡ hole_from 2 (length (written_form self.old.state.format entry.now)) self.old.state.contents.cells }
         requires within { IfSome hole (λ h. h.place < 2 ^ 32) }
-        ensures gives { PutGives (put_result self.old.state entry.now) self.old.state result self.new.state }
-        ensures memory { takes_none self.old.state entry.now ≡ true → HadMemory result }
-        ensures room { takes_none self.old.state entry.now ≡ true → self.new.room ≡ self.old.room }
-        ensures read { IfOk result (λ place. entry_at_place self.new.state place
-            ≡ Some (read_back self.old.state.format entry.now)) }
+        ensures adds { Adds self.old entry.now result self.new }
         ensures numbers { IsEntry entry.now }
     {
         let fields = entry.fields();

@@ -5,7 +5,7 @@ use Rattle.krb_wire.proofs.Fields.{IsBytes}
 use Rattle.krb_keytab.specs.Cells.{Live, contents}
 use Rattle.krb_keytab.specs.Image.{IsChanged, len_with}
 use Rattle.krb_keytab.specs.Changes.{end_after}
-use Rattle.krb_keytab.proofs.Appended.{appended_is}
+use Rattle.krb_keytab.proofs.AppendLemmas.{appended_is}
 use Rattle.krb_keytab.proofs.append.append_record.Goals as goal
 
 -- what a vector of bytes holds

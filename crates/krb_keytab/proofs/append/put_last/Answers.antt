@@ -1,25 +1,21 @@
-use Rattle.std.proofs.Common.{◌≡◌, ℕ, ◌+◌, ◌-◌, ◌≤◌, List, ◌++◌, length, replicate, refl, ap, ◌∙◌, arith}
-use Rattle.std.specs.List.{splice}
-use Rattle.krb_wire.specs.declared.format.Order.{Order}
+use Rattle.std.proofs.Common.{rules, ℕ, List, ◌+◌, ◌-◌, ◌++◌, length, replicate, arith}
+use Rattle.std.proofs.lemmas.List.{length-append, length-replicate}
+use Rattle.krb_wire.specs.Pen.{Puts}
 use Rattle.krb_wire.specs.Spelling.{order_of}
-use Rattle.krb_wire.proofs.SpliceLemmas.{splice-then}
-use Rattle.krb_keytab.specs.Cells.{cell, Live}
-use Rattle.krb_keytab.specs.Changes.{with_zeros}
+use Rattle.krb_wire.proofs.PenLemmas.{puts_then}
+use Rattle.krb_keytab.specs.Cells.{Live, cell}
 use Rattle.krb_keytab.proofs.Cuts.{cell_len}
-use Rattle.krb_keytab.proofs.Turned.{padded_self}
+use Rattle.krb_keytab.proofs.Splices.{written_over}
 use Rattle.krb_keytab.proofs.append.put_last.Goals as goal
-
-last_written : (o : Order) (image mid new x : List ℕ) (at n len : ℕ) → n ≡ length x → at + 4 + length x ≤ length image → len ≡ length image
-    → mid ≡ splice image at (at + 4 + n) (cell o (Live (with_zeros x n))) → new ≡ splice mid (at + 4 + n) len (replicate {A = ℕ} (len - (at + 4 + n)) 0)
-    → new ≡ splice image at (length image) (cell o (Live x) ++ replicate {A = ℕ} (length image - (at + 4 + length x)) 0)
-last_written o image mid new x at n len is_n room is_len first second =
-    let to = at + 4 + length x in
-    let record_put : mid ≡ splice image at to (cell o (Live x)) =
-    first ∙ ap (λ (m : ℕ). splice image at (at + 4 + m) (cell o (Live (with_zeros x m)))) is_n ∙ ap (λ (b : List ℕ). splice image at to (cell o (Live b))) (padded_self x) in
-    let zeros_put : new ≡ splice mid to (length image) (replicate {A = ℕ} (length image - to) 0) =
-    second ∙ ap (λ (m : ℕ). splice mid (at + 4 + m) len (replicate {A = ℕ} (len - (at + 4 + m)) 0)) is_n ∙ ap (λ (m : ℕ). splice mid to m (replicate {A = ℕ} (m - to) 0)) is_len in
-    splice-then image mid new (cell o (Live x)) (replicate {A = ℕ} (length image - to) 0) at to (length image) (omega arith) (omega (arith, cell_len o (Live x))) room record_put zeros_put
 
 pub returns : goal.returns
 returns g c =
-    last_written (order_of c.args.form.now.format) c.args.image.now c.put_record.new.image c.put_zeros.new.out c.args.form.now.bytes c.args.at c.len-need.result _ c.len-need.ensures.len c.requires.room refl c.put_record.ensures c.put_zeros.ensures
+    let o = order_of c.args.form.now.format in
+    let x = c.args.form.now.bytes in
+    let rest = length c.args.image.now - (c.args.at + 4 + length x) in
+    let zeros : List ℕ = replicate {A = ℕ} rest 0 in
+    let both = puts_then c.put_form.ensures c.put_zeros.ensures in
+    let puts : Puts c.new-pen.result c.put_zeros.new.self (cell o (Live x) ++ zeros) = rw c.len-need.ensures.len at both in
+    let room = c.requires.room in
+    let written = written_over c.args.image.now (cell o (Live x) ++ zeros) c.args.at (length c.args.image.now) c.new-pen.result c.put_zeros.new.self puts c.new-pen.ensures.bytes c.new-pen.ensures.place (omega (arith, room, length-append (cell o (Live x)) zeros, cell_len o (Live x), length-replicate {A = ℕ} rest 0)) in
+    search rules

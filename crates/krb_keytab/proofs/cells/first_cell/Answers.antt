@@ -3,7 +3,7 @@ use Rattle.std.specs.Int.{w32}
 use Rattle.krb_wire.specs.declared.format.Order.{Order}
 use Rattle.krb_wire.specs.Reading.{number_at}
 use Rattle.krb_keytab.specs.Cells.{cell_in}
-use Rattle.krb_keytab.specs.CellsFrom.{IsFirst}
+use Rattle.krb_keytab.specs.CellViews.{IsFirst}
 use Rattle.krb_keytab.proofs.FirstLemmas.{first_read, none_read}
 use Rattle.krb_keytab.proofs.cells.first_cell.Goals as goal
 

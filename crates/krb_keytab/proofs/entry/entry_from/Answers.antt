@@ -1,5 +1,5 @@
 use Rattle.std.proofs.Common.{arith}
-use Rattle.krb_keytab.proofs.AnewLemmas.{read_fits}
+use Rattle.krb_keytab.proofs.NewRecords.{read_fits}
 use Rattle.krb_keytab.proofs.entry.entry_from.Goals as goal
 
 pub invariant_of-result : goal.invariant_of-result

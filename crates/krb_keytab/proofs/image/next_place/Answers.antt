@@ -1,6 +1,6 @@
 use Rattle.std.proofs.Common.{ℕ, ◌+◌, sym, subst, arith}
-use Rattle.krb_keytab.specs.Step.{IsPassed}
-use Rattle.krb_keytab.proofs.Steps.{passed, ends_there}
+use Rattle.krb_keytab.specs.Image.{IsPassed}
+use Rattle.krb_keytab.proofs.EndLemmas.{passed, ends_there}
 use Rattle.krb_keytab.proofs.image.next_place.Goals as goal
 
 pub returns-in-Ok : goal.returns-in-Ok

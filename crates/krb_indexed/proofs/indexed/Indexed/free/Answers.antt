@@ -7,14 +7,14 @@ use Rattle.krb_keytab.specs.Store.{KeytabState, store_of}
 use Rattle.krb_indexed.proofs.BytesLemmas.{live_count}
 use Rattle.krb_keytab.proofs.Stores.{state_is}
 use Rattle.krb_indexed.specs.declared.slot.Slot.{Slot}
-use Rattle.krb_indexed.specs.Slot.{turned, free_size}
+use Rattle.krb_indexed.specs.Slot.{negated, free_size}
 use Rattle.krb_indexed.specs.Index.{slot_at}
 use Rattle.krb_indexed.proofs.LiveLemmas.{live_length}
 use Rattle.krb_indexed.proofs.ChangeLemmas.{IsKept, freed_kept}
 use Rattle.krb_indexed.proofs.indexed.Indexed.free.Goals as goal
 
-pub turned-hole-requires : goal.turned-hole-requires
-turned-hole-requires g c =
+pub negated-hole-requires : goal.negated-hole-requires
+negated-hole-requires g c =
     let long = live_length c.args.self.now.state c.args.number c.args.place c.image.ensures.sound c.requires in
     omega (arith, long, ap (λ (s : Slot). s.field) c.slot-record.ensures)
 
@@ -34,11 +34,11 @@ invariant_of-self g c =
     let k = c.args.self.now.state in
     let n = c.args.number in
     let kept = subst (λ (y : KeytabState). IsKept y i.slots.items (vec_len i.slots) (vec_capacity i.slots) i.tree) (state_is c.self.view_is) c.self.invariant in
-    let slot : c.turned-hole.result ≡ turned (slot_at k n) = c.turned-hole.ensures ∙ ap turned c.slot-record.ensures in
+    let slot : c.negated-hole.result ≡ negated (slot_at k n) = c.negated-hole.ensures ∙ ap negated c.slot-record.ensures in
     let new = c.put_slot.new in
-    let sizes : new.tree.sizes ≡ set i.tree.sizes n (free_size (turned (slot_at k n))) = c.put_slot.ensures.sizes ∙ ap (λ (x : Slot). set i.tree.sizes n (free_size x)) slot in
-    let slots : new.slots.items ≡ set i.slots.items n (turned (slot_at k n)) = c.put_slot.ensures.slots ∙ ap (set i.slots.items n) slot in
+    let sizes : new.tree.sizes ≡ set i.tree.sizes n (free_size (negated (slot_at k n))) = c.put_slot.ensures.sizes ∙ ap (λ (x : Slot). set i.tree.sizes n (free_size x)) slot in
+    let slots : new.slots.items ≡ set i.slots.items n (negated (slot_at k n)) = c.put_slot.ensures.slots ∙ ap (set i.slots.items n) slot in
     let state : with_hole k c.args.place ≡ c.free_at.new.self.state = sym (c.free_at.ensures.freed ∙ ap (λ (y : KeytabState). with_hole y c.args.place) (state_is c.self.view_is)) in
     let after = freed_kept k i.slots.items i.tree new.tree (vec_len i.slots) (vec_capacity i.slots) n c.args.place kept c.requires sizes c.put_slot.ensures.height c.put_slot.ensures.node_room in
-    let same = subst (λ (y : KeytabState). IsKept y (set i.slots.items n (turned (slot_at k n))) (vec_len i.slots) (vec_capacity i.slots) new.tree) state after in
+    let same = subst (λ (y : KeytabState). IsKept y (set i.slots.items n (negated (slot_at k n))) (vec_len i.slots) (vec_capacity i.slots) new.tree) state after in
     rw (slots, c.put_slot.ensures.len, c.put_slot.ensures.slot_room) same

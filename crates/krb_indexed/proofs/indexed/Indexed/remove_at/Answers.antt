@@ -1,6 +1,6 @@
 use Rattle.std.proofs.Common.{rules, ◌≡◌, Ok}
 use Rattle.krb_keytab.specs.Changes.{cut_result}
-use Rattle.krb_keytab.proofs.FoundAgain.{removed_none}
+use Rattle.krb_keytab.proofs.AfterChanges.{removed_none}
 use Rattle.krb_indexed.proofs.indexed.Indexed.remove_at.Goals as goal
 
 pub returns-clause-gone : goal.returns-clause-gone

@@ -3,11 +3,10 @@ use Rattle.std.specs.Prelude.{is_some}
 use Rattle.krb_walk.specs.Store.{fault_of}
 use Rattle.krb_keytab.specs.Form.{FormParts, fits, written_form, IsEntry}
 use Rattle.krb_keytab.specs.Store.{KeytabState, store_of}
-use Rattle.krb_keytab.specs.Changes.{with_record_in}
-use Rattle.krb_keytab.specs.Hole.{hole_from}
+use Rattle.krb_keytab.specs.Changes.{with_record_in, hole_from}
 use Rattle.krb_keytab.specs.Append.{AnswersAppend, KeepsRoom}
 use Rattle.krb_keytab.proofs.Additions.{gives_put, put_wants, put_keeps, put_after_all, none_large, put_in_hole}
-use Rattle.krb_keytab.proofs.FoundAgain.{added_reads}
+use Rattle.krb_keytab.proofs.AfterChanges.{added_reads}
 use Rattle.krb_keytab.proofs.StoreChanges.{addition_read}
 use Rattle.krb_keytab.proofs.keytab.Keytab.add_at.Goals as goal
 
@@ -28,10 +27,12 @@ returns-in_default-hole g c =
     let is = subst IsEntry c.fields-fields.ensures c.numbers_fit.ensures in
     let gives = gives_put k e c.append.result c.append.new.self.state after answer in
     record {
-      gives = gives;
-      memory = put_wants k e c.append.result c.append.new.self.state after no_hole answer;
-      room = put_keeps c.args.self.now e c.append.result c.append.new.self after no_hole answer keeps;
-      read = addition_read k c.append.new.self.state e c.append.result is gives;
+      adds = record {
+        gives = gives;
+        memory = put_wants k e c.append.result c.append.new.self.state after no_hole answer;
+        room = put_keeps c.args.self.now e c.append.result c.append.new.self after no_hole answer keeps;
+        read = addition_read k c.append.new.self.state e c.append.result is gives;
+      };
       numbers = is;
     }
 
@@ -49,9 +50,11 @@ returns g c =
     let is = subst IsEntry c.fields-fields.ensures c.numbers_fit.ensures in
     let gives = put_in_hole k e h whole fit hole ∙ ap (λ (b : List ℕ). Ok (h.place, with_record_in k b h.place)) (sym bytes) ∙ ap (λ (y : KeytabState). Ok (h.place, y)) (sym c.fill.ensures.filled) in
     record {
-      gives = gives;
-      memory = λ takes. tt;
-      room = λ takes. c.fill.ensures.room;
-      read = added_reads k e (h.place, c.fill.new.self.state) is gives;
+      adds = record {
+        gives = gives;
+        memory = λ takes. tt;
+        room = λ takes. c.fill.ensures.room;
+        read = added_reads k e (h.place, c.fill.new.self.state) is gives;
+      };
       numbers = is;
     }

@@ -1,7 +1,7 @@
 use Rattle.std.proofs.Common.{sym, ap, subst, drop, ◌∙◌}
 use Rattle.krb_wire.specs.declared.format.KtFormat.{KtFormat}
 use Rattle.krb_keytab.specs.Cells.{contents}
-use Rattle.krb_keytab.specs.CellsFrom.{CellsFrom, AreKnown}
+use Rattle.krb_keytab.specs.CellViews.{CellsFrom, AreKnown}
 use Rattle.krb_keytab.specs.Store.{KeytabState}
 use Rattle.krb_keytab.proofs.Stores.{state_is, known_held, cells_held}
 use Rattle.krb_keytab.proofs.keytab.Keytab.cells_in.Goals as goal

@@ -2,7 +2,7 @@ use Rattle.std.proofs.Common.{◌≡◌, ℕ, List, [], ◌∷◌, drop, refl}
 use Rattle.krb_wire.specs.declared.format.KtFormat.{KtFormat}
 use Rattle.krb_keytab.specs.Cells.{contents}
 use Rattle.krb_keytab.specs.Store.{KeytabState, empty}
-use Rattle.krb_keytab.proofs.Turned.{contents_none}
+use Rattle.krb_keytab.proofs.ImageChanges.{contents_none}
 use Rattle.krb_keytab.proofs.keytab.Keytab.create.Goals as goal
 
 holds_nothing : (f : KtFormat) (limit most version : ℕ) (bytes : List ℕ) → limit ≡ most → bytes ≡ 5 ∷ version ∷ []

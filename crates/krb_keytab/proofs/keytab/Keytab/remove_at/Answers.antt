@@ -2,7 +2,7 @@ use Rattle.std.proofs.Common.{rules, ◌≡◌, ℕ, List, Option, Some, None, O
 use Rattle.std.specs.Prelude.{IsSome, is_some, option_copied}
 use Rattle.std.specs.Borrow.{Bor}
 use Rattle.krb_keytab.specs.Changes.{cut_result}
-use Rattle.krb_keytab.proofs.FoundAgain.{removed_none}
+use Rattle.krb_keytab.proofs.AfterChanges.{removed_none}
 use Rattle.krb_keytab.proofs.keytab.Keytab.remove_at.Goals as goal
 
 copied_some : (bytes : Option (Bor (List ℕ))) → is_some bytes ≡ true → IsSome (option_copied bytes)

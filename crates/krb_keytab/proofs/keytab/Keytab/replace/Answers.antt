@@ -5,34 +5,24 @@ use Rattle.krb_walk.specs.Store.{Store, IsPlace}
 use Rattle.krb_walk.specs.Ranks.{carry, Rewrites}
 use Rattle.krb_keytab.specs.Store.{InMemory, store_of}
 use Rattle.krb_keytab.proofs.Stores.{state_is}
-use Rattle.krb_keytab.proofs.Seen.{old_store}
+use Rattle.krb_keytab.proofs.ImageStores.{old_store}
 use Rattle.krb_keytab.proofs.keytab.Keytab.replace.Goals as goal
 
-pub carry_to-requires-clause-ahead : goal.carry_to-requires-clause-ahead
-carry_to-requires-clause-ahead g c =
-    let i = c.self.inside in
-    (old_store i.format i.limit i.image.items c.deref_mut.result.now i.end c.args.self.now.state c.deref_mut.ensures.value (subst IsBytes c.deref.ensures.value c.bytes_fit.ensures) c.self.invariant.0 c.self.invariant.1 (state_is c.self.view_is) c.requires.rewrites.whole).ahead
-
-pub carry_to-requires-clause-cells : goal.carry_to-requires-clause-cells
-carry_to-requires-clause-cells g c =
-    let i = c.self.inside in
-    (old_store i.format i.limit i.image.items c.deref_mut.result.now i.end c.args.self.now.state c.deref_mut.ensures.value (subst IsBytes c.deref.ensures.value c.bytes_fit.ensures) c.self.invariant.0 c.self.invariant.1 (state_is c.self.view_is) c.requires.rewrites.whole).are
-
-pub carry_to-requires-clause-rewrites : goal.carry_to-requires-clause-rewrites
-carry_to-requires-clause-rewrites g c =
+pub carry_to-requires : goal.carry_to-requires
+carry_to-requires g c =
     let i = c.self.inside in
     let o = old_store i.format i.limit i.image.items c.deref_mut.result.now i.end c.args.self.now.state c.deref_mut.ensures.value (subst IsBytes c.deref.ensures.value c.bytes_fit.ensures) c.self.invariant.0 c.self.invariant.1 (state_is c.self.view_is) c.requires.rewrites.whole in
-    subst (λ (s : Store). Rewrites s c.seen.result) (sym o.store) (subst (λ (s : Store). Rewrites (store_of c.args.self.now.state) s) (sym c.seen.ensures) c.requires.rewrites)
-
-pub carry_to-requires-clause-places : goal.carry_to-requires-clause-places
-carry_to-requires-clause-places g c =
-    let i = c.self.inside in
-    let o = old_store i.format i.limit i.image.items c.deref_mut.result.now i.end c.args.self.now.state c.deref_mut.ensures.value (subst IsBytes c.deref.ensures.value c.bytes_fit.ensures) c.self.invariant.0 c.self.invariant.1 (state_is c.self.view_is) c.requires.rewrites.whole in
-    subst (λ (s : Store). AllByRecursion (IsPlace s) c.args.cursors.now) (sym o.store) c.requires.places
+    record {
+      ahead = o.ahead;
+      within = o.within;
+      cells = o.are;
+      rewrites = subst (λ (s : Store). Rewrites s c.store.result) (sym o.store) (subst (λ (s : Store). Rewrites (store_of c.args.self.now.state) s) (sym c.store.ensures) c.requires.rewrites);
+      places = subst (λ (s : Store). AllByRecursion (IsPlace s) c.args.cursors.now) (sym o.store) c.requires.places;
+    }
 
 pub returns-clause-carries : goal.returns-clause-carries
 returns-clause-carries g c =
     let i = c.self.inside in
     let o = old_store i.format i.limit i.image.items c.deref_mut.result.now i.end c.args.self.now.state c.deref_mut.ensures.value (subst IsBytes c.deref.ensures.value c.bytes_fit.ensures) c.self.invariant.0 c.self.invariant.1 (state_is c.self.view_is) c.requires.rewrites.whole in
-    c.carry_to.ensures ∙ ap (λ (s : Store). map (carry s c.seen.result) c.args.cursors.now) o.store
-    ∙ ap (λ (s : Store). map (carry (store_of c.args.self.now.state) s) c.args.cursors.now) (c.seen.ensures ∙ ap (λ (k : InMemory). store_of k.state) (sym c.drop.view_is))
+    c.carry_to.ensures ∙ ap (λ (s : Store). map (carry s c.store.result) c.args.cursors.now) o.store
+    ∙ ap (λ (s : Store). map (carry (store_of c.args.self.now.state) s) c.args.cursors.now) (c.store.ensures ∙ ap (λ (k : InMemory). store_of k.state) (sym c.drop.view_is))

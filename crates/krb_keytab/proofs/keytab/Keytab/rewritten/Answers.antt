@@ -1,10 +1,11 @@
 use Rattle.std.proofs.Common.{◌≡◌, false, sym, subst}
 use Rattle.std.specs.Prelude.{is_some}
-use Rattle.krb_walk.specs.Store.{fault_of}
+use Rattle.krb_walk.specs.Store.{end_of, fault_of}
 use Rattle.krb_walk.specs.Ranks.{Rewrites}
+use Rattle.krb_keytab.specs.Cells.{kind_of}
 use Rattle.krb_keytab.specs.Store.{KeytabState, store_of}
-use Rattle.krb_keytab.proofs.Stores.{state_is}
-use Rattle.krb_keytab.proofs.Rewrites.{held_anew, rewrites_store, whole_kind}
+use Rattle.krb_keytab.proofs.Stores.{state_is, whole_of}
+use Rattle.krb_keytab.proofs.Rewrites.{rewrite_held, rewrites_store}
 use Rattle.krb_keytab.proofs.keytab.Keytab.rewritten.Goals as goal
 
 pub returns-clause-rewrites : goal.returns-clause-rewrites
@@ -12,5 +13,5 @@ returns-clause-rewrites g c =
     let i = c.self.inside in
     let k = c.args.self.now.state in
     let whole : is_some (fault_of (store_of k)) ≡ false = let a = c.fault.ensures in let b = c.is_some.ensures in let d = c.if-is_some.false in cc in
-    subst (λ (s : KeytabState). Rewrites (store_of k) (store_of s)) (sym (held_anew i.format i.limit i.image.items c.in_ok-image.image.items k (state_is c.self.view_is) c.in_ok-image.ensures.contents))
-    (rewrites_store k c.anew_is_sound.ensures.was c.anew_is_sound.ensures.sound (whole_kind k whole))
+    subst (λ (s : KeytabState). Rewrites (store_of k) (store_of s)) (sym (rewrite_held i.format i.limit i.image.items c.in_ok-image.image.items k (state_is c.self.view_is) c.in_ok-image.ensures.contents))
+    (rewrites_store k c.rewrite_is_sound.ensures.was c.rewrite_is_sound.ensures.sound (whole_of (end_of (store_of k)) (kind_of k.contents.end) whole))

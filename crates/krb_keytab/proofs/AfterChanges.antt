@@ -1,0 +1,113 @@
+-- What an addition and a removal give: what was added is read there, and what was removed stands there no more.
+use Rattle.std.proofs.Common.{◌≡◌, ℕ, ◌⊎◌, true, false, cond, ltb, List, [], ◌++◌, length, map, replicate, Option, Some, None, Result, Ok, Err, refl, sym, ap, subst, ◌∙◌, inl, inr}
+use Rattle.std.specs.Prelude.{is_some}
+use Rattle.std.proofs.lemmas.List.{append-nil}
+use Rattle.krb_wire.specs.Reading.{◌>>=◌}
+use Rattle.krb_wire.proofs.Fields.{is_some_has}
+use Rattle.krb_walk.specs.declared.refusal.Code.TheVariants as code
+use Rattle.krb_walk.specs.Store.{end_of, fault_of, live_bytes as store_bytes}
+use Rattle.krb_walk.proofs.Stops.{bytes_from}
+use Rattle.krb_keytab.specs.Entry.{EntryParts, entry_at}
+use Rattle.krb_keytab.specs.Cells.{Cell, Live, size}
+use Rattle.krb_keytab.specs.Store.{KeytabState, image_of, store_cell, store_of, entry_at_place}
+use Rattle.krb_keytab.specs.Form.{fits, written_form, read_back, IsEntry}
+use Rattle.krb_keytab.specs.Changes.{PlacedCell, zero_hole, with_zeros, record_in, first_hole, with_hole, with_record_in, with_last, put_result_into, put_bytes_result, put_result, cut_result}
+use Rattle.krb_keytab.proofs.CellLemmas.{chosen}
+use Rattle.krb_keytab.proofs.Cuts.{live_there}
+use Rattle.krb_keytab.proofs.EntryLemmas.{entry_again}
+use Rattle.krb_keytab.proofs.Replacements.{StandsAt, live_stands, hole_stands, replaced_cells}
+use Rattle.krb_keytab.proofs.Removals.{holds}
+use Rattle.krb_keytab.proofs.WrittenLemmas.{written_spells}
+
+-- what was given is one thing
+ok_is : {X Y : Type 0} (a b : X) → ◌≡◌ {A = Result X Y} (Ok a) (Ok b) → a ≡ b
+ok_is a b e = cc
+
+-- ---- additions
+
+-- a record in the first hole that is large enough
+pub record FillsHole (k : KeytabState) (x : List ℕ) (given : ℕ × KeytabState) : Type 0 where
+  pub hole : PlacedCell
+  pub is : first_hole 2 (length x) k.contents.cells ≡ Some hole
+  pub gives : (hole.0, with_record_in k x hole.0) ≡ given
+
+-- an addition that is not refused: into such a hole, or after the cells
+pub record PutsEntry (k : KeytabState) (e : EntryParts) (given : ℕ × KeytabState) : Type 0 where
+  pub whole : is_some (fault_of (store_of k)) ≡ false
+  pub fit : fits k.format e ≡ true
+  pub how : FillsHole k (written_form k.format e) given ⊎ ((end_of (store_of k), with_last k (written_form k.format e)) ≡ given)
+
+put_by : (k : KeytabState) (x : List ℕ) (given : ℕ × KeytabState) (o : Option PlacedCell) → first_hole 2 (length x) k.contents.cells ≡ o → put_result_into k x o ≡ Ok given → FillsHole k x given ⊎ ((end_of (store_of k), with_last k x) ≡ given)
+put_by k x given (Some h) hole put = inl (record { hole = h; is = hole; gives = ok_is (h.0, with_record_in k x h.0) given put })
+put_by k x given None hole put =
+    elim (chosen (ltb k.limit (length (image_of (with_last k x)))) (Err code.Full) (Ok (end_of (store_of k), with_last k x)) (Ok given) put) [
+      | inl h ↦ absurd (let no = h.1 in cc)
+      | inr h ↦ inr (ok_is (end_of (store_of k), with_last k x) given h.1)
+    ]
+
+pub put_gives : (k : KeytabState) (e : EntryParts) (given : ℕ × KeytabState) → put_result k e ≡ Ok given → PutsEntry k e given
+put_gives k e given put =
+    let x = written_form k.format e in
+    elim (chosen (is_some (fault_of (store_of k))) (Err code.Damaged) (cond (fits k.format e) (put_bytes_result k x) (Err code.TooLong)) (Ok given) put) [
+      | inl h ↦ absurd (let no = h.1 in cc)
+      | inr h ↦ elim (chosen (fits k.format e) (put_bytes_result k x) (Err code.TooLong) (Ok given) h.1) [
+        | inl g ↦ record { whole = h.0; fit = g.0; how = put_by k x given (first_hole 2 (length x) k.contents.cells) refl g.1 }
+        | inr g ↦ absurd (let no = g.1 in cc)
+      ]
+    ]
+
+reads : (k : KeytabState) (e : EntryParts) (p zeros : ℕ) → fits k.format e ≡ true → IsEntry e → store_bytes (store_of k) p ≡ Some (written_form k.format e ++ replicate zeros 0) → entry_at_place k p ≡ Some (read_back k.format e)
+reads k e p zeros fit is held =
+    ap (λ (b : Option (List ℕ)). b >>= entry_at k.format) held
+    ∙ entry_again k.format (read_back k.format e) (written_form k.format e ++ replicate {A = ℕ} zeros 0) (written_spells k.format e zeros fit is)
+
+in_hole : (k : KeytabState) (e : EntryParts) (p : ℕ) (c : Cell) → fits k.format e ≡ true → IsEntry e → StandsAt k.contents.cells 2 p c → entry_at_place (with_record_in k (written_form k.format e) p) p ≡ Some (read_back k.format e)
+in_hole k e p c fit is s =
+    let x = written_form k.format e in
+    let held = holds (with_record_in k x p) s.front s.back (with_zeros x (size c)) p (replaced_cells (record_in x) k.contents.cells p c s) s.place in
+    reads (with_record_in k x p) e p _ fit is held
+
+behind : (k : KeytabState) (e : EntryParts) → fits k.format e ≡ true → IsEntry e → entry_at_place (with_last k (written_form k.format e)) (end_of (store_of k)) ≡ Some (read_back k.format e)
+behind k e fit is =
+    let x = written_form k.format e in
+    let p = end_of (store_of k) in
+    let held = holds (with_last k x) k.contents.cells [] x p refl refl in
+    reads (with_last k x) e p 0 fit is (held ∙ ap (λ (b : List ℕ). Some b) (sym (append-nil x)))
+
+-- what was added is read at the place that the addition gives
+pub added_reads : (k : KeytabState) (e : EntryParts) (given : ℕ × KeytabState) → IsEntry e → put_result k e ≡ Ok given → entry_at_place given.1 given.0 ≡ Some (read_back k.format e)
+added_reads k e given is put =
+    let p = put_gives k e given put in
+    let Reads : ℕ × KeytabState → Type 0 = λ y. entry_at_place y.1 y.0 ≡ Some (read_back k.format e) in
+    elim p.how [
+      | inl h ↦ subst Reads h.gives (in_hole k e h.hole.0 h.hole.1 p.fit is (hole_stands k.contents.cells 2 (length (written_form k.format e)) h.hole.0 h.hole.1 h.is).stands)
+      | inr last ↦ subst Reads last (behind k e p.fit is)
+    ]
+
+-- ---- removals
+
+-- a removal that is not refused
+pub record CutsRecord (k : KeytabState) (p : ℕ) (new : KeytabState) : Type 0 where
+  pub whole : is_some (fault_of (store_of k)) ≡ false
+  pub bytes : List ℕ
+  pub held : store_bytes (store_of k) p ≡ Some bytes
+  pub gives : with_hole k p ≡ new
+
+pub cut_gives : (k : KeytabState) (p : ℕ) (new : KeytabState) → cut_result k p ≡ Ok new → CutsRecord k p new
+cut_gives k p new cut =
+    elim (chosen (is_some (fault_of (store_of k))) (Err code.Damaged) (cond (is_some (store_bytes (store_of k) p)) (Ok (with_hole k p)) (Err code.NotLive)) (Ok new) cut) [
+      | inl h ↦ absurd (let no = h.1 in cc)
+      | inr h ↦ elim (chosen (is_some (store_bytes (store_of k) p)) (Ok (with_hole k p)) (Err code.NotLive) (Ok new) h.1) [
+        | inl g ↦ let b = is_some_has (store_bytes (store_of k) p) g.0 in record { whole = h.0; bytes = b.0; held = b.1; gives = ok_is (with_hole k p) new g.1 }
+        | inr g ↦ absurd (let no = g.1 in cc)
+      ]
+    ]
+
+-- what was removed stands there no more
+pub removed_none : (k : KeytabState) (p : ℕ) (new : KeytabState) → cut_result k p ≡ Ok new → store_bytes (store_of new) p ≡ None
+removed_none k p new cut =
+    let c = cut_gives k p new cut in
+    let old = Live c.bytes in
+    let s = live_stands k.contents.cells 2 p c.bytes c.held in
+    ap (λ (x : KeytabState). store_bytes (store_of x) p) (sym c.gives)
+    ∙ ap (λ (cs : List Cell). bytes_from 2 (map store_cell cs) p) (replaced_cells zero_hole k.contents.cells p old s) ∙ live_there s.front s.back (zero_hole old) p s.place

@@ -1,0 +1,41 @@
+-- What stands at a place, read whole.
+use Rattle.std.proofs.Common.{◌≡◌, ℕ, ◌+◌, ◌≤◌, List, ◌∷◌, length, take, drop, refl, ap, ◌∙◌, arith}
+use Rattle.std.proofs.lemmas.List.{length-take, length-drop, drop-drop}
+use Rattle.krb_wire.specs.declared.format.KtFormat.{KtFormat}
+use Rattle.krb_wire.proofs.Fields.{IsBytes, IsBytes-drop}
+use Rattle.krb_keytab.specs.declared.length.Length.{Length}
+use Rattle.krb_keytab.specs.declared.length.Length.TheVariants as says
+use Rattle.krb_keytab.specs.declared.image.Ending.{Ending}
+use Rattle.krb_walk.specs.Contents.{NoMore, More}
+use Rattle.krb_keytab.specs.Length.{size_of}
+use Rattle.krb_keytab.specs.Cells.{Contents, cell_in, next, contents, size}
+use Rattle.krb_keytab.specs.Image.{ends, IsPassed, EndsThere}
+use Rattle.krb_keytab.specs.Store.{end_place}
+use Rattle.krb_keytab.proofs.CellLemmas.{contents_next}
+
+pub ends_there : (f : KtFormat) (image : List ℕ) (at : ℕ) (e : Ending) → IsBytes image → next f (drop at image) ≡ NoMore (ends (drop at image) e) → EndsThere f image at e
+ends_there f image at e fits is = contents_next f (drop at image) (NoMore (ends (drop at image) e)) (IsBytes-drop at image fits) is
+
+size_in : (l : Length) (b : List ℕ) → size (cell_in l b) ≡ length b
+size_in says.End b = refl
+size_in (says.Live n) b = refl
+size_in (says.Free n) b = refl
+
+pub passed : (f : KtFormat) (image : List ℕ) (at : ℕ) (l : Length) → IsBytes image → at ≤ length image → 4 + size_of l ≤ length (drop at image)
+    → next f (drop at image) ≡ More (cell_in l (take (size_of l) (drop 4 (drop at image)))) (drop (size_of l) (drop 4 (drop at image))) → IsPassed f image at (at + (4 + size_of l))
+passed f image at l fits le within is =
+    let n = size_of l in
+    let b = take n (drop 4 (drop at image)) in
+    let c = cell_in l b in
+    let rest : drop n (drop 4 (drop at image)) ≡ drop (at + (4 + n)) image = drop-drop n 4 (drop at image) ∙ drop-drop (4 + n) at image in
+    let all = contents_next f (drop at image) (More c (drop n (drop 4 (drop at image)))) (IsBytes-drop at image fits) is in
+    let cells : (contents f (drop at image)).cells ≡ c ∷ (contents f (drop (at + (4 + n)) image)).cells =
+    ap (λ (k : Contents). k.cells) all ∙ ap (λ (x : List ℕ). c ∷ (contents f x).cells) rest in
+    let len : size c ≡ n = size_in l b ∙ omega (arith, within, length-take n (drop 4 (drop at image)), length-drop 4 (drop at image)) in
+    record {
+      ahead = omega arith;
+      within = omega (arith, le, within, length-drop at image);
+      place = ap (end_place at) cells ∙ ap (λ (m : ℕ). end_place (at + (4 + m)) (contents f (drop (at + (4 + n)) image)).cells) len;
+      count = ap length cells ∙ omega arith;
+      end = ap (λ (k : Contents). k.end) all ∙ ap (λ (x : List ℕ). (contents f x).end) rest;
+    }

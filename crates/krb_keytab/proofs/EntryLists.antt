@@ -1,0 +1,52 @@
+-- Entries that are listed from cell to cell are those of the records.
+use Rattle.std.proofs.Common.{◌≡◌, ◌∷◌, ℕ, ◌+◌, [], List, length, map, refl, sym, ap, append_assoc, ◌∙◌}
+use Rattle.std.specs.Prelude.{Option, Some, None, Bool, false, ◌++◌, option_map}
+use Rattle.krb_wire.specs.Spelling.{Parts}
+use Rattle.krb_wire.proofs.Fields.{is_some_has}
+use Rattle.std.specs.List.{filter_map, cons_option}
+use Rattle.krb_wire.specs.declared.format.KtFormat.{KtFormat}
+use Rattle.krb_walk.specs.Store.{Record, standing, record_of}
+use Rattle.krb_keytab.specs.Entry.{EntryParts, entry_at}
+use Rattle.krb_keytab.specs.Cells.{Cell, Live, Free}
+use Rattle.krb_keytab.specs.Store.{KeytabState, store_cell}
+use Rattle.krb_keytab.specs.CellViews.{CellsFrom, BeginsWith, cells_of}
+use Rattle.krb_keytab.specs.LookUp.{IsFoundAmong, IsFoundUpTo}
+use Rattle.krb_keytab.specs.Find.{PlacedEntry, placed_entries}
+use Rattle.krb_keytab.specs.Entries.{entries_in}
+
+-- the entries of the records of a store's cells
+abbrev record_entries : KtFormat → ℕ → List Cell → List PlacedEntry
+record_entries f at cs = filter_map (λ (r : Record). option_map (λ (e : EntryParts). (r.place, e)) (entry_at f r.bytes)) (filter_map record_of (standing at (map store_cell cs)))
+
+listed_stored : (f : KtFormat) (at : ℕ) (cs : List Cell) → entries_in f at cs ≡ record_entries f at cs
+listed_stored f at [] = refl
+listed_stored f at (Live b ∷ cs) =
+    ap (cons_option (option_map (λ (e : EntryParts). (at, e)) (entry_at f b))) (listed_stored f (at + (4 + length b)) cs)
+listed_stored f at (Free b ∷ cs) = listed_stored f (at + (4 + length b)) cs
+
+-- those of the cells of a keytab are its entries
+pub entries_of_cells : (k : KeytabState) (cells : CellsFrom) → cells ≡ cells_of k → entries_in cells.format cells.place cells.contents.cells ≡ placed_entries k
+entries_of_cells k cells is = ap (λ (x : CellsFrom). entries_in x.format x.place x.contents.cells) is ∙ listed_stored k.format 2 k.contents.cells
+
+-- ---- considered one after the other
+
+pub listed_live : (old new : CellsFrom) (at : ℕ) (b : List ℕ) (e : EntryParts) → BeginsWith old at (Live b) new → entry_at old.format b ≡ Some e → entries_in old.format old.place old.contents.cells ≡ (at, e) ∷ entries_in new.format new.place new.contents.cells
+listed_live old new at b e s is =
+    ap (entries_in old.format old.place) s.cells
+    ∙ ap (λ (o : Option EntryParts). cons_option (option_map (λ (x : EntryParts). (old.place, x)) o) (entries_in old.format (old.place + (4 + length b)) new.contents.cells)) is
+    ∙ ap (λ (p : ℕ). (p, e) ∷ entries_in old.format (p + (4 + length b)) new.contents.cells) (sym s.place)
+    ∙ ap (λ (p : ℕ). (at, e) ∷ entries_in old.format p new.contents.cells) (sym s.next)
+    ∙ ap (λ (f : KtFormat). (at, e) ∷ entries_in f new.place new.contents.cells) (sym s.format)
+
+pub none_considered : (name : Parts) (kvno enctype : ℕ) (k : KeytabState) (cells : CellsFrom) → cells ≡ cells_of k → IsFoundUpTo name kvno enctype k cells false None
+none_considered name kvno enctype k cells is = record { before = []; found = refl; all = entries_of_cells k cells is }
+
+pub live_considered : (name : Parts) (kvno enctype : ℕ) (k : KeytabState) (old new : CellsFrom) (at : ℕ) (b : List ℕ) (named named' : Bool) (best best' : Option PlacedEntry) → BeginsWith old at (Live b) new → IsFoundUpTo name kvno enctype k old named best
+    → ((xs : List PlacedEntry) (e : EntryParts) → entry_at old.format b ≡ Some e → IsFoundAmong name kvno enctype xs named best → IsFoundAmong name kvno enctype (xs ++ (at, e) ∷ []) named' best') → IsFoundUpTo name kvno enctype k new named' best'
+live_considered name kvno enctype k old new at b named named' best best' s l considers =
+    let e = is_some_has (entry_at old.format b) s.sound.2 in
+    record {
+      before = l.before ++ (at, e.0) ∷ [];
+      found = considers l.before e.0 e.1 l.found;
+      all = append_assoc l.before ((at, e.0) ∷ []) (entries_in new.format new.place new.contents.cells) ∙ ap (λ (xs : List PlacedEntry). l.before ++ xs) (sym (listed_live old new at b e.0 s e.1)) ∙ l.all;
+    }

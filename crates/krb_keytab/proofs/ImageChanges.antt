@@ -1,0 +1,154 @@
+-- What the changes of cells make of an image.
+use Rattle.std.proofs.Common.{◌≡◌, ℕ, suc, ◌+◌, ◌-◌, ◌^◌, ◌<◌, ◌≤◌, true, List, [], ◌∷◌, ◌++◌, length, map, drop, replicate, Option, Some, None, refl, sym, ap, subst, ◌∙◌, arith}
+use Rattle.std.specs.Prelude.{option_map, IsSome, IfSome, ◌==◌, if◌then◌else◌}
+use Rattle.std.specs.List.{splice}
+use Rattle.std.proofs.lemmas.Bool.{leb-true}
+use Rattle.std.proofs.lemmas.List.{append-nil, length-append, length-map, length-replicate}
+use Rattle.krb_wire.specs.declared.format.KtFormat.{KtFormat}
+use Rattle.krb_wire.specs.Spelling.{order_of}
+use Rattle.krb_wire.proofs.Fields.{IsBytes, IsBytes-drop, some_is}
+use Rattle.krb_keytab.specs.declared.image.CellsEnd.{CellsEnd}
+use Rattle.krb_keytab.specs.declared.cells.Hole.{Hole}
+use Rattle.krb_keytab.specs.Cells.{Cell, Live, Free, End, Bare, Contents, cell, next, contents, IsCell, size}
+use Rattle.krb_walk.specs.Contents.{contents as contents_of, first_cells}
+use Rattle.krb_walk.specs.Store.{live_bytes}
+use Rattle.krb_walk.proofs.Stops.{end_from-ge}
+use Rattle.krb_keytab.specs.Store.{store_cell, store_of_image, end_place}
+use Rattle.krb_keytab.specs.Image.{IsKnownEnd, IsChanged}
+use Rattle.krb_keytab.specs.Changes.{PlacedCell, placed_cells, replaced_at, zero_hole, is_hole, first_hole, with_zeros, record_in, hole_of, hole_from}
+use Rattle.krb_keytab.specs.Form.{IsRecord}
+use Rattle.krb_keytab.proofs.CellLemmas.{contents_spelled, sound_size}
+use Rattle.krb_keytab.proofs.Cuts.{end_place-append}
+use Rattle.krb_keytab.proofs.Replacements.{StandsAt, live_stands, stands_sound, hole_stands, replaced_cells, IsReplaced, replaced}
+
+-- no bytes hold no cells
+pub contents_none : (f : KtFormat) → contents f [] ≡ record { cells = []; end = Bare }
+unfolding contents contents_of first_cells next
+contents_none f = refl
+
+-- a cell that is replaced leaves as many
+pub placed_len : (at : ℕ) (cs : List Cell) → length (placed_cells at cs) ≡ length cs
+placed_len at [] = refl
+placed_len at (c ∷ cs) = ap suc (placed_len (at + (4 + size c)) cs)
+
+pub replaced_len : (at : ℕ) (change : Cell → Cell) (p : ℕ) (cs : List Cell) → length (replaced_at at change p cs) ≡ length cs
+replaced_len at change p cs = length-map (placed_cells at cs) (λ (x : PlacedCell). if x.0 == p then change x.1 else x.1) ∙ placed_len at cs
+
+pub as_many : (f : KtFormat) (old new : List ℕ) (change : Cell → Cell) (p : ℕ) (e : End) (end : CellsEnd) → IsChanged f old new (record { cells = replaced_at 2 change p (contents f (drop 2 old)).cells; end = e }) end → length (contents f (drop 2 new)).cells ≡ length (contents f (drop 2 old)).cells
+as_many f old new change p e end changed = ap (λ (k : Contents). length k.cells) changed.contents ∙ replaced_len 2 change p (contents f (drop 2 old)).cells
+
+-- a cell ends where the cells do, or before
+pub ends_within : (cs : List Cell) (p : ℕ) (c : Cell) → StandsAt cs 2 p c → p + 4 + size c ≤ end_place 2 cs
+ends_within cs p c s =
+    let at : p ≡ end_place 2 s.front = s.place in
+    let whole : end_place 2 cs ≡ end_place (p + (4 + size c)) s.back =
+    ap (end_place 2) s.parts ∙ end_place-append 2 s.front (c ∷ s.back) ∙ ap (λ (n : ℕ). end_place (n + (4 + size c)) s.back) (sym at) in
+    omega (arith, whole, end_from-ge (p + (4 + size c)) (map store_cell s.back))
+
+-- what is known of a cell of an image
+pub record StandsIn (f : KtFormat) (image : List ℕ) (p : ℕ) (c : Cell) : Type 0 where
+  pub room : p + 4 + size c ≤ length image
+  pub sound : IsCell f c
+
+pub stands_in : (f : KtFormat) (image : List ℕ) (p : ℕ) (c : Cell) (end : CellsEnd) → IsBytes image → IsKnownEnd f image end → StandsAt (contents f (drop 2 image)).cells 2 p c → StandsIn f image p c
+stands_in f image p c end fits known s =
+    let cs = (contents f (drop 2 image)).cells in
+    let stops = known.place in
+    let within = known.within in
+    let sound = (contents_spelled f (drop 2 image) (IsBytes-drop 2 image fits)).sound in
+    record {
+      room = omega (arith, ends_within cs p c s, stops, within);
+      sound = stands_sound f cs 2 p c sound.cells s;
+    }
+
+pub live_in : (f : KtFormat) (image : List ℕ) (p : ℕ) (b : List ℕ) (end : CellsEnd) → IsBytes image → IsKnownEnd f image end → Some b ≡ live_bytes (store_of_image f image) p → StandsIn f image p (Live b)
+live_in f image p b end fits known live = stands_in f image p (Live b) end fits known (live_stands (contents f (drop 2 image)).cells 2 p b (sym live))
+
+-- the bytes that stand there, and how many they are
+pub bytes_of_size : (o : Option (List ℕ)) (n : ℕ) → IsSome o → IfSome o (λ b. length b ≡ n) → (b : List ℕ) × (Some b ≡ o) × (length b ≡ n)
+bytes_of_size (Some b) n some len = (b, refl, len)
+bytes_of_size None n some len = absurd cc
+
+-- a cell is replaced by what a change makes of it, which is sound and of its size
+changed_is : (f : KtFormat) (image image' : List ℕ) (change : Cell → Cell) (old : Cell) (p : ℕ) (end : CellsEnd) → 2 ≤ length image → IsBytes image → IsBytes image' → IsKnownEnd f image end
+    → StandsAt (contents f (drop 2 image)).cells 2 p old → size (change old) ≡ size old → IsCell f (change old) → image' ≡ splice image p (p + 4 + size old) (cell (order_of f) (change old))
+    → IsChanged f image image' (record { cells = replaced_at 2 change p (contents f (drop 2 image)).cells; end = (contents f (drop 2 image)).end }) end
+changed_is f image image' change old p end long fits fits' known s same sound written =
+    let k = contents f (drop 2 image) in
+    let before : k ≡ record { cells = s.front ++ (old ∷ s.back); end = k.end } = ap (λ (cs : List Cell). record { cells = cs; end = k.end }) s.parts in
+    let r : IsReplaced f image s.front s.back old (change old) k.end p = record { long = long; before = before; place = s.place; same_size = same; sound = sound } in
+    let done = replaced f image image' s.front s.back old (change old) k.end p end r fits fits' known written in
+    record {
+      head = done.head;
+      contents = done.contents ∙ ap (λ (cs : List Cell). record { cells = cs; end = k.end }) (sym (replaced_cells change k.cells p old s));
+      known = done.known;
+    }
+
+-- a live cell is made a hole of zeros
+pub freed_is : (f : KtFormat) (image image' b : List ℕ) (p n : ℕ) (end : CellsEnd) → 2 ≤ length image → 0 < n → n ≤ 2 ^ 31 → IsBytes image → IsBytes image' → IsKnownEnd f image end
+    → Some b ≡ live_bytes (store_of_image f image) p → n ≡ length b
+    → image' ≡ splice image p (p + 4 + n) (cell (order_of f) (Free (replicate {A = ℕ} n 0)))
+    → IsChanged f image image' (record { cells = replaced_at 2 zero_hole p (contents f (drop 2 image)).cells; end = (contents f (drop 2 image)).end }) end
+freed_is f image image' b p n end long some small fits fits' known live len written =
+    let zeros : length (replicate {A = ℕ} (length b) 0) ≡ length b = length-replicate (length b) 0 in
+    changed_is f image image' zero_hole (Live b) p end long fits fits' known (live_stands (contents f (drop 2 image)).cells 2 p b (sym live)) zeros (omega arith, omega arith)
+    (written ∙ ap (λ (m : ℕ). splice image p (p + 4 + m) (cell (order_of f) (Free (replicate {A = ℕ} m 0)))) len)
+
+-- ---- the first hole that is large enough
+
+-- what is known of it
+pub record HoleIn (f : KtFormat) (image : List ℕ) (n : ℕ) (h : Hole) : Type 0 where
+  pub cell : Cell
+  pub stands : StandsAt (contents f (drop 2 image)).cells 2 h.place cell
+  pub size_is : size cell ≡ h.size
+  pub large : n ≤ h.size
+  pub some : 0 < h.size
+  pub room : h.place + 4 + h.size ≤ length image
+
+hole_large : (n : ℕ) (c : Cell) → is_hole n c ≡ true → n ≤ size c
+hole_large n (Live b) e = absurd cc
+hole_large n (Free b) e = leb-true n (length b) e
+
+hole_by : (f : KtFormat) (image : List ℕ) (n : ℕ) (h : Hole) (end : CellsEnd) (o : Option PlacedCell) → IsBytes image → IsKnownEnd f image end → first_hole 2 n (contents f (drop 2 image)).cells ≡ o → option_map hole_of o ≡ Some h → HoleIn f image n h
+hole_by f image n h end None fits known is e = absurd cc
+hole_by f image n h end (Some x) fits known is e =
+    let same : hole_of x ≡ h = some_is (hole_of x) h e in
+    let place : x.0 ≡ h.place = ap (λ (y : Hole). y.place) same in
+    let is_size : size x.1 ≡ h.size = ap (λ (y : Hole). y.size) same in
+    let at = hole_stands (contents f (drop 2 image)).cells 2 n x.0 x.1 is in
+    let inside = stands_in f image x.0 x.1 end fits known at.stands in
+    let room = inside.room in
+    record {
+      cell = x.1;
+      stands = subst (λ (p : ℕ). StandsAt (contents f (drop 2 image)).cells 2 p x.1) place at.stands;
+      size_is = is_size;
+      large = omega (arith, hole_large n x.1 at.large);
+      some = omega (arith, sound_size f x.1 inside.sound);
+      room = omega (arith, room);
+    }
+
+pub hole_in : (f : KtFormat) (image : List ℕ) (n : ℕ) (h : Hole) (end : CellsEnd) → IsBytes image → IsKnownEnd f image end → hole_from 2 n (contents f (drop 2 image)).cells ≡ Some h → HoleIn f image n h
+hole_in f image n h end fits known e = hole_by f image n h end (first_hole 2 n (contents f (drop 2 image)).cells) fits known refl e
+
+pub padded_len : (x : List ℕ) (n : ℕ) → length x ≤ n → length (with_zeros x n) ≡ n
+padded_len x n le = omega (arith, length-append x (replicate {A = ℕ} (n - length x) 0), length-replicate {A = ℕ} (n - length x) 0)
+
+-- a record of just that length has no zeros
+pub padded_self : (x : List ℕ) → with_zeros x (length x) ≡ x
+padded_self x = let none : length x - length x ≡ 0 = omega arith in ap (λ (m : ℕ). x ++ replicate {A = ℕ} m 0) none ∙ append-nil x
+
+-- a record takes the hole
+pub filled_is : (f : KtFormat) (image image' x : List ℕ) (h : Hole) (end : CellsEnd) → 2 ≤ length image → length image ≤ 2 ^ 30 → IsBytes image → IsBytes image' → IsKnownEnd f image end → IsRecord f x
+    → hole_from 2 (length x) (contents f (drop 2 image)).cells ≡ Some h
+    → image' ≡ splice image h.place (h.place + 4 + h.size) (cell (order_of f) (Live (with_zeros x h.size)))
+    → IsChanged f image image' (record { cells = replaced_at 2 (record_in x) h.place (contents f (drop 2 image)).cells; end = (contents f (drop 2 image)).end }) end
+filled_is f image image' x h end long small fits fits' known entry hole written =
+    let i = hole_in f image (length x) h end fits known hole in
+    let old = i.cell in
+    let is_size = i.size_is in
+    let large = i.large in
+    let some = i.some in
+    let room = i.room in
+    let len : length (with_zeros x (size old)) ≡ size old = padded_len x (size old) (omega arith) in
+    changed_is f image image' (record_in x) old h.place end long fits fits' known i.stands len (omega arith, omega arith, entry (size old - length x))
+    (written ∙ ap (λ (m : ℕ). splice image h.place (h.place + 4 + m) (cell (order_of f) (Live (with_zeros x m)))) (sym is_size))

@@ -1,0 +1,81 @@
+-- Entries that are written anew.
+use Rattle.std.proofs.Common.{◌≡◌, ℕ, ◌+◌, ◌^◌, ◌<◌, List, [], ◌∷◌, ◌++◌, length, map, Option, Some, None, true, refl, sym, ap, ◌∙◌, arith}
+use Rattle.std.specs.Prelude.{◌&&◌, option_map}
+use Rattle.std.specs.List.{filter_map, flat_map, cons_option}
+use Rattle.std.proofs.lemmas.List.{length-map, length-append}
+use Rattle.std.specs.Int.{w16, w32}
+use Rattle.krb_wire.specs.declared.format.Order.{Order}
+use Rattle.krb_wire.specs.declared.format.Order.TheVariants.{Big}
+use Rattle.krb_wire.specs.declared.format.KtFormat.{KtFormat}
+use Rattle.krb_wire.specs.declared.format.KtFormat.TheVariants.{V2}
+use Rattle.krb_wire.specs.Spelling.{Parts, count_field, name_fits, is_short}
+use Rattle.krb_wire.specs.Reading.{byte_at, number_at, data16_at, kt_principal_at}
+use Rattle.krb_wire.proofs.Fields.{IsBytes, wide16, wide32, number_takes, data16_takes}
+use Rattle.krb_wire.proofs.Principals.{kt_principal_takes}
+use Rattle.krb_wire.proofs.NamesTold.{lengths_of, lengths_fit}
+use Rattle.krb_walk.specs.Store.{Record, records}
+use Rattle.krb_keytab.specs.Entry.{EntryParts, entry_at, Spells}
+use Rattle.krb_keytab.specs.Cells.{cell}
+use Rattle.krb_keytab.specs.Store.{KeytabState, store_of, entries, image_of}
+use Rattle.krb_keytab.specs.Find.{PlacedEntry, placed_entries}
+use Rattle.krb_keytab.specs.Form.{fits}
+use Rattle.krb_keytab.specs.Rewrite.{new_record, rewrite_of}
+use Rattle.krb_keytab.proofs.EntryLemmas.{byte_takes}
+use Rattle.krb_keytab.proofs.WrittenLemmas.{fits_yes}
+
+-- the bytes of the new records of entries
+abbrev pub new_records : List PlacedEntry → List ℕ
+new_records xs = flat_map (cell Big) (map new_record (map (λ x. x.1) xs))
+
+-- the places do not show
+without_place : (place : ℕ) (o : Option EntryParts) (xs : List PlacedEntry) (es : List EntryParts) → map (λ (x : PlacedEntry). x.1) xs ≡ es → map (λ (x : PlacedEntry). x.1) (cons_option (option_map (λ (e : EntryParts). (place, e)) o) xs) ≡ cons_option o es
+without_place place None xs es others = others
+without_place place (Some e) xs es others = ap (λ (t : List EntryParts). e ∷ t) others
+
+without_places : (f : KtFormat) (rs : List Record) → map (λ (x : PlacedEntry). x.1) (filter_map (λ (r : Record). option_map (λ (e : EntryParts). (r.place, e)) (entry_at f r.bytes)) rs) ≡ filter_map (λ (r : Record). entry_at f r.bytes) rs
+without_places f [] = refl
+without_places f (r ∷ rs) = without_place r.place (entry_at f r.bytes) _ _ (without_places f rs)
+
+-- those of all entries are the new cells
+pub new_records_all : (k : KeytabState) (xs : List PlacedEntry) → xs ≡ placed_entries k → flat_map (cell Big) (rewrite_of k).contents.cells ≡ new_records xs
+new_records_all k xs is = sym (ap new_records is ∙ ap (λ (es : List EntryParts). flat_map (cell Big) (map new_record es)) (without_places k.format (records (store_of k))))
+
+pub len_all : (k : KeytabState) (xs : List PlacedEntry) → xs ≡ placed_entries k → 2 + length (new_records xs) ≡ length (image_of (rewrite_of k))
+len_all k xs is =
+    let cells = flat_map (cell Big) (rewrite_of k).contents.cells in
+    omega (arith, ap length (new_records_all k xs is), length-append cells [])
+
+-- as many as the entries are the new cells
+pub count_all : (k : KeytabState) (xs : List PlacedEntry) → xs ≡ placed_entries k → length xs ≡ length (rewrite_of k).contents.cells
+count_all k xs is = sym (length-map xs (λ (x : PlacedEntry). x.1)) ∙ ap (λ (ys : List PlacedEntry). length (map (λ (x : PlacedEntry). x.1) ys)) is ∙ ap length (without_places k.format (records (store_of k))) ∙ sym (length-map (entries k) new_record)
+
+-- the first entry, and the others
+pub new_records_next : (xs ys : List PlacedEntry) (x : PlacedEntry) → xs ≡ x ∷ ys → new_records xs ≡ cell Big (new_record x.1) ++ new_records ys
+new_records_next xs ys x is = ap new_records is
+
+-- ---- an entry that was read fits version 2
+
+count_fits : (f : KtFormat) (n : ℕ) → count_field f n < 2 ^ 16 → count_field V2 n < 2 ^ 16
+count_fits f n lt = omega (arith, lt)
+
+name_fits_v2 : (f : KtFormat) (p : Parts) → name_fits f p ≡ true → name_fits V2 p ≡ true
+name_fits_v2 f p h = let l = lengths_of f p h in lengths_fit V2 p (record { count = count_fits f (length p.components) l.count; realm = l.realm; components = l.components })
+
+pub fits_v2 : (f : KtFormat) (e : EntryParts) (b : List ℕ) → Spells f e b → fits V2 e ≡ true
+fits_v2 f e b s =
+    let same = s.entry in
+    let name : name_fits V2 e.principal ≡ true = ap (λ (x : EntryParts). name_fits V2 x.principal) same ∙ name_fits_v2 f s.fields.principal s.fit.principal.lengths in
+    let key : e.key ≡ s.fields.key = ap (λ (x : EntryParts). x.key) same in
+    sym (fits_yes V2 e name (omega (arith, s.fit.key, ap length key)))
+
+-- what is read part by part fits it
+pub read_fits : (f : KtFormat) (o : Order) (bytes : List ℕ) (name : Parts × List ℕ) (timestamp low enctype : ℕ × List ℕ) (key : List ℕ × List ℕ) → IsBytes bytes
+    → kt_principal_at f bytes ≡ Some name → number_at o w32 name.1 ≡ Some timestamp → byte_at timestamp.1 ≡ Some low → number_at o w16 low.1 ≡ Some enctype → data16_at o enctype.1 ≡ Some key
+    → (name_fits V2 name.0 && is_short key.0) ≡ true
+read_fits f o bytes name timestamp low enctype key fits is_name is_timestamp is_low is_enctype is_key =
+    let n = kt_principal_takes f bytes name fits is_name in
+    let t = number_takes o w32 (2 ^ 32) (wide32 o) name.1 timestamp.0 timestamp.1 n.0.rest_fits is_timestamp in
+    let l = byte_takes timestamp.1 low t.0.rest_fits is_low in
+    let e = number_takes o w16 (2 ^ 16) (wide16 o) low.1 enctype.0 enctype.1 l.0.rest_fits is_enctype in
+    let k = data16_takes o enctype.1 key.0 key.1 e.0.rest_fits is_key in
+    sym (fits_yes V2 (record { principal = name.0; timestamp = 0; version = 0; enctype = 0; key = key.0 }) (name_fits_v2 f name.0 n.1.lengths) (omega (arith, k.1)))

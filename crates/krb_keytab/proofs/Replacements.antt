@@ -1,0 +1,188 @@
+-- A cell in the place of another of the same size.
+use Rattle.std.proofs.Common.{◌≡◌, ℕ, ◌+◌, ◌<◌, ◌≤◌, true, false, eqb, List, [], ◌∷◌, ◌++◌, length, map, take, drop, Some, refl, sym, ap, subst, ◌∙◌, append_assoc, length-append, arith, inl, inr}
+use Rattle.std.specs.List.{flat_map, splice, AllByRecursion}
+use Rattle.std.proofs.lemmas.Bool.{eq-eqb, ne_eqb}
+use Rattle.std.proofs.lemmas.Bool.Decides.{eqb_tells}
+use Rattle.std.proofs.lemmas.Grind.{flat_map-append}
+use Rattle.std.proofs.lemmas.List.{take_at, drop_at, take-append-drop, length-take, drop-drop}
+use Rattle.std.proofs.lemmas.List.Concat.{flat_map-cons}
+use Rattle.krb_wire.specs.declared.format.Order.{Order}
+use Rattle.krb_wire.specs.declared.format.KtFormat.{KtFormat}
+use Rattle.krb_wire.specs.Spelling.{order_of}
+use Rattle.krb_wire.proofs.Fields.{IsBytes, IsBytes-drop, some_is}
+use Rattle.krb_walk.specs.Store.{record_of_some, bytes_of_some}
+use Rattle.krb_walk.proofs.Stops.{bytes_from, end_from-ge}
+use Rattle.krb_keytab.specs.declared.image.CellsEnd.{CellsEnd}
+use Rattle.krb_keytab.specs.Cells.{Cell, Live, Free, End, Contents, cell, end_bytes, spelling, contents, IsCell, IsSound, size}
+use Rattle.krb_keytab.specs.Image.{ends, IsKnownEnd, IsChanged}
+use Rattle.krb_keytab.specs.Store.{store_cell, end_place}
+use Rattle.krb_keytab.specs.Changes.{PlacedCell, replaced_at, is_hole, first_hole}
+use Rattle.krb_keytab.proofs.CellLemmas.{chosen, contents_spelled, contents_again}
+use Rattle.krb_keytab.proofs.Cuts.{cell_len, end_place_is, end_place-append, all_back}
+use Rattle.krb_keytab.proofs.Splices.{splice-len, splice-behind}
+
+pub all_front : (P : Cell → Type 0) (xs ys : List Cell) → AllByRecursion P (xs ++ ys) → AllByRecursion P xs
+all_front P [] ys h = tt
+all_front P (x ∷ xs) ys h = (h.0, all_front P xs ys h.1)
+
+pub all_join : (P : Cell → Type 0) (xs ys : List Cell) → AllByRecursion P xs → AllByRecursion P ys → AllByRecursion P (xs ++ ys)
+all_join P [] ys h k = k
+all_join P (x ∷ xs) ys h k = (h.0, all_join P xs ys h.1 k)
+
+-- ---- where a cell stands
+
+-- the cells before and after the one at a place
+pub record StandsAt (cs : List Cell) (at p : ℕ) (c : Cell) : Type 0 where
+  pub front : List Cell
+  pub back : List Cell
+  pub parts : cs ≡ front ++ (c ∷ back)
+  pub place : p ≡ end_place at front
+
+here : (c d : Cell) (cs : List Cell) (at p : ℕ) → p ≡ at → c ≡ d → StandsAt (c ∷ cs) at p d
+here c d cs at p is same = record { front = []; back = cs; parts = ap (λ (x : Cell). x ∷ cs) same; place = is }
+
+further : (c d : Cell) (cs : List Cell) (at p : ℕ) → StandsAt cs (at + (4 + size c)) p d → StandsAt (c ∷ cs) at p d
+further c d cs at p s = record { front = c ∷ s.front; back = s.back; parts = ap (λ (xs : List Cell). c ∷ xs) s.parts; place = s.place }
+
+is_live : (at : ℕ) (c : Cell) (b : List ℕ) → bytes_of_some (record_of_some (Some (record { place = at; cell = store_cell c }))) ≡ Some b → c ≡ Live b
+is_live at (Live x) b e = ap (λ (y : List ℕ). Live y) (some_is x b e)
+is_live at (Free x) b e = absurd cc
+
+pub live_stands : (cs : List Cell) (at p : ℕ) (b : List ℕ) → bytes_from at (map store_cell cs) p ≡ Some b → StandsAt cs at p (Live b)
+live_stands [] at p b e = absurd cc
+live_stands (c ∷ cs) at p b e = elim (eqb_tells at p) [
+  | inl y ↦ let yes = y.0 in here c (Live b) cs at p (sym y.1) (is_live at c b (rw yes at e))
+  | inr n ↦ let no = n.0 in further c (Live b) cs at p (live_stands cs (at + (4 + size c)) p b (rw no at e))
+]
+
+-- what stands there is sound
+pub stands_sound : (f : KtFormat) (cs : List Cell) (at p : ℕ) (c : Cell) → AllByRecursion (IsCell f) cs → StandsAt cs at p c → IsCell f c
+stands_sound f cs at p c sound s = (all_back (IsCell f) s.front (c ∷ s.back) (subst (AllByRecursion (IsCell f)) s.parts sound)).0
+
+-- the first hole that is large enough
+pub record HoleAt (cs : List Cell) (at n p : ℕ) (c : Cell) : Type 0 where
+  pub stands : StandsAt cs at p c
+  pub large : is_hole n c ≡ true
+
+pub hole_stands : (cs : List Cell) (at n p : ℕ) (c : Cell) → first_hole at n cs ≡ Some (p, c) → HoleAt cs at n p c
+hole_stands [] at n p c e = absurd cc
+hole_stands (d ∷ cs) at n p c e =
+    elim (chosen (is_hole n d) (Some (at, d)) (first_hole (at + (4 + size d)) n cs) (Some (p, c)) e) [
+      | inl h ↦
+          let same : ◌≡◌ {A = PlacedCell} (at, d) (p, c) = some_is (at, d) (p, c) h.1 in
+          let is_c : d ≡ c = ap (λ (x : PlacedCell). x.1) same in
+          record { stands = here d c cs at p (sym (ap (λ (x : PlacedCell). x.0) same)) is_c; large = ap (is_hole n) (sym is_c) ∙ h.0 }
+      | inr h ↦
+          let others = hole_stands cs (at + (4 + size d)) n p c h.1 in
+          record { stands = further d c cs at p others.stands; large = others.large }
+    ]
+
+-- ---- the cells with one replaced
+
+not_replaced : (change : Cell → Cell) (p at : ℕ) (cs : List Cell) → p < at → replaced_at at change p cs ≡ cs
+not_replaced change p at [] lt = refl
+not_replaced change p at (c ∷ cs) lt =
+    let no : eqb at p ≡ false = ne_eqb at p (λ e. omega arith) in
+    rw no (ap (λ (xs : List Cell). c ∷ xs) (not_replaced change p (at + (4 + size c)) cs (omega arith)))
+
+replaced_one : (change : Cell → Cell) (at p : ℕ) (front back : List Cell) (c : Cell) → p ≡ end_place at front → replaced_at at change p (front ++ (c ∷ back)) ≡ front ++ (change c ∷ back)
+replaced_one change at p [] back c is =
+    let yes : eqb at p ≡ true = eq-eqb at p (sym is) in
+    rw yes (ap (λ (xs : List Cell). change c ∷ xs) (not_replaced change p (at + (4 + size c)) back (omega arith)))
+replaced_one change at p (x ∷ front) back c is =
+    let no : eqb at p ≡ false = ne_eqb at p (λ e. omega (arith, end_from-ge (at + (4 + size x)) (map store_cell front))) in
+    rw no (ap (λ (xs : List Cell). x ∷ xs) (replaced_one change (at + (4 + size x)) p front back c is))
+
+-- all cells but the one at the place are as they were
+pub replaced_cells : (change : Cell → Cell) (cs : List Cell) (p : ℕ) (c : Cell) (s : StandsAt cs 2 p c) → replaced_at 2 change p cs ≡ s.front ++ (change c ∷ s.back)
+replaced_cells change cs p c s = ap (replaced_at 2 change p) s.parts ∙ replaced_one change 2 p s.front s.back c s.place
+
+-- ---- the image
+
+-- the spelling, cut round one cell
+spelling_cut : (o : Order) (front back : List Cell) (c : Cell) (e : End) → spelling o (record { cells = front ++ (c ∷ back); end = e }) ≡ flat_map (cell o) front ++ (cell o c ++ spelling o (record { cells = back; end = e }))
+spelling_cut o front back c e =
+    let F = flat_map (cell o) front in
+    let G = flat_map (cell o) back in
+    ap (λ (b : List ℕ). b ++ end_bytes o e) (flat_map-append (cell o) front (c ∷ back) ∙ ap (λ (b : List ℕ). F ++ b) (flat_map-cons (cell o) c back))
+    ∙ append_assoc F (cell o c ++ G) (end_bytes o e) ∙ ap (λ (b : List ℕ). F ++ b) (append_assoc (cell o c) G (end_bytes o e))
+
+-- other bytes in the place of those in the middle
+swap_middle : (h f old new g image : List ℕ) (p n : ℕ) → image ≡ h ++ (f ++ (old ++ g)) → p ≡ length h + length f → n ≡ p + length old → splice image p n new ≡ h ++ (f ++ (new ++ g))
+swap_middle h f old new g image p n e place end =
+    let grouped : image ≡ (h ++ f) ++ (old ++ g) = e ∙ sym (append_assoc h f (old ++ g)) in
+    let len : length (h ++ f) ≡ p = length-append h f ∙ sym place in
+    let front : take p image ≡ h ++ f = ap (take p) grouped ∙ take_at (h ++ f) (old ++ g) p len in
+    let at_p : drop p image ≡ old ++ g = ap (drop p) grouped ∙ drop_at (h ++ f) (old ++ g) p len in
+    let back : drop n image ≡ g = ap (λ (k : ℕ). drop k image) end ∙ sym (drop-drop (length old) p image) ∙ ap (drop (length old)) at_p ∙ drop_at old g (length old) refl in
+    rw (front, back) (append_assoc h f (new ++ g))
+
+-- a cell of the image, and one of the same size
+pub record IsReplaced (f : KtFormat) (image : List ℕ) (front back : List Cell) (old new : Cell) (e : End) (p : ℕ) : Type 0 where
+  pub long : 2 ≤ length image
+  pub before : contents f (drop 2 image) ≡ record { cells = front ++ (old ∷ back); end = e }
+  pub place : p ≡ end_place 2 front
+  pub same_size : size new ≡ size old
+  pub sound : IsCell f new
+
+-- the image with the other cell
+replaced_bytes : (f : KtFormat) (image : List ℕ) (front back : List Cell) (old new : Cell) (e : End) (p : ℕ) → IsReplaced f image front back old new e p → IsBytes image
+    → splice image p (p + 4 + size old) (cell (order_of f) new) ≡ take 2 image ++ spelling (order_of f) (record { cells = front ++ (new ∷ back); end = e })
+replaced_bytes f image front back old new e p r fits =
+    let o = order_of f in
+    let F = flat_map (cell o) front in
+    let rest = spelling o (record { cells = back; end = e }) in
+    let spelled = contents_spelled f (drop 2 image) (IsBytes-drop 2 image fits) in
+    let body : drop 2 image ≡ F ++ (cell o old ++ rest) = spelled.parts ∙ ap (spelling o) r.before ∙ spelling_cut o front back old e in
+    let whole : image ≡ take 2 image ++ (F ++ (cell o old ++ rest)) = sym (take-append-drop 2 image) ∙ ap (λ (b : List ℕ). take 2 image ++ b) body in
+    let two : length (take 2 image) ≡ 2 = let le = r.long in omega (arith, length-take 2 image) in
+    let place : p ≡ length (take 2 image) + length F = let rp = r.place in omega (arith, rp, end_place_is o 2 front, two) in
+    let end : p + 4 + size old ≡ p + length (cell o old) = omega (arith, cell_len o old) in
+    swap_middle (take 2 image) F (cell o old) (cell o new) rest image p (p + 4 + size old) whole place end ∙ ap (λ (b : List ℕ). take 2 image ++ b) (sym (spelling_cut o front back new e))
+
+-- what is known of the end stays known where the cells end there still and the bytes from there on are the same
+known_kept : (f : KtFormat) (image image' : List ℕ) (e : CellsEnd) → IsKnownEnd f image e → end_place 2 (contents f (drop 2 image')).cells ≡ end_place 2 (contents f (drop 2 image)).cells
+    → (contents f (drop 2 image')).end ≡ (contents f (drop 2 image)).end → length image' ≡ length image → drop e.place image' ≡ drop e.place image → IsKnownEnd f image' e
+known_kept f image image' e known place end len tail =
+    let within = known.within in
+    record {
+      place = place ∙ known.place;
+      within = omega (arith, within, len);
+      same = end ∙ known.same ∙ ap (λ (b : List ℕ). (contents f b).end) (sym tail);
+      ending = ap (contents f) tail ∙ known.ending ∙ ap (λ (b : List ℕ). record { cells = []; end = ends b e.ending }) (sym tail);
+    }
+
+-- the contents with the other cell
+pub replaced : (f : KtFormat) (image image' : List ℕ) (front back : List Cell) (old new : Cell) (e : End) (p : ℕ) (end : CellsEnd) → IsReplaced f image front back old new e p → IsBytes image → IsBytes image' → IsKnownEnd f image end
+    → image' ≡ splice image p (p + 4 + size old) (cell (order_of f) new)
+    → IsChanged f image image' (record { cells = front ++ (new ∷ back); end = e }) end
+replaced f image image' front back old new e p end r fits fits' known written =
+    let o = order_of f in
+    let k : Contents = record { cells = front ++ (new ∷ back); end = e } in
+    let before : Contents = record { cells = front ++ (old ∷ back); end = e } in
+    let bytes : image' ≡ take 2 image ++ spelling o k = written ∙ replaced_bytes f image front back old new e p r fits in
+    let two : length (take 2 image) ≡ 2 = let le = r.long in omega (arith, length-take 2 image) in
+    let body : drop 2 image' ≡ spelling o k = ap (drop 2) bytes ∙ drop_at (take 2 image) (spelling o k) 2 two in
+    let sound : IsSound f before = subst (IsSound f) r.before (contents_spelled f (drop 2 image) (IsBytes-drop 2 image fits)).sound in
+    let cells : AllByRecursion (IsCell f) (front ++ (new ∷ back)) = all_join (IsCell f) front (new ∷ back) (all_front (IsCell f) front (old ∷ back) sound.cells) (r.sound, (all_back (IsCell f) front (old ∷ back) sound.cells).1) in
+    let fits_k : IsBytes (spelling o k) = subst IsBytes body (IsBytes-drop 2 image' fits') in
+    let is : contents f (drop 2 image') ≡ k = ap (contents f) body ∙ contents_again f k (record { cells = cells; end = sound.end }) fits_k in
+    let was = r.before in
+    let at : p ≡ end_place 2 front = r.place in
+    let behind : end_place 2 (front ++ (old ∷ back)) ≡ end_place (p + (4 + size old)) back = end_place-append 2 front (old ∷ back) ∙ ap (λ (n : ℕ). end_place (n + (4 + size old)) back) (sym at) in
+    let behind' : end_place 2 (front ++ (new ∷ back)) ≡ end_place (p + (4 + size old)) back = end_place-append 2 front (new ∷ back) ∙ ap (λ (n : ℕ). end_place (n + (4 + size new)) back) (sym at) ∙ ap (λ (n : ℕ). end_place (p + (4 + n)) back) r.same_size in
+    let stops : end.place ≡ end_place (p + (4 + size old)) back = sym known.place ∙ ap (λ (x : Contents). end_place 2 x.cells) was ∙ behind in
+    let within = known.within in
+    let last = end_from-ge (p + (4 + size old)) (map store_cell back) in
+    let room : p + 4 + size old ≤ length image = omega (arith, stops, last, within) in
+    let same_len = r.same_size in
+    let new_len : length (cell o new) ≡ 4 + size old = omega (arith, cell_len o new, same_len) in
+    record {
+      head = ap (take 2) bytes ∙ take_at (take 2 image) (spelling o k) 2 two;
+      contents = is;
+      known = known_kept f image image' end known
+          (ap (λ (x : Contents). end_place 2 x.cells) is ∙ behind' ∙ sym (ap (λ (x : Contents). end_place 2 x.cells) was ∙ behind))
+          (ap (λ (x : Contents). x.end) is ∙ sym (ap (λ (x : Contents). x.end) was))
+          (ap length written ∙ splice-len image (cell o new) p (p + 4 + size old) room (omega (arith, new_len)))
+          (ap (drop end.place) written ∙ splice-behind image (cell o new) p (p + 4 + size old) end.place (omega arith) (omega (arith, new_len)) (omega (arith, stops, last)));
+    }

@@ -1,0 +1,10 @@
+use Rattle.std.proofs.Common.{◌≡◌}
+use Rattle.krb_keytab.specs.LookUp.{IsFoundUpTo}
+use Rattle.krb_keytab.proofs.find.consider_all_in.Given as goal
+
+-- the entries so far were considered
+abbrev pub invariant-loop-place : goal.invariant-loop-place
+invariant-loop-place g l = record {
+  found : IsFoundUpTo (g.N.Name.parts l.query.name.now) l.query.kvno l.query.enctype l.keytab.state l.place-iterator l.look_up.named l.look_up.best;
+  format : l.place-iterator.format ≡ l.format;
+}

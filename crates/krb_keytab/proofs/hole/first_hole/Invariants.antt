@@ -1,7 +1,0 @@
-use Rattle.std.proofs.Common.{◌≡◌}
-use Rattle.krb_keytab.specs.Hole.{hole_from}
-use Rattle.krb_keytab.proofs.hole.first_hole.Given as goal
-
--- no hole that is large enough was passed
-abbrev pub invariant-loop-place : goal.invariant-loop-place
-invariant-loop-place l = hole_from l.place-iterator.place l.need l.place-iterator.contents.cells ≡ hole_from l.fn.cells.place l.need l.fn.cells.contents.cells

@@ -1,0 +1,22 @@
+use Rattle.std.proofs.Common.{true, false, sym}
+use Rattle.std.specs.Prelude.{filter}
+use Rattle.krb_keytab.specs.Find.{PlacedEntry, is_match}
+use Rattle.krb_keytab.proofs.LookUpLemmas.{no_match, one_match, match_by_enctype}
+use Rattle.krb_keytab.proofs.look_up.LookUp.consider_entry.Goals as goal
+
+pub returns-then-not-has_enctype : goal.returns-then-not-has_enctype
+returns-then-not-has_enctype c = λ n xs same so_far.
+    let x : PlacedEntry = (c.args.place, c.args.entry) in
+    no_match n c.args.kvno c.args.enctype xs x c.args.self.now.named c.args.self.now.best (match_by_enctype n c.args.enctype x false same c.if-not-has_enctype.ensures) so_far
+
+pub returns-then-is_better : goal.returns-then-is_better
+returns-then-is_better c = λ n xs same so_far.
+    let x : PlacedEntry = (c.args.place, c.args.entry) in
+    let next = c.if-is_better.ensures c.args.self.now.named (filter (is_match n c.args.enctype) xs) x (sym c.kvno.ensures) so_far in
+    one_match n c.args.kvno c.args.enctype xs x true c.args.self.now.best (match_by_enctype n c.args.enctype x true same c.if-not-has_enctype.ensures) next
+
+pub returns-else-is_better : goal.returns-else-is_better
+returns-else-is_better c = λ n xs same so_far.
+    let x : PlacedEntry = (c.args.place, c.args.entry) in
+    let next = c.if-is_better.ensures c.args.self.now.named (filter (is_match n c.args.enctype) xs) x (sym c.kvno.ensures) so_far in
+    one_match n c.args.kvno c.args.enctype xs x false c.args.self.now.best (match_by_enctype n c.args.enctype x true same c.if-not-has_enctype.ensures) next

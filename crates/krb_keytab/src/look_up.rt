@@ -1,0 +1,123 @@
+//! What a look-up has found so far.
+
+ghost use Rattle.std.specs.Prelude.{◌≡◌, ◌==◌, ◌||◌, ◌∷◌, ◌++◌, [], true, false, Bool, List, Some, None, Ok, Err, if◌then◌else◌};
+ghost use Rattle.krb_wire.specs.Spelling.{Parts};
+ghost use Rattle.krb_wire.specs.SameName.{have_same_name};
+ghost use Rattle.krb_keytab.specs.Entry.{EntryParts, entry_at};
+ghost use Rattle.krb_keytab.specs.Find.{PlacedEntry, look_up_in};
+ghost use Rattle.krb_keytab.specs.LookUp.{answer, IsFoundAmong};
+
+use crate::entry::{EntryView, read_entry};
+use crate::has_name::has_name;
+use krb_walk::Code;
+use krb_wire::{KtFormat, Name};
+
+/// What is asked for. Version 0 asks for the highest, enctype 0 for any.
+#[derive(Drop)]
+pub struct Query<'n, N: Name> {
+    pub name: &'n N,
+    pub kvno: u32,
+    pub enctype: u16,
+}
+
+fn has_enctype(enctype: u16, entry: &EntryView<'_>) -> bool
+    ensures { result ≡ (enctype == 0 || entry.now.enctype == enctype) }
+{
+    enctype == 0 || entry.enctype() == enctype
+}
+
+// Whether an entry of that version is looked for more than the one found so far.
+fn is_better(kvno: u32, best: &Option<(u32, EntryView<'_>)>, version: u32) -> bool
+    ensures { (named : Bool) (xs : List PlacedEntry) (x : PlacedEntry) → x.1.version ≡ version
+        → answer named best.now ≡ look_up_in kvno xs
+        → look_up_in kvno (xs ++ x ∷ []) ≡ (if result then Ok x else answer true best.now) }
+{
+    match best {
+        None => kvno == 0 || version == kvno,
+        Some((_, entry)) => kvno == 0 && entry.kvno() < version,
+    }
+}
+
+// Why nothing was found.
+fn missing(named: bool) -> Code
+    ensures { Err result ≡ answer named None }
+{
+    if named {
+        Code::KvnoNotFound
+    } else {
+        Code::NotFound
+    }
+}
+
+/// What was found so far: whether some entry has the name and the enctype, and which is looked for.
+#[derive(Drop)]
+pub struct LookUp<'a> {
+    pub named: bool,
+    pub best: Option<(u32, EntryView<'a>)>,
+}
+
+impl<'a> LookUp<'a> {
+    /// Before any entry.
+    pub fn new() -> LookUp<'a>
+        ensures named { result.named ≡ false }
+        ensures best { result.best ≡ None }
+    {
+        LookUp {
+            named: false,
+            best: None,
+        }
+    }
+
+    // Considers the next entry that has the name. It is not inlined, so that a loop over other names
+    // keeps none of this in registers.
+    #[inline(never)]
+    fn consider_entry(&mut self, kvno: u32, enctype: u16, place: u32, entry: EntryView<'a>)
+        ensures { (name : Parts) (xs : List PlacedEntry)
+            → have_same_name name entry.entry.principal ≡ true
+            → IsFoundAmong name kvno enctype xs self.old.named self.old.best
+            → IsFoundAmong name kvno enctype (xs ++ (place, entry.entry) ∷ [])
+            self.new.named self.new.best }
+    {
+        if !has_enctype(enctype, &entry) {
+            return;
+        }
+        self.named = true;
+        if is_better(kvno, &self.best, entry.kvno()) {
+            self.best = Some((place, entry));
+        }
+    }
+
+    /// Considers the next record, whose entry is read where it has the name.
+    #[inline(always)]
+    pub fn consider<N: Name>(
+        &mut self,
+        query: &Query<'_, N>,
+        format: KtFormat,
+        place: u32,
+        bytes: &'a [u8],
+    )
+        ensures { (xs : List PlacedEntry) (e : EntryParts)
+            → entry_at format bytes.now ≡ Some e
+            → IsFoundAmong (N.parts query.now.name.now) query.now.kvno query.now.enctype xs
+            self.old.named self.old.best
+            → IsFoundAmong (N.parts query.now.name.now) query.now.kvno query.now.enctype
+            (xs ++ (place, e) ∷ []) self.new.named self.new.best }
+    {
+        if !has_name(format, query.name, bytes) {
+            return;
+        }
+        if let Some(entry) = read_entry(format, bytes) {
+            self.consider_entry(query.kvno, query.enctype, place, entry);
+        }
+    }
+
+    /// What a look-up answers, once all entries were considered.
+    pub fn answer(self) -> Result<(u32, EntryView<'a>), Code>
+        ensures { result ≡ answer self.entry.named self.entry.best }
+    {
+        match self.best {
+            Some(found) => Ok(found),
+            None => Err(missing(self.named)),
+        }
+    }
+}
