@@ -9,12 +9,12 @@ use Rattle.krb_wire.proofs.Fields.{IsBytes, wide32}
 use Rattle.krb_walk.specs.Contents.{contents, IsCell}
 use Rattle.krb_walk.specs.Store.{end_from}
 use Rattle.krb_walk.proofs.ContentsLemmas.{ReadsOne, reads_one, reads_none, IsFormat, unframed_cell, unframed_format}
-use Rattle.krb_cells.specs.Front.{seen_in}
+use Rattle.krb_cells.specs.CellFormat.{seen_in}
 use Rattle.krb_cells.proofs.Formats.{IsSeen}
 use Rattle.krb_ccache.specs.declared.version.Version.{Version}
 use Rattle.krb_ccache.specs.Credential.{CredParts, number32, credential, credential_at, is_marked, FitsCredential}
 use Rattle.krb_ccache.specs.Store.{credentials_format, store_cell, live_by}
-use Rattle.krb_ccache.specs.Cells.{CellsFrom, BeginsWith}
+use Rattle.krb_ccache.specs.Credentials.{CredentialsFrom, BeginsWithCredential}
 use Rattle.krb_ccache.proofs.CredentialField.{credential_field}
 
 pub credentials_are : (v : Version) → IsFormat (credentials_format v)
@@ -38,6 +38,10 @@ end_is v at (c ∷ cs) =
 pub read_one : (v : Version) (bytes : List ℕ) (c : CredParts) (after : List ℕ) → IsBytes bytes → credential_at v bytes ≡ Some (c, after) → ReadsOne (credentials_format v) bytes c after
 read_one v bytes c after fits e = reads_one (credential_field v) bytes c after fits e
 
+-- fewer bytes are left
+pub read_left : (v : Version) (bytes : List ℕ) (c : CredParts) (after : List ℕ) → IsBytes bytes → credential_at v bytes ≡ Some (c, after) → IsBytes after × (length after < length bytes)
+read_left v bytes c after fits e = let r = read_one v bytes c after fits e in let len = r.len in let some = r.some in (r.fits, omega (arith, len, some))
+
 -- no credential was read
 pub read_none : (v : Version) (bytes : List ℕ) → IsBytes bytes → credential_at v bytes ≡ None → contents (credentials_format v) bytes ≡ record { cells = []; end = bytes }
 read_none v bytes fits e = reads_none (credential_field v) bytes fits e
@@ -59,22 +63,22 @@ cell_first v bytes c after live fits e is_live =
     ∙ ap (λ (o : Option (List ℕ)). record { width = n; live = o } ∷ others) (sym (is_live ∙ ap (live_by (is_marked c)) taken))
 
 -- it is the first of those of the bytes
-pub begins : (v : Version) (place : ℕ) (bytes : List ℕ) (c : CredParts) (after : List ℕ) (old : CellsFrom) → ReadsOne (credentials_format v) bytes c after → place + length bytes ≤ 2 ^ 30
-    → ◌≡◌ {A = CellsFrom} (record { version = v; place = place; cells = (contents (credentials_format v) bytes).cells }) old → BeginsWith old place c (record { version = v; place = place + (length bytes - length after); cells = (contents (credentials_format v) after).cells })
+pub begins : (v : Version) (place : ℕ) (bytes : List ℕ) (c : CredParts) (after : List ℕ) (old : CredentialsFrom) → ReadsOne (credentials_format v) bytes c after → place + length bytes ≤ 2 ^ 30
+    → ◌≡◌ {A = CredentialsFrom} (record { version = v; place = place; cells = (contents (credentials_format v) bytes).cells }) old → BeginsWithCredential old place c (record { version = v; place = place + (length bytes - length after); cells = (contents (credentials_format v) after).cells })
 begins v place bytes c after old r small is =
     let len = r.len in
-    let version : v ≡ old.version = ap (λ (x : CellsFrom). x.version) is in
+    let version : v ≡ old.version = ap (λ (x : CredentialsFrom). x.version) is in
     let next : place + (length bytes - length after) ≡ place + length (credential v c) = omega (arith, len) in
     record {
-      place = ap (λ (x : CellsFrom). x.place) is;
-      cells = ap (λ (x : CellsFrom). x.cells) (sym is) ∙ r.cells;
+      place = ap (λ (x : CredentialsFrom). x.place) is;
+      cells = ap (λ (x : CredentialsFrom). x.cells) (sym is) ∙ r.cells;
       next = next ∙ ap (λ (w : Version). place + length (credential w c)) version;
       version = version;
       small = omega (arith, len, small);
     }
 
 -- one is left fewer
-pub fewer_left : (old new : CellsFrom) (at : ℕ) (c : CredParts) → BeginsWith old at c new → length new.cells < length old.cells
+pub fewer_left : (old new : CredentialsFrom) (at : ℕ) (c : CredParts) → BeginsWithCredential old at c new → length new.cells < length old.cells
 fewer_left old new at c b = omega (arith, ap length b.cells)
 
 -- credentials that fit are cells

@@ -1,5 +1,5 @@
 -- A credential that is read is the credential that was written, and what was written is read again.
-use Rattle.std.proofs.Common.{◌≡◌, ℕ, List, [], ◌∷◌, ◌++◌, Some, refl, sym, ap, subst, ◌∙◌}
+use Rattle.std.proofs.Common.{◌≡◌, ℕ, List, [], ◌∷◌, ◌++◌, Some, refl, sym, ap, subst, ◌∙◌, append_assoc}
 use Rattle.krb_wire.specs.declared.format.Order.TheVariants.{Big}
 use Rattle.krb_wire.specs.Spelling.{data32, cc_principal}
 use Rattle.krb_wire.proofs.Fields.{IsBytes, some_is, Takes, Takes-then}
@@ -7,7 +7,7 @@ use Rattle.krb_wire.proofs.Places.{IsField}
 use Rattle.krb_wire.proofs.Principals.{data32_field, cc_principal_field}
 use Rattle.krb_ccache.specs.declared.version.Version.{Version}
 use Rattle.krb_ccache.specs.Credential.{CredParts, number32, typed_list, key, times, credential, FitsCredential, credential_at}
-use Rattle.krb_ccache.proofs.Fields.{field32, byte_field, step, part_first, some_more, typed_list_field, key_field, times_field}
+use Rattle.krb_ccache.proofs.Fields.{field32, byte_field, step, some_more, typed_list_field, key_field, times_field}
 
 credential_takes : (v : Version) (bytes : List ℕ) (x : CredParts × List ℕ) → IsBytes bytes → credential_at v bytes ≡ Some x → Takes bytes (credential v x.0) x.1 × FitsCredential v x.0
 unfolding credential_at
@@ -50,19 +50,13 @@ credential_takes v bytes x fits e =
     let whole : Takes bytes (credential v made) r10 = Takes-then _ _ _ _ _ t1 (Takes-then _ _ _ _ _ t2 (Takes-then _ _ _ _ _ t3 (Takes-then _ _ _ _ _ t4 (Takes-then _ _ _ _ _ t5 (Takes-then _ _ _ _ _ t6 (Takes-then _ _ _ _ _ t7 (Takes-then _ _ _ _ _ t8 (Takes-then _ _ _ _ _ t9 t10)))))))) in
     subst P (some_is (made, r10) x e10) (whole, fit)))))))))))
 
+ten_parts : (a b c d e f g h i j rest : List ℕ) → (a ++ (b ++ (c ++ (d ++ (e ++ (f ++ (g ++ (h ++ (i ++ j))))))))) ++ rest ≡ a ++ (b ++ (c ++ (d ++ (e ++ (f ++ (g ++ (h ++ (i ++ (j ++ rest)))))))))
+ten_parts a b c d e f g h i j rest = simp append_assoc
+
 credential_again : (v : Version) (c : CredParts) (rest : List ℕ) → FitsCredential v c → credential_at v (credential v c ++ rest) ≡ Some (c, rest)
 unfolding credential_at
 credential_again v c rest fits =
-    let y9 = data32 Big c.second_ticket in
-    let y8 = data32 Big c.ticket ++ y9 in
-    let y7 = typed_list c.authdata ++ y8 in
-    let y6 = typed_list c.addresses ++ y7 in
-    let y5 = number32 c.flags ++ y6 in
-    let y4 = (c.is_skey ∷ []) ++ y5 in
-    let y3 = times c.times ++ y4 in
-    let y2 = key v c.key ++ y3 in
-    let y1 = cc_principal c.server ++ y2 in
-    let z9 = y9 ++ rest in
+    let z9 = data32 Big c.second_ticket ++ rest in
     let z8 = data32 Big c.ticket ++ z9 in
     let z7 = typed_list c.authdata ++ z8 in
     let z6 = typed_list c.addresses ++ z7 in
@@ -71,11 +65,7 @@ credential_again v c rest fits =
     let z3 = times c.times ++ z4 in
     let z2 = key v c.key ++ z3 in
     let z1 = cc_principal c.server ++ z2 in
-    let grouped : credential v c ++ rest ≡ cc_principal c.client ++ z1 =
-    part_first (cc_principal c.client) y1 rest z1 (part_first (cc_principal c.server) y2 rest z2 (part_first (key v c.key) y3 rest z3
-    (part_first (times c.times) y4 rest z4 (part_first (c.is_skey ∷ []) y5 rest z5 (part_first (number32 c.flags) y6 rest z6
-    (part_first (typed_list c.addresses) y7 rest z7 (part_first (typed_list c.authdata) y8 rest z8 (part_first (data32 Big c.ticket) y9 rest z9 refl)))))))) in
-    ap (credential_at v) grouped
+    ap (credential_at v) (ten_parts (cc_principal c.client) (cc_principal c.server) (key v c.key) (times c.times) (c.is_skey ∷ []) (number32 c.flags) (typed_list c.addresses) (typed_list c.authdata) (data32 Big c.ticket) (data32 Big c.second_ticket) rest)
     ∙ rw (
       cc_principal_field.again c.client z1 fits.client,
       cc_principal_field.again c.server z2 fits.server,

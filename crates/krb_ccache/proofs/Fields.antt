@@ -11,8 +11,8 @@ use Rattle.krb_wire.proofs.Places.{IsField}
 use Rattle.krb_wire.proofs.Principals.{data32_field}
 use Rattle.krb_ccache.specs.declared.version.Version.{Version}
 use Rattle.krb_ccache.specs.declared.version.Version.TheVariants.{V3, V4}
-use Rattle.krb_ccache.specs.declared.times.Times.{Times}
-use Rattle.krb_ccache.specs.Credential.{Typed, Key, number32, typed, typed_list, again_field, key, times, FitsTyped, FitsTypedList, FitsAgain, FitsKey, FitsTimes, typed_at, typed_list_at, again_at, key_at, times_at}
+use Rattle.krb_ccache.specs.declared.credential.times.Times.{Times}
+use Rattle.krb_ccache.specs.Credential.{TypedData, Key, number32, typed_data, typed_list, second_enctype_field, key, times, FitsTypedData, FitsTypedList, FitsSecondEnctype, FitsKey, FitsTimes, typed_data_at, typed_list_at, second_enctype_at, key_at, times_at}
 
 -- a number of so many bits
 pub number_field : (w : Width) (limit : ℕ) → IsWide Big w limit → (0 < length (digits Big w 0)) → IsField (number_at Big w) (digits Big w) (λ n. n < limit)
@@ -59,58 +59,58 @@ step {read = read} field bytes f y fits e others =
 
 -- ---- lists of typed bytes
 
-typed_takes : (bytes : List ℕ) (x : Typed × List ℕ) → IsBytes bytes → typed_at bytes ≡ Some x → Takes bytes (typed x.0) x.1 × FitsTyped x.0
-unfolding typed_at
+typed_takes : (bytes : List ℕ) (x : TypedData × List ℕ) → IsBytes bytes → typed_data_at bytes ≡ Some x → Takes bytes (typed_data x.0) x.1 × FitsTypedData x.0
+unfolding typed_data_at
 typed_takes bytes x fits e =
     let k = bind_some (number_at Big w16 bytes) _ x e in
     let t = bind_some (data32_at Big k.0.1) _ x k.2 in
     let tk = field16.takes bytes k.0 fits k.1 in
     let tt = (data32_field Big).takes k.0.1 t.0 tk.0.rest_fits t.1 in
-    subst (λ (y : Typed × List ℕ). Takes bytes (typed y.0) y.1 × FitsTyped y.0) (some_is (record { kind = k.0.0; bytes = t.0.0 }, t.0.1) x t.2)
+    subst (λ (y : TypedData × List ℕ). Takes bytes (typed_data y.0) y.1 × FitsTypedData y.0) (some_is (record { kind = k.0.0; bytes = t.0.0 }, t.0.1) x t.2)
     (Takes-then _ _ _ _ _ tk.0 tt.0, record { kind = tk.1; bytes = tt.1 })
 
-typed_again : (x : Typed) (rest : List ℕ) → FitsTyped x → typed_at (typed x ++ rest) ≡ Some (x, rest)
-unfolding typed_at
+typed_again : (x : TypedData) (rest : List ℕ) → FitsTypedData x → typed_data_at (typed_data x ++ rest) ≡ Some (x, rest)
+unfolding typed_data_at
 typed_again x rest fits =
-    ap typed_at (append_assoc (digits Big w16 x.kind) (data32 Big x.bytes) rest)
+    ap typed_data_at (append_assoc (digits Big w16 x.kind) (data32 Big x.bytes) rest)
     ∙ rw (field16.again x.kind (data32 Big x.bytes ++ rest) fits.kind, (data32_field Big).again x.bytes rest fits.bytes) refl
 
-pub typed_field : IsField typed_at typed FitsTyped
+pub typed_field : IsField typed_data_at typed_data FitsTypedData
 typed_field = record {
   takes = λ bytes x fits e. typed_takes bytes x fits e;
   again = λ x rest fits. typed_again x rest fits;
   nonempty = λ x. some_more (digits Big w16 x.kind) (data32 Big x.bytes) (field16.nonempty x.kind);
 }
 
-typed_list_takes : (bytes : List ℕ) (x : List Typed × List ℕ) → IsBytes bytes → typed_list_at bytes ≡ Some x → Takes bytes (typed_list x.0) x.1 × FitsTypedList x.0
+typed_list_takes : (bytes : List ℕ) (x : List TypedData × List ℕ) → IsBytes bytes → typed_list_at bytes ≡ Some x → Takes bytes (typed_list x.0) x.1 × FitsTypedList x.0
 unfolding typed_list_at
 typed_list_takes bytes x fits e =
     let n = bind_some (number_at Big w32 bytes) _ x e in
     let tn = field32.takes bytes n.0 fits n.1 in
     let tx = list_takes typed_field n.0.0 n.0.1 x tn.0.rest_fits n.2 in
-    let count : n.0.0 ≡ length x.0 = sym (length_list typed_at n.0.0 n.0.1 x n.2) in
-    (subst (λ (m : ℕ). Takes bytes (number32 m ++ flat_map typed x.0) x.1) count (Takes-then _ _ _ _ _ tn.0 tx.0), record { count = subst (λ (m : ℕ). m < 2 ^ 32) count tn.1; each = tx.1 })
+    let count : n.0.0 ≡ length x.0 = sym (length_list typed_data_at n.0.0 n.0.1 x n.2) in
+    (subst (λ (m : ℕ). Takes bytes (number32 m ++ flat_map typed_data x.0) x.1) count (Takes-then _ _ _ _ _ tn.0 tx.0), record { count = subst (λ (m : ℕ). m < 2 ^ 32) count tn.1; each = tx.1 })
 
-typed_list_again : (xs : List Typed) (rest : List ℕ) → FitsTypedList xs → typed_list_at (typed_list xs ++ rest) ≡ Some (xs, rest)
+typed_list_again : (xs : List TypedData) (rest : List ℕ) → FitsTypedList xs → typed_list_at (typed_list xs ++ rest) ≡ Some (xs, rest)
 unfolding typed_list_at
 typed_list_again xs rest fits =
-    ap typed_list_at (append_assoc (number32 (length xs)) (flat_map typed xs) rest)
-    ∙ rw (field32.again (length xs) (flat_map typed xs ++ rest) fits.count) (list_again typed_field xs rest fits.each)
+    ap typed_list_at (append_assoc (number32 (length xs)) (flat_map typed_data xs) rest)
+    ∙ rw (field32.again (length xs) (flat_map typed_data xs ++ rest) fits.count) (list_again typed_field xs rest fits.each)
 
 pub typed_list_field : IsField typed_list_at typed_list FitsTypedList
 typed_list_field = record {
   takes = λ bytes x fits e. typed_list_takes bytes x fits e;
   again = λ xs rest fits. typed_list_again xs rest fits;
-  nonempty = λ xs. some_more (number32 (length xs)) (flat_map typed xs) (field32.nonempty (length xs));
+  nonempty = λ xs. some_more (number32 (length xs)) (flat_map typed_data xs) (field32.nonempty (length xs));
 }
 
 -- ---- keys
 
-again_takes : (v : Version) (bytes : List ℕ) (x : ℕ × List ℕ) → IsBytes bytes → again_at v bytes ≡ Some x → Takes bytes (again_field v x.0) x.1 × FitsAgain v x.0
+again_takes : (v : Version) (bytes : List ℕ) (x : ℕ × List ℕ) → IsBytes bytes → second_enctype_at v bytes ≡ Some x → Takes bytes (second_enctype_field v x.0) x.1 × FitsSecondEnctype v x.0
 again_takes V3 bytes x fits e = field16.takes bytes x fits e
 again_takes V4 bytes x fits e = subst (λ (y : ℕ × List ℕ). Takes bytes [] y.1 × (y.0 ≡ 0)) (some_is (0, bytes) x e) (record { parts = refl; rest_fits = fits }, refl)
 
-again_again : (v : Version) (n : ℕ) (rest : List ℕ) → FitsAgain v n → again_at v (again_field v n ++ rest) ≡ Some (n, rest)
+again_again : (v : Version) (n : ℕ) (rest : List ℕ) → FitsSecondEnctype v n → second_enctype_at v (second_enctype_field v n ++ rest) ≡ Some (n, rest)
 again_again V3 n rest h = field16.again n rest h
 again_again V4 n rest h = ap (λ (m : ℕ). Some (m, rest)) (sym h)
 
@@ -118,25 +118,25 @@ key_takes : (v : Version) (bytes : List ℕ) (x : Key × List ℕ) → IsBytes b
 unfolding key_at
 key_takes v bytes x fits e =
     let n = bind_some (number_at Big w16 bytes) _ x e in
-    let m = bind_some (again_at v n.0.1) _ x n.2 in
+    let m = bind_some (second_enctype_at v n.0.1) _ x n.2 in
     let t = bind_some (data32_at Big m.0.1) _ x m.2 in
     let tn = field16.takes bytes n.0 fits n.1 in
     let tm = again_takes v n.0.1 m.0 tn.0.rest_fits m.1 in
     let tt = (data32_field Big).takes m.0.1 t.0 tm.0.rest_fits t.1 in
-    subst (λ (y : Key × List ℕ). Takes bytes (key v y.0) y.1 × FitsKey v y.0) (some_is (record { enctype = n.0.0; enctype_again = m.0.0; bytes = t.0.0 }, t.0.1) x t.2)
-    (Takes-then _ _ _ _ _ tn.0 (Takes-then _ _ _ _ _ tm.0 tt.0), record { enctype = tn.1; enctype_again = tm.1; bytes = tt.1 })
+    subst (λ (y : Key × List ℕ). Takes bytes (key v y.0) y.1 × FitsKey v y.0) (some_is (record { enctype = n.0.0; second_enctype = m.0.0; bytes = t.0.0 }, t.0.1) x t.2)
+    (Takes-then _ _ _ _ _ tn.0 (Takes-then _ _ _ _ _ tm.0 tt.0), record { enctype = tn.1; second_enctype = tm.1; bytes = tt.1 })
 
 key_again : (v : Version) (k : Key) (rest : List ℕ) → FitsKey v k → key_at v (key v k ++ rest) ≡ Some (k, rest)
 unfolding key_at
 key_again v k rest fits =
-    ap (key_at v) (part_first (digits Big w16 k.enctype) (again_field v k.enctype_again ++ data32 Big k.bytes) rest _ (part_first (again_field v k.enctype_again) (data32 Big k.bytes) rest _ refl))
-    ∙ rw (field16.again k.enctype (again_field v k.enctype_again ++ (data32 Big k.bytes ++ rest)) fits.enctype, again_again v k.enctype_again (data32 Big k.bytes ++ rest) fits.enctype_again, (data32_field Big).again k.bytes rest fits.bytes) refl
+    ap (key_at v) (part_first (digits Big w16 k.enctype) (second_enctype_field v k.second_enctype ++ data32 Big k.bytes) rest _ (part_first (second_enctype_field v k.second_enctype) (data32 Big k.bytes) rest _ refl))
+    ∙ rw (field16.again k.enctype (second_enctype_field v k.second_enctype ++ (data32 Big k.bytes ++ rest)) fits.enctype, again_again v k.second_enctype (data32 Big k.bytes ++ rest) fits.second_enctype, (data32_field Big).again k.bytes rest fits.bytes) refl
 
 pub key_field : (v : Version) → IsField (key_at v) (key v) (FitsKey v)
 key_field v = record {
   takes = λ bytes x fits e. key_takes v bytes x fits e;
   again = λ k rest fits. key_again v k rest fits;
-  nonempty = λ k. some_more (digits Big w16 k.enctype) (again_field v k.enctype_again ++ data32 Big k.bytes) (field16.nonempty k.enctype);
+  nonempty = λ k. some_more (digits Big w16 k.enctype) (second_enctype_field v k.second_enctype ++ data32 Big k.bytes) (field16.nonempty k.enctype);
 }
 
 -- ---- times

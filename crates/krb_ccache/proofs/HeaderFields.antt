@@ -16,7 +16,7 @@ use Rattle.krb_walk.proofs.ContentsLemmas.{IsFormat, contents_spelled, unframed_
 use Rattle.krb_ccache.specs.declared.version.Version.{Version}
 use Rattle.krb_ccache.specs.declared.version.Version.TheVariants.{V3, V4}
 use Rattle.krb_ccache.specs.declared.offset.Offset.{Offset}
-use Rattle.krb_ccache.specs.Header.{Field, field, FitsField, header, field_at, fields_format, whole, fields_in, header_at, offset_of, first_of}
+use Rattle.krb_ccache.specs.Header.{Field, field, FitsField, header, field_at, fields_format, only_cells, fields_in, header_at, offset_of, first_of}
 use Rattle.krb_ccache.proofs.Fields.{field16, some_more}
 
 field_takes : (bytes : List ℕ) (x : Field × List ℕ) → IsBytes bytes → field_at bytes ≡ Some x → Takes bytes (field x.0) x.1 × FitsField x.0
@@ -45,7 +45,7 @@ field_field = record {
 pub fields_are : IsFormat fields_format
 fields_are = unframed_format field_field
 
-whole_by : (bytes : List ℕ) (cells : List Field) (end : List ℕ) (xs : List Field) → bytes ≡ flat_map field cells ++ end → whole cells end ≡ Some xs → bytes ≡ flat_map field xs
+whole_by : (bytes : List ℕ) (cells : List Field) (end : List ℕ) (xs : List Field) → bytes ≡ flat_map field cells ++ end → only_cells cells end ≡ Some xs → bytes ≡ flat_map field xs
 whole_by bytes cells [] xs parts e = parts ∙ append-nil (flat_map field cells) ∙ ap (flat_map field) (some_is cells xs e)
 whole_by bytes cells (b ∷ bs) xs parts e = absurd cc
 
@@ -78,22 +78,22 @@ header_takes V4 bytes x fits e =
 
 -- ---- one field after the other
 
-some_whole : (x : Field) (xs : List Field) (end : List ℕ) → is_some (whole (x ∷ xs) end) ≡ is_some (whole xs end)
+some_whole : (x : Field) (xs : List Field) (end : List ℕ) → is_some (only_cells (x ∷ xs) end) ≡ is_some (only_cells xs end)
 some_whole x xs [] = refl
 some_whole x xs (b ∷ bs) = refl
 
-pub fill_step : (bytes : List ℕ) (x : Field) (after : List ℕ) → IsBytes bytes → field_at bytes ≡ Some (x, after) → is_some (fields_in bytes) ≡ is_some (fields_in after)
-fill_step bytes x after fits e =
+pub fields_step : (bytes : List ℕ) (x : Field) (after : List ℕ) → IsBytes bytes → field_at bytes ≡ Some (x, after) → is_some (fields_in bytes) ≡ is_some (fields_in after)
+fields_step bytes x after fits e =
     let r = reads_one field_field bytes x after fits e in
-    ap (λ (cs : List Field). is_some (whole cs (contents fields_format bytes).end)) r.cells ∙ ap (λ (b : List ℕ). is_some (whole (x ∷ (contents fields_format after).cells) b)) r.end
+    ap (λ (cs : List Field). is_some (only_cells cs (contents fields_format bytes).end)) r.cells ∙ ap (λ (b : List ℕ). is_some (only_cells (x ∷ (contents fields_format after).cells) b)) r.end
     ∙ some_whole x (contents fields_format after).cells (contents fields_format after).end
 
-none_whole : (bytes : List ℕ) → is_some (whole (let none : List Field = [] in none) bytes) ≡ (length bytes == 0)
+none_whole : (bytes : List ℕ) → is_some (only_cells (let none : List Field = [] in none) bytes) ≡ (length bytes == 0)
 none_whole [] = refl
 none_whole (b ∷ bs) = grind (arith, nat_tests)
 
-pub fill_end : (bytes : List ℕ) → IsBytes bytes → field_at bytes ≡ None → is_some (fields_in bytes) ≡ (length bytes == 0)
-fill_end bytes fits e = ap (λ (k : Contents Field (List ℕ)). is_some (whole k.cells k.end)) (reads_none field_field bytes fits e) ∙ none_whole bytes
+pub fields_end : (bytes : List ℕ) → IsBytes bytes → field_at bytes ≡ None → is_some (fields_in bytes) ≡ (length bytes == 0)
+fields_end bytes fits e = ap (λ (k : Contents Field (List ℕ)). is_some (only_cells k.cells k.end)) (reads_none field_field bytes fits e) ∙ none_whole bytes
 
 pub field_shrinks : (bytes : List ℕ) (x : Field) (after : List ℕ) → IsBytes bytes → field_at bytes ≡ Some (x, after) → length after < length bytes
 field_shrinks bytes x after fits e = let r = reads_one field_field bytes x after fits e in let len = r.len in let some = r.some in omega (arith, len, some)

@@ -13,7 +13,7 @@ use Rattle.krb_ccache.specs.declared.version.Version.{Version}
 use Rattle.krb_ccache.specs.Credential.{CredParts, number32, typed_list, key, times, credential, credential_at, is_marked, FitsCredential}
 use Rattle.krb_ccache.specs.Mark.{times_from}
 use Rattle.krb_ccache.specs.Store.{placed_from, live_of, if_live, store_cell}
-use Rattle.krb_ccache.specs.Changes.{marked, marked_at}
+use Rattle.krb_ccache.specs.Changes.{add_mark, add_mark_at}
 use Rattle.krb_ccache.proofs.CredentialField.{credential_field}
 use Rattle.krb_ccache.proofs.Fields.{key_field}
 use Rattle.krb_ccache.proofs.CellLemmas.{end_is}
@@ -21,29 +21,29 @@ use Rattle.krb_ccache.proofs.CellLemmas.{end_is}
 -- ---- one credential
 
 -- what stands before the times of a credential
-abbrev pub front_text : Version → CredParts → List ℕ
-front_text v c = cc_principal c.client ++ (cc_principal c.server ++ key v c.key)
+abbrev pub before_times : Version → CredParts → List ℕ
+before_times v c = cc_principal c.client ++ (cc_principal c.server ++ key v c.key)
 
 -- what stands after them
-abbrev pub back_text : CredParts → List ℕ
-back_text c = (c.is_skey ∷ []) ++ (number32 c.flags ++ (typed_list c.addresses ++ (typed_list c.authdata ++ (data32 Big c.ticket ++ data32 Big c.second_ticket))))
+abbrev pub after_times : CredParts → List ℕ
+after_times c = (c.is_skey ∷ []) ++ (number32 c.flags ++ (typed_list c.addresses ++ (typed_list c.authdata ++ (data32 Big c.ticket ++ data32 Big c.second_ticket))))
 
 -- the two times that a mark writes, between what it leaves
 abbrev with_times : Version → CredParts → ℕ → ℕ → List ℕ
-with_times v c authtime endtime = front_text v c ++ (number32 authtime ++ (number32 c.times.starttime ++ (number32 endtime ++ (number32 c.times.renew_till ++ back_text c))))
+with_times v c authtime endtime = before_times v c ++ (number32 authtime ++ (number32 c.times.starttime ++ (number32 endtime ++ (number32 c.times.renew_till ++ after_times c))))
 
 reassoc : (x y z a s e r b : List ℕ) → x ++ (y ++ (z ++ ((a ++ (s ++ (e ++ r))) ++ b))) ≡ (x ++ (y ++ z)) ++ (a ++ (s ++ (e ++ (r ++ b))))
 reassoc x y z a s e r b = simp append_assoc
 
 as_times : (v : Version) (c : CredParts) → credential v c ≡ with_times v c c.times.authtime c.times.endtime
-as_times v c = reassoc (cc_principal c.client) (cc_principal c.server) (key v c.key) (number32 c.times.authtime) (number32 c.times.starttime) (number32 c.times.endtime) (number32 c.times.renew_till) (back_text c)
+as_times v c = reassoc (cc_principal c.client) (cc_principal c.server) (key v c.key) (number32 c.times.authtime) (number32 c.times.starttime) (number32 c.times.endtime) (number32 c.times.renew_till) (after_times c)
 
-as_marked : (v : Version) (c : CredParts) → credential v (marked c) ≡ with_times v c 4294967295 0
-as_marked v c = as_times v (marked c)
+as_marked : (v : Version) (c : CredParts) → credential v (add_mark c) ≡ with_times v c 4294967295 0
+as_marked v c = as_times v (add_mark c)
 
 -- a mark keeps the length
-pub marked_len : (v : Version) (c : CredParts) → length (credential v (marked c)) ≡ length (credential v c)
-marked_len v c = ap length (as_marked v c) ∙ omega (arith, length-append (front_text v c) (number32 4294967295 ++ (number32 c.times.starttime ++ (number32 0 ++ (number32 c.times.renew_till ++ back_text c)))), length-append (front_text v c) (number32 c.times.authtime ++ (number32 c.times.starttime ++ (number32 c.times.endtime ++ (number32 c.times.renew_till ++ back_text c))))) ∙ sym (ap length (as_times v c))
+pub marked_len : (v : Version) (c : CredParts) → length (credential v (add_mark c)) ≡ length (credential v c)
+marked_len v c = ap length (as_marked v c) ∙ omega (arith, length-append (before_times v c) (number32 4294967295 ++ (number32 c.times.starttime ++ (number32 0 ++ (number32 c.times.renew_till ++ after_times c)))), length-append (before_times v c) (number32 c.times.authtime ++ (number32 c.times.starttime ++ (number32 c.times.endtime ++ (number32 c.times.renew_till ++ after_times c))))) ∙ sym (ap length (as_times v c))
 
 -- bytes put over others of their number
 pub splice_part : (a x y b : List ℕ) (i j : ℕ) → i ≡ length a → j ≡ i + length x → splice (a ++ (x ++ b)) i j y ≡ a ++ (y ++ b)
@@ -53,7 +53,7 @@ splice_part a x y b i j is_i is_j =
     rw (front, back) refl
 
 -- where the times stand
-times_after : (v : Version) (c : CredParts) (rest : List ℕ) → FitsCredential v c → times_from v (front_text v c ++ rest) ≡ Some rest
+times_after : (v : Version) (c : CredParts) (rest : List ℕ) → FitsCredential v c → times_from v (before_times v c ++ rest) ≡ Some rest
 unfolding times_from
 times_after v c rest fits =
     let a = cc_principal c.client in
@@ -66,8 +66,8 @@ times_after v c rest fits =
 pub record AroundTimes (v : Version) (image : List ℕ) (place : ℕ) (c : CredParts) (rest : List ℕ) : Type 0 where
   pub left : List ℕ
   pub is_left : times_from v (drop place image) ≡ Some left
-  pub at : length image ≡ place + length (front_text v c) + length left
-  pub parts : image ≡ (take place image ++ front_text v c) ++ (number32 c.times.authtime ++ (number32 c.times.starttime ++ (number32 c.times.endtime ++ (number32 c.times.renew_till ++ (back_text c ++ rest)))))
+  pub at : length image ≡ place + length (before_times v c) + length left
+  pub parts : image ≡ (take place image ++ before_times v c) ++ (number32 c.times.authtime ++ (number32 c.times.starttime ++ (number32 c.times.endtime ++ (number32 c.times.renew_till ++ (after_times c ++ rest)))))
   pub room : 16 ≤ length left
   pub whole : image ≡ take place image ++ (credential v c ++ rest)
 
@@ -77,10 +77,10 @@ split_times f a s e r b rest = simp append_assoc
 pub around : (v : Version) (image : List ℕ) (place : ℕ) (c : CredParts) (rest : List ℕ) → IsBytes image → place ≤ length image → credential_at v (drop place image) ≡ Some (c, rest) → AroundTimes v image place c rest
 around v image place c rest fits le e =
     let t = (credential_field v).takes (drop place image) (c, rest) (IsBytes-drop place image fits) e in
-    let f = front_text v c in
-    let left = number32 c.times.authtime ++ (number32 c.times.starttime ++ (number32 c.times.endtime ++ (number32 c.times.renew_till ++ (back_text c ++ rest)))) in
+    let f = before_times v c in
+    let left = number32 c.times.authtime ++ (number32 c.times.starttime ++ (number32 c.times.endtime ++ (number32 c.times.renew_till ++ (after_times c ++ rest)))) in
     let split : drop place image ≡ f ++ left =
-    t.0.parts ∙ ap (λ (x : List ℕ). x ++ rest) (as_times v c) ∙ split_times f (number32 c.times.authtime) (number32 c.times.starttime) (number32 c.times.endtime) (number32 c.times.renew_till) (back_text c) rest in
+    t.0.parts ∙ ap (λ (x : List ℕ). x ++ rest) (as_times v c) ∙ split_times f (number32 c.times.authtime) (number32 c.times.starttime) (number32 c.times.endtime) (number32 c.times.renew_till) (after_times c) rest in
     let whole : image ≡ take place image ++ drop place image = sym (take-append-drop place image) in
     record {
       left = left;
@@ -98,16 +98,16 @@ group_back : (p f a s e r b rest : List ℕ) → ((p ++ f) ++ a) ++ s ++ (e ++ (
 group_back p f a s e r b rest = simp append_assoc
 
 -- the two times were written
-pub marked_is : (v : Version) (image mid new : List ℕ) (place at i j k : ℕ) (c : CredParts) (rest : List ℕ) → AroundTimes v image place c rest → place ≤ length image → at ≡ place + length (front_text v c) → i ≡ at + 4 → j ≡ at + 8 → k ≡ j + 4
-    → mid ≡ splice image at i (number32 4294967295) → new ≡ splice mid j k (number32 0) → new ≡ splice image place (place + length (credential v c)) (credential v (marked c))
+pub marked_is : (v : Version) (image mid new : List ℕ) (place at i j k : ℕ) (c : CredParts) (rest : List ℕ) → AroundTimes v image place c rest → place ≤ length image → at ≡ place + length (before_times v c) → i ≡ at + 4 → j ≡ at + 8 → k ≡ j + 4
+    → mid ≡ splice image at i (number32 4294967295) → new ≡ splice mid j k (number32 0) → new ≡ splice image place (place + length (credential v c)) (credential v (add_mark c))
 marked_is v image mid new place at i j k c rest w le is_at is_i is_j is_k first second =
     let p = take place image in
-    let f = front_text v c in
+    let f = before_times v c in
     let a = number32 c.times.authtime in
     let s = number32 c.times.starttime in
     let e = number32 c.times.endtime in
     let r = number32 c.times.renew_till in
-    let b = back_text c in
+    let b = after_times c in
     let ff = number32 4294967295 in
     let zz = number32 0 in
     let len_p : length p ≡ place = omega (arith, length-take place image, le) in
@@ -119,8 +119,8 @@ marked_is v image mid new place at i j k c rest w le is_at is_i is_j is_k first 
     let len_ff = length-append (p ++ f) ff in
     let new_is : new ≡ (((p ++ f) ++ ff) ++ s) ++ (zz ++ (r ++ (b ++ rest))) =
     second ∙ ap (λ (x : List ℕ). splice x j k zz) mid_split ∙ splice_part (((p ++ f) ++ ff) ++ s) e zz (r ++ (b ++ rest)) j k (omega arith) is_k in
-    let told : splice image place (place + length (credential v c)) (credential v (marked c)) ≡ p ++ (credential v (marked c) ++ rest) =
-    ap (λ (x : List ℕ). splice x place (place + length (credential v c)) (credential v (marked c))) w.whole ∙ splice_part p (credential v c) (credential v (marked c)) rest place (place + length (credential v c)) (sym len_p) refl in
+    let told : splice image place (place + length (credential v c)) (credential v (add_mark c)) ≡ p ++ (credential v (add_mark c) ++ rest) =
+    ap (λ (x : List ℕ). splice x place (place + length (credential v c)) (credential v (add_mark c))) w.whole ∙ splice_part p (credential v c) (credential v (add_mark c)) rest place (place + length (credential v c)) (sym len_p) refl in
     new_is ∙ group_back p f ff s zz r b rest ∙ ap (λ (x : List ℕ). p ++ (x ++ rest)) (sym (as_marked v c)) ∙ sym told
 
 -- ---- a credential among others
@@ -154,21 +154,21 @@ pub stands : (v : Version) (at p : ℕ) (cs : List CredParts) (c : CredParts) �
 stands v at p [] c is = absurd cc
 stands v at p (d ∷ cs) c is = stands_cons v at p d cs c (at == p) refl (stands v (at + length (credential v d)) p cs c) is
 
-unmarked_by : (v : Version) (at p : ℕ) (c : CredParts) (cs : List CredParts) → (at == p) ≡ false → marked_at v at p (c ∷ cs) ≡ c ∷ marked_at v (at + length (credential v c)) p cs
+unmarked_by : (v : Version) (at p : ℕ) (c : CredParts) (cs : List CredParts) → (at == p) ≡ false → add_mark_at v at p (c ∷ cs) ≡ c ∷ add_mark_at v (at + length (credential v c)) p cs
 unmarked_by v at p c cs e = rw e refl
 
 -- those after the place stay
-unmarked_after : (v : Version) (at p : ℕ) (cs : List CredParts) → p < at → marked_at v at p cs ≡ cs
+unmarked_after : (v : Version) (at p : ℕ) (cs : List CredParts) → p < at → add_mark_at v at p cs ≡ cs
 unmarked_after v at p [] lt = refl
 unmarked_after v at p (c ∷ cs) lt =
     unmarked_by v at p c cs (grind (arith, nat_tests)) ∙ ap (λ (xs : List CredParts). c ∷ xs) (unmarked_after v (at + length (credential v c)) p cs (omega (arith, lt)))
 
-pub marked_one : (v : Version) (at p : ℕ) (before after : List CredParts) (c : CredParts) → p ≡ end_from at (map (store_cell v) before) → marked_at v at p (before ++ c ∷ after) ≡ before ++ marked c ∷ after
+pub marked_one : (v : Version) (at p : ℕ) (before after : List CredParts) (c : CredParts) → p ≡ end_from at (map (store_cell v) before) → add_mark_at v at p (before ++ c ∷ after) ≡ before ++ add_mark c ∷ after
 marked_one v at p [] after c is =
     let here : (at == p) ≡ true = grind (arith, nat_tests) in
     let some = (credential_field v).nonempty c in
-    let one : marked_at v at p (c ∷ after) ≡ marked c ∷ marked_at v (at + length (credential v c)) p after = rw here refl in
-    one ∙ ap (λ (xs : List CredParts). marked c ∷ xs) (unmarked_after v (at + length (credential v c)) p after (omega (arith, some, is)))
+    let one : add_mark_at v at p (c ∷ after) ≡ add_mark c ∷ add_mark_at v (at + length (credential v c)) p after = rw here refl in
+    one ∙ ap (λ (xs : List CredParts). add_mark c ∷ xs) (unmarked_after v (at + length (credential v c)) p after (omega (arith, some, is)))
 marked_one v at p (d ∷ before) after c is =
     let some = (credential_field v).nonempty d in
     let ge = end_is v (at + length (credential v d)) before in
@@ -177,7 +177,7 @@ marked_one v at p (d ∷ before) after c is =
 -- ---- what was found
 
 -- the times that were found are those of the credential
-pub times_left : (v : Version) (image bytes times : List ℕ) (place : ℕ) (c : CredParts) (rest : List ℕ) → AroundTimes v image place c rest → bytes ≡ drop place image → times_from v bytes ≡ Some times → (length image ≡ place + length (front_text v c) + length times) × (16 ≤ length times)
+pub times_left : (v : Version) (image bytes times : List ℕ) (place : ℕ) (c : CredParts) (rest : List ℕ) → AroundTimes v image place c rest → bytes ≡ drop place image → times_from v bytes ≡ Some times → (length image ≡ place + length (before_times v c) + length times) × (16 ≤ length times)
 times_left v image bytes times place c rest w same found =
     let left : w.left ≡ times = some_is w.left times (sym w.is_left ∙ ap (times_from v) (sym same) ∙ found) in
     let at = w.at in

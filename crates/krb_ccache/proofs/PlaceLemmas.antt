@@ -1,5 +1,5 @@
 -- Where the parts of an image stand.
-use Rattle.std.proofs.Common.{◌≡◌, ℕ, ◌+◌, ◌-◌, ◌<◌, ◌≤◌, List, [], ◌++◌, length, take, drop, Option, Some, None, Ok, Err, refl, sym, ap, subst, ◌∙◌, append_assoc, length-append, arith}
+use Rattle.std.proofs.Common.{◌≡◌, ℕ, ◌+◌, ◌-◌, ◌≤◌, List, [], ◌++◌, length, take, drop, Option, Some, None, Ok, Err, refl, sym, ap, subst, ◌∙◌, append_assoc, length-append, arith}
 use Rattle.std.specs.Prelude.{option_map, unwrap_or}
 use Rattle.std.specs.List.{flat_map}
 use Rattle.std.proofs.lemmas.List.{drop_at, take-append-drop}
@@ -15,26 +15,20 @@ use Rattle.krb_ccache.specs.declared.open.Places.{Places}
 use Rattle.krb_ccache.specs.Credential.{CredParts, credential, credential_at}
 use Rattle.krb_ccache.specs.Header.{Field, header, header_at, header_end}
 use Rattle.krb_ccache.specs.Store.{credentials_format, open_default, open_header}
-use Rattle.krb_ccache.specs.Open.{header_held, no_name, name_held, held, cells_len, ArePlaces}
+use Rattle.krb_ccache.specs.Open.{header_in, empty_name, principal_in, cache_of, credentials_len, ArePlaces}
 use Rattle.krb_ccache.proofs.HeaderFields.{header_takes}
 use Rattle.krb_ccache.proofs.CellLemmas.{read_one, read_none, end_is}
 
 -- ---- how many bytes the credentials take
 
-pub len_step : (v : Version) (bytes : List ℕ) (c : CredParts) (after : List ℕ) → IsBytes bytes → credential_at v bytes ≡ Some (c, after) → cells_len v bytes + length after ≡ length bytes + cells_len v after
+pub len_step : (v : Version) (bytes : List ℕ) (c : CredParts) (after : List ℕ) → IsBytes bytes → credential_at v bytes ≡ Some (c, after) → credentials_len v bytes + length after ≡ length bytes + credentials_len v after
 len_step v bytes c after fits e =
     let r = read_one v bytes c after fits e in
     let len = r.len in
-    let cons : cells_len v bytes ≡ length (credential v c) + cells_len v after = ap (λ (cs : List CredParts). length (flat_map (credential v) cs)) r.cells ∙ ap length (flat_map-cons (credential v) c _) ∙ length-append (credential v c) _ in
+    let cons : credentials_len v bytes ≡ length (credential v c) + credentials_len v after = ap (λ (cs : List CredParts). length (flat_map (credential v) cs)) r.cells ∙ ap length (flat_map-cons (credential v) c _) ∙ length-append (credential v c) _ in
     omega (arith, cons, len)
 
-pub len_less : (v : Version) (bytes : List ℕ) (c : CredParts) (after : List ℕ) → IsBytes bytes → credential_at v bytes ≡ Some (c, after) → length after < length bytes
-len_less v bytes c after fits e = let r = read_one v bytes c after fits e in let len = r.len in let some = r.some in omega (arith, len, some)
-
-pub left_fits : (v : Version) (bytes : List ℕ) (c : CredParts) (after : List ℕ) → IsBytes bytes → credential_at v bytes ≡ Some (c, after) → IsBytes after
-left_fits v bytes c after fits e = (read_one v bytes c after fits e).fits
-
-pub len_end : (v : Version) (bytes : List ℕ) → IsBytes bytes → credential_at v bytes ≡ None → cells_len v bytes ≡ 0
+pub len_end : (v : Version) (bytes : List ℕ) → IsBytes bytes → credential_at v bytes ≡ None → credentials_len v bytes ≡ 0
 len_end v bytes fits e = ap (λ (k : Contents CredParts (List ℕ)). length (flat_map (credential v) k.cells)) (read_none v bytes fits e)
 
 -- ---- what is left of an image
@@ -91,13 +85,13 @@ front_is v image rest after p cells fits is_rest passes read =
     let two = after_takes image rest (header v h.fields) after start th in
     record { rest_ends = start; after_ends = two; cells_end = after_takes image after (cc_principal p) cells two tp.0 }
 
-pub header_is : (v : Version) (image after : List ℕ) (xs : List Field) → header_at v (drop 2 image) ≡ Some (xs, after) → header_held v image ≡ xs
+pub header_is : (v : Version) (image after : List ℕ) (xs : List Field) → header_at v (drop 2 image) ≡ Some (xs, after) → header_in v image ≡ xs
 header_is v image after xs e = ap (λ (o : Option (List Field × List ℕ)). unwrap_or (option_map (λ x. x.0) o) []) e
 
-pub name_is : (bytes after : List ℕ) (p : Parts) → cc_principal_at bytes ≡ Some (p, after) → name_held bytes ≡ p
-name_is bytes after p e = ap (λ (o : Option (Parts × List ℕ)). unwrap_or (option_map (λ x. x.0) o) no_name) e
+pub name_is : (bytes after : List ℕ) (p : Parts) → cc_principal_at bytes ≡ Some (p, after) → principal_in bytes ≡ p
+name_is bytes after p e = ap (λ (o : Option (Parts × List ℕ)). unwrap_or (option_map (λ x. x.0) o) empty_name) e
 
-pub places_are : (v : Version) (image rest after : List ℕ) (p : Parts) (cells : List ℕ) (n : ℕ) → IsBytes image → rest ≡ drop 2 image → header_end v rest ≡ Some after → cc_principal_at after ≡ Some (p, cells) → n ≡ cells_len v cells → n ≤ length cells
+pub places_are : (v : Version) (image rest after : List ℕ) (p : Parts) (cells : List ℕ) (n : ℕ) → IsBytes image → rest ≡ drop 2 image → header_end v rest ≡ Some after → cc_principal_at after ≡ Some (p, cells) → n ≡ credentials_len v cells → n ≤ length cells
     → ArePlaces v image (record { principal = length image - length after; first = length image - length cells; end = length image - length cells + n })
 places_are v image rest after p cells n fits is_rest passes read is_n le =
     let h = passed v rest after passes in
@@ -108,16 +102,16 @@ places_are v image rest after p cells n fits is_rest passes read is_n le =
     let named : cc_principal_at (drop (length image - length after) image) ≡ Some (p, cells) = ap cc_principal_at ta.1 ∙ read in
     let lc = tc.0 in
     record {
-      header = there ∙ ap (λ (xs : List Field). Some (xs, after)) (sym (header_is v image after h.fields there)) ∙ ap (λ (b : List ℕ). Some (header_held v image, b)) (sym ta.1);
+      header = there ∙ ap (λ (xs : List Field). Some (xs, after)) (sym (header_is v image after h.fields there)) ∙ ap (λ (b : List ℕ). Some (header_in v image, b)) (sym ta.1);
       principal_within = omega arith;
-      principal = named ∙ ap (λ (q : Parts). Some (q, cells)) (sym (name_is _ cells p named)) ∙ ap (λ (b : List ℕ). Some (name_held (drop (length image - length after) image), b)) (sym tc.1);
+      principal = named ∙ ap (λ (q : Parts). Some (q, cells)) (sym (name_is _ cells p named)) ∙ ap (λ (b : List ℕ). Some (principal_in (drop (length image - length after) image), b)) (sym tc.1);
       first_within = omega arith;
       end =
-          ap (λ (m : ℕ). length image - length cells + m) (is_n ∙ ap (cells_len v) (sym tc.1))
+          ap (λ (m : ℕ). length image - length cells + m) (is_n ∙ ap (credentials_len v) (sym tc.1))
           ∙ sym (end_is v (length image - length cells) (contents (credentials_format v) (drop (length image - length cells) image)).cells);
       end_within = omega (arith, lc, le);
     }
 
 -- such an image is opened as what it holds
-pub opens : (v : Version) (limit : ℕ) (image : List ℕ) (places : Places) → ArePlaces v image places → open_header v limit (header_at v (drop 2 image)) ≡ Ok (held v limit image places)
-opens v limit image places are = ap (open_header v limit) are.header ∙ ap (open_default v limit (header_held v image)) are.principal
+pub opens : (v : Version) (limit : ℕ) (image : List ℕ) (places : Places) → ArePlaces v image places → open_header v limit (header_at v (drop 2 image)) ≡ Ok (cache_of (record { version = v; limit = limit; places = places }) image)
+opens v limit image places are = ap (open_header v limit) are.header ∙ ap (open_default v limit (header_in v image)) are.principal

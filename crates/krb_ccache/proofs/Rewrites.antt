@@ -1,49 +1,55 @@
--- A cache that is written anew, as a store.
-use Rattle.std.proofs.Common.{◌≡◌, ℕ, suc, ◌+◌, ◌≤◌, Bool, true, false, cond, Result, Ok, Err, Some, None, List, [], ◌∷◌, ◌++◌, length, map, refl, sym, ap, subst, ◌∙◌, append_assoc, length-append, arith}
-use Rattle.std.specs.Prelude.{nat_lt, is_some, not, filter}
+-- A cache that is written anew: its image, its store, and where cursors go.
+use Rattle.std.proofs.Common.{◌≡◌, ℕ, suc, ◌+◌, ◌≤◌, Bool, true, false, cond, Result, Ok, Err, Some, None, List, [], ◌∷◌, ◌++◌, length, map, refl, sym, ap, subst, ◌∙◌, append_assoc, length-append, arith, ◌-◌, take}
+use Rattle.std.specs.Prelude.{nat_lt, is_some, not, filter, drop, Option, IfOk}
 use Rattle.std.specs.List.{flat_map, AllByRecursion}
 use Rattle.std.proofs.lemmas.Bool.{le-ltb}
 use Rattle.std.proofs.lemmas.List.{append-nil}
-use Rattle.krb_wire.specs.Spelling.{cc_principal}
-use Rattle.krb_wire.proofs.Fields.{IsBytes}
-use Rattle.krb_walk.specs.Contents.{next_by, spelling}
+use Rattle.krb_wire.specs.Spelling.{cc_principal, Parts}
+use Rattle.krb_wire.proofs.Fields.{IsBytes, IsBytes-drop, IsBytes-take}
+use Rattle.krb_walk.specs.Contents.{next_by, spelling, Contents}
 use Rattle.krb_walk.specs.declared.refusal.Code.{Code}
-use Rattle.krb_walk.specs.declared.refusal.Code.TheVariants as code
 use Rattle.krb_walk.specs.Store.{Cell, end_of, fault_of}
 use Rattle.krb_walk.specs.Ranks.{Rewrites}
 use Rattle.krb_walk.proofs.Lives.{lives}
+use Rattle.krb_walk.specs.declared.fault.FaultKind.{FaultKind}
+use Rattle.krb_cells.specs.Carry.{whole, store_in}
+use Rattle.krb_cells.specs.CellFormat.{AreCells, seen_in}
 use Rattle.krb_ccache.specs.declared.version.Version.{Version}
 use Rattle.krb_ccache.specs.declared.version.Version.TheVariants.{V4}
-use Rattle.krb_ccache.specs.Credential.{CredParts, credential, is_marked, FitsCredential}
-use Rattle.krb_ccache.specs.Cred.{in_version_4}
+use Rattle.krb_ccache.specs.Credential.{CredParts, credential, is_marked, FitsCredential, in_version_4}
 use Rattle.krb_ccache.specs.Header.{header, offset_in}
-use Rattle.krb_ccache.specs.Store.{CacheState, PlacedCredential, credentials_format, image_of, store_cell, store_of, kind_of, first_place, live_by, placed_from, is_live}
-use Rattle.krb_ccache.specs.Changes.{new_header, new_front}
+use Rattle.krb_ccache.specs.Store.{CacheState, PlacedCredential, credentials_format, image_of, store_cell, store_of, fault_kind, first_place, live_by, placed_from, is_live}
+use Rattle.krb_ccache.specs.Changes.{new_header, new_preamble}
 use Rattle.krb_ccache.specs.Laws.{live_credentials}
-use Rattle.krb_ccache.specs.Open.{Holds}
-use Rattle.krb_ccache.specs.Rewrite.{new_cells, rewrite_of, rewrite_result, text_anew}
+use Rattle.krb_ccache.specs.Open.{Holds, IsImage, cache_of}
+use Rattle.krb_ccache.specs.Rewrite.{new_cells, rewrite_of, rewrite_result}
+use Rattle.krb_ccache.specs.NewImage.{new_text, new_texts}
+use Rattle.krb_ccache.specs.declared.open.Layout.{Layout}
+use Rattle.krb_ccache.specs.declared.offset.Offset.{Offset}
 use Rattle.krb_ccache.proofs.HeaderFields.{IsBytes-front, IsBytes-back}
 use Rattle.krb_ccache.proofs.Splits.{no_credential}
 use Rattle.krb_ccache.proofs.CellLemmas.{end_is}
-use Rattle.krb_ccache.proofs.Kept.{IsKept, holds}
-use Rattle.krb_ccache.proofs.FrontLemmas.{header_kept}
-use Rattle.krb_ccache.proofs.AnewLemmas.{flat_anew}
+use Rattle.krb_ccache.proofs.CacheLemmas.{IsReadable, holds, image_readable}
+use Rattle.krb_ccache.proofs.PreambleLemmas.{header_read}
+use Rattle.krb_ccache.proofs.NewTexts.{flat_new_texts}
 use Rattle.krb_ccache.proofs.StoreChanges.{cells_wide, whole_of, live_cell}
+use Rattle.krb_ccache.proofs.ImageLemmas.{image_parts, first_ahead, image_credentials, image_cells}
+use Rattle.krb_walk.specs.declared.refusal.Code.TheVariants as code
 
 -- ---- the new image
 
-pub image_is : (k : CacheState) → image_of (rewrite_of k) ≡ new_front k.principal (offset_in k.header) ++ flat_map text_anew k.contents.cells
+pub image_is : (k : CacheState) → image_of (rewrite_of k) ≡ new_preamble k.principal (offset_in k.header) ++ flat_map new_text k.contents.cells
 image_is k =
     let h = header V4 (new_header (offset_in k.header)) in
     let p = cc_principal k.principal in
     let t = flat_map (credential V4) (new_cells k.contents.cells) in
-    ap (λ (b : List ℕ). 5 ∷ 4 ∷ (h ++ (p ++ b))) (append-nil t) ∙ ap (λ (b : List ℕ). 5 ∷ 4 ∷ b) (sym (append_assoc h p t)) ∙ ap (λ (b : List ℕ). 5 ∷ 4 ∷ ((h ++ p) ++ b)) (sym (flat_anew k.contents.cells))
+    ap (λ (b : List ℕ). 5 ∷ 4 ∷ (h ++ (p ++ b))) (append-nil t) ∙ ap (λ (b : List ℕ). 5 ∷ 4 ∷ b) (sym (append_assoc h p t)) ∙ ap (λ (b : List ℕ). 5 ∷ 4 ∷ ((h ++ p) ++ b)) (sym (flat_new_texts k.contents.cells))
 
-fits_anew : (v : Version) (c : CredParts) → FitsCredential v c → FitsCredential V4 (in_version_4 c)
-fits_anew v c fit = record {
+fits_version_4 : (v : Version) (c : CredParts) → FitsCredential v c → FitsCredential V4 (in_version_4 c)
+fits_version_4 v c fit = record {
   client = fit.client;
   server = fit.server;
-  key = record { enctype = fit.key.enctype; enctype_again = refl; bytes = fit.key.bytes };
+  key = record { enctype = fit.key.enctype; second_enctype = refl; bytes = fit.key.bytes };
   times = fit.times;
   is_skey = fit.is_skey;
   flags = fit.flags;
@@ -57,12 +63,12 @@ all_by : (v : Version) (c : CredParts) (cs : List CredParts) (b : Bool) → is_m
 all_by v c cs true e fit all = rw e all
 all_by v c cs false e fit all = rw e (fit, all)
 
-all_anew : (v : Version) (cs : List CredParts) → AllByRecursion (FitsCredential v) cs → AllByRecursion (FitsCredential V4) (new_cells cs)
-all_anew v [] all = tt
-all_anew v (c ∷ cs) all = all_by v c cs (is_marked c) refl (fits_anew v c all.0) (all_anew v cs all.1)
+all_version_4 : (v : Version) (cs : List CredParts) → AllByRecursion (FitsCredential v) cs → AllByRecursion (FitsCredential V4) (new_cells cs)
+all_version_4 v [] all = tt
+all_version_4 v (c ∷ cs) all = all_by v c cs (is_marked c) refl (fits_version_4 v c all.0) (all_version_4 v cs all.1)
 
-pub rewrite_held : (k : CacheState) (image : List ℕ) (limit principal first end : ℕ) → IsKept k → IsBytes image → image ≡ image_of (rewrite_of k) → limit ≡ k.limit → length (image_of (rewrite_of k)) ≤ limit
-    → principal ≡ 2 + length (header V4 (new_header (offset_in k.header))) → first ≡ length (new_front k.principal (offset_in k.header)) → end ≡ length (image_of (rewrite_of k))
+pub rewrite_held : (k : CacheState) (image : List ℕ) (limit principal first end : ℕ) → IsReadable k → IsBytes image → image ≡ image_of (rewrite_of k) → limit ≡ k.limit → length (image_of (rewrite_of k)) ≤ limit
+    → principal ≡ 2 + length (header V4 (new_header (offset_in k.header))) → first ≡ length (new_preamble k.principal (offset_in k.header)) → end ≡ length (image_of (rewrite_of k))
     → Holds (record { version = V4; limit = limit; places = record { principal = principal; first = first; end = end } }) image (rewrite_of k)
 rewrite_held k image limit principal first end kept fits is is_limit within is_principal is_first is_end =
     let d = rewrite_of k in
@@ -71,16 +77,16 @@ rewrite_held k image limit principal first end kept fits is is_limit within is_p
     let spelled : IsBytes (image_of d) = subst IsBytes is fits in
     let head_fits : IsBytes h = IsBytes-front h rest (IsBytes-back (5 ∷ 4 ∷ []) (h ++ rest) spelled) in
     let limit_fits = kept.limit_fits in
-    let new_kept : IsKept d = record {
-      header = λ rest. header_kept (offset_in k.header) rest head_fits;
+    let new_kept : IsReadable d = record {
+      header = λ rest. header_read (offset_in k.header) rest head_fits;
       principal = kept.principal;
-      cells = all_anew k.version k.contents.cells kept.cells;
+      cells = all_version_4 k.version k.contents.cells kept.cells;
       end = ap (next_by {C = CredParts} []) (no_credential V4);
       within = omega (arith, within, is_limit);
       limit_fits = limit_fits;
     } in
     let place : first ≡ first_place d = omega (arith, is_first, length-append h (cc_principal k.principal)) in
-    let last : end ≡ end_of (store_of d) = omega (arith, is_end, ap length (image_is k), length-append (new_front k.principal (offset_in k.header)) (flat_map text_anew k.contents.cells), end_is V4 (first_place d) (new_cells k.contents.cells), ap length (flat_anew k.contents.cells), place, is_first) in
+    let last : end ≡ end_of (store_of d) = omega (arith, is_end, ap length (image_is k), length-append (new_preamble k.principal (offset_in k.header)) (flat_map new_text k.contents.cells), end_is V4 (first_place d) (new_cells k.contents.cells), ap length (flat_new_texts k.contents.cells), place, is_first) in
     holds d _ image new_kept fits is
     (ap (λ (n : ℕ). record { version = V4; limit = n; places = record { principal = principal; first = first; end = end } }) is_limit
     ∙ ap (λ (n : ℕ). record { version = V4; limit = k.limit; places = record { principal = n; first = first; end = end } }) is_principal
@@ -133,7 +139,7 @@ as_many v (c ∷ cs) at to = as_many_by v c cs at to (is_marked c) refl (as_many
 
 pub rewrites_store : (k : CacheState) → is_some (fault_of (store_of k)) ≡ false → Rewrites (store_of k) (store_of (rewrite_of k))
 rewrites_store k whole = record {
-  whole = whole_of (end_of (store_of k)) (kind_of k.contents.end) whole;
+  whole = whole_of (end_of (store_of k)) (fault_kind k.contents.end) whole;
   fault = refl;
   sound = cells_wide V4 (new_cells k.contents.cells);
   all_live = all_live k.contents.cells;
@@ -161,13 +167,13 @@ live_by_mark : (c : CredParts) (cs : List CredParts) (b : Bool) → is_marked c 
 live_by_mark c cs true e same = rw e same
 live_by_mark c cs false e same = rw (e, e) (ap (λ (xs : List CredParts). in_version_4 c ∷ xs) same)
 
-live_anew : (cs : List CredParts) → live (new_cells cs) ≡ new_cells cs
-live_anew [] = refl
-live_anew (c ∷ cs) = live_by_mark c cs (is_marked c) refl (live_anew cs)
+live_version_4 : (cs : List CredParts) → live (new_cells cs) ≡ new_cells cs
+live_version_4 [] = refl
+live_version_4 (c ∷ cs) = live_by_mark c cs (is_marked c) refl (live_version_4 cs)
 
 credentials_kept : (k : CacheState) → live_credentials (rewrite_of k) ≡ map in_version_4 (live_credentials k)
 credentials_kept k =
-    unplaced_live V4 (first_place (rewrite_of k)) (new_cells k.contents.cells) ∙ live_anew k.contents.cells
+    unplaced_live V4 (first_place (rewrite_of k)) (new_cells k.contents.cells) ∙ live_version_4 k.contents.cells
     ∙ ap (map in_version_4) (sym (unplaced_live k.version (first_place k) k.contents.cells))
 
 -- what a rewrite gives
@@ -180,3 +186,66 @@ made_is k new false false made = cc
 pub rewritten_keeps : (k new : CacheState) → rewrite_result k ≡ Ok new → live_credentials new ≡ map in_version_4 (live_credentials k)
 rewritten_keeps k new made =
     ap live_credentials (sym (made_is k new (is_some (fault_of (store_of k))) (nat_lt k.limit (length (image_of (rewrite_of k)))) made)) ∙ credentials_kept k
+
+-- ---- the image of a rewrite
+
+pub readable_by : (h : Layout) (image : List ℕ) (k : CacheState) → IsBytes image → IsImage h image → cache_of h image ≡ k → IsReadable k
+readable_by h image k fits is same = subst IsReadable same (image_readable h image fits is)
+
+-- what is written anew, from what was read
+pub record IsNewImage (h : Layout) (cells : List ℕ) (p : Parts) (o : Option Offset) (k : CacheState) : Type 0 where
+  pub front : new_preamble p o ≡ new_preamble k.principal (offset_in k.header)
+  pub spelled : image_of (rewrite_of k) ≡ new_preamble p o ++ new_texts h.version cells
+  pub total : length (image_of (rewrite_of k)) ≡ length (new_preamble p o) + length (new_texts h.version cells)
+  pub limit : k.limit ≡ h.limit
+
+pub is_new_image : (h : Layout) (image bytes cells : List ℕ) (p : Parts) (o : Option Offset) (k : CacheState) → cache_of h image ≡ k → bytes ≡ image → cells ≡ drop h.places.first bytes → p ≡ k.principal → o ≡ offset_in k.header → IsNewImage h cells p o k
+is_new_image h image bytes cells p o k same is_bytes is_cells is_p is_o =
+    let front : new_preamble p o ≡ new_preamble k.principal (offset_in k.header) = ap (λ (q : Parts). new_preamble q o) is_p ∙ ap (new_preamble k.principal) is_o in
+    let texts : new_texts h.version cells ≡ flat_map new_text k.contents.cells =
+    ap (new_texts h.version) (is_cells ∙ ap (drop h.places.first) is_bytes) ∙ ap (λ (s : CacheState). flat_map new_text s.contents.cells) same in
+    let spelled : image_of (rewrite_of k) ≡ new_preamble p o ++ new_texts h.version cells =
+    image_is k ∙ ap (λ (b : List ℕ). b ++ flat_map new_text k.contents.cells) (sym front) ∙ ap (λ (b : List ℕ). new_preamble p o ++ b) (sym texts) in
+    record {
+      front = front;
+      spelled = spelled;
+      total = ap length spelled ∙ length-append (new_preamble p o) (new_texts h.version cells);
+      limit = ap (λ (s : CacheState). s.limit) (sym same);
+    }
+
+-- the new image is kept, and is what a rewrite leaves
+pub new_image_held : (h : Layout) (image new : List ℕ) (k : CacheState) (front first len : ℕ) → IsBytes image → IsImage h image → cache_of h image ≡ k → IsBytes new → new ≡ image_of (rewrite_of k)
+    → front ≡ length (header V4 (new_header (offset_in k.header))) → first ≡ length (new_preamble k.principal (offset_in k.header)) → len ≡ length (image_of (rewrite_of k)) → len ≤ k.limit
+    → Holds (record { version = V4; limit = h.limit; places = record { principal = 2 + front; first = first; end = len } }) new (rewrite_of k)
+new_image_held h image new k front first len fits is same new_fits spelled is_front is_first is_len within =
+    let limit : h.limit ≡ k.limit = ap (λ (s : CacheState). s.limit) same in
+    rewrite_held k new h.limit (2 + front) first len (readable_by h image k fits is same) new_fits spelled limit (omega (arith, limit, within, is_len)) (ap (λ (n : ℕ). 2 + n) is_front) is_first is_len
+
+-- ---- cursors
+
+-- an image that is replaced: its credentials are this store
+pub record IsOldStore (v : Version) (image : List ℕ) (first end : ℕ) (k : CacheState) : Type 0 where
+  pub ahead : first ≤ end
+  pub are : AreCells (seen_in (credentials_format v) (store_cell v)) (take (end - first) (drop first image))
+  pub store : store_in (seen_in (credentials_format v) (store_cell v)) image first end ≡ store_of k
+
+pub old_store : (h : Layout) (image bytes : List ℕ) (k : CacheState) → bytes ≡ image → IsBytes image → IsImage h image → cache_of h image ≡ k → (store_of k).fault ≡ None → IsOldStore h.version bytes h.places.first h.places.end k
+old_store h image bytes k is_bytes fits is same no_fault =
+    let v = h.version in
+    let text = take (h.places.end - h.places.first) (drop h.places.first image) in
+    let are = image_credentials h image text k fits is same refl in
+    let version : v ≡ k.version = ap (λ (x : CacheState). x.version) same in
+    subst (λ (b : List ℕ). IsOldStore v b h.places.first h.places.end k) (sym is_bytes) (record {
+      ahead = first_ahead h image (image_parts h image fits is);
+      are = image_cells v text k h.places.first (IsBytes-take (h.places.end - h.places.first) (drop h.places.first image) (IsBytes-drop h.places.first image fits)) version are;
+      store =
+          ap (λ (n : ℕ). whole n (seen_in (credentials_format v) (store_cell v) text)) are.place
+          ∙ ap (λ (w : Version). whole (first_place k) (seen_in (credentials_format w) (store_cell w) text)) version
+          ∙ ap (λ (x : Contents CredParts (List ℕ)). whole (first_place k) (map (store_cell k.version) x.cells)) are.contents
+          ∙ ap (λ (y : Option FaultKind). record { first = first_place k; cells = map (store_cell k.version) k.contents.cells; fault = y }) (sym no_fault);
+    })
+
+-- what was answered, told in another way
+pub ok_same : {X E : Type 0} (result : Result X E) (items : X → List ℕ) (a b : List ℕ) → a ≡ b → IfOk result (λ v. items v ≡ a) → IfOk result (λ v. items v ≡ b)
+ok_same (Ok v) items a b same is = is ∙ same
+ok_same (Err e) items a b same is = tt

@@ -33,10 +33,6 @@ bare_at v image rest at end cs fits parts sound is_end =
     ap (contents f) taken ∙ contents_behind f cs [] (credentials_are v) sound taken_fits
     ∙ ap (λ (k : Contents CredParts (List ℕ)). behind cs k) none ∙ ap (λ (xs : List CredParts). record { cells = xs; end = [] }) (append-nil cs)
 
-map-append : {A B : Type 0} (f : A → B) (xs ys : List A) → map f (xs ++ ys) ≡ map f xs ++ map f ys
-map-append f [] ys = refl
-map-append f (x ∷ xs) ys = ap (λ zs. f x ∷ zs) (map-append f xs ys)
-
 -- ---- the live credential at a place
 
 live_by_is : (v : Version) (c : CredParts) (b : Bool) → is_marked c ≡ b → live_by (is_marked c) (credential v c) ≡ option_map (credential v) (if_live c)

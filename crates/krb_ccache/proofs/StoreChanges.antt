@@ -10,8 +10,8 @@ use Rattle.krb_walk.proofs.Stops.{bytes_from}
 use Rattle.krb_walk.proofs.Splits.{bytes_here}
 use Rattle.krb_ccache.specs.declared.version.Version.{Version}
 use Rattle.krb_ccache.specs.Credential.{CredParts, credential, is_marked}
-use Rattle.krb_ccache.specs.Store.{CacheState, live_by, store_cell, store_of, kind_of, first_place, credential_at_place}
-use Rattle.krb_ccache.specs.Changes.{marked, marked_at, with_mark, with_last}
+use Rattle.krb_ccache.specs.Store.{CacheState, live_by, store_cell, store_of, fault_kind, first_place, credential_at_place}
+use Rattle.krb_ccache.specs.Changes.{add_mark, add_mark_at, with_mark, with_last}
 use Rattle.krb_ccache.proofs.CredentialField.{credential_field}
 use Rattle.krb_ccache.proofs.MarkLemmas.{stands, marked_one, marked_len}
 
@@ -19,16 +19,12 @@ pub whole_of : (place : ℕ) (kind : Option FaultKind) → is_some (fault_from p
 whole_of place None h = refl
 whole_of place (Some kind) h = absurd cc
 
-pub no_rest : (rest : List ℕ) → kind_of rest ≡ None → rest ≡ []
-no_rest [] h = refl
-no_rest (b ∷ bs) h = absurd cc
-
 -- ---- removals
 
 pub live_cell : (v : Version) (c : CredParts) → is_marked c ≡ false → ◌≡◌ {A = Cell} (store_cell v c) (record { width = length (credential v c); live = Some (credential v c) })
 live_cell v c live = ap (λ (b : Bool). record { width = length (credential v c); live = live_by b (credential v c) }) live
 
-free_cell : (v : Version) (c : CredParts) → ◌≡◌ {A = Cell} (store_cell v (marked c)) (record { width = length (credential v c); live = None })
+free_cell : (v : Version) (c : CredParts) → ◌≡◌ {A = Cell} (store_cell v (add_mark c)) (record { width = length (credential v c); live = None })
 free_cell v c = ap (λ (n : ℕ). record { width = n; live = None }) (marked_len v c)
 
 pub mark_cuts : (k : CacheState) (p : ℕ) (c : CredParts) → is_some (fault_of (store_of k)) ≡ false → credential_at_place k p ≡ Some c → Cuts (store_of k) (store_of (with_mark k p)) p
@@ -37,7 +33,7 @@ mark_cuts k p c whole there =
     let seen = store_cell v in
     let s = stands v (first_place k) p k.contents.cells c there in
     record {
-      whole = whole_of (end_of (store_of k)) (kind_of k.contents.end) whole;
+      whole = whole_of (end_of (store_of k)) (fault_kind k.contents.end) whole;
       how = record {
         width = length (credential v c);
         bytes = credential v c;
@@ -47,8 +43,8 @@ mark_cuts k p c whole there =
           place = s.place;
           old_cells = ap (map seen) s.parts ∙ map-append seen s.before (c ∷ s.after) ∙ ap (λ (x : Cell). map seen s.before ++ x ∷ map seen s.after) (live_cell v c s.live);
           new_cells =
-              ap (λ cs. map seen (marked_at v (first_place k) p cs)) s.parts ∙ ap (map seen) (marked_one v (first_place k) p s.before s.after c s.place)
-              ∙ map-append seen s.before (marked c ∷ s.after) ∙ ap (λ (x : Cell). map seen s.before ++ x ∷ map seen s.after) (free_cell v c);
+              ap (λ cs. map seen (add_mark_at v (first_place k) p cs)) s.parts ∙ ap (map seen) (marked_one v (first_place k) p s.before s.after c s.place)
+              ∙ map-append seen s.before (add_mark c ∷ s.after) ∙ ap (λ (x : Cell). map seen s.before ++ x ∷ map seen s.after) (free_cell v c);
           first = refl;
           fault = refl;
         };
@@ -64,11 +60,11 @@ mark_gone k p c there =
     let v = k.version in
     let seen = store_cell v in
     let s = stands v (first_place k) p k.contents.cells c there in
-    let cells : map seen (with_mark k p).contents.cells ≡ map seen s.before ++ record { width = length (credential v (marked c)); live = None } ∷ map seen s.after =
-    ap (λ cs. map seen (marked_at v (first_place k) p cs)) s.parts ∙ ap (map seen) (marked_one v (first_place k) p s.before s.after c s.place) ∙ map-append seen s.before (marked c ∷ s.after) in
+    let cells : map seen (with_mark k p).contents.cells ≡ map seen s.before ++ record { width = length (credential v (add_mark c)); live = None } ∷ map seen s.after =
+    ap (λ cs. map seen (add_mark_at v (first_place k) p cs)) s.parts ∙ ap (map seen) (marked_one v (first_place k) p s.before s.after c s.place) ∙ map-append seen s.before (add_mark c ∷ s.after) in
     ap (λ (cs : List Cell). bytes_from (first_place k) cs p) cells
-    ∙ ap (bytes_from (first_place k) (map seen s.before ++ record { width = length (credential v (marked c)); live = None } ∷ map seen s.after)) s.place
-    ∙ bytes_here (first_place k) (length (credential v (marked c))) None (map seen s.before) (map seen s.after) (cells_wide v s.before)
+    ∙ ap (bytes_from (first_place k) (map seen s.before ++ record { width = length (credential v (add_mark c)); live = None } ∷ map seen s.after)) s.place
+    ∙ bytes_here (first_place k) (length (credential v (add_mark c))) None (map seen s.before) (map seen s.after) (cells_wide v s.before)
 
 -- ---- additions
 
@@ -77,7 +73,7 @@ last_puts k c whole live =
     let v = k.version in
     let seen = store_cell v in
     record {
-      whole = whole_of (end_of (store_of k)) (kind_of k.contents.end) whole;
+      whole = whole_of (end_of (store_of k)) (fault_kind k.contents.end) whole;
       how = inr (record {
         width = length (credential v c);
         bytes = credential v c;

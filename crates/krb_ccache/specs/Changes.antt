@@ -1,5 +1,5 @@
 -- Making a cache, adding a credential to it, and removing one. A cache is a store for walks: `store_of` is how it is seen, `put_result` what an addition gives, and `cut_result` what a removal gives.
-use Rattle.std.specs.Prelude.{◌≡◌, ℕ, List, [], ◌∷◌, ◌++◌, length, map, Option, Some, None, is_some, Result, Ok, Err, IsOk, Bool, true, false, nat_lt, ◌==◌, if◌then◌else◌}
+use Rattle.std.specs.Prelude.{◌≡◌, ℕ, ◌+◌, ◌≤◌, List, [], ◌∷◌, ◌++◌, length, map, Option, Some, None, is_some, Result, Ok, Err, IsOk, Bool, true, false, nat_lt, ◌==◌, if◌then◌else◌}
 use Rattle.std.specs.Int.{w32, cast_unsigned}
 use Rattle.krb_wire.specs.Spelling.{Parts, cc_principal}
 use Rattle.krb_walk.specs.declared.refusal.Code.{Code}
@@ -10,9 +10,10 @@ use Rattle.krb_walk.specs.Store.{end_of, fault_of, live_bytes}
 use Rattle.krb_ccache.specs.declared.version.Version.{Version}
 use Rattle.krb_ccache.specs.declared.version.Version.TheVariants.{V3, V4}
 use Rattle.krb_ccache.specs.declared.offset.Offset.{Offset}
-use Rattle.krb_ccache.specs.Credential.{CredParts, is_marked, number32}
+use Rattle.krb_ccache.specs.Credential.{CredParts, credential, is_marked, number32}
 use Rattle.krb_ccache.specs.Header.{Field, header}
 use Rattle.krb_ccache.specs.Store.{CacheState, first_place, placed_from, image_of, store_of}
+use Rattle.krb_ccache.specs.Open.{InMemory}
 
 -- a cache of version 3 refuses additions and removals
 abbrev pub is_read_only : Version → Bool
@@ -21,22 +22,18 @@ is_read_only V4 = false
 
 -- ---- a new cache
 
--- the field that tells a time offset
-abbrev pub offset_field : Offset → Field
-offset_field o = record { tag = 1; value = number32 (cast_unsigned w32 o.seconds) ++ number32 (cast_unsigned w32 o.micros) }
-
 -- the fields of a new header: the time offset, if there is one
 abbrev pub new_header : Option Offset → List Field
 new_header None = []
-new_header (Some o) = offset_field o ∷ []
+new_header (Some o) = record { tag = 1; value = number32 (cast_unsigned w32 o.seconds) ++ number32 (cast_unsigned w32 o.micros) } ∷ []
 
--- what stands before the credentials of a version 4 image
-abbrev pub new_front : Parts → Option Offset → List ℕ
-new_front p offset = 5 ∷ 4 ∷ (header V4 (new_header offset) ++ cc_principal p)
+-- the preamble of a version 4 image: all that stands before the credentials
+abbrev pub new_preamble : Parts → Option Offset → List ℕ
+new_preamble p offset = 5 ∷ 4 ∷ (header V4 (new_header offset) ++ cc_principal p)
 
 -- a cache of version 4 without credentials
-abbrev pub empty : Parts → Option Offset → ℕ → CacheState
-empty principal offset limit = record {
+abbrev pub empty_cache : Parts → Option Offset → ℕ → CacheState
+empty_cache principal offset limit = record {
   version = V4;
   limit = limit;
   header = new_header offset;
@@ -47,8 +44,8 @@ empty principal offset limit = record {
 -- what making a cache gives: a limit that its image would pass refuses it
 abbrev pub create_result : Parts → Option Offset → ℕ → Result CacheState Code
 create_result principal offset limit =
-    if nat_lt limit (length (image_of (empty principal offset limit))) then Err code.Full
-    else Ok (empty principal offset limit)
+    if nat_lt limit (length (image_of (empty_cache principal offset limit))) then Err code.Full
+    else Ok (empty_cache principal offset limit)
 
 -- it is refused as it is said, and memory is asked for only where nothing refuses
 abbrev pub RefusesAs : {S : Type 0} → Result S Code → Refusal → Type 0
@@ -58,16 +55,16 @@ RefusesAs given NoMemory = IsOk given
 -- ---- removing
 
 -- the credential with the removed mark
-abbrev pub marked : CredParts → CredParts
-marked c = record c { times = record { authtime = 4294967295; starttime = c.times.starttime; endtime = 0; renew_till = c.times.renew_till } }
+abbrev pub add_mark : CredParts → CredParts
+add_mark c = record c { times = record { authtime = 4294967295; starttime = c.times.starttime; endtime = 0; renew_till = c.times.renew_till } }
 
--- the credentials, with the one at a place marked
-abbrev pub marked_at : Version → ℕ → ℕ → List CredParts → List CredParts
-marked_at v at p cs = map (λ x. if x.0 == p then marked x.1 else x.1) (placed_from v at cs)
+-- the credentials, with the mark on the one at a place
+abbrev pub add_mark_at : Version → ℕ → ℕ → List CredParts → List CredParts
+add_mark_at v at p cs = map (λ x. if x.0 == p then add_mark x.1 else x.1) (placed_from v at cs)
 
 -- the cache, where the credential at a place is marked and all else is as it was
 abbrev pub with_mark : CacheState → ℕ → CacheState
-with_mark k p = record k { contents = record { cells = marked_at k.version (first_place k) p k.contents.cells; end = k.contents.end } }
+with_mark k p = record k { contents = record { cells = add_mark_at k.version (first_place k) p k.contents.cells; end = k.contents.end } }
 
 -- what a removal gives: version 3 refuses it, then a damaged cache, and then each number where no live credential stands
 abbrev pub cut_result : CacheState → ℕ → Result CacheState Code
@@ -103,3 +100,7 @@ is_refused (Err refused) = true
 -- an addition takes no memory where it is refused
 abbrev pub takes_none : CacheState → CredParts → Bool
 takes_none k c = is_refused (put_result k c)
+
+-- a cache in memory has room for one credential more
+abbrev pub HasRoomFor : InMemory → CredParts → Type 0
+HasRoomFor k c = length (image_of k.state) + length (credential V4 c) ≤ k.room

@@ -1,8 +1,9 @@
 -- Configuration entries: credentials that hold a value under a key, and perhaps a principal's text (MIT krb5, "Credential cache file format", section "Credential cache configuration entries").
-use Rattle.std.specs.Prelude.{ℕ, Bool, true, false, ◌&&◌, List, [], ◌∷◌, Option, Some, None, is_some, option_map, find, codes, if◌then◌else◌}
+use Rattle.std.specs.Prelude.{ℕ, Bool, true, false, ◌&&◌, List, [], ◌∷◌, Option, Some, None, is_some, option_map, find, codes, option_copied, if◌then◌else◌}
 use Rattle.std.specs.Str.{bytes_eq}
 use Rattle.krb_wire.specs.Spelling.{Parts}
 use Rattle.krb_wire.specs.SameName.{have_same_name}
+use Rattle.krb_ccache.specs.declared.config.ConfigName.{ConfigName}
 use Rattle.krb_ccache.specs.Credential.{CredParts}
 use Rattle.krb_ccache.specs.Store.{CacheState, PlacedCredential, placed_credentials}
 
@@ -11,11 +12,15 @@ pub record ConfigParts : Type 0 where
   pub key : List ℕ
   pub principal : Option (List ℕ)
 
--- what entries are looked for by: their owner, and what they hold their value under
+-- the same of a name that borrows from a credential
+abbrev pub config_parts : ConfigName → ConfigParts
+config_parts x = record { key = x.key.now; principal = option_copied x.principal }
+
+-- what a configuration entry is looked up by: its owner, and what it holds its value under
 pub record QueryParts : Type 0 where
   pub owner : Parts
   pub key : List ℕ
-  pub text : Option (List ℕ)
+  pub principal : Option (List ℕ)
 
 -- the components after the first: one, or two
 abbrev pub config_under : List (List ℕ) → Option ConfigParts
@@ -44,19 +49,23 @@ same_text (Some a) (Some b) = bytes_eq a b
 same_text None (Some b) = false
 same_text (Some a) None = false
 
--- what is held is asked for
+-- it is held under that key and principal
 abbrev pub is_under : List ℕ → Option (List ℕ) → Option ConfigParts → Bool
 is_under key text None = false
 is_under key text (Some x) = bytes_eq x.key key && same_text x.principal text
 
--- a configuration entry of the default principal, for that key and principal
-abbrev pub is_asked : Parts → List ℕ → Option (List ℕ) → CredParts → Bool
-is_asked owner key text c = is_under key text (config_name c.server) && have_same_name owner c.client
+-- a credential is a configuration entry of that owner, key and principal
+abbrev pub is_match : QueryParts → CredParts → Bool
+is_match q c = is_under q.key q.principal (config_name c.server) && have_same_name q.owner c.client
 
--- the value of the first such entry
-abbrev pub value_among : Parts → List ℕ → Option (List ℕ) → List PlacedCredential → Option (List ℕ)
-value_among owner key text xs = option_map (λ x. x.1.ticket) (find (λ x. is_asked owner key text x.1) xs)
+-- the value of the first match
+abbrev pub value_among : QueryParts → List PlacedCredential → Option (List ℕ)
+value_among q xs = option_map (λ x. x.1.ticket) (find (λ x. is_match q x.1) xs)
 
--- that of the live entries of a cache
+-- a query for an entry of the default principal
+abbrev pub query_of : CacheState → List ℕ → Option (List ℕ) → QueryParts
+query_of k key text = record { owner = k.principal; key = key; principal = text }
+
+-- its value in a cache
 abbrev pub config_of : CacheState → List ℕ → Option (List ℕ) → Option (List ℕ)
-config_of k key text = value_among k.principal key text (placed_credentials k)
+config_of k key text = value_among (query_of k key text) (placed_credentials k)

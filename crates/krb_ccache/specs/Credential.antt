@@ -1,5 +1,7 @@
 -- Credentials: what they are, how they are spelled, how they are read (MIT krb5, "Credential cache file format", section "Credential format").
-use Rattle.std.specs.Prelude.{◌≡◌, ℕ, ◌<◌, ◌^◌, ◌==◌, Bool, ◌&&◌, List, [], ◌∷◌, ◌++◌, length, Option, Some}
+use Rattle.std.specs.Prelude.{◌≡◌, ℕ, ◌<◌, ◌^◌, ◌==◌, Bool, ◌&&◌, List, [], ◌∷◌, ◌++◌, length, map, Option, Some, Vec}
+use Rattle.std.specs.Borrow.{Bor}
+use Rattle.std.specs.Vec.{vec_items}
 use Rattle.std.specs.List.{flat_map, AllByRecursion}
 use Rattle.std.specs.Int.{w16, w32}
 use Rattle.krb_wire.specs.declared.format.Order.TheVariants.{Big}
@@ -7,17 +9,17 @@ use Rattle.krb_wire.specs.Spelling.{Parts, digits, data32, cc_principal, IsLong,
 use Rattle.krb_wire.specs.Reading.{◌>>=◌, byte_at, number_at, data32_at, list_at, cc_principal_at}
 use Rattle.krb_ccache.specs.declared.version.Version.{Version}
 use Rattle.krb_ccache.specs.declared.version.Version.TheVariants.{V3, V4}
-use Rattle.krb_ccache.specs.declared.times.Times.{Times}
+use Rattle.krb_ccache.specs.declared.credential.times.Times.{Times}
 
 -- an address, or an element of the authorization data: what kind it is, and its bytes
-pub record Typed : Type 0 where
+pub record TypedData : Type 0 where
   pub kind : ℕ
   pub bytes : List ℕ
 
 -- a key and its enctype; version 3 writes an enctype twice, and the second is read and asked for nowhere
 pub record Key : Type 0 where
   pub enctype : ℕ
-  pub enctype_again : ℕ
+  pub second_enctype : ℕ
   pub bytes : List ℕ
 
 -- a credential without where it lies in memory
@@ -28,8 +30,8 @@ pub record CredParts : Type 0 where
   pub times : Times
   pub is_skey : ℕ
   pub flags : ℕ
-  pub addresses : List Typed
-  pub authdata : List Typed
+  pub addresses : List TypedData
+  pub authdata : List TypedData
   pub ticket : List ℕ
   pub second_ticket : List ℕ
 
@@ -44,21 +46,21 @@ abbrev pub number32 : ℕ → List ℕ
 number32 n = digits Big w32 n
 
 -- the kind, and the bytes after their length
-abbrev pub typed : Typed → List ℕ
-typed x = digits Big w16 x.kind ++ data32 Big x.bytes
+abbrev pub typed_data : TypedData → List ℕ
+typed_data x = digits Big w16 x.kind ++ data32 Big x.bytes
 
 -- how many there are, and each of them
-abbrev pub typed_list : List Typed → List ℕ
-typed_list xs = number32 (length xs) ++ flat_map typed xs
+abbrev pub typed_list : List TypedData → List ℕ
+typed_list xs = number32 (length xs) ++ flat_map typed_data xs
 
 -- the second enctype, which version 4 does not have
-abbrev pub again_field : Version → ℕ → List ℕ
-again_field V3 n = digits Big w16 n
-again_field V4 n = []
+abbrev pub second_enctype_field : Version → ℕ → List ℕ
+second_enctype_field V3 n = digits Big w16 n
+second_enctype_field V4 n = []
 
 -- the enctype, in version 3 twice, and the key
 abbrev pub key : Version → Key → List ℕ
-key v k = digits Big w16 k.enctype ++ (again_field v k.enctype_again ++ data32 Big k.bytes)
+key v k = digits Big w16 k.enctype ++ (second_enctype_field v k.second_enctype ++ data32 Big k.bytes)
 
 -- the four times
 abbrev pub times : Times → List ℕ
@@ -74,24 +76,24 @@ credential v c =
 -- ---- what has a spelling
 
 -- its numbers and lengths fit their fields
-pub record FitsTyped (x : Typed) : Type 0 where
+pub record FitsTypedData (x : TypedData) : Type 0 where
   pub kind : x.kind < 2 ^ 16
   pub bytes : IsLong x.bytes
 
 -- so do those of each, and their number
-pub record FitsTypedList (xs : List Typed) : Type 0 where
+pub record FitsTypedList (xs : List TypedData) : Type 0 where
   pub count : length xs < 2 ^ 32
-  pub each : AllByRecursion FitsTyped xs
+  pub each : AllByRecursion FitsTypedData xs
 
 -- a second enctype that the version can write: in version 4 it is 0
-abbrev pub FitsAgain : Version → ℕ → Type 0
-FitsAgain V3 n = n < 2 ^ 16
-FitsAgain V4 n = n ≡ 0
+abbrev pub FitsSecondEnctype : Version → ℕ → Type 0
+FitsSecondEnctype V3 n = n < 2 ^ 16
+FitsSecondEnctype V4 n = n ≡ 0
 
 -- its numbers and its length fit their fields
 pub record FitsKey (v : Version) (k : Key) : Type 0 where
   pub enctype : k.enctype < 2 ^ 16
-  pub enctype_again : FitsAgain v k.enctype_again
+  pub second_enctype : FitsSecondEnctype v k.second_enctype
   pub bytes : IsLong k.bytes
 
 -- its numbers fit their fields
@@ -117,30 +119,30 @@ pub record FitsCredential (v : Version) (c : CredParts) : Type 0 where
 -- ---- reading
 
 -- the typed bytes that the bytes begin with
-unfoldable pub typed_at : List ℕ → Option (Typed × List ℕ)
-typed_at bytes = do
+unfoldable pub typed_data_at : List ℕ → Option (TypedData × List ℕ)
+typed_data_at bytes = do
   kind ← number_at Big w16 bytes
   text ← data32_at Big kind.1
   Some (record { kind = kind.0; bytes = text.0 }, text.1)
 
 -- the list of them that the bytes begin with
-unfoldable pub typed_list_at : List ℕ → Option (List Typed × List ℕ)
+unfoldable pub typed_list_at : List ℕ → Option (List TypedData × List ℕ)
 typed_list_at bytes = do
   count ← number_at Big w32 bytes
-  list_at typed_at count.0 count.1
+  list_at typed_data_at count.0 count.1
 
 -- the second enctype that the bytes begin with; version 4 has none, and it reads as 0
-abbrev pub again_at : Version → List ℕ → Option (ℕ × List ℕ)
-again_at V3 bytes = number_at Big w16 bytes
-again_at V4 bytes = Some (0, bytes)
+abbrev pub second_enctype_at : Version → List ℕ → Option (ℕ × List ℕ)
+second_enctype_at V3 bytes = number_at Big w16 bytes
+second_enctype_at V4 bytes = Some (0, bytes)
 
 -- the key that the bytes begin with
 unfoldable pub key_at : Version → List ℕ → Option (Key × List ℕ)
 key_at v bytes = do
   enctype ← number_at Big w16 bytes
-  again ← again_at v enctype.1
+  again ← second_enctype_at v enctype.1
   text ← data32_at Big again.1
-  Some (record { enctype = enctype.0; enctype_again = again.0; bytes = text.0 }, text.1)
+  Some (record { enctype = enctype.0; second_enctype = again.0; bytes = text.0 }, text.1)
 
 -- the four times that the bytes begin with
 unfoldable pub times_at : List ℕ → Option (Times × List ℕ)
@@ -179,3 +181,35 @@ credential_at v bytes = do
     },
     second.1,
   )
+
+-- ---- with memory of its own
+
+-- an item with memory of its own, without where its bytes lie
+abbrev pub owned_typed : {A : Type 0} → ℕ × Vec ℕ A → TypedData
+owned_typed x = record { kind = x.0; bytes = vec_items x.1 }
+
+-- such items in order
+abbrev pub owned_list : {A : Type 0} → List (ℕ × Vec ℕ A) → List TypedData
+owned_list xs = map owned_typed xs
+
+-- a key with one enctype
+abbrev pub plain_key : ℕ → List ℕ → Key
+plain_key enctype bytes = record { enctype = enctype; second_enctype = 0; bytes = bytes }
+
+-- the credential as version 4 has it, with one enctype
+abbrev pub in_version_4 : CredParts → CredParts
+in_version_4 c = record c { key = plain_key c.key.enctype c.key.bytes }
+
+-- ---- for private contracts
+
+-- an item, without where its bytes lie in memory
+abbrev pub typed_data_of : ℕ × Bor (List ℕ) → TypedData
+typed_data_of x = record { kind = x.0; bytes = x.1.now }
+
+-- its fields between the names and the lists, as version 4 spells them
+abbrev pub middle_text : CredParts → List ℕ
+middle_text c = key V4 c.key ++ (times c.times ++ ((c.is_skey ∷ []) ++ number32 c.flags))
+
+-- its lists and tickets
+abbrev pub lists_text : CredParts → List ℕ
+lists_text c = typed_list c.addresses ++ (typed_list c.authdata ++ (data32 Big c.ticket ++ data32 Big c.second_ticket))

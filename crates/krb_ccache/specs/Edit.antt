@@ -13,11 +13,7 @@ use Rattle.krb_ccache.specs.Placed.{cache_rules}
 abbrev pub EditsImage : ℕ → List ℕ → List ℕ → List (Event CredParts) → List Said → List Said → Type 0
 EditsImage limit image new events told_old told_new = Edits (open_result limit image) (λ start after. Ran cache_rules start after events told_old told_new) image_of new
 
--- the same, where it ran out of memory: the events before one of them were run
-abbrev pub EditsImageInPart : ℕ → List ℕ → List ℕ → List (Event CredParts) → List Said → List Said → Type 0
-EditsImageInPart limit image new events told_old told_new = Edits (open_result limit image) (λ start after. RanSome cache_rules start after events told_old told_new) image_of new
-
 -- an image that is no cache is handed back, and nothing is replied; where it ran out of memory, the image is that after the events before
 abbrev pub EditRefuses : {A : Type 0} → EditRefused A → ℕ → Vec ℕ A → List (Event CredParts) → List Said → List Said → Type 0
 EditRefuses (NotACache refused) limit image events told_old told_new = (open_result limit image.items ≡ Err refused.why) × (refused.image ≡ image) × (told_new ≡ told_old)
-EditRefuses (NoMemory bytes) limit image events told_old told_new = EditsImageInPart limit image.items bytes.items events told_old told_new
+EditRefuses (NoMemory bytes) limit image events told_old told_new = Edits (open_result limit image.items) (λ start after. RanSome cache_rules start after events told_old told_new) image_of bytes.items

@@ -1,5 +1,6 @@
 -- The header of a version 4 cache: tagged fields, of which one is the time offset of the KDC (MIT krb5, "Credential cache file format", section "Header").
 use Rattle.std.specs.Prelude.{◌≡◌, ℕ, ◌<◌, ◌^◌, ◌==◌, ◌&&◌, List, [], ◌∷◌, ◌++◌, length, take, drop, Option, Some, None, option_map, if◌then◌else◌}
+use Rattle.std.specs.Borrow.{Bor}
 use Rattle.std.specs.List.{flat_map, filter_map, AllByRecursion}
 use Rattle.std.specs.Int.{w16, w32, from_be_bytes, cast_signed}
 use Rattle.krb_wire.specs.declared.format.Order.TheVariants.{Big}
@@ -48,13 +49,13 @@ abbrev pub fields_format : Format Field (List ℕ)
 fields_format = unframed field_at field
 
 -- cells that nothing is left after
-abbrev pub whole : {C : Type 0} → List C → List ℕ → Option (List C)
-whole xs [] = Some xs
-whole xs (b ∷ bs) = None
+abbrev pub only_cells : {C : Type 0} → List C → List ℕ → Option (List C)
+only_cells xs [] = Some xs
+only_cells xs (b ∷ bs) = None
 
 -- the fields that fill the bytes exactly
 abbrev pub fields_in : List ℕ → Option (List Field)
-fields_in bytes = whole (contents fields_format bytes).cells (contents fields_format bytes).end
+fields_in bytes = only_cells (contents fields_format bytes).cells (contents fields_format bytes).end
 
 -- the header that the bytes begin with
 unfoldable pub header_at : Version → List ℕ → Option (List Field × List ℕ)
@@ -87,6 +88,10 @@ abbrev pub offset_in : List Field → Option Offset
 offset_in xs = first_of (filter_map offset_of xs)
 
 -- ---- for private contracts
+
+-- a field, without where its value lies in memory
+abbrev pub field_of : ℕ × Bor (List ℕ) → Field
+field_of x = record { tag = x.0; value = x.1.now }
 
 -- the bytes after the header that the bytes begin with
 abbrev pub header_end : Version → List ℕ → Option (List ℕ)

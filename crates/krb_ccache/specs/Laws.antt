@@ -4,8 +4,7 @@ use Rattle.std.specs.List.{flat_map, AllByRecursion}
 use Rattle.krb_wire.specs.Spelling.{FitsCc}
 use Rattle.krb_walk.specs.Contents.{Contents, contents, spelling, IsSound, IsSpelled}
 use Rattle.krb_ccache.specs.declared.version.Version.{Version}
-use Rattle.krb_ccache.specs.Credential.{CredParts, credential, credential_at, FitsCredential}
-use Rattle.krb_ccache.specs.Cred.{in_version_4}
+use Rattle.krb_ccache.specs.Credential.{CredParts, credential, credential_at, FitsCredential, in_version_4}
 use Rattle.krb_ccache.specs.Header.{FitsHeader}
 use Rattle.krb_ccache.specs.Store.{CacheState, credentials_format, image_of, open_result, placed_credentials}
 use Rattle.krb_ccache.specs.Rewrite.{rewrite_result}

@@ -35,8 +35,8 @@ abbrev pub image_of : CacheState → List ℕ
 image_of k = 5 ∷ version_byte k.version ∷ (header k.version k.header ++ (cc_principal k.principal ++ spelling (credentials_format k.version) k.contents))
 
 -- the version that the two first bytes tell
-abbrev pub version_of : List ℕ → Option Version
-version_of bytes =
+abbrev pub version_in : List ℕ → Option Version
+version_in bytes =
     if slice_index bytes 0 == 5
     then (if slice_index bytes 1 == 3 then Some V3 else (if slice_index bytes 1 == 4 then Some V4 else None))
     else None
@@ -58,7 +58,7 @@ open_version limit bytes (Some v) = if nat_lt limit (length bytes) then Err TooL
 
 -- the cache that an image is: fewer than two bytes are too short, then the version counts, the length, the header, and the default principal
 abbrev pub open_result : ℕ → List ℕ → Result CacheState CcOpenFault
-open_result limit bytes = if nat_lt (length bytes) 2 then Err TooShort else open_version limit bytes (version_of bytes)
+open_result limit bytes = if nat_lt (length bytes) 2 then Err TooShort else open_version limit bytes (version_in bytes)
 
 -- ---- as a store
 
@@ -72,9 +72,9 @@ abbrev pub store_cell : Version → CredParts → Cell
 store_cell v c = record { width = length (credential v c); live = live_by (is_marked c) (credential v c) }
 
 -- what is wrong where the credentials end: bytes that begin with none
-abbrev pub kind_of : List ℕ → Option FaultKind
-kind_of [] = None
-kind_of (b ∷ bs) = Some BadCredential
+abbrev pub fault_kind : List ℕ → Option FaultKind
+fault_kind [] = None
+fault_kind (b ∷ bs) = Some BadCredential
 
 -- the place after the default principal
 abbrev pub first_place : CacheState → ℕ
@@ -82,7 +82,7 @@ first_place k = 2 + length (header k.version k.header) + length (cc_principal k.
 
 -- the store that a cache is
 abbrev pub store_of : CacheState → Store
-store_of k = record { first = first_place k; cells = map (store_cell k.version) k.contents.cells; fault = kind_of k.contents.end }
+store_of k = record { first = first_place k; cells = map (store_cell k.version) k.contents.cells; fault = fault_kind k.contents.end }
 
 -- ---- its credentials
 

@@ -5,11 +5,12 @@ ghost use Rattle.std.specs.List.{splice};
 ghost use Rattle.krb_ccache.specs.declared.version.Version.TheVariants.{V4};
 ghost use Rattle.krb_ccache.specs.Credential.{credential, FitsCredential};
 ghost use Rattle.krb_ccache.specs.Changes.{with_last};
-ghost use Rattle.krb_ccache.specs.Open.{held_by, Holds, IsImage};
+ghost use Rattle.krb_ccache.specs.Open.{cache_of, Holds, IsImage};
 
 use crate::cells::bytes_fit;
-use crate::cred::Cred;
-use crate::open::{Head, Places};
+use crate::credential::Cred;
+use crate::open::{Layout, Places};
+use krb_wire::Pen;
 use std::alloc::{AllocError, Allocator};
 
 /// Grows an image by `more` bytes.
@@ -24,28 +25,37 @@ pub fn grow<A: Allocator>(image: &mut Vec<u8, A>, more: usize) -> Result<(), All
 }
 
 // Writes a credential over the bytes from a place on.
+fn put_over<A: Allocator>(cred: &Cred<A>, out: &mut [u8], at: usize)
+    requires fits { FitsCredential V4 cred.now }
+    requires room { at + length (credential V4 cred.now) ≤ length out.old }
+    ensures { out.new ≡ splice out.old at (at + length (credential V4 cred.now)) (credential V4 cred.now) }
+{
+    cred.put(&mut Pen::new(out, at));
+}
+
+// The same over a vector.
 fn put_into<A: Allocator, B: Allocator>(image: &mut Vec<u8, A>, at: usize, cred: &Cred<B>)
     requires fits { FitsCredential V4 cred.now }
     requires room { at + length (credential V4 cred.now) ≤ vec_len image.old }
     ensures { image.new.items ≡ splice image.old.items at (at + length (credential V4 cred.now)) (credential V4 cred.now) }
 {
-    let _ = cred.put(image, at);
+    put_over(cred, image, at);
 }
 
-/// Puts a credential after the last. The answer is what is known of the image then.
+/// Puts a credential after the last. The answer is the layout of the image then.
 pub fn append_credential<A: Allocator, B: Allocator>(
     image: &mut Vec<u8, A>,
-    head: Head,
+    layout: Layout,
     cred: &Cred<B>,
     len: usize,
-) -> Result<Head, AllocError>
-    requires kept { IsImage head.version head.limit image.old.items head.places }
-    requires version { head.version ≡ V4 }
-    requires whole { (held_by head image.old.items).contents.end ≡ [] }
+) -> Result<Layout, AllocError>
+    requires kept { IsImage layout image.old.items }
+    requires version { layout.version ≡ V4 }
+    requires whole { (cache_of layout image.old.items).contents.end ≡ [] }
     requires fits { FitsCredential V4 cred.now }
     requires len { len ≡ length (credential V4 cred.now) }
-    requires room { vec_len image.old + len ≤ head.limit }
-    ensures ok { IfOk result (λ h. Holds h image.new.items (with_last (held_by head image.old.items) cred.now)) }
+    requires room { vec_len image.old + len ≤ layout.limit }
+    ensures ok { IfOk result (λ h. Holds h image.new.items (with_last (cache_of layout image.old.items) cred.now)) }
     ensures err { OnErr result (image.new.items ≡ image.old.items) }
     ensures full { OnErr result (vec_capacity image.old < vec_len image.old + len) }
 {
@@ -56,7 +66,7 @@ pub fn append_credential<A: Allocator, B: Allocator>(
     bytes_fit(image);
     let places = Places {
         end: end + len,
-        ..head.places
+        ..layout.places
     };
-    Ok(Head { places, ..head })
+    Ok(Layout { places, ..layout })
 }

@@ -1,12 +1,11 @@
 //! Caches, kept as their images.
 
 mod changes;
-mod rewriting;
-mod settings;
+mod rewrite;
+mod set_config;
 mod view;
 
 ghost use Rattle.std.specs.Prelude.{◌≡◌, IsSome, IfOk, IfErr, IfSome, IfNone, Ok, Err, Some, None, option_copied, vec_capacity};
-ghost use Rattle.krb_wire.specs.Reading.{Gives};
 ghost use Rattle.krb_walk.specs.Store.{end_of, fault_of, is_place, stop_at, live_bytes, IsPlace, IsSound as IsSoundStore};
 ghost use Rattle.krb_ccache.specs.Credential.{credential};
 ghost use Rattle.krb_ccache.specs.Header.{offset_in};
@@ -16,12 +15,12 @@ ghost use Rattle.krb_ccache.specs.Laws.{AreBytes};
 ghost use Rattle.krb_ccache.specs.Open.{InMemory, Reopens};
 
 use crate::ccache::view::CacheView;
-use crate::credential::CredView;
+use crate::config::place::ConfigPlace;
+use crate::config::query::Query;
+use crate::credential::view::CredView;
 use crate::credentials::Credentials;
 use crate::offset::Offset;
-use crate::open::{CcOpenRefused, Head, read_head, spelled_of};
-use crate::setting::query::Query;
-use crate::setting::slot::Slot;
+use crate::open::{CcOpenRefused, Layout, as_spelling, read_layout};
 use krb_walk::{Fault, Stop};
 use krb_wire::{Limits, PrincipalView};
 use std::alloc::Allocator;
@@ -33,25 +32,25 @@ use std::marker::Model;
 #[derive(Drop)]
 pub struct Ccache<A: Allocator> {
     image: Vec<u8, A>,
-    head: Head,
-    // Where its configuration entries stand, once a value was set.
-    known: Option<Vec<Slot, A>>,
+    layout: Layout,
+    // Where its configuration entries stand, from the first value that is set on.
+    index: Option<Vec<ConfigPlace, A>>,
 }
 
 impl<A: Allocator> Model for Ccache<A> {
     ghost use Rattle.std.specs.Prelude.{vec_capacity};
-    ghost use Rattle.krb_ccache.specs.Open.{InMemory, IsImage, held, held_by};
-    ghost use Rattle.krb_ccache.specs.Slots.{Knows};
+    ghost use Rattle.krb_ccache.specs.Open.{InMemory, IsImage, cache_of};
+    ghost use Rattle.krb_ccache.specs.ConfigIndex.{IsIndex};
 
     ghost Value = { InMemory };
 
     ghost view = { λ k. record {
-      state = held k.head.version k.head.limit k.image.items k.head.places;
+      state = cache_of k.layout k.image.items;
       room = vec_capacity k.image;
     } };
 
-    ghost invariant = { λ k. IsImage k.head.version k.head.limit k.image.items k.head.places
-        × Knows k.head.version (held_by k.head k.image.items).contents.cells k.known };
+    ghost invariant = { λ k. IsImage k.layout k.image.items
+        × IsIndex k.layout.version (cache_of k.layout k.image.items).contents.cells k.index };
 }
 
 impl<A: Allocator> Ccache<A> {
@@ -65,13 +64,13 @@ impl<A: Allocator> Ccache<A> {
         ensures err { IfErr result (λ e. (open_result limits image.items ≡ Err e.why)
             × (e.image ≡ image)) }
     {
-        match read_head(limits.image(), &image) {
-            Ok(head) => {
-                let _ = spelled_of(head, &image);
+        match read_layout(limits.image(), &image) {
+            Ok(layout) => {
+                let _ = as_spelling(layout, &image);
                 Ok(Ccache {
                     image,
-                    head,
-                    known: None,
+                    layout,
+                    index: None,
                 })
             }
             Err(why) => Err(CcOpenRefused { why, image }),
@@ -83,7 +82,7 @@ impl<A: Allocator> Ccache<A> {
         ensures { result ≡ self.now.state }
     {
         CacheView {
-            head: self.head,
+            layout: self.layout,
             image: &self.image,
         }
     }
@@ -104,11 +103,11 @@ impl<A: Allocator> Ccache<A> {
         ensures reopens { Reopens self.state result.items }
         ensures room { vec_capacity result ≡ self.room }
     {
-        let _ = spelled_of(self.head, &self.image);
+        let _ = as_spelling(self.layout, &self.image);
         let Ccache {
             image,
-            head: _,
-            known: _,
+            layout: _,
+            index: _,
         } = self;
         image
     }
@@ -204,7 +203,7 @@ impl<A: Allocator> Ccache<A> {
             principal,
         };
         for (_, credential) in self.credentials() {
-            if query.asks_for(&credential) {
+            if query.matches(&credential) {
                 return Some(credential.ticket());
             }
         }

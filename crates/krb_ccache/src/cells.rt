@@ -5,9 +5,9 @@ ghost use Rattle.krb_ccache.specs.Credential.{is_marked};
 ghost use Rattle.krb_ccache.specs.Laws.{AreBytes};
 ghost use Rattle.krb_ccache.specs.Store.{live_by};
 
-use crate::credential::{CredView, split_credential};
+use crate::credential::view::{CredView, split_credential};
 use crate::version::Version;
-use krb_cells::{CellView, Front};
+use krb_cells::{CellFormat, CellView};
 
 /// What a slice of bytes holds is below 256.
 pub fn bytes_fit(bytes: &[u8])
@@ -24,8 +24,8 @@ fn live<'a>(credential: &CredView<'_>, text: &'a [u8]) -> Option<&'a [u8]>
     Some(text)
 }
 
-impl Front for Version {
-    ghost use Rattle.krb_cells.specs.Front.{seen_in};
+impl CellFormat for Version {
+    ghost use Rattle.krb_cells.specs.CellFormat.{seen_in};
     ghost use Rattle.krb_ccache.specs.Store.{credentials_format, store_cell};
 
     ghost cells = { λ v. seen_in (credentials_format v) (store_cell v) };

@@ -1,10 +1,16 @@
 //! Configuration entries: credentials that hold a value under a key.
 
-ghost use Rattle.std.specs.Prelude.{◌≡◌, is_some, option_map};
-ghost use Rattle.krb_ccache.specs.Config.{config_name, is_config};
-ghost use Rattle.krb_ccache.specs.Typed.{config_parts};
+pub(crate) mod entry;
+pub(crate) mod index;
+pub(crate) mod place;
+pub(crate) mod query;
+mod removal;
+pub(crate) mod replacement;
 
-use crate::credential::CredView;
+ghost use Rattle.std.specs.Prelude.{◌≡◌, is_some, option_map};
+ghost use Rattle.krb_ccache.specs.Config.{config_name, is_config, config_parts};
+
+use crate::credential::view::CredView;
 use krb_wire::Name;
 
 /// The realm of the server of each configuration entry.

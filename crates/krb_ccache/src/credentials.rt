@@ -3,10 +3,10 @@
 ghost use Rattle.std.specs.Prelude.{◌≡◌, [], ◌∷◌, MatchOption};
 ghost use Rattle.std.specs.Iterator.{YieldsFirst, item_count};
 ghost use Rattle.krb_ccache.specs.Store.{if_live};
-ghost use Rattle.krb_ccache.specs.Cells.{GivesCell, live_from, live_at};
+ghost use Rattle.krb_ccache.specs.Credentials.{GivesCredential, live_from, live_at};
 
 use crate::cells::bytes_fit;
-use crate::credential::{CredView, split_credential};
+use crate::credential::view::{CredView, split_credential};
 use crate::version::Version;
 use std::marker::Model;
 
@@ -23,9 +23,9 @@ impl<'a> Model for AllCredentials<'a> {
     ghost use Rattle.std.specs.Prelude.{◌≤◌, ◌^◌, ◌+◌, length};
     ghost use Rattle.krb_walk.specs.Contents.{contents};
     ghost use Rattle.krb_ccache.specs.Store.{credentials_format};
-    ghost use Rattle.krb_ccache.specs.Cells.{CellsFrom};
+    ghost use Rattle.krb_ccache.specs.Credentials.{CredentialsFrom};
 
-    ghost Value = { CellsFrom };
+    ghost Value = { CredentialsFrom };
 
     ghost view = { λ c. record {
       version = c.version;
@@ -39,7 +39,7 @@ impl<'a> Model for AllCredentials<'a> {
 impl<'a> Iterator for AllCredentials<'a> {
     type Item = (usize, CredView<'a>);
 
-    ghost next_gives = { GivesCell (λ c. c) };
+    ghost next_gives = { GivesCredential (λ c. c) };
 
     ghost remaining = { item_count (λ c. c.cells) };
 
@@ -100,7 +100,7 @@ pub struct Credentials<'a> {
 impl<'a> Model for Credentials<'a> {
     ghost use Rattle.std.specs.Prelude.{List};
     ghost use Rattle.krb_ccache.specs.Store.{PlacedCredential};
-    ghost use Rattle.krb_ccache.specs.Cells.{live_from};
+    ghost use Rattle.krb_ccache.specs.Credentials.{live_from};
 
     ghost Value = { List PlacedCredential };
 

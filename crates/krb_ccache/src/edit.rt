@@ -1,11 +1,11 @@
 //! Events over an image.
 
-ghost use Rattle.std.specs.Prelude.{◌≡◌, map, IfOk, IfErr};
+ghost use Rattle.std.specs.Prelude.{map, IfOk, IfErr};
 ghost use Rattle.krb_walk.specs.Said.{said};
 ghost use Rattle.krb_ccache.specs.Edit.{EditsImage, EditRefuses};
 
 use crate::ccache::Ccache;
-use crate::cred::Cred;
+use crate::credential::Cred;
 use crate::open::CcOpenRefused;
 use krb_walk::{Event, Reply, Session};
 use krb_wire::Limits;

@@ -6,25 +6,23 @@ mod append;
 mod ccache;
 mod cells;
 mod config;
-mod cred;
 mod credential;
 mod credentials;
 mod edit;
-mod front;
 mod laws;
 mod mark;
+mod new_image;
 mod offset;
 mod open;
 mod placed;
-mod rewrite;
-mod setting;
-mod times;
+mod preamble;
 mod version;
 
 pub use ccache::Ccache;
 pub use config::{ConfigName, config_name, is_config};
-pub use cred::Cred;
-pub use credential::CredView;
+pub use credential::Cred;
+pub use credential::times::Times;
+pub use credential::view::CredView;
 pub use credentials::Credentials;
 pub use edit::{EditRefused, edit_cache};
 pub use laws::{
@@ -32,7 +30,6 @@ pub use laws::{
 };
 pub use offset::Offset;
 pub use open::{CcOpenFault, CcOpenRefused};
-pub use times::Times;
 pub use version::Version;
 
 #[cfg(test)]

@@ -3,17 +3,14 @@
 ghost use Rattle.std.specs.Prelude.{◌≡◌, ◌≤◌, ◌+◌, ℕ, List, length, drop, IsSome, Some};
 ghost use Rattle.std.specs.List.{splice};
 ghost use Rattle.krb_wire.specs.Reading.{Gives};
-ghost use Rattle.krb_ccache.specs.Credential.{CredParts, credential, credential_at};
-ghost use Rattle.krb_ccache.specs.Changes.{marked, with_mark};
+ghost use Rattle.krb_ccache.specs.Credential.{CredParts, number32, credential, credential_at};
+ghost use Rattle.krb_ccache.specs.Changes.{add_mark};
 ghost use Rattle.krb_ccache.specs.Mark.{times_from};
-ghost use Rattle.krb_ccache.specs.Store.{credential_at_place};
-ghost use Rattle.krb_ccache.specs.Open.{held_by, Holds, IsImage};
 
 use crate::cells::bytes_fit;
 use crate::credential::key::split_key;
-use crate::open::Head;
 use crate::version::Version;
-use krb_wire::{Order, put_u32, split_cc_principal, tail};
+use krb_wire::{Order, Pen, split_cc_principal, tail};
 
 // The bytes from the times on of the credential that the bytes begin with.
 #[tactic(auto, unfolding(crate::specs::Mark::times_from))]
@@ -26,12 +23,20 @@ fn skip_to_times(version: Version, bytes: &[u8]) -> Option<&[u8]>
     Some(rest)
 }
 
+// Writes a time over the bytes at a place.
+fn put_time(time: u32, image: &mut [u8], at: usize)
+    requires { at + 4 ≤ length image.old }
+    ensures { image.new ≡ splice image.old at (at + 4) (number32 time) }
+{
+    Pen::new(image, at).put_u32(Order::Big, time);
+}
+
 /// Marks the credential at a place: two of its times are written, and no other byte.
 pub fn mark(version: Version, image: &mut [u8], place: usize)
     requires within { place ≤ length image.old }
     requires there { IsSome (credential_at version (drop place image.old)) }
     ensures marked { (c : CredParts) (rest : List ℕ) → credential_at version (drop place image.old) ≡ Some (c, rest)
-        → image.new ≡ splice image.old place (place + length (credential version c)) (credential version (marked c)) }
+        → image.new ≡ splice image.old place (place + length (credential version c)) (credential version (add_mark c)) }
     ensures len { length image.new ≡ length image.old }
 {
     bytes_fit(image);
@@ -39,18 +44,6 @@ pub fn mark(version: Version, image: &mut [u8], place: usize)
         unreachable!()
     };
     let authtime = image.len() - times.len();
-    let _ = put_u32(Order::Big, u32::MAX, image, authtime);
-    let _ = put_u32(Order::Big, 0, image, authtime + 8);
-}
-
-/// Marks the live credential at a place of an image.
-pub fn mark_cell(head: Head, image: &mut [u8], place: usize)
-    requires kept { IsImage head.version head.limit image.old head.places }
-    requires live { IsSome (credential_at_place (held_by head image.old) place) }
-    ensures marked { Holds head image.new (with_mark (held_by head image.old) place) }
-    ensures len { length image.new ≡ length image.old }
-{
-    bytes_fit(image);
-    mark(head.version, image, place);
-    bytes_fit(image);
+    put_time(u32::MAX, image, authtime);
+    put_time(0, image, authtime + 8);
 }

@@ -5,15 +5,17 @@ pub(crate) mod header;
 ghost use Rattle.std.specs.Prelude.{◌≡◌, ◌≤◌, ℕ, length, drop, IfOk, IfErr, Ok, Err};
 ghost use Rattle.krb_ccache.specs.Header.{header_at};
 ghost use Rattle.krb_ccache.specs.Laws.{AreBytes};
-ghost use Rattle.krb_ccache.specs.Store.{version_of, open_header, open_result, image_of};
-ghost use Rattle.krb_ccache.specs.Open.{open_fault_number, held, cells_len, ArePlaces, IsImage, Reopens};
+ghost use Rattle.krb_ccache.specs.Store.{version_in, open_header, open_result, image_of};
+ghost use Rattle.krb_ccache.specs.Open.{open_fault_number, open_fault_phrase, cache_of, credentials_len, ArePlaces, IsImage, Reopens};
 
 use crate::cells::bytes_fit;
-use crate::credential::split_credential;
+use crate::credential::view::split_credential;
 use crate::open::header::skip_header;
 use crate::version::Version;
 use krb_wire::{split_cc_principal, tail};
 use std::alloc::Allocator;
+use std::error::Error;
+use std::fmt;
 
 /// Why an image is no cache.
 #[derive(Clone, Copy, Debug, PartialEq, Eq)]
@@ -43,13 +45,57 @@ impl CcOpenFault {
             CcOpenFault::BadDefault => 5,
         }
     }
+
+    /// What is wrong, in words.
+    pub fn phrase(self) -> &'static str
+        ensures { result.now ≡ open_fault_phrase self }
+    {
+        match self {
+            CcOpenFault::TooShort => "it has fewer than two bytes",
+            CcOpenFault::BadVersion => "it does not begin as a cache of version 3 or 4",
+            CcOpenFault::TooLarge => "it is longer than the limit",
+            CcOpenFault::BadHeader => "its header is damaged",
+            CcOpenFault::BadDefault => "it has no default principal",
+        }
+    }
 }
+
+impl fmt::Display for CcOpenFault {
+    ghost use Rattle.std.specs.Prelude.{Some};
+
+    ghost output = { λ fault. Some (open_fault_phrase fault) };
+
+    fn fmt<W: fmt::Write>(&self, f: &mut fmt::Formatter<W>) -> fmt::Result {
+        f.write_str(self.phrase())
+    }
+}
+
+impl Error for CcOpenFault {}
 
 /// An image that is no cache, handed back as it was.
 #[derive(Drop)]
 pub struct CcOpenRefused<A: Allocator> {
     pub why: CcOpenFault,
     pub image: Vec<u8, A>,
+}
+
+impl<A: Allocator> fmt::Display for CcOpenRefused<A> {
+    ghost use Rattle.std.specs.Prelude.{Some};
+
+    ghost output = { λ refused. Some (open_fault_phrase refused.why) };
+
+    fn fmt<W: fmt::Write>(&self, f: &mut fmt::Formatter<W>) -> fmt::Result {
+        f.write_str(self.why.phrase())
+    }
+}
+
+/// The image is dropped.
+impl<A: Allocator> From<CcOpenRefused<A>> for CcOpenFault {
+    ghost from_gives = { λ refused why. why ≡ refused.why };
+
+    fn from(refused: CcOpenRefused<A>) -> CcOpenFault {
+        refused.why
+    }
 }
 
 /// Where the default principal and the first credential of an image stand, and where the credentials end.
@@ -60,9 +106,9 @@ pub struct Places {
     pub end: usize,
 }
 
-/// What is known of an image that is a cache.
+/// The version and the limit of an image, and where its parts stand.
 #[derive(Clone, Copy, Debug, PartialEq, Eq)]
-pub struct Head {
+pub struct Layout {
     pub version: Version,
     pub limit: u32,
     pub places: Places,
@@ -71,7 +117,7 @@ pub struct Head {
 // The version that the two first bytes tell.
 fn version_in(image: &[u8]) -> Option<Version>
     requires { 2 ≤ length image.now }
-    ensures { result ≡ version_of image.now }
+    ensures { result ≡ version_in image.now }
 {
     if image[0] != 5 {
         return None;
@@ -84,8 +130,8 @@ fn version_in(image: &[u8]) -> Option<Version>
 }
 
 // How many bytes the credentials take that the bytes begin with. Each is read once.
-fn len_of_cells(version: Version, bytes: &[u8]) -> usize
-    ensures value { result ≡ cells_len version bytes.now }
+fn credentials_len(version: Version, bytes: &[u8]) -> usize
+    ensures value { result ≡ credentials_len version bytes.now }
     ensures within { result ≤ length bytes.now }
 {
     let mut rest = bytes;
@@ -110,7 +156,7 @@ fn read_places(version: Version, image: &[u8]) -> Result<Places, CcOpenFault>
     let Some((_, cells)) = split_cc_principal(after) else {
         return Err(CcOpenFault::BadDefault);
     };
-    let len = len_of_cells(version, cells);
+    let len = credentials_len(version, cells);
     let principal = image.len() - after.len();
     let first = image.len() - cells.len();
     Ok(Places {
@@ -121,11 +167,11 @@ fn read_places(version: Version, image: &[u8]) -> Result<Places, CcOpenFault>
 }
 
 /// Reads an image. Each credential is read once; there are only bytes here, and nothing to take memory from.
-pub fn read_head(limit: u32, image: &[u8]) -> Result<Head, CcOpenFault>
+pub fn read_layout(limit: u32, image: &[u8]) -> Result<Layout, CcOpenFault>
     requires { limit ≤ 1073741824 }
     ensures ok { IfOk result (λ h. open_result limit image.now
-        ≡ Ok (held h.version h.limit image.now h.places)) }
-    ensures kept { IfOk result (λ h. IsImage h.version h.limit image.now h.places) }
+        ≡ Ok (cache_of h image.now)) }
+    ensures kept { IfOk result (λ h. IsImage h image.now) }
     ensures err { IfErr result (λ why. open_result limit image.now ≡ Err why) }
 {
     if image.len() < 2 {
@@ -138,7 +184,7 @@ pub fn read_head(limit: u32, image: &[u8]) -> Result<Head, CcOpenFault>
         return Err(CcOpenFault::TooLarge);
     }
     let places = read_places(version, image)?;
-    Ok(Head {
+    Ok(Layout {
         version,
         limit,
         places,
@@ -146,12 +192,12 @@ pub fn read_head(limit: u32, image: &[u8]) -> Result<Head, CcOpenFault>
 }
 
 /// The image, as what it spells.
-pub fn spelled_of(head: Head, image: &[u8]) -> &[u8]
-    requires { IsImage head.version head.limit image.now head.places }
+pub fn as_spelling(layout: Layout, image: &[u8]) -> &[u8]
+    requires { IsImage layout image.now }
     ensures same { result.now ≡ image.now }
-    ensures spelled { result.now ≡ image_of (held head.version head.limit image.now head.places) }
+    ensures spelled { result.now ≡ image_of (cache_of layout image.now) }
     ensures bytes { AreBytes result.now }
-    ensures reopens { Reopens (held head.version head.limit image.now head.places) result.now }
+    ensures reopens { Reopens (cache_of layout image.now) result.now }
 {
     bytes_fit(image);
     image

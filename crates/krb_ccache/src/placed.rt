@@ -1,7 +1,7 @@
 //! A cache as a store that is walked while it is changed.
 
 use crate::ccache::Ccache;
-use crate::cred::Cred;
+use crate::credential::Cred;
 use krb_walk::{Code, Fault, Placed, Refusal, Stop};
 use std::alloc::Allocator;
 

@@ -8,17 +8,16 @@ ghost use Rattle.krb_walk.specs.Store.{live_bytes};
 ghost use Rattle.krb_ccache.specs.Header.{offset_in};
 ghost use Rattle.krb_ccache.specs.Store.{store_of, credential_at_place};
 ghost use Rattle.krb_ccache.specs.declared.version.Version.TheVariants.{V4};
-ghost use Rattle.krb_ccache.specs.Changes.{create_result, RefusesAs, append_result, is_refused, is_read_only, put_result, cut_result, takes_none, with_mark};
-ghost use Rattle.krb_ccache.specs.Room.{HasRoomFor};
+ghost use Rattle.krb_ccache.specs.Changes.{create_result, RefusesAs, append_result, is_refused, is_read_only, put_result, cut_result, takes_none, with_mark, HasRoomFor};
 
 use super::Ccache;
 use crate::append::append_credential;
 use crate::cells::bytes_fit;
-use crate::cred::Cred;
-use crate::front::{front_len, header_len, spell_front, tells_offset};
+use crate::config::index::{forget_at_config, mark_and_drop};
+use crate::credential::Cred;
 use crate::offset::Offset;
-use crate::open::{Head, Places};
-use crate::setting::index::{follow_stored, mark_and_follow};
+use crate::open::{Layout, Places};
+use crate::preamble::{header_len, preamble_len, tells_offset, write_preamble};
 use crate::version::Version;
 use krb_walk::{Code, Refusal};
 use krb_wire::{Limits, Name};
@@ -38,13 +37,13 @@ impl<A: Allocator> Ccache<A> {
     {
         tells_offset(offset);
         let limit = limits.image();
-        let Some(len) = front_len(default, offset, limit as usize) else {
+        let Some(len) = preamble_len(default, offset, limit as usize) else {
             return Err(Refusal::Code(Code::Full));
         };
         let mut image = Vec::from_elem(alloc, 0, len)?;
-        spell_front(default, offset, &mut image);
+        write_preamble(default, offset, &mut image);
         bytes_fit(&image);
-        let head = Head {
+        let layout = Layout {
             version: Version::V4,
             limit,
             places: Places {
@@ -55,8 +54,8 @@ impl<A: Allocator> Ccache<A> {
         };
         Ok(Ccache {
             image,
-            head,
-            known: None,
+            layout,
+            index: None,
         })
     }
 
@@ -64,7 +63,7 @@ impl<A: Allocator> Ccache<A> {
     pub(super) fn is_read_only(&self) -> bool
         ensures { result ≡ is_read_only self.now.state.version }
     {
-        match self.head.version {
+        match self.layout.version {
             Version::V3 => true,
             Version::V4 => false,
         }
@@ -76,7 +75,12 @@ impl<A: Allocator> Ccache<A> {
         ensures marked { self.new.state ≡ with_mark self.old.state place }
         ensures room { self.new.room ≡ self.old.room }
     {
-        mark_and_follow(self.head, &mut self.image, &mut self.known, place as usize);
+        mark_and_drop(
+            self.layout,
+            &mut self.image,
+            &mut self.index,
+            place as usize,
+        );
     }
 
     /// Marks the credential at a place as removed: endtime 0 and the greatest authtime are written, and no other
@@ -112,12 +116,12 @@ impl<A: Allocator> Ccache<A> {
     {
         bytes_fit(&self.image);
         let place = self.end();
-        let room = self.head.limit as usize - self.image.len();
+        let room = self.layout.limit as usize - self.image.len();
         let Some(len) = cred.len_within(room) else {
             return Err(Refusal::Code(Code::Full));
         };
-        self.head = append_credential(&mut self.image, self.head, cred, len)?;
-        follow_stored(&mut self.known, cred);
+        self.layout = append_credential(&mut self.image, self.layout, cred, len)?;
+        forget_at_config(&mut self.index, cred);
         Ok(place)
     }
 

@@ -2,16 +2,16 @@
 
 ghost use Rattle.std.specs.Prelude.{◌≡◌, ◌≤◌, ◌-◌, take, drop, length};
 ghost use Rattle.krb_ccache.specs.Header.{offset_in};
-ghost use Rattle.krb_ccache.specs.Store.{store_of, image_of, kind_of};
+ghost use Rattle.krb_ccache.specs.Store.{store_of, image_of, fault_kind};
 ghost use Rattle.krb_ccache.specs.Open.{Reopens};
 ghost use Rattle.krb_ccache.specs.Laws.{AreBytes};
-ghost use Rattle.krb_ccache.specs.Cells.{cells_of, AreCredentials};
+ghost use Rattle.krb_ccache.specs.Credentials.{all_credentials, AreCredentials};
 
 use crate::cells::bytes_fit;
 use crate::credentials::AllCredentials;
 use crate::offset::Offset;
-use crate::open::header::offset_in;
-use crate::open::{Head, spelled_of};
+use crate::open::header::header_offset;
+use crate::open::{Layout, as_spelling};
 use crate::version::Version;
 use krb_cells::Cells;
 use krb_walk::FaultKind;
@@ -21,19 +21,19 @@ use std::marker::Model;
 /// An image that is a cache. Contracts see the cache.
 #[derive(Drop)]
 pub struct CacheView<'a> {
-    pub head: Head,
+    pub layout: Layout,
     pub image: &'a [u8],
 }
 
 impl<'a> Model for CacheView<'a> {
     ghost use Rattle.krb_ccache.specs.Store.{CacheState};
-    ghost use Rattle.krb_ccache.specs.Open.{held, IsImage};
+    ghost use Rattle.krb_ccache.specs.Open.{cache_of, IsImage};
 
     ghost Value = { CacheState };
 
-    ghost view = { λ v. held v.head.version v.head.limit v.image.now v.head.places };
+    ghost view = { λ v. cache_of v.layout v.image.now };
 
-    ghost invariant = { λ v. IsImage v.head.version v.head.limit v.image.now v.head.places };
+    ghost invariant = { λ v. IsImage v.layout v.image.now };
 }
 
 // The bytes from a place to another.
@@ -52,15 +52,15 @@ impl<'a> CacheView<'a> {
         ensures bytes { AreBytes result.now }
         ensures reopens { Reopens self.now result.now }
     {
-        spelled_of(self.head, self.image)
+        as_spelling(self.layout, self.image)
     }
 
     // What is wrong after the last credential: bytes that begin with none are left.
     fn fault(&self) -> Option<FaultKind>
-        ensures { result ≡ kind_of self.now.contents.end }
+        ensures { result ≡ fault_kind self.now.contents.end }
     {
         bytes_fit(self.image);
-        if self.head.places.end == self.image.len() {
+        if self.layout.places.end == self.image.len() {
             return None;
         }
         Some(FaultKind::BadCredential)
@@ -71,8 +71,8 @@ impl<'a> CacheView<'a> {
         ensures { AreCredentials self.now result.0 result.1.now }
     {
         bytes_fit(self.image);
-        let first = self.head.places.first;
-        (first, between(self.image, first, self.head.places.end))
+        let first = self.layout.places.first;
+        (first, between(self.image, first, self.layout.places.end))
     }
 
     /// The store that it is.
@@ -81,16 +81,16 @@ impl<'a> CacheView<'a> {
     {
         let (first, bytes) = self.placed();
         bytes_fit(bytes);
-        Cells::of(self.head.version, first, bytes, self.fault())
+        Cells::of(self.layout.version, first, bytes, self.fault())
     }
 
     /// All credentials, removed ones too.
     pub fn credentials(&self) -> AllCredentials<'a>
-        ensures { result ≡ cells_of self.now }
+        ensures { result ≡ all_credentials self.now }
     {
         let (place, bytes) = self.placed();
         AllCredentials {
-            version: self.head.version,
+            version: self.layout.version,
             place,
             bytes,
         }
@@ -100,7 +100,7 @@ impl<'a> CacheView<'a> {
     pub fn default_principal(&self) -> PrincipalView<'a>
         ensures { result ≡ self.now.principal }
     {
-        let Some((name, _)) = split_cc_principal(tail(self.image, self.head.places.principal))
+        let Some((name, _)) = split_cc_principal(tail(self.image, self.layout.places.principal))
         else {
             unreachable!()
         };
@@ -111,6 +111,6 @@ impl<'a> CacheView<'a> {
     pub fn offset(&self) -> Option<Offset>
         ensures { result ≡ offset_in self.now.header }
     {
-        offset_in(self.head.version, tail(self.image, 2))
+        header_offset(self.layout.version, tail(self.image, 2))
     }
 }

@@ -1,7 +1,7 @@
 //! Keys of credentials.
 
 ghost use Rattle.krb_wire.specs.Reading.{Gives};
-ghost use Rattle.krb_ccache.specs.Credential.{Key, again_at, key_at};
+ghost use Rattle.krb_ccache.specs.Credential.{Key, second_enctype_at, key_at};
 
 use crate::version::Version;
 use krb_wire::{Order, split_data32, split_u16};
@@ -11,19 +11,19 @@ use std::marker::Model;
 #[derive(Drop)]
 pub struct KeyView<'a> {
     pub enctype: u16,
-    pub enctype_again: u16,
+    pub second_enctype: u16,
     pub bytes: &'a [u8],
 }
 
 impl<'a> Model for KeyView<'a> {
     ghost Value = { Key };
 
-    ghost view = { λ k. record { enctype = k.enctype; enctype_again = k.enctype_again; bytes = k.bytes.now } };
+    ghost view = { λ k. record { enctype = k.enctype; second_enctype = k.second_enctype; bytes = k.bytes.now } };
 }
 
 // The second enctype: version 4 has none, and it reads as 0.
-fn split_again(version: Version, bytes: &[u8]) -> Option<(u16, &[u8])>
-    ensures { Gives (λ x. (x.0, x.1.now)) result (again_at version bytes.now) }
+fn split_second_enctype(version: Version, bytes: &[u8]) -> Option<(u16, &[u8])>
+    ensures { Gives (λ x. (x.0, x.1.now)) result (second_enctype_at version bytes.now) }
 {
     match version {
         Version::V3 => split_u16(Order::Big, bytes),
@@ -38,12 +38,12 @@ pub fn split_key(version: Version, bytes: &[u8]) -> Option<(KeyView<'_>, &[u8])>
     ensures { Gives (λ x. (x.0, x.1.now)) result (key_at version bytes.now) }
 {
     let (enctype, rest) = split_u16(Order::Big, bytes)?;
-    let (enctype_again, rest) = split_again(version, rest)?;
+    let (second_enctype, rest) = split_second_enctype(version, rest)?;
     let (bytes, rest) = split_data32(Order::Big, rest)?;
     Some((
         KeyView {
             enctype,
-            enctype_again,
+            second_enctype,
             bytes,
         },
         rest,

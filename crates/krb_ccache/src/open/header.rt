@@ -4,8 +4,7 @@ ghost use Rattle.std.specs.Prelude.{◌≡◌, is_some};
 ghost use Rattle.std.specs.List.{filter_map};
 ghost use Rattle.krb_wire.specs.Reading.{Gives};
 ghost use Rattle.krb_walk.specs.Contents.{contents};
-ghost use Rattle.krb_ccache.specs.Header.{Field, field_at, fields_format, fields_in, header_end, offset_of, first_of, header_offset};
-ghost use Rattle.krb_ccache.specs.Typed.{field_of};
+ghost use Rattle.krb_ccache.specs.Header.{field_at, fields_format, fields_in, header_end, offset_of, first_of, header_offset, field_of};
 
 use crate::offset::Offset;
 use crate::version::Version;
@@ -79,7 +78,7 @@ fn first_offset(fields: &[u8]) -> Option<Offset>
 }
 
 /// The time offset of the header that the bytes begin with.
-pub fn offset_in(version: Version, bytes: &[u8]) -> Option<Offset>
+pub fn header_offset(version: Version, bytes: &[u8]) -> Option<Offset>
     ensures { result ≡ header_offset version bytes.now }
 {
     match version {

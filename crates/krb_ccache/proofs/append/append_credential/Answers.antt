@@ -3,12 +3,14 @@ use Rattle.std.specs.List.{splice}
 use Rattle.krb_wire.proofs.Fields.{IsBytes}
 use Rattle.krb_ccache.specs.declared.version.Version.TheVariants.{V4}
 use Rattle.krb_ccache.specs.Credential.{credential}
-use Rattle.krb_ccache.proofs.Appended.{put_last, last_held_4}
+use Rattle.krb_ccache.specs.Open.{cache_of}
+use Rattle.krb_ccache.proofs.ImageLemmas.{image_parts}
+use Rattle.krb_ccache.proofs.LastCredential.{put_last, image_appendable, last_holds}
 use Rattle.krb_ccache.proofs.append.append_credential.Goals as goal
 
 pub returns-clause-ok : goal.returns-clause-ok
 returns-clause-ok g c =
-    let h = c.args.head in
+    let h = c.args.layout in
     let old = c.args.image.now.items in
     let new = c.put_into.new.image.items in
     let x = c.args.cred.now in
@@ -18,4 +20,7 @@ returns-clause-ok g c =
     let new_fits : IsBytes new = rw c.deref-2.ensures.value at c.bytes_fit-2.ensures in
     let room : length old + c.args.len ≤ h.limit = let ok = c.args.image.now.ok.0 in omega (arith, ok, c.requires.room) in
     let put : new ≡ old ++ text = put_last old new text c.args.len c.len-end.result (c.len-end.result + length text) (sym len) refl c.requires.len (c.put_into.ensures ∙ ap (λ (b : List ℕ). splice b c.len-end.result (c.len-end.result + length text) text) c.in_ok-grow.ensures.ok) in
-    last_held_4 h old new x c.args.len (c.len-end.result + c.args.len) fits new_fits c.requires.kept c.requires.whole c.requires.version c.requires.fits c.requires.len room (omega (arith, len)) put
+    let parts = image_parts h old fits c.requires.kept in
+    let total = parts.total in
+    let a = image_appendable h old (cache_of h old) fits c.requires.kept refl c.requires.whole c.requires.version in
+    last_holds h (cache_of h old) new x c.args.len (c.len-end.result + c.args.len) a new_fits c.requires.fits c.requires.len (omega (arith, room, total, ap length c.requires.whole)) (omega (arith, len, total, ap length c.requires.whole)) (put ∙ ap (λ (b : List ℕ). b ++ text) parts.spells)

@@ -1,4 +1,4 @@
-use Rattle.krb_ccache.proofs.Again.{opened_again}
+use Rattle.krb_ccache.proofs.Reopening.{opened_again}
 use Rattle.krb_ccache.proofs.laws.caches_are_opened_again.Goals as goal
 
 pub returns : goal.returns

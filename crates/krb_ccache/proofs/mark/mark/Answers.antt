@@ -1,4 +1,4 @@
-use Rattle.std.proofs.Common.{arith}
+use Rattle.std.proofs.Common.{refl, arith}
 use Rattle.krb_wire.proofs.Fields.{is_some_has}
 use Rattle.krb_ccache.proofs.MarkLemmas.{around, marked_is, times_left, times_there}
 use Rattle.krb_ccache.proofs.mark.mark.Goals as goal
@@ -16,19 +16,19 @@ overflow_sub-authtime c =
     let t = times_left c.args.version c.args.image.now c.tail.result.now c.in-Some.times.now c.args.place s.0.0 s.0.1 w c.tail.ensures c.in-Some.ensures in
     omega (arith, t.0)
 
-pub put_u32-requires : goal.put_u32-requires
-put_u32-requires c =
+pub put_time-requires : goal.put_time-requires
+put_time-requires c =
     let s = is_some_has _ c.requires.there in
     let w = around c.args.version c.args.image.now c.args.place s.0.0 s.0.1 c.bytes_fit.ensures c.requires.within s.1 in
     let t = times_left c.args.version c.args.image.now c.tail.result.now c.in-Some.times.now c.args.place s.0.0 s.0.1 w c.tail.ensures c.in-Some.ensures in
     omega (arith, t.0, t.1)
 
-pub put_u32-requires-2 : goal.put_u32-requires-2
-put_u32-requires-2 c =
+pub put_time-requires-2 : goal.put_time-requires-2
+put_time-requires-2 c =
     let s = is_some_has _ c.requires.there in
     let w = around c.args.version c.args.image.now c.args.place s.0.0 s.0.1 c.bytes_fit.ensures c.requires.within s.1 in
     let t = times_left c.args.version c.args.image.now c.tail.result.now c.in-Some.times.now c.args.place s.0.0 s.0.1 w c.tail.ensures c.in-Some.ensures in
-    let same = c.put_u32.auto.out in
+    let same = c.put_time.auto.image in
     omega (arith, t.0, t.1, same)
 
 pub returns-clause-marked : goal.returns-clause-marked
@@ -37,7 +37,4 @@ returns-clause-marked c = λ x rest read.
     let image = c.args.image.now in
     let w = around v image c.args.place x rest c.bytes_fit.ensures c.requires.within read in
     let t = times_left v image c.tail.result.now c.in-Some.times.now c.args.place x rest w c.tail.ensures c.in-Some.ensures in
-    let n1 = c.put_u32.ensures.next in
-    let n2 = c.put_u32-2.ensures.next in
-    marked_is v image c.put_u32.new.out c.put_u32-2.new.out c.args.place _ c.put_u32.result _ c.put_u32-2.result x rest w c.requires.within
-    (omega (arith, t.0)) n1 (omega arith) n2 c.put_u32.ensures.written c.put_u32-2.ensures.written
+    marked_is v image c.put_time.new.image c.put_time-2.new.image c.args.place _ _ _ _ x rest w c.requires.within (omega (arith, t.0)) refl refl refl c.put_time.ensures c.put_time-2.ensures

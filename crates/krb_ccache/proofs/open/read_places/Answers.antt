@@ -25,5 +25,5 @@ overflow_sub-first c =
 
 pub returns-clause-ok : goal.returns-clause-ok
 returns-clause-ok c =
-    places_are c.args.version c.args.image.now c.tail-rest.result.now c.in-Some.after.now _ c.in-Some-split_cc_principal.cells.now c.len_of_cells-len.result
-    c.bytes_fit.ensures c.tail-rest.ensures c.in-Some.ensures c.in-Some-split_cc_principal.ensures c.len_of_cells-len.ensures.value c.len_of_cells-len.ensures.within
+    places_are c.args.version c.args.image.now c.tail-rest.result.now c.in-Some.after.now _ c.in-Some-split_cc_principal.cells.now c.credentials_len-len.result
+    c.bytes_fit.ensures c.tail-rest.ensures c.in-Some.ensures c.in-Some-split_cc_principal.ensures c.credentials_len-len.ensures.value c.credentials_len-len.ensures.within

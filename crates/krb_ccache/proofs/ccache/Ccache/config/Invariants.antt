@@ -1,8 +1,8 @@
 use Rattle.std.proofs.Common.{◌≡◌}
 use Rattle.std.specs.Prelude.{option_copied}
-use Rattle.krb_ccache.specs.Config.{value_among, config_of}
+use Rattle.krb_ccache.specs.Config.{query_of, value_among, config_of}
 use Rattle.krb_ccache.proofs.ccache.Ccache.config.Given as goal
 
 -- what is asked of the rest is asked of all
 abbrev pub invariant-loop-credential : goal.invariant-loop-credential
-invariant-loop-credential g l = value_among l.self.state.principal l.key (option_copied l.principal) l.credential-iterator ≡ config_of l.self.state l.key (option_copied l.principal)
+invariant-loop-credential g l = value_among (query_of l.self.state l.key (option_copied l.principal)) l.credential-iterator ≡ config_of l.self.state l.key (option_copied l.principal)

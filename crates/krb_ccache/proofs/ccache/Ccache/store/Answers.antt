@@ -1,14 +1,11 @@
-use Rattle.std.proofs.Common.{◌≡◌, ℕ, false, Result, refl, sym, ap, subst, ◌∙◌}
+use Rattle.std.proofs.Common.{◌≡◌, false, refl, sym, ap, ◌∙◌}
 use Rattle.std.specs.Prelude.{is_some}
-use Rattle.krb_walk.specs.declared.refusal.Code.{Code}
-use Rattle.krb_walk.specs.Rules.{PutGives}
 use Rattle.krb_walk.specs.Store.{fault_of}
-use Rattle.krb_ccache.specs.Store.{CacheState, store_of}
+use Rattle.krb_ccache.specs.Store.{store_of}
 use Rattle.krb_ccache.specs.Credential.{is_marked}
 use Rattle.krb_ccache.specs.Changes.{is_read_only, is_refused, append_result, put_result}
 use Rattle.krb_ccache.proofs.StoreChanges.{last_puts}
-use Rattle.krb_ccache.proofs.Appended.{append_puts}
-use Rattle.krb_ccache.proofs.LastPlaced.{put_there}
+use Rattle.krb_ccache.proofs.LastCredential.{append_puts, put_there}
 use Rattle.krb_ccache.proofs.ccache.Ccache.store.Goals as goal
 
 pub returns-clause-puts : goal.returns-clause-puts
@@ -30,10 +27,5 @@ returns-clause-memory g c = λ none.
 
 pub returns-clause-there : goal.returns-clause-there
 returns-clause-there g c =
-    let k = c.args.self.now.state in
-    let x = c.args.cred.now in
-    let writes : is_read_only k.version ≡ false = let a = c.is_read_only.ensures in let d = c.if-is_read_only.false in cc in
-    let whole : is_some (fault_of (store_of k)) ≡ false = let a = c.fault.ensures in let b = c.is_some.ensures in let d = c.if-is_some.false in cc in
-    let live : is_marked x ≡ false = let a = c.is_marked.ensures in let d = c.if-is_marked.false in cc in
-    let same : append_result k x ≡ put_result k x = rw (writes, whole, live) refl in
-    put_there k k c.append.new.self.state x c.append.result (subst (λ (r : Result (ℕ × CacheState) Code). PutGives r k c.append.result c.append.new.self.state) same c.append.ensures.gives)
+    let live : is_marked c.args.cred.now ≡ false = let a = c.is_marked.ensures in let d = c.if-is_marked.false in cc in
+    put_there c.args.self.now.state c.args.self.now.state c.append.new.self.state c.args.cred.now c.append.result live c.append.ensures.gives

@@ -1,5 +1,5 @@
 use Rattle.std.proofs.Common.{◌≡◌}
-use Rattle.krb_ccache.specs.Cells.{live_at}
+use Rattle.krb_ccache.specs.Credentials.{live_at}
 use Rattle.krb_ccache.proofs.credentials.AllCredentials.find.Given as goal
 
 -- what is asked of the rest is asked of all

@@ -1,5 +1,5 @@
 use Rattle.std.proofs.Common.{◌≡◌, length}
-use Rattle.krb_ccache.specs.Cells.{live_from}
+use Rattle.krb_ccache.specs.Credentials.{live_from}
 use Rattle.krb_ccache.proofs.credentials.AllCredentials.next_live.Given as goal
 
 -- no live one was passed

@@ -1,6 +1,6 @@
 use Rattle.std.proofs.Common.{List, refl, sym, ap, ◌∙◌, arith}
 use Rattle.krb_ccache.specs.Credential.{CredParts}
-use Rattle.krb_ccache.specs.Cells.{CellsFrom}
+use Rattle.krb_ccache.specs.Credentials.{CredentialsFrom}
 use Rattle.krb_walk.specs.Contents.{Contents}
 use Rattle.std.proofs.Common.{ℕ}
 use Rattle.krb_ccache.proofs.CellLemmas.{read_one, read_none, begins, fewer_left}
@@ -9,7 +9,7 @@ use Rattle.krb_ccache.proofs.credentials.AllCredentialsIterator.next.Goals as go
 pub returns-in_err-credential-clause-steps : goal.returns-in_err-credential-clause-steps
 returns-in_err-credential-clause-steps c =
     let none = read_none c.self.inside.version c.self.inside.bytes.now c.bytes_fit.ensures c.in_err-credential.ensures in
-    rw c.from_residual.ensures (ap (λ (x : CellsFrom). x.cells) (sym c.self.view_is) ∙ ap (λ (k : Contents CredParts (List ℕ)). k.cells) none, refl)
+    rw c.from_residual.ensures (ap (λ (x : CredentialsFrom). x.cells) (sym c.self.view_is) ∙ ap (λ (k : Contents CredParts (List ℕ)). k.cells) none, refl)
 
 pub overflow_sub-self : goal.overflow_sub-self
 overflow_sub-self c =

@@ -1,5 +1,5 @@
 use Rattle.std.proofs.Common.{refl, sym, ◌∙◌, arith}
-use Rattle.krb_ccache.proofs.HeaderFields.{fill_step, fill_end, field_shrinks, field_left}
+use Rattle.krb_ccache.proofs.HeaderFields.{fields_step, fields_end, field_shrinks, field_left}
 use Rattle.krb_ccache.proofs.open.header.are_fields.Goals as goal
 
 pub loop-after-init : goal.loop-after-init
@@ -10,9 +10,9 @@ loop-after-smaller c = field_shrinks c.loop-after.rest.now _ c.in-Some.after.now
 
 pub loop-after-preserved : goal.loop-after-preserved
 loop-after-preserved c = record {
-  same = sym (fill_step c.loop-after.rest.now _ c.in-Some.after.now c.loop-after.invariant.fits c.in-Some.ensures) ∙ c.loop-after.invariant.same;
+  same = sym (fields_step c.loop-after.rest.now _ c.in-Some.after.now c.loop-after.invariant.fits c.in-Some.ensures) ∙ c.loop-after.invariant.same;
   fits = field_left c.loop-after.rest.now _ c.in-Some.after.now c.loop-after.invariant.fits c.in-Some.ensures;
 }
 
 pub returns : goal.returns
-returns c = c.is_empty.ensures ∙ sym (fill_end c.loop-after.rest.now c.loop-after.invariant.fits c.in_default.ensures) ∙ c.loop-after.invariant.same
+returns c = c.is_empty.ensures ∙ sym (fields_end c.loop-after.rest.now c.loop-after.invariant.fits c.in_default.ensures) ∙ c.loop-after.invariant.same

@@ -1,7 +1,7 @@
 use Rattle.std.proofs.Common.{ap}
 use Rattle.krb_ccache.specs.Store.{CacheState}
-use Rattle.krb_ccache.proofs.Held.{cells_held}
+use Rattle.krb_ccache.proofs.ImageLemmas.{image_cells}
 use Rattle.krb_ccache.proofs.ccache.view.CacheView.cells.Goals as goal
 
 pub of-requires-clause-cells : goal.of-requires-clause-cells
-of-requires-clause-cells c = cells_held c.self.inside.head.version c.placed-first.result.1.now c.args.self.now c.placed-first.result.0 c.bytes_fit.ensures (ap (λ (k : CacheState). k.version) c.self.view_is) c.placed-first.ensures
+of-requires-clause-cells c = image_cells c.self.inside.layout.version c.placed-first.result.1.now c.args.self.now c.placed-first.result.0 c.bytes_fit.ensures (ap (λ (k : CacheState). k.version) c.self.view_is) c.placed-first.ensures

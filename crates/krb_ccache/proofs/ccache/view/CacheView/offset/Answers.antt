@@ -1,10 +1,10 @@
 use Rattle.std.proofs.Common.{◌∙◌, ap, drop}
 use Rattle.krb_ccache.specs.Header.{header_offset, offset_in}
 use Rattle.krb_ccache.specs.Store.{CacheState}
-use Rattle.krb_ccache.proofs.Held.{offset_is}
+use Rattle.krb_ccache.proofs.ImageLemmas.{offset_is}
 use Rattle.krb_ccache.proofs.ccache.view.CacheView.offset.Goals as goal
 
 pub returns : goal.returns
 returns c =
     let i = c.self.inside in
-    c.offset_in.ensures ∙ ap (header_offset i.head.version) c.tail.ensures ∙ offset_is i.head.version (drop 2 i.image.now) _ _ c.self.invariant.parts.header ∙ ap (λ (k : CacheState). offset_in k.header) c.self.view_is
+    c.header_offset.ensures ∙ ap (header_offset i.layout.version) c.tail.ensures ∙ offset_is i.layout.version (drop 2 i.image.now) _ _ c.self.invariant.parts.header ∙ ap (λ (k : CacheState). offset_in k.header) c.self.view_is

@@ -1,0 +1,159 @@
+-- The image of a cache is kept as that cache.
+use Rattle.std.proofs.Common.{◌≡◌, ℕ, ◌+◌, ◌≤◌, List, [], ◌∷◌, ◌++◌, length, drop, map, Option, Some, None, refl, sym, ap, subst, ◌∙◌, length-append, arith}
+use Rattle.std.specs.List.{flat_map, AllByRecursion}
+use Rattle.std.proofs.lemmas.List.{append-nil, drop_at, drop-drop, length-drop}
+use Rattle.std.specs.Int.{w16}
+use Rattle.krb_wire.specs.declared.format.Order.TheVariants.{Big}
+use Rattle.krb_wire.specs.Spelling.{Parts, digits, data16, cc_principal, IsShort, FitsCc}
+use Rattle.krb_wire.specs.Reading.{data16_at, cc_principal_at}
+use Rattle.krb_wire.proofs.Fields.{IsBytes, IsBytes-drop, bind_some, some_is, Takes}
+use Rattle.krb_wire.proofs.Principals.{data16_field, cc_principal_field}
+use Rattle.krb_walk.specs.Contents.{Contents, More, contents, spelling, next_by, IsCell, IsEnd}
+use Rattle.krb_walk.specs.Store.{end_from, end_of}
+use Rattle.krb_walk.proofs.ContentsLemmas.{contents_again}
+use Rattle.krb_ccache.specs.declared.version.Version.{Version}
+use Rattle.krb_ccache.specs.declared.version.Version.TheVariants.{V3, V4}
+use Rattle.krb_ccache.specs.declared.open.Layout.{Layout}
+use Rattle.krb_ccache.specs.declared.open.Places.{Places}
+use Rattle.krb_ccache.specs.Credential.{CredParts, credential, credential_at, FitsCredential}
+use Rattle.krb_ccache.specs.Header.{Field, header, header_at, fields_in}
+use Rattle.krb_ccache.specs.Store.{CacheState, credentials_format, image_of, store_cell, store_of, first_place}
+use Rattle.krb_ccache.specs.Open.{header_in, principal_in, IsImage, cache_of, Holds}
+use Rattle.krb_ccache.proofs.CredentialField.{credential_field}
+use Rattle.krb_ccache.proofs.HeaderFields.{fields_spell, header_takes, IsBytes-front, IsBytes-back}
+use Rattle.krb_ccache.proofs.CellLemmas.{credentials_are, end_is, all_cells}
+use Rattle.krb_ccache.proofs.PlaceLemmas.{header_is, name_is}
+use Rattle.krb_ccache.proofs.ImageLemmas.{image_parts, end_held}
+
+-- a cache whose parts are read where they are spelled, and whose image is not too long
+pub record IsReadable (k : CacheState) : Type 0 where
+  pub header : (rest : List ℕ) → header_at k.version (header k.version k.header ++ rest) ≡ Some (k.header, rest)
+  pub principal : FitsCc k.principal
+  pub cells : AllByRecursion (FitsCredential k.version) k.contents.cells
+  pub end : IsEnd (credentials_format k.version) k.contents.end
+  pub within : length (image_of k) ≤ k.limit
+  pub limit_fits : k.limit ≤ 1073741824
+
+-- ---- what is held is kept
+
+-- fields that fill a header are read before anything
+header_by : (text : List ℕ) (xs : List Field) (rest : List ℕ) → IsShort text → fields_in text ≡ Some xs → header_at V4 (data16 Big text ++ rest) ≡ Some (xs, rest)
+unfolding header_at
+header_by text xs rest short filled = rw ((data16_field Big).again text rest short, filled) refl
+
+-- so is a header that was read
+header_front : (v : Version) (bytes : List ℕ) (x : List Field × List ℕ) (rest : List ℕ) → IsBytes bytes → header_at v bytes ≡ Some x → header_at v (header v x.0 ++ rest) ≡ Some (x.0, rest)
+unfolding header_at
+header_front V3 bytes x rest fits e = subst (λ (y : List Field × List ℕ). header_at V3 rest ≡ Some (y.0, rest)) (some_is ([], bytes) x e) refl
+header_front V4 bytes x rest fits e =
+    let a = bind_some (data16_at Big bytes) _ x e in
+    let b = bind_some (fields_in a.0.0) _ x a.2 in
+    let t = (data16_field Big).takes bytes a.0 fits a.1 in
+    let inner : IsBytes a.0.0 = IsBytes-back (digits Big w16 (length a.0.0)) a.0.0 (IsBytes-front (data16 Big a.0.0) a.0.1 (subst IsBytes t.0.parts fits)) in
+    let same = fields_spell a.0.0 b.0 inner b.1 in
+    let P : List Field × List ℕ → Type 0 = λ y. header_at V4 (header V4 y.0 ++ rest) ≡ Some (y.0, rest) in
+    subst P (some_is (b.0, a.0.1) x b.2) (subst (λ (text : List ℕ). header_at V4 (data16 Big text ++ rest) ≡ Some (b.0, rest)) same (header_by a.0.0 b.0 rest t.1 b.1))
+
+pub cell_by : (bytes : List ℕ) (o : Option (CredParts × List ℕ)) (c : CredParts) (rest : List ℕ) → next_by bytes o ≡ More c rest → o ≡ Some (c, rest)
+cell_by bytes (Some x) c rest e =
+    let first : x.0 ≡ c = cc in
+    let left : x.1 ≡ rest = cc in
+    ap (λ (y : CredParts). Some (y, x.1)) first ∙ ap (λ (r : List ℕ). Some (c, r)) left
+cell_by bytes None c rest e = absurd cc
+
+-- what is read where it is spelled fits
+pub all_fit : (v : Version) (cs : List CredParts) → AllByRecursion (IsCell (credentials_format v)) cs → IsBytes (flat_map (credential v) cs) → AllByRecursion (FitsCredential v) cs
+all_fit v [] sound fits = tt
+all_fit v (c ∷ cs) sound fits =
+    let front : IsBytes (credential v c) = IsBytes-front (credential v c) (flat_map (credential v) cs) fits in
+    let text : IsBytes (credential v c ++ []) = subst IsBytes (sym (append-nil (credential v c))) front in
+    let read = cell_by (credential v c ++ []) (credential_at v (credential v c ++ [])) c [] (sound.0.read []) in
+    (((credential_field v).takes (credential v c ++ []) (c, []) text read).1, all_fit v cs sound.1 (IsBytes-back (credential v c) (flat_map (credential v) cs) fits))
+
+pub image_readable : (h : Layout) (image : List ℕ) → IsBytes image → IsImage h image → IsReadable (cache_of h image)
+image_readable h image fits is =
+    let v = h.version in
+    let k = image_parts h image fits is in
+    let bytes = drop h.places.first image in
+    let cells = (contents (credentials_format v) bytes).cells in
+    let spelled : IsBytes (flat_map (credential v) cells) = IsBytes-front (flat_map (credential v) cells) _ (subst IsBytes k.spelled.parts (IsBytes-drop h.places.first image fits)) in
+    record {
+      header = λ rest. header_front v (drop 2 image) (header_in v image, drop h.places.principal image) rest (IsBytes-drop 2 image fits) is.parts.header;
+      principal = (cc_principal_field.takes (drop h.places.principal image) (principal_in (drop h.places.principal image), bytes) (IsBytes-drop h.places.principal image fits) is.parts.principal).1;
+      cells = all_fit v cells k.spelled.sound.cells spelled;
+      end = k.spelled.sound.end;
+      within = subst (λ (b : List ℕ). length b ≤ h.limit) k.spells is.within;
+      limit_fits = is.limit_fits;
+    }
+
+-- ---- what is kept is held
+
+-- where the parts of a cache stand
+abbrev pub places_of : CacheState → Places
+places_of k = record { principal = 2 + length (header k.version k.header); first = first_place k; end = end_of (store_of k) }
+
+-- what is known of it
+abbrev pub layout_of : CacheState → Layout
+layout_of k = record { version = k.version; limit = k.limit; places = places_of k }
+
+pub readable_image : (k : CacheState) → IsReadable k → IsBytes (image_of k) → Holds (layout_of k) (image_of k) k
+readable_image k kept fits =
+    let v = k.version in
+    let h = header v k.header in
+    let p = cc_principal k.principal in
+    let text = spelling (credentials_format v) k.contents in
+    let image = image_of k in
+    let after_header : drop (2 + length h) image ≡ p ++ text = sym (drop-drop (length h) 2 image) ∙ drop_at h (p ++ text) (length h) refl in
+    let after_name : drop (first_place k) image ≡ text = sym (drop-drop (length p) (2 + length h) image) ∙ ap (drop (length p)) after_header ∙ drop_at p text (length p) refl in
+    let read_header : header_at v (drop 2 image) ≡ Some (k.header, p ++ text) = kept.header (p ++ text) in
+    let fields = header_is v image (p ++ text) k.header read_header in
+    let read_name : cc_principal_at (drop (2 + length h) image) ≡ Some (k.principal, text) = ap cc_principal_at after_header ∙ cc_principal_field.again k.principal text kept.principal in
+    let name = name_is (drop (2 + length h) image) text k.principal read_name in
+    let text_fits : IsBytes text = subst IsBytes after_name (IsBytes-drop (first_place k) image fits) in
+    let same : contents (credentials_format v) (drop (first_place k) image) ≡ k.contents =
+    ap (contents (credentials_format v)) after_name ∙ contents_again (credentials_format v) k.contents (credentials_are v) (record { cells = all_cells v k.contents.cells kept.cells; end = kept.end }) text_fits in
+    let len = length-append h (p ++ text) in
+    let len_p = length-append p text in
+    let len_t = length-append (flat_map (credential v) k.contents.cells) k.contents.end in
+    let end = end_is v (first_place k) k.contents.cells in
+    record {
+      kept = record {
+        long = omega arith;
+        first_byte = refl;
+        second_byte = refl;
+        within = kept.within;
+        limit_fits = kept.limit_fits;
+        parts = record {
+          header = read_header ∙ ap (λ (xs : List Field). Some (xs, p ++ text)) (sym fields) ∙ ap (λ (b : List ℕ). Some (header_in v image, b)) (sym after_header);
+          principal_within = omega (arith, len);
+          principal = read_name ∙ ap (λ (q : Parts). Some (q, text)) (sym name) ∙ ap (λ (b : List ℕ). Some (principal_in (drop (2 + length h) image), b)) (sym after_name);
+          first_within = omega (arith, len, len_p);
+          end = ap (λ (c : Contents CredParts (List ℕ)). end_from (first_place k) (map (store_cell v) c.cells)) (sym same);
+          end_within = omega (arith, len, len_p, len_t, end);
+        };
+      };
+      state =
+          ap (λ (xs : List Field). record { version = v; limit = k.limit; header = xs; principal = principal_in (drop (2 + length h) image); contents = contents (credentials_format v) (drop (first_place k) image) }) fields
+          ∙ ap (λ (q : Parts). record { version = v; limit = k.limit; header = k.header; principal = q; contents = contents (credentials_format v) (drop (first_place k) image) }) name
+          ∙ ap (λ (c : Contents CredParts (List ℕ)). record { version = v; limit = k.limit; header = k.header; principal = k.principal; contents = c }) same;
+    }
+
+-- bytes that are the image of a kept cache, with what is known of it
+pub holds : (k : CacheState) (h : Layout) (image : List ℕ) → IsReadable k → IsBytes image → image ≡ image_of k → h ≡ layout_of k → Holds h image k
+holds k h image kept fits is known =
+    subst (λ (b : List ℕ). Holds h b k) (sym is) (subst (λ (x : Layout). Holds x (image_of k) k) (sym known) (readable_image k kept (subst IsBytes is fits)))
+
+-- what is known of an image is what is known of its cache
+pub layout_is : (h : Layout) (image : List ℕ) → IsBytes image → IsImage h image → h ≡ layout_of (cache_of h image)
+layout_is h image fits is =
+    let v = h.version in
+    let k = image_parts h image fits is in
+    let xs = header_in v image in
+    let t : Takes (drop 2 image) (header v xs) (drop h.places.principal image) = header_takes v (drop 2 image) (xs, drop h.places.principal image) (IsBytes-drop 2 image fits) is.parts.header in
+    let long = is.long in
+    let within = is.parts.principal_within in
+    let principal : h.places.principal ≡ 2 + length (header v xs) = omega (arith, long, within, ap length t.parts, length-append (header v xs) (drop h.places.principal image), length-drop 2 image, length-drop h.places.principal image) in
+    let end = end_held h image k is in
+    ap (λ (n : ℕ). record { version = v; limit = h.limit; places = record { principal = n; first = h.places.first; end = h.places.end } }) principal
+    ∙ ap (λ (n : ℕ). record { version = v; limit = h.limit; places = record { principal = 2 + length (header v xs); first = n; end = h.places.end } }) k.first
+    ∙ ap (λ (n : ℕ). record { version = v; limit = h.limit; places = record { principal = 2 + length (header v xs); first = first_place (cache_of h image); end = n } }) end

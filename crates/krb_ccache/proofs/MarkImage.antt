@@ -1,0 +1,135 @@
+-- The image of a cache whose credentials are replaced by others of their lengths.
+use Rattle.std.proofs.Common.{◌≡◌, ℕ, ◌+◌, ◌≤◌, List, [], ◌∷◌, ◌++◌, length, drop, Some, refl, sym, ap, subst, ◌∙◌, append_assoc, length-append, arith}
+use Rattle.std.specs.List.{flat_map, splice, AllByRecursion}
+use Rattle.std.proofs.lemmas.Grind.{flat_map-append}
+use Rattle.std.proofs.lemmas.List.{drop_at}
+use Rattle.krb_wire.specs.Spelling.{cc_principal}
+use Rattle.krb_wire.proofs.Fields.{IsBytes}
+use Rattle.krb_walk.specs.Contents.{spelling}
+use Rattle.krb_walk.specs.Store.{end_of}
+use Rattle.krb_ccache.specs.declared.version.Version.{Version}
+use Rattle.krb_ccache.specs.declared.open.Layout.{Layout}
+use Rattle.krb_ccache.specs.Credential.{CredParts, credential, credential_at, FitsCredential}
+use Rattle.krb_ccache.specs.Header.{header}
+use Rattle.krb_ccache.specs.Store.{CacheState, credentials_format, version_byte, image_of, store_of, first_place, credential_at_place}
+use Rattle.krb_ccache.specs.Changes.{add_mark, add_mark_at, with_mark}
+use Rattle.krb_ccache.specs.Open.{IsImage, cache_of, Holds}
+use Rattle.krb_ccache.proofs.CredentialField.{credential_field}
+use Rattle.krb_ccache.proofs.CellLemmas.{end_is}
+use Rattle.krb_ccache.proofs.ImageLemmas.{image_parts}
+use Rattle.krb_ccache.proofs.CacheLemmas.{IsReadable, image_readable, holds, layout_is}
+use Rattle.krb_ccache.proofs.MarkLemmas.{StandsAt, stands, marked_one, marked_len, splice_part}
+
+-- the bytes before the credentials
+abbrev pub front_of : CacheState → List ℕ
+front_of k = 5 ∷ version_byte k.version ∷ (header k.version k.header ++ cc_principal k.principal)
+
+pub front_len : (k : CacheState) → length (front_of k) ≡ first_place k
+front_len k = omega (arith, length-append (header k.version k.header) (cc_principal k.principal))
+
+pub front_first : (k : CacheState) → image_of k ≡ front_of k ++ spelling (credentials_format k.version) k.contents
+front_first k = ap (λ (b : List ℕ). 5 ∷ version_byte k.version ∷ b) (sym (append_assoc (header k.version k.header) (cc_principal k.principal) (spelling (credentials_format k.version) k.contents)))
+
+group : (x a c b end : List ℕ) → x ++ ((a ++ (c ++ b)) ++ end) ≡ (x ++ a) ++ (c ++ (b ++ end))
+group x a c b end = simp append_assoc
+
+-- credentials, one of them and others
+texts : (k : CacheState) (before after : List CredParts) (c : CredParts) (end : List ℕ) → k.contents ≡ record { cells = before ++ c ∷ after; end = end }
+    → image_of k ≡ (front_of k ++ flat_map (credential k.version) before) ++ (credential k.version c ++ (flat_map (credential k.version) after ++ end))
+texts k before after c end is =
+    let f = credential k.version in
+    let x = front_of k in
+    let a = flat_map f before in
+    let b = flat_map f after in
+    front_first k ∙ ap (λ d. x ++ spelling (credentials_format k.version) d) is ∙ ap (λ (t : List ℕ). x ++ (t ++ end)) (flat_map-append f before (c ∷ after))
+    ∙ group x a (f c) b end
+
+pub all_replace : (P : CredParts → Type 0) (before after : List CredParts) (c d : CredParts) → AllByRecursion P (before ++ c ∷ after) → (P c → P d) → AllByRecursion P (before ++ d ∷ after)
+all_replace P [] after c d all more = (more all.0, all.1)
+all_replace P (x ∷ before) after c d all more = (all.0, all_replace P before after c d all.1 more)
+
+pub all_here : (P : CredParts → Type 0) (before after : List CredParts) (c : CredParts) → AllByRecursion P (before ++ c ∷ after) → P c
+all_here P [] after c all = all.0
+all_here P (x ∷ before) after c all = all_here P before after c all.1
+
+-- a mark keeps a credential's numbers in their range
+pub fits_marked : (v : Version) (c : CredParts) → FitsCredential v c → FitsCredential v (add_mark c)
+fits_marked v c fit = record {
+  client = fit.client;
+  server = fit.server;
+  key = fit.key;
+  times = record { authtime = omega arith; starttime = fit.times.starttime; endtime = omega arith; renew_till = fit.times.renew_till };
+  is_skey = fit.is_skey;
+  flags = fit.flags;
+  addresses = fit.addresses;
+  authdata = fit.authdata;
+  ticket = fit.ticket;
+  second_ticket = fit.second_ticket;
+}
+
+-- a live credential in an image
+pub record LiveIn (h : Layout) (image : List ℕ) (place : ℕ) (c : CredParts) : Type 0 where
+  pub stands : StandsAt h.version (first_place (cache_of h image)) (cache_of h image).contents.cells place c
+  pub within : place ≤ length image
+  pub after : List ℕ
+  pub read : credential_at h.version (drop place image) ≡ Some (c, after)
+
+pub live_in : (h : Layout) (image : List ℕ) (place : ℕ) (c : CredParts) → IsBytes image → IsImage h image → credential_at_place (cache_of h image) place ≡ Some c → LiveIn h image place c
+live_in h image place c fits is live =
+    let v = h.version in
+    let k = cache_of h image in
+    let f = credential v in
+    let kept = image_readable h image fits is in
+    let s = stands v (first_place k) place k.contents.cells c live in
+    let spells = (image_parts h image fits is).spells in
+    let x = front_of k ++ flat_map f s.before in
+    let rest = flat_map f s.after ++ k.contents.end in
+    let parts : image ≡ x ++ (f c ++ rest) = spells ∙ texts k s.before s.after c k.contents.end (ap (λ cs. record { cells = cs; end = k.contents.end }) s.parts) in
+    let len : length x ≡ place = omega (arith, length-append (front_of k) (flat_map f s.before), front_len k, s.place, end_is v (first_place k) s.before) in
+    let left : drop place image ≡ f c ++ rest = ap (drop place) parts ∙ drop_at x (f c ++ rest) place len in
+    let fit = all_here (FitsCredential v) s.before s.after c (subst (AllByRecursion (FitsCredential v)) s.parts kept.cells) in
+    record {
+      stands = s;
+      within = omega (arith, ap length parts, length-append x (f c ++ rest), len);
+      after = rest;
+      read = ap (credential_at v) left ∙ (credential_field v).again c rest fit;
+    }
+
+same_text : (v : Version) (before after : List CredParts) (c : CredParts) → length (flat_map (credential v) (before ++ add_mark c ∷ after)) ≡ length (flat_map (credential v) (before ++ c ∷ after))
+same_text v before after c =
+    let f = credential v in
+    let a = flat_map f before in
+    let b = flat_map f after in
+    ap length (flat_map-append f before (add_mark c ∷ after)) ∙ omega (arith, length-append a (f (add_mark c) ++ b), length-append a (f c ++ b), length-append (f (add_mark c)) b, length-append (f c) b, marked_len v c) ∙ sym (ap length (flat_map-append f before (c ∷ after)))
+
+-- it was marked
+pub marked_held : (h : Layout) (image new : List ℕ) (place : ℕ) (c : CredParts) → IsBytes image → IsBytes new → IsImage h image → LiveIn h image place c
+    → new ≡ splice image place (place + length (credential h.version c)) (credential h.version (add_mark c)) → Holds h new (with_mark (cache_of h image) place)
+marked_held h image new place c fits new_fits is live written =
+    let v = h.version in
+    let k = cache_of h image in
+    let f = credential v in
+    let kept = image_readable h image fits is in
+    let s = live.stands in
+    let d = with_mark k place in
+    let x = front_of k ++ flat_map f s.before in
+    let rest = flat_map f s.after ++ k.contents.end in
+    let spells = (image_parts h image fits is).spells in
+    let parts : image ≡ x ++ (f c ++ rest) = spells ∙ texts k s.before s.after c k.contents.end (ap (λ cs. record { cells = cs; end = k.contents.end }) s.parts) in
+    let len : length x ≡ place = omega (arith, length-append (front_of k) (flat_map f s.before), front_len k, s.place, end_is v (first_place k) s.before) in
+    let cells : d.contents.cells ≡ s.before ++ add_mark c ∷ s.after = ap (add_mark_at v (first_place k) place) s.parts ∙ marked_one v (first_place k) place s.before s.after c s.place in
+    let new_parts : image_of d ≡ x ++ (f (add_mark c) ++ rest) = texts d s.before s.after (add_mark c) k.contents.end (ap (λ cs. record { cells = cs; end = k.contents.end }) cells) in
+    let is_new : new ≡ image_of d = written ∙ ap (λ (b : List ℕ). splice b place (place + length (f c)) (f (add_mark c))) parts ∙ splice_part x (f c) (f (add_mark c)) rest place (place + length (f c)) (sym len) refl ∙ sym new_parts in
+    let same_len : length (image_of d) ≡ length (image_of k) =
+    ap length new_parts ∙ omega (arith, length-append x (f (add_mark c) ++ rest), length-append x (f c ++ rest), length-append (f (add_mark c)) rest, length-append (f c) rest, marked_len v c) ∙ sym (ap length parts) ∙ ap length spells in
+    let end : end_of (store_of d) ≡ end_of (store_of k) =
+    end_is v (first_place k) d.contents.cells ∙ ap (λ (n : ℕ). first_place k + n) (ap (λ cs. length (flat_map f cs)) cells ∙ same_text v s.before s.after c ∙ sym (ap (λ cs. length (flat_map f cs)) s.parts)) ∙ sym (end_is v (first_place k) k.contents.cells) in
+    let new_kept : IsReadable d = record {
+      header = kept.header;
+      principal = kept.principal;
+      cells = subst (AllByRecursion (FitsCredential v)) (sym cells) (all_replace (FitsCredential v) s.before s.after c (add_mark c) (subst (AllByRecursion (FitsCredential v)) s.parts kept.cells) (fits_marked v c));
+      end = kept.end;
+      within = omega (arith, same_len, kept.within);
+      limit_fits = kept.limit_fits;
+    } in
+    holds d h new new_kept new_fits is_new (layout_is h image fits is ∙ ap (λ (n : ℕ). record { version = v; limit = h.limit; places = record { principal = 2 + length (header v k.header); first = first_place k; end = n } }) (sym end))

@@ -1,0 +1,67 @@
+-- What is written before the credentials of a new cache.
+use Rattle.std.proofs.Common.{◌≡◌, ℕ, ◌+◌, ◌≤◌, false, Ok, List, [], ◌∷◌, ◌++◌, length, Some, Option, None, refl, sym, ap, subst, ◌∙◌, length-append, arith}
+use Rattle.std.specs.Prelude.{nat_lt}
+use Rattle.std.proofs.lemmas.Bool.{le-ltb}
+use Rattle.std.specs.Int.{w16, w32, cast_unsigned}
+use Rattle.std.proofs.lemmas.List.{append-nil}
+use Rattle.krb_wire.specs.declared.format.Order.TheVariants.{Big}
+use Rattle.krb_wire.specs.Spelling.{Parts, digits, cc_principal, FitsCc}
+use Rattle.krb_wire.proofs.Fields.{IsBytes}
+use Rattle.krb_walk.specs.Contents.{next_by}
+use Rattle.krb_ccache.specs.declared.version.Version.TheVariants.{V4}
+use Rattle.krb_ccache.specs.declared.offset.Offset.{Offset}
+use Rattle.krb_ccache.specs.Credential.{CredParts, number32}
+use Rattle.krb_ccache.specs.Header.{header, header_at, FitsHeader}
+use Rattle.krb_ccache.specs.Store.{image_of, first_place}
+use Rattle.krb_ccache.specs.Changes.{new_header, new_preamble, empty_cache, create_result}
+use Rattle.krb_ccache.specs.Open.{Holds}
+use Rattle.krb_ccache.proofs.Reopening.{header_again}
+use Rattle.krb_ccache.proofs.HeaderFields.{IsBytes-front, IsBytes-back}
+use Rattle.krb_ccache.proofs.CacheLemmas.{IsReadable, holds}
+use Rattle.krb_ccache.proofs.Splits.{no_credential}
+
+-- the header of an offset, number by number
+pub offset_text : (offset : Option Offset) (o : Offset) (s m : ℕ) → offset ≡ Some o → s ≡ cast_unsigned w32 o.seconds → m ≡ cast_unsigned w32 o.micros
+    → digits Big w16 12 ++ (digits Big w16 1 ++ (digits Big w16 8 ++ (number32 s ++ number32 m))) ≡ header V4 (new_header offset)
+offset_text offset o s m is is_s is_m = rw (is, is_s, is_m) refl
+
+-- a new header is read before anything
+fits_new : (offset : Option Offset) → FitsHeader V4 (new_header offset)
+fits_new None = (tt, omega arith)
+fits_new (Some o) = ((record { tag = omega arith; value = omega arith }, tt), omega arith)
+
+pub header_read : (offset : Option Offset) (rest : List ℕ) → IsBytes (header V4 (new_header offset)) → header_at V4 (header V4 (new_header offset) ++ rest) ≡ Some (new_header offset, rest)
+header_read offset rest fits = header_again V4 (new_header offset) rest (fits_new offset) fits
+
+-- ---- a new cache
+
+pub front_is : (p : Parts) (offset : Option Offset) (limit : ℕ) → image_of (empty_cache p offset limit) ≡ new_preamble p offset
+front_is p offset limit = ap (λ (b : List ℕ). 5 ∷ 4 ∷ (header V4 (new_header offset) ++ b)) (append-nil (cc_principal p))
+
+empty_readable : (p : Parts) (offset : Option Offset) (limit : ℕ) → FitsCc p → IsBytes (new_preamble p offset) → length (new_preamble p offset) ≤ limit → limit ≤ 1073741824 → IsReadable (empty_cache p offset limit)
+empty_readable p offset limit fit fits within small =
+    let named : IsBytes (header V4 (new_header offset) ++ cc_principal p) = IsBytes-back (5 ∷ 4 ∷ []) (header V4 (new_header offset) ++ cc_principal p) fits in
+    record {
+      header = λ rest. header_read offset rest (IsBytes-front (header V4 (new_header offset)) (cc_principal p) named);
+      principal = fit;
+      cells = tt;
+      end = ap (next_by {C = CredParts} []) (no_credential V4);
+      within = omega (arith, within, ap length (front_is p offset limit));
+      limit_fits = small;
+    }
+
+-- what was written is held as the new cache
+pub empty_held : (p : Parts) (offset : Option Offset) (limit : ℕ) (image : List ℕ) (principal first : ℕ) → FitsCc p → IsBytes image → image ≡ new_preamble p offset → length (new_preamble p offset) ≤ limit → limit ≤ 1073741824
+    → principal ≡ 2 + length (header V4 (new_header offset)) → first ≡ length (new_preamble p offset)
+    → Holds (record { version = V4; limit = limit; places = record { principal = principal; first = first; end = first } }) image (empty_cache p offset limit)
+empty_held p offset limit image principal first fit fits is within small is_principal is_first =
+    let k = empty_cache p offset limit in
+    let place : first ≡ first_place k = omega (arith, is_first, length-append (header V4 (new_header offset)) (cc_principal p)) in
+    holds k _ image (empty_readable p offset limit fit (subst IsBytes is fits) within small) fits (is ∙ sym (front_is p offset limit))
+    (ap (λ (n : ℕ). record { version = V4; limit = limit; places = record { principal = n; first = first; end = first } }) is_principal
+    ∙ ap (λ (n : ℕ). record { version = V4; limit = limit; places = record { principal = 2 + length (header V4 (new_header offset)); first = n; end = n } }) place)
+
+pub create_fits : (p : Parts) (offset : Option Offset) (limit : ℕ) → length (new_preamble p offset) ≤ limit → create_result p offset limit ≡ Ok (empty_cache p offset limit)
+create_fits p offset limit short =
+    let room : nat_lt limit (length (image_of (empty_cache p offset limit))) ≡ false = le-ltb _ _ (omega (arith, short, ap length (front_is p offset limit))) in
+    rw room refl

@@ -1,0 +1,66 @@
+-- A cache is what its image is opened as.
+use Rattle.std.proofs.Common.{◌≡◌, ℕ, false, List, [], ◌∷◌, ◌++◌, length, Some, None, Ok, refl, sym, ap, subst, ◌∙◌, arith}
+use Rattle.std.specs.Prelude.{nat_lt}
+use Rattle.std.specs.List.{flat_map, AllByRecursion}
+use Rattle.std.proofs.lemmas.Bool.{le-ltb}
+use Rattle.std.proofs.lemmas.List.{append-nil}
+use Rattle.std.specs.Int.{w16}
+use Rattle.krb_wire.specs.declared.format.Order.TheVariants.{Big}
+use Rattle.krb_wire.specs.Spelling.{digits, cc_principal}
+use Rattle.krb_wire.proofs.Fields.{IsBytes}
+use Rattle.krb_wire.proofs.Principals.{data16_field, cc_principal_field}
+use Rattle.krb_walk.specs.Contents.{Contents, NoMore, contents, spelling, next_by, IsCell}
+use Rattle.krb_walk.proofs.ContentsLemmas.{contents_again, unframed_cell}
+use Rattle.krb_ccache.specs.declared.version.Version.{Version}
+use Rattle.krb_ccache.specs.declared.version.Version.TheVariants.{V3, V4}
+use Rattle.krb_ccache.specs.Credential.{CredParts}
+use Rattle.krb_ccache.specs.Header.{Field, field, FitsField, header, FitsHeader, field_at, fields_format, only_cells, fields_in, header_at}
+use Rattle.krb_ccache.specs.Store.{CacheState, credentials_format, version_byte, version_in, image_of, open_default, open_header, open_result}
+use Rattle.krb_ccache.specs.Laws.{IsSoundCache}
+use Rattle.krb_ccache.proofs.HeaderFields.{field_field, fields_are, IsBytes-front, IsBytes-back}
+use Rattle.krb_ccache.proofs.CellLemmas.{credentials_are}
+
+no_field : field_at [] ≡ None
+unfolding field_at
+no_field = refl
+
+all_fields : (xs : List Field) → AllByRecursion FitsField xs → AllByRecursion (IsCell fields_format) xs
+all_fields [] fit = tt
+all_fields (x ∷ xs) fit = (unframed_cell field_field x fit.0, all_fields xs fit.1)
+
+-- the fields of a header fill it
+fields_again : (xs : List Field) → AllByRecursion FitsField xs → IsBytes (flat_map field xs) → fields_in (flat_map field xs) ≡ Some xs
+fields_again xs fit fits =
+    let k : Contents Field (List ℕ) = record { cells = xs; end = [] } in
+    let text : flat_map field xs ≡ spelling fields_format k = sym (append-nil (flat_map field xs)) in
+    let end : next_by {C = Field} [] (field_at []) ≡ NoMore [] = ap (next_by {C = Field} []) no_field in
+    let again = contents_again fields_format k fields_are (record { cells = all_fields xs fit; end = end }) (subst IsBytes text fits) in
+    ap (λ (b : List ℕ). only_cells (contents fields_format b).cells (contents fields_format b).end) text ∙ ap (λ (c : Contents Field (List ℕ)). only_cells c.cells c.end) again
+
+pub header_again : (v : Version) (xs : List Field) (rest : List ℕ) → FitsHeader v xs → IsBytes (header v xs) → header_at v (header v xs ++ rest) ≡ Some (xs, rest)
+unfolding header_at
+header_again V3 xs rest fit fits = ap (λ (y : List Field). Some (y, rest)) (sym fit)
+header_again V4 xs rest fit fits =
+    let text = flat_map field xs in
+    rw ((data16_field Big).again text rest fit.1, fields_again xs fit.0 (IsBytes-back (digits Big w16 (length text)) text fits)) refl
+
+version_again : (v : Version) (rest : List ℕ) → version_in (5 ∷ version_byte v ∷ rest) ≡ Some v
+version_again V3 rest = refl
+version_again V4 rest = refl
+
+pub opened_again : (k : CacheState) → IsSoundCache k → IsBytes (image_of k) → open_result k.limit (image_of k) ≡ Ok k
+opened_again k sound fits =
+    let v = k.version in
+    let text = spelling (credentials_format v) k.contents in
+    let named = cc_principal k.principal ++ text in
+    let rest = header v k.header ++ named in
+    let rest_fits : IsBytes rest = IsBytes-back (5 ∷ version_byte v ∷ []) rest fits in
+    let text_fits : IsBytes text = IsBytes-back (cc_principal k.principal) text (IsBytes-back (header v k.header) named rest_fits) in
+    let long : nat_lt (length (image_of k)) 2 ≡ false = le-ltb _ _ (omega arith) in
+    let within : nat_lt k.limit (length (image_of k)) ≡ false = le-ltb _ _ sound.within in
+    let same : contents (credentials_format v) text ≡ k.contents = contents_again (credentials_format v) k.contents (credentials_are v) sound.contents text_fits in
+    rw (long, version_again v rest, within) (
+    ap (open_header v k.limit) (header_again v k.header named sound.header (IsBytes-front (header v k.header) named rest_fits))
+    ∙ ap (open_default v k.limit k.header) (cc_principal_field.again k.principal text sound.principal)
+    ∙ ap (λ (c : Contents CredParts (List ℕ)). Ok (record { version = v; limit = k.limit; header = k.header; principal = k.principal; contents = c })) same
+    )

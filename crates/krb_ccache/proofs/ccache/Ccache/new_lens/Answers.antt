@@ -1,0 +1,24 @@
+use Rattle.std.proofs.Common.{ap, arith}
+use Rattle.krb_ccache.specs.Open.{InMemory}
+use Rattle.krb_ccache.proofs.Rewrites.{is_new_image}
+use Rattle.krb_ccache.proofs.ccache.Ccache.new_lens.Goals as goal
+
+pub returns-in_err-room-clause-none : goal.returns-in_err-room-clause-none
+returns-in_err-room-clause-none g c =
+    let i = c.self.inside in
+    let s = is_new_image i.layout i.image.items c.deref.result.now c.tail-cells.result.now c.default_principal.result c.offset.result c.args.self.now.state (ap (λ (m : InMemory). m.state) c.self.view_is) c.deref.ensures.value c.tail-cells.ensures c.default_principal.ensures c.offset.ensures in
+    let total = s.total in
+    let limit = s.limit in
+    let front = c.in_ok-front.ensures.some in
+    let none = c.in_err-room.ensures.none in
+    rw c.from_residual-in_err-room.ensures (omega (arith, total, limit, front, none))
+
+pub returns-clause-len : goal.returns-clause-len
+returns-clause-len g c =
+    let i = c.self.inside in
+    let s = is_new_image i.layout i.image.items c.deref.result.now c.tail-cells.result.now c.default_principal.result c.offset.result c.args.self.now.state (ap (λ (m : InMemory). m.state) c.self.view_is) c.deref.ensures.value c.tail-cells.ensures c.default_principal.ensures c.offset.ensures in
+    let total = s.total in
+    let front = c.in_ok-front.ensures.some in
+    let within = c.in_ok-front.ensures.within in
+    let room = c.in_ok-room.ensures.some in
+    omega (arith, total, front, within, room)

@@ -1,7 +1,0 @@
-use Rattle.std.proofs.Common.{◌≡◌, ◌-◌}
-use Rattle.krb_wire.specs.Reading.{list_end}
-use Rattle.krb_ccache.specs.Credential.{typed_at}
-use Rattle.krb_ccache.proofs.credential.lists.skip_items.Given as goal
-
-abbrev pub invariant-loop : goal.invariant-loop
-invariant-loop l = list_end typed_at (l.count - l.counter) l.rest ≡ list_end typed_at l.count l.bytes

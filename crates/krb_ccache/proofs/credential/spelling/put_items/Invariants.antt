@@ -1,0 +1,12 @@
+use Rattle.std.proofs.Common.{drop}
+use Rattle.std.specs.List.{flat_map, AllByRecursion}
+use Rattle.krb_wire.proofs.PenLemmas.{Left}
+use Rattle.krb_ccache.specs.Credential.{typed_data, FitsTypedData, owned_list}
+use Rattle.krb_ccache.proofs.credential.spelling.put_items.Given as goal
+
+-- with the items that are still to come, all is written
+abbrev pub invariant-loop-kind : goal.invariant-loop-kind
+invariant-loop-kind g l = record {
+  fits : AllByRecursion FitsTypedData (owned_list (drop l.kind-index l.fn.items));
+  left : Left (flat_map typed_data (owned_list l.fn.items)) (flat_map typed_data (owned_list (drop l.kind-index l.fn.items))) l.fn.pen l.pen;
+}

@@ -1,0 +1,12 @@
+use Rattle.std.proofs.Common.{◌≡◌, ◌+◌, ◌≤◌, length, drop}
+use Rattle.std.specs.List.{flat_map, AllByRecursion}
+use Rattle.krb_ccache.specs.Credential.{typed_data, FitsTypedData, owned_list}
+use Rattle.krb_ccache.proofs.credential.spelling.room_after.Given as goal
+
+-- what the items so far left, and what is still to come
+abbrev pub invariant-loop-kind : goal.invariant-loop-kind
+invariant-loop-kind g l = record {
+  within : l.room ≤ l.fn.room;
+  left : l.room + length (flat_map typed_data (owned_list l.fn.items)) ≡ l.fn.room + length (flat_map typed_data (owned_list (drop l.kind-index l.fn.items)));
+  fits : AllByRecursion FitsTypedData (owned_list (drop l.kind-index l.fn.items)) → AllByRecursion FitsTypedData (owned_list l.fn.items);
+}

@@ -1,0 +1,15 @@
+use Rattle.std.proofs.Common.{length}
+use Rattle.krb_wire.proofs.PenLemmas.{Left}
+use Rattle.krb_ccache.specs.Laws.{AreBytes}
+use Rattle.krb_ccache.specs.NewImage.{new_texts}
+use Rattle.krb_ccache.proofs.new_image.put_texts.Given as goal
+
+-- with those that are still to come, all is written
+abbrev pub invariant-loop-first : goal.invariant-loop-first
+invariant-loop-first l = record {
+  left : Left (new_texts l.version l.bytes) (new_texts l.version l.rest) l.fn.pen l.pen;
+  fits : AreBytes l.rest;
+}
+
+abbrev pub decreases-loop-first : goal.decreases-loop-first
+decreases-loop-first l = length l.rest

@@ -1,0 +1,15 @@
+use Rattle.std.proofs.Common.{◌≡◌, ◌+◌, ◌≤◌, length}
+use Rattle.krb_ccache.specs.Laws.{AreBytes}
+use Rattle.krb_ccache.specs.NewImage.{new_texts}
+use Rattle.krb_ccache.proofs.new_image.room_after_texts.Given as goal
+
+-- what those so far left, and what is still to come
+abbrev pub invariant-loop-first : goal.invariant-loop-first
+invariant-loop-first l = record {
+  within : l.room ≤ l.fn.room;
+  left : l.room + length (new_texts l.version l.bytes) ≡ l.fn.room + length (new_texts l.version l.rest);
+  fits : AreBytes l.rest;
+}
+
+abbrev pub decreases-loop-first : goal.decreases-loop-first
+decreases-loop-first l = length l.rest

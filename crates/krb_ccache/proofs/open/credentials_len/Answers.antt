@@ -1,0 +1,29 @@
+use Rattle.std.proofs.Common.{arith}
+use Rattle.krb_ccache.proofs.CellLemmas.{read_left}
+use Rattle.krb_ccache.proofs.PlaceLemmas.{len_step, len_end}
+use Rattle.krb_ccache.proofs.open.credentials_len.Goals as goal
+
+pub loop-after-init : goal.loop-after-init
+loop-after-init c = record { all = omega arith; within = omega arith; fits = λ i. omega (arith, c.type_inv.bytes i) }
+
+pub loop-after-smaller : goal.loop-after-smaller
+loop-after-smaller c = (read_left c.args.version c.loop-after.rest.now _ c.in-Some.after.now c.loop-after.invariant.fits c.in-Some.ensures).1
+
+pub loop-after-preserved : goal.loop-after-preserved
+loop-after-preserved c =
+    let step = len_step c.args.version c.loop-after.rest.now _ c.in-Some.after.now c.loop-after.invariant.fits c.in-Some.ensures in
+    let less = (read_left c.args.version c.loop-after.rest.now _ c.in-Some.after.now c.loop-after.invariant.fits c.in-Some.ensures).1 in
+    let all = c.loop-after.invariant.all in
+    let within = c.loop-after.invariant.within in
+    record {
+      all = omega (arith, step, all);
+      within = omega (arith, less, within);
+      fits = (read_left c.args.version c.loop-after.rest.now _ c.in-Some.after.now c.loop-after.invariant.fits c.in-Some.ensures).0;
+    }
+
+pub returns-clause-value : goal.returns-clause-value
+returns-clause-value c =
+    let none = len_end c.args.version c.loop-after.rest.now c.loop-after.invariant.fits c.in_default.ensures in
+    let all = c.loop-after.invariant.all in
+    let within = c.loop-after.invariant.within in
+    omega (arith, none, all, within)

@@ -1,0 +1,170 @@
+//! Credentials as version 4 spells them.
+
+ghost use Rattle.std.specs.Prelude.{◌≡◌, ◌≤◌, ◌<◌, ◌^◌, ◌+◌, length, IfSome, IfNone};
+ghost use Rattle.std.specs.List.{flat_map, AllByRecursion};
+ghost use Rattle.krb_wire.specs.Pen.{HasRoom, Puts};
+ghost use Rattle.krb_wire.specs.Spelling.{IsLong};
+ghost use Rattle.krb_ccache.specs.declared.version.Version.TheVariants.{V4};
+ghost use Rattle.krb_ccache.specs.Credential.{typed_data, typed_list, key, times, credential, FitsTypedData, FitsTypedList, FitsKey, FitsTimes, FitsCredential, owned_list, plain_key, middle_text, lists_text};
+
+use crate::credential::Cred;
+use crate::credential::times::Times;
+use krb_wire::{Order, Pen, cc_principal_len};
+use std::alloc::Allocator;
+
+// How much room items leave, if they fit it.
+fn room_after<A: Allocator>(room: usize, items: &[(u16, Vec<u8, A>)]) -> Option<usize>
+    requires { room ≤ 2 ^ 30 }
+    ensures some { IfSome result (λ n. n + length (flat_map typed_data (owned_list items.now)) ≡ room) }
+    ensures fits { IfSome result (λ n. AllByRecursion FitsTypedData (owned_list items.now)) }
+    ensures none { IfNone result (room < length (flat_map typed_data (owned_list items.now))) }
+{
+    let mut room = room;
+    for (kind, bytes) in items {
+        let _kind = *kind;
+        room = room.checked_sub(6)?;
+        room = room.checked_sub(bytes.len())?;
+    }
+    Some(room)
+}
+
+// Writes a key with its enctype.
+fn put_key(enctype: u16, bytes: &[u8], pen: &mut Pen<'_>)
+    requires long { IsLong bytes.now }
+    requires room { HasRoom pen.old (key V4 (plain_key enctype bytes.now)) }
+    ensures { Puts pen.old pen.new (key V4 (plain_key enctype bytes.now)) }
+{
+    pen.put_u16(Order::Big, enctype);
+    pen.put_data32(Order::Big, bytes);
+}
+
+// Writes the four times.
+fn put_times(all: Times, pen: &mut Pen<'_>)
+    requires { HasRoom pen.old (times all) }
+    ensures { Puts pen.old pen.new (times all) }
+{
+    pen.put_u32(Order::Big, all.authtime);
+    pen.put_u32(Order::Big, all.starttime);
+    pen.put_u32(Order::Big, all.endtime);
+    pen.put_u32(Order::Big, all.renew_till);
+}
+
+// Writes an item.
+fn put_item(kind: u16, bytes: &[u8], pen: &mut Pen<'_>)
+    requires long { IsLong bytes.now }
+    requires room { HasRoom pen.old (typed_data (record { kind = kind; bytes = bytes.now })) }
+    ensures { Puts pen.old pen.new (typed_data (record { kind = kind; bytes = bytes.now })) }
+{
+    pen.put_u16(Order::Big, kind);
+    pen.put_data32(Order::Big, bytes);
+}
+
+// Writes items.
+fn put_items<A: Allocator>(items: &[(u16, Vec<u8, A>)], pen: &mut Pen<'_>)
+    requires fits { AllByRecursion FitsTypedData (owned_list items.now) }
+    requires room { HasRoom pen.old (flat_map typed_data (owned_list items.now)) }
+    ensures { Puts pen.old pen.new (flat_map typed_data (owned_list items.now)) }
+{
+    for (kind, bytes) in items {
+        put_item(*kind, bytes, pen);
+    }
+}
+
+// Writes how many items there are, and the items.
+fn put_list<A: Allocator>(items: &[(u16, Vec<u8, A>)], pen: &mut Pen<'_>)
+    requires fits { FitsTypedList (owned_list items.now) }
+    requires room { HasRoom pen.old (typed_list (owned_list items.now)) }
+    ensures { Puts pen.old pen.new (typed_list (owned_list items.now)) }
+{
+    pen.put_u32(Order::Big, items.len() as u32);
+    put_items(items, pen);
+}
+
+// Numbers of these types are below their types' ends.
+fn in_range(client: u32, server: u32, enctype: u16, is_skey: u8, flags: u32, all: Times)
+    ensures client { client < 2 ^ 32 }
+    ensures server { server < 2 ^ 32 }
+    ensures enctype { enctype < 2 ^ 16 }
+    ensures is_skey { is_skey < 256 }
+    ensures flags { flags < 2 ^ 32 }
+    ensures times { FitsTimes all }
+{}
+
+impl<A: Allocator> Cred<A> {
+    // Each number is below its type's end.
+    fn numbers_fit(&self)
+        ensures client { self.now.client.name_type < 2 ^ 32 }
+        ensures server { self.now.server.name_type < 2 ^ 32 }
+        ensures enctype { self.now.key.enctype < 2 ^ 16 }
+        ensures is_skey { self.now.is_skey < 256 }
+        ensures flags { self.now.flags < 2 ^ 32 }
+        ensures times { FitsTimes self.now.times }
+    {
+        let client = self.client.name_type;
+        let server = self.server.name_type;
+        in_range(
+            client,
+            server,
+            self.enctype,
+            self.is_skey,
+            self.flags,
+            self.times(),
+        );
+    }
+
+    // How many bytes it is spelled in, if these are not too many.
+    pub(crate) fn len_within(&self, most: usize) -> Option<usize>
+        requires { most ≤ 2 ^ 30 }
+        ensures some { IfSome result (λ n. n ≡ length (credential V4 self.now)) }
+        ensures within { IfSome result (λ n. n ≤ most) }
+        ensures fits { IfSome result (λ n. FitsCredential V4 self.now) }
+        ensures none { IfNone result (most < length (credential V4 self.now)) }
+    {
+        self.numbers_fit();
+        let room = most.checked_sub(43)?;
+        let room = room.checked_sub(cc_principal_len(&self.client)? as usize)?;
+        let room = room.checked_sub(cc_principal_len(&self.server)? as usize)?;
+        let room = room.checked_sub(self.key.len())?;
+        let room = room_after(room, &self.addresses)?;
+        let room = room_after(room, &self.authdata)?;
+        let room = room.checked_sub(self.ticket.len())?;
+        let room = room.checked_sub(self.second_ticket.len())?;
+        Some(most - room)
+    }
+
+    // Writes what stands between its names and its lists.
+    fn put_middle(&self, pen: &mut Pen<'_>)
+        requires fits { FitsKey V4 self.now.key }
+        requires room { HasRoom pen.old (middle_text self.now) }
+        ensures { Puts pen.old pen.new (middle_text self.now) }
+    {
+        put_key(self.enctype, &self.key, pen);
+        put_times(self.times(), pen);
+        pen.put_u8(self.is_skey);
+        pen.put_u32(Order::Big, self.flags);
+    }
+
+    // Writes its lists and tickets.
+    fn put_lists(&self, pen: &mut Pen<'_>)
+        requires fits { FitsCredential V4 self.now }
+        requires room { HasRoom pen.old (lists_text self.now) }
+        ensures { Puts pen.old pen.new (lists_text self.now) }
+    {
+        put_list(&self.addresses, pen);
+        put_list(&self.authdata, pen);
+        pen.put_data32(Order::Big, &self.ticket);
+        pen.put_data32(Order::Big, &self.second_ticket);
+    }
+
+    // Writes it.
+    pub(crate) fn put(&self, pen: &mut Pen<'_>)
+        requires fits { FitsCredential V4 self.now }
+        requires room { HasRoom pen.old (credential V4 self.now) }
+        ensures { Puts pen.old pen.new (credential V4 self.now) }
+    {
+        pen.put_cc_principal(&self.client);
+        pen.put_cc_principal(&self.server);
+        self.put_middle(pen);
+        self.put_lists(pen);
+    }
+}
