@@ -2,4 +2,5 @@
 pub mod Bytes
 pub mod Files
 pub mod MemFiles
+pub mod Phrases
 pub mod Reader

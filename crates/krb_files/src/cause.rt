@@ -1,5 +1,18 @@
 //! What a file call failed with.
 
+ghost use Rattle.std.specs.Prelude.{◌≡◌, Some, unsigned_abs};
+ghost use Rattle.krb_files.specs.Phrases.{cause_phrase, cause_text};
+
+use std::error::Error;
+use std::fmt;
+use std::io::{self, ErrorKind};
+
+/// The number of ENOLCK.
+const NO_LOCK: i32 = 37;
+
+/// The number of EIO.
+const INPUT_OUTPUT: i32 = 5;
+
 /// What a load or a save failed with.
 #[derive(Clone, Copy, Debug, PartialEq, Eq)]
 pub enum Cause {
@@ -38,3 +51,83 @@ pub enum Cause {
     /// Any other error of the system, by its number.
     System(i32),
 }
+
+impl Cause {
+    /// What it is, in words. The number of an error of the system comes behind them.
+    pub fn phrase(self) -> &'static str
+        ensures { result.now ≡ cause_phrase self }
+    {
+        match self {
+            Cause::PermissionDenied => "permission denied",
+            Cause::NoDirectory => "no such directory",
+            Cause::NotADirectory => "not a directory",
+            Cause::IsADirectory => "is a directory",
+            Cause::NotAPlainFile => "not a plain file",
+            Cause::TooManyLinks => "too many links",
+            Cause::BadLink => "a link that cannot be followed",
+            Cause::NoName => "the file has no name any more",
+            Cause::NoSpace => "no space left",
+            Cause::QuotaExceeded => "quota exceeded",
+            Cause::ReadOnly => "read-only file system",
+            Cause::MountPoint => "a mount point cannot be replaced",
+            Cause::NameTooLong => "the name is too long",
+            Cause::FileTooLarge => "file too large for the file system",
+            Cause::InputOutput => "input/output error",
+            Cause::Interrupted => "interrupted",
+            Cause::BrokenPipe => "broken pipe",
+            Cause::InUse => "in use by another program",
+            Cause::Changed => "changed by another program; nothing was saved",
+            Cause::NameOfSaves => "a name that ends in .krbfile is kept for saves",
+            Cause::InTheWay => "the name of its new file is taken",
+            Cause::OwnerNotKept => "the owner cannot be kept",
+            Cause::NoLock => "no lock can be had",
+            Cause::System(_) => "error ",
+        }
+    }
+}
+
+// What a call failed with, by its number. Where it has none, the system did not say why.
+fn cause_of_number(number: Option<i32>) -> Cause {
+    match number {
+        None | Some(INPUT_OUTPUT) => Cause::InputOutput,
+        Some(NO_LOCK) => Cause::NoLock,
+        Some(other) => Cause::System(other),
+    }
+}
+
+// A name under which there is nothing is a directory's: a missing file is no failure.
+impl From<&io::Error> for Cause {
+    fn from(error: &io::Error) -> Cause {
+        match error.kind() {
+            ErrorKind::PermissionDenied => Cause::PermissionDenied,
+            ErrorKind::NotFound => Cause::NoDirectory,
+            ErrorKind::NotADirectory => Cause::NotADirectory,
+            ErrorKind::IsADirectory => Cause::IsADirectory,
+            ErrorKind::FilesystemLoop => Cause::TooManyLinks,
+            ErrorKind::StorageFull => Cause::NoSpace,
+            ErrorKind::QuotaExceeded => Cause::QuotaExceeded,
+            ErrorKind::ReadOnlyFilesystem => Cause::ReadOnly,
+            ErrorKind::InvalidFilename => Cause::NameTooLong,
+            ErrorKind::FileTooLarge => Cause::FileTooLarge,
+            ErrorKind::Interrupted => Cause::Interrupted,
+            ErrorKind::BrokenPipe => Cause::BrokenPipe,
+            _ => cause_of_number(error.raw_os_error()),
+        }
+    }
+}
+
+impl fmt::Display for Cause {
+    ghost output = { λ cause. Some (cause_text cause) };
+
+    fn fmt<W: fmt::Write>(&self, f: &mut fmt::Formatter<W>) -> fmt::Result {
+        match self {
+            Cause::System(number) => {
+                let number = number.unsigned_abs();
+                write!(f, "error {number}")
+            }
+            cause => f.write_str(cause.phrase()),
+        }
+    }
+}
+
+impl Error for Cause {}

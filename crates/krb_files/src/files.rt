@@ -2,32 +2,78 @@
 
 ghost use Rattle.std.specs.Prelude.{◌≡◌, ◌≤◌, ◌⊎◌, ℕ, ◌-◌, ◌^◌, List, Result, Ok, Err, OnOk, OnErr, IfOk, IfErr, IsErrOf};
 ghost use Rattle.krb_files.specs.Files.{FileMap, SameFiles, SetsFile, CountsFailure, answer_of, loaded};
+ghost use Rattle.krb_files.specs.Phrases.{load_phrase, save_phrase};
 
 use crate::cause::Cause;
 use std::alloc::Allocator;
-use thiserror::Error;
+use std::error::Error;
+use std::fmt;
 
 /// Why a file was not loaded.
-#[derive(Clone, Copy, Debug, PartialEq, Eq, Error)]
+#[derive(Clone, Copy, Debug, PartialEq, Eq)]
 pub enum LoadFault {
-    #[error("no such file")]
     Missing,
-    #[error("file too large")]
     TooLarge,
-    #[error("cannot read")]
     Failed,
-    #[error("out of memory")]
     NoMemory,
 }
 
+impl LoadFault {
+    /// What it is, in words.
+    pub fn phrase(self) -> &'static str
+        ensures { result.now ≡ load_phrase self }
+    {
+        match self {
+            LoadFault::Missing => "no such file",
+            LoadFault::TooLarge => "file too large",
+            LoadFault::Failed => "cannot read",
+            LoadFault::NoMemory => "out of memory",
+        }
+    }
+}
+
+impl fmt::Display for LoadFault {
+    ghost use Rattle.std.specs.Prelude.{Some};
+
+    ghost output = { λ fault. Some (load_phrase fault) };
+
+    fn fmt<W: fmt::Write>(&self, f: &mut fmt::Formatter<W>) -> fmt::Result {
+        f.write_str(self.phrase())
+    }
+}
+
+impl Error for LoadFault {}
+
 /// Why a file was not saved.
-#[derive(Clone, Copy, Debug, PartialEq, Eq, Error)]
+#[derive(Clone, Copy, Debug, PartialEq, Eq)]
 pub enum SaveFault {
-    #[error("cannot write")]
     Failed,
-    #[error("out of memory")]
     NoMemory,
 }
+
+impl SaveFault {
+    /// What it is, in words.
+    pub fn phrase(self) -> &'static str
+        ensures { result.now ≡ save_phrase self }
+    {
+        match self {
+            SaveFault::Failed => "cannot write",
+            SaveFault::NoMemory => "out of memory",
+        }
+    }
+}
+
+impl fmt::Display for SaveFault {
+    ghost use Rattle.std.specs.Prelude.{Some};
+
+    ghost output = { λ fault. Some (save_phrase fault) };
+
+    fn fmt<W: fmt::Write>(&self, f: &mut fmt::Formatter<W>) -> fmt::Result {
+        f.write_str(self.phrase())
+    }
+}
+
+impl Error for SaveFault {}
 
 /// Files by name. What is said of their bytes holds while the files are honest.
 pub trait Files {

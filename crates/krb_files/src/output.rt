@@ -4,21 +4,45 @@ ghost use Rattle.std.specs.Prelude.{◌≡◌, [], is_err, OnOk, OnErr, IfErr};
 ghost use Rattle.std.specs.Io.KnownBytes.{Appends};
 ghost use Rattle.krb_files.specs.declared.output.OutFault.TheVariants.{NoMemory as OutOfMemory};
 ghost use Rattle.krb_files.specs.Bytes.{AppendsPrefix};
+ghost use Rattle.krb_files.specs.Phrases.{out_phrase};
 
 use crate::watched::Watched;
 use krb_wire::NoMemory;
+use std::error::Error;
+use std::fmt;
 use std::io::Write;
-use thiserror::Error;
 
 /// Why a text was not written.
-#[derive(Clone, Copy, Debug, PartialEq, Eq, Error)]
+#[derive(Clone, Copy, Debug, PartialEq, Eq)]
 pub enum OutFault {
     /// The writer failed, or took no byte.
-    #[error("cannot write")]
     Write,
-    #[error("out of memory")]
     NoMemory,
 }
+
+impl OutFault {
+    /// What it is, in words.
+    pub fn phrase(self) -> &'static str
+        ensures { result.now ≡ out_phrase self }
+    {
+        match self {
+            OutFault::Write => "cannot write",
+            OutFault::NoMemory => "out of memory",
+        }
+    }
+}
+
+impl fmt::Display for OutFault {
+    ghost use Rattle.std.specs.Prelude.{Some};
+
+    ghost output = { λ fault. Some (out_phrase fault) };
+
+    fn fmt<W: fmt::Write>(&self, f: &mut fmt::Formatter<W>) -> fmt::Result {
+        f.write_str(self.phrase())
+    }
+}
+
+impl Error for OutFault {}
 
 impl From<NoMemory> for OutFault {
     ghost from_gives = { λ _ fault. fault ≡ OutOfMemory };

@@ -3,6 +3,7 @@
 ghost use Rattle.std.specs.Prelude.{◌≡◌, ◌<◌, ◌≤◌, length, take, IsTrue, IsFalse, MatchOption};
 ghost use Rattle.std.specs.Io.KnownBytes.{Appends, Keeps};
 
+use crate::cause::Cause;
 use std::io::Write;
 use std::marker::Model;
 
@@ -12,6 +13,7 @@ use std::marker::Model;
 pub struct Watched<W: Write> {
     writer: W,
     failed: bool,
+    cause: Option<Cause>,
 }
 
 impl<W: Write> Model for Watched<W> {
@@ -31,6 +33,7 @@ impl<W: Write> Watched<W> {
         Watched {
             writer,
             failed: false,
+            cause: None,
         }
     }
 
@@ -39,6 +42,11 @@ impl<W: Write> Watched<W> {
         ensures { result ≡ self.now.failed }
     {
         self.failed
+    }
+
+    /// What the last write that failed with an error failed with.
+    pub fn cause(&self) -> Option<Cause> {
+        self.cause
     }
 
     /// Makes one write: the number of bytes that were taken, or none where it failed.
@@ -51,8 +59,13 @@ impl<W: Write> Watched<W> {
     {
         match self.writer.write(bytes) {
             Ok(n) if n > 0 => Some(n),
-            _ => {
+            Ok(_) => {
                 self.failed = true;
+                None
+            }
+            Err(error) => {
+                self.failed = true;
+                self.cause = Some(Cause::from(&error));
                 None
             }
         }

@@ -3,6 +3,7 @@
 ghost use Rattle.std.specs.Prelude.{◌≡◌, ◌<◌, ◌≤◌, length, take, IsTrue, IsFalse, MatchOption};
 ghost use Rattle.std.specs.Io.KnownBytes.{Consumes, IsAtEnd, Keeps};
 
+use crate::cause::Cause;
 use std::io::Read;
 use std::marker::Model;
 
@@ -12,6 +13,7 @@ use std::marker::Model;
 pub struct WatchedReader<R: Read> {
     reader: R,
     failed: bool,
+    cause: Option<Cause>,
 }
 
 impl<R: Read> Model for WatchedReader<R> {
@@ -31,6 +33,7 @@ impl<R: Read> WatchedReader<R> {
         WatchedReader {
             reader,
             failed: false,
+            cause: None,
         }
     }
 
@@ -39,6 +42,11 @@ impl<R: Read> WatchedReader<R> {
         ensures { R.remaining result ≡ self.left }
     {
         self.reader
+    }
+
+    /// What the last read that failed failed with.
+    pub fn cause(&self) -> Option<Cause> {
+        self.cause
     }
 
     /// Makes one read: how many bytes it gave, which is 0 at the end, or none where it failed.
@@ -51,8 +59,9 @@ impl<R: Read> WatchedReader<R> {
     {
         match self.reader.read(bytes) {
             Ok(n) => Some(n),
-            Err(_) => {
+            Err(error) => {
                 self.failed = true;
+                self.cause = Some(Cause::from(&error));
                 None
             }
         }

@@ -1,6 +1,6 @@
 //! Bytes into a writer.
 
-ghost use Rattle.std.specs.Prelude.{◌≡◌, ◌<◌, length, take, OnOk, IfErr};
+ghost use Rattle.std.specs.Prelude.{◌<◌, length, take, OnOk, IfErr};
 ghost use Rattle.std.specs.Io.KnownBytes.{Appends};
 
 use std::io::Write;

@@ -1,7 +1,5 @@
 //! Files that other programs have locked.
 
-ghost use Rattle.std.specs.Prelude.{◌≡◌};
-
 use crate::fault::{DiskFault, ReadFault};
 use crate::looks::{Found, Looks};
 use crate::read::read_file;

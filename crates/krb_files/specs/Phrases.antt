@@ -1,0 +1,59 @@
+-- The phrases that say in words why a file was not loaded or saved.
+use Rattle.std.specs.Prelude.{ℕ, List, ◌++◌, codes, decimal, unsigned_abs}
+use Rattle.krb_files.specs.declared.cause.Cause.{Cause}
+use Rattle.krb_files.specs.declared.cause.Cause.TheVariants.{PermissionDenied, NoDirectory, NotADirectory, IsADirectory, NotAPlainFile, TooManyLinks, BadLink, NoName, NoSpace, QuotaExceeded, ReadOnly, MountPoint, NameTooLong, FileTooLarge, InputOutput, Interrupted, BrokenPipe, InUse, Changed, NameOfSaves, InTheWay, OwnerNotKept, NoLock, System}
+use Rattle.krb_files.specs.declared.files.LoadFault.{LoadFault}
+use Rattle.krb_files.specs.declared.files.LoadFault.TheVariants as load
+use Rattle.krb_files.specs.declared.files.SaveFault.{SaveFault}
+use Rattle.krb_files.specs.declared.files.SaveFault.TheVariants as save
+use Rattle.krb_files.specs.declared.output.OutFault.{OutFault}
+use Rattle.krb_files.specs.declared.output.OutFault.TheVariants as out
+
+-- why a file was not loaded
+abbrev pub load_phrase : LoadFault → List ℕ
+load_phrase load.Missing = codes "no such file"
+load_phrase load.TooLarge = codes "file too large"
+load_phrase load.Failed = codes "cannot read"
+load_phrase load.NoMemory = codes "out of memory"
+
+-- why a file was not saved
+abbrev pub save_phrase : SaveFault → List ℕ
+save_phrase save.Failed = codes "cannot write"
+save_phrase save.NoMemory = codes "out of memory"
+
+-- why a text was not written
+abbrev pub out_phrase : OutFault → List ℕ
+out_phrase out.Write = codes "cannot write"
+out_phrase out.NoMemory = codes "out of memory"
+
+-- what a call failed with; the number of an error without words of its own comes behind its phrase
+abbrev pub cause_phrase : Cause → List ℕ
+cause_phrase PermissionDenied = codes "permission denied"
+cause_phrase NoDirectory = codes "no such directory"
+cause_phrase NotADirectory = codes "not a directory"
+cause_phrase IsADirectory = codes "is a directory"
+cause_phrase NotAPlainFile = codes "not a plain file"
+cause_phrase TooManyLinks = codes "too many links"
+cause_phrase BadLink = codes "a link that cannot be followed"
+cause_phrase NoName = codes "the file has no name any more"
+cause_phrase NoSpace = codes "no space left"
+cause_phrase QuotaExceeded = codes "quota exceeded"
+cause_phrase ReadOnly = codes "read-only file system"
+cause_phrase MountPoint = codes "a mount point cannot be replaced"
+cause_phrase NameTooLong = codes "the name is too long"
+cause_phrase FileTooLarge = codes "file too large for the file system"
+cause_phrase InputOutput = codes "input/output error"
+cause_phrase Interrupted = codes "interrupted"
+cause_phrase BrokenPipe = codes "broken pipe"
+cause_phrase InUse = codes "in use by another program"
+cause_phrase Changed = codes "changed by another program; nothing was saved"
+cause_phrase NameOfSaves = codes "a name that ends in .krbfile is kept for saves"
+cause_phrase InTheWay = codes "the name of its new file is taken"
+cause_phrase OwnerNotKept = codes "the owner cannot be kept"
+cause_phrase NoLock = codes "no lock can be had"
+cause_phrase (System number) = codes "error "
+
+-- a phrase, and the number behind it
+abbrev pub cause_text : Cause → List ℕ
+cause_text (System number) = codes "error " ++ decimal (unsigned_abs number)
+cause_text cause = cause_phrase cause
