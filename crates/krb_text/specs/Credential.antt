@@ -1,7 +1,7 @@
 -- The lines of a credential in the listing of a cache.
 use Rattle.std.specs.Prelude.{ℕ, ◌==◌, List, [], ◌++◌, codes, Bool, if◌then◌else◌, Option, None, Some}
 use Rattle.krb_wire.specs.Names.{name_text}
-use Rattle.krb_ccache.specs.declared.times.Times.{Times}
+use Rattle.krb_ccache.specs.declared.credential.times.Times.{Times}
 use Rattle.krb_ccache.specs.Credential.{CredParts}
 use Rattle.krb_ccache.specs.Config.{ConfigParts, config_name}
 use Rattle.krb_text.specs.declared.columns.CcColumns.{CcColumns}

@@ -1,5 +1,5 @@
 -- What is wrong with a line that is read.
-use Rattle.std.specs.Prelude.{◌≡◌, ℕ, Result, Ok, Err, IsOk}
+use Rattle.std.specs.Prelude.{◌≡◌, ℕ, List, codes, Result, Ok, Err, IsOk}
 use Rattle.krb_text.specs.declared.line_fault.LineFault.{LineFault}
 use Rattle.krb_text.specs.declared.line_fault.LineFault.TheVariants.{UnknownWord, WordCount, BadNumber, BadEtype, BadKey, BadName, BadSlot, BadFileName}
 use Rattle.krb_text.specs.declared.line_fault.LineRefusal.{LineRefusal}
@@ -15,6 +15,24 @@ line_fault_number BadKey = 5
 line_fault_number BadName = 6
 line_fault_number BadSlot = 7
 line_fault_number BadFileName = 8
+
+-- what is wrong with a line of a script
+abbrev pub line_phrase : LineFault → List ℕ
+line_phrase UnknownWord = codes "unknown first word"
+line_phrase WordCount = codes "words are missing or left over"
+line_phrase BadNumber = codes "a number is not from 0 to 4294967295"
+line_phrase BadEtype = codes "unknown encryption type"
+line_phrase BadKey = codes "the key is not hexadecimal, or not as long as its type's"
+line_phrase BadName = codes "not a principal name with its realm"
+line_phrase BadSlot = codes "the list has no such slot"
+line_phrase BadFileName = codes "the file's name is not UTF-8"
+
+-- what is wrong with a line of ktutil
+abbrev pub ktutil_phrase : LineFault → List ℕ
+ktutil_phrase UnknownWord = codes "unknown command"
+ktutil_phrase WordCount = codes "words are wrong, missing, repeated or left over"
+ktutil_phrase BadKey = codes "the key is not hexadecimal, not as long as its type's, or empty"
+ktutil_phrase fault = line_phrase fault
 
 -- a line or a word gives this value, seen by `view`, or this fault; memory may be refused only where it gives a value
 abbrev pub Reads : {T V : Type 0} → (T → V) → Result V LineFault → Result T LineRefusal → Type 0

@@ -2,29 +2,22 @@
 
 ghost use Rattle.std.specs.Prelude.{◌≡◌};
 ghost use Rattle.krb_text.specs.declared.line_fault.LineRefusal.TheVariants.{Fault as Faulty, NoMemory as OutOfMemory};
-ghost use Rattle.krb_text.specs.LineFault.{line_fault_number};
+ghost use Rattle.krb_text.specs.LineFault.{ktutil_phrase, line_fault_number, line_phrase};
 
 use krb_wire::NoMemory;
-use thiserror::Error;
+use std::error::Error;
+use std::fmt;
 
 /// What is wrong with a line of a script, or with one that ktutil reads.
-#[derive(Clone, Copy, Debug, PartialEq, Eq, Error)]
+#[derive(Clone, Copy, Debug, PartialEq, Eq)]
 pub enum LineFault {
-    #[error("an unknown first word")]
     UnknownWord = 1,
-    #[error("too few words, or too many")]
     WordCount = 2,
-    #[error("a bad number")]
     BadNumber = 3,
-    #[error("a bad encryption type")]
     BadEtype = 4,
-    #[error("a bad key")]
     BadKey = 5,
-    #[error("a bad name")]
     BadName = 6,
-    #[error("no such slot")]
     BadSlot = 7,
-    #[error("a file name that is not UTF-8")]
     BadFileName = 8,
 }
 
@@ -35,17 +28,66 @@ impl LineFault {
     {
         self as u32
     }
+
+    /// What is wrong with a line of a script, in words.
+    pub fn phrase(self) -> &'static str
+        ensures { result.now ≡ line_phrase self }
+    {
+        match self {
+            LineFault::UnknownWord => "unknown first word",
+            LineFault::WordCount => "words are missing or left over",
+            LineFault::BadNumber => "a number is not from 0 to 4294967295",
+            LineFault::BadEtype => "unknown encryption type",
+            LineFault::BadKey => "the key is not hexadecimal, or not as long as its type's",
+            LineFault::BadName => "not a principal name with its realm",
+            LineFault::BadSlot => "the list has no such slot",
+            LineFault::BadFileName => "the file's name is not UTF-8",
+        }
+    }
+
+    /// What is wrong with a line of ktutil, in words.
+    pub fn ktutil_phrase(self) -> &'static str
+        ensures { result.now ≡ ktutil_phrase self }
+    {
+        match self {
+            LineFault::UnknownWord => "unknown command",
+            LineFault::WordCount => "words are wrong, missing, repeated or left over",
+            LineFault::BadKey => "the key is not hexadecimal, not as long as its type's, or empty",
+            fault => fault.phrase(),
+        }
+    }
 }
 
+impl fmt::Display for LineFault {
+    ghost use Rattle.std.specs.Prelude.{Some};
+
+    ghost output = { λ fault. Some (line_phrase fault) };
+
+    fn fmt<W: fmt::Write>(&self, f: &mut fmt::Formatter<W>) -> fmt::Result {
+        f.write_str(self.phrase())
+    }
+}
+
+impl Error for LineFault {}
+
 /// Why a line, or a word of it, gives nothing.
-#[derive(Clone, Copy, Debug, PartialEq, Eq, Error)]
+#[derive(Clone, Copy, Debug, PartialEq, Eq)]
 pub enum LineRefusal {
-    #[error("{0}")]
     Fault(LineFault),
     /// An allocation failed.
-    #[error("out of memory")]
     NoMemory,
 }
+
+impl fmt::Display for LineRefusal {
+    fn fmt<W: fmt::Write>(&self, f: &mut fmt::Formatter<W>) -> fmt::Result {
+        match self {
+            LineRefusal::Fault(fault) => f.write_str(fault.phrase()),
+            LineRefusal::NoMemory => f.write_str("out of memory"),
+        }
+    }
+}
+
+impl Error for LineRefusal {}
 
 impl From<LineFault> for LineRefusal {
     ghost from_gives = { λ fault refusal. refusal ≡ Faulty fault };

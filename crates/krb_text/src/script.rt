@@ -17,18 +17,28 @@ use crate::word::number_word;
 use krb_keytab::NewEntry;
 use krb_walk::Event;
 use std::alloc::{AllocFailed, Allocator};
-use thiserror::Error;
+use std::error::Error;
+use std::fmt;
 
 /// Why a script gives no events.
-#[derive(Clone, Copy, Debug, PartialEq, Eq, Error)]
+#[derive(Clone, Copy, Debug, PartialEq, Eq)]
 pub enum ScriptRefusal {
     /// The first faulty line, counted from 1, and its first fault.
-    #[error("line {line}: {kind}")]
     Fault { line: u64, kind: LineFault },
     /// An allocation failed.
-    #[error("out of memory")]
     NoMemory,
 }
+
+impl fmt::Display for ScriptRefusal {
+    fn fmt<W: fmt::Write>(&self, f: &mut fmt::Formatter<W>) -> fmt::Result {
+        match self {
+            ScriptRefusal::Fault { line, kind } => write!(f, "line {line}: {kind}"),
+            ScriptRefusal::NoMemory => f.write_str("out of memory"),
+        }
+    }
+}
+
+impl Error for ScriptRefusal {}
 
 impl<T: Drop> From<AllocFailed<T>> for ScriptRefusal {
     ghost from_gives = { λ _ refusal. refusal ≡ OutOfMemory };

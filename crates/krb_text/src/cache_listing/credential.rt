@@ -1,7 +1,7 @@
 //! The lines of a credential. Where an allocation failed, some of them may stand there.
 
 ghost use Rattle.std.specs.Prelude.{◌≡◌, ◌++◌, OnOk, option_copied};
-ghost use Rattle.krb_ccache.specs.Typed.{config_parts};
+ghost use Rattle.krb_ccache.specs.Config.{config_parts};
 ghost use Rattle.krb_text.specs.Credential.{valid_from, instant, validity, ticket_line, renew_line, flags_line, etype_line, ticket_lines, about, config_line, credential_lines};
 
 use crate::append::{append, append_byte};
