@@ -23,13 +23,16 @@ use Rattle.krb_text.specs.Script.{ScriptFault, RefusesScript, script}
 use Rattle.krb_commands.specs.declared.ktedit.Edited.{Edited}
 use Rattle.krb_commands.specs.declared.loading.NoKeytab.{NoKeytab}
 use Rattle.krb_commands.specs.declared.trouble.Trouble.{Trouble}
-use Rattle.krb_commands.specs.declared.trouble.Trouble.TheVariants.{FileNotRead, NoMemory}
+use Rattle.krb_commands.specs.declared.trouble.Trouble.TheVariants.{FileNotRead, NoMemory, Replied}
 use Rattle.krb_commands.specs.Edits.{edited_run, IsEdited}
 use Rattle.krb_commands.specs.Loading.{most_bytes, keytab_or_new, LoadsFile, SavesFile, GivesOrRunsOut}
 use Rattle.krb_commands.specs.Input.{GivesInput}
-use Rattle.krb_commands.specs.Ktedit.{is_trouble, moments, is_changed, edit_keytab, RunsFairly, edit_script, edit_input, saved_run, LeavesFiles, SavesDue, ComesTo, EditsFile, EndsScript, EndsInput, EndsHonestly, Edits}
+use Rattle.krb_commands.specs.Ktedit.{moments, is_changed, edit_keytab, RunsFairly, edit_script, edit_input, saved_run, LeavesFiles, SavesDue, ComesTo, EditsFile, EndsScript, EndsInput, EndsHonestly, Edits}
 use Rattle.krb_commands.specs.Runs.{Run, Shows, ends_by}
-use Rattle.krb_commands.specs.Troubles.{Ending, ending_if_told, save_trouble, script_trouble}
+use Rattle.krb_commands.specs.Told.{is_trouble, codes_told, faults_told, replied_ending}
+use Rattle.krb_commands.specs.declared.told.Told.{Told}
+use Rattle.krb_walk.specs.Said.{Said}
+use Rattle.krb_commands.specs.Troubles.{Ending, save_trouble, script_trouble}
 
 -- ---- the steps of an edit
 
@@ -167,9 +170,15 @@ abbrev is_spent : Ending → Bool
 is_spent (Err NoMemory) = true
 is_spent ending = false
 
-told_unspent : (b : Bool) → ending_if_told b ≢ Err NoMemory
-told_unspent true is = false≢true (ap is_spent is)
-told_unspent false is = false≢true (ap is_spent is)
+abbrev told_end : Bool → Told → Ending
+told_end b told = if b then Err (Replied told) else Ok tt
+
+told_unspent : (b : Bool) (told : Told) → told_end b told ≢ Err NoMemory
+told_unspent true told is = false≢true (ap is_spent is)
+told_unspent false told is = false≢true (ap is_spent is)
+
+replied_unspent : (told : List Said) → replied_ending (λ said. said) told ≢ Err NoMemory
+replied_unspent told = told_unspent (list_any is_trouble told) (record { codes = codes_told (λ said. said) told; faults = faults_told (λ said. said) told })
 
 module _ {F : Type 0} (trait : Ghosts F) (file : List ℕ) (out out' : Watch) (ending : Ending) (spent : ending ≡ Err NoMemory) where
   abbrev Shown : Run → Type 0
@@ -212,7 +221,7 @@ module _ {F : Type 0} (trait : Ghosts F) (file : List ℕ) (out out' : Watch) (e
       → (opened : Result KeytabState NoKeytab) → ComesTo trait file Shown (edit_keytab events opened) files new → Spent old new
   spent_edit events old files new honest same (Ok k) comes =
       let due = edit_keytab events (Ok k) in
-      spent_due due.saved due.run old files new (told_unspent (list_any is_trouble (replies (moments k events)))) honest same comes
+      spent_due due.saved due.run old files new (replied_unspent (replies (moments k events))) honest same comes
   spent_edit events old files new honest same (Err why) left = spent_left _ old files new same left
 
   spent_script : (order : Order) (events : Result (List (Event EntryParts)) ScriptFault) (old new : F) → EndsScript trait file Shown order old new events → Spent old new

@@ -6,6 +6,7 @@ use Rattle.krb_wire.specs.declared.format.KtFormat.{KtFormat}
 use Rattle.krb_walk.specs.declared.event.Event.{Event}
 use Rattle.krb_walk.specs.declared.event.Event.TheVariants.{Start, Resume, Step, Put, Cut, Rewrite}
 use Rattle.krb_walk.specs.declared.fault.FaultKind.{FaultKind}
+use Rattle.krb_walk.specs.declared.fault.FaultKind.TheVariants.{CutLength, Overrun, BadEntry, BadCredential}
 use Rattle.krb_walk.specs.declared.refusal.Code.{Code}
 use Rattle.krb_walk.specs.declared.refusal.Code.TheVariants as code
 use Rattle.krb_walk.specs.Store.{Store, Record, end_of, fault_of, is_place, live_bytes, next_live}
@@ -23,9 +24,11 @@ use Rattle.krb_keytab.specs.Form.{fits, written_form}
 use Rattle.krb_text.specs.Reply.{reply_text, reply_texts, format_after}
 use Rattle.krb_commands.specs.declared.ktedit.Edited.{Edited}
 use Rattle.krb_commands.specs.Edits.{IsEdited}
-use Rattle.krb_commands.specs.Ktedit.{moments, is_change, is_trouble, reply_lines}
+use Rattle.krb_commands.specs.Ktedit.{moments, is_change, reply_lines}
+use Rattle.krb_commands.specs.Told.{is_trouble, tells_code, tells_fault, code_told, fault_told, codes_told, faults_told, replied_ending}
+use Rattle.krb_commands.specs.declared.trouble.Trouble.TheVariants.{Replied}
 use Rattle.krb_commands.specs.Runs.{Run}
-use Rattle.krb_commands.specs.Troubles.{ending_if_told}
+use Rattle.krb_commands.specs.Troubles.{Ending}
 
 -- ---- the format after an event
 
@@ -107,19 +110,33 @@ pub any_said : {A B : Type 0} (f : A → B) (test : B → Bool) (xs : List A) �
 any_said f test [] = refl
 any_said f test (x ∷ xs) = ap (λ (b : Bool). test (f x) || b) (any_said f test xs)
 
+same_map : {A B : Type 0} (f g : A → B) → ((x : A) → f x ≡ g x) → (xs : List A) → map f xs ≡ map g xs
+same_map f g each [] = refl
+same_map f g each (x ∷ xs) = ap (λ y. y ∷ map f xs) (each x) ∙ ap (λ ys. g x ∷ ys) (same_map f g each xs)
+
+-- how a run ends that printed replies is a function of what they say
+pub replied_said : {A : Type 0} (f : A → Said) (rs : List A) → replied_ending f rs ≡ replied_ending (λ said. said) (map f rs)
+replied_said f rs =
+    let ends : Bool → List (Option Code) → List (Option FaultKind) → Ending = λ b codes faults. if b then Err (Replied (record { codes = codes; faults = faults })) else Ok tt in
+    let code_is : (c : Code) → code_told f rs c ≡ code_told (λ said. said) (map f rs) c = λ c. ap (λ (b : Bool). if b then Some c else None) (any_said f (tells_code c) rs) in
+    let fault_is : (k : FaultKind) → fault_told f rs k ≡ fault_told (λ said. said) (map f rs) k = λ k. ap (λ (b : Bool). if b then Some k else None) (any_said f (tells_fault k) rs) in
+    ap (λ (b : Bool). ends b (codes_told f rs) (faults_told f rs)) (any_said f is_trouble rs)
+    ∙ ap (λ (cs : List (Option Code)). ends (list_any is_trouble (map f rs)) cs (faults_told f rs)) (same_map (code_told f rs) (code_told (λ said. said) (map f rs)) code_is (code.Damaged ∷ code.TooLong ∷ code.Full ∷ code.NotAPlace ∷ code.NotLive ∷ code.NoSuchWalk ∷ code.TooManyWalks ∷ code.ReadOnly ∷ code.NotFound ∷ code.KvnoNotFound ∷ code.Marked ∷ []))
+    ∙ ap (λ (ks : List (Option FaultKind)). ends (list_any is_trouble (map f rs)) (codes_told (λ said. said) (map f rs)) ks) (same_map (fault_told f rs) (fault_told (λ said. said) (map f rs)) fault_is (CutLength ∷ Overrun ∷ BadEntry ∷ BadCredential ∷ []))
+
 pub IsEdited-by : {A : Type 0} (keytab : KeytabState) (events : List (Event EntryParts)) (old new : SessionState KeytabState) (told : List Said) (e : Edited A)
     → old ≡ new_session keytab → Ran keytab_rules old new events [] told → e.image.items ≡ image_of new.store → e.text.items ≡ reply_texts keytab.format told
-    → e.is_changed ≡ list_any is_change told → e.is_trouble ≡ list_any is_trouble told → IsEdited keytab events e
-IsEdited-by keytab events old new told e begins ran image text changed trouble =
+    → e.is_changed ≡ list_any is_change told → e.ending ≡ replied_ending (λ said. said) told → IsEdited keytab events e
+IsEdited-by keytab events old new told e begins ran image text changed ending =
     let from_new : Ran keytab_rules (new_session keytab) new events [] told = subst (λ (s : SessionState KeytabState). Ran keytab_rules s new events [] told) begins ran in
     let told_is : told ≡ replies (moments keytab events) = from_new.replies_are in
     let new_is : new ≡ state_after keytab_rules (new_session keytab) events = from_new.state in
     let text_is : e.text.items ≡ reply_lines keytab events = text ∙ ap (reply_texts keytab.format) told_is ∙ sym (lines_of (new_session keytab) events) in
-    let shown : List ℕ → Bool → Run = λ lines b. record { out = lines; ending = ending_if_told b } in
+    let shown : List ℕ → Ending → Run = λ lines e. record { out = lines; ending = e } in
     record {
       ran = subst (λ (t : List Said). Ran keytab_rules (new_session keytab) (state_after keytab_rules (new_session keytab) events) events [] t) told_is
           (subst (λ (s : SessionState KeytabState). Ran keytab_rules (new_session keytab) s events [] told) new_is from_new);
       image = image ∙ ap (λ (s : SessionState KeytabState). image_of s.store) new_is;
       is_changed = changed ∙ ap (list_any is_change) told_is;
-      run = ap (λ (lines : List ℕ). shown lines e.is_trouble) text_is ∙ ap (shown (reply_lines keytab events)) (trouble ∙ ap (list_any is_trouble) told_is);
+      run = ap (λ (lines : List ℕ). shown lines e.ending) text_is ∙ ap (shown (reply_lines keytab events)) (ending ∙ ap (replied_ending (λ said. said)) told_is);
     }

@@ -7,7 +7,7 @@ use mathlib.Core.Path.{fun_ext}
 use Rattle.krb_files.specs.declared.files.Files.{Ghosts}
 use Rattle.krb_commands.specs.declared.ktutil.line_end.LineEnd.{LineEnd}
 use Rattle.krb_commands.specs.declared.ktutil.line_end.LineEnd.TheVariants as end
-use Rattle.krb_files.specs.Bytes.{Watch}
+use Rattle.krb_commands.specs.ErrorOutput.{ErrorWatch}
 use Rattle.krb_files.specs.Files.{FileMap, SameFiles, CountsFailure}
 use Rattle.krb_commands.specs.KtutilPlan.{KtutilState, plan_of}
 use Rattle.krb_commands.specs.KtutilHonest.{Followed, follow, ShowsDue, HandlesHonestly}
@@ -20,9 +20,9 @@ use Rattle.krb_commands.specs.declared.trouble.Trouble.TheVariants.{NoMemory}
 use Rattle.krb_commands.specs.InputLines.{lines_of}
 use Rattle.krb_commands.specs.KtutilTalk.{Talk, ending_of, line_run, named_in, goes_on, AreFirst, Continues, Stops, TalksOver}
 use Rattle.krb_commands.specs.KtutilDue.{TalkDue, quiet_run, last_due, due_after, talk_due, GivesLines, LeavesDueUnlessFailed, TalksHonestly}
-use Rattle.krb_commands.specs.Runs.{Run, Says, EndsRun, ends_by}
-use Rattle.krb_commands.specs.Troubles.{Ending, ending_message, ending_status, input_trouble, trouble_message, trouble_status}
-use Rattle.krb_commands.proofs.Shown.{Says-nothing}
+use Rattle.krb_commands.specs.Runs.{Run, SaysEnd, EndsRun, ends_by}
+use Rattle.krb_commands.specs.Troubles.{Ending, ending_status, input_trouble, trouble_status}
+use Rattle.krb_commands.proofs.Shown.{SaysEnd-nothing}
 
 -- a failure that was counted later counts, and one that was counted before
 counts_split : (a b c : ℕ) → a ≤ b → b ≤ c → b ≡ 2 ^ 64 - 1 → (a < b) ⊎ (b ≤ a) → CountsFailure a c
@@ -74,8 +74,8 @@ module _ {F : Type 0} (trait : Ghosts F) (now : ℕ) (final : Run) where
   abbrev NextDue : ℕ → List ℕ → List (List ℕ) → Followed → TalkDue
   NextDue number line more f =
       if goes_on f.outcome.ending
-      then due_after (named_in line) (line_run number f.outcome.ending f.outcome.text) (talk_due final now (number + 1) more f.outcome.state f.files)
-      else last_due (named_in line) (line_run number f.outcome.ending f.outcome.text) f.files
+      then due_after (named_in line) (Some number) (line_run number f.outcome.ending f.outcome.text) (talk_due final now (number + 1) more f.outcome.state f.files)
+      else last_due (named_in line) (Some number) (line_run number f.outcome.ending f.outcome.text) f.files
 
   choose : (goes b : Bool) (x y : TalkDue) → goes ≡ b → (if goes then x else y) ≡ (if b then x else y)
   choose goes b x y is = ap (λ (g : Bool). if g then x else y) is
@@ -85,10 +85,10 @@ module _ {F : Type 0} (trait : Ghosts F) (now : ℕ) (final : Run) where
     next_is : NextDue number line more (follow before (plan_of old now line)) ≡ NextDue number line more (record { outcome = record { state = new; text = text; ending = ending; takes = (follow before (plan_of old now line)).outcome.takes }; files = trait.file files })
     next_is = ap (NextDue number line more) (followed_is (follow before (plan_of old now line)) new text ending (trait.file files) shows.shows.state_is shows.shows.appended shows.shows.ending_is (fun_ext shows.files_are))
 
-    due_goes_on : IsTrue (goes_on ending) → talk_due final now number (line ∷ more) old before ≡ due_after (named_in line) (line_run number ending text) (talk_due final now (number + 1) more new (trait.file files))
+    due_goes_on : IsTrue (goes_on ending) → talk_due final now number (line ∷ more) old before ≡ due_after (named_in line) (Some number) (line_run number ending text) (talk_due final now (number + 1) more new (trait.file files))
     due_goes_on goes = next_is ∙ choose (goes_on ending) true _ _ goes
 
-    due_stops : IsFalse (goes_on ending) → talk_due final now number (line ∷ more) old before ≡ last_due (named_in line) (line_run number ending text) (trait.file files)
+    due_stops : IsFalse (goes_on ending) → talk_due final now number (line ∷ more) old before ≡ last_due (named_in line) (Some number) (line_run number ending text) (trait.file files)
     due_stops stops = next_is ∙ choose (goes_on ending) false _ _ stops
 
   -- lines let the count of failures fall nowhere
@@ -104,17 +104,17 @@ module _ {F : Type 0} (trait : Ghosts F) (now : ℕ) (final : Run) where
   worst_after a b run due status new new_is b_is is = omega (arith, new_is, b_is, is)
 
   -- a line was handled, and what is due of those after it was left
-  leaves_after : (file : List ℕ) (run : Run) (status : ℕ) (old mid new : Talk F) (due : TalkDue) → EndsRun file run old.out mid.out old.err mid.err status → IsFalse mid.out.failed → mid.status ≡ max old.status status
+  leaves_after : (file : List ℕ) (which : Option ℕ) (run : Run) (status : ℕ) (old mid new : Talk F) (due : TalkDue) → EndsRun file which run old.out mid.out old.err mid.err status → IsFalse mid.out.failed → mid.status ≡ max old.status status
       → trait.failure_count old.files ≤ trait.failure_count mid.files → trait.failure_count mid.files ≤ trait.failure_count new.files
-      → LeavesDueUnlessFailed trait due mid new → LeavesDueUnlessFailed trait (due_after file run due) old new
-  leaves_after file run status old mid new due ends well worst le le' (inl counts) = inl (counts_later (trait.failure_count old.files) (trait.failure_count mid.files) (trait.failure_count new.files) le le' counts)
-  leaves_after file run status old mid new due ends well worst le le' (inr (inl failed)) = inr (inl failed)
-  leaves_after file run status old mid new due ends well worst le le' (inr (inr leaves)) =
+      → LeavesDueUnlessFailed trait due mid new → LeavesDueUnlessFailed trait (due_after file which run due) old new
+  leaves_after file which run status old mid new due ends well worst le le' (inl counts) = inl (counts_later (trait.failure_count old.files) (trait.failure_count mid.files) (trait.failure_count new.files) le le' counts)
+  leaves_after file which run status old mid new due ends well worst le le' (inr (inl failed)) = inr (inl failed)
+  leaves_after file which run status old mid new due ends well worst le le' (inr (inr leaves)) =
       let done = ends.shows.done well in
       inr (inr (record {
         files = leaves.files;
         out = Appends-trans old.out.contents mid.out.contents new.out.contents run.out due.out done.0 leaves.out;
-        err = (mid.err, subst (λ (e : Ending). Says old.err mid.err (ending_message file e)) done.1 ends.told.said, leaves.err);
+        err = (mid.err, subst (λ (e : Ending). SaysEnd file which e old.err mid.err) done.1 ends.told.says, leaves.err);
         status = worst_after old.status mid.status (ending_status run.ending) due.status status new.status leaves.status worst (ends.told.status_is ∙ ap ending_status done.1);
       }))
 
@@ -132,7 +132,7 @@ module _ {F : Type 0} (trait : Ghosts F) (now : ℕ) (final : Run) where
       elim honestly.comes [
         | inl shows ↦ subst (λ (d : TalkDue). LeavesDueUnlessFailed trait d old new)
             (sym (due_goes_on number line more old.state (trait.file old.files) mid.files mid.state handles.text continues.ending shows continues.goes_on))
-            (leaves_after (named_in line) run handles.status old mid new others handles.ends continues.well handles.worst le le' rest)
+            (leaves_after (named_in line) (Some number) run handles.status old mid new others handles.ends continues.well handles.worst le le' rest)
         | inr other ↦ elim other [
           | inl fails ↦ inl (counts_before (trait.failure_count old.files) (trait.failure_count mid.files) (trait.failure_count new.files) le' fails.counts)
           | inr spends ↦ absurd (memory_stops continues.ending spends.runs_out.ending_is continues.goes_on)
@@ -156,15 +156,15 @@ module _ {F : Type 0} (trait : Ghosts F) (now : ℕ) (final : Run) where
       (talk_honestly lines (number + 1) more mid last new talked.2 honestly.honest le (λ next is. rest next (omega (arith, is))))
 
   -- a line was the last: it left what was due of it, or the output failed
-  close_by : (file : List ℕ) (run : Run) (status : ℕ) (last end : Talk F) → EndsRun file run last.out end.out last.err end.err status → end.status ≡ max last.status status
-      → (failed : Bool) → failed ≡ end.out.failed → LeavesDueUnlessFailed trait (last_due file run (trait.file end.files)) last end
-  close_by file run status last end ends worst true is = inr (inl (sym is))
-  close_by file run status last end ends worst false is =
+  close_by : (file : List ℕ) (which : Option ℕ) (run : Run) (status : ℕ) (last end : Talk F) → EndsRun file which run last.out end.out last.err end.err status → end.status ≡ max last.status status
+      → (failed : Bool) → failed ≡ end.out.failed → LeavesDueUnlessFailed trait (last_due file which run (trait.file end.files)) last end
+  close_by file which run status last end ends worst true is = inr (inl (sym is))
+  close_by file which run status last end ends worst false is =
       let done = ends.shows.done (sym is) in
       inr (inr (record {
         files = λ name. refl;
         out = done.0;
-        err = (end.err, subst (λ (e : Ending). Says last.err end.err (ending_message file e)) done.1 ends.told.said, refl);
+        err = (end.err, subst (λ (e : Ending). SaysEnd file which e last.err end.err) done.1 ends.told.says, refl);
         status = worst ∙ ap (max last.status) (ends.told.status_is ∙ ap ending_status done.1);
       }))
 
@@ -178,7 +178,7 @@ module _ {F : Type 0} (trait : Ghosts F) (now : ℕ) (final : Run) where
         | inl shows ↦ elim stops.why [
           | inl not ↦ subst (λ (d : TalkDue). LeavesDueUnlessFailed trait d last new)
               (sym (due_stops number line more last.state (trait.file last.files) new.files new.state handles.text stops.ending shows not))
-              (close_by (named_in line) run handles.status last new handles.ends handles.worst new.out.failed refl)
+              (close_by (named_in line) (Some number) run handles.status last new handles.ends handles.worst new.out.failed refl)
           | inr failed ↦ inr (inl failed)
         ]
         | inr other ↦ elim other [
@@ -189,26 +189,27 @@ module _ {F : Type 0} (trait : Ghosts F) (now : ℕ) (final : Run) where
 
 module _ {F : Type 0} (trait : Ghosts F) (now : ℕ) where
   -- a line was the last since memory ran out: what was due of those before it was left, and that is said
-  spent_by : (file : List ℕ) (run : Run) (status : ℕ) (last end : Talk F) → EndsRun file run last.out end.out last.err end.err status → end.status ≡ max last.status status → run.out ≡ [] → run.ending ≡ Err NoMemory
-      → SameFiles (trait.file last.files) (trait.file end.files) → (failed : Bool) → failed ≡ end.out.failed → LeavesDueUnlessFailed trait (last_due [] (ends_by NoMemory) (trait.file last.files)) last end
-  spent_by file run status last end ends worst none memory same true is = inr (inl (sym is))
-  spent_by file run status last end ends worst none memory same false is =
+  spent_by : (file : List ℕ) (which : Option ℕ) (run : Run) (status : ℕ) (last end : Talk F) → EndsRun file which run last.out end.out last.err end.err status → end.status ≡ max last.status status → run.out ≡ [] → run.ending ≡ Err NoMemory
+      → SameFiles (trait.file last.files) (trait.file end.files) → (failed : Bool) → failed ≡ end.out.failed → LeavesDueUnlessFailed trait (last_due [] None (ends_by NoMemory) (trait.file last.files)) last end
+  spent_by file which run status last end ends worst none memory same true is = inr (inl (sym is))
+  spent_by file which run status last end ends worst none memory same false is =
       let done = ends.shows.done (sym is) in
       let spent = done.1 ∙ memory in
+      let says : SaysEnd file which (Err NoMemory) last.err end.err = subst (λ (e : Ending). SaysEnd file which e last.err end.err) spent ends.told.says in
       inr (inr (record {
         files = same;
         out = subst (λ (text : List ℕ). Appends last.out.contents end.out.contents text) none done.0;
-        err = (end.err, subst (λ (e : Ending). Says last.err end.err (ending_message file e)) spent ends.told.said, refl);
+        err = (end.err, record { cause = says.cause; said = says.said; still = says.still }, refl);
         status = worst ∙ ap (max last.status) (ends.told.status_is ∙ ap ending_status spent);
       }))
 
   spend_honestly : (number : ℕ) (line : List ℕ) (last new : Talk F) (stops : Stops trait now number line last new) → stops.ending ≡ end.NoMemory → trait.is_honest last.files
-      → LeavesDueUnlessFailed trait (last_due [] (ends_by NoMemory) (trait.file last.files)) last new
+      → LeavesDueUnlessFailed trait (last_due [] None (ends_by NoMemory) (trait.file last.files)) last new
   spend_honestly number line last new stops spent honest =
       let handles = stops.handles in
       let same = (handles_spares trait now line last.files new.files last.state new.state [] handles.text stops.ending handles.handled).files_are honest (spent_is_not_done stops.ending spent) in
       let none = ((handles_memory trait last.state new.state [] handles.text stops.ending now line last.files new.files handles.handled).1 spent).same in
-      spent_by (named_in line) (line_run number stops.ending handles.text) handles.status last new handles.ends handles.worst none (ap (ending_of number) spent) same new.out.failed refl
+      spent_by (named_in line) (Some number) (line_run number stops.ending handles.text) handles.status last new handles.ends handles.worst none (ap (ending_of number) spent) same new.out.failed refl
 
 -- the lines that an input has from its first ones and a further one on
 rest_of : (given : Option (List ℕ)) (lines : List (List ℕ)) (line : List ℕ) → AreFirst (lines ++ line ∷ []) given → (more : List (List ℕ)) × GivesLines given (lines ++ line ∷ more) quiet_run
@@ -223,7 +224,7 @@ before_last (Some bytes) lines line first = (line ∷ first.0, first.1 ∙ appen
 module _ {F : Type 0} (trait : Ghosts F) (now : ℕ) (given : Option (List ℕ)) (lines : List (List ℕ)) (first last : Talk F) (talked : TalksOver trait now 1 lines first last) where
   -- what was due after the lines was left
   leaves_final : (final : Run) (end : Talk F) → GivesLines given (lines ++ []) final → trait.failure_count last.files ≤ trait.failure_count end.files
-      → (trait.is_honest last.files → LeavesDueUnlessFailed trait (last_due [] final (trait.file last.files)) last end) → trait.is_honest first.files → TalksHonestly trait now given first end
+      → (trait.is_honest last.files → LeavesDueUnlessFailed trait (last_due [] None final (trait.file last.files)) last end) → trait.is_honest first.files → TalksHonestly trait now given first end
   leaves_final final end gives le leaves honest = record {
     lines = lines ++ [];
     final = final;
@@ -236,7 +237,7 @@ module _ {F : Type 0} (trait : Ghosts F) (now : ℕ) (given : Option (List ℕ))
       leaves_final quiet_run last (record { gives = inl (all, refl) }) (omega arith) (λ h. inr (inr (record {
         files = λ name. refl;
         out = Appends-nil last.out.contents;
-        err = (last.err, Says-nothing last.err, refl);
+        err = (last.err, SaysEnd-nothing [] None last.err, refl);
         status = omega arith;
       })))
 
@@ -244,7 +245,7 @@ module _ {F : Type 0} (trait : Ghosts F) (now : ℕ) (given : Option (List ℕ))
   GivesLines-unread : (fault : LoadFault) → AreFirst lines given → GivesLines given (lines ++ []) (ends_by (input_trouble fault))
   GivesLines-unread fault are_first = record { gives = inr (subst (λ (l : List (List ℕ)). AreFirst l given) (sym (append-nil lines)) are_first, (fault, refl)) }
 
-  pub honest_unread : (fault : LoadFault) → AreFirst lines given → (err' : Watch) (status : ℕ) → Says last.err err' (trouble_message [] (input_trouble fault)) → status ≡ max last.status (trouble_status (input_trouble fault)) → trait.is_honest first.files
+  pub honest_unread : (fault : LoadFault) → AreFirst lines given → (err' : ErrorWatch) (status : ℕ) → SaysEnd [] None (Err (input_trouble fault)) last.err err' → status ≡ max last.status (trouble_status (input_trouble fault)) → trait.is_honest first.files
       → TalksHonestly trait now given first (record { files = last.files; state = last.state; out = last.out; err = err'; status = status })
   honest_unread fault are_first err' status said worst =
       leaves_final (ends_by (input_trouble fault)) (record { files = last.files; state = last.state; out = last.out; err = err'; status = status })

@@ -1,6 +1,6 @@
 -- The lines of ktutil, one after the other.
 use Rattle.std.proofs.Common.{◌≡◌, ◌≢◌, inl, inr, ℕ, ◌⊎◌, ◌+◌, ◌-◌, ◌<◌, ◌≤◌, List, [], ◌∷◌, ◌++◌, length, length-append, take, take-add, drop, refl, sym, ap, subst, ◌∙◌, append_assoc, append-nil, arith}
-use Rattle.std.specs.Prelude.{IsFalse, max, slice_range, ◌||◌, Option, None, Some, IfSome}
+use Rattle.std.specs.Prelude.{IsFalse, max, slice_range, ◌||◌, Option, None, Some, IfSome, Err}
 use Rattle.std.proofs.lemmas.List.{drop_all, take-append-le}
 use Rattle.std.proofs.lemmas.Grind.{flat_map-append}
 use Rattle.std.specs.Io.KnownBytes.{Consumes}
@@ -9,14 +9,15 @@ use Rattle.krb_files.specs.declared.files.Files.{Ghosts}
 use Rattle.krb_files.specs.declared.files.LoadFault.{LoadFault}
 use Rattle.krb_files.specs.declared.files.LoadFault.TheVariants.{Missing, TooLarge}
 use Rattle.krb_files.specs.Bytes.{Watch}
-use Rattle.krb_commands.specs.Troubles.{input_trouble, trouble_message, trouble_status}
+use Rattle.krb_commands.specs.ErrorOutput.{ErrorWatch}
+use Rattle.krb_commands.specs.Troubles.{input_trouble, trouble_status}
 use Rattle.krb_commands.specs.InputLines.{InputParts, lines_of, with_newlines, HasLines, KeepsLines, TakesLine, EndsInNewline, IsSpent, HasNoMore, HasNone, CutsOff, Grows, IsWithin}
 use Rattle.krb_commands.specs.Loading.{most_bytes}
 use Rattle.krb_commands.specs.KtutilTalk.{Talk, first_talk, AreFirst, Continues, Stops, TalksOver}
 use Rattle.krb_commands.specs.Ktutil.{RunsKtutil}
 use Rattle.krb_commands.proofs.KtutilHonestly.{honest_after, honest_in_line, honest_unread}
 use Rattle.krb_files.specs.Reader.{Source, ConsumesAtMost, is_failed}
-use Rattle.krb_commands.specs.Runs.{Says}
+use Rattle.krb_commands.specs.Runs.{SaysEnd}
 use Rattle.krb_files.proofs.Reading.{Consumes-trans}
 
 -- the input, as far as lines of it were handled, has these lines and those that are to come
@@ -182,7 +183,7 @@ due_of lines old new left left' within grows no_more ended =
           ∙ ap (λ (bs : List ℕ). bs ++ slice_range new.read old.next most_bytes) (front ∙ ended.read);
     }
 
-module _ {F : Type 0} (trait : Ghosts F) (now : ℕ) (order : Order) (files : F) (out err : Watch) (first last : Source) (old new : InputParts) (left : Option (List ℕ)) (number : ℕ) (talk : Talk F)
+module _ {F : Type 0} (trait : Ghosts F) (now : ℕ) (order : Order) (files : F) (out : Watch) (err : ErrorWatch) (first last : Source) (old new : InputParts) (left : Option (List ℕ)) (number : ℕ) (talk : Talk F)
     (u : Underway trait now first.left (first_talk order files out err) old left number talk) (grows : Grows old.read new.read left last.left) (within : IsWithin new) where
   -- the input has ended
   pub RunsKtutil-after : HasLines old left [] → last.failed ≡ first.failed → RunsKtutil trait order now first last files talk.files out talk.out err talk.err talk.status
@@ -215,8 +216,8 @@ module _ {F : Type 0} (trait : Ghosts F) (now : ℕ) (order : Order) (files : F)
   }
 
   -- the input was not read further
-  pub RunsKtutil-unread : (fault : LoadFault) (err' : Watch) (status : ℕ) → KeepsLines old new left last.left → IsWithin old → HasNoMore old new → last.failed ≡ (is_failed fault || first.failed) → fault ≢ Missing → (fault ≡ TooLarge → most_bytes < length new.read)
-      → Says talk.err err' (trouble_message [] (input_trouble fault)) → status ≡ max talk.status (trouble_status (input_trouble fault)) → RunsKtutil trait order now first last files talk.files out talk.out err err' status
+  pub RunsKtutil-unread : (fault : LoadFault) (err' : ErrorWatch) (status : ℕ) → KeepsLines old new left last.left → IsWithin old → HasNoMore old new → last.failed ≡ (is_failed fault || first.failed) → fault ≢ Missing → (fault ≡ TooLarge → most_bytes < length new.read)
+      → SaysEnd [] None (Err (input_trouble fault)) talk.err err' → status ≡ max talk.status (trouble_status (input_trouble fault)) → RunsKtutil trait order now first last files talk.files out talk.out err err' status
   RunsKtutil-unread fault err' status keeps was no_more failed never too_large said worst = record {
     lines = u.lines;
     last = talk;

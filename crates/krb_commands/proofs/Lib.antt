@@ -14,3 +14,4 @@ pub mod KtutilMemory
 pub mod KtutilEnds
 pub mod KtutilHonestly
 pub mod KtutilLemmas
+pub mod Words

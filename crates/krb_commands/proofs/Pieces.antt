@@ -40,18 +40,31 @@ pub Sent-all : (a b c : Option (List ℕ)) (before gathered : List ℕ) → Sent
 Sent-all a b c before gathered p q = subst (Appends a c) (sym p.parts) (Appends-trans a b c p.sent gathered p.appends q)
 
 -- the next piece was gathered
-pub Sent-piece : {X : Type 0} (piece : X → List ℕ) (xs : List X) (i : ℕ) (d : X) (a b c : Option (List ℕ)) (gathered after : List ℕ) → i < length xs
-    → Sent a b (flat_map piece (take i xs)) gathered → Sent b c (gathered ++ piece (get_or xs i d)) after → Sent a c (flat_map piece (take (i + 1) xs)) after
-Sent-piece piece xs i d a b c gathered after lt p q =
-    let whole = ap (λ n. flat_map piece (take n xs)) (add-one i) ∙ flat_map-take-suc piece xs i d lt in
+pub Sent-piece : {X : Type 0} (piece : X → List ℕ) (xs : List X) (i : ℕ) (d : X) (a b c : Option (List ℕ)) (start gathered after : List ℕ) → i < length xs
+    → Sent a b (start ++ flat_map piece (take i xs)) gathered → Sent b c (gathered ++ piece (get_or xs i d)) after → Sent a c (start ++ flat_map piece (take (i + 1) xs)) after
+Sent-piece piece xs i d a b c start gathered after lt p q =
+    let whole = ap (λ n. start ++ flat_map piece (take n xs)) (add-one i) ∙ ap (λ l. start ++ l) (flat_map-take-suc piece xs i d lt) ∙ sym (append_assoc start _ _) in
     subst (λ l. Sent a c l after) (sym whole) (Sent-more a b c _ gathered _ after p q)
 
 -- a prefix of the next piece was sent
-pub Sent-piece-prefix : {X : Type 0} (piece : X → List ℕ) (xs : List X) (i : ℕ) (d : X) (a b c : Option (List ℕ)) (gathered : List ℕ) → i < length xs
-    → Sent a b (flat_map piece (take i xs)) gathered → AppendsPrefix b c (gathered ++ piece (get_or xs i d)) → AppendsPrefix a c (flat_map piece xs)
-Sent-piece-prefix piece xs i d a b c gathered lt p q =
-    let whole = flat_map-take-drop piece xs (suc i) ∙ ap (λ l. l ++ flat_map piece (drop (suc i) xs)) (flat_map-take-suc piece xs i d lt) in
+pub Sent-piece-prefix : {X : Type 0} (piece : X → List ℕ) (xs : List X) (i : ℕ) (d : X) (a b c : Option (List ℕ)) (start gathered : List ℕ) → i < length xs
+    → Sent a b (start ++ flat_map piece (take i xs)) gathered → AppendsPrefix b c (gathered ++ piece (get_or xs i d)) → AppendsPrefix a c (start ++ flat_map piece xs)
+Sent-piece-prefix piece xs i d a b c start gathered lt p q =
+    let one = ap (λ l. start ++ l) (flat_map-take-suc piece xs i d lt) ∙ sym (append_assoc start _ _) in
+    let whole = ap (λ l. start ++ l) (flat_map-take-drop piece xs (suc i)) ∙ sym (append_assoc start _ _) ∙ ap (λ l. l ++ flat_map piece (drop (suc i) xs)) one in
     subst (AppendsPrefix a c) (sym whole) (AppendsPrefix-longer a c _ (flat_map piece (drop (suc i) xs)) (Sent-prefix a b c _ gathered _ p q))
+
+-- two texts were gathered
+pub Sent-two : (a b c : Option (List ℕ)) (start first second gathered after : List ℕ) → Sent a b (start ++ first) gathered → Sent b c (gathered ++ second) after → Sent a c (start ++ (first ++ second)) after
+Sent-two a b c start first second gathered after p q = subst (λ l. Sent a c l after) (append_assoc start first second) (Sent-more a b c (start ++ first) gathered second after p q)
+
+-- of two texts a prefix of the second was sent
+pub Sent-two-prefix : (a b c : Option (List ℕ)) (start first second gathered : List ℕ) → Sent a b (start ++ first) gathered → AppendsPrefix b c (gathered ++ second) → AppendsPrefix a c (start ++ (first ++ second))
+Sent-two-prefix a b c start first second gathered p q = subst (AppendsPrefix a c) (append_assoc start first second) (Sent-prefix a b c (start ++ first) gathered second p q)
+
+-- of two texts a prefix of the first was sent
+pub AppendsPrefix-two : (a b : Option (List ℕ)) (start first second : List ℕ) → AppendsPrefix a b (start ++ first) → AppendsPrefix a b (start ++ (first ++ second))
+AppendsPrefix-two a b start first second p = subst (AppendsPrefix a b) (append_assoc start first second) (AppendsPrefix-longer a b (start ++ first) second p)
 
 -- what was gathered is sent, and then a text
 pub Sent-both : (a b c : Option (List ℕ)) (gathered text after : List ℕ) → Appends a b gathered → Appends b c text → after ≡ [] → Sent a c (gathered ++ text) after

@@ -1,6 +1,6 @@
 -- What is shown of a run, and what a reader gave.
-use Rattle.std.proofs.Common.{◌≡◌, ◌≢◌, ℕ, ◌<◌, List, [], inl, refl, sym, ap, subst, ◌∙◌}
-use Rattle.std.specs.Prelude.{◌+◌, ◌≤◌, ◌||◌, length, IsFalse, Result, Ok, Err, is_ok, IfSome}
+use Rattle.std.proofs.Common.{◌≡◌, ◌≢◌, ℕ, ◌<◌, List, [], ◌++◌, inl, refl, sym, ap, subst, ◌∙◌}
+use Rattle.std.specs.Prelude.{◌+◌, ◌≤◌, ◌||◌, length, Bool, true, false, IsFalse, Option, None, Result, Ok, Err, is_ok, IfSome}
 use Rattle.std.proofs.lemmas.Bool.{false≢true, true≢false}
 use Rattle.krb_files.specs.declared.files.LoadFault.{LoadFault}
 use Rattle.krb_files.specs.declared.files.LoadFault.TheVariants as load
@@ -11,13 +11,38 @@ use Rattle.krb_files.proofs.Prefixes.{AppendsPrefix-all, AppendsPrefix-none, App
 use Rattle.krb_commands.specs.declared.trouble.Trouble.{Trouble}
 use Rattle.krb_commands.specs.Loading.{most_bytes, Gives, PrintsOver, run_over}
 use Rattle.krb_commands.specs.Input.{GivesInput}
-use Rattle.krb_commands.specs.Runs.{Run, Shows, Prints, Says, ends_by}
-use Rattle.krb_commands.specs.Troubles.{Ending}
+use Rattle.krb_commands.specs.Runs.{Run, Shows, Prints, Says, SaysEnd, ends_by}
+use Rattle.krb_files.specs.declared.cause.Cause.{Cause}
+use Rattle.krb_commands.specs.Words.{words_if, ending_words}
+use Rattle.krb_commands.specs.ErrorOutput.{ErrorWatch}
+use Rattle.krb_commands.specs.Troubles.{Ending, ending_message}
 use Rattle.krb_files.specs.Reader.{Source, ConsumesAtMost, is_failed}
 
 -- nothing was to be said
 pub Says-nothing : (w : Watch) → Says w w []
 Says-nothing w = record { prefix = AppendsPrefix-none w.contents []; whole = λ _. Appends-nil w.contents }
+
+-- nor was there anything to explain
+words_if-nothing : (explains : Bool) → words_if explains [] ≡ []
+words_if-nothing true = refl
+words_if-nothing false = refl
+
+-- nothing was to be said of a run that went well
+pub SaysEnd-nothing : (file : List ℕ) (line : Option ℕ) (err : ErrorWatch) → SaysEnd file line (Ok tt) err err
+SaysEnd-nothing file line err = record {
+  cause = None;
+  said = subst (Says err.to err.to) (sym (words_if-nothing err.explains)) (Says-nothing err.to);
+  still = refl;
+}
+
+-- a message was said, with the words that are shown
+pub SaysEnd-by : (file : List ℕ) (line : Option ℕ) (cause : Option Cause) (ending : Ending) (err : ErrorWatch) (to : Watch) (words : List ℕ)
+    → Says err.to to (ending_message file ending ++ words) → words ≡ words_if err.explains (ending_words file line cause ending) → SaysEnd file line ending err (record { to = to; explains = err.explains })
+SaysEnd-by file line cause ending err to words said are = record {
+  cause = cause;
+  said = subst (λ (w : List ℕ). Says err.to to (ending_message file ending ++ w)) are said;
+  still = refl;
+}
 
 -- some trouble, before anything was printed
 pub Shows-trouble : (trouble : Trouble) (out : Watch) → IsFalse out.failed → Shows (ends_by trouble) out out (Err trouble)

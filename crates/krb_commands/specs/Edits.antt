@@ -12,7 +12,6 @@ use Rattle.krb_commands.specs.declared.ktedit.Edited.{Edited}
 use Rattle.krb_commands.specs.declared.trouble.Trouble.{Trouble}
 use Rattle.krb_commands.specs.Ktedit.{moments, keytab_after, is_changed, edit_run}
 use Rattle.krb_commands.specs.Runs.{Run, ends_by}
-use Rattle.krb_commands.specs.Troubles.{ending_if_told}
 
 -- an event that may change a keytab
 abbrev pub may_change : {I : Type 0} → Event I → Bool
@@ -23,7 +22,7 @@ may_change event = false
 
 -- what is printed of an edited keytab in the end
 abbrev pub edited_run : {A : Type 0} → Edited A → Run
-edited_run e = record { out = e.text.items; ending = ending_if_told e.is_trouble }
+edited_run e = record { out = e.text.items; ending = e.ending }
 
 -- or how the run ends without one
 abbrev pub run_of : {A : Type 0} → Result (Edited A) Trouble → Run

@@ -3,7 +3,7 @@ use Rattle.std.specs.Prelude.{◌≡◌, ◌⊎◌, ℕ, Bool, true, false, List
 use Rattle.std.specs.List.{flat_map, list_any}
 use Rattle.krb_wire.specs.declared.format.Order.{Order}
 use Rattle.krb_walk.specs.declared.event.Event.{Event}
-use Rattle.krb_walk.specs.Said.{Said, Placed, Gone, Rewritten, Refused, Faulted}
+use Rattle.krb_walk.specs.Said.{Said, Placed, Gone, Rewritten}
 use Rattle.krb_walk.specs.History.{Moment, history, replies, state_after}
 use Rattle.krb_walk.specs.Ran.{Ran}
 use Rattle.krb_keytab.specs.Edit.{new_session}
@@ -20,10 +20,12 @@ use Rattle.krb_text.specs.Reply.{reply_text}
 use Rattle.krb_text.specs.Script.{ScriptFault, script}
 use Rattle.krb_commands.specs.declared.loading.NoKeytab.{NoKeytab}
 use Rattle.krb_commands.specs.declared.trouble.Trouble.TheVariants.{FaultyLine, FileNotRead, FileNotWritten, NoMemory}
+use Rattle.krb_commands.specs.ErrorOutput.{ErrorWatch}
 use Rattle.krb_commands.specs.Input.{GivesInput}
 use Rattle.krb_commands.specs.Loading.{most_bytes, keytab_or_new, LoadsFile, SavesFile}
 use Rattle.krb_commands.specs.Runs.{Run, Shows, Tells, ends_by}
-use Rattle.krb_commands.specs.Troubles.{Ending, ending_if_told, input_trouble, no_keytab_trouble, save_trouble}
+use Rattle.krb_commands.specs.Told.{replied_ending}
+use Rattle.krb_commands.specs.Troubles.{Ending, input_trouble, no_keytab_trouble, save_trouble}
 
 -- a reply that tells of a change of the keytab
 abbrev pub is_change : Said → Bool
@@ -31,12 +33,6 @@ is_change (Placed place) = true
 is_change (Gone place) = true
 is_change (Rewritten end) = true
 is_change said = false
-
--- a reply that tells of a refusal or of a fault
-abbrev pub is_trouble : Said → Bool
-is_trouble (Refused code) = true
-is_trouble (Faulted walk fault) = true
-is_trouble said = false
 
 module _ (keytab : KeytabState) (events : List (Event EntryParts)) where
   -- the events, each with its reply, over the keytab in a new session
@@ -57,7 +53,7 @@ module _ (keytab : KeytabState) (events : List (Event EntryParts)) where
 
   -- what is printed in the end, which may tell of trouble
   abbrev pub edit_run : Run
-  edit_run = record { out = reply_lines; ending = ending_if_told (list_any is_trouble (replies moments)) }
+  edit_run = record { out = reply_lines; ending = replied_ending (λ said. said) (replies moments) }
 
 -- ---- what is due
 
@@ -164,7 +160,7 @@ module _ {F : Type 0} (trait : Ghosts F) (file : List ℕ) (order : Order) (read
     pub spared : ending ≡ Err NoMemory → trait.is_honest old → SameFiles (trait.file old) (trait.file new)
 
   -- a run of ktedit: an edit, whose end is told
-  pub record RunsEdit (err err' : Watch) (status : ℕ) : Type 0 where
+  pub record RunsEdit (err err' : ErrorWatch) (status : ℕ) : Type 0 where
     pub ending : Ending
     pub edits : Edits ending
-    pub told : Tells file ending err err' status
+    pub told : Tells file None ending err err' status

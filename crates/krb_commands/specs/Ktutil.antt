@@ -3,6 +3,7 @@ use Rattle.std.specs.Prelude.{ℕ, ◌+◌, Bool, true, false, List}
 use Rattle.krb_wire.specs.declared.format.Order.{Order}
 use Rattle.krb_files.specs.declared.files.Files.{Ghosts}
 use Rattle.krb_files.specs.Bytes.{Watch}
+use Rattle.krb_commands.specs.ErrorOutput.{ErrorWatch}
 use Rattle.krb_commands.specs.KtutilPlan.{KtutilState}
 use Rattle.krb_commands.specs.Loading.{most_bytes}
 use Rattle.krb_commands.specs.KtutilTalk.{Talk, first_talk, Continues, Stops, TalksOver, EndsTalk}
@@ -10,7 +11,7 @@ use Rattle.krb_commands.specs.KtutilDue.{TalksHonestly}
 use Rattle.krb_files.specs.Reader.{Source, ConsumesAtMost}
 
 -- a run of ktutil: the lines of the input are handled in order, up to one that is the last or to the end
-pub record RunsKtutil {F : Type 0} (trait : Ghosts F) (order : Order) (now : ℕ) (input input' : Source) (old new : F) (out out' err err' : Watch) (status : ℕ) : Type 0 where
+pub record RunsKtutil {F : Type 0} (trait : Ghosts F) (order : Order) (now : ℕ) (input input' : Source) (old new : F) (out out' : Watch) (err err' : ErrorWatch) (status : ℕ) : Type 0 where
   pub lines : List (List ℕ)
   pub last : Talk F
   pub state : KtutilState

@@ -1,46 +1,52 @@
 -- What is due of the lines of ktutil where the files are honest.
-use Rattle.std.specs.Prelude.{◌≡◌, ◌⊎◌, ℕ, ◌+◌, max, IsTrue, List, [], ◌∷◌, ◌++◌, if◌then◌else◌, Option, IfSome, Ok}
+use Rattle.std.specs.Prelude.{◌≡◌, ◌⊎◌, ℕ, ◌+◌, max, IsTrue, List, [], ◌∷◌, ◌++◌, if◌then◌else◌, Option, None, Some, IfSome, Ok}
 use Rattle.std.specs.Io.KnownBytes.{Appends}
 use Rattle.krb_files.specs.declared.files.Files.{Ghosts}
 use Rattle.krb_files.specs.declared.files.LoadFault.{LoadFault}
-use Rattle.krb_files.specs.Bytes.{Watch}
 use Rattle.krb_files.specs.Files.{FileMap, SameFiles, CountsFailure}
+use Rattle.krb_commands.specs.ErrorOutput.{ErrorWatch}
 use Rattle.krb_commands.specs.KtutilPlan.{KtutilState, plan_of}
 use Rattle.krb_commands.specs.KtutilHonest.{follow}
 use Rattle.krb_commands.specs.InputLines.{lines_of}
 use Rattle.krb_commands.specs.KtutilTalk.{Talk, line_run, named_in, goes_on, AreFirst}
-use Rattle.krb_commands.specs.Runs.{Run, Says, ends_by}
-use Rattle.krb_commands.specs.Troubles.{ending_message, ending_status, input_trouble}
+use Rattle.krb_commands.specs.Runs.{Run, SaysEnd, ends_by}
+use Rattle.krb_commands.specs.Troubles.{Ending, ending_status, input_trouble}
 
--- what lines come to: the files after them, what is printed, the messages one by one, and the worst status
+-- what is told: an end, the file that may be named, and the line
+pub record Telling : Type 0 where
+  pub file : List ℕ
+  pub line : Option ℕ
+  pub ending : Ending
+
+-- what lines come to: the files after them, what is printed, what is told, one after the other, and the worst status
 pub record TalkDue : Type 0 where
   pub files : FileMap
   pub out : List ℕ
-  pub messages : List (List ℕ)
+  pub told : List Telling
   pub status : ℕ
 
--- one run, which may name that file, and then no line
-abbrev pub last_due : List ℕ → Run → FileMap → TalkDue
-last_due file run files = record { files = files; out = run.out; messages = ending_message file run.ending ∷ []; status = ending_status run.ending }
+-- one run, of that line, which may name that file, and then no line
+abbrev pub last_due : List ℕ → Option ℕ → Run → FileMap → TalkDue
+last_due file line run files = record { files = files; out = run.out; told = record { file = file; line = line; ending = run.ending } ∷ []; status = ending_status run.ending }
 
 -- one run, and then what is due after it
-abbrev pub due_after : List ℕ → Run → TalkDue → TalkDue
-due_after file run due = record { files = due.files; out = run.out ++ due.out; messages = ending_message file run.ending ∷ due.messages; status = max (ending_status run.ending) due.status }
+abbrev pub due_after : List ℕ → Option ℕ → Run → TalkDue → TalkDue
+due_after file line run due = record { files = due.files; out = run.out ++ due.out; told = record { file = file; line = line; ending = run.ending } ∷ due.told; status = max (ending_status run.ending) due.status }
 
 -- lines are followed one after the other, the first with that number, up to one that is the last; what is due after all of them is final
 abbrev pub talk_due : Run → ℕ → ℕ → List (List ℕ) → KtutilState → FileMap → TalkDue
-talk_due final now number [] state files = last_due [] final files
+talk_due final now number [] state files = last_due [] None final files
 talk_due final now number (line ∷ lines) state files =
     let followed = follow files (plan_of state now line) in
     let run = line_run number followed.outcome.ending followed.outcome.text in
     if goes_on followed.outcome.ending
-    then due_after (named_in line) run (talk_due final now (number + 1) lines followed.outcome.state followed.files)
-    else last_due (named_in line) run followed.files
+    then due_after (named_in line) (Some number) run (talk_due final now (number + 1) lines followed.outcome.state followed.files)
+    else last_due (named_in line) (Some number) run followed.files
 
--- messages were said one after the other, each of them whole unless the writer has failed
-abbrev pub SaysInTurn : Watch → Watch → List (List ℕ) → Type 0
-SaysInTurn old new [] = new ≡ old
-SaysInTurn old new (message ∷ messages) = (between : Watch) × Says old between message × SaysInTurn between new messages
+-- this was told, one after the other, each message whole unless the writer has failed
+abbrev pub TellsInTurn : ErrorWatch → ErrorWatch → List Telling → Type 0
+TellsInTurn old new [] = new ≡ old
+TellsInTurn old new (t ∷ others) = (between : ErrorWatch) × SaysEnd t.file t.line t.ending old between × TellsInTurn between new others
 
 -- nothing is printed, and all is well
 abbrev pub quiet_run : Run
@@ -55,7 +61,7 @@ module _ {F : Type 0} (trait : Ghosts F) where
   pub record LeavesDue (due : TalkDue) (old new : Talk F) : Type 0 where
     pub files : SameFiles due.files (trait.file new.files)
     pub out : Appends old.out.contents new.out.contents due.out
-    pub err : SaysInTurn old.err new.err due.messages
+    pub err : TellsInTurn old.err new.err due.told
     pub status : new.status ≡ max old.status due.status
 
   -- unless a file call failed, which is counted, or the output failed

@@ -62,7 +62,7 @@ no_keytab_end (Load load.Missing) = end.Load load.Missing
 no_keytab_end (Load load.TooLarge) = end.Load load.TooLarge
 no_keytab_end (Load load.Failed) = end.Load load.Failed
 no_keytab_end (Load load.NoMemory) = end.NoMemory
-no_keytab_end (Open fault) = end.NotAKeytab fault
+no_keytab_end (Open why) = end.NotAKeytab why
 
 -- how a line ends that saved its file, or could not
 abbrev pub save_end : Result (Unit {0}) SaveFault → LineEnd

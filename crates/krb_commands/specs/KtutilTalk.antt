@@ -1,5 +1,5 @@
 -- A run of ktutil, line after line.
-use Rattle.std.specs.Prelude.{◌≡◌, ◌≢◌, ◌⊎◌, ◌||◌, ℕ, ◌+◌, ◌<◌, max, take, Bool, true, false, IsTrue, IsFalse, List, [], ◌∷◌, ◌++◌, length, Option, None, IfSome, Ok, Err}
+use Rattle.std.specs.Prelude.{◌≡◌, ◌≢◌, ◌⊎◌, ◌||◌, ℕ, ◌+◌, ◌<◌, max, take, Bool, true, false, IsTrue, IsFalse, List, [], ◌∷◌, ◌++◌, length, Option, None, Some, IfSome, Ok, Err}
 use Rattle.krb_wire.specs.declared.format.Order.{Order}
 use Rattle.krb_files.specs.declared.files.Files.{Ghosts}
 use Rattle.krb_files.specs.declared.files.LoadFault.{LoadFault}
@@ -10,13 +10,14 @@ use Rattle.krb_files.specs.Reader.{Source, is_failed}
 use Rattle.krb_commands.specs.declared.ktutil.line_end.LineEnd.{LineEnd}
 use Rattle.krb_commands.specs.declared.ktutil.line_end.LineEnd.TheVariants as end
 use Rattle.krb_commands.specs.declared.trouble.Trouble.TheVariants as trouble
+use Rattle.krb_commands.specs.ErrorOutput.{ErrorWatch}
 use Rattle.krb_commands.specs.KtutilWords.{words, second}
 use Rattle.krb_commands.specs.KtutilPlan.{KtutilState, plan_of}
 use Rattle.krb_commands.specs.KtutilFiles.{Handles}
 use Rattle.krb_commands.specs.InputLines.{CutsOff, lines_of}
 use Rattle.krb_commands.specs.Loading.{most_bytes}
-use Rattle.krb_commands.specs.Runs.{Run, Says, EndsRun}
-use Rattle.krb_commands.specs.Troubles.{Ending, input_trouble, load_trouble, save_trouble, trouble_message, trouble_status}
+use Rattle.krb_commands.specs.Runs.{Run, SaysEnd, EndsRun}
+use Rattle.krb_commands.specs.Troubles.{Ending, input_trouble, load_trouble, save_trouble, trouble_status}
 
 -- how a line of that number ended
 abbrev pub ending_of : ℕ → LineEnd → Ending
@@ -24,7 +25,7 @@ ending_of number end.Done = Ok tt
 ending_of number end.Quit = Ok tt
 ending_of number (end.Fault fault) = Err (trouble.FaultyLine number fault)
 ending_of number (end.Refused code) = Err (trouble.LineRefused number code)
-ending_of number (end.NotAKeytab fault) = Err (trouble.NotAKeytab fault)
+ending_of number (end.NotAKeytab why) = Err (trouble.NotAKeytab why)
 ending_of number (end.Load fault) = Err (load_trouble fault)
 ending_of number (end.Save fault) = Err (save_trouble fault)
 ending_of number end.NoMemory = Err trouble.NoMemory
@@ -48,11 +49,11 @@ pub record Talk (F : Type 0) : Type 0 where
   pub files : F
   pub state : KtutilState
   pub out : Watch
-  pub err : Watch
+  pub err : ErrorWatch
   pub status : ℕ
 
 -- a run before its first line
-abbrev pub first_talk : {F : Type 0} → Order → F → Watch → Watch → Talk F
+abbrev pub first_talk : {F : Type 0} → Order → F → Watch → ErrorWatch → Talk F
 first_talk order files out err = record {
   files = files;
   state = record { order = order; entries = []; awaited = None };
@@ -71,7 +72,7 @@ module _ {F : Type 0} (trait : Ghosts F) (now : ℕ) where
     pub text : List ℕ
     pub status : ℕ
     pub handled : Handles trait (plan_of old.state now line) old.files new.files old.state new.state [] text ending
-    pub ends : EndsRun (named_in line) (line_run number ending text) old.out new.out old.err new.err status
+    pub ends : EndsRun (named_in line) (Some number) (line_run number ending text) old.out new.out old.err new.err status
     pub worst : new.status ≡ max old.status status
 
   -- a line was handled, and the next one may come
@@ -117,7 +118,7 @@ module _ {F : Type 0} (trait : Ghosts F) (now : ℕ) where
       pub read : List ℕ
       pub consumes : Consumes input.left input'.left read
       pub due : CutsOff lines (take most_bytes read) ⊎ IfSome input.left (λ bytes. lines_of bytes ≡ lines)
-      pub said : Says last.err end.err (trouble_message [] (input_trouble fault))
+      pub said : SaysEnd [] None (Err (input_trouble fault)) last.err end.err
       pub worst : end.status ≡ max last.status (trouble_status (input_trouble fault))
       pub files : end.files ≡ last.files
       pub out : end.out ≡ last.out

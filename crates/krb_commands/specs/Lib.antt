@@ -1,7 +1,13 @@
 -- What the contracts of this crate say.
 pub mod Messages
+pub mod PieceTexts
 pub mod Troubles
+pub mod Told
+pub mod Replied
+pub mod Words
+pub mod ErrorOutput
 pub mod Runs
+pub mod Mistakes
 pub mod Loading
 pub mod Input
 pub mod InputLines

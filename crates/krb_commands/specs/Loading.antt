@@ -1,8 +1,11 @@
 -- Files that are loaded and saved, and what is done with what was loaded.
-use Rattle.std.specs.Prelude.{◌≡◌, ◌⊎◌, ◌≤◌, ℕ, List, Result, Ok, Err, OnOk, OnErr}
+use Rattle.std.specs.Prelude.{◌≡◌, ◌⊎◌, ◌≤◌, ℕ, nat_eq, Bool, ◌||◌, List, [], ◌∷◌, None, Result, Ok, Err, OnOk, OnErr}
+use Rattle.std.specs.List.{starts_with}
 use Rattle.krb_wire.specs.declared.format.KtFormat.TheVariants.{V2}
 use Rattle.krb_wire.specs.declared.format.Order.{Order}
+use Rattle.krb_keytab.specs.declared.open.KtOpenFault.{KtOpenFault}
 use Rattle.krb_keytab.specs.Store.{KeytabState, empty, open_result}
+use Rattle.krb_ccache.specs.declared.open.CcOpenFault.{CcOpenFault}
 use Rattle.krb_ccache.specs.Store.{CacheState, open_result as cache_result}
 use Rattle.krb_files.specs.declared.files.Files.{Ghosts}
 use Rattle.krb_files.specs.declared.files.LoadFault.{LoadFault}
@@ -15,6 +18,7 @@ use Rattle.krb_commands.specs.declared.loading.NoKeytab.{NoKeytab}
 use Rattle.krb_commands.specs.declared.loading.NoKeytab.TheVariants.{Load, Open}
 use Rattle.krb_commands.specs.declared.trouble.Trouble.{Trouble}
 use Rattle.krb_commands.specs.declared.trouble.Trouble.TheVariants.{NotACache}
+use Rattle.krb_commands.specs.ErrorOutput.{ErrorWatch}
 use Rattle.krb_commands.specs.Troubles.{Ending, load_trouble}
 use Rattle.krb_commands.specs.Runs.{Run, Prints, Tells, ends_by}
 
@@ -29,9 +33,25 @@ abbrev pub result_map_err : {X E D : Type 0} → (E → D) → Result X E → Re
 result_map_err why (Ok x) = Ok x
 result_map_err why (Err e) = Err (why e)
 
+-- an image begins as a cache: with 5 and 3, or 5 and 4
+abbrev pub begins_as_cache : List ℕ → Bool
+begins_as_cache image = starts_with nat_eq image (5 ∷ 3 ∷ []) || starts_with nat_eq image (5 ∷ 4 ∷ [])
+
+-- an image begins as a keytab, or as a cache of version 1 or 2
+abbrev pub begins_as_keytab : List ℕ → Bool
+begins_as_keytab image = starts_with nat_eq image (5 ∷ 1 ∷ []) || starts_with nat_eq image (5 ∷ 2 ∷ [])
+
+-- why an image is no keytab
+abbrev pub not_keytab : List ℕ → KtOpenFault → NoKeytab
+not_keytab image fault = Open (record { fault = fault; is_cache = begins_as_cache image })
+
+-- why an image is no cache
+abbrev pub not_cache : List ℕ → CcOpenFault → Trouble
+not_cache image fault = NotACache (record { fault = fault; is_keytab = begins_as_keytab image })
+
 -- the keytab that a load gives, or why there is none
 abbrev pub keytab_of : Order → Result (List ℕ) LoadFault → Result KeytabState NoKeytab
-keytab_of order (Ok image) = result_map_err Open (open_result order most_bytes image)
+keytab_of order (Ok image) = result_map_err (not_keytab image) (open_result order most_bytes image)
 keytab_of order (Err fault) = Err (Load fault)
 
 -- the same, where a missing file is an empty keytab of version 2
@@ -41,7 +61,7 @@ keytab_or_new order answer = keytab_of order answer
 
 -- the cache that a load gives, or why there is none
 abbrev pub cache_of : Result (List ℕ) LoadFault → Result CacheState Trouble
-cache_of (Ok image) = result_map_err NotACache (cache_result most_bytes image)
+cache_of (Ok image) = result_map_err (not_cache image) (cache_result most_bytes image)
 cache_of (Err fault) = Err (load_trouble fault)
 
 -- something is done with what a load gives, or the run ends by what it gives instead
@@ -89,7 +109,7 @@ module _ {F : Type 0} (trait : Ghosts F) (old : F) (name : List ℕ) where
     pub prints : Prints (due answer) out out' ending
 
   -- a run over the file of a name: what a load of it answers decides what is printed and how the run ends, which is told
-  pub record RunsOver (due : Result (List ℕ) LoadFault → Run) (new : F) (out out' err err' : Watch) (status : ℕ) : Type 0 where
+  pub record RunsOver (due : Result (List ℕ) LoadFault → Run) (new : F) (out out' : Watch) (err err' : ErrorWatch) (status : ℕ) : Type 0 where
     pub ending : Ending
     pub prints : PrintsOver due new out out' ending
-    pub told : Tells name ending err err' status
+    pub told : Tells name None ending err err' status

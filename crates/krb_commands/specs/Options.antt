@@ -1,5 +1,5 @@
 -- What the words of a command ask for.
-use Rattle.std.specs.Prelude.{◌≡◌, ◌⊎◌, List, ℕ, Bool, ◌||◌, if◌then◌else◌, None, Some, IsSome, IsNone, Ok, IsOk, IsErr, string_bytes}
+use Rattle.std.specs.Prelude.{◌≡◌, ◌⊎◌, List, ℕ, Bool, if◌then◌else◌, codes, Option, None, Some, IsSome, IsNone, Ok, IsOk, IsErr, string_bytes}
 use Rattle.krb_wire.specs.declared.format.Order.{Order}
 use Rattle.krb_wire.specs.declared.format.Order.TheVariants.{Big, Little}
 use Rattle.krb_wire.specs.NameOf.{name_of}
@@ -19,9 +19,25 @@ use Rattle.krb_commands.specs.declared.options.KtfindWords.{KtfindWords}
 abbrev pub order_of : Bool → Order
 order_of v1_big = if v1_big then Big else Little
 
--- words that do not go together: those of a cache beside the word for a keytab, or those of a keytab without it
-abbrev pub are_at_odds : KlistWords → Bool
-are_at_odds words = if words.keytab then words.cache || words.flags || words.configs else words.times || words.keys || words.v1_big
+-- the first option that does not go with the word for a keytab
+abbrev pub odd_with_keytab : KlistWords → Option (List ℕ)
+odd_with_keytab words =
+    if words.cache then Some (codes "-c does not go with -k")
+    else (if words.flags then Some (codes "-f does not go with -k")
+    else (if words.configs then Some (codes "-C does not go with -k")
+    else None))
+
+-- the first option that asks for the word for a keytab
+abbrev pub odd_with_cache : KlistWords → Option (List ℕ)
+odd_with_cache words =
+    if words.times then Some (codes "-t is for keytabs; give -k")
+    else (if words.keys then Some (codes "-K is for keytabs; give -k")
+    else (if words.v1_big then Some (codes "--v1-big is for keytabs; give -k")
+    else None))
+
+-- what does not go together in the words, if something does not
+abbrev pub odd_option : KlistWords → Option (List ℕ)
+odd_option words = if words.keytab then odd_with_keytab words else odd_with_cache words
 
 -- the kind of file: a cache, unless the words name a keytab; each column has a word of its own
 abbrev pub list_kind : KlistWords → ListKind

@@ -1,10 +1,13 @@
 -- What a run of the program leaves.
-use Rattle.std.specs.Prelude.{◌≡◌, ◌⊎◌, ℕ, List, [], IsTrue, IsFalse, Err}
+use Rattle.std.specs.Prelude.{◌≡◌, ◌⊎◌, ℕ, List, [], IsTrue, IsFalse, Option, Err}
 use Rattle.std.specs.Io.KnownBytes.{Appends}
+use Rattle.krb_files.specs.declared.cause.Cause.{Cause}
 use Rattle.krb_files.specs.Bytes.{Watch, AppendsPrefix}
 use Rattle.krb_commands.specs.declared.trouble.Trouble.{Trouble}
 use Rattle.krb_commands.specs.declared.trouble.Trouble.TheVariants.{OutputNotWritten, NoMemory}
-use Rattle.krb_commands.specs.Troubles.{Ending, ending_message, ending_status}
+use Rattle.krb_commands.specs.ErrorOutput.{ErrorWatch}
+use Rattle.krb_commands.specs.Troubles.{Ending, ending_status}
+use Rattle.krb_commands.specs.Words.{ending_text}
 
 -- what a run prints, and how it ends
 pub record Run : Type 0 where
@@ -37,13 +40,19 @@ pub record Says (old new : Watch) (text : List ℕ) : Type 0 where
   pub prefix : AppendsPrefix old.contents new.contents text
   pub whole : IsFalse new.failed → Appends old.contents new.contents text
 
--- it is said how the run ended, and the status is of that
-pub record Tells (file : List ℕ) (ending : Ending) (err err' : Watch) (status : ℕ) : Type 0 where
-  pub said : Says err err' (ending_message file ending)
+-- it is said how a run, or a line of ktutil, ended that names that file; a cause is what the files told
+pub record SaysEnd (file : List ℕ) (line : Option ℕ) (ending : Ending) (err err' : ErrorWatch) : Type 0 where
+  pub cause : Option Cause
+  pub said : Says err.to err'.to (ending_text err.explains file line cause ending)
+  pub still : err'.explains ≡ err.explains
+
+-- it is said so, and the status is of that
+pub record Tells (file : List ℕ) (line : Option ℕ) (ending : Ending) (err err' : ErrorWatch) (status : ℕ) : Type 0 where
+  pub says : SaysEnd file line ending err err'
   pub status_is : status ≡ ending_status ending
 
--- a run was shown, and its end told
-pub record EndsRun (file : List ℕ) (due : Run) (out out' err err' : Watch) (status : ℕ) : Type 0 where
+-- a run or a line was shown, and its end told
+pub record EndsRun (file : List ℕ) (line : Option ℕ) (due : Run) (out out' : Watch) (err err' : ErrorWatch) (status : ℕ) : Type 0 where
   pub ending : Ending
   pub shows : Shows due out out' ending
-  pub told : Tells file ending err err' status
+  pub told : Tells file line ending err err' status

@@ -1,5 +1,6 @@
 -- What ends a run before its end: where it comes from, what is said of it, and the status.
-use Rattle.std.specs.Prelude.{ℕ, List, [], ◌++◌, Bool, true, false, Result, Ok, Err, codes, decimal}
+use Rattle.std.specs.Prelude.{ℕ, List, [], Option, None, Some, Result, Ok, Err, codes}
+use Rattle.krb_walk.specs.declared.fault.Fault.{Fault}
 use Rattle.krb_walk.specs.Numbers.{code_number}
 use Rattle.krb_keytab.specs.Open.{open_fault_number}
 use Rattle.krb_ccache.specs.Open.{open_fault_number as cache_fault_number}
@@ -12,20 +13,13 @@ use Rattle.krb_files.specs.declared.output.OutFault.TheVariants as out
 use Rattle.krb_text.specs.declared.script.ScriptRefusal.{ScriptRefusal}
 use Rattle.krb_text.specs.declared.script.ScriptRefusal.TheVariants as refusal
 use Rattle.krb_text.specs.LineFault.{line_fault_number}
-use Rattle.krb_commands.specs.declared.action.WordFault.{WordFault}
-use Rattle.krb_commands.specs.declared.action.WordFault.TheVariants as word
 use Rattle.krb_commands.specs.declared.loading.NoKeytab.{NoKeytab}
 use Rattle.krb_commands.specs.declared.loading.NoKeytab.TheVariants.{Load, Open}
 use Rattle.krb_commands.specs.declared.trouble.Trouble.{Trouble}
 use Rattle.krb_commands.specs.declared.trouble.Trouble.TheVariants as trouble
-use Rattle.krb_commands.specs.Messages.{message, file_message, line_message}
+use Rattle.krb_commands.specs.Messages.{message, file_message, file_number_message, line_message}
 
 -- ---- where it comes from
-
--- a command line that was not read
-abbrev pub word_trouble : WordFault → Trouble
-word_trouble word.BadLine = trouble.BadCommandLine
-word_trouble word.NoMemory = trouble.NoMemory
 
 -- an input that was not read; a reader is never missing
 abbrev pub input_trouble : LoadFault → Trouble
@@ -48,7 +42,12 @@ load_trouble load.NoMemory = trouble.NoMemory
 -- a file that gave no keytab
 abbrev pub no_keytab_trouble : NoKeytab → Trouble
 no_keytab_trouble (Load fault) = load_trouble fault
-no_keytab_trouble (Open fault) = trouble.NotAKeytab fault
+no_keytab_trouble (Open why) = trouble.NotAKeytab why
+
+-- a file to list that gave no keytab
+abbrev pub list_trouble : NoKeytab → Trouble
+list_trouble (Load fault) = load_trouble fault
+list_trouble (Open why) = trouble.NotAKeytabToList why
 
 -- a file that was not saved
 abbrev pub save_trouble : SaveFault → Trouble
@@ -64,7 +63,6 @@ out_trouble out.NoMemory = trouble.NoMemory
 
 -- the message, where the run or the line names that file
 abbrev pub trouble_message : List ℕ → Trouble → List ℕ
-trouble_message file trouble.BadCommandLine = message (codes "bad command line")
 trouble_message file trouble.InputTooLarge = message (codes "input too large")
 trouble_message file trouble.InputNotRead = message (codes "cannot read input")
 trouble_message file (trouble.FaultyLine line fault) = line_message line (codes "fault ") (line_fault_number fault)
@@ -73,10 +71,12 @@ trouble_message file trouble.NoSuchFile = file_message file (codes "no such file
 trouble_message file trouble.FileTooLarge = file_message file (codes "file too large")
 trouble_message file trouble.FileNotRead = file_message file (codes "cannot read")
 trouble_message file trouble.FileNotWritten = file_message file (codes "cannot write")
-trouble_message file (trouble.NotAKeytab fault) = file_message file (codes "not a keytab (" ++ decimal (open_fault_number fault) ++ codes ")")
-trouble_message file (trouble.NotACache fault) = file_message file (codes "not a cache (" ++ decimal (cache_fault_number fault) ++ codes ")")
-trouble_message file (trouble.Refused code) = file_message file (codes "refused " ++ decimal (code_number code))
-trouble_message file trouble.Told = []
+trouble_message file (trouble.NotAKeytab why) = file_number_message file (codes "not a keytab (") (open_fault_number why.fault) (codes ")")
+trouble_message file (trouble.NotAKeytabToList why) = file_number_message file (codes "not a keytab (") (open_fault_number why.fault) (codes ")")
+trouble_message file (trouble.NotACache why) = file_number_message file (codes "not a cache (") (cache_fault_number why.fault) (codes ")")
+trouble_message file (trouble.Refused code) = file_number_message file (codes "refused ") (code_number code) []
+trouble_message file (trouble.Listed fault) = []
+trouble_message file (trouble.Replied told) = []
 trouble_message file trouble.OutputNotWritten = message (codes "cannot write output")
 trouble_message file trouble.NoMemory = message (codes "out of memory")
 
@@ -87,7 +87,6 @@ trouble_status trouble.InputNotRead = 3
 trouble_status trouble.FileNotRead = 3
 trouble_status trouble.FileNotWritten = 3
 trouble_status trouble.OutputNotWritten = 3
-trouble_status trouble.BadCommandLine = 2
 trouble_status other = 1
 
 -- ---- how a run ends
@@ -96,10 +95,10 @@ trouble_status other = 1
 abbrev pub Ending : Type 0
 Ending = Result (Unit {0}) Trouble
 
--- what was printed may tell of trouble
-abbrev pub ending_if_told : Bool → Ending
-ending_if_told true = Err trouble.Told
-ending_if_told false = Ok tt
+-- a listing tells of a fault
+abbrev pub listing_ending : Option Fault → Ending
+listing_ending None = Ok tt
+listing_ending (Some fault) = Err (trouble.Listed fault)
 
 -- what is said of an end
 abbrev pub ending_message : List ℕ → Ending → List ℕ

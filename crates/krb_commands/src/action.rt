@@ -1,12 +1,8 @@
 //! What a command line asks for.
 
-ghost use Rattle.std.specs.Prelude.{◌≡◌};
-ghost use Rattle.krb_commands.specs.declared.action.WordFault.TheVariants.{NoMemory};
-
 use krb_text::{CcColumns, KtColumns};
 use krb_wire::{Order, Principal};
-use std::alloc::{AllocError, Allocator, Global};
-use thiserror::Error;
+use std::alloc::{Allocator, Global};
 
 /// The kind of file that klist lists, and what it shows of it.
 #[derive(Clone, Copy, Debug, PartialEq, Eq)]
@@ -48,21 +44,4 @@ pub enum Action {
     Ktutil(Order),
     /// To show that help.
     Help(String),
-}
-
-/// Why a command line was not read.
-#[derive(Clone, Copy, Debug, PartialEq, Eq, Error)]
-pub enum WordFault {
-    #[error("bad command line")]
-    BadLine,
-    #[error("out of memory")]
-    NoMemory,
-}
-
-impl From<AllocError> for WordFault {
-    ghost from_gives = { λ _ fault. fault ≡ NoMemory };
-
-    fn from(_error: AllocError) -> WordFault {
-        WordFault::NoMemory
-    }
 }

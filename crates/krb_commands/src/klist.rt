@@ -5,9 +5,10 @@ ghost use Rattle.krb_commands.specs.Klist.{listing};
 ghost use Rattle.krb_commands.specs.Loading.{PrintsOver, RunsOver};
 
 use crate::action::{KlistOptions, ListKind};
+use crate::error_output::ErrorOutput;
 use crate::loading::{load_cache, load_keytab};
-use crate::telling::tell;
-use crate::trouble::{Trouble, end_if_told};
+use crate::telling::{cause_of, tell};
+use crate::trouble::{Trouble, listing_end};
 use krb_files::{Files, Watched};
 use krb_text::{list_cache, list_keytab};
 use std::alloc::Allocator;
@@ -27,14 +28,17 @@ fn list_file<A: Allocator + Copy, F: Files, W: Write>(
 {
     match options.kind {
         ListKind::Keytab(columns) => {
-            let keytab = load_keytab(alloc, options.v1_order, files, file)?;
+            let keytab = match load_keytab(alloc, options.v1_order, files, file) {
+                Ok(keytab) => keytab,
+                Err(why) => return Err(Trouble::of_listed(why)),
+            };
             list_keytab(alloc, file, &keytab, columns, out)?;
-            end_if_told(keytab.fault().is_some())
+            listing_end(keytab.fault())
         }
         ListKind::Cache(columns) => {
             let cache = load_cache(alloc, files, file)?;
             list_cache(alloc, file, &cache, columns, out)?;
-            end_if_told(cache.fault().is_some())
+            listing_end(cache.fault())
         }
     }
 }
@@ -47,12 +51,13 @@ pub fn run_klist<A: Allocator + Copy, F: Files, W: Write, E: Write>(
     file: &str,
     files: &mut F,
     out: &mut Watched<W>,
-    err: &mut Watched<E>,
+    err: &mut ErrorOutput<E>,
 ) -> u8
     requires { IsFalse out.old.failed }
     ensures { RunsOver F.Files files.old file.now (listing options.now file.now) files.new
         out.old out.new err.old err.new result }
 {
     let ending = list_file(alloc, options, file, files, out);
-    tell(ending, file.as_bytes(), err)
+    let cause = cause_of(&ending, files, out);
+    tell(ending, file.as_bytes(), None, cause, err)
 }

@@ -4,12 +4,14 @@ ghost use Rattle.std.specs.Prelude.{◌≡◌, IfOk, IsFalse};
 ghost use Rattle.std.specs.List.{list_any};
 ghost use Rattle.krb_walk.specs.Said.{said};
 ghost use Rattle.krb_commands.specs.Edits.{may_change, run_of, IsEdited};
-ghost use Rattle.krb_commands.specs.Ktedit.{is_change, is_trouble, Edits, EditsFile, RunsEdit};
+ghost use Rattle.krb_commands.specs.Ktedit.{is_change, Edits, EditsFile, RunsEdit};
 
+use crate::error_output::ErrorOutput;
 use crate::input_lines::MOST_INPUT;
 use crate::loading::load_or_new;
-use crate::telling::{show, tell};
-use crate::trouble::{Trouble, end_if_told};
+use crate::telling::{cause_of, show, tell};
+use crate::told::replied_end;
+use crate::trouble::Trouble;
 use krb_files::{Files, Watched, WatchedReader, load};
 use krb_indexed::Indexed;
 use krb_keytab::{Keytab, NewEntry};
@@ -26,8 +28,8 @@ struct Edited<A: Allocator> {
     /// The lines of the replies.
     text: Vec<u8, A>,
     is_changed: bool,
-    /// Whether a reply tells of a refusal or of a fault.
-    is_trouble: bool,
+    /// How the run ends where nothing fails.
+    ending: Result<(), Trouble>,
 }
 
 // A reply that tells of a change of the keytab.
@@ -40,26 +42,10 @@ fn is_change<A: Allocator>(reply: &Reply<A>) -> bool
     }
 }
 
-// A reply that tells of a refusal or of a fault.
-fn is_trouble<A: Allocator>(reply: &Reply<A>) -> bool
-    ensures { result ≡ is_trouble (said reply.now) }
-{
-    match reply {
-        Reply::Refused(_) | Reply::Faulted { .. } => true,
-        _ => false,
-    }
-}
-
 fn are_changes<A: Allocator>(replies: &[Reply<A>]) -> bool
     ensures { result ≡ list_any (λ r. is_change (said r)) replies.now }
 {
     replies.iter().any(is_change)
-}
-
-fn are_trouble<A: Allocator>(replies: &[Reply<A>]) -> bool
-    ensures { result ≡ list_any (λ r. is_trouble (said r)) replies.now }
-{
-    replies.iter().any(is_trouble)
 }
 
 // Runs events over a keytab, by a table of its cells, in a session, and gathers the replies' lines.
@@ -83,7 +69,7 @@ fn edit<A: Allocator + Copy>(
         image: session.into_store().into_image(),
         text,
         is_changed: are_changes(&replies),
-        is_trouble: are_trouble(&replies),
+        ending: replied_end(&replies),
     })
 }
 
@@ -148,7 +134,7 @@ fn edit_file<A: Allocator + Copy, F: Files, R: Read, W: Write>(
     let edited = edit_held(alloc, v1_order, file, files, &events);
     files.release();
     let edited = edited?;
-    show(&edited.text, end_if_told(edited.is_trouble), out)
+    show(&edited.text, edited.ending, out)
 }
 
 /// Edits the keytab of that name by a script, and answers the status: loads it, runs the script's events
@@ -162,12 +148,16 @@ pub fn run_ktedit<A: Allocator + Copy, F: Files, R: Read, W: Write, E: Write>(
     files: &mut F,
     script: &mut WatchedReader<R>,
     out: &mut Watched<W>,
-    err: &mut Watched<E>,
+    err: &mut ErrorOutput<E>,
 ) -> u8
     requires { IsFalse out.old.failed }
     ensures { RunsEdit F.Files file.now v1_order script.old script.new
         files.old files.new out.old out.new err.old err.new result }
 {
     let ending = edit_file(alloc, v1_order, file, files, script, out);
-    tell(ending, file.as_bytes(), err)
+    let cause = match ending {
+        Err(Trouble::InputNotRead) => script.cause(),
+        _ => cause_of(&ending, files, out),
+    };
+    tell(ending, file.as_bytes(), None, cause, err)
 }

@@ -5,8 +5,9 @@ ghost use Rattle.krb_commands.specs.Ktfind.{finding};
 ghost use Rattle.krb_commands.specs.Loading.{PrintsOver, RunsOver};
 
 use crate::action::FindOptions;
+use crate::error_output::ErrorOutput;
 use crate::loading::load_keytab;
-use crate::telling::{show, tell};
+use crate::telling::{cause_of, show, tell};
 use crate::trouble::Trouble;
 use krb_files::{Files, Watched};
 use krb_text::found_text;
@@ -39,12 +40,13 @@ pub fn run_ktfind<A: Allocator + Copy, B: Allocator, F: Files, W: Write, E: Writ
     file: &str,
     files: &mut F,
     out: &mut Watched<W>,
-    err: &mut Watched<E>,
+    err: &mut ErrorOutput<E>,
 ) -> u8
     requires { IsFalse out.old.failed }
     ensures { RunsOver F.Files files.old file.now (finding options.now) files.new
         out.old out.new err.old err.new result }
 {
     let ending = find_in_file(alloc, options, file, files, out);
-    tell(ending, file.as_bytes(), err)
+    let cause = cause_of(&ending, files, out);
+    tell(ending, file.as_bytes(), None, cause, err)
 }

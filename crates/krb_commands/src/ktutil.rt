@@ -14,8 +14,9 @@ mod state;
 mod verb;
 mod words;
 
+use crate::error_output::ErrorOutput;
 use crate::input_lines::InputLines;
-use crate::telling::{show, tell};
+use crate::telling::{cause_of, show, tell};
 use crate::trouble::Trouble;
 use krb_files::{Files, Watched, WatchedReader};
 use krb_wire::Order;
@@ -55,7 +56,7 @@ fn ending_of(number: u64, ending: LineEnd) -> Result<(), Trouble>
             fault,
         }),
         LineEnd::Refused(code) => Err(Trouble::LineRefused { line: number, code }),
-        LineEnd::NotAKeytab(fault) => Err(Trouble::NotAKeytab(fault)),
+        LineEnd::NotAKeytab(why) => Err(Trouble::NotAKeytab(why)),
         LineEnd::Load(fault) => Err(Trouble::from(fault)),
         LineEnd::Save(fault) => Err(Trouble::from(fault)),
         LineEnd::NoMemory => Err(Trouble::NoMemory),
@@ -83,7 +84,7 @@ impl<A: Allocator + Copy> Talk<A> {
         line: &[u8],
         files: &mut F,
         out: &mut Watched<W>,
-        err: &mut Watched<E>,
+        err: &mut ErrorOutput<E>,
     ) -> bool
         requires { IsFalse out.old.failed }
         ensures next { HandlesNext F.Files self.old.now number line.now
@@ -95,7 +96,8 @@ impl<A: Allocator + Copy> Talk<A> {
         self.text.clear();
         let ending = self.ktutil.line(files, line, self.now, &mut self.text);
         let shown = show(&self.text, ending_of(number, ending), out);
-        let status = tell(shown, file_word(line), err);
+        let cause = cause_of(&shown, files, out);
+        let status = tell(shown, file_word(line), Some(number), cause, err);
         self.status = self.status.max(status);
         goes_on(ending, out.has_failed())
     }
@@ -112,7 +114,7 @@ pub fn run_ktutil<A: Allocator + Copy, F: Files, R: Read, W: Write, E: Write>(
     input: &mut WatchedReader<R>,
     now: u32,
     out: &mut Watched<W>,
-    err: &mut Watched<E>,
+    err: &mut ErrorOutput<E>,
 ) -> u8
     requires { IsFalse out.old.failed }
     ensures { RunsKtutil F.Files v1_order now input.old input.new
@@ -126,7 +128,7 @@ pub fn run_ktutil<A: Allocator + Copy, F: Files, R: Read, W: Write, E: Write>(
             Ok(true) => {}
             Ok(false) => return talk.status,
             Err(fault) => {
-                let status = tell(Err(Trouble::of_input(fault)), b"", err);
+                let status = tell(Err(Trouble::of_input(fault)), b"", None, input.cause(), err);
                 return talk.status.max(status);
             }
         }

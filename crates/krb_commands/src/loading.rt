@@ -2,12 +2,12 @@
 
 ghost use Rattle.std.specs.Prelude.{◌≡◌, Err};
 ghost use Rattle.krb_keytab.specs.Store.{open_result};
-ghost use Rattle.krb_commands.specs.declared.loading.NoKeytab.TheVariants.{Load, Open};
+ghost use Rattle.krb_commands.specs.declared.loading.NoKeytab.TheVariants.{Load};
 ghost use Rattle.krb_commands.specs.KtutilCommand.{result_map};
-ghost use Rattle.krb_commands.specs.Loading.{Gives, GivesOrRunsOut, cache_of, keytab_of, keytab_or_new, most_bytes, result_map_err};
+ghost use Rattle.krb_commands.specs.Loading.{Gives, GivesOrRunsOut, begins_as_cache, begins_as_keytab, cache_of, keytab_of, keytab_or_new, most_bytes, not_keytab, result_map_err};
 
 use crate::trouble::Trouble;
-use krb_ccache::Ccache;
+use krb_ccache::{CcOpenFault, Ccache};
 use krb_files::{Files, LoadFault};
 use krb_keytab::{Keytab, KtOpenFault};
 use krb_wire::{KtFormat, Limits, Order};
@@ -22,7 +22,21 @@ pub enum NoKeytab {
     /// It was not loaded, or there was no memory for a new one.
     Load(LoadFault),
     /// Its image is no keytab.
-    Open(KtOpenFault),
+    Open(NotKeytab),
+}
+
+/// Why an image is no keytab, and whether it begins as a cache.
+#[derive(Clone, Copy, Debug, PartialEq, Eq)]
+pub struct NotKeytab {
+    pub fault: KtOpenFault,
+    pub is_cache: bool,
+}
+
+/// Why an image is no cache, and whether it begins as a keytab or as a cache of version 1 or 2.
+#[derive(Clone, Copy, Debug, PartialEq, Eq)]
+pub struct NotCache {
+    pub fault: CcOpenFault,
+    pub is_keytab: bool,
 }
 
 impl From<LoadFault> for NoKeytab {
@@ -33,13 +47,28 @@ impl From<LoadFault> for NoKeytab {
     }
 }
 
+fn begins_as_cache(image: &[u8]) -> bool
+    ensures { result ≡ begins_as_cache image.now }
+{
+    image.starts_with(&[5, 3]) || image.starts_with(&[5, 4])
+}
+
+fn begins_as_keytab(image: &[u8]) -> bool
+    ensures { result ≡ begins_as_keytab image.now }
+{
+    image.starts_with(&[5, 1]) || image.starts_with(&[5, 2])
+}
+
 fn open<A: Allocator>(v1_order: Order, image: Vec<u8, A>) -> Result<Keytab<A>, NoKeytab>
     ensures { result_map (λ k. k.state) result
-        ≡ result_map_err Open (open_result v1_order most_bytes image.items) }
+        ≡ result_map_err (not_keytab image.items) (open_result v1_order most_bytes image.items) }
 {
     match Keytab::open(image, v1_order, Limits::usual()) {
         Ok(keytab) => Ok(keytab),
-        Err(refused) => Err(NoKeytab::Open(refused.why)),
+        Err(refused) => Err(NoKeytab::Open(NotKeytab {
+            fault: refused.why,
+            is_cache: begins_as_cache(&refused.image),
+        })),
     }
 }
 
@@ -90,6 +119,9 @@ pub fn load_cache<A: Allocator, F: Files>(
     let image = files.load(alloc, name, MOST_BYTES)?;
     match Ccache::open(image, Limits::usual()) {
         Ok(cache) => Ok(cache),
-        Err(refused) => Err(Trouble::NotACache(refused.why)),
+        Err(refused) => Err(Trouble::NotACache(NotCache {
+            fault: refused.why,
+            is_keytab: begins_as_keytab(&refused.image),
+        })),
     }
 }

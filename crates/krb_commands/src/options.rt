@@ -1,12 +1,14 @@
 //! From the words of a command to what they ask for.
 
-ghost use Rattle.std.specs.Prelude.{◌≡◌, ◌↔◌, IsTrue, IsFalse, IsOk, IsErr, OnOk, IfOk, IfErr, IsErrOf, None, Ok};
+ghost use Rattle.std.specs.Prelude.{◌≡◌, ◌↔◌, IsSome, IsOk, IsErr, OnOk, IfOk, IfErr, IsErrOf, None, Some, Ok, option_map};
 ghost use Rattle.krb_wire.specs.NameOf.{name_of};
 ghost use Rattle.krb_wire.specs.Reading.{principal_parts};
 ghost use Rattle.krb_commands.specs.declared.action.Action.TheVariants.{Ktutil};
-ghost use Rattle.krb_commands.specs.Options.{order_of, are_at_odds, list_kind, list_options, Spells, IsReadable, IsUnreadable, AsksToList, AsksToEdit, AsksToFind};
+ghost use Rattle.krb_commands.specs.Mistakes.{IfMistake, IsBadLine, mistake_phrase};
+ghost use Rattle.krb_commands.specs.Options.{order_of, odd_option, odd_with_cache, odd_with_keytab, list_kind, list_options, Spells, IsReadable, IsUnreadable, AsksToList, AsksToEdit, AsksToFind};
 
-use crate::action::{Action, FindOptions, KlistOptions, ListKind, WordFault};
+use crate::action::{Action, FindOptions, KlistOptions, ListKind};
+use crate::mistake::{Mistake, WordFault};
 use krb_text::{CcColumns, KtColumns, etype_of, parse_u32};
 use krb_wire::{NameFault, Order, Principal, parse_name};
 use std::alloc::Global;
@@ -54,14 +56,44 @@ fn order_of(v1_big: bool) -> Order
     if v1_big { Order::Big } else { Order::Little }
 }
 
-// Whether the words do not go together: each kind of file has options of its own.
-fn are_at_odds(words: &KlistWords<'_>) -> bool
-    ensures { result ≡ are_at_odds words.now }
+// An option that does not go with a keytab.
+fn odd_with_keytab(words: &KlistWords<'_>) -> Option<Mistake<'static>>
+    ensures { option_map mistake_phrase result ≡ odd_with_keytab words.now }
+{
+    if words.cache {
+        Some(Mistake::DoNotGoTogether("-c", "-k"))
+    } else if words.flags {
+        Some(Mistake::DoNotGoTogether("-f", "-k"))
+    } else if words.configs {
+        Some(Mistake::DoNotGoTogether("-C", "-k"))
+    } else {
+        None
+    }
+}
+
+// An option that goes with a keytab alone.
+fn odd_with_cache(words: &KlistWords<'_>) -> Option<Mistake<'static>>
+    ensures { option_map mistake_phrase result ≡ odd_with_cache words.now }
+{
+    if words.times {
+        Some(Mistake::ForKeytabs("-t"))
+    } else if words.keys {
+        Some(Mistake::ForKeytabs("-K"))
+    } else if words.v1_big {
+        Some(Mistake::ForKeytabs("--v1-big"))
+    } else {
+        None
+    }
+}
+
+// The first option that does not go with the others: each kind of file has options of its own.
+fn odd_option(words: &KlistWords<'_>) -> Option<Mistake<'static>>
+    ensures { option_map mistake_phrase result ≡ odd_option words.now }
 {
     if words.keytab {
-        words.cache || words.flags || words.configs
+        odd_with_keytab(words)
     } else {
-        words.times || words.keys || words.v1_big
+        odd_with_cache(words)
     }
 }
 
@@ -95,20 +127,21 @@ fn list_options(words: &KlistWords<'_>) -> KlistOptions
 
 /// What the words of klist ask for. They have to go together: the options of a keytab with the word for it, and
 /// those of a cache without.
-pub fn klist_action(alloc: Global, words: &KlistWords<'_>) -> Result<Action, WordFault>
+pub fn klist_action<'a>(alloc: Global, words: &KlistWords<'a>) -> Result<Action, WordFault<'a>>
     ensures ok { IfOk result (λ action. AsksToList action (list_options words.now) words.now.file.now) }
-    ensures together { OnOk result (IsFalse (are_at_odds words.now)) }
-    ensures bad { IsErrOf result WordFault.BadLine ↔ IsTrue (are_at_odds words.now) }
+    ensures together { OnOk result (odd_option words.now ≡ None) }
+    ensures bad { IsBadLine result ↔ IsSome (odd_option words.now) }
+    ensures mistake { IfMistake result (λ mistake. Some (mistake_phrase mistake) ≡ odd_option words.now) }
 {
-    if are_at_odds(words) {
-        return Err(WordFault::BadLine);
+    if let Some(mistake) = odd_option(words) {
+        return Err(WordFault::of("klist", mistake));
     }
     let file = String::from_str(alloc, words.file)?;
     Ok(Action::Klist(list_options(words), file))
 }
 
 /// What the words of ktedit ask for.
-pub fn ktedit_action(alloc: Global, words: &KteditWords<'_>) -> Result<Action, WordFault>
+pub fn ktedit_action<'a>(alloc: Global, words: &KteditWords<'a>) -> Result<Action, WordFault<'a>>
     ensures ok { IfOk result (λ action. AsksToEdit action (order_of words.now.v1_big) words.now.file.now) }
     ensures memory { IfErr result (λ fault. fault ≡ WordFault.NoMemory) }
 {
@@ -124,26 +157,33 @@ pub fn ktutil_action(words: KtutilWords) -> Action
 }
 
 // The name that a word spells, with its realm.
-fn name_of(alloc: Global, text: &str) -> Result<Principal<Global>, WordFault>
+fn name_of(alloc: Global, text: &str) -> Result<Principal<Global>, WordFault<'_>>
     ensures ok { IfOk result (λ name. name_of text.now None ≡ Ok (principal_parts name)) }
-    ensures bad { IsErrOf result WordFault.BadLine → IsErr (name_of text.now None) }
+    ensures bad { IsBadLine result → IsErr (name_of text.now None) }
     ensures memory { IsErrOf result WordFault.NoMemory → IsOk (name_of text.now None) }
 {
     match parse_name(alloc, text.as_bytes(), None) {
         Ok(name) => Ok(name),
         Err(NameFault::NoMemory) => Err(WordFault::NoMemory),
-        Err(_) => Err(WordFault::BadLine),
+        Err(fault) => Err(WordFault::of("ktfind", Mistake::BadName(text, fault))),
     }
 }
 
 // What the words say, but for the file.
-fn find_options(alloc: Global, words: &KtfindWords<'_>) -> Result<FindOptions<Global>, WordFault>
+fn find_options<'a>(
+    alloc: Global,
+    words: &KtfindWords<'a>,
+) -> Result<FindOptions<Global>, WordFault<'a>>
     ensures ok { IfOk result (Spells words.now) }
-    ensures bad { IsErrOf result WordFault.BadLine → IsUnreadable words.now }
+    ensures bad { IsBadLine result → IsUnreadable words.now }
     ensures memory { IsErrOf result WordFault.NoMemory → IsReadable words.now }
 {
-    let kvno = parse_u32(words.kvno.as_bytes()).ok_or(WordFault::BadLine)?;
-    let enctype = etype_of(words.etype.as_bytes()).ok_or(WordFault::BadLine)?;
+    let Some(kvno) = parse_u32(words.kvno.as_bytes()) else {
+        return Err(WordFault::of("ktfind", Mistake::NoVersion(words.kvno)));
+    };
+    let Some(enctype) = etype_of(words.etype.as_bytes()) else {
+        return Err(WordFault::of("ktfind", Mistake::NoEtype(words.etype)));
+    };
     Ok(FindOptions {
         name: name_of(alloc, words.name)?,
         kvno,
@@ -154,9 +194,9 @@ fn find_options(alloc: Global, words: &KtfindWords<'_>) -> Result<FindOptions<Gl
 
 /// What the words of ktfind ask for: a number, an encryption type and a name with its realm have to be
 /// spelled by them.
-pub fn ktfind_action(alloc: Global, words: &KtfindWords<'_>) -> Result<Action, WordFault>
+pub fn ktfind_action<'a>(alloc: Global, words: &KtfindWords<'a>) -> Result<Action, WordFault<'a>>
     ensures ok { IfOk result (AsksToFind words.now) }
-    ensures bad { IsErrOf result WordFault.BadLine → IsUnreadable words.now }
+    ensures bad { IsBadLine result → IsUnreadable words.now }
     ensures memory { IsErrOf result WordFault.NoMemory → IsReadable words.now }
 {
     let options = find_options(alloc, words)?;

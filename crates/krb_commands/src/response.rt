@@ -1,16 +1,17 @@
 //! From what was asked for to the status.
 
-ghost use Rattle.std.specs.Prelude.{[], IsFalse};
+ghost use Rattle.std.specs.Prelude.{[], None, IsFalse};
 ghost use Rattle.krb_commands.specs.Actions.{EndsAsked, help_run};
 ghost use Rattle.krb_commands.specs.Runs.{EndsRun};
 
-use crate::action::{Action, WordFault};
+use crate::action::Action;
+use crate::error_output::ErrorOutput;
 use crate::klist::run_klist;
 use crate::ktedit::run_ktedit;
 use crate::ktfind::run_ktfind;
 use crate::ktutil::run_ktutil;
-use crate::telling::{show, tell};
-use crate::trouble::Trouble;
+use crate::mistake::WordFault;
+use crate::telling::{show, tell, tell_word_fault};
 use krb_files::{Files, Watched, WatchedReader};
 use std::alloc::Allocator;
 use std::io::{Read, Write};
@@ -22,23 +23,23 @@ pub struct Streams<R: Read, W: Write, E: Write> {
     pub input: WatchedReader<R>,
     pub out: Watched<W>,
     /// Takes what is said of what goes wrong.
-    pub err: Watched<E>,
+    pub err: ErrorOutput<E>,
 }
 
 // Shows help that was asked for.
-fn show_help<W: Write, E: Write>(text: &str, out: &mut Watched<W>, err: &mut Watched<E>) -> u8
+fn show_help<W: Write, E: Write>(text: &str, out: &mut Watched<W>, err: &mut ErrorOutput<E>) -> u8
     requires { IsFalse out.old.failed }
-    ensures { EndsRun [] (help_run text.now) out.old out.new err.old err.new result }
+    ensures { EndsRun [] None (help_run text.now) out.old out.new err.old err.new result }
 {
     let ending = show(text.as_bytes(), Ok(()), out);
-    tell(ending, b"", err)
+    tell(ending, b"", None, out.cause(), err)
 }
 
 /// Does what was asked for, or says why the command line was not read, and answers the status. Entries are
 /// made at `now`, in seconds. A failure of `err` changes nothing else.
 pub fn respond<A: Allocator + Copy, F: Files, R: Read, W: Write, E: Write>(
     alloc: A,
-    asked: &Result<Action, WordFault>,
+    asked: &Result<Action, WordFault<'_>>,
     files: &mut F,
     now: u32,
     streams: &mut Streams<R, W, E>,
@@ -62,6 +63,6 @@ pub fn respond<A: Allocator + Copy, F: Files, R: Read, W: Write, E: Write>(
             run_ktutil(alloc, *v1_order, files, input, now, out, err)
         }
         Ok(Action::Help(text)) => show_help(text.as_str(), out, err),
-        Err(fault) => tell(Err(Trouble::from(*fault)), b"", err),
+        Err(fault) => tell_word_fault(*fault, err),
     }
 }

@@ -1,17 +1,27 @@
 //! What a run shows, and how its end is told.
 
-ghost use Rattle.std.specs.Prelude.{◌++◌, decimal, OnOk, OnErr, IsTrue, IsFalse};
-ghost use Rattle.std.specs.List.{flat_map};
-ghost use Rattle.krb_files.specs.Bytes.{AppendsPrefix};
-ghost use Rattle.krb_text.specs.Gathered.{Sent};
-ghost use Rattle.krb_commands.specs.Messages.{message, file_message, line_message};
-ghost use Rattle.krb_commands.specs.Runs.{Says, Shows, Tells};
+mod mistake_words;
+mod piece;
+mod saying;
+mod told_words;
+mod words;
+
+ghost use Rattle.std.specs.Prelude.{◌≡◌, IsFalse, Err, codes};
+ghost use Rattle.krb_keytab.specs.Open.{open_fault_number};
+ghost use Rattle.krb_commands.specs.Messages.{file_message, file_number_message, line_message, message};
+ghost use Rattle.krb_commands.specs.PieceTexts.{pieces_text};
+ghost use Rattle.krb_commands.specs.Runs.{SaysEnd, Shows, Tells};
 ghost use Rattle.krb_commands.specs.Troubles.{trouble_message};
 
+use crate::error_output::ErrorOutput;
+use crate::loading::NotKeytab;
+use crate::telling::piece::Piece;
+use crate::telling::saying::say;
+use crate::telling::told_words::say_told;
+use crate::telling::words::trouble_words;
 use crate::trouble::Trouble;
-use arrayvec::ArrayVec;
-use itoa::Buffer;
-use krb_files::{OutFault, Watched, put};
+use krb_files::{Cause, Files, Watched, put};
+pub use mistake_words::tell_word_fault;
 use std::io::Write;
 
 /// Shows a text, and then ends so; or by an output that failed.
@@ -27,147 +37,155 @@ pub fn show<W: Write>(
     ending
 }
 
-// A line that names a file has room in this, if the name has at most 4,096 bytes.
-const LINE: usize = 4160;
+/// The pieces of a message. What is not needed is empty.
+type Message<'a> = [Piece<'a>; 7];
 
-// Gathers one more text. Where there is no room for it, writes what was gathered, and then the text.
-fn add<E: Write>(
-    text: &[u8],
-    line: &mut ArrayVec<u8, LINE>,
-    err: &mut Watched<E>,
-) -> Result<(), OutFault>
-    ensures ok { OnOk result (Sent err.old.contents err.new.contents
-        (line.old.items ++ text.now) line.new.items) }
-    ensures prefix { OnErr result (AppendsPrefix err.old.contents err.new.contents
-        (line.old.items ++ text.now)) }
-    ensures failed { OnErr result (IsTrue err.new.failed) }
+const NONE: Piece<'static> = Piece::Text("");
+
+// What is said.
+fn message<'a>(what: &'a str) -> Message<'a>
+    ensures { pieces_text result ≡ message what.now }
 {
-    match line.try_extend_from_slice(text) {
-        Ok(()) => Ok(()),
-        Err(_) => {
-            put(err, line.as_slice())?;
-            line.clear();
-            put(err, text)
-        }
-    }
+    let head = Piece::Text("krbfile: ");
+    let end = Piece::Text("\n");
+    [head, Piece::Text(what), end, NONE, NONE, NONE, NONE]
 }
 
-// Says the texts one after the other, in one write if they have room in a line.
-fn say<E: Write>(err: &mut Watched<E>, texts: &[&[u8]])
-    ensures { Says err.old err.new (flat_map (λ text. text.now) texts.now) }
+// What is said of a file.
+fn file_message<'a>(file: &'a [u8], what: &'a str) -> Message<'a>
+    ensures { pieces_text result ≡ file_message file.now what.now }
 {
-    let mut line = ArrayVec::new();
-    for text in texts {
-        match add(text, &mut line, err) {
-            Ok(()) => {}
-            Err(_) => return,
-        }
-    }
-    let _ = put(err, line.as_slice());
+    [
+        Piece::Text("krbfile: "),
+        Piece::Name(file),
+        Piece::Text(": "),
+        Piece::Text(what),
+        Piece::Text("\n"),
+        NONE,
+        NONE,
+    ]
 }
 
-// Says something.
-fn complain<E: Write>(err: &mut Watched<E>, what: &str)
-    ensures { Says err.old err.new (message what.now) }
-{
-    say(err, &[b"krbfile: ", what.as_bytes(), b"\n"]);
-}
-
-// Says something of a file.
-fn complain_of<E: Write>(err: &mut Watched<E>, file: &[u8], what: &str)
-    ensures { Says err.old err.new (file_message file.now what.now) }
-{
-    say(err, &[b"krbfile: ", file, b": ", what.as_bytes(), b"\n"]);
-}
-
-// Says something of a file that has a number in it.
-fn complain_number_of<'a, E: Write>(
-    err: &mut Watched<E>,
+// What is said of a file, with a number between two texts.
+fn file_number_message<'a>(
     file: &'a [u8],
     before: &'a str,
     number: u32,
     after: &'a str,
-)
-    ensures { Says err.old err.new
-        (file_message file.now (before.now ++ decimal number ++ after.now)) }
+) -> Message<'a>
+    ensures { pieces_text result ≡ file_number_message file.now before.now number after.now }
 {
-    let mut buffer = Buffer::new();
-    let digits = buffer.format(number);
-    say(
-        err,
-        &[
-            b"krbfile: ",
-            file,
-            b": ",
-            before.as_bytes(),
-            digits.as_bytes(),
-            after.as_bytes(),
-            b"\n",
-        ],
-    );
+    [
+        Piece::Text("krbfile: "),
+        Piece::Name(file),
+        Piece::Text(": "),
+        Piece::Text(before),
+        Piece::Number(u64::from(number)),
+        Piece::Text(after),
+        Piece::Text("\n"),
+    ]
 }
 
-// Says something of a line of the input that has a number in it.
-fn complain_of_line<E: Write>(err: &mut Watched<E>, line: u64, what: &str, number: u32)
-    ensures { Says err.old err.new (line_message line what.now number) }
+// What is said of a line of the input, with a number.
+fn line_message<'a>(line: u64, what: &'a str, number: u32) -> Message<'a>
+    ensures { pieces_text result ≡ line_message line what.now number }
 {
-    let mut line_buffer = Buffer::new();
-    let mut buffer = Buffer::new();
-    let line_digits = line_buffer.format(line);
-    let digits = buffer.format(number);
-    say(
-        err,
-        &[
-            b"krbfile: line ",
-            line_digits.as_bytes(),
-            b": ",
-            what.as_bytes(),
-            digits.as_bytes(),
-            b"\n",
-        ],
-    );
+    [
+        Piece::Text("krbfile: line "),
+        Piece::Number(line),
+        Piece::Text(": "),
+        Piece::Text(what),
+        Piece::Number(u64::from(number)),
+        Piece::Text("\n"),
+        NONE,
+    ]
 }
 
-// Says what ended a run, where that was not told before.
-fn tell_trouble<E: Write>(trouble: Trouble, file: &[u8], err: &mut Watched<E>)
-    ensures { Says err.old err.new (trouble_message file.now trouble) }
+// That a file is no keytab.
+fn not_keytab_message(file: &[u8], why: NotKeytab) -> Message<'_>
+    ensures { pieces_text result ≡ file_number_message file.now
+        (codes "not a keytab (") (open_fault_number why.fault) (codes ")") }
+{
+    file_number_message(file, "not a keytab (", why.fault.number(), ")")
+}
+
+// What ended a run, where that was not told before.
+fn trouble_message(trouble: Trouble, file: &[u8]) -> Message<'_>
+    ensures { pieces_text result ≡ trouble_message file.now trouble }
 {
     match trouble {
-        Trouble::BadCommandLine => complain(err, "bad command line"),
-        Trouble::InputTooLarge => complain(err, "input too large"),
-        Trouble::InputNotRead => complain(err, "cannot read input"),
-        Trouble::FaultyLine { line, fault } => {
-            complain_of_line(err, line, "fault ", fault.number())
+        Trouble::InputTooLarge => message("input too large"),
+        Trouble::InputNotRead => message("cannot read input"),
+        Trouble::FaultyLine { line, fault } => line_message(line, "fault ", fault.number()),
+        Trouble::LineRefused { line, code } => line_message(line, "refused ", code.number()),
+        Trouble::NoSuchFile => file_message(file, "no such file"),
+        Trouble::FileTooLarge => file_message(file, "file too large"),
+        Trouble::FileNotRead => file_message(file, "cannot read"),
+        Trouble::FileNotWritten => file_message(file, "cannot write"),
+        Trouble::NotAKeytab(why) => not_keytab_message(file, why),
+        Trouble::NotAKeytabToList(why) => not_keytab_message(file, why),
+        Trouble::NotACache(why) => {
+            file_number_message(file, "not a cache (", why.fault.number(), ")")
         }
-        Trouble::LineRefused { line, code } => {
-            complain_of_line(err, line, "refused ", code.number())
-        }
-        Trouble::NoSuchFile => complain_of(err, file, "no such file"),
-        Trouble::FileTooLarge => complain_of(err, file, "file too large"),
-        Trouble::FileNotRead => complain_of(err, file, "cannot read"),
-        Trouble::FileNotWritten => complain_of(err, file, "cannot write"),
-        Trouble::NotAKeytab(fault) => {
-            complain_number_of(err, file, "not a keytab (", fault.number(), ")")
-        }
-        Trouble::NotACache(fault) => {
-            complain_number_of(err, file, "not a cache (", fault.number(), ")")
-        }
-        Trouble::Refused(code) => complain_number_of(err, file, "refused ", code.number(), ""),
-        Trouble::Told => {}
-        Trouble::OutputNotWritten => complain(err, "cannot write output"),
-        Trouble::NoMemory => complain(err, "out of memory"),
+        Trouble::Refused(code) => file_number_message(file, "refused ", code.number(), ""),
+        Trouble::Listed(_) | Trouble::Replied(_) => [NONE; 7],
+        Trouble::OutputNotWritten => message("cannot write output"),
+        Trouble::NoMemory => message("out of memory"),
     }
 }
 
-/// Says on `err` how a run or a line that names a file ended, and answers the status. A failure of `err`
-/// is passed over.
-pub fn tell<E: Write>(ending: Result<(), Trouble>, file: &[u8], err: &mut Watched<E>) -> u8
-    ensures { Tells file.now ending err.old err.new result }
+/// What ended a run failed with, where a call over a file or a write did.
+pub fn cause_of<F: Files, W: Write>(
+    ending: &Result<(), Trouble>,
+    files: &F,
+    out: &Watched<W>,
+) -> Option<Cause> {
+    match ending {
+        Err(Trouble::OutputNotWritten) => out.cause(),
+        _ => files.cause(),
+    }
+}
+
+// Says what ended a run, with words where they are shown.
+fn say_trouble<E: Write>(
+    trouble: Trouble,
+    file: &[u8],
+    line: Option<u64>,
+    cause: Option<Cause>,
+    err: &mut ErrorOutput<E>,
+)
+    ensures { SaysEnd file.now line (Err trouble) err.old err.new }
+{
+    let message = trouble_message(trouble, file);
+    if !err.explains {
+        say(&mut err.to, &message, &[]);
+        return;
+    }
+    match trouble {
+        Trouble::Replied(told) => say_told(&mut err.to, &told),
+        _ => say(
+            &mut err.to,
+            &message,
+            &trouble_words(trouble, file, line, cause),
+        ),
+    }
+}
+
+/// Tells on `err` how a run, or that line of ktutil, ended that names that file, and answers the status. A
+/// failure of `err` is passed over. The cause is that of the call that failed, if one did.
+pub fn tell<E: Write>(
+    ending: Result<(), Trouble>,
+    file: &[u8],
+    line: Option<u64>,
+    cause: Option<Cause>,
+    err: &mut ErrorOutput<E>,
+) -> u8
+    ensures { Tells file.now line ending err.old err.new result }
 {
     match ending {
         Ok(()) => 0,
         Err(trouble) => {
-            tell_trouble(trouble, file, err);
+            say_trouble(trouble, file, line, cause, err);
             trouble.status()
         }
     }

@@ -3,5 +3,7 @@
 mod commands;
 mod images;
 mod messages;
+mod mistakes;
 mod responses;
 mod runs;
+mod words;

@@ -2,22 +2,19 @@
 
 ghost use Rattle.std.specs.Prelude.{◌≡◌};
 ghost use Rattle.krb_commands.specs.declared.trouble.Trouble.TheVariants as trouble;
-ghost use Rattle.krb_commands.specs.Troubles.{ending_if_told, input_trouble, load_trouble, no_keytab_trouble, out_trouble, save_trouble, script_trouble, trouble_status, word_trouble};
+ghost use Rattle.krb_commands.specs.Troubles.{input_trouble, list_trouble, listing_ending, load_trouble, no_keytab_trouble, out_trouble, save_trouble, script_trouble, trouble_status};
 
-use crate::action::WordFault;
-use crate::loading::NoKeytab;
-use krb_ccache::CcOpenFault;
+use crate::loading::{NoKeytab, NotCache, NotKeytab};
+use crate::told::Told;
 use krb_files::{LoadFault, OutFault, SaveFault};
-use krb_keytab::KtOpenFault;
 use krb_text::{LineFault, ScriptRefusal};
-use krb_walk::Code;
+use krb_walk::{Code, Fault};
 use krb_wire::NoMemory;
 
 /// What ends a run, or a line of ktutil, before its end. The file is the one that the run or the line
 /// names; a line has its number, counted from 1.
 #[derive(Clone, Copy, Debug, PartialEq, Eq)]
 pub enum Trouble {
-    BadCommandLine,
     InputTooLarge,
     InputNotRead,
     FaultyLine { line: u64, fault: LineFault },
@@ -27,19 +24,23 @@ pub enum Trouble {
     FileTooLarge,
     FileNotRead,
     FileNotWritten,
-    NotAKeytab(KtOpenFault),
-    NotACache(CcOpenFault),
+    NotAKeytab(NotKeytab),
+    /// It was to be listed as one.
+    NotAKeytabToList(NotKeytab),
+    NotACache(NotCache),
     /// A keytab refused what the run asked for.
     Refused(Code),
-    /// What was printed tells of it.
-    Told,
+    /// The listing that was printed tells of it.
+    Listed(Fault),
+    /// The replies that were printed tell of it.
+    Replied(Told),
     OutputNotWritten,
     NoMemory,
 }
 
 impl Trouble {
     /// The status of a run that it ends. Of several the greatest counts: out of memory before a call that
-    /// failed, that before a bad command line, and that before what is wrong with an input or a file.
+    /// failed, and that before what is wrong with an input or a file. (A bad command line has 2.)
     pub fn status(self) -> u8
         ensures { result ≡ trouble_status self }
     {
@@ -49,8 +50,17 @@ impl Trouble {
             | Trouble::FileNotRead
             | Trouble::FileNotWritten
             | Trouble::OutputNotWritten => 3,
-            Trouble::BadCommandLine => 2,
             _ => 1,
+        }
+    }
+
+    /// That a file to list gave no keytab.
+    pub fn of_listed(why: NoKeytab) -> Trouble
+        ensures { result ≡ list_trouble why }
+    {
+        match why {
+            NoKeytab::Load(fault) => Trouble::from(fault),
+            NoKeytab::Open(why) => Trouble::NotAKeytabToList(why),
         }
     }
 
@@ -66,21 +76,13 @@ impl Trouble {
     }
 }
 
-/// The end of a run whose output may tell of trouble.
-pub fn end_if_told(is_told: bool) -> Result<(), Trouble>
-    ensures { result ≡ ending_if_told is_told }
+/// The end of a listing, which tells of a fault.
+pub fn listing_end(fault: Option<Fault>) -> Result<(), Trouble>
+    ensures { result ≡ listing_ending fault }
 {
-    if is_told { Err(Trouble::Told) } else { Ok(()) }
-}
-
-impl From<WordFault> for Trouble {
-    ghost from_gives = { λ fault given. given ≡ word_trouble fault };
-
-    fn from(fault: WordFault) -> Trouble {
-        match fault {
-            WordFault::BadLine => Trouble::BadCommandLine,
-            WordFault::NoMemory => Trouble::NoMemory,
-        }
+    match fault {
+        Some(fault) => Err(Trouble::Listed(fault)),
+        None => Ok(()),
     }
 }
 
@@ -114,7 +116,7 @@ impl From<NoKeytab> for Trouble {
     fn from(why: NoKeytab) -> Trouble {
         match why {
             NoKeytab::Load(fault) => Trouble::from(fault),
-            NoKeytab::Open(fault) => Trouble::NotAKeytab(fault),
+            NoKeytab::Open(why) => Trouble::NotAKeytab(why),
         }
     }
 }

@@ -9,6 +9,7 @@ mod keytabs;
 mod ktutil;
 mod listings;
 mod numbers;
+mod phrases;
 mod replies;
 mod scripts;
 mod times;

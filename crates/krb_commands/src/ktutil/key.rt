@@ -1,7 +1,4 @@
 //! The line of a key.
-
-ghost use Rattle.std.specs.Prelude.{◌≡◌};
-ghost use Rattle.krb_commands.specs.KtutilWords.{is_word};
 ghost use Rattle.krb_commands.specs.KtutilPlan.{key_line};
 ghost use Rattle.krb_text.specs.LineFault.{Reads};
 

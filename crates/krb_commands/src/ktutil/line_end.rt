@@ -3,9 +3,8 @@
 ghost use Rattle.std.specs.Prelude.{◌≡◌};
 ghost use Rattle.krb_commands.specs.KtutilPlan.{no_keytab_end, save_end};
 
-use crate::loading::NoKeytab;
+use crate::loading::{NoKeytab, NotKeytab};
 use krb_files::{LoadFault, SaveFault};
-use krb_keytab::KtOpenFault;
 use krb_text::LineFault;
 use krb_walk::Code;
 
@@ -17,7 +16,7 @@ pub enum LineEnd {
     Fault(LineFault),
     /// A keytab refused what was read from it or added to it.
     Refused(Code),
-    NotAKeytab(KtOpenFault),
+    NotAKeytab(NotKeytab),
     Load(LoadFault),
     Save(SaveFault),
     NoMemory,
@@ -30,7 +29,7 @@ impl From<NoKeytab> for LineEnd {
         match why {
             NoKeytab::Load(LoadFault::NoMemory) => LineEnd::NoMemory,
             NoKeytab::Load(fault) => LineEnd::Load(fault),
-            NoKeytab::Open(fault) => LineEnd::NotAKeytab(fault),
+            NoKeytab::Open(why) => LineEnd::NotAKeytab(why),
         }
     }
 }

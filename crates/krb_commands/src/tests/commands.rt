@@ -1,7 +1,8 @@
 //! The commands, each with what it leaves where nothing fails.
 
 use super::images::{ADDED, EDITED, IMAGE, REWRITTEN};
-use crate::action::{Action, FindOptions, KlistOptions, ListKind, WordFault};
+use crate::action::{Action, FindOptions, KlistOptions, ListKind};
+use crate::mistake::WordFault;
 use krb_text::{CcColumns, KtColumns};
 use krb_wire::{Order, parse_name};
 use std::alloc::Global;
@@ -46,7 +47,7 @@ pub struct Left {
 }
 
 impl Command {
-    pub fn asked(self, alloc: Global) -> Result<Result<Action, WordFault>, Fail> {
+    pub fn asked(self, alloc: Global) -> Result<Result<Action, WordFault<'static>>, Fail> {
         let file = String::from_str(alloc, self.file())?;
         Ok(Ok(match self {
             Command::Klist => Action::Klist(listing(ListKind::Keytab(KtColumns::default())), file),

@@ -1,3 +1,4 @@
+use crate::error_output::ErrorOutput;
 use crate::telling::tell;
 use crate::trouble::Trouble;
 use krb_files::Watched;
@@ -29,8 +30,12 @@ fn a_message_is_one_write(rt: HostRuntime) -> Result<(), Fail> {
             name.push('n')?;
         }
         let mut writes = Writes(0);
-        let mut err = Watched::new(&mut writes);
-        let _ = tell(Err(Trouble::NoSuchFile), name.as_str().as_bytes(), &mut err);
+        let mut err = ErrorOutput {
+            to: Watched::new(&mut writes),
+            explains: true,
+        };
+        let ending = Err(Trouble::FileTooLarge);
+        let _ = tell(ending, name.as_str().as_bytes(), None, None, &mut err);
         assert_eq!(rt; writes.0, want, "{length}");
     }
     Ok(())

@@ -1,14 +1,21 @@
 use super::commands::{COMMANDS, Command, NO_SLOTS};
 use super::runs::{Failure, NONE, respond_to, run};
-use crate::action::{Action, WordFault};
+use crate::action::Action;
+use crate::mistake::{BadLine, Mistake, WordFault};
 use refusing::{Refusing, refuse_each};
 use std::process::Abort;
 use std::test::Fail;
 
+/// Words that name no command.
+const NO_COMMAND: WordFault<'static> = WordFault::BadLine(BadLine {
+    mistake: Mistake::NoCommand,
+    command: None,
+});
+
 /// Asserts what a run leaves that has all the memory that it asks for.
 fn check<R: Abort + AllocGlobal>(
     rt: &R,
-    asked: &Result<Action, WordFault>,
+    asked: &Result<Action, WordFault<'_>>,
     failure: Failure,
     want: (&str, &str, u8),
 ) -> Result<(), Fail> {
@@ -34,7 +41,7 @@ fn each_response(rt: HostRuntime) -> Result<(), Fail> {
     let help = Ok(Action::Help(String::from_str(rt.alloc(), "help\n")?));
     check(&rt, &help, NONE, ("help\n", "", 0))?;
     for (fault, message, status) in [
-        (WordFault::BadLine, "krbfile: bad command line\n", 2),
+        (NO_COMMAND, "krbfile: bad command line\n", 2),
         (WordFault::NoMemory, "krbfile: out of memory\n", 4),
     ] {
         check(&rt, &Err(fault), NONE, ("", message, status))?;
@@ -156,12 +163,7 @@ fn an_error_output_that_fails(rt: HostRuntime) -> Result<(), Fail> {
         err_room: 15,
         ..NONE
     };
-    check(
-        &rt,
-        &Err(WordFault::BadLine),
-        failure,
-        ("", "krbfile: bad co", 2),
-    )
+    check(&rt, &Err(NO_COMMAND), failure, ("", "krbfile: bad co", 2))
 }
 
 /// Out of memory has its own status, a prefix of the text is out, and the file is as before.

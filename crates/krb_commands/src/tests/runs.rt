@@ -2,7 +2,9 @@
 
 use super::commands::Command;
 use super::images::{CACHE, IMAGE};
-use crate::action::{Action, WordFault};
+use crate::action::Action;
+use crate::error_output::ErrorOutput;
+use crate::mistake::WordFault;
 use crate::response::{Streams, respond};
 use krb_files::{MemFiles, Watched, WatchedReader};
 use refusing::Refusing;
@@ -25,6 +27,8 @@ pub struct Failure {
     /// How many bytes each output takes.
     pub out_room: usize,
     pub err_room: usize,
+    /// Words are shown.
+    pub explains: bool,
 }
 
 /// Nothing fails.
@@ -34,6 +38,7 @@ pub const NONE: Failure = Failure {
     input_after: None,
     out_room: AMPLE,
     err_room: AMPLE,
+    explains: false,
 };
 
 /// What a run left.
@@ -82,7 +87,7 @@ fn files_of<A: Allocator + Copy>(alloc: A) -> Result<MemFiles<A>, AllocError> {
 pub fn respond_to<'a>(
     heap: &'a Refusing<Global>,
     alloc: Global,
-    asked: &Result<Action, WordFault>,
+    asked: &Result<Action, WordFault<'_>>,
     input: &[u8],
     failure: Failure,
 ) -> Result<Outcome<'a>, AllocError> {
@@ -103,7 +108,10 @@ pub fn respond_to<'a>(
         &mut Streams {
             input: WatchedReader::new(reader),
             out: Watched::new(&mut out),
-            err: Watched::new(&mut err),
+            err: ErrorOutput {
+                to: Watched::new(&mut err),
+                explains: failure.explains,
+            },
         },
     );
     Ok(Outcome {

@@ -45,7 +45,7 @@ returns-in_err-edited g c =
 -- they were run, and the replies shown
 pub returns : goal.returns
 returns g c =
-    let shows : Shows (edited_run c.in_ok-edited.edited) c.args.out.now c.show.new.out c.show.result = rw (c.deref-4.ensures.value, c.end_if_told.ensures) at c.show.ensures in
+    let shows : Shows (edited_run c.in_ok-edited.edited) c.args.out.now c.show.new.out c.show.result = rw c.deref-4.ensures.value at c.show.ensures in
     rw c.release.ensures (Edits-ran g.F.Files c.args.file.now c.args.v1_order c.args.script.now c.load.new.reader c.args.files.now c.edit_held-edited.new.files c.args.out.now c.show.new.out c.show.result c.in-Ok.text.items c.in_ok-events.events.items (edited_run c.in_ok-edited.edited)
     (GivesInput-ok c.args.script.now c.load.new.reader c.in-Ok.text.items c.in-Ok.ensures.ok (let within = c.in-Ok.ensures.within in let len = c.in-Ok.text.ok.0 in omega (arith, within, len)) c.in-Ok.ensures.failed c.in-Ok.ensures.taken)
     (rw c.deref.ensures.value at c.in_ok-events.ensures.ok) (rw (c.deref-3.ensures.value, c.hold_to_change.ensures) at c.in_ok-edited.ensures) shows)

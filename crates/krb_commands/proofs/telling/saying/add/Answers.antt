@@ -1,7 +1,7 @@
 use Rattle.std.proofs.lemmas.Result.{err_from_is_err_and, on_ok_weaker}
 use Rattle.krb_files.proofs.Prefixes.{AppendsPrefix-longer}
 use Rattle.krb_commands.proofs.Pieces.{Sent-both}
-use Rattle.krb_commands.proofs.telling.add.Goals as goal
+use Rattle.krb_commands.proofs.telling.saying.add.Goals as goal
 
 -- a prefix of what was gathered is written
 pub returns-in_err-put-in-Err-clause-prefix : goal.returns-in_err-put-in-Err-clause-prefix

@@ -1,0 +1,63 @@
+//! What is wrong with a command line.
+
+ghost use Rattle.std.specs.Prelude.{◌≡◌};
+ghost use Rattle.krb_commands.specs.declared.mistake.WordFault.TheVariants.{NoMemory};
+
+use krb_wire::NameFault;
+use std::alloc::AllocError;
+
+/// What is wrong with a command line. A word is shown as it stands there, an operand that is missing by its name
+/// in the synopsis.
+#[derive(Clone, Copy, Debug, PartialEq, Eq)]
+pub enum Mistake<'a> {
+    NoCommand,
+    UnknownCommand(&'a str),
+    UnknownOption(&'a str),
+    Missing(&'a str),
+    LeftOver(&'a str),
+    NeedsValue(&'a str),
+    Twice(&'a str),
+    DoNotGoTogether(&'a str, &'a str),
+    ForKeytabs(&'a str),
+    NoVersion(&'a str),
+    NoEtype(&'a str),
+    BadName(&'a str, NameFault),
+    LateExplain,
+    NotText,
+}
+
+/// A mistake, and the command whose help says more, where there is one.
+#[derive(Clone, Copy, Debug, PartialEq, Eq)]
+pub struct BadLine<'a> {
+    pub mistake: Mistake<'a>,
+    pub command: Option<&'a str>,
+}
+
+/// Why a command line was not read.
+#[derive(Clone, Copy, Debug, PartialEq, Eq)]
+pub enum WordFault<'a> {
+    BadLine(BadLine<'a>),
+    NoMemory,
+}
+
+impl<'a> WordFault<'a> {
+    ghost use Rattle.krb_commands.specs.Mistakes.{IsMistake};
+
+    /// That the words of that command have that mistake.
+    pub fn of(command: &'a str, mistake: Mistake<'a>) -> WordFault<'a>
+        ensures { IsMistake command.now mistake.entry result }
+    {
+        WordFault::BadLine(BadLine {
+            mistake,
+            command: Some(command),
+        })
+    }
+}
+
+impl From<AllocError> for WordFault<'_> {
+    ghost from_gives = { λ _ fault. fault ≡ NoMemory };
+
+    fn from(_error: AllocError) -> Self {
+        WordFault::NoMemory
+    }
+}

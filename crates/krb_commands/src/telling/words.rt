@@ -1,0 +1,195 @@
+//! The words that explain what ended a run.
+
+ghost use Rattle.std.specs.Prelude.{◌≡◌, [], ◌++◌, IsFalse, codes};
+ghost use Rattle.krb_commands.specs.Messages.{phrase_line, words_line};
+ghost use Rattle.krb_commands.specs.PieceTexts.{piece_text, pieces_text};
+ghost use Rattle.krb_commands.specs.Replied.{is_replied};
+ghost use Rattle.krb_commands.specs.Words.{cause_words, keytab_phrase, line_fault_phrase, list_phrase, listed_words, missing_words, no_cache_phrase, no_keytab_phrase, trouble_words};
+
+use crate::loading::{NotCache, NotKeytab};
+use crate::telling::piece::Piece;
+use crate::trouble::Trouble;
+use krb_ccache::CcOpenFault;
+use krb_files::Cause;
+use krb_keytab::KtOpenFault;
+use krb_text::LineFault;
+use krb_walk::{Code, Fault};
+
+/// The pieces of words. What is not needed is empty.
+type Words<'a> = [Piece<'a>; 9];
+
+const NONE: Piece<'static> = Piece::Text("");
+
+const TOO_LARGE: &str = "it has more than 16,777,216 bytes";
+
+// Words of two pieces, behind the number of ktutil's line.
+fn words<'a>(line: Option<u64>, first: Piece<'a>, second: Piece<'a>) -> Words<'a>
+    ensures { pieces_text result ≡ words_line line
+        (piece_text first.entry ++ (piece_text second.entry ++ codes "\n")) }
+{
+    let end = Piece::Text("\n");
+    match line {
+        None => {
+            let head = Piece::Text("krbfile: ");
+            [head, first, second, end, NONE, NONE, NONE, NONE, NONE]
+        }
+        Some(line) => {
+            let head = Piece::Text("krbfile: line ");
+            let number = Piece::Number(line);
+            let colon = Piece::Text(": ");
+            [head, number, colon, first, second, end, NONE, NONE, NONE]
+        }
+    }
+}
+
+fn no_words<'a>() -> Words<'a>
+    ensures { pieces_text result ≡ [] }
+{
+    let none = Piece::Text("");
+    [none; 9]
+}
+
+// A phrase alone.
+fn phrase<'a>(line: Option<u64>, text: &'static str) -> Words<'a>
+    ensures { pieces_text result ≡ phrase_line line text.now }
+{
+    words(line, Piece::Text(text), Piece::Text(""))
+}
+
+/// Why a keytab refused something.
+pub fn keytab_phrase(code: Code) -> &'static str
+    ensures { result.now ≡ keytab_phrase code }
+{
+    match code {
+        Code::Full => "the file would be longer than 16,777,216 bytes",
+        Code::NotAPlace => "no record, hole or end stands at this place",
+        Code::NotLive => "no entry stands at this place",
+        code => code.phrase(),
+    }
+}
+
+// Why an image is no keytab.
+fn no_keytab_phrase(why: NotKeytab) -> &'static str
+    ensures { result.now ≡ no_keytab_phrase why.fault why.is_cache }
+{
+    match (why.fault, why.is_cache) {
+        (KtOpenFault::TooShort, _) => "it has fewer than two bytes",
+        (KtOpenFault::BadVersion, true) => "it begins as a credential cache",
+        (KtOpenFault::BadVersion, false) => "it does not begin as a keytab of version 1 or 2",
+        (KtOpenFault::TooLarge, _) => "it is longer than the limit",
+    }
+}
+
+// The same of a file that is listed as a keytab.
+fn list_phrase(why: NotKeytab) -> &'static str
+    ensures { result.now ≡ list_phrase why.fault why.is_cache }
+{
+    match (why.fault, why.is_cache) {
+        (KtOpenFault::BadVersion, true) => "it begins as a credential cache; list it without -k",
+        _ => no_keytab_phrase(why),
+    }
+}
+
+// Why an image is no cache.
+fn no_cache_phrase(why: NotCache) -> &'static str
+    ensures { result.now ≡ no_cache_phrase why.fault why.is_keytab }
+{
+    match (why.fault, why.is_keytab) {
+        (CcOpenFault::TooShort, _) => "it has fewer than two bytes",
+        (CcOpenFault::BadVersion, true) => {
+            "it begins as a keytab, or as a cache of version 1 or 2 (not read)"
+        }
+        (CcOpenFault::BadVersion, false) => "it does not begin as a cache of version 3 or 4",
+        (CcOpenFault::TooLarge, _) => "it is longer than the limit",
+        (CcOpenFault::BadHeader, _) => "its header is damaged",
+        (CcOpenFault::BadDefault, _) => "it has no default principal",
+    }
+}
+
+// What is wrong with a line of a script, or of ktutil, whose messages have the line's number.
+fn line_fault_phrase(line: Option<u64>, fault: LineFault) -> &'static str
+    ensures { result.now ≡ line_fault_phrase line fault }
+{
+    match line {
+        None => fault.phrase(),
+        Some(_) => fault.ktutil_phrase(),
+    }
+}
+
+// A file that is missing: ktutil alone has words for it.
+fn missing_words<'a>(line: Option<u64>) -> Words<'a>
+    ensures { pieces_text result ≡ missing_words line }
+{
+    match line {
+        None => no_words(),
+        Some(_) => phrase(line, "no such file"),
+    }
+}
+
+// What a call failed with, where that is known.
+fn cause_words(file: &[u8], line: Option<u64>, cause: Option<Cause>) -> Words<'_>
+    ensures { pieces_text result ≡ cause_words file.now line cause }
+{
+    match cause {
+        None => no_words(),
+        Some(Cause::InTheWay) => words(
+            line,
+            Piece::Name(file),
+            Piece::Text(".krbfile is in the way"),
+        ),
+        Some(Cause::System(number)) => words(
+            line,
+            Piece::Text("error "),
+            Piece::Number(u64::from(number.unsigned_abs())),
+        ),
+        Some(cause) => phrase(line, cause.phrase()),
+    }
+}
+
+// The fault that a listing tells of, with the file's name, and its phrase.
+fn listed_words(file: &[u8], fault: Fault) -> Words<'_>
+    ensures { pieces_text result ≡ listed_words file.now fault }
+{
+    [
+        Piece::Text("krbfile: "),
+        Piece::Name(file),
+        Piece::Text(": fault "),
+        Piece::Number(u64::from(fault.kind.number())),
+        Piece::Text(" at "),
+        Piece::Number(u64::from(fault.place)),
+        Piece::Text("\nkrbfile: "),
+        Piece::Text(fault.kind.phrase()),
+        Piece::Text("\n"),
+    ]
+}
+
+/// What explains a message, where the run or that line of ktutil names that file. What replies tell of has
+/// more words than these.
+pub fn trouble_words(
+    trouble: Trouble,
+    file: &[u8],
+    line: Option<u64>,
+    cause: Option<Cause>,
+) -> Words<'_>
+    requires { IsFalse (is_replied trouble) }
+    ensures { pieces_text result ≡ trouble_words file.now line cause trouble }
+{
+    match trouble {
+        Trouble::InputTooLarge | Trouble::FileTooLarge => phrase(line, TOO_LARGE),
+        Trouble::FaultyLine { fault, .. } => phrase(line, line_fault_phrase(line, fault)),
+        Trouble::LineRefused { code, .. } | Trouble::Refused(code) => {
+            phrase(line, keytab_phrase(code))
+        }
+        Trouble::NoSuchFile => missing_words(line),
+        Trouble::InputNotRead
+        | Trouble::FileNotRead
+        | Trouble::FileNotWritten
+        | Trouble::OutputNotWritten => cause_words(file, line, cause),
+        Trouble::NotAKeytab(why) => phrase(line, no_keytab_phrase(why)),
+        Trouble::NotAKeytabToList(why) => phrase(line, list_phrase(why)),
+        Trouble::NotACache(why) => phrase(line, no_cache_phrase(why)),
+        Trouble::Listed(fault) => listed_words(file, fault),
+        Trouble::Replied(_) => unreachable!(),
+        Trouble::NoMemory => no_words(),
+    }
+}
