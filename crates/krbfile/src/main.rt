@@ -1,23 +1,31 @@
 //! Shows Kerberos keytabs and credential caches, and edits keytabs.
 #![tactic(auto)]
 
+mod bad_line;
 mod clock;
 mod run;
 mod words;
 
 use clock::seconds_now;
-use krb_commands::Streams;
+use krb_commands::{ErrorOutput, Streams};
 use krb_disk::DiskFiles;
 use krb_files::{Watched, WatchedReader};
+use run::{asks_to_explain, run};
+use std::io::IsTerminal;
 use std::process::ExitCode;
 
 fn main(rt: HostRuntime) -> ExitCode {
     let mut files = DiskFiles::new(&rt);
+    let err = rt.stderr();
+    let explains = asks_to_explain(&rt) || err.is_terminal();
     let mut streams = Streams {
         input: WatchedReader::new(rt.stdin()),
         out: Watched::new(rt.stdout()),
-        err: Watched::new(rt.stderr()),
+        err: ErrorOutput {
+            to: Watched::new(err),
+            explains,
+        },
     };
     let now = seconds_now(&rt);
-    ExitCode::from(run::run(&rt, &mut files, now, &mut streams))
+    ExitCode::from(run(&rt, &mut files, now, &mut streams))
 }

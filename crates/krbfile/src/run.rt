@@ -2,27 +2,43 @@
 
 ghost use Rattle.std.specs.Prelude.{Result, IsFalse};
 ghost use Rattle.krb_commands.specs.declared.action.Action.{Action};
-ghost use Rattle.krb_commands.specs.declared.action.WordFault.{WordFault};
+ghost use Rattle.krb_commands.specs.declared.mistake.WordFault.{WordFault};
 ghost use Rattle.krb_commands.specs.Actions.{EndsAsked};
 
 use crate::words::parse_words;
-use krb_commands::{Action, Streams, WordFault, respond};
+use krb_commands::{Action, BadLine, Mistake, Streams, WordFault, respond};
 use krb_files::Files;
+use std::alloc::Global;
 use std::io::{Read, Write};
 use std::{env, io, rt};
 
+/// Whether `--explain` is the first word after the program's name. The others may be no text.
+pub fn asks_to_explain<R: rt::Env>(rt: &R) -> bool {
+    let mut word = [0; 9];
+    matches!(rt.arg(1, &mut word), Ok(9)) && word == *b"--explain"
+}
+
 // The words of the command line. One that is not text makes a bad line.
-fn words_of<R: rt::Env + AllocGlobal>(rt: &R) -> Result<Vec<String>, WordFault> {
+fn words_of<R: rt::Env + AllocGlobal>(rt: &R) -> Result<Vec<String>, WordFault<'static>> {
     match env::args(rt) {
         Ok(words) => Ok(words.collect(rt.alloc())?),
         Err(error) if error.kind() == io::ErrorKind::OutOfMemory => Err(WordFault::NoMemory),
-        Err(_) => Err(WordFault::BadLine),
+        Err(_) => Err(WordFault::BadLine(BadLine {
+            mistake: Mistake::NotText,
+            command: None,
+        })),
     }
 }
 
 // What the words of the command line ask for.
-fn asked<R: rt::Env + AllocGlobal>(rt: &R) -> Result<Action, WordFault> {
-    parse_words(rt.alloc(), words_of(rt)?)
+fn asked<'a>(
+    alloc: Global,
+    words: &'a Result<Vec<String>, WordFault<'static>>,
+) -> Result<Action, WordFault<'a>> {
+    match words {
+        Ok(words) => parse_words(alloc, words),
+        Err(fault) => Err(*fault),
+    }
 }
 
 /// Does what the words of the command line ask for, and answers the status.
@@ -39,5 +55,6 @@ pub fn run<H: rt::Env + AllocGlobal, F: Files, R: Read, W: Write, E: Write>(
         × EndsAsked F.Files now streams.old.input streams.new.input files.old files.new
         streams.old.out streams.new.out streams.old.err streams.new.err result asked }
 {
-    respond(rt.alloc(), &asked(rt), files, now, streams)
+    let words = words_of(rt);
+    respond(rt.alloc(), &asked(rt.alloc(), &words), files, now, streams)
 }

@@ -1,12 +1,16 @@
 //! The words of a command line.
 
+use crate::bad_line::bad_line;
 use clap::error::ErrorKind;
-use clap::{Arg, ArgAction, ArgMatches, Command, Error};
+use clap::{Arg, ArgAction, ArgMatches, Command};
 use krb_commands::{
-    Action, KlistWords, KteditWords, KtfindWords, KtutilWords, WordFault, klist_action,
-    ktedit_action, ktfind_action, ktutil_action,
+    Action, BadLine, KlistWords, KteditWords, KtfindWords, KtutilWords, Mistake, WordFault,
+    klist_action, ktedit_action, ktfind_action, ktutil_action,
 };
 use std::alloc::{AllocError, Global};
+
+/// The version, and the toolchain whose proofs and compiler it stands on.
+const VERSION: &str = "1.0 (rattle logic dac8208d650f15bf)";
 
 /// The two forms of klist.
 const KLIST_USAGE: &str = "\
@@ -49,11 +53,15 @@ fn v1_big<'a>(alloc: Global) -> Arg<'a> {
         .help("Version 1 files are big-endian")
 }
 
-fn word<'a>(alloc: Global, id: &'a str, shown: &'a str, help: &'a str) -> Arg<'a> {
-    Arg::new(alloc, id)
-        .required(true)
-        .value_name(shown)
-        .help(help)
+fn explain<'a>(alloc: Global) -> Arg<'a> {
+    Arg::new(alloc, "explain")
+        .long("explain")
+        .action(ArgAction::SetTrue)
+        .help("Say in words too what goes wrong, as on a terminal; stands first")
+}
+
+fn operand<'a>(alloc: Global, name: &'a str, help: &'a str) -> Arg<'a> {
+    Arg::new(alloc, name).required(true).help(help)
 }
 
 fn klist_command<'a>(alloc: Global) -> Result<Command<'a>, AllocError> {
@@ -69,7 +77,7 @@ fn klist_command<'a>(alloc: Global) -> Result<Command<'a>, AllocError> {
         .arg(flag(alloc, "keys", 'K', "Show the keys of entries"))?
         .arg(flag(alloc, "etypes", 'e', "Show encryption types"))?
         .arg(v1_big(alloc))?
-        .arg(word(alloc, "file", "FILE", "The file to list"))
+        .arg(operand(alloc, "FILE", "The file to list"))
 }
 
 fn ktedit_command<'a>(alloc: Global) -> Result<Command<'a>, AllocError> {
@@ -79,12 +87,7 @@ fn ktedit_command<'a>(alloc: Global) -> Result<Command<'a>, AllocError> {
         .after_help(SCRIPT)
         .args_override_self(true)
         .arg(v1_big(alloc))?
-        .arg(word(
-            alloc,
-            "file",
-            "FILE",
-            "The file to edit, made where it is missing",
-        ))
+        .arg(operand(alloc, "FILE", "The file to edit, made where it is missing"))
 }
 
 fn ktfind_command<'a>(alloc: Global) -> Result<Command<'a>, AllocError> {
@@ -93,15 +96,14 @@ fn ktfind_command<'a>(alloc: Global) -> Result<Command<'a>, AllocError> {
         .override_usage("krbfile ktfind [--v1-big] FILE KVNO ETYPE NAME")
         .args_override_self(true)
         .arg(v1_big(alloc))?
-        .arg(word(alloc, "file", "FILE", "The file to look in"))?
-        .arg(word(alloc, "kvno", "KVNO", "The key version, 0 for the highest"))?
-        .arg(word(
+        .arg(operand(alloc, "FILE", "The file to look in"))?
+        .arg(operand(alloc, "KVNO", "The key version, 0 for the highest"))?
+        .arg(operand(
             alloc,
-            "etype",
             "ETYPE",
             "The encryption type by name or number, 0 for any",
         ))?
-        .arg(word(alloc, "name", "NAME", "The principal, with its realm"))
+        .arg(operand(alloc, "NAME", "The principal, with its realm"))
 }
 
 fn ktutil_command<'a>(alloc: Global) -> Result<Command<'a>, AllocError> {
@@ -115,17 +117,31 @@ fn ktutil_command<'a>(alloc: Global) -> Result<Command<'a>, AllocError> {
 
 fn krbfile_command<'a>(alloc: Global) -> Result<Command<'a>, AllocError> {
     Command::new(alloc, "krbfile")
+        .version(VERSION)
         .about("Lists Kerberos keytabs and credential caches, and edits keytabs")
         .subcommand_required(true)
+        .arg(explain(alloc))?
         .subcommand(klist_command(alloc)?)?
         .subcommand(ktedit_command(alloc)?)?
         .subcommand(ktfind_command(alloc)?)?
         .subcommand(ktutil_command(alloc)?)
 }
 
+// An operand that was found. A command is not matched without its operands.
+fn found_operand<'a>(
+    command: &'a str,
+    matches: &ArgMatches<'a>,
+    name: &'a str,
+) -> Result<&'a str, WordFault<'a>> {
+    match matches.get_str(name) {
+        Some(word) => Ok(word),
+        None => Err(WordFault::of(command, Mistake::Missing(name))),
+    }
+}
+
 // The words of klist that were found.
-fn klist_words<'a>(matches: &ArgMatches<'a>) -> Option<KlistWords<'a>> {
-    Some(KlistWords {
+fn klist_words<'a>(matches: &ArgMatches<'a>) -> Result<KlistWords<'a>, WordFault<'a>> {
+    Ok(KlistWords {
         cache: matches.get_flag("cache"),
         keytab: matches.get_flag("keytab"),
         times: matches.get_flag("times"),
@@ -134,67 +150,63 @@ fn klist_words<'a>(matches: &ArgMatches<'a>) -> Option<KlistWords<'a>> {
         flags: matches.get_flag("flags"),
         configs: matches.get_flag("configs"),
         v1_big: matches.get_flag("v1-big"),
-        file: matches.get_str("file")?,
+        file: found_operand("klist", matches, "FILE")?,
     })
 }
 
 // The words of ktedit that were found.
-fn ktedit_words<'a>(matches: &ArgMatches<'a>) -> Option<KteditWords<'a>> {
-    Some(KteditWords {
+fn ktedit_words<'a>(matches: &ArgMatches<'a>) -> Result<KteditWords<'a>, WordFault<'a>> {
+    Ok(KteditWords {
         v1_big: matches.get_flag("v1-big"),
-        file: matches.get_str("file")?,
+        file: found_operand("ktedit", matches, "FILE")?,
     })
 }
 
 // The words of ktfind that were found.
-fn ktfind_words<'a>(matches: &ArgMatches<'a>) -> Option<KtfindWords<'a>> {
-    Some(KtfindWords {
+fn ktfind_words<'a>(matches: &ArgMatches<'a>) -> Result<KtfindWords<'a>, WordFault<'a>> {
+    Ok(KtfindWords {
         v1_big: matches.get_flag("v1-big"),
-        file: matches.get_str("file")?,
-        kvno: matches.get_str("kvno")?,
-        etype: matches.get_str("etype")?,
-        name: matches.get_str("name")?,
+        file: found_operand("ktfind", matches, "FILE")?,
+        kvno: found_operand("ktfind", matches, "KVNO")?,
+        etype: found_operand("ktfind", matches, "ETYPE")?,
+        name: found_operand("ktfind", matches, "NAME")?,
     })
 }
 
 // The words of ktutil that were found.
-fn ktutil_words(matches: &ArgMatches) -> KtutilWords {
+fn ktutil_words(matches: &ArgMatches<'_>) -> KtutilWords {
     KtutilWords {
         v1_big: matches.get_flag("v1-big"),
     }
 }
 
 // What a command and its words ask for.
-fn command_action(alloc: Global, matches: &ArgMatches) -> Result<Action, WordFault> {
+fn command_action<'a>(alloc: Global, matches: &ArgMatches<'a>) -> Result<Action, WordFault<'a>> {
     match matches.subcommand() {
-        Some(("klist", found)) => {
-            klist_action(alloc, &klist_words(found).ok_or(WordFault::BadLine)?)
-        }
-        Some(("ktedit", found)) => {
-            ktedit_action(alloc, &ktedit_words(found).ok_or(WordFault::BadLine)?)
-        }
-        Some(("ktfind", found)) => {
-            ktfind_action(alloc, &ktfind_words(found).ok_or(WordFault::BadLine)?)
-        }
+        Some(("klist", found)) => klist_action(alloc, &klist_words(found)?),
+        Some(("ktedit", found)) => ktedit_action(alloc, &ktedit_words(found)?),
+        Some(("ktfind", found)) => ktfind_action(alloc, &ktfind_words(found)?),
         Some(("ktutil", found)) => Ok(ktutil_action(ktutil_words(found))),
-        _ => Err(WordFault::BadLine),
-    }
-}
-
-// Help that was asked for is no fault.
-fn help_or_fault(alloc: Global, error: Error) -> Result<Action, WordFault> {
-    match error.kind() {
-        ErrorKind::OutOfMemory => Err(WordFault::NoMemory),
-        ErrorKind::DisplayHelp => Ok(Action::Help(format!(in alloc; "{error}")?)),
-        _ => Err(WordFault::BadLine),
+        _ => Err(WordFault::BadLine(BadLine {
+            mistake: Mistake::NoCommand,
+            command: None,
+        })),
     }
 }
 
 /// What the words ask for; the first is the program's name.
-pub fn parse_words(alloc: Global, words: Vec<String>) -> Result<Action, WordFault> {
-    let command = krbfile_command(alloc)?;
-    match command.try_get_matches_from(words.as_slice()) {
-        Ok(matches) => command_action(alloc, &matches),
-        Err(error) => help_or_fault(alloc, error),
+pub fn parse_words<'a>(alloc: Global, words: &'a [String]) -> Result<Action, WordFault<'a>> {
+    let mut command = krbfile_command(alloc)?;
+    let error = match command.try_get_matches_from_mut(words) {
+        Ok(matches) => return command_action(alloc, &matches),
+        Err(error) => error,
+    };
+    match error.kind() {
+        ErrorKind::OutOfMemory => Err(WordFault::NoMemory),
+        // Help or the version, where it was asked for, is no fault.
+        ErrorKind::DisplayHelp | ErrorKind::DisplayVersion => {
+            Ok(Action::Help(format!(in alloc; "{error}")?))
+        }
+        _ => Err(WordFault::BadLine(bad_line(&command, words))),
     }
 }
