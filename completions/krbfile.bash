@@ -1,0 +1,29 @@
+# Completion of krbfile's command lines for bash.
+
+_krbfile() {
+    local commands='klist ktfind ktedit ktutil help'
+    local etypes='des3-cbc-sha1 aes128-cts-hmac-sha1-96 aes256-cts-hmac-sha1-96
+        aes128-cts-hmac-sha256-128 aes256-cts-hmac-sha384-192 arcfour-hmac
+        camellia128-cts-cmac camellia256-cts-cmac'
+    local word=${COMP_WORDS[COMP_CWORD]} command='' options='' operands=0 first=1 at
+    ((COMP_CWORD > 1)) && [[ ${COMP_WORDS[1]} == --explain ]] && first=2
+    ((COMP_CWORD > first)) && command=${COMP_WORDS[first]}
+    for ((at = first + 1; at < COMP_CWORD; at++)); do
+        [[ ${COMP_WORDS[at]} == -* ]] || ((++operands))
+    done
+    case $command in
+        '') options="$commands --explain --version -V" ;;
+        help) options=$commands ;;
+        klist) options='-c -f -C -k -t -K -e --v1-big' ;;
+        ktfind | ktedit | ktutil) options='--v1-big' ;;
+    esac
+    COMPREPLY=()
+    if [[ $word == -* || $command == '' || $command == help ]]; then
+        COMPREPLY=($(compgen -W "$options --help -h" -- "$word"))
+    elif [[ $command == ktfind ]] && ((operands == 2)); then
+        COMPREPLY=($(compgen -W "$etypes" -- "$word"))
+    fi
+}
+
+# Where nothing is offered, the names of files are.
+complete -o default -F _krbfile krbfile

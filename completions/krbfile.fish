@@ -1,0 +1,35 @@
+# Completion of krbfile's command lines for fish.
+
+# Whether the word to come is the third operand of ktfind.
+function __krbfile_wants_etype
+    set -l words (string match --invert -- '-*' (commandline -opc))
+    test (count $words) -eq 4; and test $words[2] = ktfind
+end
+
+complete -c krbfile -f
+complete -c krbfile -s h -l help -d 'Print help'
+complete -c krbfile -n __fish_use_subcommand -s V -l version -d 'Print version'
+complete -c krbfile -n __fish_use_subcommand -l explain -d 'Say in words too what goes wrong'
+
+for at in __fish_use_subcommand '__fish_seen_subcommand_from help'
+    complete -c krbfile -n $at -a klist -d 'List a keytab or a credential cache'
+    complete -c krbfile -n $at -a ktfind -d 'Find an entry in a keytab'
+    complete -c krbfile -n $at -a ktedit -d 'Edit a keytab by a script'
+    complete -c krbfile -n $at -a ktutil -d 'Edit a list of entries by commands'
+    complete -c krbfile -n $at -a help -d 'Print help'
+end
+
+complete -c krbfile -n '__fish_seen_subcommand_from klist' -s c -d 'List a credential cache'
+complete -c krbfile -n '__fish_seen_subcommand_from klist' -s f -d 'Show the flags of tickets'
+complete -c krbfile -n '__fish_seen_subcommand_from klist' -s C -d 'Show configuration entries'
+complete -c krbfile -n '__fish_seen_subcommand_from klist' -s k -d 'List a keytab'
+complete -c krbfile -n '__fish_seen_subcommand_from klist' -s t -d 'Show the times of entries'
+complete -c krbfile -n '__fish_seen_subcommand_from klist' -s K -d 'Show the keys of entries'
+complete -c krbfile -n '__fish_seen_subcommand_from klist' -s e -d 'Show encryption types'
+
+complete -c krbfile -n '__fish_seen_subcommand_from klist ktfind ktedit ktutil' -l v1-big -d 'Version 1 files are big-endian'
+complete -c krbfile -n '__fish_seen_subcommand_from klist ktfind ktedit' -F
+
+complete -c krbfile -n __krbfile_wants_etype -a 'des3-cbc-sha1 aes128-cts-hmac-sha1-96
+    aes256-cts-hmac-sha1-96 aes128-cts-hmac-sha256-128 aes256-cts-hmac-sha384-192 arcfour-hmac
+    camellia128-cts-cmac camellia256-cts-cmac'
