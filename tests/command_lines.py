@@ -49,8 +49,6 @@ REFUSED: list[Line] = [
     ("klis", "-k", "k"),
     ("KLIST", "-k", "k"),
     ("ktfin", "k", "0", "0", "b@R"),
-    ("--version",),
-    ("-V",),
     ("klist", "-k", b"\xff"),
     ("klist", "-k", "k", b"\xff"),
     (b"\xff", "-k", "k"),
@@ -146,7 +144,7 @@ EDITING: list[Line] = [
 ]
 
 # Lines that print help, and words that it has.
-OF_ALL = (b"krbfile", b"klist", b"ktfind", b"ktedit", b"--help")
+OF_ALL = (b"krbfile", b"klist", b"ktfind", b"ktedit", b"--help", b"--version")
 OF_KLIST = (b"krbfile klist", b"-k", b"-t", b"-K", b"-e", b"--v1-big", b"FILE", b"--help")
 OF_KTFIND = (b"krbfile ktfind", b"--v1-big", b"FILE", b"KVNO", b"ETYPE", b"NAME", b"--help")
 OF_KTEDIT = (b"krbfile ktedit", b"--v1-big", b"FILE", b"--help")

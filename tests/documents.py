@@ -33,7 +33,9 @@ def check_map(report: Report) -> None:
 
 def check_links(report: Report) -> None:
     """Looks for each file."""
-    for path in ["README.md", *glob.glob("docs/*.md", root_dir=TOP)]:
+    pages = [path for pattern in ("docs/*.md", "crates/*/CALLING.md")
+             for path in sorted(glob.glob(pattern, root_dir=TOP))]
+    for path in ["README.md", *pages]:
         links = re.findall(r"\]\(([\w./]+)\)", read(path))
         folder = os.path.join(TOP, os.path.dirname(path))
         wrong = [link for link in links if not os.path.exists(os.path.join(folder, link))]

@@ -1,4 +1,4 @@
-"""The manual page: its form, its commands and its examples."""
+"""The manual page: its form, its commands and options, its words and its examples."""
 from __future__ import annotations
 
 import os
@@ -6,6 +6,8 @@ import re
 import shutil
 import subprocess
 
+from completions import told
+from explained import cases
 from harness import Outcome, Report, folder_of
 from samples import SAMPLES
 
@@ -41,6 +43,24 @@ def check_commands(report: Report) -> None:
         report.check(f"the commands in {part} of the manual page", wrong)
 
 
+def check_options(report: Report, program: str) -> None:
+    """The page tells of each option that help tells of."""
+    for command in ("", *COMMANDS):
+        missing = [option for option in sorted(told(program, command)[1])
+                   if re.search(rf"\bFl {option[1:]}\b", page()) is None]
+        report.check(f"the options of krbfile {command} in the manual page", missing)
+
+
+def check_words(report: Report) -> None:
+    """The page has all words that messages are told in, each on a line of its own."""
+    lines = page().replace(".Ar NAME Ns .krbfile", "k.krbfile").splitlines()
+    lines += [line.removeprefix(".Dl ") for line in lines]
+    words = {re.sub(r"^line \d+: |^refused \d+: |^fault \d+: ", "", words)
+             for case in cases() for _, words in case.said}
+    odd = {"", "no such file", "error 6"} | {word for word in words if word.startswith("k: fault")}
+    report.check("the words of messages in the manual page", sorted(words - odd - set(lines)))
+
+
 def examples() -> list[tuple[str, bytes]]:
     """The commands of the examples, each with what stands under it."""
     found = []
@@ -68,4 +88,6 @@ def check(report: Report, program: str) -> None:
     """Runs all of this topic."""
     check_form(report)
     check_commands(report)
+    check_options(report, program)
+    check_words(report)
     check_examples(report, program)
