@@ -86,6 +86,7 @@ pub struct CellsEnd {
 }
 
 // The place after the cell at a place, which is read whole, or what ends the cells there.
+#[inline(always)]
 fn next_place(format: KtFormat, image: &[u8], at: usize) -> Result<usize, Ending>
     requires within { at ≤ length image.now }
     requires small { length image.now ≤ 2 ^ 30 }
