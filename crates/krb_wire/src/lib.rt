@@ -4,7 +4,6 @@
 
 mod atom;
 mod components;
-mod copy;
 mod counted;
 mod format;
 mod laws;
@@ -23,7 +22,6 @@ mod text;
 mod view;
 
 pub use components::Components;
-pub use copy::copy_name;
 pub use counted::{read_data16, read_data32, split_data16, split_data32, tail};
 pub use format::{KtFormat, Lengths, Order};
 pub use laws::texts_name_their_names;
@@ -34,7 +32,7 @@ pub use name_fault::NameFault;
 pub use numbers::{read_u16, read_u32, split_u8, split_u16, split_u32};
 pub use parse::parse_name;
 pub use pen::Pen;
-pub use principal::Principal;
+pub use principal::{Principal, copy_name};
 pub use same::same_name;
 pub use spelling::cache::{cc_principal_len, put_cc_principal};
 pub use spelling::keytab::{kt_principal_len, put_kt_principal};

@@ -1,6 +1,6 @@
 use Rattle.std.proofs.Common.{◌≡◌, ◌++◌}
 use Rattle.krb_wire.specs.Reading.{items_of}
-use Rattle.krb_wire.proofs.copy.copy_components.Given as goal
+use Rattle.krb_wire.proofs.principal.copy_components.Given as goal
 
 abbrev pub invariant-loop-component : goal.invariant-loop-component
 invariant-loop-component g l = items_of l.all.items ++ l.component-iterator ≡ (g.N.Name.parts l.name).components
