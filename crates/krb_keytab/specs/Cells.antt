@@ -80,9 +80,9 @@ abbrev pub short_end : List ℕ → End
 short_end [] = Bare
 short_end (b ∷ bs) = Damaged CutLength (b ∷ bs)
 
--- the cell that a length and the bytes after it are
+-- the cell that a length and the bytes after it are; of the end nobody asks it
 abbrev pub cell_in : Length → List ℕ → Cell
-cell_in says.End b = Free b
+cell_in says.End b = Live b
 cell_in (says.Live n) b = Live b
 cell_in (says.Free n) b = Free b
 

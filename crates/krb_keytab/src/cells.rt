@@ -32,14 +32,15 @@ pub struct CellViews<'a> {
 }
 
 impl<'a> KtCell<'a> {
-    // The cell that a length and the bytes after it are.
+    // The cell that a length and the bytes after it are. The end has no cell: here it is as a record, so that no
+    // pass asks for it.
     #[inline(always)]
     fn of(length: Length, bytes: &'a [u8]) -> KtCell<'a>
         ensures { cell_of result ≡ cell_in length bytes.now }
     {
         match length {
-            Length::Live(_) => KtCell::Live(bytes),
-            _ => KtCell::Free(bytes),
+            Length::Free(_) => KtCell::Free(bytes),
+            _ => KtCell::Live(bytes),
         }
     }
 

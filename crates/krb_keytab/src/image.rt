@@ -45,6 +45,7 @@ fn is_entry(format: KtFormat, bytes: &[u8]) -> bool
 }
 
 // The length of the cell at the front of the bytes, which is read whole, or what ends the cells.
+#[inline(always)]
 #[tactic(auto, unfolding(crate::specs::Cells::next))]
 fn next_length(format: KtFormat, bytes: &[u8]) -> Result<Length, Ending>
     requires { length bytes.now < 2 ^ 32 }

@@ -30,13 +30,13 @@ impl Length {
     pub fn of_field(field: u32) -> Length
         ensures { result ≡ length_of field }
     {
+        if field >= 0x8000_0000 {
+            return Length::Free(Length::negated(field));
+        }
         if field == 0 {
             return Length::End;
         }
-        if field < 0x8000_0000 {
-            return Length::Live(field);
-        }
-        Length::Free(Length::negated(field))
+        Length::Live(field)
     }
 
     /// The field that says it.
