@@ -7,6 +7,7 @@ use crate::calls::Calls;
 use crate::fault::{DiskFault, ReadFault};
 use crate::hold::Hold;
 use crate::lock::TakeLock;
+use crate::looks::Found;
 use crate::owner::SetOwner;
 use crate::read::read_file;
 use krb_files::{Cause, Files, LoadFault, SaveFault};
@@ -15,7 +16,7 @@ use std::marker::Model;
 use std::rt;
 
 /// The files of a disk. Nothing is known of what they hold; contracts see how many calls failed, what the last
-/// of them failed with, and which saves made all their calls. A load reads the whole file. A save makes a new
+/// of them failed with, which saves made all their calls, and the mode of the file that was loaded last. A load reads the whole file. A save makes a new
 /// file of the bytes, which then takes the name: whatever fails, the file is the old or the new one. A file that
 /// is held is saved only while it is as it was loaded.
 #[derive(Drop)]
@@ -23,6 +24,8 @@ pub struct DiskFiles<'a, R: rt::Files + Alloc> {
     calls: Calls<'a, R>,
     failures: u64,
     cause: Option<Cause>,
+    /// The permission bits of the file that was loaded last.
+    mode: Option<u32>,
     /// The file that is held, or why it is not, and cannot be saved.
     held: Option<Result<Hold<R>, DiskFault>>,
 }
@@ -34,6 +37,7 @@ impl<'a, R: rt::Files + Alloc> Model for DiskFiles<'a, R> {
       failures = files.failures;
       cause = files.cause;
       saved = files.calls.saved.entries;
+      mode = files.mode;
     } };
 
     // A failure that was counted has a cause.
@@ -43,12 +47,13 @@ impl<'a, R: rt::Files + Alloc> Model for DiskFiles<'a, R> {
 impl<'a, R: rt::Files + Alloc> DiskFiles<'a, R> {
     /// The files that `rt` reaches, of which no call failed yet.
     pub fn new(rt: &'a R) -> DiskFiles<'a, R>
-        ensures { result ≡ record { failures = 0; cause = None; saved = [] } }
+        ensures { result ≡ record { failures = 0; cause = None; saved = []; mode = None } }
     {
         DiskFiles {
             calls: Calls::new(rt),
             failures: 0,
             cause: None,
+            mode: None,
             held: None,
         }
     }
@@ -57,6 +62,7 @@ impl<'a, R: rt::Files + Alloc> DiskFiles<'a, R> {
     fn count_failure(&mut self, cause: Cause)
         ensures fails { Fails self.old self.new }
         ensures count { self.old.failures ≤ self.new.failures }
+        ensures mode { self.new.mode ≡ self.old.mode }
     {
         self.failures = self.failures.saturating_add(1);
         self.cause = Some(cause);
@@ -73,16 +79,13 @@ where
         alloc: A,
         name: &str,
         limit: u32,
-    ) -> Result<Vec<u8, A>, ReadFault>
+    ) -> Result<(Found, Vec<u8, A>), ReadFault>
         ensures same { self.new ≡ self.old }
-        ensures within { IfOk result (λ bytes. vec_len bytes ≤ limit) }
+        ensures within { IfOk result (λ read. vec_len read.1 ≤ limit) }
     {
         match &mut self.held {
             Some(Ok(hold)) if hold.is_of(name) => hold.load(&self.calls, alloc, limit),
-            _ => match read_file(self.calls.looks(), alloc, name, limit) {
-                Ok((_, bytes)) => Ok(bytes),
-                Err(fault) => Err(fault),
-            },
+            _ => read_file(self.calls.looks(), alloc, name, limit),
         }
     }
 
@@ -128,6 +131,8 @@ where
 
     ghost saves = { λ old name bytes answer new. SavesToDisk old name bytes new answer };
 
+    ghost mode = { λ disk. disk.mode };
+
     fn hold(&mut self, name: &str) {
         self.release();
         self.held = Some(Hold::take(&self.calls, name));
@@ -145,11 +150,15 @@ where
         name: &str,
         limit: u32,
     ) -> Result<Vec<u8, A>, LoadFault> {
+        self.mode = None;
         if self.failures == u64::MAX {
             return Err(LoadFault::Failed);
         }
         match self.read(alloc, name, limit) {
-            Ok(bytes) => Ok(bytes),
+            Ok((found, bytes)) => {
+                self.mode = found.permissions();
+                Ok(bytes)
+            }
             Err(ReadFault::Missing) => Err(LoadFault::Missing),
             Err(ReadFault::TooLarge) => Err(LoadFault::TooLarge),
             Err(ReadFault::Disk(DiskFault::NoMemory)) => Err(LoadFault::NoMemory),
@@ -176,6 +185,10 @@ where
 
     fn failures(&self) -> u64 {
         self.failures
+    }
+
+    fn mode(&self) -> Option<u32> {
+        self.mode
     }
 
     fn cause(&self) -> Option<Cause>

@@ -157,9 +157,9 @@ where
         calls: &Calls<'_, R>,
         alloc: A,
         limit: u32,
-    ) -> Result<Vec<u8, A>, ReadFault>
+    ) -> Result<(Found, Vec<u8, A>), ReadFault>
         ensures named { self.new.target ≡ self.old.target }
-        ensures within { IfOk result (λ bytes. vec_len bytes ≤ limit) }
+        ensures within { IfOk result (λ read. vec_len read.1 ≤ limit) }
     {
         match calls.load(alloc, self.target.path(), limit) {
             Ok((file, bytes)) => {
@@ -167,7 +167,7 @@ where
                     return Err(ReadFault::Disk(DiskFault::NoMemory));
                 };
                 self.seen = Seen::Loaded(file, copy);
-                Ok(bytes)
+                Ok((file, bytes))
             }
             Err(ReadFault::Missing) => {
                 self.seen = Seen::Nothing;

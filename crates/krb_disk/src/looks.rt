@@ -1,6 +1,7 @@
 //! What is asked of the system and changes nothing.
 
 ghost use Rattle.std.specs.Prelude.{◌≡◌, ◌↔◌, IsTrue, bit_and};
+ghost use Rattle.krb_disk.specs.DiskFiles.{permissions};
 
 pub mod locks;
 pub mod same;
@@ -43,6 +44,17 @@ impl Found {
         ensures { IsTrue result ↔ (bit_and self.now.mode 0o170000 ≡ 0o100000) }
     {
         self.mode & 0o170000 == 0o100000
+    }
+
+    /// The permission bits of a plain file.
+    pub fn permissions(&self) -> Option<u32>
+        ensures { result ≡ permissions self.now }
+    {
+        if self.is_file() {
+            Some(self.mode % 0o10000)
+        } else {
+            None
+        }
     }
 
     pub fn is_link(&self) -> bool {

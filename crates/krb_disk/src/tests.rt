@@ -4,3 +4,4 @@ mod calls;
 mod causes;
 mod disks;
 mod holds;
+mod modes;

@@ -1,5 +1,5 @@
 -- Files in memory.
-use Rattle.std.specs.Prelude.{◌≡◌, ◌⊎◌, ◌==◌, ◌||◌, ℕ, ◌+◌, ◌-◌, ◌^◌, List, [], ◌∷◌, Bool, true, false, if◌then◌else◌, find, map, option_map, string_bytes, String, Vec, Result, Ok, Err, IsOk}
+use Rattle.std.specs.Prelude.{◌≡◌, ◌⊎◌, ◌==◌, ◌||◌, ℕ, ◌+◌, ◌-◌, ◌^◌, List, [], ◌∷◌, Bool, true, false, if◌then◌else◌, find, map, Option, option_map, string_bytes, String, Vec, Result, Ok, Err, IsOk}
 use Rattle.std.specs.Str.{bytes_eq}
 use Rattle.krb_files.specs.declared.files.LoadFault.{LoadFault}
 use Rattle.krb_files.specs.declared.files.LoadFault.TheVariants.{Failed, NoMemory}
@@ -21,11 +21,12 @@ with_file [] name bytes = (name, bytes) ∷ []
 with_file (file ∷ files) name bytes =
     if bytes_eq file.0 name then (file.0, bytes) ∷ files else file ∷ with_file files name bytes
 
--- files in memory, which call to come fails, counted from 1 with 0 for none, and how many failed
+-- files in memory, which call to come fails, counted from 1 with 0 for none, how many failed, and the mode of each file
 pub record Memory : Type 0 where
   pub files : List (List ℕ × List ℕ)
   pub failing : ℕ
   pub failures : ℕ
+  pub mode : Option ℕ
 
 -- the next call fails
 abbrev pub failing_next : Memory → Bool

@@ -1,6 +1,6 @@
 //! Files by name.
 
-ghost use Rattle.std.specs.Prelude.{◌≡◌, ◌≤◌, ◌⊎◌, ℕ, ◌-◌, ◌^◌, List, Result, Ok, Err, OnOk, OnErr, IfOk, IfErr, IsErrOf};
+ghost use Rattle.std.specs.Prelude.{◌≡◌, ◌≤◌, ◌⊎◌, ℕ, ◌-◌, ◌^◌, List, Option, Result, Ok, Err, OnOk, OnErr, IfOk, IfErr, IsErrOf};
 ghost use Rattle.krb_files.specs.Files.{FileMap, SameFiles, SetsFile, CountsFailure, answer_of, loaded};
 ghost use Rattle.krb_files.specs.Phrases.{load_phrase, save_phrase};
 
@@ -96,6 +96,9 @@ pub trait Files {
     /// What a save of these bytes under that name may answer, and what it leaves, honest or not.
     ghost saves: { Self → List ℕ → List ℕ → Result (Unit {0}) SaveFault → Self → Type 0 };
 
+    /// The permission bits of the file that was loaded last, where that is a plain file.
+    ghost mode: { Self → Option ℕ };
+
     /// Keeps other programs from changing the file of that name, until it is saved or released. Where that
     /// cannot be done, or another program changes the file all the same, the save fails.
     fn hold(&mut self, _name: &str)
@@ -147,6 +150,10 @@ pub trait Files {
     /// How many calls failed, as far as a u64 counts.
     fn failures(&self) -> u64
         ensures { result ≡ failure_count self.now };
+
+    /// The permission bits, twelve of them, of the file that was loaded last, where it is a plain file.
+    fn mode(&self) -> Option<u32>
+        ensures { result ≡ mode self.now };
 
     /// What the last call that answered `Failed` failed with, where that is known.
     fn cause(&self) -> Option<Cause> {

@@ -1,6 +1,6 @@
 //! Files in memory.
 
-ghost use Rattle.std.specs.Prelude.{◌≡◌, ◌⊎◌, ◌↔◌, Ok, IfOk, IfErr, IsErrOf, IsTrue, OnOk, OnErr, option_map, option_copied, find, position, string_bytes};
+ghost use Rattle.std.specs.Prelude.{◌≡◌, ◌⊎◌, ◌↔◌, None, Ok, IfOk, IfErr, IsErrOf, IsTrue, OnOk, OnErr, option_map, option_copied, find, position, string_bytes};
 ghost use Rattle.std.specs.Str.{bytes_eq};
 ghost use Rattle.krb_files.specs.Files.{SetsFile, loaded};
 ghost use Rattle.krb_files.specs.MemFiles.{Memory, pairs_of, AnswersOf, SavesOf, FaultOf, file_in, with_file, failing_next, after_call};
@@ -16,6 +16,7 @@ pub struct MemFiles<A: Allocator> {
     files: Vec<(String<A>, Vec<u8, A>), A>,
     failing: u64,
     failures: u64,
+    mode: Option<u32>,
 }
 
 impl<A: Allocator> Model for MemFiles<A> {
@@ -25,6 +26,7 @@ impl<A: Allocator> Model for MemFiles<A> {
       files = pairs_of m.files.items;
       failing = m.failing;
       failures = m.failures;
+      mode = m.mode;
     } };
 }
 
@@ -34,12 +36,14 @@ impl<A: Allocator> MemFiles<A> {
         ensures files { result.files ≡ pairs_of files.items }
         ensures failing { result.failing ≡ 0 }
         ensures failures { result.failures ≡ 0 }
+        ensures mode { result.mode ≡ None }
     {
         MemFiles {
             alloc,
             files,
             failing: 0,
             failures: 0,
+            mode: None,
         }
     }
 
@@ -55,6 +59,13 @@ impl<A: Allocator> MemFiles<A> {
         ensures { self.new ≡ record self.old { failing = n } }
     {
         self.failing = n;
+    }
+
+    /// Gives each file this mode.
+    pub fn set_mode(&mut self, mode: Option<u32>)
+        ensures { self.new ≡ record self.old { mode = mode } }
+    {
+        self.mode = mode;
     }
 
     // Counts a call, and says whether it fails.
@@ -148,6 +159,8 @@ impl<A: Allocator + Copy> Files for MemFiles<A> {
     ghost saves = { λ m name bytes answer after.
         SavesOf (failing_next m) (after_call m) name bytes answer after };
 
+    ghost mode = { λ m. m.mode };
+
     fn load<B: Allocator>(
         &mut self,
         alloc: B,
@@ -186,5 +199,9 @@ impl<A: Allocator + Copy> Files for MemFiles<A> {
 
     fn failures(&self) -> u64 {
         self.failures
+    }
+
+    fn mode(&self) -> Option<u32> {
+        self.mode
     }
 }
