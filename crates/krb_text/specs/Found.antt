@@ -1,8 +1,16 @@
--- The line of an entry that was looked up.
+-- Lines of entries with their places.
 use Rattle.std.specs.Prelude.{List, ℕ, ◌++◌, decimal, codes}
 use Rattle.krb_keytab.specs.Find.{PlacedEntry}
 use Rattle.krb_text.specs.Line.{entry_tail}
 
--- the line of an entry that was found at a place
+-- the line of an entry that stands at a place, behind a label
+abbrev pub placed_line : List ℕ → PlacedEntry → List ℕ
+placed_line label x = label ++ (decimal x.0 ++ entry_tail x.1)
+
+-- the line of an entry that was found
 abbrev pub found_line : PlacedEntry → List ℕ
-found_line x = codes "found " ++ (decimal x.0 ++ entry_tail x.1)
+found_line x = placed_line (codes "found ") x
+
+-- the line of an entry that was removed
+abbrev pub removed_line : PlacedEntry → List ℕ
+removed_line x = placed_line (codes "removed ") x

@@ -1,7 +1,8 @@
-//! The line of an entry that was looked up.
+//! The line of an entry with its place.
 
-ghost use Rattle.std.specs.Prelude.{◌≡◌, ◌++◌, OnOk, IfOk};
-ghost use Rattle.krb_text.specs.Found.{found_line};
+ghost use Rattle.std.specs.Prelude.{◌≡◌, ◌++◌, IfOk};
+ghost use Rattle.krb_wire.specs.Text.{AppendedPart};
+ghost use Rattle.krb_text.specs.Found.{found_line, placed_line};
 
 use crate::append::append_labelled;
 use crate::line::append_tail;
@@ -9,14 +10,16 @@ use krb_keytab::EntryView;
 use krb_wire::NoMemory;
 use std::alloc::Allocator;
 
-fn append_found<A: Allocator>(
+/// Appends the line of an entry that stands at a place, behind a label.
+pub fn append_placed<A: Allocator>(
+    label: &[u8],
     place: u32,
     entry: &EntryView<'_>,
     out: &mut Vec<u8, A>,
 ) -> Result<(), NoMemory>
-    ensures { OnOk result (out.new.items ≡ out.old.items ++ found_line (place, entry.now)) }
+    ensures { AppendedPart (placed_line label.now (place, entry.now)) out.old out.new result }
 {
-    append_labelled(b"found ", place, out)?;
+    append_labelled(label, place, out)?;
     append_tail(&entry.fields(), out)
 }
 
@@ -29,6 +32,6 @@ pub fn found_text<A: Allocator>(
     ensures { IfOk result (λ line. line.items ≡ found_line (place, entry.now)) }
 {
     let mut line = Vec::new(alloc);
-    append_found(place, entry, &mut line)?;
+    append_placed(b"found ", place, entry, &mut line)?;
     Ok(line)
 }

@@ -74,7 +74,8 @@ fn list_entries<A: Allocator, B: Allocator, W: Write>(
     Ok(())
 }
 
-fn append_fault_line<A: Allocator>(
+/// Appends the line of a fault, if there is one.
+pub fn append_fault_line<A: Allocator>(
     fault: Option<Fault>,
     out: &mut Vec<u8, A>,
 ) -> Result<(), NoMemory>

@@ -2,6 +2,7 @@
 //! out by hand.
 
 mod allocations;
+mod check_ups;
 mod etypes;
 mod found;
 mod keys;

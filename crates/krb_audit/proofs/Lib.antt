@@ -1,0 +1,10 @@
+pub mod NameBytes
+pub mod FirstNumbers
+pub mod Keeping
+pub mod Knowing
+pub mod Selecting
+pub mod Octal
+pub mod CountsLemmas
+pub mod Numbers
+pub mod FirstsLemmas
+pub mod FindingsLemmas

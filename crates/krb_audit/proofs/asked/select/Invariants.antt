@@ -1,0 +1,12 @@
+use Rattle.std.proofs.Common.{◌≡◌}
+use Rattle.krb_keytab.specs.Find.{placed_entries}
+use Rattle.krb_audit.specs.Asked.{IsAsked, SelectsUpTo}
+use Rattle.krb_audit.proofs.asked.select.Given as goal
+
+-- the entries so far that are asked for were selected
+abbrev pub invariant-entries : goal.invariant-entries
+invariant-entries g l = record {
+  asked : IsAsked (placed_entries l.keytab.state) l.asked;
+  selection : l.asked.selection.now ≡ l.selection;
+  selects : SelectsUpTo l.selection (placed_entries l.keytab.state) l.place-iterator l.number l.selected;
+}

@@ -1,0 +1,33 @@
+use Rattle.std.proofs.Common.{◌≡◌, ◌∷◌, ◌∙◌, ◌+◌, ap, length, arith}
+use Rattle.std.specs.List.{sum_by}
+use Rattle.krb_keytab.specs.declared.cells.KtCell.{KtCell}
+use Rattle.krb_keytab.specs.Cells.{Free, size}
+use Rattle.krb_keytab.specs.CellViews.{cell_of}
+use Rattle.krb_audit.specs.Report.{holes}
+use Rattle.krb_audit.proofs.CountsLemmas.{added_ge, hole_added, hole_counted, holes_few, holes_small}
+use Rattle.krb_audit.proofs.counts.count_holes.Goals as goal
+
+pub overflow_add-holes : goal.overflow_add-holes
+overflow_add-holes g c =
+    let all = c.args.keytab.now.state.contents.cells in
+    let cells = c.cells.cell-iterator.contents.cells in
+    let rest = c.next.new.self.contents.cells in
+    let is : cells ≡ Free c.in-Free.bytes.now ∷ rest = c.in-Some.ensures.steps.cells ∙ ap (λ (d : KtCell). cell_of d ∷ rest) c.in-Free.is in
+    let counted = hole_counted c.cells.holes.count (length (holes all)) cells rest c.in-Free.bytes.now is c.cells.invariant.count in
+    let few = holes_few all in
+    let count = c.cell_count-count.ensures.count in
+    let most = c.cell_count-count.ensures.few in
+    omega (arith, counted, few, count, most)
+
+pub overflow_add-holes-in-Free : goal.overflow_add-holes-in-Free
+overflow_add-holes-in-Free g c =
+    let all = c.args.keytab.now.state.contents.cells in
+    let cells = c.cells.cell-iterator.contents.cells in
+    let rest = c.next.new.self.contents.cells in
+    let is : cells ≡ Free c.in-Free.bytes.now ∷ rest = c.in-Some.ensures.steps.cells ∙ ap (λ (d : KtCell). cell_of d ∷ rest) c.in-Free.is in
+    let sum = hole_added c.cells.holes.size (sum_by size (holes all)) cells rest c.in-Free.bytes.now is c.cells.invariant.size in
+    let least = added_ge (c.cells.holes.size + length c.in-Free.bytes.now) (holes rest) in
+    let small = holes_small all in
+    let end = c.end-end.ensures in
+    let fits = c.end-end.type_inv in
+    omega (arith, sum, least, small, end, fits)

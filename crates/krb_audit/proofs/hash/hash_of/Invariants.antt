@@ -1,0 +1,7 @@
+use Rattle.std.proofs.Common.{◌≡◌, take}
+use Rattle.std.specs.List.{fold}
+use Rattle.krb_audit.specs.Hash.{hash_step}
+use Rattle.krb_audit.proofs.hash.hash_of.Given as goal
+
+abbrev pub invariant-loop-byte : goal.invariant-loop-byte
+invariant-loop-byte l = l.hash ≡ fold hash_step 0 (take l.byte-index l.name)

@@ -1,0 +1,29 @@
+use Rattle.std.proofs.Common.{◌≡◌, ◌-◌, length, arith, ◌∙◌}
+use Rattle.krb_audit.specs.Names.{kt_name}
+use Rattle.krb_audit.proofs.NameBytes.{opens, is_read, lengths, name_taken}
+use Rattle.krb_audit.proofs.names.named_entry.Goals as goal
+
+pub returns-in_err-rest-clause-entry : goal.returns-in_err-rest-clause-entry
+returns-in_err-rest-clause-entry c = absurd (is_read c.args.format c.in_ok-entry.entry c.args.bytes.now c.in_ok-entry.ensures.found c.in_err-rest.ensures)
+
+pub overflow_sub-end : goal.overflow_sub-end
+overflow_sub-end c =
+    let len = lengths c.args.format c.in_ok-entry.entry c.args.bytes.now _ c.in_ok-rest.rest.now c.in_ok-entry.ensures.found c.in_ok-rest.ensures in
+    omega (arith, len)
+
+pub overflow_sub-end-2 : goal.overflow_sub-end-2
+overflow_sub-end-2 c =
+    let len = lengths c.args.format c.in_ok-entry.entry c.args.bytes.now _ c.in_ok-rest.rest.now c.in_ok-entry.ensures.found c.in_ok-rest.ensures in
+    let type_ = c.name_type_len.ensures in
+    omega (arith, len, type_)
+
+pub returns : goal.returns
+returns c =
+    let len = lengths c.args.format c.in_ok-entry.entry c.args.bytes.now _ c.in_ok-rest.rest.now c.in_ok-entry.ensures.found c.in_ok-rest.ensures in
+    let type_ = c.name_type_len.ensures in
+    let end : length c.args.bytes.now - length c.in_ok-rest.rest.now - c.name_type_len.result ≡ length (kt_name c.args.format c.in_ok-entry.entry.principal) = omega (arith, len, type_) in
+    record {
+      entry = c.in_ok-entry.ensures.exact;
+      name = c.split_at.ensures.front ∙ name_taken c.args.format c.in_ok-entry.entry c.args.bytes.now _ c.in_ok-entry.ensures.found end;
+      fits = (opens c.args.format c.in_ok-entry.entry c.args.bytes.now c.in_ok-entry.ensures.found).fits;
+    }

@@ -1,0 +1,55 @@
+-- What is found about the entries of a keytab.
+use Rattle.std.specs.Prelude.{ℕ, List, [], ◌∷◌, ◌++◌, length, find, Bool, not, ◌&&◌, ◌||◌, ◌==◌, nat_lt, option_map}
+use Rattle.std.specs.List.{list_any}
+use Rattle.std.specs.Str.{bytes_eq}
+use Rattle.krb_wire.specs.SameName.{have_same_name}
+use Rattle.krb_keytab.specs.Entry.{EntryParts}
+use Rattle.krb_keytab.specs.Find.{PlacedEntry, placed_entries}
+use Rattle.krb_keytab.specs.Store.{KeytabState}
+use Rattle.krb_audit.specs.declared.marks.Alike.{Alike}
+use Rattle.krb_audit.specs.declared.marks.Marks.{Marks}
+use Rattle.krb_audit.specs.Newest.{is_old}
+
+-- the enctypes that MIT names, and calls weak or deprecated
+abbrev pub is_weak : ℕ → Bool
+is_weak enctype = list_any (λ n. n == enctype) (1 ∷ 2 ∷ 3 ∷ 4 ∷ 6 ∷ 8 ∷ 16 ∷ 23 ∷ 24 ∷ [])
+
+-- a count or a length with which MIT's programs read no entry
+abbrev pub is_out : ℕ → Bool
+is_out n = n == 0 || nat_lt 32767 n
+
+-- MIT's programs end silently before this entry
+abbrev pub ends_mit : EntryParts → Bool
+ends_mit e =
+    is_out (length e.principal.components)
+    || (is_out (length e.principal.realm) || (list_any (λ c. is_out (length c)) e.principal.components || is_out (length e.key)))
+
+-- the second entry has the name, the version and the enctype of the first
+abbrev pub is_alike : PlacedEntry → PlacedEntry → Bool
+is_alike x y = have_same_name x.1.principal y.1.principal && (x.1.version == y.1.version && x.1.enctype == y.1.enctype)
+
+-- what an entry is to a later one that is alike: its place, and whether it has the same key
+abbrev pub as_alike : PlacedEntry → PlacedEntry → Alike
+as_alike x y = record { place = y.0; has_same_key = bytes_eq y.1.key x.1.key }
+
+-- what is found about an entry of a keytab, by those that stand before it
+abbrev pub marks_of : KeytabState → List PlacedEntry → PlacedEntry → Marks
+marks_of k before x = record {
+  weak = is_weak x.1.enctype;
+  hidden = ends_mit x.1 && not (list_any (λ y. ends_mit y.1) before);
+  alike = option_map (as_alike x) (find (is_alike x) before);
+  old = is_old (placed_entries k) x.1;
+}
+
+-- an entry, and what is found about it
+abbrev pub Marked : Type 0
+Marked = PlacedEntry × Marks
+
+-- some entries, with what is found about each, where others stand before them
+abbrev pub marked_after : KeytabState → List PlacedEntry → List PlacedEntry → List Marked
+marked_after k before [] = []
+marked_after k before (x ∷ xs) = (x, marks_of k before x) ∷ marked_after k (before ++ x ∷ []) xs
+
+-- all entries, with what is found about each
+abbrev pub marked : KeytabState → List Marked
+marked k = marked_after k [] (placed_entries k)

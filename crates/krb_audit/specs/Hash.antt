@@ -1,0 +1,11 @@
+-- A number that tells most names apart.
+use Rattle.std.specs.Prelude.{ℕ, ◌+◌, ◌*◌, ◌%◌, ◌^◌, List}
+use Rattle.std.specs.List.{fold}
+
+-- with one byte more, in 64 bits (the multiplier is that of FNV-1a)
+abbrev pub hash_step : ℕ → ℕ → ℕ
+hash_step hash byte = (hash * 1099511628211 % 2 ^ 64 + byte) % 2 ^ 64
+
+-- the number of bytes
+unfoldable pub hash_of : List ℕ → ℕ
+hash_of name = fold hash_step 0 name

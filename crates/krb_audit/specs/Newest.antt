@@ -1,0 +1,40 @@
+-- The newest entry of a name, and which entries are old.
+use Rattle.std.specs.Prelude.{ℕ, List, [], ◌∷◌, Bool, false, ◌&&◌, ◌==◌, not, nat_lt, filter, if◌then◌else◌, Option, None, Some}
+use Rattle.krb_wire.specs.Spelling.{Parts}
+use Rattle.krb_wire.specs.SameName.{have_same_name}
+use Rattle.krb_keytab.specs.Entry.{EntryParts}
+use Rattle.krb_keytab.specs.Find.{PlacedEntry}
+
+-- of two versions the small one is the later: they have wrapped around between them
+abbrev pub has_wrapped : ℕ → ℕ → Bool
+has_wrapped small large = nat_lt small 128 && nat_lt 240 large
+
+-- a later entry of a name takes the place of the newest so far: its version is greater, or where versions have wrapped its time counts (MIT krb5, kt_file.c, more_recent)
+abbrev pub is_newer : EntryParts → EntryParts → Bool
+is_newer newest later =
+    if has_wrapped later.version newest.version then not (nat_lt later.timestamp newest.timestamp)
+    else (if has_wrapped newest.version later.version then nat_lt newest.timestamp later.timestamp
+    else nat_lt newest.version later.version)
+
+-- the newest of two, where there was one before
+abbrev pub newer : Option EntryParts → EntryParts → Option EntryParts
+newer None later = Some later
+newer (Some newest) later = Some (if is_newer newest later then later else newest)
+
+-- the newest of entries, found in their order
+abbrev pub newest_from : Option EntryParts → List PlacedEntry → Option EntryParts
+newest_from so_far [] = so_far
+newest_from so_far (x ∷ xs) = newest_from (newer so_far x.1) xs
+
+-- the newest entry of a name
+abbrev pub newest : Parts → List PlacedEntry → Option EntryParts
+newest name xs = newest_from None (filter (λ x. have_same_name name x.1.principal) xs)
+
+-- its version is another
+abbrev pub has_other_version : EntryParts → Option EntryParts → Bool
+has_other_version e None = false
+has_other_version e (Some newest) = not (e.version == newest.version)
+
+-- an entry is old among entries: its version is not that of the newest entry of its name
+abbrev pub is_old : List PlacedEntry → EntryParts → Bool
+is_old xs e = has_other_version e (newest e.principal xs)

@@ -1,0 +1,127 @@
+-- The lines that tell what is found, and which of them are told.
+use Rattle.std.specs.Prelude.{ℕ, zero, suc, ◌+◌, ◌/◌, ◌%◌, bit_and, List, [], ◌∷◌, ◌++◌, length, filter, sum_by, codes, decimal, Bool, true, false, not, ◌||◌, ◌==◌, if◌then◌else◌, Option, None, Some, is_some}
+use Rattle.std.specs.List.{flat_map, list_any}
+use Rattle.krb_walk.specs.Store.{fault_of}
+use Rattle.krb_keytab.specs.Cells.{Cell, Live, Free, size}
+use Rattle.krb_keytab.specs.Find.{PlacedEntry, placed_entries}
+use Rattle.krb_keytab.specs.Store.{KeytabState, store_of}
+use Rattle.krb_text.specs.Found.{placed_line}
+use Rattle.krb_text.specs.Listing.{fault_line}
+use Rattle.krb_audit.specs.declared.marks.Alike.{Alike}
+use Rattle.krb_audit.specs.declared.marks.Marks.{Marks}
+use Rattle.krb_audit.specs.declared.told.Told.{Told}
+use Rattle.krb_audit.specs.Findings.{Marked, marked}
+
+-- ---- lines of entries
+
+-- the line of an entry that a word tells of, if it does
+abbrev pub line_if : Bool → List ℕ → PlacedEntry → List ℕ
+line_if is_told word x = if is_told then placed_line word x else []
+
+-- how an entry is told that has an earlier one's name, version and enctype
+abbrev pub alike_word : Bool → List ℕ
+alike_word has_same_key = if has_same_key then codes "same " else codes "clash "
+
+-- the line of such an entry, with the place of the first
+abbrev pub alike_line : Option Alike → PlacedEntry → List ℕ
+alike_line None x = []
+alike_line (Some a) x = alike_word a.has_same_key ++ (decimal x.0 ++ placed_line (codes " ") (a.place, x.1))
+
+-- the lines of what is found about an entry
+abbrev pub mark_lines : Marked → List ℕ
+mark_lines m =
+    line_if m.1.weak (codes "weak ") m.0
+    ++ (line_if m.1.hidden (codes "hidden ") m.0 ++ (alike_line m.1.alike m.0 ++ line_if m.1.old (codes "old ") m.0))
+
+-- ---- the mode, and the count
+
+-- at most so many octal digits of a number, without leading zeros
+abbrev pub octal : ℕ → ℕ → List ℕ
+octal zero n = []
+octal (suc places) n = if n == 0 then [] else octal places (n / 8) ++ (48 + n % 8) ∷ []
+
+-- others than its owner may read or write a file of this mode
+abbrev pub is_open : ℕ → Bool
+is_open mode = not (bit_and mode 0o66 == 0)
+
+-- all may
+abbrev pub is_open_to_all : ℕ → Bool
+is_open_to_all mode = not (bit_and mode 0o6 == 0)
+
+-- a plain file has a mode for which this holds
+abbrev pub has_mode : (ℕ → Bool) → Option ℕ → Bool
+has_mode holds None = false
+has_mode holds (Some mode) = holds mode
+
+-- the line of a mode, by its twelve low bits, if it is to be told
+abbrev pub mode_line : Option ℕ → List ℕ
+mode_line None = []
+mode_line (Some mode) = if is_open mode then codes "mode " ++ (octal 4 (mode % 0o10000) ++ codes "\n") else []
+
+-- a cell is a hole
+abbrev pub is_hole : Cell → Bool
+is_hole (Live b) = false
+is_hole (Free b) = true
+
+-- the holes
+abbrev pub holes : List Cell → List Cell
+holes cells = filter is_hole cells
+
+-- how many entries there are, the sizes of the holes together, and how many holes there are
+abbrev pub count_line : KeytabState → List ℕ
+count_line k =
+    codes "entries " ++ (decimal (length (placed_entries k))
+    ++ (codes " free " ++ (decimal (sum_by size (holes k.contents.cells))
+    ++ (codes " holes " ++ (decimal (length (holes k.contents.cells)) ++ codes "\n")))))
+
+-- ---- which words are told
+
+-- an alike entry has the same key
+abbrev pub is_same : Option Alike → Bool
+is_same None = false
+is_same (Some a) = a.has_same_key
+
+-- it has another key
+abbrev pub is_clash : Option Alike → Bool
+is_clash None = false
+is_clash (Some a) = not a.has_same_key
+
+-- which words the lines of entries have
+abbrev pub told_of : List Marked → Told
+told_of ms = record {
+  weak = list_any (λ m. m.1.weak) ms;
+  hidden = list_any (λ m. m.1.hidden) ms;
+  same = list_any (λ m. is_same m.1.alike) ms;
+  clash = list_any (λ m. is_clash m.1.alike) ms;
+  old = list_any (λ m. m.1.old) ms;
+  mode = false;
+}
+
+-- those, and those of one entry more
+abbrev pub with_marks : Told → Marks → Told
+with_marks t m = record t {
+  weak = t.weak || m.weak;
+  hidden = t.hidden || m.hidden;
+  same = t.same || is_same m.alike;
+  clash = t.clash || is_clash m.alike;
+  old = t.old || m.old;
+}
+
+-- which words all lines have
+abbrev pub told : Option ℕ → KeytabState → Told
+told mode k = record (told_of (marked k)) { mode = has_mode is_open mode }
+
+-- some of them tell of an entry that has something wrong
+abbrev pub tells_wrong : Told → Bool
+tells_wrong t = t.weak || (t.hidden || (t.same || t.clash))
+
+-- a line tells of something that is wrong
+abbrev pub is_wrong : Option ℕ → KeytabState → Bool
+is_wrong mode k = tells_wrong (told_of (marked k)) || (is_some (fault_of (store_of k)) || has_mode is_open_to_all mode)
+
+-- ---- all of it
+
+-- what is found about a keytab, where a plain file that has it has this mode
+abbrev pub report : Option ℕ → KeytabState → List ℕ
+report mode k =
+    mode_line mode ++ (flat_map mark_lines (marked k) ++ (fault_line (fault_of (store_of k)) ++ count_line k))

@@ -1,0 +1,139 @@
+//! The entries that are asked for.
+
+ghost use Rattle.std.specs.Prelude.{◌≡◌, ℕ, ◌++◌, ◌∷◌, [], List, slice_get, IfOk, OnOk, Some};
+ghost use Rattle.krb_keytab.specs.Find.{PlacedEntry, placed_entries};
+ghost use Rattle.krb_text.specs.Found.{removed_line};
+ghost use Rattle.krb_audit.specs.Asked.{IsAsked, SelectsOf};
+ghost use Rattle.krb_audit.specs.Selection.{Selects, is_named, has_asked_enctype};
+
+use crate::asked_name::AskedName;
+use crate::asked_versions::AskedVersions;
+use crate::selection::Selection;
+use krb_keytab::{EntryView, Keytab};
+use krb_text::append_placed;
+use krb_wire::NoMemory;
+use std::alloc::Allocator;
+
+/// The entries of a keytab that are asked for.
+#[derive(Drop)]
+pub struct Selected<A: Allocator> {
+    /// The places of their records, in file order.
+    pub places: Vec<u32, A>,
+    /// A line for each that tells of its removal.
+    pub text: Vec<u8, A>,
+    /// Whether some entry has the name and the enctype that are asked for, of whatever version.
+    pub is_named: bool,
+}
+
+impl<A: Allocator> Selected<A> {
+    // Selects an entry.
+    fn add(&mut self, place: u32, entry: &EntryView<'_>) -> Result<(), NoMemory>
+        ensures places { OnOk result (self.new.places.items ≡ self.old.places.items ++ place ∷ []) }
+        ensures text { OnOk result (self.new.text.items
+            ≡ self.old.text.items ++ removed_line (place, entry.now)) }
+        ensures named { self.new.is_named ≡ self.old.is_named }
+    {
+        self.places.push(place)?;
+        append_placed(b"removed ", place, entry, &mut self.text)
+    }
+}
+
+fn has_asked_enctype(asked: &[u16], enctype: u16) -> bool
+    ensures { result ≡ has_asked_enctype asked.now enctype }
+{
+    asked.is_empty() || asked.contains(&enctype)
+}
+
+// What is asked for among the entries of a keytab.
+#[derive(Drop)]
+struct Asked<'s, A: Allocator, B: Allocator> {
+    selection: &'s Selection<B>,
+    name: AskedName<A>,
+    versions: AskedVersions<A>,
+}
+
+impl<'s, A: Allocator + Copy, B: Allocator> Asked<'s, A, B> {
+    fn of(
+        alloc: A,
+        keytab: &Keytab<A>,
+        selection: &'s Selection<B>,
+    ) -> Result<Asked<'s, A, B>, NoMemory>
+        ensures selection { IfOk result (λ a. a.selection.now ≡ selection.now) }
+        ensures asked { IfOk result (IsAsked (placed_entries keytab.now.state)) }
+    {
+        let name = AskedName::of(alloc, &selection.name)?;
+        let versions = AskedVersions::of(alloc, keytab, selection.kvno)?;
+        Ok(Asked {
+            selection,
+            name,
+            versions,
+        })
+    }
+
+    // Whether an entry has the name and the enctype that are asked for.
+    fn names(&mut self, entry: &EntryView<'_>) -> Result<bool, NoMemory>
+        ensures selection { self.new.selection ≡ self.old.selection }
+        ensures asked { (xs : List PlacedEntry) → IsAsked xs self.old → IsAsked xs self.new }
+        ensures named { (xs : List PlacedEntry) → IsAsked xs self.old
+            → IfOk result (λ b. b ≡ is_named self.old.selection.now entry.now) }
+    {
+        if !has_asked_enctype(&self.selection.enctypes, entry.enctype()) {
+            return Ok(false);
+        }
+        self.name.is_of(entry.principal())
+    }
+
+    // Selects the next entry where it is asked for.
+    fn consider(
+        &mut self,
+        number: usize,
+        place: u32,
+        entry: &EntryView<'_>,
+        selected: &mut Selected<A>,
+    ) -> Result<(), NoMemory>
+        ensures selection { self.new.selection ≡ self.old.selection }
+        ensures asked { (xs : List PlacedEntry) → IsAsked xs self.old → IsAsked xs self.new }
+        ensures selects { (xs some : List PlacedEntry) → IsAsked xs self.old
+            → slice_get xs number ≡ Some (place, entry.now)
+            → SelectsOf self.old.selection.now xs some selected.old
+            → OnOk result (SelectsOf self.old.selection.now xs
+            (some ++ (place, entry.now) ∷ []) selected.new) }
+    {
+        let has_version = self.versions.has(number, entry.kvno());
+        if selected.is_named && !has_version {
+            return Ok(());
+        }
+        if !self.names(entry)? {
+            return Ok(());
+        }
+        selected.is_named = true;
+        if !has_version {
+            return Ok(());
+        }
+        selected.add(place, entry)
+    }
+}
+
+/// Selects the entries of a keytab that are asked for. The time is n log n in the bytes of the keytab.
+pub fn select<A: Allocator + Copy, B: Allocator>(
+    alloc: A,
+    keytab: &Keytab<A>,
+    selection: &Selection<B>,
+) -> Result<Selected<A>, NoMemory>
+    ensures { IfOk result (Selects selection.now keytab.now.state) }
+{
+    let mut asked = Asked::of(alloc, keytab, selection)?;
+    let mut selected = Selected {
+        places: Vec::new(alloc),
+        text: Vec::new(alloc),
+        is_named: false,
+    };
+    // There are few: the number of an entry fits.
+    let _count = keytab.cell_count();
+    let mut number = 0;
+    'entries: for (place, entry) in keytab.entries() {
+        asked.consider(number, place, &entry, &mut selected)?;
+        number += 1;
+    }
+    Ok(selected)
+}

@@ -1,0 +1,61 @@
+//! The name that is asked for.
+
+ghost use Rattle.std.specs.Prelude.{◌≡◌, IfOk, option_map};
+ghost use Rattle.std.specs.Vec.{vec_items};
+ghost use Rattle.krb_wire.specs.Names.{name_text};
+ghost use Rattle.krb_wire.specs.Reading.{principal_parts};
+ghost use Rattle.krb_audit.specs.Asked.{asked_text, has_text};
+
+use krb_wire::{NoMemory, Principal, PrincipalView, write_name};
+use std::alloc::Allocator;
+
+/// The name that is asked for, if one is, as it is printed, and room to print others.
+#[derive(Drop)]
+pub struct AskedName<A: Allocator> {
+    asked: Option<Vec<u8, A>>,
+    printed: Vec<u8, A>,
+}
+
+// A name as it is printed.
+fn text_of<A: Allocator, B: Allocator>(
+    alloc: A,
+    name: &Principal<B>,
+) -> Result<Vec<u8, A>, NoMemory>
+    ensures { IfOk result (λ text. text.items ≡ name_text (principal_parts name.now)) }
+{
+    let mut text = Vec::new(alloc);
+    write_name(name, &mut text)?;
+    Ok(text)
+}
+
+impl<A: Allocator + Copy> AskedName<A> {
+    pub fn of<B: Allocator>(alloc: A, name: &Option<Principal<B>>) -> Result<AskedName<A>, NoMemory>
+        ensures { IfOk result (λ n. option_map vec_items n.asked ≡ asked_text name.now) }
+    {
+        let asked = match name {
+            Some(name) => Some(text_of(alloc, name)?),
+            None => None,
+        };
+        Ok(AskedName {
+            asked,
+            printed: Vec::new(alloc),
+        })
+    }
+}
+
+impl<A: Allocator> AskedName<A> {
+    /// Whether a name prints as the one that is asked for.
+    pub fn is_of(&mut self, name: &PrincipalView<'_>) -> Result<bool, NoMemory>
+        ensures kept { self.new.asked ≡ self.old.asked }
+        ensures is { IfOk result (λ b. b ≡ has_text (option_map vec_items self.old.asked) name.now) }
+    {
+        match &self.asked {
+            Some(asked) => {
+                self.printed.clear();
+                write_name(name, &mut self.printed)?;
+                Ok(self.printed.as_slice() == asked.as_slice())
+            }
+            None => Ok(true),
+        }
+    }
+}

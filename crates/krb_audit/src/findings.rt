@@ -1,0 +1,143 @@
+//! What an administrator should know of a keytab.
+
+ghost use Rattle.std.specs.Prelude.{◌≡◌, ◌+◌, ◌<◌, ◌^◌, ◌∷◌, ◌++◌, ◌&&◌, ◌||◌, [], List, length, not, OnOk, IfOk};
+ghost use Rattle.std.specs.List.{flat_map};
+ghost use Rattle.krb_keytab.specs.Find.{PlacedEntry, placed_entries};
+ghost use Rattle.krb_keytab.specs.Store.{KeytabState};
+ghost use Rattle.krb_audit.specs.Before.{IsBefore};
+ghost use Rattle.krb_audit.specs.Findings.{marked, marks_of};
+ghost use Rattle.krb_audit.specs.Report.{is_wrong, mark_lines, report, told, told_of};
+
+use crate::counts::append_counts;
+use crate::firsts::Firsts;
+use crate::marks::Marks;
+use crate::mit::{ends_mit, is_weak};
+use crate::mode::{append_mode, is_open_file, is_open_to_all};
+use crate::newest::NewestVersions;
+use crate::told::Told;
+use krb_keytab::{EntryView, Keytab};
+use krb_text::append_fault_line;
+use krb_wire::NoMemory;
+use std::alloc::Allocator;
+
+/// What was found about a keytab.
+#[derive(Drop)]
+pub struct CheckUp<A: Allocator> {
+    /// A line for each finding, and one that counts entries and holes.
+    pub text: Vec<u8, A>,
+    /// Which words the lines have.
+    pub told: Told,
+    /// Whether one of them tells of something that is wrong.
+    pub is_wrong: bool,
+}
+
+/// What is known before an entry, to tell what is found about it.
+#[derive(Drop)]
+struct Before<'a, A: Allocator> {
+    newest: NewestVersions<A>,
+    firsts: Firsts<'a, A>,
+    /// How many entries stand before it.
+    count: u32,
+    /// Whether MIT's programs end before one of them.
+    has_ended: bool,
+}
+
+// Whether something holds that did not hold before.
+fn is_first(holds: bool, held: bool) -> bool
+    ensures { result ≡ (holds && not held) }
+{
+    holds && !held
+}
+
+// Whether it holds, or held before.
+fn either(held: bool, holds: bool) -> bool
+    ensures { result ≡ (held || holds) }
+{
+    held || holds
+}
+
+impl<'a, A: Allocator + Copy> Before<'a, A> {
+    // Before the first entry of a keytab.
+    fn first<B: Allocator>(alloc: A, keytab: &Keytab<B>) -> Result<Before<'a, A>, NoMemory>
+        ensures { IfOk result (IsBefore keytab.now.state []) }
+    {
+        Ok(Before {
+            newest: NewestVersions::of(alloc, keytab)?,
+            firsts: Firsts::new(alloc),
+            count: 0,
+            has_ended: false,
+        })
+    }
+
+    // What is found about the next entry.
+    fn marks(&mut self, place: u32, entry: &EntryView<'a>) -> Result<Marks, NoMemory>
+        requires { self.old.count + 1 < 2 ^ 32 }
+        ensures marks { (k : KeytabState) (before rest : List PlacedEntry) → IsBefore k before self.old
+            → placed_entries k ≡ before ++ (place, entry.now) ∷ rest
+            → IfOk result (λ marks. marks ≡ marks_of k before (place, entry.now)) }
+        ensures next { (k : KeytabState) (before rest : List PlacedEntry) → IsBefore k before self.old
+            → placed_entries k ≡ before ++ (place, entry.now) ∷ rest
+            → OnOk result (IsBefore k (before ++ (place, entry.now) ∷ []) self.new) }
+    {
+        let number = self.count as usize;
+        let kvno = entry.kvno();
+        let ends = ends_mit(entry);
+        let hidden = is_first(ends, self.has_ended);
+        let first = self.newest.first(number).unwrap_or(0);
+        let key = (first, kvno, entry.enctype());
+        let alike = self.firsts.consider(key, place, entry.key())?;
+        self.count += 1;
+        self.has_ended = either(self.has_ended, ends);
+        Ok(Marks {
+            weak: is_weak(entry.enctype()),
+            hidden,
+            alike,
+            old: self.newest.is_old(number, kvno),
+        })
+    }
+}
+
+// Appends the lines of all entries, and answers which words they have and how many entries there are.
+fn append_marks<A: Allocator + Copy, B: Allocator>(
+    alloc: A,
+    keytab: &Keytab<B>,
+    out: &mut Vec<u8, A>,
+) -> Result<(Told, u32), NoMemory>
+    ensures text { OnOk result (out.new.items ≡ out.old.items ++ flat_map mark_lines (marked keytab.now.state)) }
+    ensures told { IfOk result (λ listed. listed.0 ≡ told_of (marked keytab.now.state)) }
+    ensures count { IfOk result (λ listed. listed.1 ≡ length (placed_entries keytab.now.state)) }
+{
+    let _few = keytab.cell_count();
+    let mut before = Before::first(alloc, keytab)?;
+    let mut told = Told::none();
+    'entries: for (place, entry) in keytab.entries() {
+        let marks = before.marks(place, &entry)?;
+        marks.append(place, &entry, out)?;
+        told = told.with(marks);
+    }
+    Ok((told, before.count))
+}
+
+/// Finds what an administrator should know of a keytab, and of the mode of the plain file that has it. The time is
+/// n log n in the bytes of the keytab.
+pub fn check_up<A: Allocator + Copy, B: Allocator>(
+    alloc: A,
+    mode: Option<u32>,
+    keytab: &Keytab<B>,
+) -> Result<CheckUp<A>, NoMemory>
+    ensures text { IfOk result (λ found. found.text.items ≡ report mode keytab.now.state) }
+    ensures told { IfOk result (λ found. found.told ≡ told mode keytab.now.state) }
+    ensures wrong { IfOk result (λ found. found.is_wrong ≡ is_wrong mode keytab.now.state) }
+{
+    let mut text = Vec::new(alloc);
+    append_mode(mode, &mut text)?;
+    let (entries, count) = append_marks(alloc, keytab, &mut text)?;
+    let fault = keytab.fault();
+    append_fault_line(fault, &mut text)?;
+    append_counts(count, keytab, &mut text)?;
+    Ok(CheckUp {
+        text,
+        told: entries.with_mode(is_open_file(mode)),
+        is_wrong: entries.is_wrong() || fault.is_some() || is_open_to_all(mode),
+    })
+}

@@ -1,0 +1,55 @@
+//! The first entry of each name, version and enctype.
+
+ghost use Rattle.std.specs.Prelude.{◌≡◌, None, Some, OnOk, IfOk, option_map, if◌then◌else◌};
+ghost use Rattle.std.specs.Option.{unwrap_or};
+ghost use Rattle.std.specs.Str.{bytes_eq};
+ghost use Rattle.krb_audit.specs.Firsts.{Key, looked, same_key};
+
+use crate::marks::Alike;
+use krb_wire::NoMemory;
+use std::alloc::Allocator;
+use std::collections::BTreeMap;
+
+/// The number of the first entry of a name, a version and an enctype.
+pub type Key = (usize, u32, u16);
+
+/// The place and the secret of the first entry of each key.
+#[derive(Drop)]
+pub struct Firsts<'a, A: Allocator> {
+    map: BTreeMap<Key, (u32, &'a [u8]), A>,
+}
+
+impl<'a, A: Allocator + Copy> Firsts<'a, A> {
+    /// Before any entry.
+    pub fn new(alloc: A) -> Firsts<'a, A>
+        ensures { (k : Key) → looked result k ≡ None }
+    {
+        Firsts {
+            map: BTreeMap::new(alloc),
+        }
+    }
+
+    /// Takes up the next entry of a key, and answers what the first is to it, if there was one.
+    pub fn consider(
+        &mut self,
+        key: Key,
+        place: u32,
+        secret: &'a [u8],
+    ) -> Result<Option<Alike>, NoMemory>
+        ensures alike { IfOk result (λ alike. alike
+            ≡ option_map (λ v. record { place = v.0; has_same_key = bytes_eq v.1 secret.now }) (looked self.old key)) }
+        ensures kept { OnOk result ((k : Key) → looked self.new k
+            ≡ (if same_key key k then Some (unwrap_or (looked self.old key) (place, secret.now)) else looked self.old k)) }
+    {
+        let Some(first) = self.map.insert(key, (place, secret))? else {
+            return Ok(None);
+        };
+        // The first one stays.
+        let (first_place, first_secret) = first;
+        let _ = self.map.insert(key, first)?;
+        Ok(Some(Alike {
+            place: first_place,
+            has_same_key: first_secret == secret,
+        }))
+    }
+}

@@ -1,0 +1,24 @@
+//! What an administrator asks of a whole keytab: which of its entries are old, and which are asked for.
+#![tactic(auto)]
+
+mod append;
+mod asked;
+mod asked_name;
+mod asked_versions;
+mod counts;
+mod findings;
+mod firsts;
+mod hash;
+mod marks;
+mod mit;
+mod mode;
+mod names;
+mod newest;
+mod selection;
+mod stamp;
+mod told;
+
+pub use asked::{Selected, select};
+pub use findings::{CheckUp, check_up};
+pub use selection::{AskedKvno, Selection};
+pub use told::Told;

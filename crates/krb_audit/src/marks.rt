@@ -1,0 +1,82 @@
+//! What is found about an entry, as lines.
+
+ghost use Rattle.std.specs.Prelude.{◌≡◌, ◌++◌, OnOk};
+ghost use Rattle.krb_audit.specs.Report.{alike_line, alike_word, line_if, mark_lines};
+
+use crate::append::append_labelled;
+use krb_keytab::EntryView;
+use krb_text::append_placed;
+use krb_wire::NoMemory;
+use std::alloc::Allocator;
+
+/// The first of the entries before one that has its name, version and enctype.
+#[derive(Clone, Copy, Debug, PartialEq, Eq)]
+pub struct Alike {
+    pub place: u32,
+    pub has_same_key: bool,
+}
+
+/// What is found about an entry.
+#[derive(Clone, Copy, Debug, PartialEq, Eq)]
+pub struct Marks {
+    /// Its enctype is weak.
+    pub weak: bool,
+    /// It is the first that MIT's programs do not see.
+    pub hidden: bool,
+    pub alike: Option<Alike>,
+    /// There is a newer version of its name.
+    pub old: bool,
+}
+
+fn append_line_if<A: Allocator>(
+    is_told: bool,
+    word: &[u8],
+    place: u32,
+    entry: &EntryView<'_>,
+    out: &mut Vec<u8, A>,
+) -> Result<(), NoMemory>
+    ensures { OnOk result (out.new.items ≡ out.old.items ++ line_if is_told word.now (place, entry.now)) }
+{
+    if !is_told {
+        return Ok(());
+    }
+    append_placed(word, place, entry, out)
+}
+
+fn alike_word(has_same_key: bool) -> &'static [u8]
+    ensures { result.now ≡ alike_word has_same_key }
+{
+    if has_same_key { b"same " } else { b"clash " }
+}
+
+fn append_alike<A: Allocator>(
+    alike: Option<Alike>,
+    place: u32,
+    entry: &EntryView<'_>,
+    out: &mut Vec<u8, A>,
+) -> Result<(), NoMemory>
+    ensures { OnOk result (out.new.items ≡ out.old.items ++ alike_line alike (place, entry.now)) }
+{
+    let Some(first) = alike else {
+        return Ok(());
+    };
+    append_labelled(alike_word(first.has_same_key), place, out)?;
+    append_placed(b" ", first.place, entry, out)
+}
+
+impl Marks {
+    /// Appends the lines of the entry.
+    pub fn append<A: Allocator>(
+        self,
+        place: u32,
+        entry: &EntryView<'_>,
+        out: &mut Vec<u8, A>,
+    ) -> Result<(), NoMemory>
+        ensures { OnOk result (out.new.items ≡ out.old.items ++ mark_lines ((place, entry.now), self)) }
+    {
+        append_line_if(self.weak, b"weak ", place, entry, out)?;
+        append_line_if(self.hidden, b"hidden ", place, entry, out)?;
+        append_alike(self.alike, place, entry, out)?;
+        append_line_if(self.old, b"old ", place, entry, out)
+    }
+}

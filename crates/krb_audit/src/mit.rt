@@ -1,0 +1,48 @@
+//! What MIT's programs make of an entry.
+
+ghost use Rattle.std.specs.Prelude.{◌≡◌, length, List, ℕ};
+ghost use Rattle.std.specs.List.{list_any};
+ghost use Rattle.krb_audit.specs.Findings.{ends_mit, is_out, is_weak};
+
+use krb_keytab::EntryView;
+use krb_wire::{Components, Name};
+use std::alloc::Allocator;
+
+/// The greatest count, and length, with which they read an entry.
+const MOST: usize = 32_767;
+
+/// Whether they name an enctype, and call it weak or deprecated.
+pub fn is_weak(enctype: u16) -> bool
+    ensures { result ≡ is_weak enctype }
+{
+    matches!(enctype, 1 | 2 | 3 | 4 | 6 | 8 | 16 | 23 | 24)
+}
+
+// Whether they read no entry with such a count or length.
+fn is_out(count: usize) -> bool
+    ensures { result ≡ is_out count }
+{
+    count == 0 || count > MOST
+}
+
+fn has_such<A: Allocator>(components: Components<'_, A>) -> bool
+    ensures { result ≡ list_any (λ (c : List ℕ). is_out (length c)) components.entry }
+{
+    for component in components {
+        if is_out(component.len()) {
+            return true;
+        }
+    }
+    false
+}
+
+/// Whether they end silently before an entry.
+pub fn ends_mit(entry: &EntryView<'_>) -> bool
+    ensures { result ≡ ends_mit entry.now }
+{
+    let name = entry.principal();
+    is_out(name.count())
+        || is_out(name.realm().len())
+        || has_such(name.components())
+        || is_out(entry.key().len())
+}

@@ -1,0 +1,64 @@
+//! The mode of a file.
+
+ghost use Rattle.std.specs.Prelude.{◌≡◌, ◌++◌, OnOk, ◌%◌};
+ghost use Rattle.krb_audit.specs.Report.{has_mode, is_open, is_open_to_all, mode_line, octal};
+
+use crate::append::append_bytes;
+use krb_wire::NoMemory;
+use std::alloc::Allocator;
+
+// Whether others than its owner may read or write a file of that mode.
+fn is_open(mode: u32) -> bool
+    ensures { result ≡ is_open mode }
+{
+    mode & 0o66 != 0
+}
+
+/// Whether the mode of a plain file is told.
+pub fn is_open_file(mode: Option<u32>) -> bool
+    ensures { result ≡ has_mode is_open mode }
+{
+    match mode {
+        Some(mode) => is_open(mode),
+        None => false,
+    }
+}
+
+/// Whether all may read or write a plain file.
+pub fn is_open_to_all(mode: Option<u32>) -> bool
+    ensures { result ≡ has_mode is_open_to_all mode }
+{
+    match mode {
+        Some(mode) => mode & 0o6 != 0,
+        None => false,
+    }
+}
+
+// Appends at most so many octal digits of a number, without leading zeros.
+fn append_octal<A: Allocator>(
+    places: u32,
+    number: u32,
+    out: &mut Vec<u8, A>,
+) -> Result<(), NoMemory>
+    ensures { OnOk result (out.new.items ≡ out.old.items ++ octal places number) }
+{
+    if places == 0 || number == 0 {
+        return Ok(());
+    }
+    append_octal(places - 1, number / 8, out)?;
+    append_bytes(&[b'0' + (number % 8) as u8], out)
+}
+
+/// Appends the line of a mode, if it is told.
+pub fn append_mode<A: Allocator>(mode: Option<u32>, out: &mut Vec<u8, A>) -> Result<(), NoMemory>
+    ensures { OnOk result (out.new.items ≡ out.old.items ++ mode_line mode) }
+{
+    match mode {
+        Some(mode) if is_open(mode) => {
+            append_bytes(b"mode ", out)?;
+            append_octal(4, mode % 0o10000, out)?;
+            append_bytes(b"\n", out)
+        }
+        _ => Ok(()),
+    }
+}

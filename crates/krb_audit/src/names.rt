@@ -1,0 +1,30 @@
+//! The name of an entry, as the bytes of its record spell it.
+
+ghost use Rattle.std.specs.Prelude.{◌≡◌, IfSome, Some, None};
+ghost use Rattle.krb_wire.specs.Reading.{Gives};
+ghost use Rattle.krb_wire.specs.Spelling.{FitsKt};
+ghost use Rattle.krb_keytab.specs.Entry.{entry_at};
+ghost use Rattle.krb_audit.specs.Names.{kt_name, type_len};
+
+use krb_keytab::{EntryView, read_entry};
+use krb_wire::{KtFormat, split_kt_principal};
+
+// How many bytes a name type takes.
+fn name_type_len(format: KtFormat) -> usize
+    ensures { result ≡ type_len format }
+{
+    if format.has_name_type() { 4 } else { 0 }
+}
+
+/// The entry that a record's bytes spell, and those of them that spell its name without the type.
+pub fn named_entry(format: KtFormat, bytes: &[u8]) -> Option<(&[u8], EntryView<'_>)>
+    ensures entry { Gives (λ x. x.1) result (entry_at format bytes.now) }
+    ensures name { IfSome result (λ x. x.0.now ≡ kt_name format x.1.principal) }
+    // Names that fit are the same where these bytes are.
+    ensures fits { IfSome result (λ x. FitsKt format x.1.principal) }
+{
+    let entry = read_entry(format, bytes)?;
+    let (_, rest) = split_kt_principal(format, bytes)?;
+    let end = bytes.len() - rest.len() - name_type_len(format);
+    Some((bytes.split_at(end).0, entry))
+}

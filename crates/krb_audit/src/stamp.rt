@@ -1,0 +1,47 @@
+//! What tells which of two entries of a name is the newer one.
+
+ghost use Rattle.std.specs.Prelude.{◌≡◌};
+ghost use Rattle.krb_keytab.specs.Entry.{EntryParts};
+ghost use Rattle.krb_audit.specs.Newest.{has_wrapped, is_newer};
+ghost use Rattle.krb_audit.specs.Stamps.{stamp_of};
+
+use krb_keytab::EntryView;
+
+/// The version of an entry and its time.
+#[derive(Clone, Copy, Debug)]
+pub struct Stamp {
+    pub kvno: u32,
+    pub timestamp: u32,
+}
+
+fn has_wrapped(small: u32, large: u32) -> bool
+    ensures { result ≡ has_wrapped small large }
+{
+    small < 128 && large > 240
+}
+
+impl Stamp {
+    /// That of an entry.
+    pub fn of(entry: &EntryView<'_>) -> Stamp
+        ensures { result ≡ stamp_of entry.now }
+    {
+        Stamp {
+            kvno: entry.kvno(),
+            timestamp: entry.timestamp(),
+        }
+    }
+
+    /// Whether a later entry of the name takes the place of the newest so far.
+    pub fn is_older_than(self, later: Stamp) -> bool
+        ensures { (e l : EntryParts) → self ≡ stamp_of e → later ≡ stamp_of l
+            → result ≡ is_newer e l }
+    {
+        if has_wrapped(later.kvno, self.kvno) {
+            self.timestamp <= later.timestamp
+        } else if has_wrapped(self.kvno, later.kvno) {
+            self.timestamp < later.timestamp
+        } else {
+            self.kvno < later.kvno
+        }
+    }
+}

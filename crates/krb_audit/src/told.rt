@@ -1,0 +1,73 @@
+//! Which words the lines of findings have.
+
+ghost use Rattle.std.specs.Prelude.{◌≡◌, []};
+ghost use Rattle.krb_audit.specs.Report.{is_clash, is_same, told_of, tells_wrong, with_marks};
+
+use crate::marks::{Alike, Marks};
+
+/// Which words the lines of findings have.
+#[derive(Clone, Copy, Debug, Default, PartialEq, Eq)]
+pub struct Told {
+    pub weak: bool,
+    pub hidden: bool,
+    pub same: bool,
+    pub clash: bool,
+    pub old: bool,
+    pub mode: bool,
+}
+
+fn is_same(alike: Option<Alike>) -> bool
+    ensures { result ≡ is_same alike }
+{
+    alike.is_some_and(|first| first.has_same_key)
+}
+
+fn is_clash(alike: Option<Alike>) -> bool
+    ensures { result ≡ is_clash alike }
+{
+    alike.is_some_and(|first| !first.has_same_key)
+}
+
+impl Told {
+    /// None.
+    pub(crate) fn none() -> Told
+        ensures { result ≡ told_of [] }
+    {
+        Told {
+            weak: false,
+            hidden: false,
+            same: false,
+            clash: false,
+            old: false,
+            mode: false,
+        }
+    }
+
+    /// These, and that of the mode if it is told.
+    pub(crate) fn with_mode(self, mode: bool) -> Told
+        ensures { result ≡ record self { mode = mode } }
+    {
+        Told { mode, ..self }
+    }
+
+    /// Those of one entry more.
+    pub(crate) fn with(self, marks: Marks) -> Told
+        ensures { result ≡ with_marks self marks }
+    {
+        Told {
+            weak: self.weak || marks.weak,
+            hidden: self.hidden || marks.hidden,
+            same: self.same || is_same(marks.alike),
+            clash: self.clash || is_clash(marks.alike),
+            old: self.old || marks.old,
+            mode: self.mode,
+        }
+    }
+
+    /// Whether an entry has something that is wrong.
+    pub(crate) fn is_wrong(self) -> bool
+        ensures { result ≡ tells_wrong self }
+    {
+        self.weak || self.hidden || self.same || self.clash
+    }
+}
