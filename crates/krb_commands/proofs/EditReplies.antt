@@ -22,9 +22,9 @@ use Rattle.krb_keytab.specs.Store.{KeytabState, image_of, store_of}
 use Rattle.krb_keytab.specs.Placed.{keytab_rules}
 use Rattle.krb_keytab.specs.Form.{fits, written_form}
 use Rattle.krb_text.specs.Reply.{reply_text, reply_texts, format_after}
-use Rattle.krb_commands.specs.declared.ktedit.Edited.{Edited}
-use Rattle.krb_commands.specs.Edits.{IsEdited}
-use Rattle.krb_commands.specs.Ktedit.{moments, is_change, reply_lines}
+use Rattle.krb_commands.specs.declared.edited.Edited.{Edited}
+use Rattle.krb_commands.specs.Edits.{Makes, saved_of}
+use Rattle.krb_commands.specs.Ktedit.{moments, keytab_after, edit_in, is_change, reply_lines, RunsFairly}
 use Rattle.krb_commands.specs.Told.{is_trouble, tells_code, tells_fault, code_told, fault_told, codes_told, faults_told, replied_ending}
 use Rattle.krb_commands.specs.declared.trouble.Trouble.TheVariants.{Replied}
 use Rattle.krb_commands.specs.Runs.{Run}
@@ -124,19 +124,33 @@ replied_said f rs =
     ∙ ap (λ (cs : List (Option Code)). ends (list_any is_trouble (map f rs)) cs (faults_told f rs)) (same_map (code_told f rs) (code_told (λ said. said) (map f rs)) code_is (code.Damaged ∷ code.TooLong ∷ code.Full ∷ code.NotAPlace ∷ code.NotLive ∷ code.NoSuchWalk ∷ code.TooManyWalks ∷ code.ReadOnly ∷ code.NotFound ∷ code.KvnoNotFound ∷ code.Marked ∷ []))
     ∙ ap (λ (ks : List (Option FaultKind)). ends (list_any is_trouble (map f rs)) (codes_told (λ said. said) (map f rs)) ks) (same_map (fault_told f rs) (fault_told (λ said. said) (map f rs)) fault_is (CutLength ∷ Overrun ∷ BadEntry ∷ BadCredential ∷ []))
 
-pub IsEdited-by : {A : Type 0} (keytab : KeytabState) (events : List (Event EntryParts)) (old new : SessionState KeytabState) (told : List Said) (e : Edited A)
-    → old ≡ new_session keytab → Ran keytab_rules old new events [] told → e.image.items ≡ image_of new.store → e.text.items ≡ reply_texts keytab.format told
-    → e.is_changed ≡ list_any is_change told → e.ending ≡ replied_ending (λ said. said) told → IsEdited keytab events e
-IsEdited-by keytab events old new told e begins ran image text changed ending =
+pub edit_made : {A : Type 0} (keytab : KeytabState) (events : List (Event EntryParts)) (old new : SessionState KeytabState) (told : List Said) (e : Edited A)
+    → old ≡ new_session keytab → Ran keytab_rules old new events [] told → saved_of e ≡ (if list_any is_change told then Some (image_of new.store) else None) → e.text.items ≡ reply_texts keytab.format told
+    → e.ending ≡ replied_ending (λ said. said) told → Makes (RunsFairly events keytab) (edit_in events keytab) e
+edit_made keytab events old new told e begins ran saved text ending =
     let from_new : Ran keytab_rules (new_session keytab) new events [] told = subst (λ (s : SessionState KeytabState). Ran keytab_rules s new events [] told) begins ran in
     let told_is : told ≡ replies (moments keytab events) = from_new.replies_are in
     let new_is : new ≡ state_after keytab_rules (new_session keytab) events = from_new.state in
     let text_is : e.text.items ≡ reply_lines keytab events = text ∙ ap (reply_texts keytab.format) told_is ∙ sym (lines_of (new_session keytab) events) in
     let shown : List ℕ → Ending → Run = λ lines e. record { out = lines; ending = e } in
     record {
-      ran = subst (λ (t : List Said). Ran keytab_rules (new_session keytab) (state_after keytab_rules (new_session keytab) events) events [] t) told_is
+      fair = subst (λ (t : List Said). Ran keytab_rules (new_session keytab) (state_after keytab_rules (new_session keytab) events) events [] t) told_is
           (subst (λ (s : SessionState KeytabState). Ran keytab_rules (new_session keytab) s events [] told) new_is from_new);
-      image = image ∙ ap (λ (s : SessionState KeytabState). image_of s.store) new_is;
-      is_changed = changed ∙ ap (list_any is_change) told_is;
+      saved = saved ∙ ap (λ (t : List Said). if list_any is_change t then Some (image_of new.store) else None) told_is
+          ∙ ap (λ (s : SessionState KeytabState). if list_any is_change (replies (moments keytab events)) then Some (image_of s.store) else None) new_is;
       run = ap (λ (lines : List ℕ). shown lines e.ending) text_is ∙ ap (shown (reply_lines keytab events)) (ending ∙ ap (replied_ending (λ said. said)) told_is);
     }
+
+-- ---- removals
+
+-- what a session did that removed records
+pub cuts_fair : (keytab : KeytabState) (events : List (Event EntryParts)) (old new : SessionState KeytabState)
+    → old ≡ new_session keytab → Ran keytab_rules old new events [] (replies (history keytab_rules old events)) → RunsFairly events keytab
+cuts_fair keytab events old new begins ran =
+    let from_new : Ran keytab_rules (new_session keytab) new events [] (replies (moments keytab events)) = subst (λ (s : SessionState KeytabState). Ran keytab_rules s new events [] (replies (history keytab_rules s events))) begins ran in
+    subst (λ (s : SessionState KeytabState). Ran keytab_rules (new_session keytab) s events [] (replies (moments keytab events))) from_new.state from_new
+
+pub cuts_image : (keytab : KeytabState) (events : List (Event EntryParts)) (old new : SessionState KeytabState)
+    → old ≡ new_session keytab → Ran keytab_rules old new events [] (replies (history keytab_rules old events)) → image_of new.store ≡ image_of (keytab_after keytab events)
+cuts_image keytab events old new begins ran =
+    ap (λ (s : SessionState KeytabState). image_of s.store) (ran.state ∙ ap (λ (s : SessionState KeytabState). state_after keytab_rules s events) begins)

@@ -3,7 +3,9 @@ pub mod InputLemmas
 pub mod Faults
 pub mod Pieces
 pub mod EditReplies
+pub mod Removals
 pub mod Shown
+pub mod Changing
 pub mod EditLemmas
 pub mod WordLemmas
 pub mod KtutilLists

@@ -4,14 +4,17 @@ use Rattle.krb_files.specs.declared.files.Files.{Ghosts}
 use Rattle.krb_files.specs.Bytes.{Watch}
 use Rattle.krb_files.specs.Reader.{Source}
 use Rattle.krb_commands.specs.declared.action.Action.{Action}
-use Rattle.krb_commands.specs.declared.action.Action.TheVariants.{Klist, Ktedit, Ktfind, Ktutil, Help}
+use Rattle.krb_commands.specs.declared.action.Action.TheVariants.{Klist, Ktcheck, Ktedit, Ktfind, Ktremove, Ktutil, Help}
 use Rattle.krb_commands.specs.declared.mistake.WordFault.{WordFault}
+use Rattle.krb_commands.specs.Changing.{RunsChange}
 use Rattle.krb_commands.specs.ErrorOutput.{ErrorWatch}
 use Rattle.krb_commands.specs.Mistakes.{word_status, word_text}
 use Rattle.krb_commands.specs.Loading.{RunsOver}
 use Rattle.krb_commands.specs.Klist.{listing}
+use Rattle.krb_commands.specs.Ktcheck.{checking}
 use Rattle.krb_commands.specs.Ktedit.{RunsEdit}
 use Rattle.krb_commands.specs.Ktfind.{finding}
+use Rattle.krb_commands.specs.Ktremove.{RemovesFairly, removal}
 use Rattle.krb_commands.specs.Ktutil.{RunsKtutil}
 use Rattle.krb_commands.specs.Runs.{Run, EndsRun, Says}
 
@@ -25,6 +28,8 @@ module _ {F : Type 0} (trait : Ghosts F) (now : ℕ) (input input' : Source) (ol
   EndsAction (Klist options file) = RunsOver trait old (string_bytes file) (listing options (string_bytes file)) new out out' err err' status
   EndsAction (Ktfind options file) = RunsOver trait old (string_bytes file) (finding options) new out out' err err' status
   EndsAction (Ktedit order file) = RunsEdit trait (string_bytes file) order input input' old new out out' err err' status
+  EndsAction (Ktcheck order file) = RunsOver trait old (string_bytes file) (checking order (trait.mode new)) new out out' err err' status
+  EndsAction (Ktremove options file) = RunsChange trait (string_bytes file) (RemovesFairly options) (removal options) old new out out' err err' status
   EndsAction (Ktutil order) = RunsKtutil trait order now input input' old new out out' err err' status
   EndsAction (Help text) = (new ≡ old) × EndsRun [] None (help_run (string_bytes text)) out out' err err' status
 

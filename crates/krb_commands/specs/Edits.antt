@@ -1,16 +1,14 @@
--- What the steps of ktedit leave.
-use Rattle.std.specs.Prelude.{◌≡◌, Bool, true, false, List, [], Result, Ok, Err}
+-- What the steps of a change leave.
+use Rattle.std.specs.Prelude.{◌≡◌, ℕ, Bool, true, false, List, Option, None, Some, option_map, Result, Ok, Err}
+use Rattle.std.specs.Vec.{vec_items}
 use Rattle.krb_walk.specs.declared.event.Event.{Event}
 use Rattle.krb_walk.specs.declared.event.Event.TheVariants as event
-use Rattle.krb_walk.specs.History.{replies, state_after}
-use Rattle.krb_walk.specs.Ran.{Ran}
-use Rattle.krb_keytab.specs.Edit.{new_session}
-use Rattle.krb_keytab.specs.Entry.{EntryParts}
-use Rattle.krb_keytab.specs.Store.{KeytabState, image_of}
-use Rattle.krb_keytab.specs.Placed.{keytab_rules}
-use Rattle.krb_commands.specs.declared.ktedit.Edited.{Edited}
+use Rattle.krb_files.specs.declared.files.Files.{Ghosts}
+use Rattle.krb_files.specs.declared.files.SaveFault.{SaveFault}
+use Rattle.krb_commands.specs.declared.edited.Edited.{Edited}
 use Rattle.krb_commands.specs.declared.trouble.Trouble.{Trouble}
-use Rattle.krb_commands.specs.Ktedit.{moments, keytab_after, is_changed, edit_run}
+use Rattle.krb_commands.specs.Changing.{Edit}
+use Rattle.krb_commands.specs.Loading.{SavesFile}
 use Rattle.krb_commands.specs.Runs.{Run, ends_by}
 
 -- an event that may change a keytab
@@ -20,18 +18,26 @@ may_change (event.Cut place) = true
 may_change event.Rewrite = true
 may_change event = false
 
--- what is printed of an edited keytab in the end
+-- what is to be saved, if something is
+abbrev pub saved_of : {A : Type 0} → Edited A → Option (List ℕ)
+saved_of e = option_map vec_items e.saved
+
+-- what is printed in the end
 abbrev pub edited_run : {A : Type 0} → Edited A → Run
 edited_run e = record { out = e.text.items; ending = e.ending }
 
--- or how the run ends without one
+-- or how the run ends without it
 abbrev pub run_of : {A : Type 0} → Result (Edited A) Trouble → Run
 run_of (Ok e) = edited_run e
 run_of (Err trouble) = ends_by trouble
 
--- events made it of a keytab
-pub record IsEdited {A : Type 0} (keytab : KeytabState) (events : List (Event EntryParts)) (e : Edited A) : Type 0 where
-  pub ran : Ran keytab_rules (new_session keytab) (state_after keytab_rules (new_session keytab) events) events [] (replies (moments keytab events))
-  pub image : e.image.items ≡ image_of (keytab_after keytab events)
-  pub is_changed : e.is_changed ≡ is_changed keytab events
-  pub run : edited_run e ≡ edit_run keytab events
+-- an edit came to what is due, and something holds of it
+pub record Makes {A : Type 0} (Fair : Type 0) (due : Edit) (e : Edited A) : Type 0 where
+  pub fair : Fair
+  pub saved : saved_of e ≡ due.saved
+  pub run : edited_run e ≡ due.run
+
+-- bytes were saved under a name, or not, by the answer; where there are none, nothing was done
+abbrev pub SavesIf : {F : Type 0} → Ghosts F → F → List ℕ → Option (List ℕ) → Result (Unit {0}) SaveFault → F → Type 0
+SavesIf trait old file None saved new = (new ≡ old) × (saved ≡ Ok tt)
+SavesIf trait old file (Some bytes) saved new = SavesFile trait old file bytes saved new

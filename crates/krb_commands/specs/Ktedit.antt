@@ -1,5 +1,5 @@
 -- What ktedit does.
-use Rattle.std.specs.Prelude.{◌≡◌, ◌⊎◌, ℕ, Bool, true, false, List, [], if◌then◌else◌, Option, None, Some, Result, Ok, Err}
+use Rattle.std.specs.Prelude.{◌≡◌, ◌⊎◌, ℕ, Bool, true, false, List, [], if◌then◌else◌, None, Some, Result, Ok, Err}
 use Rattle.std.specs.List.{flat_map, list_any}
 use Rattle.krb_wire.specs.declared.format.Order.{Order}
 use Rattle.krb_walk.specs.declared.event.Event.{Event}
@@ -12,20 +12,20 @@ use Rattle.krb_keytab.specs.Store.{KeytabState, image_of}
 use Rattle.krb_keytab.specs.Placed.{keytab_rules}
 use Rattle.krb_files.specs.declared.files.Files.{Ghosts}
 use Rattle.krb_files.specs.declared.files.LoadFault.{LoadFault}
-use Rattle.krb_files.specs.declared.files.SaveFault.{SaveFault}
 use Rattle.krb_files.specs.Bytes.{Watch}
 use Rattle.krb_files.specs.Reader.{Source}
-use Rattle.krb_files.specs.Files.{SameFiles, SetsFile, CountsFailure, loaded}
+use Rattle.krb_files.specs.Files.{SameFiles, loaded}
 use Rattle.krb_text.specs.Reply.{reply_text}
 use Rattle.krb_text.specs.Script.{ScriptFault, script}
 use Rattle.krb_commands.specs.declared.loading.NoKeytab.{NoKeytab}
-use Rattle.krb_commands.specs.declared.trouble.Trouble.TheVariants.{FaultyLine, FileNotRead, FileNotWritten, NoMemory}
+use Rattle.krb_commands.specs.declared.trouble.Trouble.TheVariants.{FaultyLine, NoMemory}
+use Rattle.krb_commands.specs.Changing.{Edit, no_edit, edit_over, FairOver, LeavesFiles, ChangesFile, EndsHonestly}
 use Rattle.krb_commands.specs.ErrorOutput.{ErrorWatch}
 use Rattle.krb_commands.specs.Input.{GivesInput}
-use Rattle.krb_commands.specs.Loading.{most_bytes, keytab_or_new, LoadsFile, SavesFile}
+use Rattle.krb_commands.specs.Loading.{most_bytes, keytab_or_new}
 use Rattle.krb_commands.specs.Runs.{Run, Shows, Tells, ends_by}
 use Rattle.krb_commands.specs.Told.{replied_ending}
-use Rattle.krb_commands.specs.Troubles.{Ending, input_trouble, no_keytab_trouble, save_trouble}
+use Rattle.krb_commands.specs.Troubles.{Ending, input_trouble, no_keytab_trouble}
 
 -- a reply that tells of a change of the keytab
 abbrev pub is_change : Said → Bool
@@ -57,22 +57,16 @@ module _ (keytab : KeytabState) (events : List (Event EntryParts)) where
 
 -- ---- what is due
 
--- what is saved under the file's name, if something is, and how the run ends then
-pub record Edit : Type 0 where
-  pub saved : Option (List ℕ)
-  pub run : Run
-
--- nothing is saved
-abbrev pub no_edit : Run → Edit
-no_edit run = record { saved = None; run = run }
-
--- events over a keytab, or none over none: a keytab that was changed is saved
-abbrev pub edit_keytab : List (Event EntryParts) → Result KeytabState NoKeytab → Edit
-edit_keytab events (Ok keytab) = record {
+-- events over a keytab: one that was changed is saved
+abbrev pub edit_in : List (Event EntryParts) → KeytabState → Edit
+edit_in events keytab = record {
   saved = if is_changed keytab events then Some (image_of (keytab_after keytab events)) else None;
   run = edit_run keytab events;
 }
-edit_keytab events (Err why) = no_edit (ends_by (no_keytab_trouble why))
+
+-- the same over what was opened, or none over none
+abbrev pub edit_keytab : List (Event EntryParts) → Result KeytabState NoKeytab → Edit
+edit_keytab events opened = edit_over no_keytab_trouble (edit_in events) opened
 
 module _ (order : Order) (answer : Result (List ℕ) LoadFault) where
   -- the events of a script over what a load of the file answered, or its first fault
@@ -87,66 +81,26 @@ module _ (order : Order) (answer : Result (List ℕ) LoadFault) where
 
 -- ---- what is done
 
--- a file was saved, and then the run ends so; or it was not
-abbrev pub saved_run : Run → Result (Unit {0}) SaveFault → Run
-saved_run due (Ok done) = due
-saved_run due (Err fault) = ends_by (save_trouble fault)
-
 -- events were run over a keytab: every walk is given what is due to it
-abbrev pub RunsFairly : List (Event EntryParts) → Result KeytabState NoKeytab → Type 0
-RunsFairly events (Ok keytab) = Ran keytab_rules (new_session keytab) (state_after keytab_rules (new_session keytab) events) events [] (replies (moments keytab events))
-RunsFairly events (Err why) = Unit {0}
+abbrev pub RunsFairly : List (Event EntryParts) → KeytabState → Type 0
+RunsFairly events keytab = Ran keytab_rules (new_session keytab) (state_after keytab_rules (new_session keytab) events) events [] (replies (moments keytab events))
 
--- of an edit that is due holds what it is said to come to: it is shown, or it is what a step of the run answered
 module _ {F : Type 0} (trait : Ghosts F) (file : List ℕ) (Holds : Run → Type 0) where
-  -- nothing is saved, and the run ends so
-  abbrev pub LeavesFiles : Run → F → F → Type 0
-  LeavesFiles due old new = (new ≡ old) × Holds due
-
-  -- what is due is saved, if something is, and then the run ends so; or it is not saved, and that ends it
-  abbrev pub SavesDue : Option (List ℕ) → Run → F → F → Type 0
-  SavesDue None due old new = LeavesFiles due old new
-  SavesDue (Some bytes) due old new = (saved : Result (Unit {0}) SaveFault) × SavesFile trait old file bytes saved new × Holds (saved_run due saved)
-
-  -- an edit came to what is due
-  abbrev pub ComesTo : Edit → F → F → Type 0
-  ComesTo due old new = SavesDue due.saved due.run old new
-
-  -- the file is loaded, and what that answers decides the rest; or memory runs out before anything is saved
-  pub record EditsFile (order : Order) (events : List (Event EntryParts)) (old new : F) : Type 0 where
-    pub files : F
-    pub answer : Result (List ℕ) LoadFault
-    pub loads : LoadsFile trait old file answer files
-    pub ends : LeavesFiles (ends_by NoMemory) files new
-        ⊎ (RunsFairly events (keytab_or_new order answer) × ComesTo (edit_keytab events (keytab_or_new order answer)) files new)
+  -- events are run over the keytab of the file
+  abbrev pub EditsFile : Order → List (Event EntryParts) → F → F → Type 0
+  EditsFile order events old new = ChangesFile trait file Holds
+      (λ answer. FairOver (RunsFairly events) (keytab_or_new order answer))
+      (λ answer. edit_keytab events (keytab_or_new order answer)) old new
 
   -- the script's events are run, or its first fault is told
   abbrev pub EndsScript : Order → F → F → Result (List (Event EntryParts)) ScriptFault → Type 0
   EndsScript order old new (Ok events) = EditsFile order events old new
-  EndsScript order old new (Err fault) = LeavesFiles (ends_by (FaultyLine fault.line fault.kind)) old new
+  EndsScript order old new (Err fault) = LeavesFiles trait file Holds (ends_by (FaultyLine fault.line fault.kind)) old new
 
   -- a script was given, or why none was
   abbrev pub EndsInput : Order → F → F → Result (List ℕ) LoadFault → Type 0
-  EndsInput order old new (Ok text) = LeavesFiles (ends_by NoMemory) old new ⊎ EndsScript order old new (script text)
-  EndsInput order old new (Err fault) = LeavesFiles (ends_by (input_trouble fault)) old new
-
-  -- the files after what is due was saved, if something is
-  abbrev pub FilesAfter : Option (List ℕ) → F → F → Type 0
-  FilesAfter None old new = SameFiles (trait.file old) (trait.file new)
-  FilesAfter (Some bytes) old new = SetsFile (trait.file old) file bytes (trait.file new)
-
-  -- a call failed, which was counted; the files are the same, and that ends the run
-  pub record FailsOverFile (old new : F) : Type 0 where
-    pub counted : CountsFailure (trait.failure_count old) (trait.failure_count new)
-    pub same : SameFiles (trait.file old) (trait.file new)
-    pub ends : Holds (ends_by FileNotRead) ⊎ Holds (ends_by FileNotWritten)
-
-  -- over honest files all is as due, unless a call failed or memory ran out: then the files are the same
-  abbrev pub EndsHonestly : Edit → F → F → Type 0
-  EndsHonestly due old new =
-      (SameFiles (trait.file old) (trait.file new) × Holds (ends_by NoMemory))
-      ⊎ FailsOverFile old new
-      ⊎ (FilesAfter due.saved old new × Holds due.run)
+  EndsInput order old new (Ok text) = LeavesFiles trait file Holds (ends_by NoMemory) old new ⊎ EndsScript order old new (script text)
+  EndsInput order old new (Err fault) = LeavesFiles trait file Holds (ends_by (input_trouble fault)) old new
 
 module _ {F : Type 0} (trait : Ghosts F) (file : List ℕ) (order : Order) (reader reader' : Source) (old new : F) (out out' : Watch) where
   -- an edit: what the reader gives as a script, and what the files answer, decide what is saved and printed and how it ends

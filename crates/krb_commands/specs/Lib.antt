@@ -3,7 +3,6 @@ pub mod Messages
 pub mod PieceTexts
 pub mod Troubles
 pub mod Told
-pub mod Replied
 pub mod Words
 pub mod ErrorOutput
 pub mod Runs
@@ -13,7 +12,10 @@ pub mod Input
 pub mod InputLines
 pub mod Klist
 pub mod Ktfind
+pub mod Changing
+pub mod Ktcheck
 pub mod Ktedit
+pub mod Ktremove
 pub mod KtutilWords
 pub mod KtutilCommand
 pub mod KtutilPlan
@@ -24,4 +26,5 @@ pub mod KtutilDue
 pub mod Ktutil
 pub mod Edits
 pub mod Options
+pub mod RemoveWords
 pub mod Actions

@@ -1,7 +1,6 @@
 -- What is said of a command line that was not read.
-use Rattle.std.specs.Prelude.{◌≡◌, ℕ, List, [], ◌++◌, Bool, Option, None, Some, option_map, Result, Err, codes}
-use Rattle.krb_wire.specs.declared.name_fault.NameFault.{NameFault}
-use Rattle.krb_wire.specs.declared.name_fault.NameFault.TheVariants as name
+use Rattle.std.specs.Prelude.{◌≡◌, ℕ, List, [], ◌++◌, Bool, Option, None, Some, option_map, codes}
+use Rattle.krb_wire.specs.NameOf.{name_fault_phrase}
 use Rattle.krb_commands.specs.declared.mistake.Mistake.{Mistake}
 use Rattle.krb_commands.specs.declared.mistake.Mistake.TheVariants as mistake
 use Rattle.krb_commands.specs.declared.mistake.BadLine.{BadLine}
@@ -11,32 +10,30 @@ use Rattle.krb_commands.specs.Messages.{message}
 use Rattle.krb_commands.specs.PieceTexts.{shown_word}
 use Rattle.krb_commands.specs.Words.{words_if}
 
--- a word in quotes, and what is wrong with it
-abbrev pub quoted : List ℕ → List ℕ → List ℕ
-quoted word rest = codes "\"" ++ (shown_word word ++ (codes "\" " ++ rest))
+-- what stands before each mistake
+abbrev pub mistake_head : List ℕ
+mistake_head = codes "krbfile: bad command line\nkrbfile: "
 
--- what is wrong with a name
-abbrev pub name_phrase : NameFault → List ℕ
-name_phrase name.NoRealm = codes "has no realm"
-name_phrase name.LoneBackslash = codes "has a backslash at the end"
-name_phrase name.SecondAt = codes "has a second @"
-name_phrase name.SlashInRealm = codes "has a / in the realm"
-name_phrase name.NoMemory = codes "is no name"
+-- a word in quotes, and what is wrong with it
+abbrev pub quoted : List ℕ → List ℕ → List ℕ → List ℕ
+quoted word verb rest = codes "\"" ++ (shown_word word ++ (verb ++ rest))
 
 -- what is wrong with a command line, and what stands behind it on its line
 abbrev pub mistake_line : Mistake → List ℕ → List ℕ
 mistake_line mistake.NoCommand rest = codes "no command" ++ rest
 mistake_line (mistake.UnknownCommand word) rest = codes "unknown command " ++ (shown_word word.now ++ rest)
 mistake_line (mistake.UnknownOption word) rest = codes "unknown option " ++ (shown_word word.now ++ rest)
+mistake_line (mistake.UnknownLetter letter) rest = codes "unknown option -" ++ (shown_word letter.now ++ rest)
 mistake_line (mistake.Missing operand) rest = codes "no " ++ (shown_word operand.now ++ rest)
 mistake_line (mistake.LeftOver word) rest = codes "left over: " ++ (shown_word word.now ++ rest)
 mistake_line (mistake.NeedsValue option) rest = shown_word option.now ++ (codes " needs a value" ++ rest)
 mistake_line (mistake.Twice option) rest = shown_word option.now ++ (codes " is given twice" ++ rest)
 mistake_line (mistake.DoNotGoTogether option other) rest = shown_word option.now ++ (codes " does not go with " ++ (shown_word other.now ++ rest))
 mistake_line (mistake.ForKeytabs option) rest = shown_word option.now ++ (codes " is for keytabs; give -k" ++ rest)
-mistake_line (mistake.NoVersion word) rest = quoted word.now (codes "is no version" ++ rest)
-mistake_line (mistake.NoEtype word) rest = quoted word.now (codes "is no encryption type" ++ rest)
-mistake_line (mistake.BadName word fault) rest = quoted word.now (name_phrase fault ++ rest)
+mistake_line (mistake.NoVersion word) rest = quoted word.now (codes "\" is no ") (codes "version" ++ rest)
+mistake_line (mistake.NoEtype word) rest = quoted word.now (codes "\" is no ") (codes "encryption type" ++ rest)
+mistake_line (mistake.BadName word fault) rest = quoted word.now (codes "\" has ") (name_fault_phrase fault ++ rest)
+mistake_line mistake.NothingSelects rest = codes "nothing selects; give -p, -k or -e" ++ rest
 mistake_line mistake.LateExplain rest = codes "--explain stands before the command" ++ rest
 mistake_line mistake.NotText rest = codes "an argument is not UTF-8" ++ rest
 
@@ -70,12 +67,7 @@ abbrev pub IsMistake : List ℕ → Mistake → WordFault → Type 0
 IsMistake command what (word.BadLine line) = (line.mistake ≡ what) × (option_map (λ name. name.now) line.command ≡ Some command)
 IsMistake command what word.NoMemory = ⊥
 
--- words have a mistake
-abbrev pub IsBadLine : {T : Type 0} → Result T WordFault → Type 0
-IsBadLine (Err (word.BadLine line)) = Unit {0}
-IsBadLine result = ⊥
-
--- of their mistake, if they have one
-abbrev pub IfMistake : {T : Type 0} → Result T WordFault → (Mistake → Type 0) → Type 0
-IfMistake (Err (word.BadLine line)) Holds = Holds line.mistake
-IfMistake result Holds = Unit {0}
+-- words of that command are refused for the mistake that they have, by what is seen of it, or for memory where they have none
+abbrev pub IsRefusal : {M : Type 0} → (Mistake → M) → List ℕ → Option M → WordFault → Type 0
+IsRefusal seen command found (word.BadLine line) = (found ≡ Some (seen line.mistake)) × (option_map (λ name. name.now) line.command ≡ Some command)
+IsRefusal seen command found word.NoMemory = found ≡ None

@@ -1,17 +1,21 @@
 -- What the words of a command ask for.
-use Rattle.std.specs.Prelude.{◌≡◌, ◌⊎◌, List, ℕ, Bool, if◌then◌else◌, codes, Option, None, Some, IsSome, IsNone, Ok, IsOk, IsErr, string_bytes}
+use Rattle.std.specs.Prelude.{◌≡◌, List, ℕ, Bool, if◌then◌else◌, codes, Option, None, Some, is_none, Result, Ok, Err, string_bytes}
 use Rattle.krb_wire.specs.declared.format.Order.{Order}
 use Rattle.krb_wire.specs.declared.format.Order.TheVariants.{Big, Little}
+use Rattle.krb_wire.specs.Spelling.{Parts}
+use Rattle.krb_wire.specs.declared.name_fault.NameFault.{NameFault}
 use Rattle.krb_wire.specs.NameOf.{name_of}
 use Rattle.krb_wire.specs.Reading.{principal_parts}
 use Rattle.krb_text.specs.Etype.{etype_in}
 use Rattle.krb_text.specs.Numbers.{number_in}
 use Rattle.krb_commands.specs.declared.action.Action.{Action}
-use Rattle.krb_commands.specs.declared.action.Action.TheVariants.{Klist, Ktedit, Ktfind}
+use Rattle.krb_commands.specs.declared.action.Action.TheVariants.{Klist, Ktcheck, Ktedit, Ktfind}
 use Rattle.krb_commands.specs.declared.action.FindOptions.{FindOptions}
 use Rattle.krb_commands.specs.declared.action.KlistOptions.{KlistOptions}
 use Rattle.krb_commands.specs.declared.action.ListKind.{ListKind}
 use Rattle.krb_commands.specs.declared.action.ListKind.TheVariants.{Keytab, Cache}
+use Rattle.krb_commands.specs.declared.mistake.Mistake.{Mistake}
+use Rattle.krb_commands.specs.declared.mistake.Mistake.TheVariants.{NoVersion, NoEtype, BadName}
 use Rattle.krb_commands.specs.declared.options.KlistWords.{KlistWords}
 use Rattle.krb_commands.specs.declared.options.KtfindWords.{KtfindWords}
 
@@ -60,6 +64,11 @@ abbrev pub AsksToEdit : Action → Order → List ℕ → Type 0
 AsksToEdit (Ktedit order file) wanted name = (order ≡ wanted) × (string_bytes file ≡ name)
 AsksToEdit action wanted name = ⊥
 
+-- to check the file of that name
+abbrev pub AsksToCheck : Action → Order → List ℕ → Type 0
+AsksToCheck (Ktcheck order file) wanted name = (order ≡ wanted) × (string_bytes file ≡ name)
+AsksToCheck action wanted name = ⊥
+
 -- each option is what its own word spells
 pub record Spells {A : Type 0} (words : KtfindWords) (options : FindOptions A) : Type 0 where
   pub kvno : number_in 32 words.kvno.now ≡ Some options.kvno
@@ -67,17 +76,19 @@ pub record Spells {A : Type 0} (words : KtfindWords) (options : FindOptions A) :
   pub name : name_of words.name.now None ≡ Ok (principal_parts options.name)
   pub v1_order : options.v1_order ≡ order_of words.v1_big
 
+-- a word that names nobody
+abbrev pub name_mistake : KtfindWords → Result Parts NameFault → Option Mistake
+name_mistake words (Ok name) = None
+name_mistake words (Err fault) = Some (BadName words.name fault)
+
+-- the first of the three words that spells no version, no encryption type or no name
+abbrev pub find_mistake : KtfindWords → Option Mistake
+find_mistake words =
+    if is_none (number_in 32 words.kvno.now) then Some (NoVersion words.kvno)
+    else (if is_none (etype_in words.etype.now) then Some (NoEtype words.etype)
+    else name_mistake words (name_of words.name.now None))
+
 -- to look up what the words spell in the file that they name
 abbrev pub AsksToFind : KtfindWords → Action → Type 0
 AsksToFind words (Ktfind options file) = Spells words options × (string_bytes file ≡ words.file.now)
 AsksToFind words action = ⊥
-
--- the words spell a version, an encryption type and a name
-pub record IsReadable (words : KtfindWords) : Type 0 where
-  pub kvno : IsSome (number_in 32 words.kvno.now)
-  pub enctype : IsSome (etype_in words.etype.now)
-  pub name : IsOk (name_of words.name.now None)
-
--- one of them does not
-abbrev pub IsUnreadable : KtfindWords → Type 0
-IsUnreadable words = IsNone (number_in 32 words.kvno.now) ⊎ (IsNone (etype_in words.etype.now) ⊎ IsErr (name_of words.name.now None))

@@ -7,8 +7,15 @@ use Rattle.krb_walk.specs.declared.refusal.Code.{Code}
 use Rattle.krb_walk.specs.declared.refusal.Code.TheVariants.{Damaged, TooLong, Full, NotAPlace, NotLive, NoSuchWalk, TooManyWalks, ReadOnly, NotFound, KvnoNotFound, Marked}
 use Rattle.krb_walk.specs.Numbers.{code_number, fault_number}
 use Rattle.krb_walk.specs.Said.{Said, Refused, Faulted}
-use Rattle.krb_commands.specs.declared.trouble.Trouble.TheVariants.{Replied}
+use Rattle.krb_commands.specs.declared.trouble.Trouble.{Trouble}
+use Rattle.krb_commands.specs.declared.trouble.Trouble.TheVariants.{Found, Replied}
 use Rattle.krb_commands.specs.Troubles.{Ending}
+
+-- replies or findings tell of the trouble
+abbrev pub is_printed : Trouble → Bool
+is_printed (Replied told) = true
+is_printed (Found findings) = true
+is_printed other = false
 
 -- a reply that tells of a refusal or of a fault
 abbrev pub is_trouble : Said → Bool

@@ -1,6 +1,7 @@
 -- What ends a run before its end: where it comes from, what is said of it, and the status.
-use Rattle.std.specs.Prelude.{ℕ, List, [], Option, None, Some, Result, Ok, Err, codes}
+use Rattle.std.specs.Prelude.{ℕ, List, [], if◌then◌else◌, Option, None, Some, Result, Ok, Err, codes}
 use Rattle.krb_walk.specs.declared.fault.Fault.{Fault}
+use Rattle.krb_walk.specs.declared.refusal.Code.TheVariants.{NotFound}
 use Rattle.krb_walk.specs.Numbers.{code_number}
 use Rattle.krb_keytab.specs.Open.{open_fault_number}
 use Rattle.krb_ccache.specs.Open.{open_fault_number as cache_fault_number}
@@ -75,8 +76,10 @@ trouble_message file (trouble.NotAKeytab why) = file_number_message file (codes 
 trouble_message file (trouble.NotAKeytabToList why) = file_number_message file (codes "not a keytab (") (open_fault_number why.fault) (codes ")")
 trouble_message file (trouble.NotACache why) = file_number_message file (codes "not a cache (") (cache_fault_number why.fault) (codes ")")
 trouble_message file (trouble.Refused code) = file_number_message file (codes "refused ") (code_number code) []
+trouble_message file trouble.NothingToRemove = file_number_message file (codes "refused ") (code_number NotFound) []
 trouble_message file (trouble.Listed fault) = []
 trouble_message file (trouble.Replied told) = []
+trouble_message file (trouble.Found findings) = []
 trouble_message file trouble.OutputNotWritten = message (codes "cannot write output")
 trouble_message file trouble.NoMemory = message (codes "out of memory")
 
@@ -87,6 +90,7 @@ trouble_status trouble.InputNotRead = 3
 trouble_status trouble.FileNotRead = 3
 trouble_status trouble.FileNotWritten = 3
 trouble_status trouble.OutputNotWritten = 3
+trouble_status (trouble.Found findings) = if findings.is_wrong then 1 else 0
 trouble_status other = 1
 
 -- ---- how a run ends

@@ -1,5 +1,5 @@
 -- The words that explain what ended a run.
-use Rattle.std.specs.Prelude.{ℕ, List, [], ◌++◌, Bool, true, false, Option, None, Some, Ok, Err, codes, decimal, unsigned_abs}
+use Rattle.std.specs.Prelude.{ℕ, List, [], ◌++◌, Bool, true, false, if◌then◌else◌, Option, None, Some, Ok, Err, codes, decimal, unsigned_abs}
 use Rattle.krb_walk.specs.declared.refusal.Code.{Code}
 use Rattle.krb_walk.specs.declared.refusal.Code.TheVariants.{Full, NotAPlace, NotLive}
 use Rattle.std.specs.List.{flat_map}
@@ -9,13 +9,17 @@ use Rattle.krb_walk.specs.Numbers.{code_number, fault_number}
 use Rattle.krb_walk.specs.Phrases.{code_phrase, fault_phrase}
 use Rattle.krb_keytab.specs.declared.open.KtOpenFault.{KtOpenFault}
 use Rattle.krb_keytab.specs.declared.open.KtOpenFault.TheVariants as kt
+use Rattle.krb_keytab.specs.Open.{open_fault_phrase as kt_phrase}
 use Rattle.krb_ccache.specs.declared.open.CcOpenFault.{CcOpenFault}
 use Rattle.krb_ccache.specs.declared.open.CcOpenFault.TheVariants as cc
+use Rattle.krb_ccache.specs.Open.{open_fault_phrase as cc_phrase}
 use Rattle.krb_files.specs.declared.cause.Cause.{Cause}
 use Rattle.krb_files.specs.declared.cause.Cause.TheVariants.{InTheWay, System}
 use Rattle.krb_files.specs.Phrases.{cause_phrase}
 use Rattle.krb_text.specs.declared.line_fault.LineFault.{LineFault}
 use Rattle.krb_text.specs.LineFault.{line_phrase, ktutil_phrase}
+use Rattle.krb_audit.specs.declared.told.Told.{Told as CheckTold}
+use Rattle.krb_commands.specs.declared.trouble.Findings.{Findings}
 use Rattle.krb_commands.specs.declared.trouble.Trouble.{Trouble}
 use Rattle.krb_commands.specs.declared.trouble.Trouble.TheVariants as trouble
 use Rattle.krb_commands.specs.Messages.{words_line, phrase_line}
@@ -36,10 +40,8 @@ keytab_phrase code = code_phrase code
 
 -- why an image is no keytab, by whether it begins as a cache
 abbrev pub no_keytab_phrase : KtOpenFault → Bool → List ℕ
-no_keytab_phrase kt.TooShort is_cache = codes "it has fewer than two bytes"
 no_keytab_phrase kt.BadVersion true = codes "it begins as a credential cache"
-no_keytab_phrase kt.BadVersion false = codes "it does not begin as a keytab of version 1 or 2"
-no_keytab_phrase kt.TooLarge is_cache = codes "it is longer than the limit"
+no_keytab_phrase fault is_cache = kt_phrase fault
 
 -- the same of a file that is listed as a keytab
 abbrev pub list_phrase : KtOpenFault → Bool → List ℕ
@@ -48,12 +50,8 @@ list_phrase fault is_cache = no_keytab_phrase fault is_cache
 
 -- why an image is no cache, by whether it begins as a keytab
 abbrev pub no_cache_phrase : CcOpenFault → Bool → List ℕ
-no_cache_phrase cc.TooShort is_keytab = codes "it has fewer than two bytes"
 no_cache_phrase cc.BadVersion true = codes "it begins as a keytab, or as a cache of version 1 or 2 (not read)"
-no_cache_phrase cc.BadVersion false = codes "it does not begin as a cache of version 3 or 4"
-no_cache_phrase cc.TooLarge is_keytab = codes "it is longer than the limit"
-no_cache_phrase cc.BadHeader is_keytab = codes "its header is damaged"
-no_cache_phrase cc.BadDefault is_keytab = codes "it has no default principal"
+no_cache_phrase fault is_keytab = cc_phrase fault
 
 -- what is wrong with a line of a script, or of ktutil, whose messages have the line's number
 abbrev pub line_fault_phrase : Option ℕ → LineFault → List ℕ
@@ -92,6 +90,29 @@ fault_words (Some kind) = codes "krbfile: fault " ++ (decimal (fault_number kind
 abbrev pub told_words : List (Option Code) → List (Option FaultKind) → List ℕ
 told_words refusals faults = flat_map code_words refusals ++ flat_map fault_words faults
 
+-- a line, if its word was printed
+abbrev pub line_if : Bool → List ℕ → List ℕ
+line_if is_told line = if is_told then line else []
+
+-- what each word of findings means that was printed, in this order
+abbrev pub word_lines : CheckTold → List ℕ
+word_lines t =
+    line_if t.weak (codes "krbfile: weak: an encryption type that MIT calls weak or deprecated\n")
+    ++ (line_if t.hidden (codes "krbfile: hidden: MIT's programs see no entry from this one on\n")
+    ++ (line_if t.same (codes "krbfile: same: this key stands there twice\n")
+    ++ (line_if t.clash (codes "krbfile: clash: two keys for one name, version and type\n")
+    ++ (line_if t.old (codes "krbfile: old: a newer version of this name stands there\n")
+    ++ (line_if t.mode (codes "krbfile: mode: users other than the owner may read or change this file\n") ++ [])))))
+
+-- the fault that was found, if one was
+abbrev pub found_fault_words : List ℕ → Option Fault → List ℕ
+found_fault_words file None = []
+found_fault_words file (Some fault) = listed_words file fault
+
+-- what findings mean
+abbrev pub found_words : List ℕ → Findings → List ℕ
+found_words file findings = word_lines findings.words ++ found_fault_words file findings.fault
+
 -- what explains a message, where the run or the line of ktutil names that file
 abbrev pub trouble_words : List ℕ → Option ℕ → Option Cause → Trouble → List ℕ
 trouble_words file line cause trouble.InputTooLarge = phrase_line line too_large
@@ -106,7 +127,9 @@ trouble_words file line cause (trouble.NotAKeytab why) = phrase_line line (no_ke
 trouble_words file line cause (trouble.NotAKeytabToList why) = phrase_line line (list_phrase why.fault why.is_cache)
 trouble_words file line cause (trouble.NotACache why) = phrase_line line (no_cache_phrase why.fault why.is_keytab)
 trouble_words file line cause (trouble.Refused code) = phrase_line line (keytab_phrase code)
+trouble_words file line cause trouble.NothingToRemove = phrase_line line (codes "no entry has what was asked for")
 trouble_words file line cause (trouble.Listed fault) = listed_words file fault
+trouble_words file line cause (trouble.Found findings) = found_words file findings
 trouble_words file line cause (trouble.Replied told) = told_words told.codes told.faults
 trouble_words file line cause trouble.OutputNotWritten = cause_words file line cause
 trouble_words file line cause trouble.NoMemory = []

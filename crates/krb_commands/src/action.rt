@@ -1,5 +1,6 @@
 //! What a command line asks for.
 
+use krb_audit::Selection;
 use krb_text::{CcColumns, KtColumns};
 use krb_wire::{Order, Principal};
 use std::alloc::{Allocator, Global};
@@ -31,6 +32,16 @@ pub struct FindOptions<A: Allocator> {
     pub v1_order: Order,
 }
 
+/// What ktremove removes.
+#[derive(Drop)]
+pub struct RemoveOptions<A: Allocator> {
+    pub selection: Selection<A>,
+    /// To tell what would be removed, and to save nothing.
+    pub dry_run: bool,
+    /// The order of a keytab of version 1.
+    pub v1_order: Order,
+}
+
 /// What a command line asks for.
 #[derive(Drop)]
 pub enum Action {
@@ -40,6 +51,10 @@ pub enum Action {
     Ktfind(FindOptions<Global>, String),
     /// To edit the file of that name by a script; version 1 has that order.
     Ktedit(Order, String),
+    /// To check the file of that name; version 1 has that order.
+    Ktcheck(Order, String),
+    /// To remove entries of the file of that name.
+    Ktremove(RemoveOptions<Global>, String),
     /// To handle the lines of ktutil; version 1 has that order.
     Ktutil(Order),
     /// To show that help.

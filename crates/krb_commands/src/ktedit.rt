@@ -3,13 +3,14 @@
 ghost use Rattle.std.specs.Prelude.{◌≡◌, IfOk, IsFalse};
 ghost use Rattle.std.specs.List.{list_any};
 ghost use Rattle.krb_walk.specs.Said.{said};
-ghost use Rattle.krb_commands.specs.Edits.{may_change, run_of, IsEdited};
-ghost use Rattle.krb_commands.specs.Ktedit.{is_change, Edits, EditsFile, RunsEdit};
+ghost use Rattle.krb_commands.specs.Edits.{may_change, run_of, Makes};
+ghost use Rattle.krb_commands.specs.Ktedit.{edit_in, is_change, Edits, EditsFile, RunsEdit, RunsFairly};
 
+use crate::edited::{Edited, hold_if, if_changed, save_edited, show_edited};
 use crate::error_output::ErrorOutput;
 use crate::input_lines::MOST_INPUT;
 use crate::loading::load_or_new;
-use crate::telling::{cause_of, show, tell};
+use crate::telling::{cause_of, tell};
 use crate::told::replied_end;
 use crate::trouble::Trouble;
 use krb_files::{Files, Watched, WatchedReader, load};
@@ -20,17 +21,6 @@ use krb_walk::{Event, Reply, Session};
 use krb_wire::{NoMemory, Order};
 use std::alloc::Allocator;
 use std::io::{Read, Write};
-
-/// What a script made of a keytab.
-#[derive(Drop)]
-struct Edited<A: Allocator> {
-    image: Vec<u8, A>,
-    /// The lines of the replies.
-    text: Vec<u8, A>,
-    is_changed: bool,
-    /// How the run ends where nothing fails.
-    ending: Result<(), Trouble>,
-}
 
 // A reply that tells of a change of the keytab.
 fn is_change<A: Allocator>(reply: &Reply<A>) -> bool
@@ -54,7 +44,7 @@ fn edit<A: Allocator + Copy>(
     keytab: Keytab<A>,
     events: &[Event<NewEntry<A>>],
 ) -> Result<Edited<A>, NoMemory>
-    ensures { IfOk result (IsEdited keytab.state events.now) }
+    ensures { IfOk result (Makes (RunsFairly events.now keytab.state) (edit_in events.now keytab.state)) }
 {
     let format = keytab.format();
     let Ok(keytab) = Indexed::of(alloc, keytab) else {
@@ -65,10 +55,10 @@ fn edit<A: Allocator + Copy>(
     session.run(events, &mut replies)?;
     let mut text = Vec::new(alloc);
     reply_lines(format, &replies, &mut text)?;
+    let image = session.into_store().into_image();
     Ok(Edited {
-        image: session.into_store().into_image(),
+        saved: if_changed(are_changes(&replies), image),
         text,
-        is_changed: are_changes(&replies),
         ending: replied_end(&replies),
     })
 }
@@ -80,15 +70,6 @@ fn may_change<I>(event: &Event<I>) -> bool
     match event {
         Event::Put(_) | Event::Cut(_) | Event::Rewrite => true,
         Event::Start | Event::Resume(_) | Event::Step(_) => false,
-    }
-}
-
-// Holds the file of that name where some event may change it.
-fn hold_to_change<F: Files, I>(files: &mut F, file: &str, events: &[Event<I>])
-    ensures { files.new ≡ files.old }
-{
-    if events.iter().any(may_change) {
-        files.hold(file);
     }
 }
 
@@ -105,9 +86,7 @@ fn edit_held<A: Allocator + Copy, F: Files>(
 {
     let keytab = load_or_new(alloc, v1_order, files, file)?;
     let edited = edit(alloc, keytab, events)?;
-    if edited.is_changed {
-        files.save(file, &edited.image)?;
-    }
+    save_edited(file, files, &edited)?;
     Ok(edited)
 }
 
@@ -130,11 +109,10 @@ fn edit_file<A: Allocator + Copy, F: Files, R: Read, W: Write>(
         Err(fault) => return Err(Trouble::of_input(fault)),
     };
     let events = parse_script(alloc, &text)?;
-    hold_to_change(files, file, &events);
+    hold_if(events.iter().any(may_change), files, file);
     let edited = edit_held(alloc, v1_order, file, files, &events);
     files.release();
-    let edited = edited?;
-    show(&edited.text, edited.ending, out)
+    show_edited(edited, out)
 }
 
 /// Edits the keytab of that name by a script, and answers the status: loads it, runs the script's events

@@ -2,15 +2,19 @@
 #![tactic(auto)]
 
 mod action;
+mod edited;
 mod error_output;
 mod input_lines;
 mod klist;
+mod ktcheck;
 mod ktedit;
 mod ktfind;
+mod ktremove;
 mod ktutil;
 mod loading;
 mod mistake;
 mod options;
+mod remove_words;
 mod response;
 mod telling;
 #[cfg(test)]
@@ -18,16 +22,19 @@ mod tests;
 mod told;
 mod trouble;
 
-pub use action::{Action, FindOptions, KlistOptions, ListKind};
+pub use action::{Action, FindOptions, KlistOptions, ListKind, RemoveOptions};
 pub use error_output::ErrorOutput;
 pub use klist::run_klist;
+pub use ktcheck::run_ktcheck;
 pub use ktedit::run_ktedit;
 pub use ktfind::run_ktfind;
+pub use ktremove::run_ktremove;
 pub use ktutil::{Ktutil, LineEnd, file_word, run_ktutil};
 pub use loading::NotKeytab;
 pub use mistake::{BadLine, Mistake, WordFault};
 pub use options::{
-    KlistWords, KteditWords, KtfindWords, KtutilWords, klist_action, ktedit_action, ktfind_action,
-    ktutil_action,
+    KlistWords, KtcheckWords, KteditWords, KtfindWords, KtutilWords, klist_action, ktcheck_action,
+    ktedit_action, ktfind_action, ktutil_action,
 };
+pub use remove_words::{KtremoveWords, ktremove_action};
 pub use response::{Streams, respond};

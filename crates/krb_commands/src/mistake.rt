@@ -13,6 +13,8 @@ pub enum Mistake<'a> {
     NoCommand,
     UnknownCommand(&'a str),
     UnknownOption(&'a str),
+    /// One letter of a bundle of options.
+    UnknownLetter(&'a str),
     Missing(&'a str),
     LeftOver(&'a str),
     NeedsValue(&'a str),
@@ -22,6 +24,8 @@ pub enum Mistake<'a> {
     NoVersion(&'a str),
     NoEtype(&'a str),
     BadName(&'a str, NameFault),
+    /// The words of ktremove ask for no entry.
+    NothingSelects,
     LateExplain,
     NotText,
 }

@@ -1,11 +1,11 @@
 //! From the words of a command to what they ask for.
 
-ghost use Rattle.std.specs.Prelude.{◌≡◌, ◌↔◌, IsSome, IsOk, IsErr, OnOk, IfOk, IfErr, IsErrOf, None, Some, Ok, option_map};
+ghost use Rattle.std.specs.Prelude.{◌≡◌, OnOk, IfOk, IfErr, None, Ok, option_map, codes};
 ghost use Rattle.krb_wire.specs.NameOf.{name_of};
 ghost use Rattle.krb_wire.specs.Reading.{principal_parts};
 ghost use Rattle.krb_commands.specs.declared.action.Action.TheVariants.{Ktutil};
-ghost use Rattle.krb_commands.specs.Mistakes.{IfMistake, IsBadLine, mistake_phrase};
-ghost use Rattle.krb_commands.specs.Options.{order_of, odd_option, odd_with_cache, odd_with_keytab, list_kind, list_options, Spells, IsReadable, IsUnreadable, AsksToList, AsksToEdit, AsksToFind};
+ghost use Rattle.krb_commands.specs.Mistakes.{IsRefusal, mistake_phrase};
+ghost use Rattle.krb_commands.specs.Options.{order_of, odd_option, odd_with_cache, odd_with_keytab, list_kind, list_options, Spells, AsksToCheck, AsksToList, AsksToEdit, AsksToFind, find_mistake, name_mistake};
 
 use crate::action::{Action, FindOptions, KlistOptions, ListKind};
 use crate::mistake::{Mistake, WordFault};
@@ -44,13 +44,21 @@ pub struct KtfindWords<'a> {
     pub name: &'a str,
 }
 
+/// What the words of ktcheck say.
+#[derive(Clone, Copy)]
+pub struct KtcheckWords<'a> {
+    pub v1_big: bool,
+    pub file: &'a str,
+}
+
 /// What the words of ktutil say.
 #[derive(Clone, Copy)]
 pub struct KtutilWords {
     pub v1_big: bool,
 }
 
-fn order_of(v1_big: bool) -> Order
+/// The order of a keytab of version 1.
+pub fn order_of(v1_big: bool) -> Order
     ensures { result ≡ order_of v1_big }
 {
     if v1_big { Order::Big } else { Order::Little }
@@ -130,8 +138,7 @@ fn list_options(words: &KlistWords<'_>) -> KlistOptions
 pub fn klist_action<'a>(alloc: Global, words: &KlistWords<'a>) -> Result<Action, WordFault<'a>>
     ensures ok { IfOk result (λ action. AsksToList action (list_options words.now) words.now.file.now) }
     ensures together { OnOk result (odd_option words.now ≡ None) }
-    ensures bad { IsBadLine result ↔ IsSome (odd_option words.now) }
-    ensures mistake { IfMistake result (λ mistake. Some (mistake_phrase mistake) ≡ odd_option words.now) }
+    ensures refused { IfErr result (IsRefusal mistake_phrase (codes "klist") (odd_option words.now)) }
 {
     if let Some(mistake) = odd_option(words) {
         return Err(WordFault::of("klist", mistake));
@@ -149,6 +156,15 @@ pub fn ktedit_action<'a>(alloc: Global, words: &KteditWords<'a>) -> Result<Actio
     Ok(Action::Ktedit(order_of(words.v1_big), file))
 }
 
+/// What the words of ktcheck ask for.
+pub fn ktcheck_action<'a>(alloc: Global, words: &KtcheckWords<'a>) -> Result<Action, WordFault<'a>>
+    ensures ok { IfOk result (λ action. AsksToCheck action (order_of words.now.v1_big) words.now.file.now) }
+    ensures memory { IfErr result (λ fault. fault ≡ WordFault.NoMemory) }
+{
+    let file = String::from_str(alloc, words.file)?;
+    Ok(Action::Ktcheck(order_of(words.v1_big), file))
+}
+
 /// What the words of ktutil ask for.
 pub fn ktutil_action(words: KtutilWords) -> Action
     ensures { result ≡ Ktutil (order_of words.v1_big) }
@@ -156,16 +172,16 @@ pub fn ktutil_action(words: KtutilWords) -> Action
     Action::Ktutil(order_of(words.v1_big))
 }
 
-// The name that a word spells, with its realm.
-fn name_of(alloc: Global, text: &str) -> Result<Principal<Global>, WordFault<'_>>
-    ensures ok { IfOk result (λ name. name_of text.now None ≡ Ok (principal_parts name)) }
-    ensures bad { IsBadLine result → IsErr (name_of text.now None) }
-    ensures memory { IsErrOf result WordFault.NoMemory → IsOk (name_of text.now None) }
+// The name that the last word of ktfind spells, with its realm.
+fn name_of<'a>(alloc: Global, words: &KtfindWords<'a>) -> Result<Principal<Global>, WordFault<'a>>
+    ensures ok { IfOk result (λ name. name_of words.now.name.now None ≡ Ok (principal_parts name)) }
+    ensures refused { IfErr result (IsRefusal (λ mistake. mistake) (codes "ktfind")
+        (name_mistake words.now (name_of words.now.name.now None))) }
 {
-    match parse_name(alloc, text.as_bytes(), None) {
+    match parse_name(alloc, words.name.as_bytes(), None) {
         Ok(name) => Ok(name),
         Err(NameFault::NoMemory) => Err(WordFault::NoMemory),
-        Err(fault) => Err(WordFault::of("ktfind", Mistake::BadName(text, fault))),
+        Err(fault) => Err(WordFault::of("ktfind", Mistake::BadName(words.name, fault))),
     }
 }
 
@@ -175,8 +191,7 @@ fn find_options<'a>(
     words: &KtfindWords<'a>,
 ) -> Result<FindOptions<Global>, WordFault<'a>>
     ensures ok { IfOk result (Spells words.now) }
-    ensures bad { IsBadLine result → IsUnreadable words.now }
-    ensures memory { IsErrOf result WordFault.NoMemory → IsReadable words.now }
+    ensures refused { IfErr result (IsRefusal (λ mistake. mistake) (codes "ktfind") (find_mistake words.now)) }
 {
     let Some(kvno) = parse_u32(words.kvno.as_bytes()) else {
         return Err(WordFault::of("ktfind", Mistake::NoVersion(words.kvno)));
@@ -185,7 +200,7 @@ fn find_options<'a>(
         return Err(WordFault::of("ktfind", Mistake::NoEtype(words.etype)));
     };
     Ok(FindOptions {
-        name: name_of(alloc, words.name)?,
+        name: name_of(alloc, words)?,
         kvno,
         enctype,
         v1_order: order_of(words.v1_big),
@@ -196,8 +211,8 @@ fn find_options<'a>(
 /// spelled by them.
 pub fn ktfind_action<'a>(alloc: Global, words: &KtfindWords<'a>) -> Result<Action, WordFault<'a>>
     ensures ok { IfOk result (AsksToFind words.now) }
-    ensures bad { IsBadLine result → IsUnreadable words.now }
-    ensures memory { IsErrOf result WordFault.NoMemory → IsReadable words.now }
+    ensures readable { OnOk result (find_mistake words.now ≡ None) }
+    ensures refused { IfErr result (IsRefusal (λ mistake. mistake) (codes "ktfind") (find_mistake words.now)) }
 {
     let options = find_options(alloc, words)?;
     let file = String::from_str(alloc, words.file)?;

@@ -7,8 +7,10 @@ ghost use Rattle.krb_commands.specs.Runs.{EndsRun};
 use crate::action::Action;
 use crate::error_output::ErrorOutput;
 use crate::klist::run_klist;
+use crate::ktcheck::run_ktcheck;
 use crate::ktedit::run_ktedit;
 use crate::ktfind::run_ktfind;
+use crate::ktremove::run_ktremove;
 use crate::ktutil::run_ktutil;
 use crate::mistake::WordFault;
 use crate::telling::{show, tell, tell_word_fault};
@@ -58,6 +60,12 @@ pub fn respond<A: Allocator + Copy, F: Files, R: Read, W: Write, E: Write>(
         }
         Ok(Action::Ktedit(v1_order, file)) => {
             run_ktedit(alloc, *v1_order, file.as_str(), files, input, out, err)
+        }
+        Ok(Action::Ktcheck(v1_order, file)) => {
+            run_ktcheck(alloc, *v1_order, file.as_str(), files, out, err)
+        }
+        Ok(Action::Ktremove(options, file)) => {
+            run_ktremove(alloc, options, file.as_str(), files, out, err)
         }
         Ok(Action::Ktutil(v1_order)) => {
             run_ktutil(alloc, *v1_order, files, input, now, out, err)

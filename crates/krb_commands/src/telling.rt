@@ -1,5 +1,6 @@
 //! What a run shows, and how its end is told.
 
+mod found_words;
 mod mistake_words;
 mod piece;
 mod saying;
@@ -15,12 +16,14 @@ ghost use Rattle.krb_commands.specs.Troubles.{trouble_message};
 
 use crate::error_output::ErrorOutput;
 use crate::loading::NotKeytab;
+use crate::telling::found_words::say_findings;
 use crate::telling::piece::Piece;
 use crate::telling::saying::say;
 use crate::telling::told_words::say_told;
 use crate::telling::words::trouble_words;
 use crate::trouble::Trouble;
 use krb_files::{Cause, Files, Watched, put};
+use krb_walk::Code;
 pub use mistake_words::tell_word_fault;
 use std::io::Write;
 
@@ -128,7 +131,10 @@ fn trouble_message(trouble: Trouble, file: &[u8]) -> Message<'_>
             file_number_message(file, "not a cache (", why.fault.number(), ")")
         }
         Trouble::Refused(code) => file_number_message(file, "refused ", code.number(), ""),
-        Trouble::Listed(_) | Trouble::Replied(_) => [NONE; 7],
+        Trouble::NothingToRemove => {
+            file_number_message(file, "refused ", Code::NotFound.number(), "")
+        }
+        Trouble::Listed(_) | Trouble::Replied(_) | Trouble::Found(_) => [NONE; 7],
         Trouble::OutputNotWritten => message("cannot write output"),
         Trouble::NoMemory => message("out of memory"),
     }
@@ -163,6 +169,7 @@ fn say_trouble<E: Write>(
     }
     match trouble {
         Trouble::Replied(told) => say_told(&mut err.to, &told),
+        Trouble::Found(findings) => say_findings(&mut err.to, &findings, file),
         _ => say(
             &mut err.to,
             &message,

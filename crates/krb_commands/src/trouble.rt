@@ -11,6 +11,14 @@ use krb_text::{LineFault, ScriptRefusal};
 use krb_walk::{Code, Fault};
 use krb_wire::NoMemory;
 
+/// What was found about a keytab: which words were printed, the fault, and whether something is wrong.
+#[derive(Clone, Copy, Debug, PartialEq, Eq)]
+pub struct Findings {
+    pub words: krb_audit::Told,
+    pub fault: Option<Fault>,
+    pub is_wrong: bool,
+}
+
 /// What ends a run, or a line of ktutil, before its end. The file is the one that the run or the line
 /// names; a line has its number, counted from 1.
 #[derive(Clone, Copy, Debug, PartialEq, Eq)]
@@ -30,10 +38,14 @@ pub enum Trouble {
     NotACache(NotCache),
     /// A keytab refused what the run asked for.
     Refused(Code),
+    /// No entry has what was asked for.
+    NothingToRemove,
     /// The listing that was printed tells of it.
     Listed(Fault),
     /// The replies that were printed tell of it.
     Replied(Told),
+    /// The findings that were printed tell of it.
+    Found(Findings),
     OutputNotWritten,
     NoMemory,
 }
@@ -50,6 +62,7 @@ impl Trouble {
             | Trouble::FileNotRead
             | Trouble::FileNotWritten
             | Trouble::OutputNotWritten => 3,
+            Trouble::Found(findings) => u8::from(findings.is_wrong),
             _ => 1,
         }
     }

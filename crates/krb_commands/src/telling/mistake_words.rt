@@ -2,8 +2,8 @@
 
 ghost use Rattle.std.specs.Prelude.{◌≡◌, ℕ, List, [], ◌++◌, codes, option_map};
 ghost use Rattle.krb_commands.specs.Messages.{message};
-ghost use Rattle.krb_commands.specs.Mistakes.{help_of, mistake_line, mistake_words, name_phrase, word_status, word_text};
-ghost use Rattle.krb_commands.specs.PieceTexts.{pieces_before, pieces_text};
+ghost use Rattle.krb_commands.specs.Mistakes.{help_of, mistake_head, mistake_line, mistake_words, quoted, word_status, word_text};
+ghost use Rattle.krb_commands.specs.PieceTexts.{pieces_before, pieces_text, shown_word};
 ghost use Rattle.krb_commands.specs.Runs.{Says};
 
 use crate::error_output::ErrorOutput;
@@ -11,124 +11,88 @@ use crate::mistake::{BadLine, Mistake, WordFault};
 use crate::telling::piece::Piece;
 use crate::telling::saying::say;
 use krb_files::Watched;
-use krb_wire::NameFault;
 use std::io::Write;
 
 const NONE: Piece<'static> = Piece::Text("");
 
 const HEAD: Piece<'static> = Piece::Text("krbfile: bad command line\nkrbfile: ");
 
-const QUOTE: Piece<'static> = Piece::Text("\"");
+/// The pieces of a bad command line and what is wrong with it. What is not needed is empty.
+type Line<'a> = [Piece<'a>; 5];
 
-// What is wrong with a name.
-fn name_phrase(fault: NameFault) -> &'static str
-    ensures { result.now ≡ name_phrase fault }
+// A text alone.
+fn alone<'a>(text: &'static str) -> Line<'a>
+    ensures { (rest : List ℕ) → pieces_before result rest ≡ mistake_head ++ (text.now ++ rest) }
 {
-    match fault {
-        NameFault::NoRealm => "has no realm",
-        NameFault::LoneBackslash => "has a backslash at the end",
-        NameFault::SecondAt => "has a second @",
-        NameFault::SlashInRealm => "has a / in the realm",
-        NameFault::NoMemory => "is no name",
-    }
+    [HEAD, Piece::Text(text), NONE, NONE, NONE]
+}
+
+// A text, and a word after it.
+fn before<'a>(text: &'static str, word: &'a str) -> Line<'a>
+    ensures { (rest : List ℕ) → pieces_before result rest
+        ≡ mistake_head ++ (text.now ++ (shown_word word.now ++ rest)) }
+{
+    [HEAD, Piece::Text(text), Piece::Word(word), NONE, NONE]
+}
+
+// A word, and a text after it.
+fn after<'a>(word: &'a str, text: &'static str) -> Line<'a>
+    ensures { (rest : List ℕ) → pieces_before result rest
+        ≡ mistake_head ++ (shown_word word.now ++ (text.now ++ rest)) }
+{
+    [HEAD, Piece::Word(word), Piece::Text(text), NONE, NONE]
+}
+
+// A word in quotes, and what is wrong with it, in two texts.
+fn quoted<'a>(word: &'a str, verb: &'static str, what: &'static str) -> Line<'a>
+    ensures { (rest : List ℕ) → pieces_before result rest
+        ≡ mistake_head ++ quoted word.now verb.now (what.now ++ rest) }
+{
+    [
+        HEAD,
+        Piece::Text("\""),
+        Piece::Word(word),
+        Piece::Text(verb),
+        Piece::Text(what),
+    ]
+}
+
+// Two options that do not go together.
+fn apart<'a>(option: &'a str, other: &'a str) -> Line<'a>
+    ensures { (rest : List ℕ) → pieces_before result rest
+        ≡ mistake_head ++ (shown_word option.now ++ (codes " does not go with " ++ (shown_word other.now ++ rest))) }
+{
+    [
+        HEAD,
+        Piece::Word(option),
+        Piece::Text(" does not go with "),
+        Piece::Word(other),
+        NONE,
+    ]
 }
 
 // A bad command line, and what is wrong with it.
-fn mistake_pieces(mistake: Mistake<'_>) -> [Piece<'_>; 5]
+fn mistake_pieces(mistake: Mistake<'_>) -> Line<'_>
     ensures { (rest : List ℕ) → pieces_before result rest
-        ≡ codes "krbfile: bad command line\nkrbfile: " ++ mistake_line mistake.entry rest }
+        ≡ mistake_head ++ mistake_line mistake.entry rest }
 {
     match mistake {
-        Mistake::NoCommand => [HEAD, Piece::Text("no command"), NONE, NONE, NONE],
-        Mistake::UnknownCommand(name) => [
-            HEAD,
-            Piece::Text("unknown command "),
-            Piece::Word(name),
-            NONE,
-            NONE,
-        ],
-        Mistake::UnknownOption(option) => [
-            HEAD,
-            Piece::Text("unknown option "),
-            Piece::Word(option),
-            NONE,
-            NONE,
-        ],
-        Mistake::Missing(operand) => [HEAD, Piece::Text("no "), Piece::Word(operand), NONE, NONE],
-        Mistake::LeftOver(other) => [
-            HEAD,
-            Piece::Text("left over: "),
-            Piece::Word(other),
-            NONE,
-            NONE,
-        ],
-        Mistake::NeedsValue(option) => [
-            HEAD,
-            Piece::Word(option),
-            Piece::Text(" needs a value"),
-            NONE,
-            NONE,
-        ],
-        Mistake::Twice(option) => [
-            HEAD,
-            Piece::Word(option),
-            Piece::Text(" is given twice"),
-            NONE,
-            NONE,
-        ],
-        Mistake::DoNotGoTogether(option, other) => {
-            [
-                HEAD,
-                Piece::Word(option),
-                Piece::Text(" does not go with "),
-                Piece::Word(other),
-                NONE,
-            ]
-        }
-        Mistake::ForKeytabs(option) => {
-            [
-                HEAD,
-                Piece::Word(option),
-                Piece::Text(" is for keytabs; give -k"),
-                NONE,
-                NONE,
-            ]
-        }
-        Mistake::NoVersion(kvno) => [
-            HEAD,
-            QUOTE,
-            Piece::Word(kvno),
-            Piece::Text("\" is no version"),
-            NONE,
-        ],
-        Mistake::NoEtype(etype) => [
-            HEAD,
-            QUOTE,
-            Piece::Word(etype),
-            Piece::Text("\" is no encryption type"),
-            NONE,
-        ],
-        Mistake::BadName(name, fault) => [
-            HEAD,
-            QUOTE,
-            Piece::Word(name),
-            Piece::Text("\" "),
-            Piece::Text(name_phrase(fault)),
-        ],
-        Mistake::LateExplain => [
-            HEAD,
-            Piece::Text("--explain stands before the command"),
-            NONE,
-            NONE,
-            NONE,
-        ],
-        Mistake::NotText => [
-            HEAD,
-            Piece::Text("an argument is not UTF-8"),
-            NONE,
-            NONE,
-            NONE,
-        ],
+        Mistake::NoCommand => alone("no command"),
+        Mistake::UnknownCommand(name) => before("unknown command ", name),
+        Mistake::UnknownOption(option) => before("unknown option ", option),
+        Mistake::UnknownLetter(letter) => before("unknown option -", letter),
+        Mistake::Missing(operand) => before("no ", operand),
+        Mistake::LeftOver(word) => before("left over: ", word),
+        Mistake::NeedsValue(option) => after(option, " needs a value"),
+        Mistake::Twice(option) => after(option, " is given twice"),
+        Mistake::DoNotGoTogether(option, other) => apart(option, other),
+        Mistake::ForKeytabs(option) => after(option, " is for keytabs; give -k"),
+        Mistake::NoVersion(kvno) => quoted(kvno, "\" is no ", "version"),
+        Mistake::NoEtype(etype) => quoted(etype, "\" is no ", "encryption type"),
+        Mistake::BadName(name, fault) => quoted(name, "\" has ", fault.phrase()),
+        Mistake::NothingSelects => alone("nothing selects; give -p, -k or -e"),
+        Mistake::LateExplain => alone("--explain stands before the command"),
+        Mistake::NotText => alone("an argument is not UTF-8"),
     }
 }
 

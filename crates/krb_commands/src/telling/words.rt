@@ -3,7 +3,7 @@
 ghost use Rattle.std.specs.Prelude.{◌≡◌, [], ◌++◌, IsFalse, codes};
 ghost use Rattle.krb_commands.specs.Messages.{phrase_line, words_line};
 ghost use Rattle.krb_commands.specs.PieceTexts.{piece_text, pieces_text};
-ghost use Rattle.krb_commands.specs.Replied.{is_replied};
+ghost use Rattle.krb_commands.specs.Told.{is_printed};
 ghost use Rattle.krb_commands.specs.Words.{cause_words, keytab_phrase, line_fault_phrase, list_phrase, listed_words, missing_words, no_cache_phrase, no_keytab_phrase, trouble_words};
 
 use crate::loading::{NotCache, NotKeytab};
@@ -16,7 +16,7 @@ use krb_text::LineFault;
 use krb_walk::{Code, Fault};
 
 /// The pieces of words. What is not needed is empty.
-type Words<'a> = [Piece<'a>; 9];
+pub type Words<'a> = [Piece<'a>; 9];
 
 const NONE: Piece<'static> = Piece::Text("");
 
@@ -42,7 +42,8 @@ fn words<'a>(line: Option<u64>, first: Piece<'a>, second: Piece<'a>) -> Words<'a
     }
 }
 
-fn no_words<'a>() -> Words<'a>
+/// None.
+pub fn no_words<'a>() -> Words<'a>
     ensures { pieces_text result ≡ [] }
 {
     let none = Piece::Text("");
@@ -73,10 +74,8 @@ fn no_keytab_phrase(why: NotKeytab) -> &'static str
     ensures { result.now ≡ no_keytab_phrase why.fault why.is_cache }
 {
     match (why.fault, why.is_cache) {
-        (KtOpenFault::TooShort, _) => "it has fewer than two bytes",
         (KtOpenFault::BadVersion, true) => "it begins as a credential cache",
-        (KtOpenFault::BadVersion, false) => "it does not begin as a keytab of version 1 or 2",
-        (KtOpenFault::TooLarge, _) => "it is longer than the limit",
+        (fault, _) => fault.phrase(),
     }
 }
 
@@ -95,14 +94,10 @@ fn no_cache_phrase(why: NotCache) -> &'static str
     ensures { result.now ≡ no_cache_phrase why.fault why.is_keytab }
 {
     match (why.fault, why.is_keytab) {
-        (CcOpenFault::TooShort, _) => "it has fewer than two bytes",
         (CcOpenFault::BadVersion, true) => {
             "it begins as a keytab, or as a cache of version 1 or 2 (not read)"
         }
-        (CcOpenFault::BadVersion, false) => "it does not begin as a cache of version 3 or 4",
-        (CcOpenFault::TooLarge, _) => "it is longer than the limit",
-        (CcOpenFault::BadHeader, _) => "its header is damaged",
-        (CcOpenFault::BadDefault, _) => "it has no default principal",
+        (fault, _) => fault.phrase(),
     }
 }
 
@@ -146,8 +141,8 @@ fn cause_words(file: &[u8], line: Option<u64>, cause: Option<Cause>) -> Words<'_
     }
 }
 
-// The fault that a listing tells of, with the file's name, and its phrase.
-fn listed_words(file: &[u8], fault: Fault) -> Words<'_>
+/// The fault that a listing tells of, with the file's name, and its phrase.
+pub fn listed_words(file: &[u8], fault: Fault) -> Words<'_>
     ensures { pieces_text result ≡ listed_words file.now fault }
 {
     [
@@ -163,15 +158,15 @@ fn listed_words(file: &[u8], fault: Fault) -> Words<'_>
     ]
 }
 
-/// What explains a message, where the run or that line of ktutil names that file. What replies tell of has
-/// more words than these.
+/// What explains a message, where the run or that line of ktutil names that file. What replies
+/// and findings tell of has more words than these.
 pub fn trouble_words(
     trouble: Trouble,
     file: &[u8],
     line: Option<u64>,
     cause: Option<Cause>,
 ) -> Words<'_>
-    requires { IsFalse (is_replied trouble) }
+    requires { IsFalse (is_printed trouble) }
     ensures { pieces_text result ≡ trouble_words file.now line cause trouble }
 {
     match trouble {
@@ -180,6 +175,7 @@ pub fn trouble_words(
         Trouble::LineRefused { code, .. } | Trouble::Refused(code) => {
             phrase(line, keytab_phrase(code))
         }
+        Trouble::NothingToRemove => phrase(line, "no entry has what was asked for"),
         Trouble::NoSuchFile => missing_words(line),
         Trouble::InputNotRead
         | Trouble::FileNotRead
@@ -189,7 +185,7 @@ pub fn trouble_words(
         Trouble::NotAKeytabToList(why) => phrase(line, list_phrase(why)),
         Trouble::NotACache(why) => phrase(line, no_cache_phrase(why)),
         Trouble::Listed(fault) => listed_words(file, fault),
-        Trouble::Replied(_) => unreachable!(),
+        Trouble::Replied(_) | Trouble::Found(_) => unreachable!(),
         Trouble::NoMemory => no_words(),
     }
 }

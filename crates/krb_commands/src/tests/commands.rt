@@ -1,10 +1,11 @@
 //! The commands, each with what it leaves where nothing fails.
 
-use super::images::{ADDED, EDITED, IMAGE, REWRITTEN};
-use crate::action::{Action, FindOptions, KlistOptions, ListKind};
+use super::images::{ADDED, EDITED, IMAGE, REMOVED, REWRITTEN};
+use crate::action::{Action, FindOptions, KlistOptions, ListKind, RemoveOptions};
 use crate::mistake::WordFault;
+use krb_audit::{AskedKvno, Selection};
 use krb_text::{CcColumns, KtColumns};
-use krb_wire::{Order, parse_name};
+use krb_wire::{Order, Principal, parse_name};
 use std::alloc::Global;
 use std::test::Fail;
 
@@ -18,6 +19,8 @@ pub enum Command {
     Ktedit,
     /// Walks while an entry goes and the keytab is written anew.
     KteditAnew,
+    /// Removes the entry of `host/a@R`.
+    Ktremove,
     /// Lists `k`, and saves it as `j`.
     KtutilCopy,
     /// Saves a new entry in `n`.
@@ -25,12 +28,13 @@ pub enum Command {
 }
 
 /// All of them.
-pub const COMMANDS: [Command; 7] = [
+pub const COMMANDS: [Command; 8] = [
     Command::Klist,
     Command::KlistCache,
     Command::Ktfind,
     Command::Ktedit,
     Command::KteditAnew,
+    Command::Ktremove,
     Command::KtutilCopy,
     Command::KtutilAdd,
 ];
@@ -54,6 +58,7 @@ impl Command {
             Command::KlistCache => Action::Klist(listing(ListKind::Cache(ALL)), file),
             Command::Ktfind => Action::Ktfind(look_up(alloc)?, file),
             Command::Ktedit | Command::KteditAnew => Action::Ktedit(Order::Little, file),
+            Command::Ktremove => Action::Ktremove(removal(alloc)?, file),
             Command::KtutilCopy | Command::KtutilAdd => Action::Ktutil(Order::Little),
         }))
     }
@@ -68,7 +73,7 @@ impl Command {
 
     pub fn input(self) -> &'static [u8] {
         match self {
-            Command::Klist | Command::KlistCache | Command::Ktfind => b"",
+            Command::Klist | Command::KlistCache | Command::Ktfind | Command::Ktremove => b"",
             Command::Ktedit => {
                 b"start\nstep 0\ncut 2\n\
 add 3 17 1700000000 202122232425262728292a2b2c2d2e2f c@R\nstep 0\nstep 0\n"
@@ -104,6 +109,7 @@ walk 0 gave 53 next 98 kvno 3 etype 17 b@R\nwalk 0 end 98\n"
                 "walk 0 at 2\nwalk 0 gave 2 next 53 kvno 3 etype 17 host/a@R\nwalk 1 at 2\ngone 2\n\
 rewritten 47\nwalk 0 gave 2 next 47 kvno 3 etype 17 b@R\nwalk 1 gave 2 next 47 kvno 3 etype 17 b@R\n"
             }
+            Command::Ktremove => "removed 2 kvno 3 etype 17 host/a@R\n",
             Command::KtutilCopy => {
                 "slot KVNO Principal\n---- ---- ---------\n   1    3 host/a@R\n   2    3 b@R\n"
             }
@@ -135,6 +141,7 @@ rewritten 47\nwalk 0 gave 2 next 47 kvno 3 etype 17 b@R\nwalk 1 gave 2 next 47 k
             Command::Klist | Command::KlistCache | Command::Ktfind => ("k", Some(IMAGE), IMAGE),
             Command::Ktedit => ("k", Some(IMAGE), EDITED),
             Command::KteditAnew => ("k", Some(IMAGE), REWRITTEN),
+            Command::Ktremove => ("k", Some(IMAGE), REMOVED),
             Command::KtutilCopy => ("j", None, IMAGE),
             Command::KtutilAdd => ("n", None, ADDED),
         };
@@ -161,15 +168,33 @@ fn listing(kind: ListKind) -> KlistOptions {
     }
 }
 
+/// The name `host/a@R`.
+fn host(alloc: Global) -> Result<Principal<Global>, Fail> {
+    match parse_name(alloc, b"host/a@R", None) {
+        Ok(name) => Ok(name),
+        Err(_) => Err(Fail::from("no name")),
+    }
+}
+
 /// A look-up of `host/a@R` of any version and enctype.
 fn look_up(alloc: Global) -> Result<FindOptions<Global>, Fail> {
-    let Ok(name) = parse_name(alloc, b"host/a@R", None) else {
-        return Err(Fail::from("no name"));
-    };
     Ok(FindOptions {
-        name,
+        name: host(alloc)?,
         kvno: 0,
         enctype: 0,
+        v1_order: Order::Little,
+    })
+}
+
+/// A removal of `host/a@R` of version 3 and enctype 17.
+fn removal(alloc: Global) -> Result<RemoveOptions<Global>, Fail> {
+    Ok(RemoveOptions {
+        selection: Selection {
+            name: Some(host(alloc)?),
+            kvno: AskedKvno::Exactly(3),
+            enctypes: vec![in alloc; 17]?,
+        },
+        dry_run: false,
         v1_order: Order::Little,
     })
 }

@@ -9,13 +9,14 @@ use std::test::Fail;
 use streams::{FailingWriter, WhenFull};
 
 /// What is wrong with a command line.
-const MISTAKES: [(Mistake, &str); 14] = [
+const MISTAKES: [(Mistake, &str); 15] = [
     (Mistake::NoCommand, "no command"),
     (Mistake::UnknownCommand("foo"), "unknown command foo"),
     (
         Mistake::UnknownOption("-\x07\u{e9}"),
         "unknown option -\\x07\\xc3\\xa9",
     ),
+    (Mistake::UnknownLetter("x"), "unknown option -x"),
     (Mistake::Missing("FILE"), "no FILE"),
     (Mistake::LeftOver("x y"), "left over: x y"),
     (Mistake::NeedsValue("-p"), "-p needs a value"),

@@ -49,7 +49,7 @@ fn each_response(rt: HostRuntime) -> Result<(), Fail> {
     Ok(())
 }
 
-/// Each command but the last loads a file; ktedit then saves it, and ktutil loads and saves another. Where that
+/// Each command but the last loads a file; ktedit and ktremove then save it, and ktutil loads and saves another. Where that
 /// load fails no file is saved, but for the empty list that ktutil then has.
 #[test]
 fn each_load_and_save_fails(rt: HostRuntime) -> Result<(), Fail> {
@@ -59,6 +59,8 @@ fn each_load_and_save_fails(rt: HostRuntime) -> Result<(), Fail> {
         (Command::Ktfind, 1, "", "krbfile: k: cannot read\n"),
         (Command::Ktedit, 1, "", "krbfile: k: cannot read\n"),
         (Command::Ktedit, 2, "", "krbfile: k: cannot write\n"),
+        (Command::Ktremove, 1, "", "krbfile: k: cannot read\n"),
+        (Command::Ktremove, 2, "", "krbfile: k: cannot write\n"),
         (
             Command::KtutilCopy,
             1,
@@ -100,8 +102,8 @@ fn each_load_and_save_fails(rt: HostRuntime) -> Result<(), Fail> {
     Ok(())
 }
 
-/// The output takes some bytes and then fails: they are the first of the text. ktedit saves before it prints, ktutil
-/// lists before it saves.
+/// The output takes some bytes and then fails: they are the first of the text. ktedit and ktremove save before
+/// they print, ktutil lists before it saves.
 fn check_each_byte<R: Abort + AllocGlobal>(rt: &R, command: Command) -> Result<(), Fail> {
     let text = command.text().as_bytes();
     for out_room in 0..text.len() {
@@ -110,7 +112,11 @@ fn check_each_byte<R: Abort + AllocGlobal>(rt: &R, command: Command) -> Result<(
         let got = run(&heap, rt.alloc(), command, failure)?;
         let message = "krbfile: cannot write output\n";
         assert!(rt; got.is(&text[..out_room], message, 3), "at {out_room}");
-        let is_kept = if matches!(command, Command::Ktedit | Command::KteditAnew) {
+        let is_saved_first = matches!(
+            command,
+            Command::Ktedit | Command::KteditAnew | Command::Ktremove
+        );
+        let is_kept = if is_saved_first {
             got.is_saved(command)
         } else {
             got.is_unsaved(command)

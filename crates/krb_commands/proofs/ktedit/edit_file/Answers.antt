@@ -2,8 +2,8 @@ use Rattle.std.proofs.Common.{ap, refl, ◌∙◌, arith}
 use Rattle.std.specs.Prelude.{Ok, Err}
 use Rattle.std.proofs.lemmas.Result.{err_from_is_err_and}
 use Rattle.krb_text.specs.Script.{script}
-use Rattle.krb_commands.specs.Edits.{edited_run}
-use Rattle.krb_commands.specs.Runs.{Shows, ends_by}
+use Rattle.krb_commands.specs.Edits.{run_of}
+use Rattle.krb_commands.specs.Runs.{Shows}
 use Rattle.krb_commands.specs.Troubles.{input_trouble, script_trouble}
 use Rattle.krb_commands.proofs.EditLemmas.{Edits-by, Edits-ran, refused}
 use Rattle.krb_commands.proofs.Shown.{GivesInput-err, GivesInput-ok, Shows-trouble}
@@ -32,20 +32,9 @@ returns-in_err-events g c =
     (refused g.F.Files c.args.file.now (λ due. Shows due c.args.out.now c.args.out.now (Err (script_trouble why))) c.args.v1_order (script text) why c.args.files.now
     (rw c.deref.ensures.value at c.in_err-events.ensures.err) (Shows-trouble (script_trouble why) c.args.out.now c.requires)))
 
--- its events came to nothing
-pub returns-in_err-edited : goal.returns-in_err-edited
-returns-in_err-edited g c =
-    let p = err_from_is_err_and c.from_residual-in_err-edited.result c.from_residual-in_err-edited.ensures.1 in
-    let trouble = c.in_err-edited.field-0.0 in
-    let out = c.args.out.now in
-    rw (p.1 ∙ ap Err p.2, c.release.ensures) (Edits-ran g.F.Files c.args.file.now c.args.v1_order c.args.script.now c.load.new.reader c.args.files.now c.edit_held-edited.new.files out out (Err trouble) c.in-Ok.text.items c.in_ok-events.events.items (ends_by trouble)
-    (GivesInput-ok c.args.script.now c.load.new.reader c.in-Ok.text.items c.in-Ok.ensures.ok (let within = c.in-Ok.ensures.within in let len = c.in-Ok.text.ok.0 in omega (arith, within, len)) c.in-Ok.ensures.failed c.in-Ok.ensures.taken)
-    (rw c.deref.ensures.value at c.in_ok-events.ensures.ok) (rw (c.deref-3.ensures.value, c.hold_to_change.ensures) at c.in_err-edited.ensures) (Shows-trouble trouble out c.requires))
-
--- they were run, and the replies shown
+-- they were run, and what came of it shown
 pub returns : goal.returns
 returns g c =
-    let shows : Shows (edited_run c.in_ok-edited.edited) c.args.out.now c.show.new.out c.show.result = rw c.deref-4.ensures.value at c.show.ensures in
-    rw c.release.ensures (Edits-ran g.F.Files c.args.file.now c.args.v1_order c.args.script.now c.load.new.reader c.args.files.now c.edit_held-edited.new.files c.args.out.now c.show.new.out c.show.result c.in-Ok.text.items c.in_ok-events.events.items (edited_run c.in_ok-edited.edited)
+    rw c.release.ensures (Edits-ran g.F.Files c.args.file.now c.args.v1_order c.args.script.now c.load.new.reader c.args.files.now c.edit_held-edited.new.files c.args.out.now c.show_edited.new.out c.show_edited.result c.in-Ok.text.items c.in_ok-events.events.items (run_of c.edit_held-edited.result)
     (GivesInput-ok c.args.script.now c.load.new.reader c.in-Ok.text.items c.in-Ok.ensures.ok (let within = c.in-Ok.ensures.within in let len = c.in-Ok.text.ok.0 in omega (arith, within, len)) c.in-Ok.ensures.failed c.in-Ok.ensures.taken)
-    (rw c.deref.ensures.value at c.in_ok-events.ensures.ok) (rw (c.deref-3.ensures.value, c.hold_to_change.ensures) at c.in_ok-edited.ensures) shows)
+    (rw c.deref.ensures.value at c.in_ok-events.ensures.ok) (rw (c.deref-3.ensures.value, c.hold_if.ensures) at c.edit_held-edited.ensures) c.show_edited.ensures)
