@@ -1,6 +1,6 @@
 //! What is wrong with a command line that was not matched.
 
-use clap::{Arg, Command};
+use clap::{Arg, ArgAction, Command};
 use krb_commands::{BadLine, Mistake};
 
 // Whether a word is an option, or a bundle of options, unless `--` stands before it.
@@ -8,16 +8,8 @@ fn is_option(word: &str) -> bool {
     word.len() > 1 && word.starts_with('-')
 }
 
-// Whether a command has that option, or each of that bundle.
-fn has_option(command: &Command<'_>, word: &str) -> bool {
-    let options = command.get_arguments();
-    match word.strip_prefix("--") {
-        Some(name) => options.iter().any(|option| option.get_long() == Some(name)),
-        None => word
-            .chars()
-            .skip(1)
-            .all(|letter| has_letter(options, letter)),
-    }
+fn has_long(options: &[Arg<'_>], name: &str) -> bool {
+    options.iter().any(|option| option.get_long() == Some(name))
 }
 
 fn has_letter(options: &[Arg<'_>], letter: char) -> bool {
@@ -26,31 +18,73 @@ fn has_letter(options: &[Arg<'_>], letter: char) -> bool {
         .any(|option| option.get_short() == Some(letter))
 }
 
-// The first mistake in the words behind a command: one that it does not know, or else an operand that it lacks.
+fn takes_value(options: &[Arg<'_>], letter: char) -> bool {
+    options.iter().any(|option| {
+        option.get_short() == Some(letter) && option.get_action() == ArgAction::Append
+    })
+}
+
+// Whether the value of an option of that bundle is the next word, or the first letter that the command does not
+// know. A bundle of flags that gives a value is named whole.
+fn wants_next<'a>(options: &[Arg<'_>], word: &'a str) -> Result<bool, Mistake<'a>> {
+    let Some(letters) = word.strip_prefix("-") else {
+        return Ok(false);
+    };
+    let (flags, value) = match letters.split_once(|letter: char| takes_value(options, letter)) {
+        Some((flags, value)) => (flags, Some(value)),
+        None => (letters, None),
+    };
+    match flags
+        .matches(|letter: char| !has_letter(options, letter))
+        .next()
+    {
+        Some("=") => Err(Mistake::UnknownOption(word)),
+        Some(letter) => Err(Mistake::UnknownLetter(letter)),
+        None => Ok(value == Some("")),
+    }
+}
+
+// The same of a word that is an option or a bundle of them.
+fn wants_value<'a>(options: &[Arg<'_>], word: &'a str) -> Result<bool, Mistake<'a>> {
+    match word.strip_prefix("--") {
+        Some(name) if has_long(options, name) => Ok(false),
+        Some(_) => Err(Mistake::UnknownOption(word)),
+        None => wants_next(options, word),
+    }
+}
+
+// The first mistake in the words behind a command: one that it does not know, or else what it lacks.
 fn mistake_behind<'a>(command: &Command<'a>, words: &'a [String]) -> Mistake<'a> {
-    let mut operands = command
-        .get_arguments()
-        .iter()
-        .filter(|arg| arg.is_positional());
+    let options = command.get_arguments();
+    let mut operands = options.iter().filter(|arg| arg.is_positional());
     let mut takes_options = true;
+    let mut waiting = None;
     let mut last = "";
     for word in words {
         last = word.as_str();
-        if takes_options && last == "--" {
+        if let Some(option) = waiting {
+            if is_option(last) {
+                return Mistake::NeedsValue(option);
+            }
+            waiting = None;
+        } else if takes_options && last == "--" {
             takes_options = false;
         } else if takes_options && last == "--explain" {
             return Mistake::LateExplain;
         } else if takes_options && is_option(last) {
-            if !has_option(command, last) {
-                return Mistake::UnknownOption(last);
+            match wants_value(options, last) {
+                Ok(true) => waiting = Some(last),
+                Ok(false) => {}
+                Err(mistake) => return mistake,
             }
         } else if operands.next().is_none() {
             return Mistake::LeftOver(last);
         }
     }
-    match operands.next() {
-        Some(operand) => Mistake::Missing(operand.get_id()),
-        None => Mistake::LeftOver(last),
+    match (waiting, operands.next()) {
+        (Some(option), _) => Mistake::NeedsValue(option),
+        (None, Some(operand)) => Mistake::Missing(operand.get_id()),
+        (None, None) => Mistake::LeftOver(last),
     }
 }
 

@@ -1,8 +1,9 @@
-//! Shows Kerberos keytabs and credential caches, and edits keytabs.
+//! Shows Kerberos keytabs and credential caches, and checks and edits keytabs.
 #![tactic(auto)]
 
 mod bad_line;
 mod clock;
+mod command_lines;
 mod run;
 mod words;
 

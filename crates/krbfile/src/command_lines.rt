@@ -1,0 +1,180 @@
+//! The command lines, as clap knows them.
+
+use clap::{Arg, ArgAction, Command};
+use std::alloc::{AllocError, Global};
+
+/// The version, and the toolchain whose proofs and compiler it stands on.
+const VERSION: &str = "1.0 (rattle logic dac8208d650f15bf)";
+
+/// The two forms of klist.
+const KLIST_USAGE: &str = "\
+krbfile klist [-c] [-e] [-f] [-C] FILE
+       krbfile klist -k [-t] [-K] [-e] [--v1-big] FILE";
+
+/// The lines of a script.
+const SCRIPT: &str = "\
+Lines of the script, of which empty ones and those that begin with # ask for nothing:
+  start                         A new walk, from the first record
+  resume PLACE                  A new walk, from that place
+  step WALK                     The next record of that walk
+  add KVNO ETYPE TIME KEY NAME  An addition; KEY is hexadecimal, or - for none
+  cut PLACE                     The removal of the record at that place
+  rewrite                       The keytab is written anew, without holes";
+
+/// The commands of ktutil.
+const COMMANDS: &str = "\
+Commands, each on a line, and their short names:
+  list, l [-t] [-k] [-e]     Lists the entries, with times, keys, encryption types
+  read_kt, rkt FILE          Adds the entries of the file to the list
+  write_kt, wkt FILE         Adds the list to the file, made where it is missing
+  add_entry, addent -key -p NAME -k KVNO -e ETYPE
+                             Adds an entry; the next line is its key, in hexadecimal
+  delete_entry, delent SLOT  Deletes the entry of that slot
+  clear_list, clear          Empties the list
+  quit, q, exit              Ends";
+
+fn flag<'a>(alloc: Global, id: &'a str, letter: char, help: &'a str) -> Arg<'a> {
+    Arg::new(alloc, id)
+        .short(letter)
+        .action(ArgAction::SetTrue)
+        .help(help)
+}
+
+fn v1_big<'a>(alloc: Global) -> Arg<'a> {
+    Arg::new(alloc, "v1-big")
+        .long("v1-big")
+        .action(ArgAction::SetTrue)
+        .help("Version 1 files are big-endian")
+}
+
+fn explain<'a>(alloc: Global) -> Arg<'a> {
+    Arg::new(alloc, "explain")
+        .long("explain")
+        .action(ArgAction::SetTrue)
+        .help("Say in words too what goes wrong, as on a terminal; stands first")
+}
+
+fn option<'a>(alloc: Global, id: &'a str, letter: char, value: &'a str, help: &'a str) -> Arg<'a> {
+    Arg::new(alloc, id)
+        .short(letter)
+        .action(ArgAction::Append)
+        .value_name(value)
+        .help(help)
+}
+
+fn operand<'a>(alloc: Global, name: &'a str, help: &'a str) -> Arg<'a> {
+    Arg::new(alloc, name).required(true).help(help)
+}
+
+fn klist_command<'a>(alloc: Global) -> Result<Command<'a>, AllocError> {
+    Command::new(alloc, "klist")
+        .about("Lists a keytab or a credential cache")
+        .override_usage(KLIST_USAGE)
+        .args_override_self(true)
+        .arg(flag(alloc, "cache", 'c', "List a credential cache (the default)"))?
+        .arg(flag(alloc, "flags", 'f', "Show the flags of tickets"))?
+        .arg(flag(alloc, "configs", 'C', "Show configuration entries"))?
+        .arg(flag(alloc, "keytab", 'k', "List a keytab"))?
+        .arg(flag(alloc, "times", 't', "Show the times of entries"))?
+        .arg(flag(alloc, "keys", 'K', "Show the keys of entries"))?
+        .arg(flag(alloc, "etypes", 'e', "Show encryption types"))?
+        .arg(v1_big(alloc))?
+        .arg(operand(alloc, "FILE", "The file to list"))
+}
+
+fn ktedit_command<'a>(alloc: Global) -> Result<Command<'a>, AllocError> {
+    Command::new(alloc, "ktedit")
+        .about("Edits a keytab by a script from the standard input")
+        .override_usage("krbfile ktedit [--v1-big] FILE < SCRIPT")
+        .after_help(SCRIPT)
+        .args_override_self(true)
+        .arg(v1_big(alloc))?
+        .arg(operand(alloc, "FILE", "The file to edit, made where it is missing"))
+}
+
+fn ktfind_command<'a>(alloc: Global) -> Result<Command<'a>, AllocError> {
+    Command::new(alloc, "ktfind")
+        .about("Finds an entry in a keytab")
+        .override_usage("krbfile ktfind [--v1-big] FILE KVNO ETYPE NAME")
+        .args_override_self(true)
+        .arg(v1_big(alloc))?
+        .arg(operand(alloc, "FILE", "The file to look in"))?
+        .arg(operand(alloc, "KVNO", "The key version, 0 for the highest"))?
+        .arg(operand(
+            alloc,
+            "ETYPE",
+            "The encryption type by name or number, 0 for any",
+        ))?
+        .arg(operand(alloc, "NAME", "The principal, with its realm"))
+}
+
+fn ktcheck_command<'a>(alloc: Global) -> Result<Command<'a>, AllocError> {
+    Command::new(alloc, "ktcheck")
+        .about("Tells what is wrong with a keytab")
+        .override_usage("krbfile ktcheck [--v1-big] FILE")
+        .args_override_self(true)
+        .arg(v1_big(alloc))?
+        .arg(operand(alloc, "FILE", "The file to check"))
+}
+
+fn ktremove_command<'a>(alloc: Global) -> Result<Command<'a>, AllocError> {
+    Command::new(alloc, "ktremove")
+        .about("Removes entries from a keytab")
+        .override_usage(
+            "krbfile ktremove [--v1-big] [-n] [-p NAME] [-k KVNO|old] [-e ETYPE].. FILE",
+        )
+        .args_override_self(true)
+        .arg(flag(
+            alloc,
+            "dry-run",
+            'n',
+            "Tell what would be removed, and save nothing",
+        ))?
+        .arg(option(
+            alloc,
+            "name",
+            'p',
+            "NAME",
+            "Entries of that principal, with its realm",
+        ))?
+        .arg(option(
+            alloc,
+            "kvno",
+            'k',
+            "KVNO",
+            "Entries of that version; old: those older than the newest",
+        ))?
+        .arg(option(
+            alloc,
+            "etype",
+            'e',
+            "ETYPE",
+            "Entries of that encryption type, by name or number; may be repeated",
+        ))?
+        .arg(v1_big(alloc))?
+        .arg(operand(alloc, "FILE", "The file to remove from"))
+}
+
+fn ktutil_command<'a>(alloc: Global) -> Result<Command<'a>, AllocError> {
+    Command::new(alloc, "ktutil")
+        .about("Edits a list of entries by commands from the standard input")
+        .override_usage("krbfile ktutil [--v1-big] < COMMANDS")
+        .after_help(COMMANDS)
+        .args_override_self(true)
+        .arg(v1_big(alloc))
+}
+
+/// All command lines.
+pub fn krbfile_command<'a>(alloc: Global) -> Result<Command<'a>, AllocError> {
+    Command::new(alloc, "krbfile")
+        .version(VERSION)
+        .about("Lists Kerberos keytabs and credential caches, and edits keytabs")
+        .subcommand_required(true)
+        .arg(explain(alloc))?
+        .subcommand(klist_command(alloc)?)?
+        .subcommand(ktedit_command(alloc)?)?
+        .subcommand(ktfind_command(alloc)?)?
+        .subcommand(ktremove_command(alloc)?)?
+        .subcommand(ktcheck_command(alloc)?)?
+        .subcommand(ktutil_command(alloc)?)
+}
