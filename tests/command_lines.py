@@ -144,10 +144,12 @@ EDITING: list[Line] = [
 ]
 
 # Lines that print help, and words that it has.
-OF_ALL = (b"krbfile", b"klist", b"ktfind", b"ktedit", b"--help", b"--version")
+OF_ALL = (b"krbfile", b"klist", b"ktfind", b"ktedit", b"ktremove", b"ktcheck", b"--help", b"--version")
 OF_KLIST = (b"krbfile klist", b"-k", b"-t", b"-K", b"-e", b"--v1-big", b"FILE", b"--help")
 OF_KTFIND = (b"krbfile ktfind", b"--v1-big", b"FILE", b"KVNO", b"ETYPE", b"NAME", b"--help")
 OF_KTEDIT = (b"krbfile ktedit", b"--v1-big", b"FILE", b"--help")
+OF_KTREMOVE = (b"krbfile ktremove", b"-n", b"-p <NAME>", b"-k <KVNO>", b"-e <ETYPE>", b"--v1-big", b"FILE")
+OF_KTCHECK = (b"krbfile ktcheck", b"--v1-big", b"FILE", b"--help")
 HELP: list[tuple[Line, tuple[bytes, ...]]] = [
     (("--help",), OF_ALL),
     (("-h",), OF_ALL),
@@ -166,6 +168,8 @@ HELP: list[tuple[Line, tuple[bytes, ...]]] = [
     (("help", "ktedit"), OF_KTEDIT),
     (("ktedit", "--help"), OF_KTEDIT),
     (("ktedit", "k", "-h"), OF_KTEDIT),
+    (("ktremove", "--help"), OF_KTREMOVE),
+    (("ktcheck", "-h"), OF_KTCHECK),
 ]
 
 

@@ -53,7 +53,7 @@ def by_zsh(command: str) -> set[str]:
     own = re.search(case, text, re.MULTILINE).group(1)
     everywhere = re.search(r"^options=(.*)", text, re.MULTILINE).group(1)
     return {option for item in re.findall(r"'(?:\(.*?\)')?(\S+?)'?\[", everywhere + own)
-            for option in item.strip("{}").split(",")}
+            for option in item.strip("{}*").split(",")}
 
 
 def by_fish(command: str) -> set[str]:
@@ -87,6 +87,8 @@ def check_bash(report: Report, program: str) -> None:
     compare(report, "--v in bash", {"--v1-big"}, by_bash("klist", "-k", "--v"))
     compare(report, "a file in bash", set(), by_bash("klist", ""))
     compare(report, "encryption types in bash", ETYPES, by_bash("ktfind", "--v1-big", "k", "0", ""))
+    compare(report, "encryption types to remove in bash", ETYPES, by_bash("ktremove", "k", "-e", ""))
+    compare(report, "versions to remove in bash", {"old"}, by_bash("ktremove", "-k", ""))
 
 
 def check_texts(report: Report, program: str) -> None:

@@ -9,7 +9,7 @@ from dataclasses import dataclass, field
 from cache_images import USUAL
 from file_names import LIMIT
 from harness import Outcome, Report, folder_of, run
-from images import HOST, TWO, keytab, record
+from images import HOST, TWO, Entry, entries, keytab, record
 from terminal import EXPLAIN, run_on_terminal, runs_with_words
 
 KEY = "000102030405060708090a0b0c0d0e0f"
@@ -55,6 +55,8 @@ def no_keytabs() -> list[Told]:
         listing(b"\x04\x02", 2, "it does not begin as a keytab of version 1 or 2"),
         Told("ktfind in a cache", ("ktfind", "k", "0", "0", "b@R"), (cache,), files),
         Told("ktedit of a cache", ("ktedit", "k"), (cache,), files),
+        Told("ktremove from a cache", ("ktremove", "-k", "old", "k"), (cache,), files),
+        Told("ktcheck of a cache", ("ktcheck", "k"), (cache,), files),
         Told("rkt of a cache", ("ktutil",), ((cache[0], f"line 1: {cache[1]}"),), files,
              b"rkt k\n"),
     ]
@@ -90,6 +92,10 @@ def refusals() -> list[Told]:
         find("c@R", "0", TWO, 9, "no entry of this name and encryption type"),
         find("b@R", "4", TWO, 10, "this name and encryption type have no such version"),
         find("b@R", "3", CUT, 1, damaged),
+        Told("ktremove of nothing", ("ktremove", "-k", "4", "k"),
+             (("k: refused 9", "no entry has what was asked for"),), {"k": TWO}),
+        Told("ktremove from a damaged file", ("ktremove", "-k", "old", "k"),
+             (("k: refused 1", damaged),), {"k": CUT}),
         Told("rkt of a damaged file", ("ktutil",), (("line 1: refused 1", f"line 1: {damaged}"),),
              {"k": CUT}, b"rkt k\n"),
         Told("wkt to a damaged file", ("ktutil",), (("line 3: refused 1", f"line 3: {damaged}"),),
@@ -103,38 +109,72 @@ def refusals() -> list[Told]:
     ]
 
 
-def script_faults() -> list[Told]:
-    """Scripts with a faulty line."""
-    rows = [
-        (b"stop", 1, "unknown first word"),
-        (b"start 1", 2, "words are missing or left over"),
-        (b"step x", 3, "a number is not from 0 to 4294967295"),
-        (b"add 3 any 0 - b@R", 4, "unknown encryption type"),
-        (b"add 3 17 0 00 b@R", 5, "the key is not hexadecimal, or not as long as its type's"),
-        (b"add 3 1 0 - b", 6, "not a principal name with its realm"),
+def findings() -> list[Told]:
+    """Check-ups: the words that were printed are explained, each once, and then the fault."""
+    meanings = {
+        "weak": "an encryption type that MIT calls weak or deprecated",
+        "hidden": "MIT's programs see no entry from this one on",
+        "same": "this key stands there twice",
+        "clash": "two keys for one name, version and type",
+        "old": "a newer version of this name stands there",
+        "mode": "users other than the owner may read or change this file",
+    }
+
+    def found(name: str, words: str, entries_of: list[Entry], mode: int, status: int,
+              tail: bytes = b"", fault: tuple[str, ...] = ()) -> Told:
+        lines = [f"{word}: {meanings[word]}" for word in words.split()] + [*fault]
+        return Told(f"ktcheck: {name}", ("ktcheck", "k"), tuple(("", line) for line in lines),
+                    {"k": entries(*entries_of) + tail}, b"", status,
+                    lambda folder: os.chmod(os.path.join(folder, "k"), mode))
+
+    weak = Entry((b"",), enctype=23)
+    newer = Entry((b"",), version8=4, version32=4)
+    other = Entry((b"",), enctype=23, key=bytes(16))
+    fault = "k: fault 1 at 53", "the file ends within a length"
+    return [
+        found("nothing", "", [HOST], 0o600, 0),
+        found("a group that may read", "mode", [HOST], 0o640, 0),
+        found("a damaged file", "", [HOST], 0o600, 1, b"\0\0\0", fault),
+        found("the same key", "same", [HOST, HOST], 0o600, 1),
+        found("all words", "weak hidden same clash old mode", [weak, weak, other, newer], 0o644, 1),
+        found("an old version", "old", [HOST, Entry(version8=4, version32=4)], 0o600, 0),
     ]
-    return [Told(f"script: {line.decode()}", ("ktedit", "k"), ((f"line 2: fault {number}", words),),
-                 {"k": TWO}, b"start\n" + line + b"\n") for line, number, words in rows]
 
 
-def ktutil_faults() -> list[Told]:
-    """Lines of ktutil that are faulty."""
+def line_faults() -> list[Told]:
+    """Lines of scripts and of ktutil that are faulty. ktutil's words have the number of the line."""
     rows = [
-        ("frob", 1, "unknown command"),
-        ("l -x", 2, "words are wrong, missing, repeated or left over"),
-        ("delent x", 3, "a number is not from 0 to 4294967295"),
-        ("addent -key -p b@R -k 3 -e any", 4, "unknown encryption type"),
-        ("addent -key -p b -k 3 -e 17", 6, "not a principal name with its realm"),
-        ("delent 1", 7, "the list has no such slot"),
-        ("rkt \udcff", 8, "the file's name is not UTF-8"),
+        ("ktedit", "stop", 1, "unknown first word"),
+        ("ktedit", "start 1", 2, "words are missing or left over"),
+        ("ktedit", "step x", 3, "a number is not from 0 to 4294967295"),
+        ("ktedit", "add 3 any 0 - b@R", 4, "unknown encryption type"),
+        ("ktedit", "add 3 17 0 00 b@R", 5,
+         "the key is not hexadecimal, or not as long as its type's"),
+        ("ktedit", "add 3 1 0 - b", 6, "not a principal name with its realm"),
+        ("ktutil", "frob", 1, "unknown command"),
+        ("ktutil", "l -x", 2, "words are wrong, missing, repeated or left over"),
+        ("ktutil", "delent x", 3, "a number is not from 0 to 4294967295"),
+        ("ktutil", "addent -key -p b@R -k 3 -e any", 4, "unknown encryption type"),
+        ("ktutil", "addent -key -p b -k 3 -e 17", 6, "not a principal name with its realm"),
+        ("ktutil", "delent 1", 7, "the list has no such slot"),
+        ("ktutil", "rkt \udcff", 8, "the file's name is not UTF-8"),
     ]
-    found = [Told(f"ktutil: {line!r}", ("ktutil",),
-                  ((f"line 1: fault {number}", f"line 1: {words}"),), {},
-                  line.encode(errors="surrogateescape") + b"\n") for line, number, words in rows]
+    commands = {"ktedit": (("ktedit", "k"), "start", ""), "ktutil": (("ktutil",), "l", "line 2: ")}
+    found = []
+    for command, line, number, phrase in rows:
+        words, before, head = commands[command]
+        said = (f"line 2: fault {number}", head + phrase)
+        stdin = f"{before}\n{line}\n".encode(errors="surrogateescape")
+        found.append(Told(f"{command}: {line!r}", words, (said,), {"k": TWO}, stdin))
+    return found
+
+
+def two_faults() -> Told:
+    """Two lines of ktutil that are faulty, each told by itself."""
     bad_key = "the key is not hexadecimal, not as long as its type's, or empty"
     two = (("line 2: fault 5", f"line 2: {bad_key}"),
            ("line 3: fault 1", "line 3: unknown command"))
-    return [*found, Told("ktutil: two faults", ("ktutil",), two, {}, f"{ADDENT}00\nx\n".encode())]
+    return Told("ktutil: two faults", ("ktutil",), two, {}, f"{ADDENT}00\nx\n".encode())
 
 
 def socket_in(folder: str) -> None:
@@ -233,8 +273,8 @@ def replies() -> list[Told]:
 
 def cases() -> list[Told]:
     """All cases of this topic."""
-    return [*no_keytabs(), *no_caches(), *refusals(), *script_faults(), *ktutil_faults(), *loads(),
-            *saves(), *listed_faults(), *replies()]
+    return [*no_keytabs(), *no_caches(), *refusals(), *findings(), *line_faults(), two_faults(),
+            *loads(), *saves(), *listed_faults(), *replies()]
 
 
 def check_told(report: Report, program: str, told: Told) -> None:

@@ -81,7 +81,7 @@ class Ends:
         words = self.run.case.words
         if words[0] == "ktutil":
             return [*self.talks("load")]
-        name = words[-1] if words[0] == "klist" else words[1]
+        name = words[1] if words[0] in ("ktfind", "ktedit") else words[-1]
         return [(message(3, f"{name}: cannot read"), self.run.case.files)]
 
     @cached_property
@@ -90,7 +90,7 @@ class Ends:
         words = self.run.case.words
         if words[0] == "ktutil":
             return [*self.talks("save")]
-        return [(message(3, f"{words[1]}: cannot write"), self.run.case.files)]
+        return [(message(3, f"{words[-1]}: cannot write"), self.run.case.files)]
 
     def of_input(self, given: int) -> End:
         """How it ends where its input fails after that many bytes."""

@@ -14,8 +14,9 @@ from cache_images import USUAL
 from failing_streams import Ends, ends_in_output
 from harness import Outcome, Report, differences, files_in, folder_of
 from images import TWO, B, entries
-from modelled import Modelled, klist, klist_cache, ktedit, ktfind, ktutil
+from modelled import Modelled, klist, klist_cache, ktcheck, ktedit, ktfind, ktremove, ktutil
 from preload import Counted, Line
+from removal_model import Asked
 from system_calls import Call, calls_of, traced
 
 ERRORS = ("EIO", "ENOSPC", "EACCES", "EPERM", "EINTR", "ENOMEM")
@@ -92,10 +93,13 @@ def runs() -> list[tuple[Modelled, list[Step]]]:
         (klist(TWO, "tKe"), [*load("k"), PRINT]),
         (klist_cache(USUAL, "efC"), [*load("c"), PRINT]),
         (ktfind(TWO, 0, 0, "b@R"), [*load("k"), PRINT]),
+        (ktcheck(TWO), [*load("k"), PRINT]),
         (ktedit("a keytab", TWO, b"start\ncut 2\n" + add),
          [READ, *hold("k"), *load("k"), *save("k"), PRINT]),
         (ktedit("no file", None, add),
          [READ, *hold("k"), *load("k"), *save("k", is_new=True), PRINT]),
+        (ktremove("a keytab", TWO, Asked(b"host/a@R")),
+         [*hold("k"), *load("k"), *save("k"), PRINT]),
         (ktutil("three files", files, TALK), TALKED),
     ]
 
@@ -167,12 +171,17 @@ def traced_run(program: str, run: Modelled, *options: str) -> tuple[Counted, lis
         return Counted(outcome, files_in(folder), 0, 0), trace
 
 
+def first_text(run: Modelled, steps: list[Step]) -> str:
+    """What stands in the first call of a run's work: it reads the input, or names the file."""
+    if READ in steps:
+        return "read(0"
+    return next(f'"{word}"' for word in run.case.words if word in run.case.files)
+
+
 def check_run(report: Report, program: str, run: Modelled, steps: list[Step]) -> None:
     """Each call of a run fails, and is its last."""
     got, trace = traced_run(program, run)
-    first = "read(0" if READ in steps else f'"{run.case.words[1]}"'
-    if run.case.words[0] == "klist":
-        first = f'"{run.case.words[-1]}"'
+    first = first_text(run, steps)
     found = steps_of([*calls_of(trace, first)], steps)
     report.check(f"the system calls of {run.case.name}",
                  [] if found and run.is_whole(got.outcome, got.files) else ["not as wanted"])

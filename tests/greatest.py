@@ -67,6 +67,27 @@ def listings() -> list[Case]:
     ]
 
 
+def removals() -> list[Case]:
+    """Keytabs of the most entries, of one name and of many, whose old ones go. They take more memory."""
+    least = LEAST_RECORD * LEAST_COUNT
+    newer = record(Entry((b"",), b"", 1, 0, 1, 0, b"", 1).spelled())
+    one = least[: -len(newer)] + newer
+    gone = hole(bytes(len(LEAST_RECORD) - 4)) * (LEAST_COUNT - 1) + newer
+    lines = b"".join(b"removed %d kvno 0 etype 0 @\n" % (2 + at * len(LEAST_RECORD))
+                     for at in range(LEAST_COUNT - 1))
+    long = b"".join(record(Entry((b"x" * 200, b"%05d" % number), version32=None).spelled())
+                    for number in range(60_000))
+
+    def of(name: str, cells: bytes, words: tuple[str, ...], out: bytes, after: bytes) -> Case:
+        return Case(f"ktremove, {name}", ("ktremove", *words, "k"), Outcome(0, out),
+                    {"k": keytab(cells)}, {"k": keytab(after)})
+
+    return [
+        of("the most entries of one name", one, ("-k", "old"), lines, gone),
+        of("as many names with a long prefix", long, ("-k", "old"), b"", long),
+    ]
+
+
 def finds() -> list[Case]:
     """Look-ups in keytabs."""
     image = keytab(LEAST_RECORD * (LEAST_COUNT - 2), record(HOST.spelled()))

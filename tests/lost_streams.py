@@ -23,6 +23,7 @@ WALK = b"start\nstep 0\n"
 SCRIPT = WALK + b"cut 2\n"
 TALK = b"rkt j\nl\nwkt k\n"
 
+REMOVE = ("ktremove", "-p", "host/a@R", "k")
 KLIST, CACHE, KTFIND = ("klist", "-k", "k"), ("klist", "-C", "c"), ("ktfind", "k", "0", "0", "b@R")
 
 
@@ -37,9 +38,11 @@ def case(
 # replies are printed.
 WITHOUT_OUTPUT = [
     *(case(words, NO_OUTPUT) for words in (
-        KLIST, CACHE, KTFIND, ("klist", "-k", "damaged"), ("--help",), ("klist", "--help"))),
+        KLIST, CACHE, KTFIND, ("ktcheck", "k"), ("klist", "-k", "damaged"), ("--help",), ("klist", "--help"))),
     case(("ktedit", "k"), NO_OUTPUT, SCRIPT, CUT),
     case(("ktedit", "k"), NO_OUTPUT, WALK),
+    case(REMOVE, NO_OUTPUT, after=CUT),
+    case(("ktremove", "-k", "old", "k"), Outcome(0)),
     case(("ktutil",), NO_OUTPUT, TALK),
     case(("ktedit", "k"), Outcome(0), b"# none\n"),
     case(("ktutil",), Outcome(0), b"rkt j\ndelent 1\n"),
@@ -53,6 +56,8 @@ WITHOUT_ERROR_OUTPUT = [
     case(CACHE, Outcome(0, cache_listed(b"u@R", TICKET_LINE, CONFIG_LINE))),
     case(KTFIND, Outcome(0, b"found 53 kvno 3 etype 17 b@R\n")),
     case(("ktedit", "k"), Outcome(0, text(["walk 0 at 2", GAVE_HOST, "gone 2"])), SCRIPT, CUT),
+    case(REMOVE, Outcome(0, b"removed 2 kvno 3 etype 17 host/a@R\n"), after=CUT),
+    case(("ktremove", "-k", "9", "k"), Outcome(1)),
     case(("klist", "-k", "no"), Outcome(1)),
     case(("ktedit", "k"), Outcome(1), b"frob\n"),
     case(("ktutil",), Outcome(1), b"frob\nrkt k\nrkt j\nwkt j\n",

@@ -9,12 +9,12 @@ import subprocess
 from completions import told
 from explained import cases
 from harness import Outcome, Report, folder_of
-from samples import SAMPLES
+from samples import folder_of_samples
 
 PAGE = os.path.join(os.path.dirname(os.path.dirname(os.path.abspath(__file__))), "docs", "krbfile.1")
 
 # The commands that a program may have.
-COMMANDS = ("klist", "ktfind", "ktedit", "ktutil")
+COMMANDS = ("klist", "ktfind", "ktedit", "ktremove", "ktcheck", "ktutil")
 
 
 def check_form(report: Report) -> None:
@@ -55,7 +55,7 @@ def check_words(report: Report) -> None:
     """The page has all words that messages are told in, each on a line of its own."""
     lines = page().replace(".Ar NAME Ns .krbfile", "k.krbfile").splitlines()
     lines += [line.removeprefix(".Dl ") for line in lines]
-    words = {re.sub(r"^line \d+: |^refused \d+: |^fault \d+: ", "", words)
+    words = {re.sub(r"^line \d+: |^refused \d+: |^fault \d+: |^(?:weak|hidden|same|clash|old|mode): ", "", words)
              for case in cases() for _, words in case.said}
     odd = {"", "no such file", "error 6"} | {word for word in words if word.startswith("k: fault")}
     report.check("the words of messages in the manual page", sorted(words - odd - set(lines)))
@@ -71,17 +71,18 @@ def examples() -> list[tuple[str, bytes]]:
 
 
 def check_examples(report: Report, program: str) -> None:
-    """Each example prints what stands there."""
+    """Each example prints what stands there. A key that stands twice ends with status 1."""
     with folder_of({}) as programs:
         os.symlink(program, os.path.join(programs, "krbfile"))
         env = {**os.environ, "PATH": programs + os.pathsep + os.environ["PATH"]}
         for command, wanted in examples():
-            with folder_of(SAMPLES) as folder:
+            with folder_of_samples() as folder:
                 done = subprocess.run(["sh", "-c", command], cwd=folder, env=env, check=False,
                                       capture_output=True)
             got = Outcome(done.returncode, done.stdout, done.stderr)
             name = f"example of the manual page: {command.splitlines()[0]}"
-            report.compare(name, Outcome(0, wanted), got)
+            status = 1 if wanted.startswith(b"same ") else 0
+            report.compare(name, Outcome(status, wanted), got)
 
 
 def check(report: Report, program: str) -> None:

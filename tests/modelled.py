@@ -5,6 +5,7 @@ from collections.abc import Iterator
 from dataclasses import dataclass, replace
 
 import cache_reading
+import check_model
 import reading
 from cache_images import PA_TYPE, TICKET, Name, config, credentials, header_field
 from edits import DAMAGED
@@ -12,6 +13,7 @@ from harness import Case, Outcome, message
 from images import END, LITTLE, Entry, entries, hole, keytab, record
 from keytab_model import Keytab
 from ktutil_model import handled
+from removal_model import OLD, Asked, removal
 from script_model import edited
 
 # The time of a run's start, which is that of new entries.
@@ -83,6 +85,12 @@ def ktfind(image: bytes, kvno: int, enctype: int, name: str) -> Modelled:
                    image, reading.found(image, False, kvno, enctype, parts))
 
 
+def ktcheck(image: bytes) -> Modelled:
+    """A check of a keytab, whose text is gathered before it is printed."""
+    return listing(f"ktcheck of {len(image)} bytes", ("ktcheck", "k"), image,
+                   check_model.checked(image, mode=check_model.mode_of_files()))
+
+
 def klist_cache(image: bytes, columns: str = "") -> Modelled:
     """A listing of a cache."""
     return listing(f"klist -c{columns} of {len(image)} bytes", ("klist", f"-c{columns}", "c"),
@@ -94,6 +102,14 @@ def ktedit(name: str, image: bytes | None, script: bytes) -> Modelled:
     wanted, after = edited(image, script)
     files, files_after = ({} if one is None else {"k": one} for one in (image, after))
     case = Case(f"ktedit {name}", ("ktedit", "k"), wanted, files, files_after, script)
+    return Modelled(case, (Stage(b"", b"", files),))
+
+
+def ktremove(name: str, image: bytes, asked: Asked) -> Modelled:
+    """A removal, which changes and prints nothing where it ends early."""
+    wanted, after = removal(image, False, asked)
+    files = {"k": image}
+    case = Case(f"ktremove {name}", ("ktremove", *asked.words(), "k"), wanted, files, {"k": after})
     return Modelled(case, (Stage(b"", b"", files),))
 
 
@@ -122,6 +138,13 @@ def mixed_keytab(count: int) -> bytes:
         if number % 5 == 0:
             parts.append(hole(bytes(20 + number % 60)))
     return keytab(*parts)
+
+
+def rotated_keytab(count: int) -> bytes:
+    """A keytab of many names, each with two versions of two enctypes."""
+    return entries(*(Entry((b"x" * (number % 30), b"%d" % number), version8=kvno, version32=kvno,
+                           enctype=enctype)
+                     for kvno in (1, 2) for number in range(count) for enctype in (17, 18)))
 
 
 def mixed_script(image: bytes, count: int) -> bytes:
@@ -172,11 +195,16 @@ def small() -> list[Modelled]:
         klist(DAMAGED),
         ktfind(image, 0, 17, "xxx/3@R"),
         ktfind(image, 4, 0, "xxx/3@R"),
+        ktcheck(image),
+        ktcheck(DAMAGED),
         klist_cache(cache, "efC"),
         klist_cache(cache[:-1]),
         ktedit("a small script", image, mixed_script(image, 4)),
         ktedit("no file", None, b"add 3 1 0 - b@R\nadd 3 1 0 00 c@R\nstart\nstep 0\n"),
         ktedit("a faulty script", image, mixed_script(image, 4) + b"frob\n"),
+        ktremove("of old versions", rotated_keytab(4), Asked(kvno=OLD)),
+        ktremove("of a name", image, Asked(b"xxx/3@R", None, (17, 23))),
+        ktremove("of nothing", image, Asked(kvno=4_000)),
         ktutil("over small files", talk_files(3), talk()),
     ]
 
@@ -188,8 +216,10 @@ def large() -> list[Modelled]:
         klist(image),
         klist(image + b"\0", "tKe"),
         ktfind(image, 0, 0, "x/2971@R"),
+        ktcheck(rotated_keytab(300)),
         klist_cache(cache),
         klist_cache(cache + b"\0", "efC"),
         ktedit("a long script", image, mixed_script(image, 200)),
+        ktremove("of many old versions", rotated_keytab(300), Asked(kvno=OLD)),
         ktutil("over a large file", talk_files(200), talk("-e")),
     ]

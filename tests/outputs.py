@@ -15,6 +15,7 @@ from harness import SECONDS, Case, Outcome, Report, folder_of, message, run
 from images import TWO, Entry, entries
 from ktutil_lines import HEADING, lines
 from listings import B_LINE, HOST_LINE, listed
+from terminal import EXPLAIN
 
 FAILED = message(3, "cannot write output")
 
@@ -43,6 +44,16 @@ FAULTY = lines("faults between lists", ["frob", "rkt k", "delent 9", "l", "rkt n
 LONG_NAME = b"x" * 992
 LONG = Listing(KLIST.words, entries(*[Entry((LONG_NAME,))] * 300),
                listed(*[b"   3 " + LONG_NAME + b"@R"] * 300))
+
+# Messages with the words behind them.
+EXPLAINED = [
+    Case("a look-up that finds nothing", (EXPLAIN, "ktfind", "k", "0", "0", "c@R"),
+         Outcome(1, err=b"krbfile: k: refused 9\n"
+                 b"krbfile: no entry of this name and encryption type\n"), {"k": TWO}),
+    Case("a bad command line", (EXPLAIN, "frob"),
+         Outcome(2, err=b"krbfile: bad command line\n"
+                 b"krbfile: unknown command frob; see krbfile --help\n")),
+]
 
 CACHE = Listing(("klist", "-cefC", "c"), USUAL,
                 cache_listed(b"u@R", TICKET_LINE, FLAGS_LINE, ETYPE_LINE, CONFIG_LINE))
@@ -149,6 +160,7 @@ def check_listing(report: Report, program: str, listing: Listing, long: Listing)
 
 def check(report: Report, program: str) -> None:
     """Runs all of this topic."""
-    check_each_byte_of_messages(report, program, FAULTY)
+    for case in (FAULTY, *EXPLAINED):
+        check_each_byte_of_messages(report, program, case)
     check_listing(report, program, KLIST, LONG)
     check_listing(report, program, CACHE, LONG_CACHE)

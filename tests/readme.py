@@ -7,7 +7,7 @@ import subprocess
 from itertools import takewhile
 
 from harness import Outcome, Report, folder_of
-from samples import SAMPLES
+from samples import folder_of_samples
 
 TOP = os.path.dirname(os.path.dirname(os.path.abspath(__file__)))
 SHOWN = os.path.join(TOP, "README.md")
@@ -53,17 +53,17 @@ def sessions() -> list[tuple[str, bytes]]:
 
 
 def check_sessions(report: Report, program: str) -> None:
-    """Runs them one after the other over the samples: a listing of a damaged file ends with status 1."""
+    """Runs them one after the other over the samples. A fault and a key that stands twice end with status 1."""
     commands = sessions()
     report.check("README has sessions", [] if commands else ["none"])
-    with folder_of({}) as programs, folder_of(SAMPLES) as folder:
+    with folder_of({}) as programs, folder_of_samples() as folder:
         os.symlink(program, os.path.join(programs, "krbfile"))
         env = {**os.environ, "PATH": programs + os.pathsep + os.environ["PATH"]}
         for command, wanted in commands:
             done = subprocess.run(["sh", "-c", command], cwd=folder, env=env, check=False,
                                   capture_output=True)
             got = Outcome(done.returncode, done.stdout, done.stderr)
-            status = 1 if b"\nfault " in wanted else 0
+            status = 1 if b"\nfault " in wanted or wanted.startswith(b"same ") else 0
             report.compare(f"session of README: {command.splitlines()[0]}",
                            Outcome(status, wanted), got)
 

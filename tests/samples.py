@@ -3,9 +3,11 @@ from __future__ import annotations
 
 import os
 import sys
+from contextlib import contextmanager
 from dataclasses import replace
 
 from cache_images import PA_TYPE, TICKET, credentials
+from harness import folder_of
 from images import B, HOST, LITTLE, TWO, Entry, entries, hole, keytab, record
 
 # A record that says that it has 47 bytes, of which 20 are there.
@@ -16,6 +18,8 @@ SAMPLES = {
     "other.keytab": entries(
         Entry((b"nfs", b"a"), version8=5, enctype=18, key=bytes(32), version32=5)
     ),
+    "rotated.keytab": entries(HOST, Entry(version8=5, version32=5), B),
+    "twice.keytab": entries(HOST, HOST),
     "damaged.keytab": keytab(record(HOST.spelled()), CUT),
     "old.keytab": keytab(
         hole(bytes(41), LITTLE), record(HOST.spelled(1, LITTLE), LITTLE),
@@ -25,13 +29,27 @@ SAMPLES = {
 }
 
 
-def main() -> None:
-    """Makes the files."""
-    folder = sys.argv[1]
-    os.makedirs(folder, exist_ok=True)
+def make(folder: str) -> None:
+    """Makes the files, which are their owner's alone, as the program makes keytabs."""
     for name, data in SAMPLES.items():
-        with open(os.path.join(folder, name), "wb") as file:
+        path = os.path.join(folder, name)
+        with open(path, "wb") as file:
+            os.chmod(path, 0o600)
             file.write(data)
+
+
+@contextmanager
+def folder_of_samples():
+    """A folder that has them, for as long as it is used."""
+    with folder_of({}) as folder:
+        make(folder)
+        yield folder
+
+
+def main() -> None:
+    """Makes them in the folder that is named."""
+    os.makedirs(sys.argv[1], exist_ok=True)
+    make(sys.argv[1])
 
 
 if __name__ == "__main__":
