@@ -1,7 +1,7 @@
 # Completion of krbfile's command lines for bash.
 
 _krbfile() {
-    local commands='klist ktfind ktedit ktutil help'
+    local commands='klist ktfind ktedit ktremove ktcheck ktutil help'
     local etypes='des3-cbc-sha1 aes128-cts-hmac-sha1-96 aes256-cts-hmac-sha1-96
         aes128-cts-hmac-sha256-128 aes256-cts-hmac-sha384-192 arcfour-hmac
         camellia128-cts-cmac camellia256-cts-cmac'
@@ -15,11 +15,16 @@ _krbfile() {
         '') options="$commands --explain --version -V" ;;
         help) options=$commands ;;
         klist) options='-c -f -C -k -t -K -e --v1-big' ;;
-        ktfind | ktedit | ktutil) options='--v1-big' ;;
+        ktfind | ktedit | ktcheck | ktutil) options='--v1-big' ;;
+        ktremove) options='-n -p -k -e --v1-big' ;;
     esac
     COMPREPLY=()
     if [[ $word == -* || $command == '' || $command == help ]]; then
         COMPREPLY=($(compgen -W "$options --help -h" -- "$word"))
+    elif [[ $command == ktremove && ${COMP_WORDS[COMP_CWORD - 1]} == -k ]]; then
+        COMPREPLY=($(compgen -W old -- "$word"))
+    elif [[ $command == ktremove && ${COMP_WORDS[COMP_CWORD - 1]} == -e ]]; then
+        COMPREPLY=($(compgen -W "$etypes" -- "$word"))
     elif [[ $command == ktfind ]] && ((operands == 2)); then
         COMPREPLY=($(compgen -W "$etypes" -- "$word"))
     fi

@@ -15,6 +15,8 @@ for at in __fish_use_subcommand '__fish_seen_subcommand_from help'
     complete -c krbfile -n $at -a klist -d 'List a keytab or a credential cache'
     complete -c krbfile -n $at -a ktfind -d 'Find an entry in a keytab'
     complete -c krbfile -n $at -a ktedit -d 'Edit a keytab by a script'
+    complete -c krbfile -n $at -a ktremove -d 'Remove entries from a keytab'
+    complete -c krbfile -n $at -a ktcheck -d 'Tell what is wrong with a keytab'
     complete -c krbfile -n $at -a ktutil -d 'Edit a list of entries by commands'
     complete -c krbfile -n $at -a help -d 'Print help'
 end
@@ -27,8 +29,15 @@ complete -c krbfile -n '__fish_seen_subcommand_from klist' -s t -d 'Show the tim
 complete -c krbfile -n '__fish_seen_subcommand_from klist' -s K -d 'Show the keys of entries'
 complete -c krbfile -n '__fish_seen_subcommand_from klist' -s e -d 'Show encryption types'
 
-complete -c krbfile -n '__fish_seen_subcommand_from klist ktfind ktedit ktutil' -l v1-big -d 'Version 1 files are big-endian'
-complete -c krbfile -n '__fish_seen_subcommand_from klist ktfind ktedit' -F
+complete -c krbfile -n '__fish_seen_subcommand_from ktremove' -s n -d 'Save nothing'
+complete -c krbfile -n '__fish_seen_subcommand_from ktremove' -s p -x -d 'Entries of that principal'
+complete -c krbfile -n '__fish_seen_subcommand_from ktremove' -s k -x -a old -d 'Entries of that version'
+complete -c krbfile -n '__fish_seen_subcommand_from ktremove' -s e -x -d 'Entries of that encryption type' \
+    -a 'des3-cbc-sha1 aes128-cts-hmac-sha1-96 aes256-cts-hmac-sha1-96 aes128-cts-hmac-sha256-128
+    aes256-cts-hmac-sha384-192 arcfour-hmac camellia128-cts-cmac camellia256-cts-cmac'
+
+complete -c krbfile -n '__fish_seen_subcommand_from klist ktfind ktedit ktremove ktcheck ktutil' -l v1-big -d 'Version 1 files are big-endian'
+complete -c krbfile -n '__fish_seen_subcommand_from klist ktfind ktedit ktremove ktcheck' -F
 
 complete -c krbfile -n __krbfile_wants_etype -a 'des3-cbc-sha1 aes128-cts-hmac-sha1-96
     aes256-cts-hmac-sha1-96 aes128-cts-hmac-sha256-128 aes256-cts-hmac-sha384-192 arcfour-hmac
