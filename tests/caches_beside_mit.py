@@ -119,9 +119,12 @@ class Realm:
             raise Failed(f"{' '.join(words)}: {done.stderr.decode(errors='replace').strip()}")
         return done.stdout
 
-    def fill(self) -> None:
-        """Makes the database and its principals, by an edited dump, and their keytab."""
+    def create(self) -> None:
+        """Makes the database."""
         self.call("kdb5_util", "create", "-s", "-P", "master", "-r", "CACHE.TEST")
+
+    def fill(self) -> None:
+        """Makes the principals, by an edited dump."""
         head, *lines = self.call("kdb5_util", "dump").decode().splitlines()
         master = next(line for line in lines if "\tK/M@" in line)
         more = [principal_line(master, name) for name in PRINCIPALS]
@@ -178,6 +181,7 @@ def realm() -> Iterator[Realm]:
     with folder_of({}) as folder:
         port = free_port()
         made = Realm(folder, port)
+        made.create()
         made.fill()
         with subprocess.Popen(["krb5kdc", "-n"], cwd=folder, env=made.surroundings(),
                               stdout=subprocess.DEVNULL, stderr=subprocess.DEVNULL) as started:
@@ -245,11 +249,11 @@ def check_removed(report: Report, program: str, realm_of: Realm) -> None:
     report.check("what MIT's library has removed", found + differences(wanted, got))
 
 
-def are_there(report: Report, what: str) -> bool:
+def are_there(report: Report, what: str, tools: tuple[str, ...] = TOOLS) -> bool:
     """Whether MIT's programs are there; where they are not, that part is left out."""
-    missing = [name for name in TOOLS if shutil.which(name, path=PATHS) is None]
+    missing = [name for name in tools if shutil.which(name, path=PATHS) is None]
     if missing:
-        report.skip(what, f"{missing[0]} is not there (Debian: krb5-user, krb5-kdc)")
+        report.skip(what, f"{missing[0]} is not there (Debian: krb5-user, krb5-kdc, krb5-admin-server)")
     return not missing
 
 

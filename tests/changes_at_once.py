@@ -21,7 +21,7 @@ from random import Random
 sys.dont_write_bytecode = True
 
 from beside_mit import Mit, are_there
-from disk_saves import SCRIPT, tree
+from disk_saves import tree
 from harness import SECONDS, Report, folder_of, run
 from images import Entry, entries, keytab
 from reading import no_keytab, read_image
@@ -34,11 +34,6 @@ ROUNDS = 2
 LEAST_WAIT = 9
 
 KEY = "000102030405060708090a0b0c0d0e0f"
-
-# A user who swaps names in an own folder, and how often root changes a keytab there.
-USER = 1234
-CHANGES = 500
-SWAPPER = os.path.join(os.path.dirname(os.path.abspath(__file__)), "swap_names.py")
 
 # The names by which the runs call the file, and what lies in the folder at the end.
 PATHS = ("k", "./k", "link")
@@ -55,6 +50,20 @@ class Kind:
     # Half of the programs are MIT's ktutil, and they begin within a second.
     with_mit: bool = False
 
+    @property
+    def removes(self) -> bool:
+        """Whether the runs remove entries that are there at first. Others add theirs."""
+        return self.command == "ktremove"
+
+    def image(self) -> bytes:
+        """The file at first, where there is one."""
+        names = [f"h{number}" for number in range(MANY)] + ["last"]
+        return entries(*(Entry((name.encode(),)) for name in names)) if self.removes else keytab()
+
+    def has_done(self, name: str, names: list[str]) -> bool:
+        """Whether a keytab of those names is as after the run of that name."""
+        return (name in names) != self.removes
+
     def __str__(self) -> str:
         words = [f"{MANY} runs of {self.command}", "over none" if self.over_none else "over a file"]
         words += ["half of them killed"] * self.kills + ["half of them MIT's"] * self.with_mit
@@ -64,7 +73,11 @@ class Kind:
 KINDS = (Kind("ktedit"), Kind("ktedit", over_none=True), Kind("ktutil"),
          Kind("ktutil", over_none=True), Kind("ktedit", kills=True),
          Kind("ktedit", over_none=True, kills=True), Kind("ktutil", kills=True),
-         Kind("ktedit", with_mit=True), Kind("ktutil", with_mit=True))
+         Kind("ktedit", with_mit=True), Kind("ktutil", with_mit=True),
+         Kind("ktremove"), Kind("ktremove", kills=True))
+
+# A run that reads no input begins where its shell has read a line.
+WAITS = ("sh", "-c", 'read -r line; exec "$0" "$@"')
 
 
 def names_of(image: bytes) -> list[str] | None:
@@ -75,8 +88,10 @@ def names_of(image: bytes) -> list[str] | None:
     return None if fault else [entry.name[0].decode() for _, entry in those]
 
 
-def addition(command: str, name: str, path: str = "k") -> tuple[tuple[str, ...], str]:
-    """The words of a run that adds an entry of that name to a file, and its input."""
+def change(command: str, name: str, path: str = "k") -> tuple[tuple[str, ...], str]:
+    """The words of a run that adds or removes the entry of that name, and its input."""
+    if command == "ktremove":
+        return ("ktremove", "-p", f"{name}@R", path), "\n"
     if command == "ktedit":
         return ("ktedit", path), f"add 1 17 1700000000 {KEY} {name}@R\n"
     return ("ktutil",), f"addent -key -p {name}@R -k 1 -e 17\n{KEY}\nwkt {path}\n"
@@ -120,7 +135,7 @@ class Run:
 
 
 class Storm:
-    """Programs that each add an entry to the file `k` of a folder, at the same time."""
+    """Programs that each add or remove an entry of the file `k` of a folder, at the same time."""
 
     def __init__(self, program: str, kind: Kind, seed: int) -> None:
         self.program, self.kind = program, kind
@@ -137,13 +152,14 @@ class Storm:
         for number in range(MANY):
             is_mits = self.kind.with_mit and number % 2 == 1
             name = f"{'m' if is_mits else 'h'}{number}"
-            words, text = addition(self.kind.command, name, self.random.choice(PATHS))
+            words, text = change(self.kind.command, name, self.random.choice(PATHS))
             if is_mits:
                 source = os.path.join(sources, name)
                 with open(source, "wb") as file:
                     file.write(entries(Entry((name.encode(),))))
                 text = f"rkt {source}\nwkt k\n"
             line = ["ktutil"] if is_mits else [self.program, *words]
+            line = [*WAITS, *line] if self.kind.removes else line
             started = subprocess.Popen(line, cwd=folder, env=mit.env, **piped)
             is_killed = self.kind.kills and number % 2 == 1
             self.runs.append(Run(name, started, text, is_mits, is_killed))
@@ -185,7 +201,7 @@ class Storm:
         looks.join()
 
     def judge_file(self, folder: str) -> None:
-        """Judges the file at the end: each entry that was saved is there, and none twice."""
+        """Judges the file at the end: each change that was saved is there, and no entry twice."""
         found = tree(folder)
         names = names_of(found.get("k", b""))
         if names is None:
@@ -193,13 +209,16 @@ class Storm:
         names = names or []
         for each in self.runs:
             whose = "MIT's" if each.is_mits else "ours"
-            is_lost = each.saves() and each.name not in names
+            is_done = self.kind.has_done(each.name, names)
+            is_lost = each.saves() and not is_done
             self.counts[f"{whose} lost"] += is_lost
             self.counts[f"{whose} saved"] += each.saves()
             self.counts[f"{whose} not saved"] += not each.saves()
             # MIT's may write into a file that has lost its name.
             if is_lost and not each.is_mits:
                 self.found.append(f"{each.name} is lost")
+            if is_done and not (each.saves() or each.is_mits or each.is_killed):
+                self.found.append(f"{each.name} was refused, and is done")
             if not each.is_mits and not each.end_is_told(self.kind.with_mit):
                 self.found.append(f"{each.name}: status {each.started.returncode}, {each.said}")
         if len(names) != len({*names}):
@@ -217,11 +236,12 @@ class Storm:
 
     def judge_next(self, folder: str) -> None:
         """What was left keeps no later run from the file, which also takes it away."""
-        words, text = addition(self.kind.command, "last")
+        words, text = change(self.kind.command, "last")
         got = run(self.program, words, folder, text.encode())
         found = tree(folder)
         names = names_of(found.get("k", b"")) or []
-        if got.status != 0 or "last" not in names or found.keys() != LEFT:
+        is_done = got.status == 0 and self.kind.has_done("last", names)
+        if not is_done or found.keys() != LEFT:
             self.counts["bad next runs"] += 1
             self.found.append(f"the next run: {got}, then {sorted(found)} are there")
 
@@ -229,7 +249,7 @@ class Storm:
 def storm(program: str, kind: Kind, seed: int) -> Storm:
     """One storm, and what is wrong with it."""
     made = Storm(program, kind, seed)
-    files = {} if kind.over_none else {"k": keytab()}
+    files = {} if kind.over_none else {"k": kind.image()}
     if kind.kills:
         files["k.krbfile"] = b"left"
     with folder_of(files) as folder, tempfile.TemporaryDirectory() as sources:
@@ -242,33 +262,8 @@ def storm(program: str, kind: Kind, seed: int) -> Storm:
     return made
 
 
-def check_swapped(report: Report, program: str) -> None:
-    """Who swaps a name in an own folder gets no keys of root's: the one storm of two programs."""
-    if os.geteuid() != 0:
-        report.skip("names that are swapped", "none but root has another do it")
-        return
-    secret = bytes(range(100, 116))
-    image = entries(*[Entry((b"%d" % number,), key=secret) for number in range(2_000)])
-    with folder_of({"secret": image}) as safe, folder_of({"k": keytab()}) as folder:
-        os.chmod(os.path.join(safe, "secret"), 0o600)
-        os.chown(folder, USER, USER)
-        words = [sys.executable, SWAPPER, os.path.join(safe, "secret"), secret.hex(), str(USER)]
-        with subprocess.Popen(words, cwd=folder) as swapper:
-            for _ in range(CHANGES):
-                run(program, ("ktedit", "k"), folder, SCRIPT)
-            was_swapping = swapper.poll() is None
-            swapper.kill()
-        faults = [] if was_swapping else ["nobody swaps the name"]
-        for name, data in tree(folder).items():
-            is_users = os.lstat(os.path.join(folder, name)).st_uid == USER
-            if is_users and isinstance(data, bytes) and secret in data:
-                faults.append(f"{name} has the keys")
-    report.check("a name that is swapped", faults)
-
-
 def check(report: Report, program: str, rounds: int = ROUNDS, tell: bool = False) -> None:
     """Runs all of this topic, and prints the counts of each kind where that is asked for."""
-    check_swapped(report, program)
     has_mit = are_there(report, "changes beside MIT's ktutil")
     for kind in KINDS:
         if kind.with_mit and not has_mit:

@@ -12,6 +12,32 @@ from removals import AES256, B3, FIVE, FOUR, versioned
 # The smallest length that MIT's reader takes for the end.
 LONG = 32_768
 
+# Entries that MIT's programs end before, and some that they list.
+ODD = {
+    "no components": Entry(()),
+    "no components and an empty realm": Entry((), b""),
+    "an empty component": Entry((b"",)),
+    "an empty first component": Entry((b"", b"x")),
+    "an empty middle component": Entry((b"a", b"", b"b")),
+    "an empty last component": Entry((b"host", b"")),
+    "an empty realm": Entry((b"a",), b""),
+    "no key": Entry(key=b""),
+    "a long key": Entry(key=bytes(LONG)),
+    "the longest key": Entry(key=bytes(65_535)),
+    "a long component": Entry((b"x" * LONG,)),
+    "a long second component": Entry((b"a", b"x" * 65_535)),
+    "a long realm": Entry((b"a",), b"R" * LONG),
+    "many components": Entry((b"p",) * LONG),
+}
+EVEN = {
+    "a key of a byte": Entry(key=b"x"),
+    "a key almost too long": Entry(key=bytes(LONG - 1)),
+    "a component almost too long": Entry((b"x" * (LONG - 1),)),
+    "a realm almost too long": Entry((b"a",), b"R" * (LONG - 1)),
+    "almost too many components": Entry((b"p",) * (LONG - 1)),
+    "odd numbers": Entry(name_type=2**32 - 1, timestamp=2**31, enctype=65_535, version32=0),
+}
+
 
 def check_up(name: str, image: bytes, lines: list[str], status: int = 0, options=()) -> Case:
     """A check of that image, which is its owner's alone."""
@@ -56,38 +82,14 @@ def findings() -> list[Case]:
 
 def hidden() -> list[Case]:
     """Which entries MIT's programs end before, each between two that they list."""
-    odd = {
-        "no components": Entry(()),
-        "no components and an empty realm": Entry((), b""),
-        "an empty component": Entry((b"",)),
-        "an empty first component": Entry((b"", b"x")),
-        "an empty middle component": Entry((b"a", b"", b"b")),
-        "an empty last component": Entry((b"host", b"")),
-        "an empty realm": Entry((b"a",), b""),
-        "no key": Entry(key=b""),
-        "a long key": Entry(key=bytes(LONG)),
-        "the longest key": Entry(key=bytes(65_535)),
-        "a long component": Entry((b"x" * LONG,)),
-        "a long second component": Entry((b"a", b"x" * 65_535)),
-        "a long realm": Entry((b"a",), b"R" * LONG),
-        "many components": Entry((b"p",) * LONG),
-    }
-    even = {
-        "a key of a byte": Entry(key=b"x"),
-        "a key almost too long": Entry(key=bytes(LONG - 1)),
-        "a component almost too long": Entry((b"x" * (LONG - 1),)),
-        "a realm almost too long": Entry((b"a",), b"R" * (LONG - 1)),
-        "almost too many components": Entry((b"p",) * (LONG - 1)),
-        "odd numbers": Entry(name_type=2**32 - 1, timestamp=2**31, enctype=65_535, version32=0),
-    }
     first, last = Entry((b"first",)), Entry((b"last",), key=b"")
     cases = []
     for version, order in ((2, BIG), (1, LITTLE)):
         place = 2 + 4 + len(first.spelled(version, order))
-        for name, entry in {**odd, **even}.items():
+        for name, entry in {**ODD, **EVEN}.items():
             image = entries(first, entry, last, version=version, order=order)
             got = checked(image)
-            where = place if name in odd else place + 4 + len(entry.spelled(version, order))
+            where = place if name in ODD else place + 4 + len(entry.spelled(version, order))
             told = [line for line in got.out.split(b"\n") if line.startswith(b"hidden ")]
             # The last one has no key, and is told where none before it is.
             assert [line.split()[1] for line in told] == [b"%d" % where], (name, told)
