@@ -7,6 +7,8 @@ LIMIT = 16_777_216  # what krbfile reads at most
 HEAD = b"\x05\x02"
 COLUMNS = "services, all columns"  # the group that is listed with times, keys and enctypes
 FINDS = "services, the last one"  # the group in which an entry is looked up
+CHECKS = "services, checked"  # the group that ktcheck goes through
+REMOVALS = "services of two versions, the old ones removed"  # by ktremove -n -k old
 QUOTED = b"/@\\\n\t\b\0"  # the bytes that a printed name quotes
 
 
@@ -49,6 +51,16 @@ def service(number):
 def services(entries):
     """That many entries of services."""
     return HEAD + b"".join(map(service, range(entries)))
+
+
+def of_two_versions(entries):
+    """That many entries: services, and then the same services with the next version."""
+    made = [HEAD]
+    for number in range(entries):
+        server, next_version = number % (entries // 2), number >= entries // 2
+        host = b"server%05d.ad.test" % server
+        made.append(record(b"AD.TEST", [b"host", host], server % 300 + 1 + next_version, 18, key_of(number, 32)))
+    return b"".join(made)
 
 
 def hole(size):
@@ -104,6 +116,8 @@ GROUPS = [
     ("quoted names", "entries", quoted, (33, 550), (5, 33)),
     ("empty entries", "entries", empty, (50_000, 798_000), (1_000, 10_000)),
     (FINDS, "entries", services, (1_000, 100_000, 200_000), (1_000, 10_000)),
+    (CHECKS, "entries", services, (1_000, 100_000, 200_000), (1_000, 10_000)),
+    (REMOVALS, "entries", of_two_versions, (1_000, 100_000, 180_000), (1_000, 10_000)),
 ]
 
 
