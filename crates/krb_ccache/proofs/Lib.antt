@@ -18,6 +18,3 @@ pub mod Rewrites
 pub mod MatchLemmas
 pub mod ConfigValues
 pub mod SetConfigLemmas
-pub mod ConfigPlaces
-pub mod ConfigBytes
-pub mod IndexLemmas

@@ -9,7 +9,6 @@ pub mod SetConfig
 pub mod Laws
 -- For private contracts alone.
 pub mod Credentials
-pub mod ConfigIndex
 pub mod Mark
 pub mod Rewrite
 pub mod NewImage

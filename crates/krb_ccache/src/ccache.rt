@@ -15,7 +15,6 @@ ghost use Rattle.krb_ccache.specs.Laws.{AreBytes};
 ghost use Rattle.krb_ccache.specs.Open.{InMemory, Reopens};
 
 use crate::ccache::view::CacheView;
-use crate::config::place::ConfigPlace;
 use crate::config::query::Query;
 use crate::credential::view::CredView;
 use crate::credentials::Credentials;
@@ -33,14 +32,11 @@ use std::marker::Model;
 pub struct Ccache<A: Allocator> {
     image: Vec<u8, A>,
     layout: Layout,
-    // Where its configuration entries stand, from the first value that is set on.
-    index: Option<Vec<ConfigPlace, A>>,
 }
 
 impl<A: Allocator> Model for Ccache<A> {
     ghost use Rattle.std.specs.Prelude.{vec_capacity};
     ghost use Rattle.krb_ccache.specs.Open.{InMemory, IsImage, cache_of};
-    ghost use Rattle.krb_ccache.specs.ConfigIndex.{IsIndex};
 
     ghost Value = { InMemory };
 
@@ -49,8 +45,7 @@ impl<A: Allocator> Model for Ccache<A> {
       room = vec_capacity k.image;
     } };
 
-    ghost invariant = { λ k. IsImage k.layout k.image.items
-        × IsIndex k.layout.version (cache_of k.layout k.image.items).contents.cells k.index };
+    ghost invariant = { λ k. IsImage k.layout k.image.items };
 }
 
 impl<A: Allocator> Ccache<A> {
@@ -67,11 +62,7 @@ impl<A: Allocator> Ccache<A> {
         match read_layout(limits.image(), &image) {
             Ok(layout) => {
                 let _ = as_spelling(layout, &image);
-                Ok(Ccache {
-                    image,
-                    layout,
-                    index: None,
-                })
+                Ok(Ccache { image, layout })
             }
             Err(why) => Err(CcOpenRefused { why, image }),
         }
@@ -104,11 +95,7 @@ impl<A: Allocator> Ccache<A> {
         ensures room { vec_capacity result ≡ self.room }
     {
         let _ = as_spelling(self.layout, &self.image);
-        let Ccache {
-            image,
-            layout: _,
-            index: _,
-        } = self;
+        let Ccache { image, layout: _ } = self;
         image
     }
 

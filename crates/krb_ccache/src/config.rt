@@ -1,8 +1,6 @@
 //! Configuration entries: credentials that hold a value under a key.
 
 pub(crate) mod entry;
-pub(crate) mod index;
-pub(crate) mod place;
 pub(crate) mod query;
 mod removal;
 pub(crate) mod replacement;
@@ -44,13 +42,6 @@ fn name_in<N: Name>(server: &N) -> Option<ConfigName<'_>>
         return None;
     }
     Some(ConfigName { key, principal })
-}
-
-/// Whether it is the server of configuration entries.
-pub fn names_config<N: Name>(server: &N) -> bool
-    ensures { result ≡ is_some (config_name (N.parts server.now)) }
-{
-    name_in(server).is_some()
 }
 
 /// What a credential holds its value under, if it is a configuration entry.

@@ -4,11 +4,14 @@ ghost use Rattle.std.specs.Prelude.{◌≡◌, ◌≤◌, ◌+◌, ℕ, List, le
 ghost use Rattle.std.specs.List.{splice};
 ghost use Rattle.krb_wire.specs.Reading.{Gives};
 ghost use Rattle.krb_ccache.specs.Credential.{CredParts, number32, credential, credential_at};
-ghost use Rattle.krb_ccache.specs.Changes.{add_mark};
+ghost use Rattle.krb_ccache.specs.Changes.{add_mark, with_mark};
 ghost use Rattle.krb_ccache.specs.Mark.{times_from};
+ghost use Rattle.krb_ccache.specs.Open.{cache_of, Holds, IsImage};
+ghost use Rattle.krb_ccache.specs.Store.{credential_at_place};
 
 use crate::cells::bytes_fit;
 use crate::credential::key::split_key;
+use crate::open::Layout;
 use crate::version::Version;
 use krb_wire::{Order, Pen, split_cc_principal, tail};
 
@@ -46,4 +49,16 @@ pub fn mark(version: Version, image: &mut [u8], place: usize)
     let authtime = image.len() - times.len();
     put_time(u32::MAX, image, authtime);
     put_time(0, image, authtime + 8);
+}
+
+/// Marks the live credential at a place of an image.
+pub fn mark_in_image(layout: Layout, image: &mut [u8], place: usize)
+    requires kept { IsImage layout image.old }
+    requires live { IsSome (credential_at_place (cache_of layout image.old) place) }
+    ensures marked { Holds layout image.new (with_mark (cache_of layout image.old) place) }
+    ensures len { length image.new ≡ length image.old }
+{
+    bytes_fit(image);
+    mark(layout.version, image, place);
+    bytes_fit(image);
 }

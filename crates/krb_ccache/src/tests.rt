@@ -2,7 +2,6 @@ mod allocations;
 mod as_mit;
 mod changes;
 mod refusals;
-mod remembered;
 mod sessions;
 mod settings;
 

@@ -13,8 +13,8 @@ ghost use Rattle.krb_ccache.specs.Changes.{create_result, RefusesAs, append_resu
 use super::Ccache;
 use crate::append::append_credential;
 use crate::cells::bytes_fit;
-use crate::config::index::{forget_at_config, mark_and_drop};
 use crate::credential::Cred;
+use crate::mark::mark_in_image;
 use crate::offset::Offset;
 use crate::open::{Layout, Places};
 use crate::preamble::{header_len, preamble_len, tells_offset, write_preamble};
@@ -52,11 +52,7 @@ impl<A: Allocator> Ccache<A> {
                 end: len,
             },
         };
-        Ok(Ccache {
-            image,
-            layout,
-            index: None,
-        })
+        Ok(Ccache { image, layout })
     }
 
     // Whether it refuses additions and removals.
@@ -75,12 +71,7 @@ impl<A: Allocator> Ccache<A> {
         ensures marked { self.new.state ≡ with_mark self.old.state place }
         ensures room { self.new.room ≡ self.old.room }
     {
-        mark_and_drop(
-            self.layout,
-            &mut self.image,
-            &mut self.index,
-            place as usize,
-        );
+        mark_in_image(self.layout, &mut self.image, place as usize);
     }
 
     /// Marks the credential at a place as removed: endtime 0 and the greatest authtime are written, and no other
@@ -121,7 +112,6 @@ impl<A: Allocator> Ccache<A> {
             return Err(Refusal::Code(Code::Full));
         };
         self.layout = append_credential(&mut self.image, self.layout, cred, len)?;
-        forget_at_config(&mut self.index, cred);
         Ok(place)
     }
 

@@ -80,11 +80,7 @@ impl<A: Allocator + Copy> Ccache<A> {
                 end: len,
             },
         };
-        Ok(Ccache {
-            image,
-            layout,
-            index: None,
-        })
+        Ok(Ccache { image, layout })
     }
 
     /// Writes the live credentials anew, in version 4 and in order, after a header that has the time offset alone,

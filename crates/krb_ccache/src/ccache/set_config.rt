@@ -30,7 +30,7 @@ impl<A: Allocator + Copy> Ccache<A> {
         let Some(len) = entry.len_within(&self.default_principal(), room) else {
             return Err(Refusal::Code(Code::Full));
         };
-        self.layout = replace_entries(&mut self.image, self.layout, entry, len, &mut self.index)?;
+        self.layout = replace_entries(&mut self.image, self.layout, entry, len)?;
         Ok(place)
     }
 

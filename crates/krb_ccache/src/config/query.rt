@@ -2,10 +2,8 @@
 
 ghost use Rattle.std.specs.Prelude.{◌≡◌, option_copied};
 ghost use Rattle.krb_ccache.specs.Config.{is_match, same_text};
-ghost use Rattle.krb_ccache.specs.ConfigIndex.{name_fingerprint};
 
 use crate::config::config_name;
-use crate::config::place::name_fingerprint;
 use crate::credential::view::CredView;
 use krb_wire::{PrincipalView, same_name};
 use std::marker::Model;
@@ -49,12 +47,5 @@ impl<'a> Query<'a> {
         name.key == self.key
             && same_text(name.principal, self.principal)
             && same_name(self.owner, credential.client())
-    }
-
-    /// The fingerprint of its key and text.
-    pub fn fingerprint(&self) -> u32
-        ensures { result ≡ name_fingerprint self.now.key self.now.principal }
-    {
-        name_fingerprint(self.key, self.principal)
     }
 }

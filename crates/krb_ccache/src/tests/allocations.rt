@@ -58,13 +58,12 @@ fn store<R: Abort + AllocGlobal>(rt: &R, heap: &Refusing<Global>, n: u64) -> Res
     Ok(())
 }
 
-// The first request is that of the image. What is remembered of the entries may be refused.
 fn set<R: Abort + AllocGlobal>(rt: &R, heap: &Refusing<Global>, n: u64) -> Result<(), Fail> {
     let mut cache = exact(heap, rt.alloc())?;
     heap.refuse(n);
     let set = cache.set_config(PA_TYPE, KRBTGT_TEXT, b"3");
-    assert!(rt; (set == Err(Refusal::NoMemory)) == (n == 1));
-    assert!(rt; is_unchanged(&cache, rt.alloc())? == (n == 1));
+    assert!(rt; (set == Err(Refusal::NoMemory)) == heap.refused());
+    assert!(rt; is_unchanged(&cache, rt.alloc())? == heap.refused());
     Ok(())
 }
 
@@ -124,7 +123,7 @@ fn each_allocation_fails_in_turn(rt: HostRuntime) -> Result<(), Fail> {
     assert_eq!(rt; refuse_each(heap, 100, |heap, n| create(&rt, heap, n))?, 1);
     assert!(rt; refuse_each(heap, 100, |heap, n| copy(&rt, heap, n))? >= 7);
     assert_eq!(rt; refuse_each(heap, 100, |heap, n| store(&rt, heap, n))?, 1);
-    assert_eq!(rt; refuse_each(heap, 100, |heap, n| set(&rt, heap, n))?, 2);
+    assert_eq!(rt; refuse_each(heap, 100, |heap, n| set(&rt, heap, n))?, 1);
     assert!(rt; refuse_each(heap, 100, |heap, n| run(&rt, heap, n))? >= 3);
     Ok(())
 }
@@ -138,9 +137,8 @@ fn what_takes_no_memory_succeeds_where_all_is_refused(rt: HostRuntime) -> Result
     heap.refuse_from(0);
     assert!(rt; cache.remove_at(40) == Ok(()));
     assert!(rt; cache.config(PA_TYPE, KRBTGT_TEXT) == Some(b"2".as_slice()));
-    assert!(rt; !heap.refused());
-    // There is room for the entry, and nothing needs to be remembered.
     assert!(rt; cache.set_config(PA_TYPE, KRBTGT_TEXT, b"3") == Ok(392));
+    assert!(rt; !heap.refused());
     let live = Stop::Live {
         place: 392,
         next: 528,

@@ -1,15 +1,13 @@
-use Rattle.std.proofs.Common.{◌≡◌, ◌+◌, ◌≤◌, ◌++◌, ℕ, List, [], ◌∷◌, length, take, replicate, refl, sym, ap, subst, ◌∙◌, arith}
+use Rattle.std.proofs.Common.{◌≡◌, ◌+◌, ◌≤◌, ◌++◌, ℕ, List, length, take, replicate, refl, ap, ◌∙◌, arith}
 use Rattle.std.proofs.lemmas.List.{take_at}
 use Rattle.krb_wire.proofs.Fields.{IsBytes}
 use Rattle.krb_ccache.specs.declared.version.Version.TheVariants.{V4}
-use Rattle.krb_ccache.specs.Credential.{CredParts, credential}
-use Rattle.krb_ccache.specs.Store.{CacheState, image_of}
-use Rattle.krb_ccache.specs.SetConfig.{EntryParts, config_entry, without_matches, entry_of}
+use Rattle.krb_ccache.specs.Credential.{credential}
+use Rattle.krb_ccache.specs.Store.{image_of}
+use Rattle.krb_ccache.specs.SetConfig.{without_matches, entry_of}
 use Rattle.krb_ccache.specs.Open.{cache_of}
-use Rattle.krb_ccache.specs.ConfigIndex.{IsIndex}
 use Rattle.krb_ccache.proofs.ImageLemmas.{image_parts}
 use Rattle.krb_ccache.proofs.LastCredential.{image_appendable, last_holds}
-use Rattle.krb_ccache.proofs.IndexLemmas.{without_place}
 use Rattle.krb_ccache.proofs.SetConfigLemmas.{without_appendable}
 use Rattle.krb_ccache.proofs.config.replacement.replace_entries.Goals as goal
 
@@ -26,24 +24,7 @@ returns-clause-ok g c =
     let room : length old + c.args.len ≤ h.limit = let ok = c.args.image.now.ok.0 in omega (arith, ok, c.requires.room) in
     let front : take c.len-end.result c.grow.new.image.items ≡ old = ap (take c.len-end.result) c.in_ok-grow.ensures.ok ∙ take_at old (replicate c.args.len 0) c.len-end.result len in
     let put : new ≡ image_of (without_matches (cache_of h old) s.key s.principal) ++ credential V4 entry =
-    c.write_into.ensures.written ∙ ap (λ (b : List ℕ). image_of (without_matches (cache_of h b) s.key s.principal) ++ credential V4 (entry_of (cache_of h b).principal s)) front in
+    c.write_into.ensures ∙ ap (λ (b : List ℕ). image_of (without_matches (cache_of h b) s.key s.principal) ++ credential V4 (entry_of (cache_of h b).principal s)) front in
     let total = (image_parts h old fits c.requires.kept).total in
     let a = image_appendable h old (cache_of h old) fits c.requires.kept refl c.requires.whole c.requires.version in
     last_holds h (without_matches (cache_of h old) s.key s.principal) new entry c.args.len (c.len-end.result + c.args.len) (without_appendable h _ s.key s.principal a) new_fits c.requires.fits c.requires.len (omega (arith, room, total, ap length c.requires.whole)) (omega (arith, len, total, ap length c.requires.whole)) put
-
-pub returns-clause-knows : goal.returns-clause-knows
-returns-clause-knows g c =
-    let h = c.args.layout in
-    let s = c.args.entry.now in
-    let old = c.args.image.now.items in
-    let k = cache_of h old in
-    let w = without_matches k s.key s.principal in
-    let known = c.add_entry.new.index in
-    let len : length old ≡ c.len-end.result = let ok = c.args.image.now.ok.0 in let is = c.len-end.ensures in omega (arith, ok, is) in
-    let fits : IsBytes old = rw c.deref.ensures.value at c.bytes_fit.ensures in
-    let front : take c.len-end.result c.grow.new.image.items ≡ old = ap (take c.len-end.result) c.in_ok-grow.ensures.ok ∙ take_at old (replicate c.args.len 0) c.len-end.result len in
-    let marked = subst (λ (b : List ℕ). IsIndex h.version (without_matches (cache_of h b) s.key s.principal).contents.cells c.write_into.new.index) front c.write_into.ensures.knows in
-    let place = without_place h old s c.len-end.result fits c.requires.kept c.requires.whole (sym len) in
-    let added = c.add_entry.ensures h.version w.contents.cells k.principal s.value marked (omega (arith, place)) in
-    let entry = subst (λ (t : EntryParts). IsIndex h.version (w.contents.cells ++ config_entry k.principal t.key t.principal s.value ∷ []) known) c.entry.view_is added in
-    subst (λ (cs : List CredParts). IsIndex h.version cs known) (sym (ap (λ (x : CacheState). x.contents.cells) (returns-clause-ok g c).state)) entry

@@ -7,8 +7,8 @@ use Rattle.krb_ccache.specs.SetConfig.{without_matches, entry_of}
 use Rattle.krb_ccache.specs.Open.{cache_of}
 use Rattle.krb_ccache.proofs.config.replacement.write_into.Goals as goal
 
-pub returns-clause-written : goal.returns-clause-written
-returns-clause-written g c =
+pub returns : goal.returns
+returns g c =
     let s = c.args.entry.now in
     let h = c.args.layout in
     let image = c.write_over.new.image in
