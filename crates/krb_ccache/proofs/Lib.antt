@@ -18,3 +18,4 @@ pub mod Rewrites
 pub mod MatchLemmas
 pub mod ConfigValues
 pub mod SetConfigLemmas
+pub mod SettingEvents

@@ -11,7 +11,7 @@ use Rattle.krb_ccache.specs.declared.open.Layout.{Layout}
 use Rattle.krb_ccache.specs.Header.{header}
 use Rattle.krb_ccache.specs.Store.{CacheState, credentials_format, version_byte, image_of, first_place}
 use Rattle.krb_ccache.specs.Config.{QueryParts, query_of}
-use Rattle.krb_ccache.specs.SetConfig.{EntryParts, without_matches, with_marks}
+use Rattle.krb_ccache.specs.SetConfig.{SettingParts, without_matches, with_marks}
 use Rattle.krb_ccache.specs.Open.{IsImage, cache_of}
 use Rattle.krb_ccache.proofs.ImageLemmas.{image_parts}
 use Rattle.krb_ccache.proofs.CacheLemmas.{image_readable, layout_is}
@@ -63,11 +63,11 @@ owner_there h image front bytes f is_bytes none = let e = sym f.owner ∙ ap cc_
 -- ---- what is written
 
 -- the query for the name of an entry
-pub query_is : (k : CacheState) (owner : Parts) (d s : EntryParts) → owner ≡ k.principal → d ≡ s → ◌≡◌ {A = QueryParts} (record { owner = owner; key = d.key; principal = d.principal }) (query_of k s.key s.principal)
-query_is k owner d s is same = ap (λ (p : Parts). record { owner = p; key = d.key; principal = d.principal }) is ∙ ap (λ (t : EntryParts). query_of k t.key t.principal) same
+pub query_is : (k : CacheState) (owner : Parts) (d s : SettingParts) → owner ≡ k.principal → d ≡ s → ◌≡◌ {A = QueryParts} (record { owner = owner; key = d.key; principal = d.principal }) (query_of k s.key s.principal)
+query_is k owner d s is same = ap (λ (p : Parts). record { owner = p; key = d.key; principal = d.principal }) is ∙ ap (λ (t : SettingParts). query_of k t.key t.principal) same
 
 -- with the credentials that were marked it is an image again
-pub marked_image : (h : Layout) (image front cells new : List ℕ) (q : QueryParts) (s : EntryParts) → IsFront h image front → cells ≡ drop h.places.first image → q ≡ query_of (cache_of h image) s.key s.principal → new ≡ with_marks h.version q cells
+pub marked_image : (h : Layout) (image front cells new : List ℕ) (q : QueryParts) (s : SettingParts) → IsFront h image front → cells ≡ drop h.places.first image → q ≡ query_of (cache_of h image) s.key s.principal → new ≡ with_marks h.version q cells
     → front ++ new ≡ image_of (without_matches (cache_of h image) s.key s.principal)
 marked_image h image front cells new q s f is_cells is_q marked =
     let k = cache_of h image in

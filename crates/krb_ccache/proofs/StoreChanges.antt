@@ -1,19 +1,21 @@
 -- An addition to a cache, and a removal from it, change one cell of the store that it is.
 use Rattle.std.proofs.Common.{◌≡◌, ℕ, ◌<◌, Bool, true, false, List, [], ◌∷◌, ◌++◌, length, map, Option, Some, None, inr, refl, sym, ap, ◌∙◌}
-use Rattle.std.specs.Prelude.{is_some}
+use Rattle.std.specs.Prelude.{is_some, option_map, IsSome}
 use Rattle.std.specs.List.{AllByRecursion}
 use Rattle.std.proofs.lemmas.List.{map-append}
 use Rattle.krb_walk.specs.declared.fault.FaultKind.{FaultKind}
-use Rattle.krb_walk.specs.Store.{Cell, end_of, fault_from, fault_of, live_bytes}
+use Rattle.krb_walk.specs.Store.{Cell, end_of, fault_from, fault_of, is_place_from, live_bytes, IsPlace}
 use Rattle.krb_walk.specs.Changes.{Puts, Cuts}
 use Rattle.krb_walk.proofs.Stops.{bytes_from}
-use Rattle.krb_walk.proofs.Splits.{bytes_here}
+use Rattle.krb_walk.proofs.Splits.{bytes_here, split_is_place}
+use Rattle.krb_wire.proofs.Fields.{is_some_has}
 use Rattle.krb_ccache.specs.declared.version.Version.{Version}
 use Rattle.krb_ccache.specs.Credential.{CredParts, credential, is_marked}
 use Rattle.krb_ccache.specs.Store.{CacheState, live_by, store_cell, store_of, fault_kind, first_place, credential_at_place}
 use Rattle.krb_ccache.specs.Changes.{add_mark, add_mark_at, with_mark, with_last}
 use Rattle.krb_ccache.proofs.CredentialField.{credential_field}
 use Rattle.krb_ccache.proofs.MarkLemmas.{stands, marked_one, marked_len}
+use Rattle.krb_ccache.proofs.Splits.{live_is}
 
 pub whole_of : (place : ℕ) (kind : Option FaultKind) → is_some (fault_from place kind) ≡ false → kind ≡ None
 whole_of place None h = refl
@@ -66,6 +68,27 @@ mark_gone k p c there =
     ∙ ap (bytes_from (first_place k) (map seen s.before ++ record { width = length (credential v (add_mark c)); live = None } ∷ map seen s.after)) s.place
     ∙ bytes_here (first_place k) (length (credential v (add_mark c))) None (map seen s.before) (map seen s.after) (cells_wide v s.before)
 
+-- where a credential was marked is still a place
+pub mark_place : (k : CacheState) (p : ℕ) → IsSome (credential_at_place k p) → IsPlace (store_of (with_mark k p)) p
+mark_place k p live =
+    let t = is_some_has (credential_at_place k p) live in
+    let v = k.version in
+    let seen = store_cell v in
+    let s = stands v (first_place k) p k.contents.cells t.0 t.1 in
+    let cells : map seen (with_mark k p).contents.cells ≡ map seen s.before ++ seen (add_mark t.0) ∷ map seen s.after =
+    ap (λ cs. map seen (add_mark_at v (first_place k) p cs)) s.parts ∙ ap (map seen) (marked_one v (first_place k) p s.before s.after t.0 s.place) ∙ map-append seen s.before (add_mark t.0 ∷ s.after) in
+    ap (λ (cs : List Cell). is_place_from (first_place k) cs p) cells
+    ∙ ap (is_place_from (first_place k) (map seen s.before ++ seen (add_mark t.0) ∷ map seen s.after)) s.place
+    ∙ split_is_place (first_place k) (map seen s.before) (seen (add_mark t.0) ∷ map seen s.after)
+
+there_by : (v : Version) (o : Option CredParts) → is_some (option_map (credential v) o) ≡ true → (c : CredParts) × (o ≡ Some c)
+there_by v (Some c) h = (c, refl)
+there_by v None h = absurd cc
+
+-- a credential stands where live bytes do
+pub live_there : (k : CacheState) (p : ℕ) → is_some (live_bytes (store_of k) p) ≡ true → (c : CredParts) × (credential_at_place k p ≡ Some c)
+live_there k p h = there_by k.version (credential_at_place k p) (sym (ap is_some (live_is k.version (first_place k) p k.contents.cells)) ∙ h)
+
 -- ---- additions
 
 pub last_puts : (k : CacheState) (c : CredParts) → is_some (fault_of (store_of k)) ≡ false → is_marked c ≡ false → Puts (store_of k) (store_of (with_last k c)) (end_of (store_of k))
@@ -84,8 +107,3 @@ last_puts k c whole live =
         fault = refl;
       });
     }
-
--- a credential that was found
-pub there : (found read : Option CredParts) → found ≡ read → is_some found ≡ true → (c : CredParts) × (read ≡ Some c)
-there (Some c) read e h = (c, sym e)
-there None read e h = absurd cc

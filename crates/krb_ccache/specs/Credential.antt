@@ -1,5 +1,5 @@
 -- Credentials: what they are, how they are spelled, how they are read (MIT krb5, "Credential cache file format", section "Credential format").
-use Rattle.std.specs.Prelude.{◌≡◌, ℕ, ◌<◌, ◌^◌, ◌==◌, Bool, ◌&&◌, List, [], ◌∷◌, ◌++◌, length, map, Option, Some, Vec}
+use Rattle.std.specs.Prelude.{option_map, ◌≡◌, ℕ, ◌<◌, ◌^◌, ◌==◌, Bool, ◌&&◌, List, [], ◌∷◌, ◌++◌, length, map, Option, Some, Vec}
 use Rattle.std.specs.Borrow.{Bor}
 use Rattle.std.specs.Vec.{vec_items}
 use Rattle.std.specs.List.{flat_map, AllByRecursion}
@@ -213,3 +213,7 @@ middle_text c = key V4 c.key ++ (times c.times ++ ((c.is_skey ∷ []) ++ number3
 -- its lists and tickets
 abbrev pub lists_text : CredParts → List ℕ
 lists_text c = typed_list c.addresses ++ (typed_list c.authdata ++ (data32 Big c.ticket ++ data32 Big c.second_ticket))
+
+-- the credential that the bytes begin with
+abbrev pub credential_in : Version → List ℕ → Option CredParts
+credential_in v bytes = option_map (λ x. x.0) (credential_at v bytes)

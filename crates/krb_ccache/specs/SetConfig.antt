@@ -4,12 +4,14 @@ use Rattle.std.specs.List.{splice}
 use Rattle.krb_wire.specs.declared.format.Order.TheVariants.{Big}
 use Rattle.krb_wire.specs.Spelling.{Parts, data32}
 use Rattle.krb_walk.specs.Contents.{contents, spelling}
+use Rattle.krb_walk.specs.declared.event.Event.{Event}
+use Rattle.krb_walk.specs.declared.event.Event.TheVariants.{Put, Cut}
 use Rattle.krb_walk.specs.declared.refusal.Code.{Code}
 use Rattle.krb_ccache.specs.declared.version.Version.{Version}
 use Rattle.krb_ccache.specs.Credential.{CredParts, number32, credential, credential_at, plain_key}
 use Rattle.krb_ccache.specs.Store.{CacheState, PlacedCredential, credentials_format, placed_credentials}
 use Rattle.krb_ccache.specs.Config.{QueryParts, is_match, query_of, config_of}
-use Rattle.krb_ccache.specs.Changes.{add_mark, append_result, put_result}
+use Rattle.krb_ccache.specs.Changes.{add_mark, append_result, put_result, is_refused}
 
 -- the component of a principal's text, if there is one
 abbrev pub text_component : Option (List ℕ) → List (List ℕ)
@@ -39,6 +41,16 @@ config_entry owner key text value = record {
   second_ticket = [];
 }
 
+-- a value, and what it is held under
+pub record SettingParts : Type 0 where
+  pub key : List ℕ
+  pub principal : Option (List ℕ)
+  pub value : List ℕ
+
+-- the credential of an entry
+abbrev pub entry_of : Parts → SettingParts → CredParts
+entry_of owner s = config_entry owner s.key s.principal s.value
+
 -- a match with the removed mark, and any other credential as it is
 abbrev pub mark_match : QueryParts → CredParts → CredParts
 mark_match q c = if is_match q c then add_mark c else c
@@ -55,6 +67,15 @@ set_config_result k key text value = put_result (without_matches k key text) (co
 abbrev pub matches_of : CacheState → List ℕ → Option (List ℕ) → List PlacedCredential
 matches_of k key text = filter (λ x. is_match (query_of k key text) x.1) (placed_credentials k)
 
+-- the places of those that a value takes the place of, in file order
+abbrev pub match_places : CacheState → SettingParts → List ℕ
+match_places k s = map (λ x. x.0) (matches_of k s.key s.principal)
+
+-- what setting a value asks of a session: the addition of its entry, and then, where that is not refused, the removal of each match that stood there before
+abbrev pub setting_events : CacheState → SettingParts → List (Event CredParts)
+setting_events k s =
+    Put (entry_of k.principal s) ∷ (if is_refused (put_result k (entry_of k.principal s)) then [] else map Cut (match_places k s))
+
 -- exactly one live entry matches, the one of a value at a place, so that value is the cache's
 pub record HoldsConfig (k : CacheState) (key : List ℕ) (text : Option (List ℕ)) (value : List ℕ) (place : ℕ) : Type 0 where
   pub one : matches_of k key text ≡ (place, config_entry k.principal key text value) ∷ []
@@ -62,18 +83,8 @@ pub record HoldsConfig (k : CacheState) (key : List ℕ) (text : Option (List �
 
 -- ---- for private contracts
 
--- a value, and what it is held under
-pub record EntryParts : Type 0 where
-  pub key : List ℕ
-  pub principal : Option (List ℕ)
-  pub value : List ℕ
-
--- the credential of an entry
-abbrev pub entry_of : Parts → EntryParts → CredParts
-entry_of owner s = config_entry owner s.key s.principal s.value
-
 -- what putting an entry in the place of others gives, in a cache that is whole
-abbrev pub replace_result : CacheState → EntryParts → Result (ℕ × CacheState) Code
+abbrev pub replace_result : CacheState → SettingParts → Result (ℕ × CacheState) Code
 replace_result k s = append_result (without_matches k s.key s.principal) (entry_of k.principal s)
 
 -- what stands after the flags of an entry: no addresses, no authorization data, the value, and no second ticket

@@ -3,6 +3,7 @@
 mod changes;
 mod rewrite;
 mod set_config;
+mod settings;
 mod view;
 
 ghost use Rattle.std.specs.Prelude.{◌≡◌, IsSome, IfOk, IfErr, IfSome, IfNone, Ok, Err, Some, None, option_copied, vec_capacity};
@@ -20,6 +21,7 @@ use crate::credential::view::CredView;
 use crate::credentials::Credentials;
 use crate::offset::Offset;
 use crate::open::{CcOpenRefused, Layout, as_spelling, read_layout};
+use crate::version::Version;
 use krb_walk::{Fault, Stop};
 use krb_wire::{Limits, PrincipalView};
 use std::alloc::Allocator;
@@ -32,10 +34,14 @@ use std::marker::Model;
 pub struct Ccache<A: Allocator> {
     image: Vec<u8, A>,
     layout: Layout,
+    // The place of the last removal, from which the next one looks if it is for a place behind.
+    removed: Option<u32>,
 }
 
 impl<A: Allocator> Model for Ccache<A> {
-    ghost use Rattle.std.specs.Prelude.{vec_capacity};
+    ghost use Rattle.std.specs.Prelude.{IfSome, vec_capacity};
+    ghost use Rattle.krb_walk.specs.Store.{IsPlace};
+    ghost use Rattle.krb_ccache.specs.Store.{store_of};
     ghost use Rattle.krb_ccache.specs.Open.{InMemory, IsImage, cache_of};
 
     ghost Value = { InMemory };
@@ -45,7 +51,8 @@ impl<A: Allocator> Model for Ccache<A> {
       room = vec_capacity k.image;
     } };
 
-    ghost invariant = { λ k. IsImage k.layout k.image.items };
+    ghost invariant = { λ k. IsImage k.layout k.image.items
+        × IfSome k.removed (IsPlace (store_of (cache_of k.layout k.image.items))) };
 }
 
 impl<A: Allocator> Ccache<A> {
@@ -62,7 +69,11 @@ impl<A: Allocator> Ccache<A> {
         match read_layout(limits.image(), &image) {
             Ok(layout) => {
                 let _ = as_spelling(layout, &image);
-                Ok(Ccache { image, layout })
+                Ok(Ccache {
+                    image,
+                    layout,
+                    removed: None,
+                })
             }
             Err(why) => Err(CcOpenRefused { why, image }),
         }
@@ -95,8 +106,15 @@ impl<A: Allocator> Ccache<A> {
         ensures room { vec_capacity result ≡ self.room }
     {
         let _ = as_spelling(self.layout, &self.image);
-        let Ccache { image, layout: _ } = self;
+        let Ccache { image, .. } = self;
         image
+    }
+
+    /// The version of its format.
+    pub fn version(&self) -> Version
+        ensures { result ≡ self.now.state.version }
+    {
+        self.layout.version
     }
 
     /// Whose cache it is.

@@ -1,9 +1,9 @@
 //! Configuration entries: credentials that hold a value under a key.
 
-pub(crate) mod entry;
 pub(crate) mod query;
 mod removal;
 pub(crate) mod replacement;
+pub(crate) mod setting;
 
 ghost use Rattle.std.specs.Prelude.{◌≡◌, is_some, option_map};
 ghost use Rattle.krb_ccache.specs.Config.{config_name, is_config, config_parts};

@@ -1,6 +1,6 @@
 //! Laws of the definitions that the contracts cite.
 
-ghost use Rattle.krb_ccache.specs.Laws.{IsAlwaysSpelled, IsLongest, IsOnlyOne, IsOpenedAgain, IsAlwaysReadBack, HasOwnSpelling, IsKeptByRewrites};
+ghost use Rattle.krb_ccache.specs.Laws.{IsAlwaysSpelled, IsLongest, IsOnlyOne, IsOpenedAgain, IsAlwaysReadBack, HasOwnSpelling, IsKeptByRewrites, IsSetByEvents};
 
 /// The credentials of a cache and what follows them are one list and one end, and no longer list of credentials
 /// stands at its front.
@@ -24,4 +24,10 @@ pub fn credentials_are_read_back()
 /// Each rewrite keeps the live credentials, in order: also those in a run of a session, whose store is a cache.
 pub fn rewrites_keep_credentials()
     ensures { IsKeptByRewrites }
+{}
+
+/// A value is set by events of a session too, which walks see one by one: the addition of its entry, and then the
+/// removal of each entry that it takes the place of. They leave the cache that `set_config` makes of it.
+pub fn settings_are_events()
+    ensures { IsSetByEvents }
 {}

@@ -19,14 +19,16 @@ mod preamble;
 mod version;
 
 pub use ccache::Ccache;
+pub use config::setting::Setting;
 pub use config::{ConfigName, config_name, is_config};
 pub use credential::Cred;
 pub use credential::times::Times;
-pub use credential::view::CredView;
+pub use credential::view::{CredView, read_credential};
 pub use credentials::Credentials;
 pub use edit::{EditRefused, edit_cache};
 pub use laws::{
     caches_are_opened_again, credentials_are_read_back, one_reading, rewrites_keep_credentials,
+    settings_are_events,
 };
 pub use offset::Offset;
 pub use open::{CcOpenFault, CcOpenRefused};

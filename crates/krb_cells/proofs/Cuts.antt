@@ -108,7 +108,7 @@ from_split at p before after fault place sound =
     record {
       first = refl;
       stop = sym (ap (stop_of whole) next ∙ stop_by at p (before ++ after) after fault (next_from p after p) end);
-      bytes = sym (bytes_ahead at p before after sound (omega (arith, place)) ∙ ap (λ (n : ℕ). bytes_from n after p) (sym place));
+      bytes = λ q ahead. sym (bytes_ahead at q before after sound (omega (arith, place, ahead)) ∙ ap (λ (n : ℕ). bytes_from n after q) (sym place));
     }
 
 pub is_from : (cells : List ℕ → List Cell) (place : ℕ) (bytes : List ℕ) (fault : Option FaultKind) (s : Store) (p : ℕ) → HoldsCells cells place bytes

@@ -22,8 +22,8 @@ abbrev pub GivesCell : Store → Option (ℕ × CellView) → Store → Type 0
 GivesCell old None new = (old.cells ≡ []) × (new ≡ old)
 GivesCell old (Some x) new = BeginsWith old x.0 (cell_of x.1) new
 
--- the cells from a place on: what is asked of that place is asked of all
+-- the cells from a place on: what stands at that place or after it is asked of them as of all
 pub record IsFrom (all : Store) (place : ℕ) (rest : Store) : Type 0 where
   pub first : rest.first ≡ place
   pub stop : stop_at rest place ≡ stop_at all place
-  pub bytes : live_bytes rest place ≡ live_bytes all place
+  pub bytes : (p : ℕ) → place ≤ p → live_bytes rest p ≡ live_bytes all p

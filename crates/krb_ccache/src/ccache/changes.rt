@@ -1,6 +1,6 @@
 //! Caches that are made, added to and removed from, each in place.
 
-ghost use Rattle.std.specs.Prelude.{◌≡◌, [], true, None, Some, IsSome, IfOk, IfErr, OnOk, Ok};
+ghost use Rattle.std.specs.Prelude.{◌≡◌, [], true, None, Some, IsSome, is_some, IfOk, IfErr, OnOk, Ok};
 ghost use Rattle.krb_walk.specs.Rules.{PutGives, CutGives};
 ghost use Rattle.krb_walk.specs.Memory.{HadMemory};
 ghost use Rattle.krb_walk.specs.Changes.{Puts, Cuts};
@@ -52,7 +52,11 @@ impl<A: Allocator> Ccache<A> {
                 end: len,
             },
         };
-        Ok(Ccache { image, layout })
+        Ok(Ccache {
+            image,
+            layout,
+            removed: None,
+        })
     }
 
     // Whether it refuses additions and removals.
@@ -72,6 +76,19 @@ impl<A: Allocator> Ccache<A> {
         ensures room { self.new.room ≡ self.old.room }
     {
         mark_in_image(self.layout, &mut self.image, place as usize);
+        self.removed = Some(place);
+    }
+
+    // Whether a live credential stands at a place. It looks from the last removal on where it can, so that
+    // removals in file order take one pass.
+    fn is_live(&self, place: u32) -> bool
+        ensures { result ≡ is_some (live_bytes (store_of self.now.state) place) }
+    {
+        let cells = self.view().cells();
+        match self.removed {
+            Some(from) if from <= place => cells.from(from).find_live(place).is_some(),
+            _ => cells.find_live(place).is_some(),
+        }
     }
 
     /// Marks the credential at a place as removed: endtime 0 and the greatest authtime are written, and no other
@@ -90,7 +107,7 @@ impl<A: Allocator> Ccache<A> {
         if self.fault().is_some() {
             return Err(Code::Damaged);
         }
-        if self.cred_at(place).is_none() {
+        if !self.is_live(place) {
             return Err(Code::NotLive);
         }
         self.mark(place);
@@ -112,6 +129,7 @@ impl<A: Allocator> Ccache<A> {
             return Err(Refusal::Code(Code::Full));
         };
         self.layout = append_credential(&mut self.image, self.layout, cred, len)?;
+        self.removed = None;
         Ok(place)
     }
 

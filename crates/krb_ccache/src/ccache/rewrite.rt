@@ -80,7 +80,11 @@ impl<A: Allocator + Copy> Ccache<A> {
                 end: len,
             },
         };
-        Ok(Ccache { image, layout })
+        Ok(Ccache {
+            image,
+            layout,
+            removed: None,
+        })
     }
 
     /// Writes the live credentials anew, in version 4 and in order, after a header that has the time offset alone,

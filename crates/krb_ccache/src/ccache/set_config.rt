@@ -10,14 +10,14 @@ ghost use Rattle.krb_ccache.specs.SetConfig.{config_entry, set_config_result, en
 
 use super::Ccache;
 use crate::cells::bytes_fit;
-use crate::config::entry::ConfigEntry;
 use crate::config::replacement::replace_entries;
+use crate::config::setting::Setting;
 use krb_walk::{Code, Refusal};
 use std::alloc::Allocator;
 
 impl<A: Allocator + Copy> Ccache<A> {
     // Puts an entry in the place of all others of its name, in a cache that is whole.
-    fn replace(&mut self, entry: &ConfigEntry<'_>) -> Result<u32, Refusal>
+    fn replace(&mut self, entry: &Setting<'_>) -> Result<u32, Refusal>
         requires whole { (self.old.state).contents.end ≡ [] }
         requires version { self.old.state.version ≡ V4 }
         ensures gives { PutGives (replace_result self.old.state entry.now) self.old.state result self.new.state }
@@ -31,6 +31,7 @@ impl<A: Allocator + Copy> Ccache<A> {
             return Err(Refusal::Code(Code::Full));
         };
         self.layout = replace_entries(&mut self.image, self.layout, entry, len)?;
+        self.removed = None;
         Ok(place)
     }
 
@@ -60,7 +61,7 @@ impl<A: Allocator + Copy> Ccache<A> {
         if self.fault().is_some() {
             return Err(Refusal::Code(Code::Damaged));
         }
-        self.replace(&ConfigEntry {
+        self.replace(&Setting {
             key,
             principal,
             value,

@@ -10,15 +10,15 @@ ghost use Rattle.krb_ccache.specs.SetConfig.{entry_of, without_matches};
 
 use crate::append::grow;
 use crate::cells::bytes_fit;
-use crate::config::entry::ConfigEntry;
 use crate::config::query::Query;
 use crate::config::removal::mark_in_one_pass;
+use crate::config::setting::Setting;
 use crate::open::{Layout, Places};
 use krb_wire::{split_cc_principal, tail};
 use std::alloc::{AllocError, Allocator};
 
 // Marks the entries of an image that have the name of a new one, and writes that into the room after the image.
-fn write_over(layout: Layout, image: &mut [u8], room: &mut [u8], entry: &ConfigEntry<'_>)
+fn write_over(layout: Layout, image: &mut [u8], room: &mut [u8], entry: &Setting<'_>)
     requires kept { IsImage layout image.old }
     requires version { layout.version ≡ V4 }
     requires fits { FitsCredential V4 (entry_of (cache_of layout image.old).principal entry.now) }
@@ -41,12 +41,7 @@ fn write_over(layout: Layout, image: &mut [u8], room: &mut [u8], entry: &ConfigE
 }
 
 // Does so in an image whose room begins at a place.
-fn write_into<A: Allocator>(
-    layout: Layout,
-    image: &mut Vec<u8, A>,
-    end: usize,
-    entry: &ConfigEntry<'_>,
-)
+fn write_into<A: Allocator>(layout: Layout, image: &mut Vec<u8, A>, end: usize, entry: &Setting<'_>)
     requires end { end ≤ vec_len image.old }
     requires kept { IsImage layout (take end image.old.items) }
     requires version { layout.version ≡ V4 }
@@ -64,7 +59,7 @@ fn write_into<A: Allocator>(
 pub fn replace_entries<A: Allocator>(
     image: &mut Vec<u8, A>,
     layout: Layout,
-    entry: &ConfigEntry<'_>,
+    entry: &Setting<'_>,
     len: usize,
 ) -> Result<Layout, AllocError>
     requires kept { IsImage layout image.old.items }

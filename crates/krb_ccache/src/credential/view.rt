@@ -2,7 +2,7 @@
 
 ghost use Rattle.std.specs.Prelude.{◌≡◌, length, option_map, slice_get};
 ghost use Rattle.krb_wire.specs.Reading.{Gives};
-ghost use Rattle.krb_ccache.specs.Credential.{CredParts, credential_at, is_marked, typed_data_of};
+ghost use Rattle.krb_ccache.specs.Credential.{CredParts, credential_at, credential_in, is_marked, typed_data_of};
 
 use crate::credential::key::{KeyView, split_key};
 use crate::credential::times::{Times, split_times};
@@ -73,6 +73,14 @@ pub fn split_credential(version: Version, bytes: &[u8]) -> Option<(CredView<'_>,
         },
         rest,
     ))
+}
+
+/// The credential that the bytes begin with.
+pub fn read_credential(version: Version, bytes: &[u8]) -> Option<CredView<'_>>
+    ensures { result ≡ credential_in version bytes.now }
+{
+    let (credential, _) = split_credential(version, bytes)?;
+    Some(credential)
 }
 
 impl<'a> CredView<'a> {

@@ -5,7 +5,7 @@ use super::{
     CACHE, CONFIG, CONFIG_SERVER, KEY, KRBTGT, KRBTGT_TEXT, OWNER, PA_TYPE, TICKET, TIMES, joined,
     opened,
 };
-use crate::{Ccache, Cred, EditRefused, edit_cache};
+use crate::{Ccache, Cred, EditRefused, Setting, edit_cache};
 use krb_walk::{Event, Refusal, Reply, Session, Stop};
 use krb_wire::Limits;
 use refusing::{Refusing, refuse_each};
@@ -67,6 +67,39 @@ fn set<R: Abort + AllocGlobal>(rt: &R, heap: &Refusing<Global>, n: u64) -> Resul
     Ok(())
 }
 
+// What setting a value adds, and what it removes.
+fn setting() -> Setting<'static> {
+    Setting {
+        key: PA_TYPE,
+        principal: KRBTGT_TEXT,
+        value: b"3",
+    }
+}
+
+fn setting_entry<R: Abort + AllocGlobal>(
+    rt: &R,
+    heap: &Refusing<Global>,
+    n: u64,
+) -> Result<(), Fail> {
+    let cache = exact(rt.alloc(), rt.alloc())?;
+    heap.refuse(n);
+    let entry = cache.setting_entry(heap, &setting());
+    assert!(rt; entry.is_err() == heap.refused());
+    Ok(())
+}
+
+fn setting_places<R: Abort + AllocGlobal>(
+    rt: &R,
+    heap: &Refusing<Global>,
+    n: u64,
+) -> Result<(), Fail> {
+    let cache = exact(rt.alloc(), rt.alloc())?;
+    heap.refuse(n);
+    let places = cache.setting_places(heap, &setting());
+    assert!(rt; places.is_err() == heap.refused());
+    Ok(())
+}
+
 // The image after events, and whether memory ran out.
 fn edited<A: Allocator + Copy>(
     alloc: A,
@@ -124,6 +157,11 @@ fn each_allocation_fails_in_turn(rt: HostRuntime) -> Result<(), Fail> {
     assert!(rt; refuse_each(heap, 100, |heap, n| copy(&rt, heap, n))? >= 7);
     assert_eq!(rt; refuse_each(heap, 100, |heap, n| store(&rt, heap, n))?, 1);
     assert_eq!(rt; refuse_each(heap, 100, |heap, n| set(&rt, heap, n))?, 1);
+    assert!(rt; refuse_each(heap, 100, |heap, n| setting_entry(&rt, heap, n))? >= 7);
+    assert_eq!(rt;
+        refuse_each(heap, 100, |heap, n| setting_places(&rt, heap, n))?,
+        1
+    );
     assert!(rt; refuse_each(heap, 100, |heap, n| run(&rt, heap, n))? >= 3);
     Ok(())
 }

@@ -4,6 +4,7 @@ use super::{
     CACHE, CONFIG, CONFIG_SERVER, HEADER, KEY, KRBTGT, KRBTGT_TEXT, OWNER, PA_TYPE, REMOVED,
     TICKET, TIMES, VERSION_3, joined, opened, opened_within,
 };
+use crate::{Setting, Version};
 use krb_walk::{Code, Refusal};
 use std::test::Fail;
 
@@ -37,6 +38,27 @@ fn a_value_takes_the_place_of_another(rt: HostRuntime) -> Result<(), Fail> {
         image.extend_from_slice(&joined(rt.alloc(), credential)?)?;
     }
     assert!(rt; cache.end() == 528 && cache.image() == image.as_slice());
+    Ok(())
+}
+
+// The same by an addition and a removal.
+#[test]
+fn a_value_is_set_by_changes(rt: HostRuntime) -> Result<(), Fail> {
+    let setting = Setting {
+        key: PA_TYPE,
+        principal: KRBTGT_TEXT,
+        value: b"3",
+    };
+    let mut cache = opened(joined(rt.alloc(), &CACHE)?)?;
+    let places = cache.setting_places(rt.alloc(), &setting).ok();
+    let places = places.ok_or("out of memory")?;
+    let entry = cache.setting_entry(rt.alloc(), &setting).ok();
+    let entry = entry.ok_or("out of memory")?;
+    assert!(rt; places.as_slice() == [148].as_slice());
+    assert!(rt; cache.store(&entry) == Ok(392) && cache.remove_at(148) == Ok(()));
+    let mut set = opened(joined(rt.alloc(), &CACHE)?)?;
+    assert!(rt; set.set_config(PA_TYPE, KRBTGT_TEXT, b"3") == Ok(392));
+    assert!(rt; cache.image() == set.image() && cache.version() == Version::V4);
     Ok(())
 }
 

@@ -15,8 +15,8 @@ returns-in_default-clause-gives g c =
     let k = c.args.self.now.state in
     let fits : IsBytes i.image.items = rw c.deref.ensures.value at c.bytes_fit.ensures in
     let same : cache_of i.layout i.image.items ≡ k = ap (λ (m : InMemory). m.state) c.self.view_is in
-    let a = image_appendable i.layout i.image.items k fits c.self.invariant same c.requires.whole c.requires.version in
-    let len = image_end i.layout i.image.items k fits c.self.invariant same c.requires.whole in
+    let a = image_appendable i.layout i.image.items k fits c.self.invariant.0 same c.requires.whole c.requires.version in
+    let len = image_end i.layout i.image.items k fits c.self.invariant.0 same c.requires.whole in
     let ok = i.image.ok.0 in
     let none = c.in_default.ensures.none in
     (append_full i.layout k c.args.cred.now a (omega (arith, ok, none, c.len.ensures, len)), refl)
@@ -28,8 +28,8 @@ returns-clause-gives g c =
     let x = c.args.cred.now in
     let fits : IsBytes i.image.items = rw c.deref.ensures.value at c.bytes_fit.ensures in
     let same : cache_of i.layout i.image.items ≡ k = ap (λ (m : InMemory). m.state) c.self.view_is in
-    let short : i.layout.places.end + length (credential V4 x) ≤ i.layout.limit = let ok = i.image.ok.0 in let len = c.in-Some.ensures.some in let within = c.in-Some.ensures.within in let all = c.self.invariant.within in omega (arith, ok, len, within, all, c.len.ensures, image_end i.layout i.image.items k fits c.self.invariant same c.requires.whole) in
-    let a = image_appendable i.layout i.image.items k fits c.self.invariant same c.requires.whole c.requires.version in
+    let short : i.layout.places.end + length (credential V4 x) ≤ i.layout.limit = let ok = i.image.ok.0 in let len = c.in-Some.ensures.some in let within = c.in-Some.ensures.within in let all = c.self.invariant.0.within in omega (arith, ok, len, within, all, c.len.ensures, image_end i.layout i.image.items k fits c.self.invariant.0 same c.requires.whole) in
+    let a = image_appendable i.layout i.image.items k fits c.self.invariant.0 same c.requires.whole c.requires.version in
     append_fits i.layout k x a short
     ∙ ap (λ (n : ℕ). Ok (n, with_last k x)) (sym c.end-place.ensures)
     ∙ ap (λ (s : CacheState). Ok (c.end-place.result, s)) (ap (λ (s : CacheState). with_last s x) (sym same) ∙ sym c.in_ok-self-inside.ensures.ok.state)
@@ -41,8 +41,8 @@ returns-in_err-self-inside-clause-memory g c = λ refused.
     let x = c.args.cred.now in
     let fits : IsBytes i.image.items = rw c.deref.ensures.value at c.bytes_fit.ensures in
     let same : cache_of i.layout i.image.items ≡ k = ap (λ (m : InMemory). m.state) c.self.view_is in
-    let short : i.layout.places.end + length (credential V4 x) ≤ i.layout.limit = let ok = i.image.ok.0 in let len = c.in-Some.ensures.some in let within = c.in-Some.ensures.within in let all = c.self.invariant.within in omega (arith, ok, len, within, all, c.len.ensures, image_end i.layout i.image.items k fits c.self.invariant same c.requires.whole) in
-    let a = image_appendable i.layout i.image.items k fits c.self.invariant same c.requires.whole c.requires.version in
+    let short : i.layout.places.end + length (credential V4 x) ≤ i.layout.limit = let ok = i.image.ok.0 in let len = c.in-Some.ensures.some in let within = c.in-Some.ensures.within in let all = c.self.invariant.0.within in omega (arith, ok, len, within, all, c.len.ensures, image_end i.layout i.image.items k fits c.self.invariant.0 same c.requires.whole) in
+    let a = image_appendable i.layout i.image.items k fits c.self.invariant.0 same c.requires.whole c.requires.version in
     let no = ap is_refused (append_fits i.layout k x a short) in
     let never = sym no ∙ refused in
     absurd cc
@@ -52,7 +52,7 @@ returns-in_err-self-inside-clause-room g c = λ room.
     let i = c.self.inside in
     let fits : IsBytes i.image.items = rw c.deref.ensures.value at c.bytes_fit.ensures in
     let same : cache_of i.layout i.image.items ≡ c.args.self.now.state = ap (λ (m : InMemory). m.state) c.self.view_is in
-    let spells = ap length ((image_parts i.layout i.image.items fits c.self.invariant).spells ∙ ap image_of same) in
+    let spells = ap length ((image_parts i.layout i.image.items fits c.self.invariant.0).spells ∙ ap image_of same) in
     let known = ap (λ (m : InMemory). m.room) c.self.view_is in
     let ok = i.image.ok.0 in
     let len = c.in-Some.ensures.some in

@@ -11,9 +11,11 @@ invariant_of-result g c =
     let p = g.N.Name.parts c.args.default.now in
     let fits : IsBytes c.write_preamble.new.image.items = rw c.deref.ensures.value at c.bytes_fit.ensures in
     let len = c.in-Some.ensures.some in
-    let within = c.in-Some.ensures.within in
-    (empty_held p c.args.offset c.image-limit.result c.write_preamble.new.image.items (2 + c.header_len.result) c.in-Some.len c.in-Some.ensures.fits fits c.write_preamble.ensures
-    (omega (arith, len, within)) c.image-limit.ensures.most (ap (λ (n : ℕ). 2 + n) c.header_len.ensures) len).kept
+    let within = c.in-Some.ensures.within in (
+      (empty_held p c.args.offset c.image-limit.result c.write_preamble.new.image.items (2 + c.header_len.result) c.in-Some.len c.in-Some.ensures.fits fits c.write_preamble.ensures
+          (omega (arith, len, within)) c.image-limit.ensures.most (ap (λ (n : ℕ). 2 + n) c.header_len.ensures) len).kept,
+      tt,
+    )
 
 pub returns-clause-ok : goal.returns-clause-ok
 returns-clause-ok g c =

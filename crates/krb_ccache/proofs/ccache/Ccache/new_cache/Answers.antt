@@ -14,16 +14,18 @@ pub invariant_of-result : goal.invariant_of-result
 invariant_of-result g c =
     let i = c.self.inside in
     let fits : IsBytes i.image.items = rw c.deref.ensures.value at c.bytes_fit.ensures in
-    let new_fits : IsBytes c.in_ok-image.image.items = rw c.deref-2.ensures.value at c.bytes_fit-2.ensures in
-    (new_image_held i.layout i.image.items c.in_ok-image.image.items c.args.self.now.state c.header_len.result c.in-Some.first c.in-Some.len fits c.self.invariant (ap (λ (m : InMemory). m.state) c.self.view_is) new_fits c.in_ok-image.ensures
-    (c.header_len.ensures ∙ ap (λ o. length (header V4 (new_header o))) c.offset.ensures) c.in-Some.ensures.first c.in-Some.ensures.len c.in-Some.ensures.within).kept
+    let new_fits : IsBytes c.in_ok-image.image.items = rw c.deref-2.ensures.value at c.bytes_fit-2.ensures in (
+      (new_image_held i.layout i.image.items c.in_ok-image.image.items c.args.self.now.state c.header_len.result c.in-Some.first c.in-Some.len fits c.self.invariant.0 (ap (λ (m : InMemory). m.state) c.self.view_is) new_fits c.in_ok-image.ensures
+          (c.header_len.ensures ∙ ap (λ o. length (header V4 (new_header o))) c.offset.ensures) c.in-Some.ensures.first c.in-Some.ensures.len c.in-Some.ensures.within).kept,
+      tt,
+    )
 
 pub returns-clause-ok : goal.returns-clause-ok
 returns-clause-ok g c =
     let i = c.self.inside in
     let fits : IsBytes i.image.items = rw c.deref.ensures.value at c.bytes_fit.ensures in
     let new_fits : IsBytes c.in_ok-image.image.items = rw c.deref-2.ensures.value at c.bytes_fit-2.ensures in
-    (new_image_held i.layout i.image.items c.in_ok-image.image.items c.args.self.now.state c.header_len.result c.in-Some.first c.in-Some.len fits c.self.invariant (ap (λ (m : InMemory). m.state) c.self.view_is) new_fits c.in_ok-image.ensures
+    (new_image_held i.layout i.image.items c.in_ok-image.image.items c.args.self.now.state c.header_len.result c.in-Some.first c.in-Some.len fits c.self.invariant.0 (ap (λ (m : InMemory). m.state) c.self.view_is) new_fits c.in_ok-image.ensures
     (c.header_len.ensures ∙ ap (λ o. length (header V4 (new_header o))) c.offset.ensures) c.in-Some.ensures.first c.in-Some.ensures.len c.in-Some.ensures.within).state
 
 pub returns-clause-gives : goal.returns-clause-gives

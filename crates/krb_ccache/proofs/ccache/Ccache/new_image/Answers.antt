@@ -9,7 +9,7 @@ pub build_image-requires-clause-fits : goal.build_image-requires-clause-fits
 build_image-requires-clause-fits g c =
     let i = c.self.inside in
     let fits : IsBytes i.image.items = rw c.deref.ensures.value at c.bytes_fit.ensures in
-    subst FitsCc (sym c.default_principal.ensures) (readable_by i.layout i.image.items c.args.self.now.state fits c.self.invariant (ap (λ (m : InMemory). m.state) c.self.view_is)).principal
+    subst FitsCc (sym c.default_principal.ensures) (readable_by i.layout i.image.items c.args.self.now.state fits c.self.invariant.0 (ap (λ (m : InMemory). m.state) c.self.view_is)).principal
 
 pub build_image-requires-clause-len : goal.build_image-requires-clause-len
 build_image-requires-clause-len g c =

@@ -21,8 +21,8 @@ returns-in_default-clause-gives g c =
     let fits : IsBytes i.image.items = rw c.deref.ensures.value at c.bytes_fit.ensures in
     let same : cache_of i.layout i.image.items ≡ k = ap (λ (m : InMemory). m.state) c.self.view_is in
     let text = ap (λ (p : Parts). length (credential V4 (entry_of p s))) c.default_principal.ensures in
-    let a = image_appendable i.layout i.image.items k fits c.self.invariant same c.requires.whole c.requires.version in
-    let len = image_end i.layout i.image.items k fits c.self.invariant same c.requires.whole in
+    let a = image_appendable i.layout i.image.items k fits c.self.invariant.0 same c.requires.whole c.requires.version in
+    let len = image_end i.layout i.image.items k fits c.self.invariant.0 same c.requires.whole in
     let ok = i.image.ok.0 in
     let none = c.in_default.ensures.none in
     (append_full i.layout (without_matches k s.key s.principal) (entry_of k.principal s) (without_appendable i.layout k s.key s.principal a) (omega (arith, ok, none, c.len.ensures, text, len)), refl)
@@ -36,8 +36,8 @@ returns-clause-gives g c =
     let fits : IsBytes i.image.items = rw c.deref.ensures.value at c.bytes_fit.ensures in
     let same : cache_of i.layout i.image.items ≡ k = ap (λ (m : InMemory). m.state) c.self.view_is in
     let text = ap (λ (p : Parts). length (credential V4 (entry_of p s))) c.default_principal.ensures in
-    let short : i.layout.places.end + length (credential V4 x) ≤ i.layout.limit = let ok = i.image.ok.0 in let len = c.in-Some.ensures.some in let within = c.in-Some.ensures.within in let all = c.self.invariant.within in omega (arith, ok, len, within, all, c.len.ensures, text, image_end i.layout i.image.items k fits c.self.invariant same c.requires.whole) in
-    let a = image_appendable i.layout i.image.items k fits c.self.invariant same c.requires.whole c.requires.version in
+    let short : i.layout.places.end + length (credential V4 x) ≤ i.layout.limit = let ok = i.image.ok.0 in let len = c.in-Some.ensures.some in let within = c.in-Some.ensures.within in let all = c.self.invariant.0.within in omega (arith, ok, len, within, all, c.len.ensures, text, image_end i.layout i.image.items k fits c.self.invariant.0 same c.requires.whole) in
+    let a = image_appendable i.layout i.image.items k fits c.self.invariant.0 same c.requires.whole c.requires.version in
     append_fits i.layout (without_matches k s.key s.principal) x (without_appendable i.layout k s.key s.principal a) short
     ∙ ap (λ (n : ℕ). Ok (n, with_last (without_matches k s.key s.principal) x)) (without_end k s.key s.principal ∙ sym c.end-place.ensures)
     ∙ ap (λ (w : CacheState). Ok (c.end-place.result, w)) (ap (λ (w : CacheState). with_last (without_matches w s.key s.principal) (entry_of w.principal s)) (sym same) ∙ sym c.in_ok-self-inside.ensures.ok.state)
@@ -51,8 +51,8 @@ returns-in_err-self-inside-clause-memory g c = λ refused.
     let fits : IsBytes i.image.items = rw c.deref.ensures.value at c.bytes_fit.ensures in
     let same : cache_of i.layout i.image.items ≡ k = ap (λ (m : InMemory). m.state) c.self.view_is in
     let text = ap (λ (p : Parts). length (credential V4 (entry_of p s))) c.default_principal.ensures in
-    let short : i.layout.places.end + length (credential V4 x) ≤ i.layout.limit = let ok = i.image.ok.0 in let len = c.in-Some.ensures.some in let within = c.in-Some.ensures.within in let all = c.self.invariant.within in omega (arith, ok, len, within, all, c.len.ensures, text, image_end i.layout i.image.items k fits c.self.invariant same c.requires.whole) in
-    let a = image_appendable i.layout i.image.items k fits c.self.invariant same c.requires.whole c.requires.version in
+    let short : i.layout.places.end + length (credential V4 x) ≤ i.layout.limit = let ok = i.image.ok.0 in let len = c.in-Some.ensures.some in let within = c.in-Some.ensures.within in let all = c.self.invariant.0.within in omega (arith, ok, len, within, all, c.len.ensures, text, image_end i.layout i.image.items k fits c.self.invariant.0 same c.requires.whole) in
+    let a = image_appendable i.layout i.image.items k fits c.self.invariant.0 same c.requires.whole c.requires.version in
     let fitting = ap is_refused (append_fits i.layout (without_matches k s.key s.principal) x (without_appendable i.layout k s.key s.principal a) short) in
     let never = sym fitting ∙ refused in
     absurd cc
@@ -64,7 +64,7 @@ returns-in_err-self-inside-clause-room g c = λ room.
     let fits : IsBytes i.image.items = rw c.deref.ensures.value at c.bytes_fit.ensures in
     let same : cache_of i.layout i.image.items ≡ c.args.self.now.state = ap (λ (m : InMemory). m.state) c.self.view_is in
     let text = ap (λ (p : Parts). length (credential V4 (entry_of p s))) c.default_principal.ensures in
-    let spells = ap length ((image_parts i.layout i.image.items fits c.self.invariant).spells ∙ ap image_of same) in
+    let spells = ap length ((image_parts i.layout i.image.items fits c.self.invariant.0).spells ∙ ap image_of same) in
     let known = ap (λ (m : InMemory). m.room) c.self.view_is in
     let ok = i.image.ok.0 in
     let len = c.in-Some.ensures.some in

@@ -5,9 +5,9 @@ use Rattle.krb_wire.specs.declared.format.Order.TheVariants.{Big}
 use Rattle.krb_wire.specs.Spelling.{data32, IsLong}
 use Rattle.krb_ccache.specs.declared.version.Version.TheVariants.{V4}
 use Rattle.krb_ccache.specs.Credential.{FitsCredential}
-use Rattle.krb_ccache.specs.SetConfig.{EntryParts, entry_of, text_component}
+use Rattle.krb_ccache.specs.SetConfig.{SettingParts, entry_of, text_component}
 use Rattle.krb_ccache.proofs.SpellingLemmas.{entry_fits}
-use Rattle.krb_ccache.proofs.config.entry.ConfigEntry.len_within.Goals as goal
+use Rattle.krb_ccache.proofs.config.setting.Setting.len_within.Goals as goal
 
 pub returns-clause-fits : goal.returns-clause-fits
 returns-clause-fits g c =
@@ -17,5 +17,5 @@ returns-clause-fits g c =
     let key : IsLong i.key.now = omega (arith, c.requires, c.in_ok-room.ensures, c.in_ok-room-2.ensures, c.in_ok-room-3.ensures) in
     let text : length (flat_map (data32 Big) (text_component (option_copied i.principal))) < 2 ^ 32 = omega (arith, c.requires, c.in_ok-room.ensures, c.in_ok-room-2.ensures, c.in_ok-room-3.ensures, c.in_ok-room-4.ensures, c.text_len.ensures) in
     let value : IsLong i.value.now = omega (arith, c.requires, c.in_ok-room.ensures, c.in_ok-room-2.ensures, c.in_ok-room-3.ensures, c.in_ok-room-4.ensures, c.in_ok-room-5.ensures) in
-    subst (λ (s : EntryParts). FitsCredential V4 (entry_of owner s)) c.self.view_is
+    subst (λ (s : SettingParts). FitsCredential V4 (entry_of owner s)) c.self.view_is
     (entry_fits owner i.key.now (option_copied i.principal) i.value.now c.in_ok-cc_principal_len.ensures.some name_type key text value)

@@ -1,5 +1,5 @@
 use Rattle.krb_wire.proofs.PenLemmas.{puts_then}
-use Rattle.krb_ccache.proofs.config.entry.ConfigEntry.put_server.Goals as goal
+use Rattle.krb_ccache.proofs.config.setting.Setting.put_server.Goals as goal
 
 pub returns : goal.returns
 returns c =

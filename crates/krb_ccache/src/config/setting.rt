@@ -1,4 +1,4 @@
-//! New configuration entries, as version 4 spells them.
+//! Configuration values to be set, and their entries as version 4 spells them.
 
 ghost use Rattle.std.specs.Prelude.{◌≡◌, ◌≤◌, ◌<◌, ◌^◌, ◌+◌, length, option_copied, IfSome, IfNone};
 ghost use Rattle.std.specs.List.{flat_map, splice, AllByRecursion};
@@ -17,19 +17,20 @@ use std::marker::Model;
 // its server, its empty key, its times and flags, and the lengths of its lists and tickets.
 const FIXED_LEN: usize = 96;
 
-/// A new entry: a value, and what it is held under.
+/// A configuration value to be set for the default principal, and what it is held under: a key, and perhaps a
+/// principal's text.
 #[derive(Drop)]
-pub struct ConfigEntry<'a> {
+pub struct Setting<'a> {
     pub key: &'a [u8],
     pub principal: Option<&'a [u8]>,
     pub value: &'a [u8],
 }
 
-impl<'a> Model for ConfigEntry<'a> {
+impl<'a> Model for Setting<'a> {
     ghost use Rattle.std.specs.Prelude.{option_copied};
-    ghost use Rattle.krb_ccache.specs.SetConfig.{EntryParts};
+    ghost use Rattle.krb_ccache.specs.SetConfig.{SettingParts};
 
-    ghost Value = { EntryParts };
+    ghost Value = { SettingParts };
 
     ghost view = { λ s. record { key = s.key.now; principal = option_copied s.principal; value = s.value.now } };
 }
@@ -68,9 +69,9 @@ fn put_value(value: &[u8], pen: &mut Pen<'_>)
     pen.put_u32(Order::Big, 0);
 }
 
-impl<'a> ConfigEntry<'a> {
+impl<'a> Setting<'a> {
     /// How many bytes its entry is spelled in, if these are not too many.
-    pub fn len_within<N: Name>(&self, owner: &N, most: usize) -> Option<usize>
+    pub(crate) fn len_within<N: Name>(&self, owner: &N, most: usize) -> Option<usize>
         requires { most ≤ 2 ^ 30 }
         ensures some { IfSome result (λ n. n ≡ length (credential V4 (entry_of (N.parts owner.now) self.now))) }
         ensures within { IfSome result (λ n. n ≤ most) }
@@ -132,7 +133,7 @@ impl<'a> ConfigEntry<'a> {
         put_value(self.value, pen);
     }
     /// Writes it as an entry of its owner over the bytes from a place on.
-    pub fn put_over<N: Name>(&self, owner: &N, out: &mut [u8], at: usize)
+    pub(crate) fn put_over<N: Name>(&self, owner: &N, out: &mut [u8], at: usize)
         requires fits { FitsCredential V4 (entry_of (N.parts owner.now) self.now) }
         requires room { at + length (credential V4 (entry_of (N.parts owner.now) self.now)) ≤ length out.old }
         ensures { out.new ≡ splice out.old at (at + length (credential V4 (entry_of (N.parts owner.now) self.now))) (credential V4 (entry_of (N.parts owner.now) self.now)) }
