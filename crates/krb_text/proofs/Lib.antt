@@ -14,3 +14,4 @@ pub mod Digits
 pub mod NameFaults
 pub mod Days
 pub mod Numbering
+pub mod Made

@@ -16,5 +16,7 @@ pub mod CacheListing
 pub mod Slots
 pub mod Found
 pub mod Reply
+pub mod CacheReply
 pub mod Pieces
 pub mod Script
+pub mod CacheScript

@@ -15,29 +15,48 @@ walk_line walk rest = codes "walk " ++ (decimal walk ++ rest)
 abbrev pub number_line : List ℕ → ℕ → List ℕ
 number_line label n = label ++ (decimal n ++ codes "\n")
 
+-- the line of a reply, where the line of a record ends with its tail in the format
+abbrev pub reply_text_by : {F : Type 0} → (F → List ℕ → List ℕ) → F → Said → List ℕ
+reply_text_by tail_of f (Started w next) = walk_line w (number_line (codes " at ") next)
+reply_text_by tail_of f (Gave w place next bytes) =
+    walk_line w (codes " gave " ++ (decimal place ++ (codes " next " ++ (decimal next ++ tail_of f bytes))))
+reply_text_by tail_of f (Ended w next) = walk_line w (number_line (codes " end ") next)
+reply_text_by tail_of f (Faulted w fault) = walk_line w (codes " " ++ fault_text fault)
+reply_text_by tail_of f (Placed place) = number_line (codes "placed ") place
+reply_text_by tail_of f (Gone place) = number_line (codes "gone ") place
+reply_text_by tail_of f (Rewritten end) = number_line (codes "rewritten ") end
+reply_text_by tail_of f (Refused code) = number_line (codes "refused ") (code_number code)
+
+-- the format after a reply, where a rewrite makes it the first one
+abbrev pub format_after_by : {F : Type 0} → F → F → Said → F
+format_after_by rewritten f (Rewritten end) = rewritten
+format_after_by rewritten f said = f
+
+-- the lines of replies in order
+abbrev pub reply_texts_by : {F : Type 0} → (F → List ℕ → List ℕ) → F → F → List Said → List ℕ
+reply_texts_by tail_of rewritten f [] = []
+reply_texts_by tail_of rewritten f (reply ∷ replies) =
+    reply_text_by tail_of f reply ++ reply_texts_by tail_of rewritten (format_after_by rewritten f reply) replies
+
+-- ---- of a keytab
+
 -- the end of the line of a record that holds the entry; where it held none, the line would end there
 abbrev pub given_tail : Option EntryParts → List ℕ
 given_tail None = codes "\n"
 given_tail (Some e) = entry_tail e
 
+-- the end of the line of a record with the bytes
+abbrev pub record_tail : KtFormat → List ℕ → List ℕ
+record_tail f bytes = given_tail (entry_at f bytes)
+
 -- the line of a reply, where a record's bytes are read in the format
 abbrev pub reply_text : KtFormat → Said → List ℕ
-reply_text f (Started w next) = walk_line w (number_line (codes " at ") next)
-reply_text f (Gave w place next bytes) =
-    walk_line w (codes " gave " ++ (decimal place ++ (codes " next " ++ (decimal next ++ given_tail (entry_at f bytes)))))
-reply_text f (Ended w next) = walk_line w (number_line (codes " end ") next)
-reply_text f (Faulted w fault) = walk_line w (codes " " ++ fault_text fault)
-reply_text f (Placed place) = number_line (codes "placed ") place
-reply_text f (Gone place) = number_line (codes "gone ") place
-reply_text f (Rewritten end) = number_line (codes "rewritten ") end
-reply_text f (Refused code) = number_line (codes "refused ") (code_number code)
+reply_text f reply = reply_text_by record_tail f reply
 
 -- the format after a reply: a rewrite makes it version 2
 abbrev pub format_after : KtFormat → Said → KtFormat
-format_after f (Rewritten end) = V2
-format_after f said = f
+format_after f reply = format_after_by V2 f reply
 
 -- the lines of replies in order
 abbrev pub reply_texts : KtFormat → List Said → List ℕ
-reply_texts f [] = []
-reply_texts f (reply ∷ replies) = reply_text f reply ++ reply_texts (format_after f reply) replies
+reply_texts f replies = reply_texts_by record_tail V2 f replies

@@ -1,4 +1,4 @@
--- Scripts: lines that ask for events.
+-- Scripts: lines that ask for events, and perhaps for more.
 use Rattle.std.specs.Prelude.{◌≡◌, ℕ, ◌==◌, List, [], ◌∷◌, codes, Bool, false, not, if◌then◌else◌, filter, bytes_eq, Option, None, Some, ok_or, Result, Ok, Err, IsOk}
 use Rattle.std.specs.List.{filter_map, enumerate_from, join_with_byte}
 use Rattle.std.specs.Result.{result_ok}
@@ -22,16 +22,15 @@ Err fault >>= f = Err fault
 
 -- ---- a line
 
--- the command of a line's first word
+-- the command of a line's first word, of those that every script has
 abbrev pub command_named : List ℕ → Option Command
 command_named word =
     if bytes_eq word (codes "start") then Some command.Start
     else (if bytes_eq word (codes "resume") then Some command.Resume
     else (if bytes_eq word (codes "step") then Some command.Step
-    else (if bytes_eq word (codes "add") then Some command.Add
     else (if bytes_eq word (codes "cut") then Some command.Cut
     else (if bytes_eq word (codes "rewrite") then Some command.Rewrite
-    else None)))))
+    else None))))
 
 -- no words
 abbrev pub no_words : List (List ℕ) → Result (Unit {0}) LineFault
@@ -43,6 +42,25 @@ abbrev pub lone_number : List (List ℕ) → Result ℕ LineFault
 lone_number [] = Err WordCount
 lone_number (word ∷ []) = number_word word
 lone_number (word ∷ other ∷ others) = Err WordCount
+
+-- what is made of a value
+abbrev pub made : {T U : Type 0} → (T → U) → Result T LineFault → Result U LineFault
+made make (Ok x) = Ok (make x)
+made make (Err fault) = Err fault
+
+-- the event of a command and the words after it, over any store
+abbrev pub event_by : {I : Type 0} → Command → List (List ℕ) → Result (Event I) LineFault
+event_by command.Start words = made (λ done. event.Start) (no_words words)
+event_by command.Resume words = made event.Resume (lone_number words)
+event_by command.Step words = made event.Step (lone_number words)
+event_by command.Cut words = made event.Cut (lone_number words)
+event_by command.Rewrite words = made (λ done. event.Rewrite) (no_words words)
+
+-- the event of a line's first word and the words after it, over any store
+abbrev pub common_event : {I : Type 0} → List ℕ → List (List ℕ) → Result (Event I) LineFault
+common_event word words = ok_or (command_named word) UnknownWord >>= λ c. event_by c words
+
+-- ---- a line that asks for an event of a keytab
 
 -- the words of an addition, of which the name is the rest of the line
 pub record Addition : Type 0 where
@@ -79,24 +97,10 @@ entry_of a = do
 abbrev pub entry_in : List (List ℕ) → Result EntryParts LineFault
 entry_in words = ok_or (addition_of words) WordCount >>= entry_of
 
--- the event of a value
-abbrev pub event_with : {T : Type 0} → (T → Event EntryParts) → Result T LineFault → Result (Event EntryParts) LineFault
-event_with make (Ok x) = Ok (make x)
-event_with make (Err fault) = Err fault
-
--- the event of a command and the words after it
-abbrev pub event_by : Command → List (List ℕ) → Result (Event EntryParts) LineFault
-event_by command.Start words = event_with (λ done. event.Start) (no_words words)
-event_by command.Resume words = event_with event.Resume (lone_number words)
-event_by command.Step words = event_with event.Step (lone_number words)
-event_by command.Add words = event_with event.Put (entry_in words)
-event_by command.Cut words = event_with event.Cut (lone_number words)
-event_by command.Rewrite words = event_with (λ done. event.Rewrite) (no_words words)
-
 -- the event of words, or the first fault
 abbrev pub event_of : List (List ℕ) → Result (Event EntryParts) LineFault
 event_of [] = Err UnknownWord
-event_of (word ∷ words) = ok_or (command_named word) UnknownWord >>= λ c. event_by c words
+event_of (word ∷ words) = if bytes_eq word (codes "add") then made event.Put (entry_in words) else common_event word words
 
 -- the event of a line, or its first fault; words are separated by single spaces
 abbrev pub event_in : List ℕ → Result (Event EntryParts) LineFault
@@ -119,37 +123,41 @@ pub record ScriptFault : Type 0 where
   pub kind : LineFault
 
 -- the fault of a line, if it has one
-abbrev pub fault_at : ℕ → Result (Event EntryParts) LineFault → Option ScriptFault
-fault_at n (Ok e) = None
+abbrev pub fault_at : {L : Type 0} → ℕ → Result L LineFault → Option ScriptFault
+fault_at n (Ok x) = None
 fault_at n (Err kind) = Some (record { line = n; kind = kind })
 
--- the faulty lines
-abbrev pub faults_of : List (ℕ × List ℕ) → List ScriptFault
-faults_of lines = filter_map (λ line. fault_at line.0 (event_in line.1)) lines
+-- the faulty lines, where a line is read so
+abbrev pub faults_of : {L : Type 0} → (List ℕ → Result L LineFault) → List (ℕ × List ℕ) → List ScriptFault
+faults_of line_in lines = filter_map (λ line. fault_at line.0 (line_in line.1)) lines
 
--- the events of the others
-abbrev pub events_of : List (ℕ × List ℕ) → List (Event EntryParts)
-events_of lines = filter_map (λ line. result_ok (event_in line.1)) lines
+-- what the others ask for
+abbrev pub asked_of : {L : Type 0} → (List ℕ → Result L LineFault) → List (ℕ × List ℕ) → List L
+asked_of line_in lines = filter_map (λ line. result_ok (line_in line.1)) lines
 
--- the first faulty line, or else the events
-abbrev pub events_or_fault : List ScriptFault → List (Event EntryParts) → Result (List (Event EntryParts)) ScriptFault
-events_or_fault [] events = Ok events
-events_or_fault (fault ∷ others) events = Err fault
+-- the first faulty line, or else what is asked for
+abbrev pub asked_or_fault : {L : Type 0} → List ScriptFault → List L → Result (List L) ScriptFault
+asked_or_fault [] asked = Ok asked
+asked_or_fault (fault ∷ others) asked = Err fault
 
--- the events of some lines that ask for something, in order, or the first that is faulty
-abbrev pub script_of : List (ℕ × List ℕ) → Result (List (Event EntryParts)) ScriptFault
-script_of lines = events_or_fault (faults_of lines) (events_of lines)
+-- what some lines ask for, in order, or the first that is faulty
+abbrev pub script_of : {L : Type 0} → (List ℕ → Result L LineFault) → List (ℕ × List ℕ) → Result (List L) ScriptFault
+script_of line_in lines = asked_or_fault (faults_of line_in lines) (asked_of line_in lines)
 
--- the events of a script in order, or its first faulty line with its first fault; lines are separated by newlines and count from 1
+-- what a script asks for, in order, or its first faulty line with its first fault; lines are separated by newlines and count from 1
+abbrev pub script_by : {L : Type 0} → (List ℕ → Result L LineFault) → List ℕ → Result (List L) ScriptFault
+script_by line_in text = script_of line_in (asked_from 1 (pieces 10 text))
+
+-- the events of a keytab's script
 abbrev pub script : List ℕ → Result (List (Event EntryParts)) ScriptFault
-script text = script_of (asked_from 1 (pieces 10 text))
+script text = script_by event_in text
 
 -- a script is refused for its first faulty line, or for memory
-abbrev pub RefusesScript : Result (List (Event EntryParts)) ScriptFault → ScriptRefusal → Type 0
+abbrev pub RefusesScript : {L : Type 0} → Result (List L) ScriptFault → ScriptRefusal → Type 0
 RefusesScript given (Fault line kind) = given ≡ Err (record { line = line; kind = kind })
 RefusesScript given NoMemory = Unit {0}
 
--- memory may be refused only where the first line that asks for something gives an event
-abbrev pub TakesMemory : List (ℕ × List ℕ) → Type 0
-TakesMemory [] = ⊥
-TakesMemory (line ∷ others) = IsOk (event_in line.1)
+-- memory may be refused only where the first line that asks for something has no fault
+abbrev pub TakesMemory : {L : Type 0} → (List ℕ → Result L LineFault) → List (ℕ × List ℕ) → Type 0
+TakesMemory line_in [] = ⊥
+TakesMemory line_in (line ∷ others) = IsOk (line_in line.1)

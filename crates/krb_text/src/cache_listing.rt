@@ -7,8 +7,8 @@ ghost use Rattle.krb_files.specs.Bytes.{AppendsPrefix, is_write_fault};
 ghost use Rattle.krb_text.specs.CacheListing.{cache_heading, lines_of_credentials, cache_text};
 ghost use Rattle.krb_text.specs.Gathered.{Passed};
 
-mod credential;
-mod escape;
+pub(crate) mod credential;
+pub(crate) mod escape;
 
 use crate::append::append;
 use crate::cache_listing::credential::append_credential;

@@ -3,15 +3,17 @@
 ghost use Rattle.std.specs.Prelude.{◌≡◌, ◌++◌, decimal, codes, map};
 ghost use Rattle.krb_wire.specs.Text.{Appended, AppendedPart};
 ghost use Rattle.krb_walk.specs.Said.{said};
-ghost use Rattle.krb_keytab.specs.Entry.{entry_at};
 ghost use Rattle.krb_text.specs.Line.{fault_text};
-ghost use Rattle.krb_text.specs.Reply.{walk_line, number_line, given_tail, reply_text, reply_texts, format_after};
+ghost use Rattle.krb_text.specs.Reply.{walk_line, number_line, reply_text_by, reply_texts_by, format_after_by};
+
+mod credential;
+pub(crate) mod record;
 
 use crate::append::{append_byte, append_labelled};
-use crate::line::{append_fault, append_tail};
-use krb_keytab::read_entry;
+use crate::line::append_fault;
+use crate::reply::record::RecordFormat;
 use krb_walk::{Fault, Reply};
-use krb_wire::{KtFormat, NoMemory, all_or_nothing};
+use krb_wire::{NoMemory, all_or_nothing};
 use std::alloc::Allocator;
 
 // What a number is, and the number.
@@ -52,23 +54,9 @@ fn append_walk_fault<A: Allocator>(
     append_fault(fault, out)
 }
 
-// The end of the line of a record.
-fn append_given<A: Allocator>(
-    format: KtFormat,
-    bytes: &[u8],
-    out: &mut Vec<u8, A>,
-) -> Result<(), NoMemory>
-    ensures { AppendedPart (given_tail (entry_at format bytes.now)) out.old out.new result }
-{
-    match read_entry(format, bytes) {
-        Some(entry) => append_tail(&entry.fields(), out),
-        None => append_byte(b'\n', out),
-    }
-}
-
 // The record that a walk was given.
-fn append_gave<A: Allocator>(
-    format: KtFormat,
+fn append_gave<F: RecordFormat, A: Allocator>(
+    format: F,
     walk: u32,
     place: u32,
     next: u32,
@@ -76,20 +64,20 @@ fn append_gave<A: Allocator>(
     out: &mut Vec<u8, A>,
 ) -> Result<(), NoMemory>
     ensures { AppendedPart (walk_line walk (codes " gave " ++ (decimal place ++ (codes " next "
-        ++ (decimal next ++ given_tail (entry_at format bytes.now)))))) out.old out.new result }
+        ++ (decimal next ++ F.tail_of format bytes.now))))) out.old out.new result }
 {
     append_labelled(b"walk ", walk, out)?;
     append_labelled(b" gave ", place, out)?;
     append_labelled(b" next ", next, out)?;
-    append_given(format, bytes, out)
+    format.append_tail(bytes, out)
 }
 
-fn append_reply<A: Allocator, B: Allocator>(
-    format: KtFormat,
+fn append_reply<F: RecordFormat, A: Allocator, B: Allocator>(
+    format: F,
     reply: &Reply<B>,
     out: &mut Vec<u8, A>,
 ) -> Result<(), NoMemory>
-    ensures { AppendedPart (reply_text format (said reply.now)) out.old out.new result }
+    ensures { AppendedPart (reply_text_by F.tail_of format (said reply.now)) out.old out.new result }
 {
     match reply {
         Reply::Started { walk, next } => append_place(*walk, b" at ", *next, out),
@@ -109,21 +97,21 @@ fn append_reply<A: Allocator, B: Allocator>(
 }
 
 // The format after a reply.
-fn format_after<B: Allocator>(format: KtFormat, reply: &Reply<B>) -> KtFormat
-    ensures { result ≡ format_after format (said reply.now) }
+fn format_after<F: RecordFormat, B: Allocator>(format: F, reply: &Reply<B>) -> F
+    ensures { result ≡ format_after_by F.rewritten format (said reply.now) }
 {
     match reply {
-        Reply::Rewritten(_) => KtFormat::V2,
+        Reply::Rewritten(_) => F::rewritten(),
         _ => format,
     }
 }
 
-fn append_replies<A: Allocator, B: Allocator>(
-    format: KtFormat,
+fn append_replies<F: RecordFormat, A: Allocator, B: Allocator>(
+    format: F,
     replies: &[Reply<B>],
     out: &mut Vec<u8, A>,
 ) -> Result<(), NoMemory>
-    ensures { AppendedPart (reply_texts format (map said replies.now)) out.old out.new result }
+    ensures { AppendedPart (reply_texts_by F.tail_of F.rewritten format (map said replies.now)) out.old out.new result }
 {
     let mut now = format;
     'replies: for reply in replies {
@@ -134,25 +122,25 @@ fn append_replies<A: Allocator, B: Allocator>(
 }
 
 /// Appends the line of a reply. The bytes that it gives are read in that format.
-pub fn reply_line<A: Allocator, B: Allocator>(
-    format: KtFormat,
+pub fn reply_line<F: RecordFormat, A: Allocator, B: Allocator>(
+    format: F,
     reply: &Reply<B>,
     out: &mut Vec<u8, A>,
 ) -> Result<(), NoMemory>
-    ensures { Appended (reply_text format (said reply.now)) out.old out.new result }
+    ensures { Appended (reply_text_by F.tail_of format (said reply.now)) out.old out.new result }
 {
     let len = out.len();
     let appended = append_reply(format, reply, out);
     all_or_nothing(appended, len, out)
 }
 
-/// Appends the lines of replies in order. After a rewrite the format is version 2.
-pub fn reply_lines<A: Allocator, B: Allocator>(
-    format: KtFormat,
+/// Appends the lines of replies in order. A rewrite changes the format.
+pub fn reply_lines<F: RecordFormat, A: Allocator, B: Allocator>(
+    format: F,
     replies: &[Reply<B>],
     out: &mut Vec<u8, A>,
 ) -> Result<(), NoMemory>
-    ensures { Appended (reply_texts format (map said replies.now)) out.old out.new result }
+    ensures { Appended (reply_texts_by F.tail_of F.rewritten format (map said replies.now)) out.old out.new result }
 {
     let len = out.len();
     let appended = append_replies(format, replies, out);

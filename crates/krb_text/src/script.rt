@@ -1,26 +1,26 @@
-//! Scripts: lines that ask for events.
+//! Scripts: lines that ask for events, and for values to be set.
 
 ghost use Rattle.std.specs.Prelude.{◌≡◌, ◌++◌, ◌∷◌, [], Ok, IfOk, IfErr, OnOk, IsOkAnd, IsErrOf};
 ghost use Rattle.krb_text.specs.declared.script.ScriptRefusal.TheVariants.{NoMemory as OutOfMemory};
-ghost use Rattle.krb_text.specs.LineFault.{Reads};
 ghost use Rattle.krb_text.specs.Pieces.{pieces};
-ghost use Rattle.krb_text.specs.Script.{no_words, lone_number, event_by, event_in, is_asked, asked_from, script_of, script, RefusesScript, TakesMemory};
+ghost use Rattle.krb_text.specs.Script.{is_asked, asked_from, script_of, script_by, RefusesScript, TakesMemory};
 
 mod addition;
+pub(crate) mod asked;
+pub(crate) mod cache_line;
 mod command;
+mod event_line;
+pub(crate) mod line;
+pub(crate) mod setting;
 
 use crate::line_fault::{LineFault, LineRefusal};
-use crate::pieces::{Lines, Words};
-use crate::script::addition::parse_addition;
-use crate::script::command::Command;
-use crate::word::number_word;
-use krb_keytab::NewEntry;
-use krb_walk::Event;
+use crate::pieces::Lines;
+use crate::script::line::ScriptLine;
 use std::alloc::{AllocFailed, Allocator};
 use std::error::Error;
 use std::fmt;
 
-/// Why a script gives no events.
+/// Why a script is refused.
 #[derive(Clone, Copy, Debug, PartialEq, Eq)]
 pub enum ScriptRefusal {
     /// The first faulty line, counted from 1, and its first fault.
@@ -48,58 +48,6 @@ impl<T: Drop> From<AllocFailed<T>> for ScriptRefusal {
     }
 }
 
-fn no_words(mut words: Words<'_>) -> Result<(), LineFault>
-    ensures { result ≡ no_words words.entry }
-{
-    match words.next() {
-        None => Ok(()),
-        Some(_) => Err(LineFault::WordCount),
-    }
-}
-
-// One word, which is a number.
-fn lone_number(mut words: Words<'_>) -> Result<u32, LineFault>
-    ensures { result ≡ lone_number words.entry }
-{
-    let word = words.next().ok_or(LineFault::WordCount)?;
-    no_words(words)?;
-    number_word(word)
-}
-
-// The event of a command and the words after it.
-fn event_by<A: Allocator + Copy>(
-    alloc: A,
-    command: Command,
-    words: Words<'_>,
-) -> Result<Event<NewEntry<A>>, LineRefusal>
-    ensures { Reads (λ e. e) (event_by command words.entry) result }
-{
-    match command {
-        Command::Start => {
-            no_words(words)?;
-            Ok(Event::Start)
-        }
-        Command::Resume => Ok(Event::Resume(lone_number(words)?)),
-        Command::Step => Ok(Event::Step(lone_number(words)?)),
-        Command::Add => Ok(Event::Put(parse_addition(alloc, words)?)),
-        Command::Cut => Ok(Event::Cut(lone_number(words)?)),
-        Command::Rewrite => {
-            no_words(words)?;
-            Ok(Event::Rewrite)
-        }
-    }
-}
-
-// The event of a line.
-fn parse_line<A: Allocator + Copy>(alloc: A, line: &[u8]) -> Result<Event<NewEntry<A>>, LineRefusal>
-    ensures { Reads (λ e. e) (event_in line.now) result }
-{
-    let mut words = Words::of(line);
-    let word = words.next().ok_or(LineFault::UnknownWord)?;
-    let command = Command::named(word).ok_or(LineFault::UnknownWord)?;
-    event_by(alloc, command, words)
-}
-
 // Whether a line asks for something: it is not empty, and no comment.
 fn is_asked(line: &[u8]) -> bool
     ensures { result ≡ is_asked line.now }
@@ -107,43 +55,44 @@ fn is_asked(line: &[u8]) -> bool
     line.first().is_some_and(|first| *first != b'#')
 }
 
-// Appends the event of a line.
-fn add_event<A: Allocator + Copy>(
+// Appends what a line asks for.
+fn add_line<A: Allocator, L: ScriptLine<A>>(
     alloc: A,
     number: u64,
     line: &[u8],
-    events: &mut Vec<Event<NewEntry<A>>, A>,
+    asked: &mut Vec<L, A>,
 ) -> Result<(), ScriptRefusal>
     ensures ok { OnOk result
-        (IsOkAnd (event_in line.now) (λ e. events.new.items ≡ events.old.items ++ e ∷ [])) }
-    ensures err { IfErr result (RefusesScript (script_of ((number, line.now) ∷ []))) }
-    ensures memory { IsErrOf result ScriptRefusal.NoMemory → TakesMemory ((number, line.now) ∷ []) }
+        (IsOkAnd (L.line_in line.now) (λ x. asked.new.items ≡ asked.old.items ++ x ∷ [])) }
+    ensures err { IfErr result (RefusesScript (script_of L.line_in ((number, line.now) ∷ []))) }
+    ensures memory { IsErrOf result ScriptRefusal.NoMemory
+        → TakesMemory L.line_in ((number, line.now) ∷ []) }
 {
-    match parse_line(alloc, line) {
-        Ok(event) => Ok(events.push(event)?),
+    match L::parse(alloc, line) {
+        Ok(x) => Ok(asked.push(x)?),
         Err(LineRefusal::Fault(kind)) => Err(ScriptRefusal::Fault { line: number, kind }),
         Err(LineRefusal::NoMemory) => Err(ScriptRefusal::NoMemory),
     }
 }
 
-/// The events that the lines of a script ask for, in order. Empty lines and those that begin with `#`
-/// ask for nothing, and count. Lines are read in order: where an allocation fails, a fault may follow.
-pub fn parse_script<A: Allocator + Copy>(
+/// What the lines of a script ask for, in order. Empty lines and those that begin with `#` ask for nothing,
+/// and count. Lines are read in order: where an allocation fails, a fault may follow.
+pub fn parse_script<A: Allocator + Copy, L: ScriptLine<A>>(
     alloc: A,
     text: &[u8],
-) -> Result<Vec<Event<NewEntry<A>>, A>, ScriptRefusal>
-    ensures ok { IfOk result (λ events. script text.now ≡ Ok events.items) }
-    ensures err { IfErr result (RefusesScript (script text.now)) }
+) -> Result<Vec<L, A>, ScriptRefusal>
+    ensures ok { IfOk result (λ asked. script_by L.line_in text.now ≡ Ok asked.items) }
+    ensures err { IfErr result (RefusesScript (script_by L.line_in text.now)) }
     ensures memory { IsErrOf result ScriptRefusal.NoMemory
-        → TakesMemory (asked_from 1 (pieces 10 text.now)) }
+        → TakesMemory L.line_in (asked_from 1 (pieces 10 text.now)) }
 {
-    let mut events = Vec::new(alloc);
+    let mut asked = Vec::new(alloc);
     let mut number = 0;
     'lines: for line in Lines::of(text) {
         number += 1;
         if is_asked(line) {
-            add_event(alloc, number, line, &mut events)?;
+            add_line(alloc, number, line, &mut asked)?;
         }
     }
-    Ok(events)
+    Ok(asked)
 }

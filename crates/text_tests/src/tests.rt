@@ -2,7 +2,11 @@
 //! out by hand.
 
 mod allocations;
+mod cache_allocations;
+mod cache_replies;
+mod cache_scripts;
 mod check_ups;
+mod credentials;
 mod etypes;
 mod found;
 mod keys;
@@ -13,4 +17,5 @@ mod numbers;
 mod phrases;
 mod replies;
 mod scripts;
+mod tickets;
 mod times;

@@ -1,6 +1,7 @@
 //! The lines of a credential. Where an allocation failed, some of them may stand there.
 
 ghost use Rattle.std.specs.Prelude.{◌≡◌, ◌++◌, OnOk, option_copied};
+ghost use Rattle.krb_wire.specs.Text.{AppendedPart};
 ghost use Rattle.krb_ccache.specs.Config.{config_parts};
 ghost use Rattle.krb_text.specs.Credential.{valid_from, instant, validity, ticket_line, renew_line, flags_line, etype_line, ticket_lines, about, config_line, credential_lines};
 
@@ -115,12 +116,12 @@ fn append_ticket_lines<A: Allocator>(
     append_etype(columns.etypes, credential.enctype(), out)
 }
 
-// The principal that a configuration entry is about, if there is one.
-fn append_about<A: Allocator>(
+/// Appends the principal that a configuration entry is about, in parentheses, if there is one.
+pub fn append_about<A: Allocator>(
     principal: Option<&[u8]>,
     out: &mut Vec<u8, A>,
 ) -> Result<(), NoMemory>
-    ensures { OnOk result (out.new.items ≡ out.old.items ++ about (option_copied principal.entry)) }
+    ensures { AppendedPart (about (option_copied principal.entry)) out.old out.new result }
 {
     let Some(text) = principal else {
         return Ok(());

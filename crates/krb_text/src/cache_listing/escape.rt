@@ -1,6 +1,7 @@
 //! Any bytes as printable text.
 
-ghost use Rattle.std.specs.Prelude.{◌≡◌, ◌++◌, [], ◌∷◌, codes, OnOk};
+ghost use Rattle.std.specs.Prelude.{◌≡◌, ◌++◌, [], ◌∷◌, codes};
+ghost use Rattle.krb_wire.specs.Text.{AppendedPart};
 ghost use Rattle.hex.specs.Hex.{encode_lower};
 ghost use Rattle.krb_text.specs.Escape.{escaped, escaped_text};
 
@@ -18,7 +19,7 @@ fn hexadecimal(byte: u8) -> [u8; 4]
 }
 
 fn append_escaped_byte<A: Allocator>(byte: u8, out: &mut Vec<u8, A>) -> Result<(), NoMemory>
-    ensures { OnOk result (out.new.items ≡ out.old.items ++ escaped byte) }
+    ensures { AppendedPart (escaped byte) out.old out.new result }
 {
     match byte {
         b'\\' => append(b"\\\\", out),
@@ -29,7 +30,7 @@ fn append_escaped_byte<A: Allocator>(byte: u8, out: &mut Vec<u8, A>) -> Result<(
 
 /// Appends the bytes as printable text, on one line.
 pub fn append_escaped<A: Allocator>(bytes: &[u8], out: &mut Vec<u8, A>) -> Result<(), NoMemory>
-    ensures { OnOk result (out.new.items ≡ out.old.items ++ escaped_text bytes.now) }
+    ensures { AppendedPart (escaped_text bytes.now) out.old out.new result }
 {
     'bytes: for byte in bytes {
         append_escaped_byte(*byte, out)?;

@@ -1,15 +1,19 @@
-//! The commands of a script.
+//! The commands that every script has.
 
 ghost use Rattle.std.specs.Prelude.{◌≡◌};
-ghost use Rattle.krb_text.specs.Script.{command_named};
+ghost use Rattle.krb_text.specs.Script.{command_named, no_words, lone_number, event_by, common_event};
 
-/// What a line of a script asks for.
+use crate::line_fault::LineFault;
+use crate::pieces::Words;
+use crate::word::number_word;
+use krb_walk::Event;
+
+/// A command that asks for the same event of any store.
 #[derive(Clone, Copy)]
 pub enum Command {
     Start,
     Resume,
     Step,
-    Add,
     Cut,
     Rewrite,
 }
@@ -25,8 +29,6 @@ impl Command {
             Some(Command::Resume)
         } else if word == b"step".as_slice() {
             Some(Command::Step)
-        } else if word == b"add".as_slice() {
-            Some(Command::Add)
         } else if word == b"cut".as_slice() {
             Some(Command::Cut)
         } else if word == b"rewrite".as_slice() {
@@ -35,4 +37,49 @@ impl Command {
             None
         }
     }
+}
+
+fn no_words(mut words: Words<'_>) -> Result<(), LineFault>
+    ensures { result ≡ no_words words.entry }
+{
+    match words.next() {
+        None => Ok(()),
+        Some(_) => Err(LineFault::WordCount),
+    }
+}
+
+// One word, which is a number.
+fn lone_number(mut words: Words<'_>) -> Result<u32, LineFault>
+    ensures { result ≡ lone_number words.entry }
+{
+    let word = words.next().ok_or(LineFault::WordCount)?;
+    no_words(words)?;
+    number_word(word)
+}
+
+// The event of a command and the words after it.
+fn event_by<I>(command: Command, words: Words<'_>) -> Result<Event<I>, LineFault>
+    ensures { result ≡ event_by command words.entry }
+{
+    match command {
+        Command::Start => {
+            no_words(words)?;
+            Ok(Event::Start)
+        }
+        Command::Resume => Ok(Event::Resume(lone_number(words)?)),
+        Command::Step => Ok(Event::Step(lone_number(words)?)),
+        Command::Cut => Ok(Event::Cut(lone_number(words)?)),
+        Command::Rewrite => {
+            no_words(words)?;
+            Ok(Event::Rewrite)
+        }
+    }
+}
+
+/// The event of a line's first word and the words after it.
+pub fn common_event<I>(word: &[u8], words: Words<'_>) -> Result<Event<I>, LineFault>
+    ensures { result ≡ common_event word.now words.entry }
+{
+    let command = Command::named(word).ok_or(LineFault::UnknownWord)?;
+    event_by(command, words)
 }

@@ -4,11 +4,12 @@ use super::keytabs::{B, HEAD, HOST, opened};
 use super::ktutil::{ADD_HOST, KEY};
 use krb_commands::{Ktutil, LineEnd};
 use krb_files::{Files, LoadFault, MemFiles, SaveFault};
+use krb_keytab::NewEntry;
 use krb_text::{
     ScriptRefusal, etype_text, flag_letters, found_text, key_text, parse_script, reply_line,
     reply_lines, time_text,
 };
-use krb_walk::Reply;
+use krb_walk::{Event, Reply};
 use krb_wire::{KtFormat, NoMemory, Order};
 use refusing::{Refusing, refuse_each};
 use std::alloc::{Allocator, Global};
@@ -109,7 +110,7 @@ fn a_script(rt: HostRuntime) -> Result<(), Fail> {
     let text = b"start\nadd 3 17 0 000102030405060708090a0b0c0d0e0f host/a@R\ncut 2\n";
     let requests = refuse_each(rt.alloc(), 100, |heap, n| {
         heap.refuse(n);
-        match parse_script(heap, text) {
+        match parse_script::<_, Event<NewEntry<_>>>(heap, text) {
             Ok(events) => assert!(rt; !heap.refused() && events.len() == 3),
             Err(refusal) => {
                 assert!(rt; heap.refused() && refusal == ScriptRefusal::NoMemory);

@@ -5,6 +5,9 @@ use krb_walk::{Event, Session};
 use std::alloc::{Allocator, Global};
 use std::test::Fail;
 
+/// What a line of ktedit's scripts asks for.
+type KeytabLine = Event<NewEntry<Global>>;
+
 /// The line that adds the entry of `HOST`.
 const ADD_HOST: &str = "add 3 17 1700000000 000102030405060708090a0b0c0d0e0f host/a@R";
 
@@ -86,7 +89,7 @@ fn the_first_fault_of_the_first_faulty_line(rt: HostRuntime) {
         ("add 3 1 0 - b", 1, LineFault::BadName),
         ("add 3 1 0 -  b@R@R", 1, LineFault::BadName),
     ] {
-        let refused = parse_script(rt.alloc(), text.as_bytes()).err();
+        let refused = parse_script::<_, KeytabLine>(rt.alloc(), text.as_bytes()).err();
         assert!(rt;
             refused == Some(ScriptRefusal::Fault { line, kind }),
             "{text}"

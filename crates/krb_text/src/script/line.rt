@@ -1,0 +1,18 @@
+//! The lines of scripts.
+
+ghost use Rattle.std.specs.Prelude.{ℕ, List, Result};
+ghost use Rattle.krb_text.specs.declared.line_fault.LineFault.{LineFault as FaultOfLine};
+ghost use Rattle.krb_text.specs.LineFault.{Reads};
+
+use crate::line_fault::LineRefusal;
+use std::alloc::Allocator;
+
+/// What a line of a script asks for.
+pub trait ScriptLine<A: Allocator>: Sized + Drop {
+    /// What a line asks for, or its first fault.
+    ghost line_in: { List ℕ → Result Self FaultOfLine };
+
+    /// Reads a line. Its fault comes before any want of memory.
+    fn parse(alloc: A, line: &[u8]) -> Result<Self, LineRefusal>
+        ensures { Reads (λ asked. asked) (line_in line.now) result };
+}

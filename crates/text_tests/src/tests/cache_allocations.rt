@@ -1,0 +1,72 @@
+//! Each allocation fails in turn, in scripts and replies of caches: what was there stays.
+
+use super::credentials::{KRBTGT, PA_TYPE, credential};
+use krb_ccache::{Version, read_credential};
+use krb_text::{CacheLine, ScriptRefusal, append_removed_ticket, parse_script, reply_lines};
+use krb_walk::Reply;
+use refusing::refuse_each;
+use std::test::Fail;
+
+/// The lines of a ticket and of a configuration entry are appended whole, or not at all.
+#[test]
+fn lines_of_credentials(rt: HostRuntime) -> Result<(), Fail> {
+    let mut replies = Vec::new(rt.alloc());
+    for server in [KRBTGT, PA_TYPE] {
+        replies.push(Reply::Gave {
+            walk: 0,
+            place: 40,
+            next: 148,
+            bytes: credential(rt.alloc(), Version::V4, server)?,
+        })?;
+    }
+    let text = "before \
+walk 0 gave 40 next 148 etype 18 krbtgt/R@R\n\
+walk 0 gave 40 next 148 config pa_type(krbtgt/R@R)\n";
+    let requests = refuse_each(rt.alloc(), 100, |heap, n| {
+        let mut out = Vec::from_slice(heap, b"before ")?;
+        heap.refuse(n);
+        let is_done = reply_lines(Version::V4, &replies, &mut out).is_ok();
+        assert_eq!(rt; is_done, !heap.refused());
+        let text = if is_done { text } else { "before " };
+        assert!(rt; out.as_slice() == text.as_bytes(), "{text}");
+        Ok(())
+    })?;
+    assert!(rt; requests >= 1, "{requests}");
+    Ok(())
+}
+
+/// Of the line of a removed ticket a part may stand there.
+#[test]
+fn a_removed_ticket(rt: HostRuntime) -> Result<(), Fail> {
+    let bytes = credential(rt.alloc(), Version::V4, KRBTGT)?;
+    let ticket = read_credential(Version::V4, &bytes).ok_or("no ticket")?;
+    let line = b"removed 40 krbtgt/R@R\n".as_slice();
+    let requests = refuse_each(rt.alloc(), 100, |heap, n| {
+        let mut out = Vec::new(heap);
+        heap.refuse(n);
+        let is_done = append_removed_ticket(40, &ticket, &mut out).is_ok();
+        assert_eq!(rt; is_done, !heap.refused());
+        assert!(rt; line.starts_with(&out) && (!is_done || out.as_slice() == line));
+        Ok(())
+    })?;
+    assert!(rt; requests >= 1, "{requests}");
+    Ok(())
+}
+
+/// A script is read whole, or refused for want of memory alone.
+#[test]
+fn a_script(rt: HostRuntime) -> Result<(), Fail> {
+    let text = b"start\nconfig k b@R v\nconfig k - v\ncut 40\n";
+    let requests = refuse_each(rt.alloc(), 100, |heap, n| {
+        heap.refuse(n);
+        match parse_script::<_, CacheLine<_>>(heap, text) {
+            Ok(asked) => assert!(rt; !heap.refused() && asked.len() == 4),
+            Err(refusal) => {
+                assert!(rt; heap.refused() && refusal == ScriptRefusal::NoMemory);
+            }
+        }
+        Ok(())
+    })?;
+    assert!(rt; requests >= 6, "{requests}");
+    Ok(())
+}
