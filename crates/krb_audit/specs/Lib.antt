@@ -1,5 +1,6 @@
 pub mod Newest
 pub mod Selection
+pub mod Tickets
 pub mod Findings
 pub mod Report
 -- For private contracts alone.
@@ -8,5 +9,7 @@ pub mod Hash
 pub mod Stamps
 pub mod Known
 pub mod Asked
+pub mod TicketText
+pub mod AskedTickets
 pub mod Firsts
 pub mod Before

@@ -1,9 +1,11 @@
-//! What an administrator asks of a whole keytab: which of its entries are old, and which are asked for.
+//! What an administrator asks of a whole keytab: which of its entries are old, and which are asked for; and which
+//! tickets of a cache are.
 #![tactic(auto)]
 
 mod append;
 mod asked;
 mod asked_name;
+mod asked_tickets;
 mod asked_versions;
 mod counts;
 mod findings;
@@ -16,9 +18,11 @@ mod names;
 mod newest;
 mod selection;
 mod stamp;
+mod tickets;
 mod told;
 
 pub use asked::{Selected, select};
 pub use findings::{CheckUp, check_up};
 pub use selection::{AskedKvno, Selection};
+pub use tickets::{SelectedTickets, select_tickets};
 pub use told::Told;

@@ -1,0 +1,29 @@
+-- Which tickets of a cache are asked for.
+use Rattle.std.specs.Prelude.{◌≡◌, ℕ, List, Bool, true, not, ◌&&◌, nat_le, filter, map, Option, None, Some}
+use Rattle.std.specs.List.{flat_map, list_any}
+use Rattle.krb_wire.specs.declared.principal.Principal.{Principal}
+use Rattle.krb_ccache.specs.Credential.{CredParts}
+use Rattle.krb_ccache.specs.Config.{is_config}
+use Rattle.krb_ccache.specs.Store.{CacheState, PlacedCredential, placed_credentials}
+use Rattle.krb_text.specs.Found.{removed_ticket_line}
+use Rattle.krb_audit.specs.declared.tickets.SelectedTickets.{SelectedTickets}
+use Rattle.krb_audit.specs.Selection.{has_asked_name}
+
+-- a credential is a ticket, and its server has the name that is asked for
+abbrev pub names_ticket : {A : Type 0} → Option (Principal A) → CredParts → Bool
+names_ticket server c = not (is_config c) && has_asked_name server c.server
+
+-- a credential has ended by a second, if one is given
+abbrev pub has_ended_by : Option ℕ → CredParts → Bool
+has_ended_by None c = true
+has_ended_by (Some now) c = nat_le c.times.endtime now
+
+-- the tickets of a cache that are asked for, in file order
+abbrev pub asked_tickets : {A : Type 0} → Option (Principal A) → Option ℕ → CacheState → List PlacedCredential
+asked_tickets server ended_by k = filter (λ x. names_ticket server x.1 && has_ended_by ended_by x.1) (placed_credentials k)
+
+-- they were selected
+pub record SelectsTickets {A B : Type 0} (server : Option (Principal A)) (ended_by : Option ℕ) (k : CacheState) (selected : SelectedTickets B) : Type 0 where
+  pub places : selected.places.items ≡ map (λ x. x.0) (asked_tickets server ended_by k)
+  pub text : selected.text.items ≡ flat_map removed_ticket_line (asked_tickets server ended_by k)
+  pub is_named : selected.is_named ≡ list_any (λ x. names_ticket server x.1) (placed_credentials k)

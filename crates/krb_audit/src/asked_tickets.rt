@@ -1,0 +1,64 @@
+//! The tickets that are asked for.
+
+ghost use Rattle.std.specs.Prelude.{◌≡◌, IfOk};
+ghost use Rattle.krb_audit.specs.AskedTickets.{has_server, ticket_text};
+ghost use Rattle.krb_audit.specs.Tickets.{has_ended_by};
+
+use crate::asked_name::AskedName;
+use krb_ccache::{CredView, is_config};
+use krb_wire::{NoMemory, Principal};
+use std::alloc::Allocator;
+use std::marker::Model;
+
+/// Which tickets are asked for: those of which all holds that is given.
+#[derive(Drop)]
+pub struct AskedTickets<A: Allocator> {
+    server: AskedName<A>,
+    ended_by: Option<u32>,
+}
+
+impl<A: Allocator> Model for AskedTickets<A> {
+    ghost use Rattle.std.specs.Prelude.{option_map};
+    ghost use Rattle.std.specs.Vec.{vec_items};
+    ghost use Rattle.krb_audit.specs.TicketText.{TicketText};
+
+    ghost Value = { TicketText };
+
+    ghost view = { λ a. record { server = option_map vec_items a.server.asked; ended_by = a.ended_by } };
+}
+
+impl<A: Allocator + Copy> AskedTickets<A> {
+    pub fn of<B: Allocator>(
+        alloc: A,
+        server: &Option<Principal<B>>,
+        ended_by: Option<u32>,
+    ) -> Result<AskedTickets<A>, NoMemory>
+        ensures { IfOk result (λ asked. asked ≡ ticket_text server.now ended_by) }
+    {
+        let server = AskedName::of(alloc, server)?;
+        Ok(AskedTickets { server, ended_by })
+    }
+}
+
+impl<A: Allocator> AskedTickets<A> {
+    /// Whether a credential is a ticket, and its server has the name that is asked for.
+    pub fn names(&mut self, credential: &CredView<'_>) -> Result<bool, NoMemory>
+        ensures kept { self.new ≡ self.old }
+        ensures named { IfOk result (λ b. b ≡ has_server self.old credential.now) }
+    {
+        if is_config(credential) {
+            return Ok(false);
+        }
+        self.server.is_of(credential.server())
+    }
+
+    /// Whether a credential has ended by the second that is asked for.
+    pub fn has_ended(&self, credential: &CredView<'_>) -> bool
+        ensures { result ≡ has_ended_by self.now.ended_by credential.now }
+    {
+        match self.ended_by {
+            Some(now) => credential.endtime() <= now,
+            None => true,
+        }
+    }
+}

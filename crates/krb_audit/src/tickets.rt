@@ -1,0 +1,81 @@
+//! The tickets of a cache that are asked for.
+
+ghost use Rattle.std.specs.Prelude.{◌≡◌, ◌++◌, ◌∷◌, [], List, IfOk, OnOk};
+ghost use Rattle.krb_ccache.specs.Store.{PlacedCredential};
+ghost use Rattle.krb_text.specs.Found.{removed_ticket_line};
+ghost use Rattle.krb_audit.specs.AskedTickets.{SelectsSoFar};
+ghost use Rattle.krb_audit.specs.Tickets.{SelectsTickets};
+
+use crate::asked_tickets::AskedTickets;
+use krb_ccache::{Ccache, CredView};
+use krb_text::append_removed_ticket;
+use krb_wire::{NoMemory, Principal};
+use std::alloc::Allocator;
+
+/// The tickets of a cache that are asked for.
+#[derive(Drop)]
+pub struct SelectedTickets<A: Allocator> {
+    /// Their places, in file order.
+    pub places: Vec<u32, A>,
+    /// A line for each that tells of its removal.
+    pub text: Vec<u8, A>,
+    /// Whether some ticket's server prints as the one that is asked for, or none is asked for and there is a ticket.
+    pub is_named: bool,
+}
+
+impl<A: Allocator> SelectedTickets<A> {
+    // Selects a ticket.
+    fn add(&mut self, place: u32, ticket: &CredView<'_>) -> Result<(), NoMemory>
+        ensures places { OnOk result (self.new.places.items ≡ self.old.places.items ++ place ∷ []) }
+        ensures text { OnOk result (self.new.text.items
+            ≡ self.old.text.items ++ removed_ticket_line (place, ticket.now)) }
+        ensures named { self.new.is_named ≡ self.old.is_named }
+    {
+        self.places.push(place)?;
+        append_removed_ticket(place, ticket, &mut self.text)
+    }
+
+    // Selects the next credential where it is a ticket that is asked for.
+    fn consider<B: Allocator>(
+        &mut self,
+        asked: &mut AskedTickets<B>,
+        place: u32,
+        credential: &CredView<'_>,
+    ) -> Result<(), NoMemory>
+        ensures kept { asked.new ≡ asked.old }
+        ensures selects { (rest all : List PlacedCredential)
+            → SelectsSoFar asked.old ((place, credential.now) ∷ rest) all self.old
+            → OnOk result (SelectsSoFar asked.old rest all self.new) }
+    {
+        if !asked.names(credential)? {
+            return Ok(());
+        }
+        self.is_named = true;
+        if !asked.has_ended(credential) {
+            return Ok(());
+        }
+        self.add(place, credential)
+    }
+}
+
+/// Selects the tickets of a cache that are asked for, by the name of their server, as it is printed, and by the second
+/// by which they have ended. All that is given holds of each. One pass.
+pub fn select_tickets<A: Allocator + Copy, B: Allocator>(
+    alloc: A,
+    cache: &Ccache<A>,
+    server: &Option<Principal<B>>,
+    ended_by: Option<u32>,
+) -> Result<SelectedTickets<A>, NoMemory>
+    ensures { IfOk result (SelectsTickets server.now ended_by cache.now.state) }
+{
+    let mut asked = AskedTickets::of(alloc, server, ended_by)?;
+    let mut selected = SelectedTickets {
+        places: Vec::new(alloc),
+        text: Vec::new(alloc),
+        is_named: false,
+    };
+    'credentials: for (place, credential) in cache.credentials() {
+        selected.consider(&mut asked, place, &credential)?;
+    }
+    Ok(selected)
+}
