@@ -13,7 +13,7 @@ use Rattle.krb_files.specs.Files.{SameFiles, SetsFile, CountsFailure, loaded}
 use Rattle.krb_commands.specs.declared.edited.Edited.{Edited}
 use Rattle.krb_commands.specs.declared.trouble.Trouble.{Trouble}
 use Rattle.krb_commands.specs.declared.trouble.Trouble.TheVariants.{FileNotRead, NoMemory}
-use Rattle.krb_commands.specs.Changing.{Edit, no_edit, edit_over, FairOver, saved_run, LeavesFiles, SavesDue, ComesTo, ChangesFile, EndsHonestly, Changes}
+use Rattle.krb_commands.specs.Changing.{Edit, edit_over, FairOver, FollowsLoad, IsUnspent, saved_run, LeavesFiles, SavesDue, ComesTo, ChangesFile, EndsHonestly, Changes}
 use Rattle.krb_commands.specs.Edits.{saved_of, edited_run, Makes, SavesIf}
 use Rattle.krb_commands.specs.Loading.{most_bytes, LoadsFile, SavesFile}
 use Rattle.krb_commands.specs.Runs.{Run, Shows, ends_by}
@@ -42,6 +42,20 @@ module _ {F : Type 0} (trait : Ghosts F) (file : List ℕ) (Holds : Run → Type
         ends = inr (subst (λ (opened : Result X E). FairOver Fair opened × ComesTo trait file Holds (edit_over why edit opened) files new) (sym is) (made.fair, due));
       }
 
+  -- nothing was opened, and that ends it
+  pub ChangesFile-none : {X E : Type 0} (gives : Result (List ℕ) LoadFault → Result X E) (why : E → Trouble) (Fair : X → Type 0) (edit : X → Edit) (old files : F) (answer : Result (List ℕ) LoadFault) (e : E)
+      → LoadsFile trait old file answer files → gives answer ≡ Err e → Holds (ends_by (why e)) → ChangesFile trait file Holds (λ a. FairOver Fair (gives a)) (λ a. edit_over why edit (gives a)) old files
+  ChangesFile-none {X} {E} gives why Fair edit old files answer e loads is holds = record {
+    files = files;
+    answer = answer;
+    loads = loads;
+    ends = inr (subst (λ (opened : Result X E). FairOver Fair opened × ComesTo trait file Holds (edit_over why edit opened) files files) (sym is) (tt, (refl, holds)));
+  }
+
+  -- memory ran out before anything was saved
+  pub ChangesFile-spent : (Fairly : Result (List ℕ) LoadFault → Type 0) (due : Result (List ℕ) LoadFault → Edit) (old files : F) (answer : Result (List ℕ) LoadFault) → LoadsFile trait old file answer files → Holds (ends_by NoMemory) → ChangesFile trait file Holds Fairly due old files
+  ChangesFile-spent Fairly due old files answer loads holds = record { files = files; answer = answer; loads = loads; ends = inl (refl, holds) }
+
   -- what an edit came to is what another relation holds of
   SavesDue-map : (Other : Run → Type 0) → ((due : Run) → Holds due → Other due) → (saved : Option (List ℕ)) (due : Run) (old new : F) → SavesDue trait file Holds saved due old new → SavesDue trait file Other saved due old new
   SavesDue-map Other to None due old new left = (left.0, to due left.1)
@@ -60,11 +74,6 @@ module _ {F : Type 0} (trait : Ghosts F) (file : List ℕ) (Holds : Run → Type
   }
 
 -- ---- over honest files
-
--- a load that fails, and one without memory, end the run
-pub record EndsAsLoaded (due : Result (List ℕ) LoadFault → Edit) : Type 0 where
-  pub failed : due (Err load.Failed) ≡ no_edit (ends_by FileNotRead)
-  pub memory : due (Err load.NoMemory) ≡ no_edit (ends_by NoMemory)
 
 -- a failure that was counted later counts
 counts_from : (a b c : ℕ) → b ≤ c → b ≡ 2 ^ 64 - 1 → (a ≡ b) ⊎ (a < b) → CountsFailure a c
@@ -101,7 +110,7 @@ module _ {F : Type 0} (trait : Ghosts F) (file : List ℕ) (Holds : Run → Type
   due_honestly (Some bytes) due old files new h same le s = saved_honestly bytes due old files new s.0 h same le s.1 s.2
 
   -- what was loaded is what stands there, unless the load failed or memory ran out
-  loaded_honestly : (due : Result (List ℕ) LoadFault → Edit) → EndsAsLoaded due → (old files new : F) (answer : Result (List ℕ) LoadFault) (loads : LoadsFile trait old file answer files) → trait.is_honest old
+  loaded_honestly : (due : Result (List ℕ) LoadFault → Edit) → FollowsLoad due → (old files new : F) (answer : Result (List ℕ) LoadFault) (loads : LoadsFile trait old file answer files) → trait.is_honest old
       → (answer ≡ Err load.Failed) ⊎ (answer ≡ Err load.NoMemory) ⊎ (answer ≡ loaded (trait.file old file) most_bytes)
       → ComesTo trait file Holds (due answer) files new
       → EndsHonestly trait file Holds (due (loaded (trait.file old file) most_bytes)) old new
@@ -120,7 +129,7 @@ module _ {F : Type 0} (trait : Ghosts F) (file : List ℕ) (Holds : Run → Type
       due_honestly d.saved d.run old files new (loads.honest h) (loads.same h) loads.count
       (subst (λ (a : Result (List ℕ) LoadFault). ComesTo trait file Holds (due a) files new) stands comes)
 
-  pub changes_honestly : (Fairly : Result (List ℕ) LoadFault → Type 0) (due : Result (List ℕ) LoadFault → Edit) → EndsAsLoaded due → (old new : F) → trait.is_honest old → ChangesFile trait file Holds Fairly due old new
+  pub changes_honestly : (Fairly : Result (List ℕ) LoadFault → Type 0) (due : Result (List ℕ) LoadFault → Edit) → FollowsLoad due → (old new : F) → trait.is_honest old → ChangesFile trait file Holds Fairly due old new
       → EndsHonestly trait file Holds (due (loaded (trait.file old file) most_bytes)) old new
   changes_honestly Fairly due ends old new h e = elim e.ends [
     | inl spent ↦ inl (left_same old e.files new (e.loads.same h) spent.0, spent.1)
@@ -132,10 +141,6 @@ module _ {F : Type 0} (trait : Ghosts F) (file : List ℕ) (Holds : Run → Type
 abbrev pub is_spent : Ending → Bool
 is_spent (Err NoMemory) = true
 is_spent ending = false
-
--- an edit without memory is none: some trouble ends it, or it ends otherwise
-abbrev pub IsUnspent : Edit → Type 0
-IsUnspent due = ((trouble : Trouble) × (due ≡ no_edit (ends_by trouble))) ⊎ (due.run.ending ≢ Err NoMemory)
 
 module _ {F : Type 0} (trait : Ghosts F) (file : List ℕ) (out out' : Watch) (ending : Ending) (spent : ending ≡ Err NoMemory) where
   abbrev Shown : Run → Type 0
@@ -179,22 +184,22 @@ module _ {F : Type 0} (trait : Ghosts F) (file : List ℕ) (out out' : Watch) (e
   spent_edit due old files new honest same (inl left) comes = spent_left left.0 old files new same (subst (λ (d : Edit). ComesTo trait file Shown d files new) left.1 comes)
   spent_edit due old files new honest same (inr unspent) comes = spent_due due.saved due.run old files new unspent honest same comes
 
-  pub spent_change : (Fairly : Result (List ℕ) LoadFault → Type 0) (due : Result (List ℕ) LoadFault → Edit) → ((answer : Result (List ℕ) LoadFault) → IsUnspent (due answer)) → (old new : F)
+  pub spent_change : (Fairly : Result (List ℕ) LoadFault → Type 0) (due : Result (List ℕ) LoadFault → Edit) → FollowsLoad due → (old new : F)
       → ChangesFile trait file Shown Fairly due old new → Spent old new
-  spent_change Fairly due unspent old new e = elim e.ends [
+  spent_change Fairly due follows old new e = elim e.ends [
     | inl left ↦ spent_left NoMemory old e.files new e.loads.same left
-    | inr ran ↦ spent_edit (due e.answer) old e.files new e.loads.honest e.loads.same (unspent e.answer) ran.1
+    | inr ran ↦ spent_edit (due e.answer) old e.files new e.loads.honest e.loads.same (follows.unspent e.answer) ran.1
   ]
 
 -- ---- a change that was shown
 
 pub Changes-shown : {F : Type 0} (trait : Ghosts F) (file : List ℕ) (Fairly : Result (List ℕ) LoadFault → Type 0) (due : Result (List ℕ) LoadFault → Edit) (old new : F) (out out' : Watch) (ending : Ending) (run : Run)
-    → EndsAsLoaded due → ((answer : Result (List ℕ) LoadFault) → IsUnspent (due answer)) → ChangesFile trait file (λ r. run ≡ r) Fairly due old new → Shows run out out' ending → Changes trait file Fairly due old new out out' ending
-Changes-shown trait file Fairly due old new out out' ending run ends unspent changes shows =
+    → FollowsLoad due → ChangesFile trait file (λ r. run ≡ r) Fairly due old new → Shows run out out' ending → Changes trait file Fairly due old new out out' ending
+Changes-shown trait file Fairly due old new out out' ending run follows changes shows =
     let shown = ChangesFile-map trait file (λ r. run ≡ r) (λ r. Shows r out out' ending) (λ r is. subst (λ (d : Run). Shows d out out' ending) is shows) Fairly due old new changes in
     record {
       ends = shown;
-      honest = λ h. changes_honestly trait file (λ r. Shows r out out' ending) Fairly due ends old new h shown;
-      quiet = λ spent. (spent_change trait file out out' ending spent Fairly due unspent old new shown).0;
-      spared = λ spent. (spent_change trait file out out' ending spent Fairly due unspent old new shown).1;
+      honest = λ h. changes_honestly trait file (λ r. Shows r out out' ending) Fairly due follows old new h shown;
+      quiet = λ spent. (spent_change trait file out out' ending spent Fairly due follows old new shown).0;
+      spared = λ spent. (spent_change trait file out out' ending spent Fairly due follows old new shown).1;
     }

@@ -2,11 +2,13 @@ pub mod NewlineLemmas
 pub mod InputLemmas
 pub mod Faults
 pub mod Pieces
-pub mod EditReplies
+pub mod SessionReplies
+pub mod CacheEdits
 pub mod Removals
+pub mod TicketRemovals
 pub mod Shown
 pub mod Changing
-pub mod EditLemmas
+pub mod ScriptLemmas
 pub mod WordLemmas
 pub mod KtutilLists
 pub mod KtutilHandles

@@ -6,6 +6,7 @@ use Rattle.krb_walk.specs.declared.fault.FaultKind.{FaultKind}
 use Rattle.krb_walk.specs.declared.refusal.Code.{Code}
 use Rattle.krb_walk.specs.Said.{Said}
 use Rattle.krb_commands.specs.declared.telling.piece.Piece.{Piece}
+use Rattle.krb_commands.specs.declared.trouble.FileKind.{FileKind}
 use Rattle.krb_commands.specs.declared.trouble.Trouble.TheVariants.{Replied}
 use Rattle.krb_files.specs.Bytes.{Watch}
 use Rattle.krb_commands.specs.declared.mistake.BadLine.{BadLine}
@@ -23,11 +24,11 @@ pieces_text-append [] rest = refl
 pieces_text-append (p ∷ ps) rest = append_assoc (piece_text p) (pieces_text ps) rest ∙ ap (λ l. piece_text p ++ l) (pieces_text-append ps rest)
 
 -- an end is that of the replies, where what it tells is what they tell
-pub replied_ending-by : {R : Type 0} (said : R → Said) (replies : List R) (b : Bool) (codes : List (Option Code)) (faults : List (Option FaultKind))
+pub replied_ending-by : {R : Type 0} (kind : FileKind) (said : R → Said) (replies : List R) (b : Bool) (codes : List (Option Code)) (faults : List (Option FaultKind))
     → b ≡ list_any (λ r. is_trouble (said r)) replies → codes ≡ codes_told said replies → faults ≡ faults_told said replies
-    → (if b then Err (Replied (record { codes = codes; faults = faults })) else Ok tt) ≡ replied_ending said replies
-replied_ending-by said replies b codes faults told codes_are faults_are =
-    let ends : Bool → List (Option Code) → List (Option FaultKind) → Ending = λ b codes faults. if b then Err (Replied (record { codes = codes; faults = faults })) else Ok tt in
+    → (if b then Err (Replied (record { kind = kind; codes = codes; faults = faults })) else Ok tt) ≡ replied_ending kind said replies
+replied_ending-by kind said replies b codes faults told codes_are faults_are =
+    let ends : Bool → List (Option Code) → List (Option FaultKind) → Ending = λ b codes faults. if b then Err (Replied (record { kind = kind; codes = codes; faults = faults })) else Ok tt in
     ap (λ (d : Bool). ends d codes faults) told ∙ ap (λ (cs : List (Option Code)). ends (list_any (λ r. is_trouble (said r)) replies) cs faults) codes_are
     ∙ ap (λ (ks : List (Option FaultKind)). ends (list_any (λ r. is_trouble (said r)) replies) (codes_told said replies) ks) faults_are
 

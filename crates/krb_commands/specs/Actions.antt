@@ -1,11 +1,13 @@
 -- What a command line leads to.
-use Rattle.std.specs.Prelude.{◌≡◌, ℕ, List, [], None, Result, Ok, Err, string_bytes}
+use Rattle.std.specs.Prelude.{unwrap_or, ◌≡◌, ℕ, List, [], Option, None, Result, Ok, Err, string_bytes}
 use Rattle.krb_files.specs.declared.files.Files.{Ghosts}
 use Rattle.krb_files.specs.Bytes.{Watch}
 use Rattle.krb_files.specs.Reader.{Source}
 use Rattle.krb_commands.specs.declared.action.Action.{Action}
-use Rattle.krb_commands.specs.declared.action.Action.TheVariants.{Klist, Ktcheck, Ktedit, Ktfind, Ktremove, Ktutil, Help}
+use Rattle.krb_commands.specs.declared.action.Action.TheVariants.{Ccedit, Ccremove, Klist, Ktcheck, Ktedit, Ktfind, Ktremove, Ktutil, Help}
 use Rattle.krb_commands.specs.declared.mistake.WordFault.{WordFault}
+use Rattle.krb_commands.specs.Ccedit.{RunsCcedit}
+use Rattle.krb_commands.specs.Ccremove.{RunsCcremove}
 use Rattle.krb_commands.specs.Changing.{RunsChange}
 use Rattle.krb_commands.specs.ErrorOutput.{ErrorWatch}
 use Rattle.krb_commands.specs.Mistakes.{word_status, word_text}
@@ -22,7 +24,7 @@ use Rattle.krb_commands.specs.Runs.{Run, EndsRun, Says}
 abbrev pub help_run : List ℕ → Run
 help_run text = record { out = text; ending = Ok tt }
 
-module _ {F : Type 0} (trait : Ghosts F) (now : ℕ) (input input' : Source) (old new : F) (out out' : Watch) (err err' : ErrorWatch) (status : ℕ) where
+module _ {F : Type 0} (trait : Ghosts F) (now : Option ℕ) (input input' : Source) (old new : F) (out out' : Watch) (err err' : ErrorWatch) (status : ℕ) where
   -- an action over the files, and over what the standard input gives
   abbrev pub EndsAction : Action → Type 0
   EndsAction (Klist options file) = RunsOver trait old (string_bytes file) (listing options (string_bytes file)) new out out' err err' status
@@ -30,7 +32,9 @@ module _ {F : Type 0} (trait : Ghosts F) (now : ℕ) (input input' : Source) (ol
   EndsAction (Ktedit order file) = RunsEdit trait (string_bytes file) order input input' old new out out' err err' status
   EndsAction (Ktcheck order file) = RunsOver trait old (string_bytes file) (checking order (trait.mode new)) new out out' err err' status
   EndsAction (Ktremove options file) = RunsChange trait (string_bytes file) (RemovesFairly options) (removal options) old new out out' err err' status
-  EndsAction (Ktutil order) = RunsKtutil trait order now input input' old new out out' err err' status
+  EndsAction (Ktutil order) = RunsKtutil trait order (unwrap_or now 0) input input' old new out out' err err' status
+  EndsAction (Ccedit file) = RunsCcedit trait (string_bytes file) input input' old new out out' err err' status
+  EndsAction (Ccremove options file) = RunsCcremove trait (string_bytes file) options now old new out out' err err' status
   EndsAction (Help text) = (new ≡ old) × EndsRun [] None (help_run (string_bytes text)) out out' err err' status
 
   -- it is said why nothing was asked for, and nothing is done

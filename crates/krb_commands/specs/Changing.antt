@@ -1,7 +1,8 @@
 -- What a run that changes a file leaves.
-use Rattle.std.specs.Prelude.{◌≡◌, ◌⊎◌, ℕ, List, Option, None, Some, Result, Ok, Err}
+use Rattle.std.specs.Prelude.{◌≡◌, ◌≢◌, ◌⊎◌, ℕ, List, Option, None, Some, Result, Ok, Err}
 use Rattle.krb_files.specs.declared.files.Files.{Ghosts}
 use Rattle.krb_files.specs.declared.files.LoadFault.{LoadFault}
+use Rattle.krb_files.specs.declared.files.LoadFault.TheVariants as load
 use Rattle.krb_files.specs.declared.files.SaveFault.{SaveFault}
 use Rattle.krb_files.specs.Bytes.{Watch}
 use Rattle.krb_files.specs.Files.{SameFiles, SetsFile, CountsFailure, loaded}
@@ -32,6 +33,16 @@ edit_over why edit (Err e) = no_edit (ends_by (why e))
 abbrev pub FairOver : {X E : Type 0} → (X → Type 0) → Result X E → Type 0
 FairOver Fair (Ok x) = Fair x
 FairOver Fair (Err e) = Unit {0}
+
+-- an edit without memory is none: some trouble ends it, or it ends otherwise
+abbrev pub IsUnspent : Edit → Type 0
+IsUnspent due = ((trouble : Trouble) × (due ≡ no_edit (ends_by trouble))) ⊎ (due.run.ending ≢ Err NoMemory)
+
+-- what is due by what a load answers: one that fails, and one without memory, end the run, and no edit ends without memory
+pub record FollowsLoad (due : Result (List ℕ) LoadFault → Edit) : Type 0 where
+  pub failed : due (Err load.Failed) ≡ no_edit (ends_by FileNotRead)
+  pub memory : due (Err load.NoMemory) ≡ no_edit (ends_by NoMemory)
+  pub unspent : (answer : Result (List ℕ) LoadFault) → IsUnspent (due answer)
 
 -- ---- what is done
 

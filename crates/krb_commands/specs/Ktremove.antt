@@ -15,6 +15,7 @@ use Rattle.krb_audit.specs.declared.selection.AskedKvno.TheVariants.{Old}
 use Rattle.krb_audit.specs.declared.selection.Selection.{Selection}
 use Rattle.krb_audit.specs.Selection.{asked, is_named}
 use Rattle.krb_commands.specs.declared.action.RemoveOptions.{RemoveOptions}
+use Rattle.krb_commands.specs.declared.trouble.FileKind.TheVariants.{Keytab}
 use Rattle.krb_commands.specs.declared.trouble.Trouble.TheVariants.{NothingToRemove, Refused}
 use Rattle.krb_commands.specs.Changing.{Edit, no_edit, edit_over, FairOver}
 use Rattle.krb_commands.specs.Ktedit.{keytab_after, RunsFairly}
@@ -33,7 +34,7 @@ asks_for_any s = is_none s.name && (length s.enctypes.items == 0)
 
 -- how a run ends where no entry is asked for; nothing to do is no failure where old ones are, of what there is
 abbrev pub none_ending : {A : Type 0} → Selection A → Bool → Ending
-none_ending s named = if asks_for_old s.kvno && (asks_for_any s || named) then Ok tt else Err NothingToRemove
+none_ending s named = if asks_for_old s.kvno && (asks_for_any s || named) then Ok tt else Err (NothingToRemove Keytab)
 
 -- the removal of each of these entries
 abbrev pub cuts : List PlacedEntry → List (Event EntryParts)

@@ -13,9 +13,13 @@ pub mod InputLines
 pub mod Klist
 pub mod Ktfind
 pub mod Changing
+pub mod Sessions
+pub mod Scripted
 pub mod Ktcheck
 pub mod Ktedit
 pub mod Ktremove
+pub mod Ccedit
+pub mod Ccremove
 pub mod KtutilWords
 pub mod KtutilCommand
 pub mod KtutilPlan
@@ -27,4 +31,5 @@ pub mod Ktutil
 pub mod Edits
 pub mod Options
 pub mod RemoveWords
+pub mod TicketWords
 pub mod Actions

@@ -3,7 +3,6 @@ use Rattle.std.specs.Prelude.{◌≡◌, ℕ, List, [], ◌++◌, Bool, Option, 
 use Rattle.krb_wire.specs.NameOf.{name_fault_phrase}
 use Rattle.krb_commands.specs.declared.mistake.Mistake.{Mistake}
 use Rattle.krb_commands.specs.declared.mistake.Mistake.TheVariants as mistake
-use Rattle.krb_commands.specs.declared.mistake.BadLine.{BadLine}
 use Rattle.krb_commands.specs.declared.mistake.WordFault.{WordFault}
 use Rattle.krb_commands.specs.declared.mistake.WordFault.TheVariants as word
 use Rattle.krb_commands.specs.Messages.{message}
@@ -33,7 +32,7 @@ mistake_line (mistake.ForKeytabs option) rest = shown_word option.now ++ (codes 
 mistake_line (mistake.NoVersion word) rest = quoted word.now (codes "\" is no ") (codes "version" ++ rest)
 mistake_line (mistake.NoEtype word) rest = quoted word.now (codes "\" is no ") (codes "encryption type" ++ rest)
 mistake_line (mistake.BadName word fault) rest = quoted word.now (codes "\" has ") (name_fault_phrase fault ++ rest)
-mistake_line mistake.NothingSelects rest = codes "nothing selects; give -p, -k or -e" ++ rest
+mistake_line (mistake.NothingSelects options) rest = codes "nothing selects; give " ++ (shown_word options.now ++ rest)
 mistake_line mistake.LateExplain rest = codes "--explain stands before the command" ++ rest
 mistake_line mistake.NotText rest = codes "an argument is not UTF-8" ++ rest
 

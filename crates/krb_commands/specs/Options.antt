@@ -9,7 +9,7 @@ use Rattle.krb_wire.specs.Reading.{principal_parts}
 use Rattle.krb_text.specs.Etype.{etype_in}
 use Rattle.krb_text.specs.Numbers.{number_in}
 use Rattle.krb_commands.specs.declared.action.Action.{Action}
-use Rattle.krb_commands.specs.declared.action.Action.TheVariants.{Klist, Ktcheck, Ktedit, Ktfind}
+use Rattle.krb_commands.specs.declared.action.Action.TheVariants.{Ccedit, Klist, Ktcheck, Ktedit, Ktfind}
 use Rattle.krb_commands.specs.declared.action.FindOptions.{FindOptions}
 use Rattle.krb_commands.specs.declared.action.KlistOptions.{KlistOptions}
 use Rattle.krb_commands.specs.declared.action.ListKind.{ListKind}
@@ -63,6 +63,11 @@ AsksToList action wanted name = ⊥
 abbrev pub AsksToEdit : Action → Order → List ℕ → Type 0
 AsksToEdit (Ktedit order file) wanted name = (order ≡ wanted) × (string_bytes file ≡ name)
 AsksToEdit action wanted name = ⊥
+
+-- to edit the cache of that name
+abbrev pub AsksToEditCache : Action → List ℕ → Type 0
+AsksToEditCache (Ccedit file) name = string_bytes file ≡ name
+AsksToEditCache action name = ⊥
 
 -- to check the file of that name
 abbrev pub AsksToCheck : Action → Order → List ℕ → Type 0

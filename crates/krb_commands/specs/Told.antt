@@ -7,6 +7,7 @@ use Rattle.krb_walk.specs.declared.refusal.Code.{Code}
 use Rattle.krb_walk.specs.declared.refusal.Code.TheVariants.{Damaged, TooLong, Full, NotAPlace, NotLive, NoSuchWalk, TooManyWalks, ReadOnly, NotFound, KvnoNotFound, Marked}
 use Rattle.krb_walk.specs.Numbers.{code_number, fault_number}
 use Rattle.krb_walk.specs.Said.{Said, Refused, Faulted}
+use Rattle.krb_commands.specs.declared.trouble.FileKind.{FileKind}
 use Rattle.krb_commands.specs.declared.trouble.Trouble.{Trouble}
 use Rattle.krb_commands.specs.declared.trouble.Trouble.TheVariants.{Found, Replied}
 use Rattle.krb_commands.specs.Troubles.{Ending}
@@ -50,6 +51,6 @@ module _ {R : Type 0} (said : R → Said) (replies : List R) where
   abbrev pub faults_told : List (Option FaultKind)
   faults_told = map fault_told (CutLength ∷ Overrun ∷ BadEntry ∷ BadCredential ∷ [])
 
-  -- how a run ends that printed the replies
-  abbrev pub replied_ending : Ending
-  replied_ending = if list_any (λ r. is_trouble (said r)) replies then Err (Replied (record { codes = codes_told; faults = faults_told })) else Ok tt
+-- how a run ends that printed the replies of a file of that kind
+abbrev pub replied_ending : {R : Type 0} → FileKind → (R → Said) → List R → Ending
+replied_ending kind said replies = if list_any (λ r. is_trouble (said r)) replies then Err (Replied (record { kind = kind; codes = codes_told said replies; faults = faults_told said replies })) else Ok tt

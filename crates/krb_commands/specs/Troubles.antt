@@ -76,11 +76,12 @@ trouble_message file (trouble.NotAKeytab why) = file_number_message file (codes 
 trouble_message file (trouble.NotAKeytabToList why) = file_number_message file (codes "not a keytab (") (open_fault_number why.fault) (codes ")")
 trouble_message file (trouble.NotACache why) = file_number_message file (codes "not a cache (") (cache_fault_number why.fault) (codes ")")
 trouble_message file (trouble.Refused code) = file_number_message file (codes "refused ") (code_number code) []
-trouble_message file trouble.NothingToRemove = file_number_message file (codes "refused ") (code_number NotFound) []
+trouble_message file (trouble.NothingToRemove kind) = file_number_message file (codes "refused ") (code_number NotFound) []
 trouble_message file (trouble.Listed fault) = []
 trouble_message file (trouble.Replied told) = []
 trouble_message file (trouble.Found findings) = []
 trouble_message file trouble.OutputNotWritten = message (codes "cannot write output")
+trouble_message file trouble.ClockNotRead = message (codes "cannot read the clock")
 trouble_message file trouble.NoMemory = message (codes "out of memory")
 
 -- the status
@@ -90,6 +91,7 @@ trouble_status trouble.InputNotRead = 3
 trouble_status trouble.FileNotRead = 3
 trouble_status trouble.FileNotWritten = 3
 trouble_status trouble.OutputNotWritten = 3
+trouble_status trouble.ClockNotRead = 3
 trouble_status (trouble.Found findings) = if findings.is_wrong then 1 else 0
 trouble_status other = 1
 

@@ -19,6 +19,8 @@ use Rattle.krb_files.specs.Phrases.{cause_phrase}
 use Rattle.krb_text.specs.declared.line_fault.LineFault.{LineFault}
 use Rattle.krb_text.specs.LineFault.{line_phrase, ktutil_phrase}
 use Rattle.krb_audit.specs.declared.told.Told.{Told as CheckTold}
+use Rattle.krb_commands.specs.declared.trouble.FileKind.{FileKind}
+use Rattle.krb_commands.specs.declared.trouble.FileKind.TheVariants.{Keytab, Cache}
 use Rattle.krb_commands.specs.declared.trouble.Findings.{Findings}
 use Rattle.krb_commands.specs.declared.trouble.Trouble.{Trouble}
 use Rattle.krb_commands.specs.declared.trouble.Trouble.TheVariants as trouble
@@ -37,6 +39,22 @@ keytab_phrase Full = codes "the file would be longer than 16,777,216 bytes"
 keytab_phrase NotAPlace = codes "no record, hole or end stands at this place"
 keytab_phrase NotLive = codes "no entry stands at this place"
 keytab_phrase code = code_phrase code
+
+-- why a cache refused something
+abbrev pub cache_phrase : Code → List ℕ
+cache_phrase NotAPlace = codes "no credential or end stands at this place"
+cache_phrase NotLive = codes "no ticket or configuration entry stands at this place"
+cache_phrase code = keytab_phrase code
+
+-- why a file refused something
+abbrev pub refusal_phrase : FileKind → Code → List ℕ
+refusal_phrase Keytab code = keytab_phrase code
+refusal_phrase Cache code = cache_phrase code
+
+-- why nothing was removed from a file
+abbrev pub nothing_phrase : FileKind → List ℕ
+nothing_phrase Keytab = codes "no entry has what was asked for"
+nothing_phrase Cache = codes "no ticket has what was asked for"
 
 -- why an image is no keytab, by whether it begins as a cache
 abbrev pub no_keytab_phrase : KtOpenFault → Bool → List ℕ
@@ -77,9 +95,9 @@ abbrev pub listed_words : List ℕ → Fault → List ℕ
 listed_words file fault = codes "krbfile: " ++ (file ++ (codes ": fault " ++ (decimal (fault_number fault.kind) ++ (codes " at " ++ (decimal fault.place ++ (codes "\nkrbfile: " ++ (fault_phrase fault.kind ++ codes "\n")))))))
 
 -- a refusal that replies tell of, and its phrase
-abbrev pub code_words : Option Code → List ℕ
-code_words None = []
-code_words (Some code) = codes "krbfile: refused " ++ (decimal (code_number code) ++ (codes ": " ++ (keytab_phrase code ++ codes "\n")))
+abbrev pub code_words : FileKind → Option Code → List ℕ
+code_words kind None = []
+code_words kind (Some code) = codes "krbfile: refused " ++ (decimal (code_number code) ++ (codes ": " ++ (refusal_phrase kind code ++ codes "\n")))
 
 -- a fault that replies tell of, and its phrase
 abbrev pub fault_words : Option FaultKind → List ℕ
@@ -87,8 +105,8 @@ fault_words None = []
 fault_words (Some kind) = codes "krbfile: fault " ++ (decimal (fault_number kind) ++ (codes ": " ++ (fault_phrase kind ++ codes "\n")))
 
 -- what replies tell of: refusals first, each once
-abbrev pub told_words : List (Option Code) → List (Option FaultKind) → List ℕ
-told_words refusals faults = flat_map code_words refusals ++ flat_map fault_words faults
+abbrev pub told_words : FileKind → List (Option Code) → List (Option FaultKind) → List ℕ
+told_words kind refusals faults = flat_map (code_words kind) refusals ++ flat_map fault_words faults
 
 -- a line, if its word was printed
 abbrev pub line_if : Bool → List ℕ → List ℕ
@@ -127,11 +145,12 @@ trouble_words file line cause (trouble.NotAKeytab why) = phrase_line line (no_ke
 trouble_words file line cause (trouble.NotAKeytabToList why) = phrase_line line (list_phrase why.fault why.is_cache)
 trouble_words file line cause (trouble.NotACache why) = phrase_line line (no_cache_phrase why.fault why.is_keytab)
 trouble_words file line cause (trouble.Refused code) = phrase_line line (keytab_phrase code)
-trouble_words file line cause trouble.NothingToRemove = phrase_line line (codes "no entry has what was asked for")
+trouble_words file line cause (trouble.NothingToRemove kind) = phrase_line line (nothing_phrase kind)
 trouble_words file line cause (trouble.Listed fault) = listed_words file fault
 trouble_words file line cause (trouble.Found findings) = found_words file findings
-trouble_words file line cause (trouble.Replied told) = told_words told.codes told.faults
+trouble_words file line cause (trouble.Replied told) = told_words told.kind told.codes told.faults
 trouble_words file line cause trouble.OutputNotWritten = cause_words file line cause
+trouble_words file line cause trouble.ClockNotRead = phrase_line line (codes "the clock is before 1970 or after 2106, or failed")
 trouble_words file line cause trouble.NoMemory = []
 
 -- what explains an end

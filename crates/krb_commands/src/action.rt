@@ -42,6 +42,17 @@ pub struct RemoveOptions<A: Allocator> {
     pub v1_order: Order,
 }
 
+/// Which tickets ccremove removes: those of which all holds that is given.
+#[derive(Drop)]
+pub struct TicketOptions<A: Allocator> {
+    /// Their server, as it is printed.
+    pub server: Option<Principal<A>>,
+    /// Those that have ended.
+    pub expired: bool,
+    /// To tell what would be removed, and to save nothing.
+    pub dry_run: bool,
+}
+
 /// What a command line asks for.
 #[derive(Drop)]
 pub enum Action {
@@ -55,6 +66,10 @@ pub enum Action {
     Ktcheck(Order, String),
     /// To remove entries of the file of that name.
     Ktremove(RemoveOptions<Global>, String),
+    /// To edit the cache of that name by a script.
+    Ccedit(String),
+    /// To remove tickets of the cache of that name.
+    Ccremove(TicketOptions<Global>, String),
     /// To handle the lines of ktutil; version 1 has that order.
     Ktutil(Order),
     /// To show that help.

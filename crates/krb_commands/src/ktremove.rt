@@ -1,19 +1,19 @@
 //! Removes entries of a keytab's file.
 
-ghost use Rattle.std.specs.Prelude.{◌≡◌, [], false, IfOk, IsFalse, None, Some, if◌then◌else◌, map, option_map, vec_items};
+ghost use Rattle.std.specs.Prelude.{◌≡◌, false, IfOk, IsFalse, None, Some, if◌then◌else◌, map, option_map, vec_items};
 ghost use Rattle.krb_walk.specs.declared.event.Event.TheVariants.{Cut};
 ghost use Rattle.krb_keytab.specs.Store.{image_of};
 ghost use Rattle.krb_commands.specs.Changing.{Changes, ChangesFile, RunsChange};
-ghost use Rattle.krb_commands.specs.Edits.{edited_run, run_of, saved_of, Makes};
+ghost use Rattle.krb_commands.specs.Edits.{run_of, Makes};
 ghost use Rattle.krb_commands.specs.Ktedit.{keytab_after, RunsFairly};
 ghost use Rattle.krb_commands.specs.Ktremove.{FairRemoval, RemovesFairly, none_ending, removal, removal_in};
 
 use crate::action::RemoveOptions;
-use crate::edited::{Edited, hold_if, save_edited, show_edited};
+use crate::edited::{Edited, hold_if, nothing, save_edited, show_edited};
 use crate::error_output::ErrorOutput;
 use crate::loading::load_keytab;
 use crate::telling::{cause_of, tell};
-use crate::trouble::Trouble;
+use crate::trouble::{FileKind, Trouble};
 use krb_audit::{AskedKvno, Selection, select};
 use krb_files::{Files, Watched};
 use krb_indexed::Indexed;
@@ -65,19 +65,7 @@ fn none_end<A: Allocator>(selection: &Selection<A>, is_named: bool) -> Result<()
     if selection.kvno == AskedKvno::Old && (is_any || is_named) {
         Ok(())
     } else {
-        Err(Trouble::NothingToRemove)
-    }
-}
-
-// Nothing is saved or printed.
-fn nothing<A: Allocator>(alloc: A, ending: Result<(), Trouble>) -> Edited<A>
-    ensures saved { saved_of result ≡ None }
-    ensures run { edited_run result ≡ record { out = []; ending = ending } }
-{
-    Edited {
-        saved: None,
-        text: Vec::new(alloc),
-        ending,
+        Err(Trouble::NothingToRemove(FileKind::Keytab))
     }
 }
 

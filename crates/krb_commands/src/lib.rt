@@ -2,6 +2,8 @@
 #![tactic(auto)]
 
 mod action;
+mod ccedit;
+mod ccremove;
 mod edited;
 mod error_output;
 mod input_lines;
@@ -16,13 +18,17 @@ mod mistake;
 mod options;
 mod remove_words;
 mod response;
+mod scripted;
 mod telling;
 #[cfg(test)]
 mod tests;
+mod ticket_words;
 mod told;
 mod trouble;
 
-pub use action::{Action, FindOptions, KlistOptions, ListKind, RemoveOptions};
+pub use action::{Action, FindOptions, KlistOptions, ListKind, RemoveOptions, TicketOptions};
+pub use ccedit::run_ccedit;
+pub use ccremove::run_ccremove;
 pub use error_output::ErrorOutput;
 pub use klist::run_klist;
 pub use ktcheck::run_ktcheck;
@@ -33,8 +39,9 @@ pub use ktutil::{Ktutil, LineEnd, file_word, run_ktutil};
 pub use loading::NotKeytab;
 pub use mistake::{BadLine, Mistake, WordFault};
 pub use options::{
-    KlistWords, KtcheckWords, KteditWords, KtfindWords, KtutilWords, klist_action, ktcheck_action,
-    ktedit_action, ktfind_action, ktutil_action,
+    CceditWords, KlistWords, KtcheckWords, KteditWords, KtfindWords, KtutilWords, ccedit_action,
+    klist_action, ktcheck_action, ktedit_action, ktfind_action, ktutil_action,
 };
 pub use remove_words::{KtremoveWords, ktremove_action};
 pub use response::{Streams, respond};
+pub use ticket_words::{CcremoveWords, ccremove_action};

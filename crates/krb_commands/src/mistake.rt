@@ -24,8 +24,8 @@ pub enum Mistake<'a> {
     NoVersion(&'a str),
     NoEtype(&'a str),
     BadName(&'a str, NameFault),
-    /// The words of ktremove ask for no entry.
-    NothingSelects,
+    /// None of these options is given.
+    NothingSelects(&'a str),
     LateExplain,
     NotText,
 }

@@ -5,7 +5,7 @@ ghost use Rattle.krb_wire.specs.NameOf.{name_of};
 ghost use Rattle.krb_wire.specs.Reading.{principal_parts};
 ghost use Rattle.krb_commands.specs.declared.action.Action.TheVariants.{Ktutil};
 ghost use Rattle.krb_commands.specs.Mistakes.{IsRefusal, mistake_phrase};
-ghost use Rattle.krb_commands.specs.Options.{order_of, odd_option, odd_with_cache, odd_with_keytab, list_kind, list_options, Spells, AsksToCheck, AsksToList, AsksToEdit, AsksToFind, find_mistake, name_mistake};
+ghost use Rattle.krb_commands.specs.Options.{order_of, odd_option, odd_with_cache, odd_with_keytab, list_kind, list_options, Spells, AsksToCheck, AsksToList, AsksToEdit, AsksToEditCache, AsksToFind, find_mistake, name_mistake};
 
 use crate::action::{Action, FindOptions, KlistOptions, ListKind};
 use crate::mistake::{Mistake, WordFault};
@@ -48,6 +48,12 @@ pub struct KtfindWords<'a> {
 #[derive(Clone, Copy)]
 pub struct KtcheckWords<'a> {
     pub v1_big: bool,
+    pub file: &'a str,
+}
+
+/// What the words of ccedit say.
+#[derive(Clone, Copy)]
+pub struct CceditWords<'a> {
     pub file: &'a str,
 }
 
@@ -163,6 +169,15 @@ pub fn ktcheck_action<'a>(alloc: Global, words: &KtcheckWords<'a>) -> Result<Act
 {
     let file = String::from_str(alloc, words.file)?;
     Ok(Action::Ktcheck(order_of(words.v1_big), file))
+}
+
+/// What the words of ccedit ask for.
+pub fn ccedit_action<'a>(alloc: Global, words: &CceditWords<'a>) -> Result<Action, WordFault<'a>>
+    ensures ok { IfOk result (λ action. AsksToEditCache action words.now.file.now) }
+    ensures memory { IfErr result (λ fault. fault ≡ WordFault.NoMemory) }
+{
+    let file = String::from_str(alloc, words.file)?;
+    Ok(Action::Ccedit(file))
 }
 
 /// What the words of ktutil ask for.

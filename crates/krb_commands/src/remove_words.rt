@@ -61,7 +61,7 @@ fn odd_selection<'a>(words: &KtremoveWords<'_, 'a>) -> Option<Mistake<'a>>
     } else if words.kvnos.len() > 1 {
         Some(Mistake::Twice("-k"))
     } else if words.names.is_empty() && words.kvnos.is_empty() && words.etypes.is_empty() {
-        Some(Mistake::NothingSelects)
+        Some(Mistake::NothingSelects("-p, -k or -e"))
     } else {
         None
     }
@@ -82,14 +82,15 @@ fn asked_kvno<'a>(words: &[&'a str]) -> Result<AskedKvno, Mistake<'a>>
     }
 }
 
-// The name that the words ask for.
-fn asked_name<'a>(
+/// The name that words of that command ask for.
+pub fn asked_name<'a>(
     alloc: Global,
+    command: &'a str,
     words: &[&'a str],
 ) -> Result<Option<Principal<Global>>, WordFault<'a>>
     ensures ok { IfOk result (IsSpelledName (slice_get words.now 0)) }
     ensures readable { OnOk result (bad_name (slice_get words.now 0) ≡ None) }
-    ensures refused { IfErr result (IsRefusal mistake_phrase (codes "ktremove") (bad_name (slice_get words.now 0))) }
+    ensures refused { IfErr result (IsRefusal mistake_phrase command.now (bad_name (slice_get words.now 0))) }
 {
     let Some(word) = words.first() else {
         return Ok(None);
@@ -97,7 +98,7 @@ fn asked_name<'a>(
     match parse_name(alloc, word.as_bytes(), None) {
         Ok(name) => Ok(Some(name)),
         Err(NameFault::NoMemory) => Err(WordFault::NoMemory),
-        Err(fault) => Err(WordFault::of("ktremove", Mistake::BadName(word, fault))),
+        Err(fault) => Err(WordFault::of(command, Mistake::BadName(word, fault))),
     }
 }
 
@@ -132,7 +133,7 @@ fn remove_options<'a>(
     if let Some(mistake) = bad_etype(words.etypes) {
         return Err(WordFault::of("ktremove", mistake));
     }
-    let name = asked_name(alloc, words.names)?;
+    let name = asked_name(alloc, "ktremove", words.names)?;
     let Ok(enctypes) = etypes_of(alloc, words.etypes) else {
         return Err(WordFault::NoMemory);
     };

@@ -5,6 +5,8 @@ ghost use Rattle.krb_commands.specs.Actions.{EndsAsked, help_run};
 ghost use Rattle.krb_commands.specs.Runs.{EndsRun};
 
 use crate::action::Action;
+use crate::ccedit::run_ccedit;
+use crate::ccremove::run_ccremove;
 use crate::error_output::ErrorOutput;
 use crate::klist::run_klist;
 use crate::ktcheck::run_ktcheck;
@@ -38,12 +40,12 @@ fn show_help<W: Write, E: Write>(text: &str, out: &mut Watched<W>, err: &mut Err
 }
 
 /// Does what was asked for, or says why the command line was not read, and answers the status. Entries are
-/// made at `now`, in seconds. A failure of `err` changes nothing else.
+/// made at `now`, in seconds, or at 0 where the clock was not read. A failure of `err` changes nothing else.
 pub fn respond<A: Allocator + Copy, F: Files, R: Read, W: Write, E: Write>(
     alloc: A,
     asked: &Result<Action, WordFault<'_>>,
     files: &mut F,
-    now: u32,
+    now: Option<u32>,
     streams: &mut Streams<R, W, E>,
 ) -> u8
     requires { IsFalse streams.old.out.failed }
@@ -68,7 +70,11 @@ pub fn respond<A: Allocator + Copy, F: Files, R: Read, W: Write, E: Write>(
             run_ktremove(alloc, options, file.as_str(), files, out, err)
         }
         Ok(Action::Ktutil(v1_order)) => {
-            run_ktutil(alloc, *v1_order, files, input, now, out, err)
+            run_ktutil(alloc, *v1_order, files, input, now.unwrap_or(0), out, err)
+        }
+        Ok(Action::Ccedit(file)) => run_ccedit(alloc, file.as_str(), files, input, out, err),
+        Ok(Action::Ccremove(options, file)) => {
+            run_ccremove(alloc, options, now, file.as_str(), files, out, err)
         }
         Ok(Action::Help(text)) => show_help(text.as_str(), out, err),
         Err(fault) => tell_word_fault(*fault, err),

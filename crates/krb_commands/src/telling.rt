@@ -131,11 +131,12 @@ fn trouble_message(trouble: Trouble, file: &[u8]) -> Message<'_>
             file_number_message(file, "not a cache (", why.fault.number(), ")")
         }
         Trouble::Refused(code) => file_number_message(file, "refused ", code.number(), ""),
-        Trouble::NothingToRemove => {
+        Trouble::NothingToRemove(_) => {
             file_number_message(file, "refused ", Code::NotFound.number(), "")
         }
         Trouble::Listed(_) | Trouble::Replied(_) | Trouble::Found(_) => [NONE; 7],
         Trouble::OutputNotWritten => message("cannot write output"),
+        Trouble::ClockNotRead => message("cannot read the clock"),
         Trouble::NoMemory => message("out of memory"),
     }
 }

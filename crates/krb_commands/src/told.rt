@@ -5,13 +5,15 @@ ghost use Rattle.std.specs.List.{list_any};
 ghost use Rattle.krb_walk.specs.Said.{said};
 ghost use Rattle.krb_commands.specs.Told.{code_told, codes_told, fault_told, faults_told, is_trouble, replied_ending, tells_code, tells_fault};
 
-use crate::trouble::Trouble;
+use crate::trouble::{FileKind, Trouble};
 use krb_walk::{Code, FaultKind, Reply};
 use std::alloc::Allocator;
 
-/// The codes and the faults that replies tell of, each at its place in the order of their numbers.
+/// The kind of file that replies speak of, and the codes and the faults that they tell of, each at its place in
+/// the order of their numbers.
 #[derive(Clone, Copy, Debug, PartialEq, Eq)]
 pub struct Told {
+    pub kind: FileKind,
     pub codes: [Option<Code>; 11],
     pub faults: [Option<FaultKind>; 4],
 }
@@ -115,12 +117,13 @@ fn are_trouble<A: Allocator>(replies: &[Reply<A>]) -> bool
     replies.iter().any(is_trouble)
 }
 
-/// The end of a run that printed these replies.
-pub fn replied_end<A: Allocator>(replies: &[Reply<A>]) -> Result<(), Trouble>
-    ensures { result ≡ replied_ending said replies.now }
+/// The end of a run that printed these replies of a file of that kind.
+pub fn replied_end<A: Allocator>(kind: FileKind, replies: &[Reply<A>]) -> Result<(), Trouble>
+    ensures { result ≡ replied_ending kind said replies.now }
 {
     if are_trouble(replies) {
         Err(Trouble::Replied(Told {
+            kind,
             codes: codes_told(replies),
             faults: faults_told(replies),
         }))

@@ -11,6 +11,13 @@ use krb_text::{LineFault, ScriptRefusal};
 use krb_walk::{Code, Fault};
 use krb_wire::NoMemory;
 
+/// The kind of file that a run changes.
+#[derive(Clone, Copy, Debug, PartialEq, Eq)]
+pub enum FileKind {
+    Keytab,
+    Cache,
+}
+
 /// What was found about a keytab: which words were printed, the fault, and whether something is wrong.
 #[derive(Clone, Copy, Debug, PartialEq, Eq)]
 pub struct Findings {
@@ -36,10 +43,10 @@ pub enum Trouble {
     /// It was to be listed as one.
     NotAKeytabToList(NotKeytab),
     NotACache(NotCache),
-    /// A keytab refused what the run asked for.
+    /// The file refused what the run asked for.
     Refused(Code),
-    /// No entry has what was asked for.
-    NothingToRemove,
+    /// No entry, or no ticket, has what was asked for.
+    NothingToRemove(FileKind),
     /// The listing that was printed tells of it.
     Listed(Fault),
     /// The replies that were printed tell of it.
@@ -47,6 +54,8 @@ pub enum Trouble {
     /// The findings that were printed tell of it.
     Found(Findings),
     OutputNotWritten,
+    /// The clock failed, or stands before 1970 or after 2106.
+    ClockNotRead,
     NoMemory,
 }
 
@@ -61,7 +70,8 @@ impl Trouble {
             Trouble::InputNotRead
             | Trouble::FileNotRead
             | Trouble::FileNotWritten
-            | Trouble::OutputNotWritten => 3,
+            | Trouble::OutputNotWritten
+            | Trouble::ClockNotRead => 3,
             Trouble::Found(findings) => u8::from(findings.is_wrong),
             _ => 1,
         }

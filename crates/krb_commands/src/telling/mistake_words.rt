@@ -90,7 +90,7 @@ fn mistake_pieces(mistake: Mistake<'_>) -> Line<'_>
         Mistake::NoVersion(kvno) => quoted(kvno, "\" is no ", "version"),
         Mistake::NoEtype(etype) => quoted(etype, "\" is no ", "encryption type"),
         Mistake::BadName(name, fault) => quoted(name, "\" has ", fault.phrase()),
-        Mistake::NothingSelects => alone("nothing selects; give -p, -k or -e"),
+        Mistake::NothingSelects(options) => before("nothing selects; give ", options),
         Mistake::LateExplain => alone("--explain stands before the command"),
         Mistake::NotText => alone("an argument is not UTF-8"),
     }

@@ -10,8 +10,9 @@ ghost use Rattle.krb_commands.specs.Words.{code_words, fault_words, told_words};
 
 use crate::telling::piece::Piece;
 use crate::telling::saying::{Gathered, add_pieces};
-use crate::telling::words::keytab_phrase;
+use crate::telling::words::refusal_phrase;
 use crate::told::Told;
+use crate::trouble::FileKind;
 use arrayvec::ArrayVec;
 use krb_files::{OutFault, Watched, put};
 use krb_walk::{Code, FaultKind};
@@ -23,8 +24,8 @@ type Line = [Piece<'static>; 5];
 const NO_LINE: Line = [Piece::Text(""); 5];
 
 // A refusal that replies tell of, and its phrase.
-fn code_line(code: Option<Code>) -> Line
-    ensures { pieces_text result ≡ code_words code }
+fn code_line(kind: FileKind, code: Option<Code>) -> Line
+    ensures { pieces_text result ≡ code_words kind code }
 {
     let Some(code) = code else {
         return NO_LINE;
@@ -33,7 +34,7 @@ fn code_line(code: Option<Code>) -> Line
         Piece::Text("krbfile: refused "),
         Piece::Number(u64::from(code.number())),
         Piece::Text(": "),
-        Piece::Text(keytab_phrase(code)),
+        Piece::Text(refusal_phrase(kind, code)),
         Piece::Text("\n"),
     ]
 }
@@ -55,18 +56,19 @@ fn fault_line(kind: Option<FaultKind>) -> Line
 }
 
 fn add_codes<E: Write>(
+    file_kind: FileKind,
     codes: &[Option<Code>],
     gathered: &mut Gathered,
     err: &mut Watched<E>,
 ) -> Result<(), OutFault>
     ensures ok { OnOk result (Sent err.old.contents err.new.contents
-        (gathered.old.items ++ flat_map code_words codes.now) gathered.new.items) }
+        (gathered.old.items ++ flat_map (code_words file_kind) codes.now) gathered.new.items) }
     ensures prefix { OnErr result (AppendsPrefix err.old.contents err.new.contents
-        (gathered.old.items ++ flat_map code_words codes.now)) }
+        (gathered.old.items ++ flat_map (code_words file_kind) codes.now)) }
     ensures failed { OnErr result (IsTrue err.new.failed) }
 {
     'codes: for code in codes {
-        add_pieces(&code_line(*code), gathered, err)?;
+        add_pieces(&code_line(file_kind, *code), gathered, err)?;
     }
     Ok(())
 }
@@ -95,18 +97,18 @@ fn add_told<E: Write>(
     err: &mut Watched<E>,
 ) -> Result<(), OutFault>
     ensures ok { OnOk result (Sent err.old.contents err.new.contents
-        (gathered.old.items ++ told_words told.now.codes told.now.faults) gathered.new.items) }
+        (gathered.old.items ++ told_words told.now.kind told.now.codes told.now.faults) gathered.new.items) }
     ensures prefix { OnErr result (AppendsPrefix err.old.contents err.new.contents
-        (gathered.old.items ++ told_words told.now.codes told.now.faults)) }
+        (gathered.old.items ++ told_words told.now.kind told.now.codes told.now.faults)) }
     ensures failed { OnErr result (IsTrue err.new.failed) }
 {
-    add_codes(&told.codes, gathered, err)?;
+    add_codes(told.kind, &told.codes, gathered, err)?;
     add_faults(&told.faults, gathered, err)
 }
 
 /// Says what replies tell of, each number once, in one write. A failure is passed over.
 pub fn say_told<E: Write>(err: &mut Watched<E>, told: &Told)
-    ensures { Says err.old err.new (told_words told.now.codes told.now.faults) }
+    ensures { Says err.old err.new (told_words told.now.kind told.now.codes told.now.faults) }
 {
     let mut gathered = ArrayVec::new();
     match add_told(told, &mut gathered, err) {

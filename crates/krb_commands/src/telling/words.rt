@@ -4,11 +4,11 @@ ghost use Rattle.std.specs.Prelude.{◌≡◌, [], ◌++◌, IsFalse, codes};
 ghost use Rattle.krb_commands.specs.Messages.{phrase_line, words_line};
 ghost use Rattle.krb_commands.specs.PieceTexts.{piece_text, pieces_text};
 ghost use Rattle.krb_commands.specs.Told.{is_printed};
-ghost use Rattle.krb_commands.specs.Words.{cause_words, keytab_phrase, line_fault_phrase, list_phrase, listed_words, missing_words, no_cache_phrase, no_keytab_phrase, trouble_words};
+ghost use Rattle.krb_commands.specs.Words.{cache_phrase, cause_words, keytab_phrase, line_fault_phrase, list_phrase, listed_words, missing_words, no_cache_phrase, no_keytab_phrase, nothing_phrase, refusal_phrase, trouble_words};
 
 use crate::loading::{NotCache, NotKeytab};
 use crate::telling::piece::Piece;
-use crate::trouble::Trouble;
+use crate::trouble::{FileKind, Trouble};
 use krb_ccache::CcOpenFault;
 use krb_files::Cause;
 use krb_keytab::KtOpenFault;
@@ -57,8 +57,8 @@ fn phrase<'a>(line: Option<u64>, text: &'static str) -> Words<'a>
     words(line, Piece::Text(text), Piece::Text(""))
 }
 
-/// Why a keytab refused something.
-pub fn keytab_phrase(code: Code) -> &'static str
+// Why a keytab refused something.
+fn keytab_phrase(code: Code) -> &'static str
     ensures { result.now ≡ keytab_phrase code }
 {
     match code {
@@ -66,6 +66,37 @@ pub fn keytab_phrase(code: Code) -> &'static str
         Code::NotAPlace => "no record, hole or end stands at this place",
         Code::NotLive => "no entry stands at this place",
         code => code.phrase(),
+    }
+}
+
+// Why a cache refused something.
+fn cache_phrase(code: Code) -> &'static str
+    ensures { result.now ≡ cache_phrase code }
+{
+    match code {
+        Code::NotAPlace => "no credential or end stands at this place",
+        Code::NotLive => "no ticket or configuration entry stands at this place",
+        code => keytab_phrase(code),
+    }
+}
+
+/// Why a file refused something.
+pub fn refusal_phrase(kind: FileKind, code: Code) -> &'static str
+    ensures { result.now ≡ refusal_phrase kind code }
+{
+    match kind {
+        FileKind::Keytab => keytab_phrase(code),
+        FileKind::Cache => cache_phrase(code),
+    }
+}
+
+// Why nothing was removed from a file.
+fn nothing_phrase(kind: FileKind) -> &'static str
+    ensures { result.now ≡ nothing_phrase kind }
+{
+    match kind {
+        FileKind::Keytab => "no entry has what was asked for",
+        FileKind::Cache => "no ticket has what was asked for",
     }
 }
 
@@ -175,7 +206,7 @@ pub fn trouble_words(
         Trouble::LineRefused { code, .. } | Trouble::Refused(code) => {
             phrase(line, keytab_phrase(code))
         }
-        Trouble::NothingToRemove => phrase(line, "no entry has what was asked for"),
+        Trouble::NothingToRemove(kind) => phrase(line, nothing_phrase(kind)),
         Trouble::NoSuchFile => missing_words(line),
         Trouble::InputNotRead
         | Trouble::FileNotRead
@@ -186,6 +217,7 @@ pub fn trouble_words(
         Trouble::NotACache(why) => phrase(line, no_cache_phrase(why)),
         Trouble::Listed(fault) => listed_words(file, fault),
         Trouble::Replied(_) | Trouble::Found(_) => unreachable!(),
+        Trouble::ClockNotRead => phrase(line, "the clock is before 1970 or after 2106, or failed"),
         Trouble::NoMemory => no_words(),
     }
 }

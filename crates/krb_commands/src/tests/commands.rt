@@ -1,7 +1,9 @@
 //! The commands, each with what it leaves where nothing fails.
 
-use super::images::{ADDED, EDITED, IMAGE, REMOVED, REWRITTEN};
-use crate::action::{Action, FindOptions, KlistOptions, ListKind, RemoveOptions};
+use super::images::{
+    ADDED, CACHE, CACHE_EDITED, CACHE_REWRITTEN, EDITED, IMAGE, REMOVED, REWRITTEN,
+};
+use crate::action::{Action, FindOptions, KlistOptions, ListKind, RemoveOptions, TicketOptions};
 use crate::mistake::WordFault;
 use krb_audit::{AskedKvno, Selection};
 use krb_text::{CcColumns, KtColumns};
@@ -21,6 +23,10 @@ pub enum Command {
     KteditAnew,
     /// Removes the entry of `host/a@R`.
     Ktremove,
+    /// Removes the ticket, and sets the value anew, while a walk stands before both.
+    Ccedit,
+    /// Removes the ticket, and writes the cache anew.
+    Ccremove,
     /// Lists `k`, and saves it as `j`.
     KtutilCopy,
     /// Saves a new entry in `n`.
@@ -28,13 +34,15 @@ pub enum Command {
 }
 
 /// All of them.
-pub const COMMANDS: [Command; 8] = [
+pub const COMMANDS: [Command; 10] = [
     Command::Klist,
     Command::KlistCache,
     Command::Ktfind,
     Command::Ktedit,
     Command::KteditAnew,
     Command::Ktremove,
+    Command::Ccedit,
+    Command::Ccremove,
     Command::KtutilCopy,
     Command::KtutilAdd,
 ];
@@ -59,6 +67,8 @@ impl Command {
             Command::Ktfind => Action::Ktfind(look_up(alloc)?, file),
             Command::Ktedit | Command::KteditAnew => Action::Ktedit(Order::Little, file),
             Command::Ktremove => Action::Ktremove(removal(alloc)?, file),
+            Command::Ccedit => Action::Ccedit(file),
+            Command::Ccremove => Action::Ccremove(tickets(alloc)?, file),
             Command::KtutilCopy | Command::KtutilAdd => Action::Ktutil(Order::Little),
         }))
     }
@@ -66,19 +76,21 @@ impl Command {
     /// The file that it loads.
     fn file(self) -> &'static str {
         match self {
-            Command::KlistCache => "c",
+            Command::KlistCache | Command::Ccedit | Command::Ccremove => "c",
             _ => "k",
         }
     }
 
     pub fn input(self) -> &'static [u8] {
         match self {
-            Command::Klist | Command::KlistCache | Command::Ktfind | Command::Ktremove => b"",
+            Command::Klist | Command::KlistCache | Command::Ktfind => b"",
+            Command::Ktremove | Command::Ccremove => b"",
             Command::Ktedit => {
                 b"start\nstep 0\ncut 2\n\
 add 3 17 1700000000 202122232425262728292a2b2c2d2e2f c@R\nstep 0\nstep 0\n"
             }
             Command::KteditAnew => b"start\nstep 0\nstart\ncut 2\nrewrite\nstep 0\nstep 1\n",
+            Command::Ccedit => { b"start\ncut 22\nconfig pa_type krbtgt/R@R 2\nstep 0\nstep 0\n" }
             Command::KtutilCopy => b"rkt k\nl\nwkt j\nq\n",
             Command::KtutilAdd => {
                 b"addent -key -p host/a@R -k 3 -e aes128-cts-hmac-sha1-96\n\
@@ -110,6 +122,11 @@ walk 0 gave 53 next 98 kvno 3 etype 17 b@R\nwalk 0 end 98\n"
 rewritten 47\nwalk 0 gave 2 next 47 kvno 3 etype 17 b@R\nwalk 1 gave 2 next 47 kvno 3 etype 17 b@R\n"
             }
             Command::Ktremove => "removed 2 kvno 3 etype 17 host/a@R\n",
+            Command::Ccedit => {
+                "walk 0 at 22\ngone 22\nplaced 268\ngone 130\n\
+walk 0 gave 268 next 404 config pa_type(krbtgt/R@R)\nwalk 0 end 404\n"
+            }
+            Command::Ccremove => "removed 22 krbtgt/R@R\n",
             Command::KtutilCopy => {
                 "slot KVNO Principal\n---- ---- ---------\n   1    3 host/a@R\n   2    3 b@R\n"
             }
@@ -142,6 +159,8 @@ rewritten 47\nwalk 0 gave 2 next 47 kvno 3 etype 17 b@R\nwalk 1 gave 2 next 47 k
             Command::Ktedit => ("k", Some(IMAGE), EDITED),
             Command::KteditAnew => ("k", Some(IMAGE), REWRITTEN),
             Command::Ktremove => ("k", Some(IMAGE), REMOVED),
+            Command::Ccedit => ("c", Some(CACHE), CACHE_EDITED),
+            Command::Ccremove => ("c", Some(CACHE), CACHE_REWRITTEN),
             Command::KtutilCopy => ("j", None, IMAGE),
             Command::KtutilAdd => ("n", None, ADDED),
         };
@@ -168,9 +187,9 @@ fn listing(kind: ListKind) -> KlistOptions {
     }
 }
 
-/// The name `host/a@R`.
-fn host(alloc: Global) -> Result<Principal<Global>, Fail> {
-    match parse_name(alloc, b"host/a@R", None) {
+/// The name of that text.
+fn name(alloc: Global, text: &[u8]) -> Result<Principal<Global>, Fail> {
+    match parse_name(alloc, text, None) {
         Ok(name) => Ok(name),
         Err(_) => Err(Fail::from("no name")),
     }
@@ -179,7 +198,7 @@ fn host(alloc: Global) -> Result<Principal<Global>, Fail> {
 /// A look-up of `host/a@R` of any version and enctype.
 fn look_up(alloc: Global) -> Result<FindOptions<Global>, Fail> {
     Ok(FindOptions {
-        name: host(alloc)?,
+        name: name(alloc, b"host/a@R")?,
         kvno: 0,
         enctype: 0,
         v1_order: Order::Little,
@@ -190,11 +209,20 @@ fn look_up(alloc: Global) -> Result<FindOptions<Global>, Fail> {
 fn removal(alloc: Global) -> Result<RemoveOptions<Global>, Fail> {
     Ok(RemoveOptions {
         selection: Selection {
-            name: Some(host(alloc)?),
+            name: Some(name(alloc, b"host/a@R")?),
             kvno: AskedKvno::Exactly(3),
             enctypes: vec![in alloc; 17]?,
         },
         dry_run: false,
         v1_order: Order::Little,
+    })
+}
+
+/// A removal of the tickets for `krbtgt/R@R`.
+fn tickets(alloc: Global) -> Result<TicketOptions<Global>, Fail> {
+    Ok(TicketOptions {
+        server: Some(name(alloc, b"krbtgt/R@R")?),
+        expired: false,
+        dry_run: false,
     })
 }

@@ -104,7 +104,7 @@ pub fn respond_to<'a>(
         heap,
         asked,
         &mut files,
-        1_700_000_000,
+        Some(1_700_000_000),
         &mut Streams {
             input: WatchedReader::new(reader),
             out: Watched::new(&mut out),

@@ -4,7 +4,7 @@ use crate::error_output::ErrorOutput;
 use crate::loading::{NotCache, NotKeytab};
 use crate::telling::tell;
 use crate::told::Told;
-use crate::trouble::Trouble;
+use crate::trouble::{FileKind, Trouble};
 use krb_ccache::CcOpenFault;
 use krb_files::{Cause, Watched};
 use krb_keytab::KtOpenFault;
@@ -281,6 +281,29 @@ krbfile: refused 3: the file would be longer than 16,777,216 bytes
 krbfile: refused 5: no entry stands at this place
 krbfile: fault 2: a record or a hole is longer than the rest of the file
 ";
-    let told = Trouble::Replied(Told { codes, faults });
+    let told = Trouble::Replied(Told {
+        kind: FileKind::Keytab,
+        codes,
+        faults,
+    });
+    check(&rt, &[(told, None, None, "", words)])
+}
+
+#[test]
+fn words_of_replies_of_a_cache(rt: HostRuntime) -> Result<(), Fail> {
+    let mut codes = [None; 11];
+    codes[3] = Some(Code::NotAPlace);
+    codes[4] = Some(Code::NotLive);
+    codes[7] = Some(Code::ReadOnly);
+    let words = "\
+krbfile: refused 4: no credential or end stands at this place
+krbfile: refused 5: no ticket or configuration entry stands at this place
+krbfile: refused 8: a cache of version 3 is changed only by a rewrite
+";
+    let told = Trouble::Replied(Told {
+        kind: FileKind::Cache,
+        codes,
+        faults: [None; 4],
+    });
     check(&rt, &[(told, None, None, "", words)])
 }

@@ -1,7 +1,7 @@
 use Rattle.krb_commands.specs.Edits.{run_of}
 use Rattle.krb_commands.specs.Ktremove.{RemovesFairly, removal}
 use Rattle.krb_commands.proofs.Changing.{Changes-shown}
-use Rattle.krb_commands.proofs.Removals.{ends_as_loaded, removal_unspent}
+use Rattle.krb_commands.proofs.Removals.{removal_follows}
 use Rattle.krb_commands.proofs.ktremove.remove_from_file.Goals as goal
 
 -- what came of the file was shown
@@ -9,4 +9,4 @@ pub returns : goal.returns
 returns g c =
     let options = c.args.options.now in
     rw c.release.ensures (Changes-shown g.F.Files c.args.file.now (RemovesFairly options) (removal options) c.args.files.now c.remove_held-edited.new.files c.args.out.now c.show_edited.new.out c.show_edited.result (run_of c.remove_held-edited.result)
-    (ends_as_loaded options) (removal_unspent options) (rw c.hold_if.ensures at c.remove_held-edited.ensures) c.show_edited.ensures)
+    (removal_follows options) (rw c.hold_if.ensures at c.remove_held-edited.ensures) c.show_edited.ensures)

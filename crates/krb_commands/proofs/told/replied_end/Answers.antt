@@ -5,7 +5,7 @@ use Rattle.krb_commands.proofs.Words.{replied_ending-by}
 use Rattle.krb_commands.proofs.told.replied_end.Goals as goal
 
 pub returns-then-are_trouble : goal.returns-then-are_trouble
-returns-then-are_trouble g c = replied_ending-by said c.args.replies.now true c.codes_told.result c.faults_told.result c.if-are_trouble.ensures c.codes_told.ensures c.faults_told.ensures
+returns-then-are_trouble g c = replied_ending-by c.args.kind said c.args.replies.now true c.codes_told.result c.faults_told.result c.if-are_trouble.ensures c.codes_told.ensures c.faults_told.ensures
 
 pub returns-else-are_trouble : goal.returns-else-are_trouble
-returns-else-are_trouble g c = replied_ending-by said c.args.replies.now false (codes_told said c.args.replies.now) (faults_told said c.args.replies.now) c.if-are_trouble.ensures refl refl
+returns-else-are_trouble g c = replied_ending-by c.args.kind said c.args.replies.now false (codes_told said c.args.replies.now) (faults_told said c.args.replies.now) c.if-are_trouble.ensures refl refl

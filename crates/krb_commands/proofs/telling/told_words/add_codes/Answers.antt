@@ -10,12 +10,12 @@ pub returns-in_err-add_pieces-clause-prefix : goal.returns-in_err-add_pieces-cla
 returns-in_err-add_pieces-clause-prefix g c =
     let p = err_from_is_err_and c.from_residual.result c.from_residual.ensures.1 in
     let below : c.codes.code-index < length c.args.codes.now = omega arith in
-    rw p.1 (Sent-piece-prefix code_words c.args.codes.now c.codes.code-index _ _ _ _ _ _ below c.codes.invariant (rw c.code_line.ensures at c.in_err-add_pieces.ensures.prefix))
+    rw p.1 (Sent-piece-prefix (code_words c.args.file_kind) c.args.codes.now c.codes.code-index _ _ _ _ _ _ below c.codes.invariant (rw c.code_line.ensures at c.in_err-add_pieces.ensures.prefix))
 
 pub codes-preserved : goal.codes-preserved
 codes-preserved g c =
     let below : c.codes.code-index < length c.args.codes.now = omega arith in
-    Sent-piece code_words c.args.codes.now c.codes.code-index _ _ _ _ _ _ _ below c.codes.invariant (rw c.code_line.ensures at c.in_ok-add_pieces.ensures.ok)
+    Sent-piece (code_words c.args.file_kind) c.args.codes.now c.codes.code-index _ _ _ _ _ _ _ below c.codes.invariant (rw c.code_line.ensures at c.in_ok-add_pieces.ensures.ok)
 
 pub returns-clause-ok : goal.returns-clause-ok
 returns-clause-ok g c =

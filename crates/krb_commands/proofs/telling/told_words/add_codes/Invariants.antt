@@ -5,4 +5,4 @@ use Rattle.krb_commands.specs.Words.{code_words}
 use Rattle.krb_commands.proofs.telling.told_words.add_codes.Given as goal
 
 abbrev pub invariant-codes : goal.invariant-codes
-invariant-codes g l = Sent l.initial.err.contents l.err.contents (l.initial.gathered.items ++ flat_map code_words (take l.code-index l.codes)) l.gathered.items
+invariant-codes g l = Sent l.initial.err.contents l.err.contents (l.initial.gathered.items ++ flat_map (code_words l.file_kind) (take l.code-index l.codes)) l.gathered.items
