@@ -21,6 +21,16 @@ Lines of the script, of which empty ones and those that begin with # ask for not
   cut PLACE                     The removal of the record at that place
   rewrite                       The keytab is written anew, without holes";
 
+/// The lines of a script for a cache.
+const CACHE_SCRIPT: &str = "\
+Lines of the script, of which empty ones and those that begin with # ask for nothing:
+  start                       A new walk, from the first credential
+  resume PLACE                A new walk, from that place
+  step WALK                   The next credential of that walk
+  cut PLACE                   The removal of the credential at that place
+  config KEY PRINCIPAL VALUE  A configuration value; PRINCIPAL is - for none
+  rewrite                     The cache is written anew, without what was removed";
+
 /// The commands of ktutil.
 const COMMANDS: &str = "\
 Commands, each on a line, and their short names:
@@ -155,6 +165,42 @@ fn ktremove_command<'a>(alloc: Global) -> Result<Command<'a>, AllocError> {
         .arg(operand(alloc, "FILE", "The file to remove from"))
 }
 
+fn ccedit_command<'a>(alloc: Global) -> Result<Command<'a>, AllocError> {
+    Command::new(alloc, "ccedit")
+        .about("Edits a credential cache by a script from the standard input")
+        .override_usage("krbfile ccedit FILE < SCRIPT")
+        .after_help(CACHE_SCRIPT)
+        .args_override_self(true)
+        .arg(operand(alloc, "FILE", "The file to edit"))
+}
+
+fn ccremove_command<'a>(alloc: Global) -> Result<Command<'a>, AllocError> {
+    Command::new(alloc, "ccremove")
+        .about("Removes tickets from a credential cache")
+        .override_usage("krbfile ccremove [-n] [-p SERVICE] [--expired] FILE")
+        .args_override_self(true)
+        .arg(flag(
+            alloc,
+            "dry-run",
+            'n',
+            "Tell what would be removed, and save nothing",
+        ))?
+        .arg(option(
+            alloc,
+            "service",
+            'p',
+            "SERVICE",
+            "Tickets for that service, with its realm",
+        ))?
+        .arg(
+            Arg::new(alloc, "expired")
+                .long("expired")
+                .action(ArgAction::SetTrue)
+                .help("Tickets that have ended"),
+        )?
+        .arg(operand(alloc, "FILE", "The file to remove from"))
+}
+
 fn ktutil_command<'a>(alloc: Global) -> Result<Command<'a>, AllocError> {
     Command::new(alloc, "ktutil")
         .about("Edits a list of entries by commands from the standard input")
@@ -168,7 +214,7 @@ fn ktutil_command<'a>(alloc: Global) -> Result<Command<'a>, AllocError> {
 pub fn krbfile_command<'a>(alloc: Global) -> Result<Command<'a>, AllocError> {
     Command::new(alloc, "krbfile")
         .version(VERSION)
-        .about("Lists Kerberos keytabs and credential caches, and edits keytabs")
+        .about("Lists and edits Kerberos keytabs and credential caches")
         .subcommand_required(true)
         .arg(explain(alloc))?
         .subcommand(klist_command(alloc)?)?
@@ -176,5 +222,7 @@ pub fn krbfile_command<'a>(alloc: Global) -> Result<Command<'a>, AllocError> {
         .subcommand(ktfind_command(alloc)?)?
         .subcommand(ktremove_command(alloc)?)?
         .subcommand(ktcheck_command(alloc)?)?
+        .subcommand(ccedit_command(alloc)?)?
+        .subcommand(ccremove_command(alloc)?)?
         .subcommand(ktutil_command(alloc)?)
 }

@@ -1,4 +1,4 @@
-//! Shows Kerberos keytabs and credential caches, and checks and edits keytabs.
+//! Shows, checks and edits Kerberos keytabs and credential caches.
 #![tactic(auto)]
 
 mod bad_line;

@@ -45,7 +45,7 @@ fn asked<'a>(
 pub fn run<H: rt::Env + AllocGlobal, F: Files, R: Read, W: Write, E: Write>(
     rt: &H,
     files: &mut F,
-    now: u32,
+    now: Option<u32>,
     streams: &mut Streams<R, W, E>,
 ) -> u8
     requires { IsFalse streams.old.out.failed }

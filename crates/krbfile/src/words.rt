@@ -5,9 +5,9 @@ use crate::command_lines::krbfile_command;
 use clap::ArgMatches;
 use clap::error::ErrorKind;
 use krb_commands::{
-    Action, BadLine, KlistWords, KtcheckWords, KteditWords, KtfindWords, KtremoveWords,
-    KtutilWords, Mistake, WordFault, klist_action, ktcheck_action, ktedit_action, ktfind_action,
-    ktremove_action, ktutil_action,
+    Action, BadLine, CceditWords, CcremoveWords, KlistWords, KtcheckWords, KteditWords,
+    KtfindWords, KtremoveWords, KtutilWords, Mistake, WordFault, ccedit_action, ccremove_action,
+    klist_action, ktcheck_action, ktedit_action, ktfind_action, ktremove_action, ktutil_action,
 };
 use std::alloc::Global;
 
@@ -86,6 +86,32 @@ fn ktremove<'a>(alloc: Global, matches: &ArgMatches<'a>) -> Result<Action, WordF
     ktremove_action(alloc, &ktremove_words(matches, &none)?)
 }
 
+// The words of ccedit that were found.
+fn ccedit_words<'a>(matches: &ArgMatches<'a>) -> Result<CceditWords<'a>, WordFault<'a>> {
+    Ok(CceditWords {
+        file: found_operand("ccedit", matches, "FILE")?,
+    })
+}
+
+// The words of ccremove that were found, where an option that is not given has none of the values.
+fn ccremove_words<'m, 'a>(
+    matches: &'m ArgMatches<'a>,
+    none: &'m [&'a str],
+) -> Result<CcremoveWords<'m, 'a>, WordFault<'a>> {
+    Ok(CcremoveWords {
+        dry_run: matches.get_flag("dry-run"),
+        expired: matches.get_flag("expired"),
+        names: matches.get_strs("service").unwrap_or(none),
+        file: found_operand("ccremove", matches, "FILE")?,
+    })
+}
+
+// What the words of ccremove ask for.
+fn ccremove<'a>(alloc: Global, matches: &ArgMatches<'a>) -> Result<Action, WordFault<'a>> {
+    let none: Vec<&'a str> = Vec::new(alloc);
+    ccremove_action(alloc, &ccremove_words(matches, &none)?)
+}
+
 // The words of ktutil that were found.
 fn ktutil_words(matches: &ArgMatches<'_>) -> KtutilWords {
     KtutilWords {
@@ -101,6 +127,8 @@ fn command_action<'a>(alloc: Global, matches: &ArgMatches<'a>) -> Result<Action,
         Some(("ktfind", found)) => ktfind_action(alloc, &ktfind_words(found)?),
         Some(("ktcheck", found)) => ktcheck_action(alloc, &ktcheck_words(found)?),
         Some(("ktremove", found)) => ktremove(alloc, found),
+        Some(("ccedit", found)) => ccedit_action(alloc, &ccedit_words(found)?),
+        Some(("ccremove", found)) => ccremove(alloc, found),
         Some(("ktutil", found)) => Ok(ktutil_action(ktutil_words(found))),
         _ => Err(WordFault::BadLine(BadLine {
             mistake: Mistake::NoCommand,
