@@ -4,7 +4,7 @@ from __future__ import annotations
 from dataclasses import replace
 from itertools import permutations
 
-from cache_images import TICKET, USUAL, credentials
+from cache_images import PA_TYPE, TICKET, USUAL, credentials, offset
 from cache_listings import CONFIG_LINE, ETYPE_LINE, FLAGS_LINE, TICKET_LINE
 from cache_reading import listed
 from command_lines import OF_KLIST, Line, check_help, shown
@@ -65,6 +65,17 @@ REFUSED: list[Line] = [
         ("klist", "-kt", "-e", "-C"),
     ]),
     *(("klist", "-" + letter, "c") for letter in "sandlAiVxFE"),
+    ("ccedit",),
+    ("ccedit", "c", "c"),
+    ("ccedit", "-c", "c"),
+    ("ccedit", "--v1-big", "c"),
+    ("ccedit", "--expired", "c"),
+    ("ccedit", "--"),
+    ("ccedit", b"\xff"),
+    ("ccremove", "--expired", b"\xff"),
+    ("ccremove", "-p", b"\xff@R", "c"),
+    ("ccedi", "c"),
+    ("CCEDIT", "c"),
     ("klist", "-cx", "c"),
     ("klist", "-c=yes", "c"),
     ("klist", "--flags", "c"),
@@ -75,8 +86,36 @@ REFUSED: list[Line] = [
     ("-c", "c"),
 ]
 
+# Lines that read a script, which is `start`.
+EDITING: list[Line] = [
+    ("ccedit", "c"),
+    ("ccedit", "--", "c"),
+    ("ccedit", "c", "--"),
+]
+
+# Lines that remove all tickets.
+REMOVING: list[Line] = [
+    ("ccremove", "--expired", "c"),
+    ("ccremove", "c", "--expired"),
+    ("ccremove", "--expired", "c", "--expired"),
+    ("ccremove", "-p", "krbtgt/R@R", "c"),
+    ("ccremove", "-pkrbtgt/R@R", "c"),
+    ("ccremove", "c", "-p", "krbtgt/R@R"),
+    ("ccremove", "--expired", "-p", "krbtgt/R@R", "--", "c"),
+]
+
+# Lines that only tell of them.
+TELLING: list[Line] = [
+    ("ccremove", "-n", "--expired", "c"),
+    ("ccremove", "--expired", "c", "-n"),
+    ("ccremove", "-nn", "-n", "--expired", "c"),
+    ("ccremove", "-npkrbtgt/R@R", "c"),
+]
+
 # Lines that print help, and words that it has.
 OF_CACHES = (*OF_KLIST, b"-c", b"-f", b"-C")
+OF_CCEDIT = (b"krbfile ccedit", b"FILE", b"config KEY PRINCIPAL VALUE", b"--help")
+OF_CCREMOVE = (b"krbfile ccremove", b"-n", b"-p <SERVICE>", b"--expired", b"FILE", b"--help")
 HELP: list[Line] = [
     ("help", "klist"),
     ("klist", "--help"),
@@ -122,9 +161,24 @@ def check_order(report: Report, program: str) -> None:
         check_case(report, program, Case(f"order: {shown(words)}", words, wanted, {"c": image}))
 
 
+def check_changing(report: Report, program: str) -> None:
+    """Lines of ccedit and of ccremove that are taken."""
+    gone = Outcome(0, b"removed 40 krbtgt/R@R\n")
+    left = {"c": credentials(PA_TYPE, fields=offset(5, -10))}
+    wanted = [*((words, Outcome(0, b"walk 0 at 40\n"), None) for words in EDITING),
+              *((words, gone, left) for words in REMOVING), *((words, gone, None) for words in TELLING)]
+    for words, outcome, after in wanted:
+        check_case(report, program, Case(f"taken: {shown(words)}", words, outcome, {"c": USUAL}, after,
+                                         b"start"))
+    for words, told in ((("ccedit", "--help"), OF_CCEDIT), (("help", "ccedit"), OF_CCEDIT),
+                        (("ccremove", "-h"), OF_CCREMOVE), (("help", "ccremove"), OF_CCREMOVE)):
+        check_help(report, program, words, told)
+
+
 def check(report: Report, program: str) -> None:
     """Runs all of this topic."""
     check_refused(report, program, REFUSED)
+    check_changing(report, program)
     for words, letters in TAKEN:
         wanted = Outcome(0, sample(letters))
         check_case(report, program, Case(f"taken: {shown(words)}", words, wanted, {"c": USUAL}))

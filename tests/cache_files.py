@@ -62,7 +62,7 @@ def large() -> list[Case]:
     return [
         of("4,000,000 components", parts, TICKET_LINE),
         of("a value of 16,000,000 bytes", value, escaped),
-        of("225,000 credentials of 71 bytes", smallest.spelled() * 225_000, *[line] * 225_000),
+        of("225,000 credentials of 67 bytes", smallest.spelled() * 225_000, *[line] * 225_000),
         of("as many that were removed", smallest.removed().spelled() * 225_000),
     ]
 

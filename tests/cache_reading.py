@@ -69,11 +69,20 @@ class Credential:
             shown.append(b"    Etype: " + etype_text(self.enctype))
         return shown
 
+    def config_name(self) -> bytes:
+        """What a configuration entry has its value under."""
+        _, key, *principals, _ = self.server
+        return escaped(key) + b"".join(b"(" + escaped(text) + b")" for text in principals)
+
     def config_line(self) -> bytes:
         """The line of a configuration entry."""
-        _, key, *principals, _ = self.server
-        asked = b"".join(b"(" + escaped(text) + b")" for text in principals)
-        return b"config: " + escaped(key) + asked + b" = " + escaped(self.ticket)
+        return b"config: " + self.config_name() + b" = " + escaped(self.ticket)
+
+    def tail(self) -> bytes:
+        """The end of a line that tells of one that a walk was given."""
+        if self.is_config():
+            return b"config " + self.config_name()
+        return b"etype %d " % self.enctype + name_text(self.server)
 
 
 class CacheFields(Fields):
@@ -109,12 +118,13 @@ class CacheFields(Fields):
         ticket, _ = self.counted32(), self.counted32()
         return Credential(client, server, enctype, *times, flags, addresses, authdata, ticket)
 
-    def header(self) -> None:
-        """The header of version 4, which its fields have to fill."""
+    def header(self) -> list[Typed]:
+        """The fields of the header of version 4, which have to fill it: tags and values."""
         header = CacheFields(self.counted())
+        found = []
         while header.data:
-            header.number(2)
-            header.counted()
+            found.append((header.number(2), header.counted()))
+        return found
 
 
 def escaped(data: bytes) -> bytes:

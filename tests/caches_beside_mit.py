@@ -123,11 +123,11 @@ class Realm:
         """Makes the database."""
         self.call("kdb5_util", "create", "-s", "-P", "master", "-r", "CACHE.TEST")
 
-    def fill(self) -> None:
-        """Makes the principals, by an edited dump."""
+    def fill(self, names: tuple[str, ...]) -> None:
+        """Makes the principals of those names, by an edited dump."""
         head, *lines = self.call("kdb5_util", "dump").decode().splitlines()
         master = next(line for line in lines if "\tK/M@" in line)
-        more = [principal_line(master, name) for name in PRINCIPALS]
+        more = [principal_line(master, name) for name in names]
         self.write("more", "".join(line + "\n" for line in [head, *more]))
         self.call("kdb5_util", "load", "-update", "more")
 
@@ -176,13 +176,13 @@ def wait_for(port: int, started: subprocess.Popen[bytes]) -> None:
 
 
 @contextmanager
-def realm() -> Iterator[Realm]:
-    """A realm with its principals, whose KDC runs for as long as it is used."""
+def realm(more: tuple[str, ...] = ()) -> Iterator[Realm]:
+    """A realm with its principals and more of them, whose KDC runs for as long as it is used."""
     with folder_of({}) as folder:
         port = free_port()
         made = Realm(folder, port)
         made.create()
-        made.fill()
+        made.fill((*PRINCIPALS, *more))
         with subprocess.Popen(["krb5kdc", "-n"], cwd=folder, env=made.surroundings(),
                               stdout=subprocess.DEVNULL, stderr=subprocess.DEVNULL) as started:
             try:

@@ -1,4 +1,4 @@
-"""Storms: many programs that change one keytab at the same time, half of which are killed in some.
+"""Storms: many programs that change one file at the same time, half of which are killed in some.
 
 What each says that it saved is there afterwards, and who looks meanwhile sees a whole file. By hand
 there are more rounds, and counts: `python3 tests/changes_at_once.py PROGRAM --rounds 50`.
@@ -23,78 +23,21 @@ sys.dont_write_bytecode = True
 from beside_mit import Mit, are_there
 from disk_saves import tree
 from harness import SECONDS, Report, folder_of, run
-from images import Entry, entries, keytab
-from reading import no_keytab, read_image
+from images import Entry, entries
+from storm_kinds import KINDS, MANY, Kind, change, removes
 
-# How many runs there are at once, and how many storms of each kind.
-MANY = 60
+# How many storms of each kind there are.
 ROUNDS = 2
 
 # A run that is refused has waited for another for this many seconds, or it says something else.
 LEAST_WAIT = 9
 
-KEY = "000102030405060708090a0b0c0d0e0f"
-
 # The names by which the runs call the file, and what lies in the folder at the end.
 PATHS = ("k", "./k", "link")
 LEFT = {"k", "link"}
 
-
-@dataclass(frozen=True)
-class Kind:
-    """A kind of storm: the command of ours, and what else it is than one over a file."""
-
-    command: str
-    over_none: bool = False
-    kills: bool = False
-    # Half of the programs are MIT's ktutil, and they begin within a second.
-    with_mit: bool = False
-
-    @property
-    def removes(self) -> bool:
-        """Whether the runs remove entries that are there at first. Others add theirs."""
-        return self.command == "ktremove"
-
-    def image(self) -> bytes:
-        """The file at first, where there is one."""
-        names = [f"h{number}" for number in range(MANY)] + ["last"]
-        return entries(*(Entry((name.encode(),)) for name in names)) if self.removes else keytab()
-
-    def has_done(self, name: str, names: list[str]) -> bool:
-        """Whether a keytab of those names is as after the run of that name."""
-        return (name in names) != self.removes
-
-    def __str__(self) -> str:
-        words = [f"{MANY} runs of {self.command}", "over none" if self.over_none else "over a file"]
-        words += ["half of them killed"] * self.kills + ["half of them MIT's"] * self.with_mit
-        return ", ".join(words)
-
-
-KINDS = (Kind("ktedit"), Kind("ktedit", over_none=True), Kind("ktutil"),
-         Kind("ktutil", over_none=True), Kind("ktedit", kills=True),
-         Kind("ktedit", over_none=True, kills=True), Kind("ktutil", kills=True),
-         Kind("ktedit", with_mit=True), Kind("ktutil", with_mit=True),
-         Kind("ktremove"), Kind("ktremove", kills=True))
-
 # A run that reads no input begins where its shell has read a line.
 WAITS = ("sh", "-c", 'read -r line; exec "$0" "$@"')
-
-
-def names_of(image: bytes) -> list[str] | None:
-    """The first components of the names in a keytab; none where it is not whole."""
-    if no_keytab(image):
-        return None
-    those, fault = read_image(image, False)
-    return None if fault else [entry.name[0].decode() for _, entry in those]
-
-
-def change(command: str, name: str, path: str = "k") -> tuple[tuple[str, ...], str]:
-    """The words of a run that adds or removes the entry of that name, and its input."""
-    if command == "ktremove":
-        return ("ktremove", "-p", f"{name}@R", path), "\n"
-    if command == "ktedit":
-        return ("ktedit", path), f"add 1 17 1700000000 {KEY} {name}@R\n"
-    return ("ktutil",), f"addent -key -p {name}@R -k 1 -e 17\n{KEY}\nwkt {path}\n"
 
 
 @dataclass
@@ -104,6 +47,7 @@ class Run:
     name: str
     started: subprocess.Popen[bytes]
     text: str
+    removes: bool = False
     is_mits: bool = False
     is_killed: bool = False
     begun: float = 0
@@ -125,6 +69,10 @@ class Run:
     def saves(self) -> bool:
         """Whether it says that it saved. MIT's ktutil ends with status 0 also where it failed."""
         return self.started.returncode == 0 and not (self.is_mits and b" while " in self.said)
+
+    def is_done(self, names: list[str]) -> bool:
+        """Whether a file of those names is as after it."""
+        return (self.name in names) != self.removes
 
     def end_is_told(self, beside_mit: bool) -> bool:
         """Whether it ended as it may: it saves, was killed, or was refused for good reason."""
@@ -151,18 +99,19 @@ class Storm:
         piped = {"stdin": subprocess.PIPE, "stdout": subprocess.PIPE, "stderr": subprocess.STDOUT}
         for number in range(MANY):
             is_mits = self.kind.with_mit and number % 2 == 1
-            name = f"{'m' if is_mits else 'h'}{number}"
-            words, text = change(self.kind.command, name, self.random.choice(PATHS))
+            command = self.kind.command(number)
+            name = f"{'m' if is_mits else 'h' if removes(command) else 'a'}{number}"
+            words, text = change(command, name, self.random.choice(PATHS))
             if is_mits:
                 source = os.path.join(sources, name)
                 with open(source, "wb") as file:
                     file.write(entries(Entry((name.encode(),))))
                 text = f"rkt {source}\nwkt k\n"
             line = ["ktutil"] if is_mits else [self.program, *words]
-            line = [*WAITS, *line] if self.kind.removes else line
+            line = [*WAITS, *line] if removes(command) else line
             started = subprocess.Popen(line, cwd=folder, env=mit.env, **piped)
             is_killed = self.kind.kills and number % 2 == 1
-            self.runs.append(Run(name, started, text, is_mits, is_killed))
+            self.runs.append(Run(name, started, text, removes(command), is_mits, is_killed))
 
     def deeds(self) -> list[tuple[float, Callable[[], None]]]:
         """When each run begins and when some are killed, in seconds from now on."""
@@ -203,13 +152,13 @@ class Storm:
     def judge_file(self, folder: str) -> None:
         """Judges the file at the end: each change that was saved is there, and no entry twice."""
         found = tree(folder)
-        names = names_of(found.get("k", b""))
+        names = self.kind.names(found.get("k", b""))
         if names is None:
             self.found.append(f"the file is not whole at the end: {found.get('k')}")
         names = names or []
         for each in self.runs:
             whose = "MIT's" if each.is_mits else "ours"
-            is_done = self.kind.has_done(each.name, names)
+            is_done = each.is_done(names)
             is_lost = each.saves() and not is_done
             self.counts[f"{whose} lost"] += is_lost
             self.counts[f"{whose} saved"] += each.saves()
@@ -229,18 +178,21 @@ class Storm:
     def judge_looks(self) -> None:
         """Judges what was seen meanwhile. An entry of MIT's may have been seen half made."""
         for image in self.seen:
-            is_bad = no_keytab(image) if self.kind.with_mit else names_of(image) is None
+            is_whole = self.kind.names(image) is not None
+            is_bad = self.kind.is_no_file(image) if self.kind.with_mit else not is_whole
             if is_bad:
                 self.counts["bad looks"] += 1
                 self.found.append(f"{image[:40]}, {len(image)} bytes, was seen")
 
     def judge_next(self, folder: str) -> None:
         """What was left keeps no later run from the file, which also takes it away."""
-        words, text = change(self.kind.command, "last")
+        command = self.kind.command(0)
+        name = "last" if removes(command) else "new"
+        words, text = change(command, name)
         got = run(self.program, words, folder, text.encode())
         found = tree(folder)
-        names = names_of(found.get("k", b"")) or []
-        is_done = got.status == 0 and self.kind.has_done("last", names)
+        names = self.kind.names(found.get("k", b"")) or []
+        is_done = got.status == 0 and (name in names) != removes(command)
         if not is_done or found.keys() != LEFT:
             self.counts["bad next runs"] += 1
             self.found.append(f"the next run: {got}, then {sorted(found)} are there")

@@ -144,7 +144,8 @@ EDITING: list[Line] = [
 ]
 
 # Lines that print help, and words that it has.
-OF_ALL = (b"krbfile", b"klist", b"ktfind", b"ktedit", b"ktremove", b"ktcheck", b"--help", b"--version")
+OF_ALL = (b"krbfile", b"klist", b"ktfind", b"ktedit", b"ktremove", b"ktcheck", b"ccedit", b"ccremove",
+          b"--help", b"--version")
 OF_KLIST = (b"krbfile klist", b"-k", b"-t", b"-K", b"-e", b"--v1-big", b"FILE", b"--help")
 OF_KTFIND = (b"krbfile ktfind", b"--v1-big", b"FILE", b"KVNO", b"ETYPE", b"NAME", b"--help")
 OF_KTEDIT = (b"krbfile ktedit", b"--v1-big", b"FILE", b"--help")

@@ -89,6 +89,8 @@ def check_bash(report: Report, program: str) -> None:
     compare(report, "encryption types in bash", ETYPES, by_bash("ktfind", "--v1-big", "k", "0", ""))
     compare(report, "encryption types to remove in bash", ETYPES, by_bash("ktremove", "k", "-e", ""))
     compare(report, "versions to remove in bash", {"old"}, by_bash("ktremove", "-k", ""))
+    compare(report, "--e in bash", {"--expired"}, by_bash("ccremove", "c", "--e"))
+    compare(report, "a cache in bash", set(), by_bash("ccremove", "--expired", ""))
 
 
 def check_texts(report: Report, program: str) -> None:

@@ -6,7 +6,6 @@ import socket
 from collections.abc import Callable
 from dataclasses import dataclass, field
 
-from cache_images import USUAL
 from file_names import LIMIT
 from harness import Outcome, Report, folder_of, run
 from images import HOST, TWO, Entry, entries, keytab, record
@@ -60,21 +59,6 @@ def no_keytabs() -> list[Told]:
         Told("rkt of a cache", ("ktutil",), ((cache[0], f"line 1: {cache[1]}"),), files,
              b"rkt k\n"),
     ]
-
-
-def no_caches() -> list[Told]:
-    """Files that are no caches."""
-    rows = [
-        (b"", 1, "it has fewer than two bytes"),
-        (b"\x05\x01", 2, "it begins as a keytab, or as a cache of version 1 or 2 (not read)"),
-        (b"\x05\x02", 2, "it begins as a keytab, or as a cache of version 1 or 2 (not read)"),
-        (b"\x04\x04", 2, "it does not begin as a cache of version 3 or 4"),
-        (b"\x05\x04\x00", 4, "its header is damaged"),
-        (b"\x05\x03", 5, "it has no default principal"),
-    ]
-    return [Told(f"klist of {image.hex()}", ("klist", "k"),
-                 ((f"k: not a cache ({number})", words),), {"k": image})
-            for image, number, words in rows]
 
 
 def refusals() -> list[Told]:
@@ -159,11 +143,11 @@ def line_faults() -> list[Told]:
         ("ktutil", "delent 1", 7, "the list has no such slot"),
         ("ktutil", "rkt \udcff", 8, "the file's name is not UTF-8"),
     ]
-    commands = {"ktedit": (("ktedit", "k"), "start", ""), "ktutil": (("ktutil",), "l", "line 2: ")}
     found = []
     for command, line, number, phrase in rows:
-        words, before, head = commands[command]
-        said = (f"line 2: fault {number}", head + phrase)
+        is_script = command == "ktedit"
+        words, before = (("ktedit", "k"), "start") if is_script else (("ktutil",), "l")
+        said = (f"line 2: fault {number}", phrase if is_script else f"line 2: {phrase}")
         stdin = f"{before}\n{line}\n".encode(errors="surrogateescape")
         found.append(Told(f"{command}: {line!r}", words, (said,), {"k": TWO}, stdin))
     return found
@@ -185,7 +169,6 @@ def socket_in(folder: str) -> None:
 
 def loads() -> list[Told]:
     """Files that are not read."""
-    long = "x" * 256
     large = ("k: file too large", "it has more than 16,777,216 bytes")
 
     def unread(name: str, file: str, words: str, setting=lambda folder: None) -> Told:
@@ -204,11 +187,16 @@ def loads() -> list[Told]:
              (("input too large", "it has more than 16,777,216 bytes"),), {}, bytes(LIMIT + 1)),
         unread("a folder", ".", "is a directory"),
         unread("a file as a folder", "k/x", "not a directory"),
-        unread("a long name", long, "the name is too long"),
+        unread("a long name", "x" * 256, "the name is too long"),
         unread("a link to itself", "l", "too many links",
                lambda folder: os.symlink("l", os.path.join(folder, "l"))),
         unread("a socket", "s", "error 6", socket_in),
     ]
+
+
+def in_the_way(folder: str) -> None:
+    """Makes something that stands where the new file of `k` would."""
+    os.mkdir(os.path.join(folder, "k.krbfile"))
 
 
 def saves() -> list[Told]:
@@ -218,17 +206,13 @@ def saves() -> list[Told]:
         said = (f"{file}: cannot write", words)
         return Told(f"unsaved: {name}", ("ktedit", file), (said,), {}, ADD, 3, setting)
 
-    def in_the_way(folder: str) -> None:
-        os.mkdir(os.path.join(folder, "k.krbfile"))
-
-    bad_link = b"\xff"
     return [
         unsaved("in no folder", "d/k", "no such directory"),
         unsaved("a name of saves", "k.krbfile", "a name that ends in .krbfile is kept for saves"),
         unsaved("a name of 248 bytes", "x" * 248, "the name is too long"),
         unsaved("another's new file", "k", "k.krbfile is in the way", in_the_way),
         unsaved("a link that is no text", "l", "a link that cannot be followed",
-                lambda folder: os.symlink(bad_link, os.path.join(folder, "l").encode())),
+                lambda folder: os.symlink(b"\xff", os.path.join(folder, "l").encode())),
         Told("wkt to a name of saves", ("ktutil",),
              (("k.krbfile: cannot write",
                "line 1: a name that ends in .krbfile is kept for saves"),),
@@ -239,17 +223,15 @@ def saves() -> list[Told]:
 def listed_faults() -> list[Told]:
     """Damaged files: the fault stands in the listing, and where words are shown on the error output too."""
 
-    def damaged(words: tuple[str, ...], image: bytes, fault: str, phrase: str) -> Told:
-        return Told(f"listed: {fault}", words, (("", f"k: {fault}"), ("", phrase)), {"k": image})
+    def damaged(image: bytes, fault: str, phrase: str) -> Told:
+        said = (("", f"k: {fault}"), ("", phrase))
+        return Told(f"listed: {fault}", ("klist", "-k", "k"), said, {"k": image})
 
-    keytab_words = ("klist", "-k", "k")
     return [
-        damaged(keytab_words, CUT, "fault 1 at 98", "the file ends within a length"),
-        damaged(keytab_words, TWO + b"\x7f\xff\xff\xff", "fault 2 at 98",
+        damaged(CUT, "fault 1 at 98", "the file ends within a length"),
+        damaged(TWO + b"\x7f\xff\xff\xff", "fault 2 at 98",
                 "a record or a hole is longer than the rest of the file"),
-        damaged(keytab_words, keytab(record(bytes(3))), "fault 3 at 2", "a record holds no entry"),
-        damaged(("klist", "k"), USUAL + b"\0", "fault 4 at 392",
-                "no whole credential follows; cut off, or being written"),
+        damaged(keytab(record(bytes(3))), "fault 3 at 2", "a record holds no entry"),
     ]
 
 
@@ -273,7 +255,7 @@ def replies() -> list[Told]:
 
 def cases() -> list[Told]:
     """All cases of this topic."""
-    return [*no_keytabs(), *no_caches(), *refusals(), *findings(), *line_faults(), two_faults(),
+    return [*no_keytabs(), *refusals(), *findings(), *line_faults(), two_faults(),
             *loads(), *saves(), *listed_faults(), *replies()]
 
 
@@ -295,6 +277,7 @@ def check_streams(report: Report, program: str) -> None:
         (("klist", "-k", "k"), "> /dev/full", "cannot write output", "no space left"),
         (("ktutil",), "< .", "cannot read input", "is a directory"),
         (("ktedit", "k"), "< .", "cannot read input", "is a directory"),
+        (("ccedit", "k"), "< .", "cannot read input", "is a directory"),
     ]
     with folder_of({"k": TWO}) as folder:
         for words, redirection, message, phrase in rows:

@@ -24,9 +24,10 @@ SHARE = 4
 
 NO_OUTPUT = message(3, "cannot write output")
 
-# What may fail in a run that reads a file, and in one that takes an input and saves.
+# What may fail in a run that reads a file, in one that saves it, and in one that takes an input too.
 OF_READER = ("FAIL_READ", "FAIL_WRITE", "ZERO_WRITE")
-OF_EDITOR = ("FAIL_INPUT", *OF_READER, "FAIL_SAVE", "ZERO_SAVE")
+OF_REMOVER = (*OF_READER, "FAIL_SAVE", "ZERO_SAVE")
+OF_EDITOR = ("FAIL_INPUT", *OF_REMOVER)
 
 # A run's end, and the files after it.
 End = tuple[Outcome, dict[str, bytes]]
@@ -157,7 +158,9 @@ def check_setting(
 
 def settings_of(run: Modelled) -> tuple[str, ...]:
     """What may fail in a run."""
-    return OF_EDITOR if run.case.words[0] in ("ktedit", "ktutil") else OF_READER
+    if run.case.words[0] in ("ktedit", "ktutil", "ccedit"):
+        return OF_EDITOR
+    return OF_REMOVER if run.case.words[0] in ("ktremove", "ccremove") else OF_READER
 
 
 def check_few_bytes(report: Report, over: Preloaded, run: Modelled, most: int) -> None:

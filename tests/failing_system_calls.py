@@ -14,7 +14,18 @@ from cache_images import USUAL
 from failing_streams import Ends, ends_in_output
 from harness import Outcome, Report, differences, files_in, folder_of
 from images import TWO, B, entries
-from modelled import Modelled, klist, klist_cache, ktcheck, ktedit, ktfind, ktremove, ktutil
+from modelled import (
+    Modelled,
+    ccedit,
+    ccremove,
+    klist,
+    klist_cache,
+    ktcheck,
+    ktedit,
+    ktfind,
+    ktremove,
+    ktutil,
+)
 from preload import Counted, Line
 from removal_model import Asked
 from system_calls import Call, calls_of, traced
@@ -100,6 +111,10 @@ def runs() -> list[tuple[Modelled, list[Step]]]:
          [READ, *hold("k"), *load("k"), *save("k", is_new=True), PRINT]),
         (ktremove("a keytab", TWO, Asked(b"host/a@R")),
          [*hold("k"), *load("k"), *save("k"), PRINT]),
+        (ccedit("a cache", USUAL, b"start\ncut 40\nconfig pa_type krbtgt/R@R 3\n"),
+         [READ, *hold("c"), *load("c"), *save("c"), PRINT]),
+        (ccremove("a cache", USUAL, b"krbtgt/R@R"),
+         [*hold("c"), *load("c"), *save("c"), PRINT]),
         (ktutil("three files", files, TALK), TALKED),
     ]
 

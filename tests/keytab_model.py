@@ -6,23 +6,10 @@ from __future__ import annotations
 
 from images import BIG, END, Entry, hole, keytab, record
 from reading import Cell, KeytabEntry, order_of, read_cells, read_entry
-
-# The greatest size of a file, a script and the input of ktutil.
-LIMIT = 16_777_216
+from walks import DAMAGED, FULL, LIMIT, NOT_LIVE, TOO_LONG, Refused, carried
 
 # The greatest count or length of 16 bits.
 WIDEST = 65_535
-
-# Why a change is refused, or an event of a session.
-DAMAGED, TOO_LONG, FULL, NOT_A_PLACE, NOT_LIVE, NO_SUCH_WALK, TOO_MANY_WALKS = range(1, 8)
-
-
-class Refused(Exception):
-    """A keytab or a session refuses something, and is as before."""
-
-    def __init__(self, code: int) -> None:
-        super().__init__(code)
-        self.code = code
 
 
 def spelled(entry: KeytabEntry, version: int, order: str) -> bytes:
@@ -60,6 +47,10 @@ class Keytab:
         for cell in self.cells:
             found.append(found[-1] + 4 + len(cell.data))
         return found
+
+    def live_places(self) -> list[int]:
+        """The place of each record."""
+        return [at for at, cell in zip(self.places(), self.cells) if cell.is_record]
 
     def entry(self, cell: Cell) -> KeytabEntry:
         """The entry of a record."""
@@ -118,8 +109,6 @@ class Keytab:
         places = new.places()
         if places[-1] > LIMIT:
             raise Refused(FULL)
-        old = [at for at, cell in zip(self.places(), self.cells) if cell.is_record]
-        for number, cursor in enumerate(cursors):
-            cursors[number] = places[sum(at < cursor for at in old)]
+        cursors[:] = carried(cursors, self.live_places(), places)
         self.version, self.order, self.cells, self.rest = 2, BIG, new.cells, b""
         return places[-1]

@@ -6,20 +6,20 @@ from collections.abc import Callable
 from dataclasses import replace
 
 from harness import Outcome
-from keytab_model import DAMAGED, LIMIT, Keytab, Refused
+from keytab_model import Keytab
 from reading import KeytabEntry, no_keytab
-from script_model import (
+from script_lines import (
     BAD_FILE,
     BAD_KEY,
     BAD_SLOT,
     UNKNOWN_WORD,
     WORD_COUNT,
     LineFault,
-    etype_in,
-    key_in,
     name_in,
     number_in,
 )
+from script_model import etype_in, key_in
+from walks import DAMAGED, LIMIT, Refused
 
 # The options of a listing, and the letters of their columns.
 COLUMNS = {b"-t": "t", b"-k": "K", b"-e": "e"}

@@ -15,9 +15,9 @@ from random_finds import look_up
 from random_images import listing
 from random_keytabs import random_part
 from random_runs import CaseAt, Topic, always
-from random_scripts import random_place
+from random_lines import random_place, reply_kind
 from reading import name_text
-from script_model import Session, edited, event_in
+from script_model import KeytabSession, edited, event_in
 
 EVENTS = 3_000
 
@@ -52,19 +52,19 @@ def addition(random: Random) -> bytes:
     return f"add {kvno} {etype} 1700000000 {key} {name}@R".encode()
 
 
-def random_line(random: Random, session: Session, mix: dict[str, int]) -> bytes:
+def random_line(random: Random, session: KeytabSession, mix: dict[str, int]) -> bytes:
     """A line that goes on from there."""
     kind = random.choices(list(mix), mix.values())[0]
     if kind == "add":
         return addition(random)
     if kind in ("cut", "resume"):
-        return f"{kind} {random_place(random, session.keytab, kind == 'cut')}".encode()
+        return f"{kind} {random_place(random, session.store, kind == 'cut')}".encode()
     if kind == "step":
         return f"step {random.randrange(len(session.cursors))}".encode()
     return kind.encode()
 
 
-def random_script(random: Random, session: Session) -> bytes:
+def random_script(random: Random, session: KeytabSession) -> bytes:
     """A script over that session: the keytab grows for a while, or shrinks."""
     lines = [b"start"]
     session.apply(event_in(lines[0]))
@@ -98,7 +98,7 @@ def reads(random: Random, image: bytes, v1_big: bool) -> Iterator[CaseAt]:
 def random_runs(random: Random) -> Iterator[CaseAt]:
     """A script over a keytab, and what is read afterwards."""
     image, v1_big = random_keytab(random)
-    script = random_script(random, Session(Keytab(image, v1_big)))
+    script = random_script(random, KeytabSession(Keytab(image, v1_big)))
     wanted, after = edited(image, script, v1_big)
     words = ("ktedit", "--v1-big", "k") if v1_big else ("ktedit", "k")
     yield always(Case("", words, wanted, {"k": image}, {"k": after}, script))
@@ -110,10 +110,7 @@ def kinds_of(case: Case) -> Iterator[str]:
     if case.words[0] != "ktedit":
         yield str(case.words[0])
         return
-    for line in case.wanted.out.splitlines():
-        words = line.decode("latin-1").split(" ")
-        at = {"walk": (0, 2), "refused": (0, 1)}.get(words[0], (0,))
-        yield " ".join(words[number] for number in at)
+    yield from map(reply_kind, case.wanted.out.splitlines())
 
 
 TOPIC = Topic("long scripts", random_runs, kinds_of, KINDS, usual=4, share=200)

@@ -4,7 +4,7 @@ from __future__ import annotations
 import os
 import subprocess
 
-from cache_images import USUAL
+from cache_images import PA_TYPE, USUAL, credentials, offset
 from cache_listings import CONFIG_LINE, TICKET_LINE
 from cache_reading import listed as cache_listed
 from edits import GAVE_HOST, text
@@ -24,6 +24,12 @@ SCRIPT = WALK + b"cut 2\n"
 TALK = b"rkt j\nl\nwkt k\n"
 
 REMOVE = ("ktremove", "-p", "host/a@R", "k")
+
+# What a removal of tickets, and what a rewrite, makes of the cache, and the replies of the latter.
+REMOVE_TICKET = ("ccremove", "-p", "krbtgt/R@R", "c")
+TICKETLESS = {**FILES, "c": credentials(PA_TYPE, fields=offset(5, -10))}
+CUT_TICKET = b"start\ncut 40\nrewrite\n"
+CUT_REPLIES = b"walk 0 at 40\ngone 40\nrewritten 170\n"
 KLIST, CACHE, KTFIND = ("klist", "-k", "k"), ("klist", "-C", "c"), ("ktfind", "k", "0", "0", "b@R")
 
 
@@ -43,6 +49,10 @@ WITHOUT_OUTPUT = [
     case(("ktedit", "k"), NO_OUTPUT, WALK),
     case(REMOVE, NO_OUTPUT, after=CUT),
     case(("ktremove", "-k", "old", "k"), Outcome(0)),
+    case(("ccedit", "c"), NO_OUTPUT, CUT_TICKET, TICKETLESS),
+    case(("ccedit", "c"), NO_OUTPUT, b"start\n"),
+    case(REMOVE_TICKET, NO_OUTPUT, after=TICKETLESS),
+    case(("ccremove", "-n", *REMOVE_TICKET[1:]), NO_OUTPUT),
     case(("ktutil",), NO_OUTPUT, TALK),
     case(("ktedit", "k"), Outcome(0), b"# none\n"),
     case(("ktutil",), Outcome(0), b"rkt j\ndelent 1\n"),
@@ -58,6 +68,10 @@ WITHOUT_ERROR_OUTPUT = [
     case(("ktedit", "k"), Outcome(0, text(["walk 0 at 2", GAVE_HOST, "gone 2"])), SCRIPT, CUT),
     case(REMOVE, Outcome(0, b"removed 2 kvno 3 etype 17 host/a@R\n"), after=CUT),
     case(("ktremove", "-k", "9", "k"), Outcome(1)),
+    case(("ccedit", "c"), Outcome(0, CUT_REPLIES), CUT_TICKET, TICKETLESS),
+    case(("ccedit", "c"), Outcome(1), b"frob\n"),
+    case(REMOVE_TICKET, Outcome(0, b"removed 40 krbtgt/R@R\n"), after=TICKETLESS),
+    case(("ccremove", "-p", "b@R", "c"), Outcome(1)),
     case(("klist", "-k", "no"), Outcome(1)),
     case(("ktedit", "k"), Outcome(1), b"frob\n"),
     case(("ktutil",), Outcome(1), b"frob\nrkt k\nrkt j\nwkt j\n",
@@ -94,5 +108,5 @@ def check(report: Report, program: str) -> None:
     """Runs all of this topic."""
     check_lost(report, program, "stdout", WITHOUT_OUTPUT)
     check_lost(report, program, "stderr", WITHOUT_ERROR_OUTPUT)
-    for words in (("ktedit", "k"), ("ktutil",)):
+    for words in (("ktedit", "k"), ("ktutil",), ("ccedit", "c")):
         check_lost_input(report, program, words)

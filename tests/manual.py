@@ -6,15 +6,16 @@ import re
 import shutil
 import subprocess
 
+import explained
+import explained_caches
 from completions import told
-from explained import cases
 from harness import Outcome, Report, folder_of
 from samples import folder_of_samples
 
 PAGE = os.path.join(os.path.dirname(os.path.dirname(os.path.abspath(__file__))), "docs", "krbfile.1")
 
 # The commands that a program may have.
-COMMANDS = ("klist", "ktfind", "ktedit", "ktremove", "ktcheck", "ktutil")
+COMMANDS = ("klist", "ktfind", "ktedit", "ktremove", "ktcheck", "ktutil", "ccedit", "ccremove")
 
 
 def check_form(report: Report) -> None:
@@ -56,7 +57,7 @@ def check_words(report: Report) -> None:
     lines = page().replace(".Ar NAME Ns .krbfile", "k.krbfile").splitlines()
     lines += [line.removeprefix(".Dl ") for line in lines]
     words = {re.sub(r"^line \d+: |^refused \d+: |^fault \d+: |^(?:weak|hidden|same|clash|old|mode): ", "", words)
-             for case in cases() for _, words in case.said}
+             for case in [*explained.cases(), *explained_caches.cases()] for _, words in case.said}
     odd = {"", "no such file", "error 6"} | {word for word in words if word.startswith("k: fault")}
     report.check("the words of messages in the manual page", sorted(words - odd - set(lines)))
 

@@ -7,7 +7,10 @@ from dataclasses import dataclass, replace
 import cache_reading
 import check_model
 import reading
-from cache_images import PA_TYPE, TICKET, Name, config, credentials, header_field
+import ticket_removal_model
+from cache_images import PA_TYPE, TICKET, USUAL, VERSION_3, Name, config, credentials, header_field
+from cache_model import Cache
+from cache_script_model import cache_edited
 from edits import DAMAGED
 from harness import Case, Outcome, message
 from images import END, LITTLE, Entry, entries, hole, keytab, record
@@ -15,6 +18,7 @@ from keytab_model import Keytab
 from ktutil_model import handled
 from removal_model import OLD, Asked, removal
 from script_model import edited
+from ticket_removal_model import ticket_removal
 
 # The time of a run's start, which is that of new entries.
 NOW = 1_700_000_000
@@ -113,6 +117,23 @@ def ktremove(name: str, image: bytes, asked: Asked) -> Modelled:
     return Modelled(case, (Stage(b"", b"", files),))
 
 
+def ccedit(name: str, image: bytes, script: bytes) -> Modelled:
+    """A run of a script over a cache, which changes and prints nothing where it ends early."""
+    wanted, after = cache_edited(image, script)
+    files = {"c": image}
+    case = Case(f"ccedit {name}", ("ccedit", "c"), wanted, files, {"c": after}, script)
+    return Modelled(case, (Stage(b"", b"", files),))
+
+
+def ccremove(name: str, image: bytes, service: bytes | None, is_expired: bool = False) -> Modelled:
+    """A removal of tickets, which changes and prints nothing where it ends early."""
+    asked = ticket_removal_model.Asked(service, is_expired)
+    wanted, after = ticket_removal(image, asked, NOW)
+    files = {"c": image}
+    case = Case(f"ccremove {name}", ("ccremove", *asked.words(), "c"), wanted, files, {"c": after})
+    return Modelled(case, (Stage(b"", b"", files),))
+
+
 def stages_of(files: dict[str, bytes], lines: list[bytes]) -> Iterator[Stage]:
     """What stands before each line of ktutil, and after the last."""
     for count in range(len(lines) + 1):
@@ -165,9 +186,20 @@ def mixed_cache(count: int) -> bytes:
     parts = []
     for number in range(count):
         ticket = replace(TICKET, server=Name((b"x" * (number % 90), b"%d" % number)),
-                         enctype=number % 30, renew_till=number % 3)
+                         enctype=number % 30, renew_till=number % 3, endtime=NOW + number % 3 - 1)
         parts += [ticket, config(b"key%d" % number, bytes(range(number % 256))), ticket.removed()]
     return credentials(*parts, PA_TYPE, fields=header_field(9, b"xyz"))
+
+
+def mixed_cache_script(image: bytes, count: int) -> bytes:
+    """Two walks over a cache that loses that many tickets, gains values, and is rewritten."""
+    places = Cache(image).live_places()
+    lines = ["start", "start"]
+    for number in range(count):
+        lines += [f"step {number % 2}", f"cut {places[2 * number]}", f"step {number % 2}",
+                  f"config key{number} - {'v' * number}", f"config k{number % 3} a@R {number}"]
+    lines += ["rewrite", "step 0", "start", "step 2", "cut 3", "step 1", "resume 2", "step 9"]
+    return "".join(f"{line}\n" for line in lines).encode()
 
 
 def talk(list_columns: str = "-t -k -e") -> list[str]:
@@ -205,6 +237,13 @@ def small() -> list[Modelled]:
         ktremove("of old versions", rotated_keytab(4), Asked(kvno=OLD)),
         ktremove("of a name", image, Asked(b"xxx/3@R", None, (17, 23))),
         ktremove("of nothing", image, Asked(kvno=4_000)),
+        ccedit("a small script", cache, mixed_cache_script(cache, 3)),
+        ccedit("a damaged cache", cache[:-1], b"start\nstep 0\nconfig k - v\ncut 3\n"),
+        ccedit("a faulty script", cache, b"config k a@R v\nconfig k a v\n"),
+        ccedit("version 3", VERSION_3, b"start\ncut 20\nconfig k - v\nrewrite\nstep 0\n"),
+        ccremove("of a service", USUAL, b"krbtgt/R@R"),
+        ccremove("of expired ones", cache, None, is_expired=True),
+        ccremove("of nothing", cache, b"no@R"),
         ktutil("over small files", talk_files(3), talk()),
     ]
 
@@ -221,5 +260,7 @@ def large() -> list[Modelled]:
         klist_cache(cache + b"\0", "efC"),
         ktedit("a long script", image, mixed_script(image, 200)),
         ktremove("of many old versions", rotated_keytab(300), Asked(kvno=OLD)),
+        ccedit("a long script", cache, mixed_cache_script(cache, 100)),
+        ccremove("of many expired ones", cache, None, is_expired=True),
         ktutil("over a large file", talk_files(200), talk("-e")),
     ]

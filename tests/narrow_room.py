@@ -12,6 +12,7 @@ from collections.abc import Callable
 from random import Random
 
 import cache_files
+import greatest_caches
 from file_names import LIMIT, sized
 from greatest import cases
 from harness import SECONDS, Case, Outcome, Report, check_case, faults_of, run_case
@@ -23,6 +24,9 @@ SPACE = 64 * 1024 * 1024
 # The memory that a long test lets a run have, as powers of two: from a little more than the program
 # itself takes up to more than any run does.
 LEAST_POWER, MOST_POWER = 22, 30
+
+# The commands that print nothing before all is ready.
+GATHERING = ("ktedit", "ktremove", "ccedit", "ccremove")
 
 # A long test has its count divided by this many runs.
 SHARE = 200
@@ -43,12 +47,12 @@ def is_early(case: Case, got: Outcome, after: dict[str, bytes]) -> bool:
     said = got.err.removesuffix(NO_MEMORY.err)
     is_front = case.wanted.out.startswith(got.out) and case.wanted.err.startswith(said)
     has_done_nothing = not got.out and after == case.files
-    return files_are_whole and is_front and (has_done_nothing or case.words[0] != "ktedit")
+    return files_are_whole and is_front and (has_done_nothing or case.words[0] not in GATHERING)
 
 
 def all_cases() -> list[Case]:
     """Those of keytabs, scripts and ktutil, and those of caches."""
-    return [*cases(), *cache_files.sizes(), *cache_files.large()]
+    return [*cases(), *cache_files.sizes(), *cache_files.large(), *greatest_caches.cases()]
 
 
 def faults_in(program: str, case: Case, kind: int, most: int) -> list[str]:
@@ -64,15 +68,17 @@ def faults_in(program: str, case: Case, kind: int, most: int) -> list[str]:
 def without_room() -> list[Case]:
     """A run of each command over a file of as many bytes as there is memory."""
     lines = {("klist", "-k", "k"): b"", ("ktfind", "k", "0", "0", "b@R"): b"",
-             ("ktedit", "k"): b"start\n", ("ktutil",): b"rkt k\n"}
-    files = {"k": sized(LIMIT)}
+             ("ktedit", "k"): b"start\n", ("ktutil",): b"rkt k\n",
+             ("ktremove", "-k", "3", "k"): b"", ("ktcheck", "k"): b"", ("klist", "c"): b"",
+             ("ccedit", "c"): b"start\n", ("ccremove", "--expired", "c"): b""}
+    files = {"k": sized(LIMIT), "c": cache_files.sized(LIMIT)}
     return [Case(f"a file as large as the memory: {' '.join(words)}", words, NO_MEMORY, files,
                  stdin=stdin) for words, stdin in lines.items()]
 
 
 def check(report: Report, program: str) -> None:
     """Runs all of this topic."""
-    for case in cases():
+    for case in [*cases(), *greatest_caches.cases()]:
         check_case(report, program, case)
     for case in without_room():
         got = run_case(program, case, preexec_fn=limit(resource.RLIMIT_AS, LIMIT))

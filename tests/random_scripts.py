@@ -12,10 +12,12 @@ from harness import Case
 from keytab_model import Keytab
 from random_images import random_bytes
 from random_keytabs import random_keytab
+from random_lines import Scripts, kinds_of, walk_line
 from random_runs import CaseAt, Topic, always
 from reading import KeytabEntry, no_keytab
-from script_model import KEY_SIZES, Session, edited, event_in
+from script_model import KEY_SIZES, KeytabSession, edited, event_in
 from scripts import FAULTS
+from walks import Session
 
 # What each of them may be, by how often.
 LINES = {"start": 3, "resume": 3, "step": 12, "add": 6, "cut": 5, "rewrite": 1, "#": 1, "": 1}
@@ -56,48 +58,17 @@ def random_etype_and_key(random: Random) -> tuple[str, str]:
     return word, key.upper() if random.random() < 0.2 else key
 
 
-def random_place(random: Random, keytab: Keytab, of_records: bool) -> int:
-    """A place of the keytab, mostly of a record if so wanted, or now and then another number."""
-    places = keytab.places()
-    records = [at for at, cell in zip(places, keytab.cells) if cell.is_record]
-    if of_records and records and random.random() < 0.9:
-        return random.choice(records)
-    if random.random() < 0.9:
-        return random.choice(places)
-    return random.choice([0, 1, 3, random.randrange(400), 2**32 - 1])
-
-
 def random_line(random: Random, session: Session) -> bytes:
     """A line that goes on from there."""
     kind = random.choices(list(LINES), LINES.values())[0]
-    words = [kind]
-    if kind in ("resume", "cut"):
-        words.append(str(random_place(random, session.keytab, kind == "cut")))
-    if kind == "step":
-        made = len(session.cursors)
-        words.append(str(made if made == 0 or random.random() < 0.03 else random.randrange(made)))
     if kind == "add":
         etype, key = random_etype_and_key(random)
-        words += [random_number(random), etype, random_number(random), key, ""]
+        words = [kind, random_number(random), etype, random_number(random), key, ""]
         return " ".join(words).encode() + random_name(random)
-    return " ".join(words).encode()
+    return walk_line(random, session, kind)
 
 
-def random_script(random: Random, session: Session) -> bytes:
-    """A script over that session, rarely with very many walks or a faulty line."""
-    lines = [b"start"] * random.choice([0, 1, 1, 2])
-    if random.random() < 0.01:
-        lines = [b"start"] * 1_023
-    for line in lines:
-        session.apply(event_in(line))
-    for _ in range(random.randrange(30)):
-        line = random_line(random, session)
-        lines.append(line)
-        if line not in (b"", b"#"):
-            session.apply(event_in(line))
-    if random.random() < 0.15:
-        lines.insert(random.randrange(len(lines) + 1), random.choice(list(FAULTS)).encode())
-    return b"\n".join(lines) + random.choice([b"", b"\n", b"\n\n"])
+SCRIPTS = Scripts(random_line, event_in, FAULTS)
 
 
 def random_runs(random: Random) -> Iterator[CaseAt]:
@@ -108,23 +79,12 @@ def random_runs(random: Random) -> Iterator[CaseAt]:
     words = ("ktedit", "--v1-big", "k") if v1_big else ("ktedit", "k")
     for _ in range(random.randrange(1, 4)):
         opened = b"\x05\x02" if image is None or no_keytab(image) else image
-        script = random_script(random, Session(Keytab(opened, v1_big)))
+        session = KeytabSession(Keytab(opened, v1_big))
+        script = SCRIPTS.random_script(random, session)
         wanted, after = edited(image, script, v1_big)
         files, files_after = ({} if one is None else {"k": one} for one in (image, after))
         yield always(Case("", words, wanted, files, files_after, script))
         image = after
-
-
-def kinds_of(case: Case) -> Iterator[str]:
-    """The kinds of a run's lines."""
-    for line in case.wanted.out.splitlines():
-        words = line.split(b" ")
-        at = {b"walk": (0, 2), b"refused": (0, 1)}.get(words[0], (0,))
-        yield b" ".join(words[number] for number in at).decode()
-    said = case.wanted.err.decode()
-    if said:
-        yield "not a keytab" if "keytab" in said else said.split(": ")[-1].strip()
-
 
 TOPIC = Topic("random scripts", random_runs, kinds_of, KINDS, usual=500)
 check, check_long = TOPIC.check, TOPIC.check_long

@@ -53,6 +53,9 @@ def check_run(report: Report, under: Preloaded, run: Modelled, numbers) -> None:
     if not run.is_whole(whole.outcome, whole.files):
         report.check(run.case.name, ["it is not as modelled where nothing is refused"])
         return
+    if whole.requests == 0:
+        report.check(run.case.name, ["its requests for memory are not seen"])
+        return
     for way, settings in WAYS.items():
         faults = []
         for nth in numbers(whole.requests):

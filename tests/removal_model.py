@@ -4,8 +4,9 @@ from __future__ import annotations
 from dataclasses import dataclass
 
 from harness import Outcome, message
-from keytab_model import DAMAGED, Keytab
+from keytab_model import Keytab
 from reading import KeytabEntry
+from walks import DAMAGED
 
 OLD = "old"
 

@@ -6,7 +6,7 @@ import sys
 from contextlib import contextmanager
 from dataclasses import replace
 
-from cache_images import PA_TYPE, TICKET, credentials
+from cache_images import PA_TYPE, TICKET, Name, credentials
 from harness import folder_of
 from images import B, HOST, LITTLE, TWO, Entry, entries, hole, keytab, record
 
@@ -26,6 +26,9 @@ SAMPLES = {
         record(B.spelled(1, LITTLE), LITTLE), version=1,
     ),
     "krb5cc_0": credentials(replace(TICKET, renew_till=1_700_604_800), PA_TYPE),
+    # The ticket of host/a@R has expired, the other has not for long.
+    "krb5cc_1": credentials(replace(TICKET, endtime=2**32 - 1),
+                            replace(TICKET, server=Name((b"host", b"a"))), PA_TYPE),
 }
 
 

@@ -18,6 +18,8 @@ REFUSED = [
     ("ktfind", "--version"),
     ("ktedit", "-V", "k"),
     ("ktutil", "--version"),
+    ("ccedit", "-V", "c"),
+    ("ccremove", "--version"),
     ("help", "--version"),
     ("--version=1",),
     ("--versio",),
