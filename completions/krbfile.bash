@@ -1,7 +1,7 @@
 # Completion of krbfile's command lines for bash.
 
 _krbfile() {
-    local commands='klist ktfind ktedit ktremove ktcheck ktutil help'
+    local commands='klist ktfind ktedit ktremove ktcheck ktutil ccedit ccremove help'
     local etypes='des3-cbc-sha1 aes128-cts-hmac-sha1-96 aes256-cts-hmac-sha1-96
         aes128-cts-hmac-sha256-128 aes256-cts-hmac-sha384-192 arcfour-hmac
         camellia128-cts-cmac camellia256-cts-cmac'
@@ -17,6 +17,7 @@ _krbfile() {
         klist) options='-c -f -C -k -t -K -e --v1-big' ;;
         ktfind | ktedit | ktcheck | ktutil) options='--v1-big' ;;
         ktremove) options='-n -p -k -e --v1-big' ;;
+        ccremove) options='-n -p --expired' ;;
     esac
     COMPREPLY=()
     if [[ $word == -* || $command == '' || $command == help ]]; then

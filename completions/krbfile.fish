@@ -18,6 +18,8 @@ for at in __fish_use_subcommand '__fish_seen_subcommand_from help'
     complete -c krbfile -n $at -a ktremove -d 'Remove entries from a keytab'
     complete -c krbfile -n $at -a ktcheck -d 'Tell what is wrong with a keytab'
     complete -c krbfile -n $at -a ktutil -d 'Edit a list of entries by commands'
+    complete -c krbfile -n $at -a ccedit -d 'Edit a credential cache by a script'
+    complete -c krbfile -n $at -a ccremove -d 'Remove tickets from a credential cache'
     complete -c krbfile -n $at -a help -d 'Print help'
 end
 
@@ -36,8 +38,12 @@ complete -c krbfile -n '__fish_seen_subcommand_from ktremove' -s e -x -d 'Entrie
     -a 'des3-cbc-sha1 aes128-cts-hmac-sha1-96 aes256-cts-hmac-sha1-96 aes128-cts-hmac-sha256-128
     aes256-cts-hmac-sha384-192 arcfour-hmac camellia128-cts-cmac camellia256-cts-cmac'
 
+complete -c krbfile -n '__fish_seen_subcommand_from ccremove' -s n -d 'Save nothing'
+complete -c krbfile -n '__fish_seen_subcommand_from ccremove' -s p -x -d 'Tickets for that service'
+complete -c krbfile -n '__fish_seen_subcommand_from ccremove' -l expired -d 'Tickets that have expired'
+
 complete -c krbfile -n '__fish_seen_subcommand_from klist ktfind ktedit ktremove ktcheck ktutil' -l v1-big -d 'Version 1 files are big-endian'
-complete -c krbfile -n '__fish_seen_subcommand_from klist ktfind ktedit ktremove ktcheck' -F
+complete -c krbfile -n '__fish_seen_subcommand_from klist ktfind ktedit ktremove ktcheck ccedit ccremove' -F
 
 complete -c krbfile -n __krbfile_wants_etype -a 'des3-cbc-sha1 aes128-cts-hmac-sha1-96
     aes256-cts-hmac-sha1-96 aes128-cts-hmac-sha256-128 aes256-cts-hmac-sha384-192 arcfour-hmac
