@@ -28,6 +28,10 @@ etype_table =
 abbrev pub etype_numbered : ℕ → Option Etype
 etype_numbered n = find (λ e. n == e.number) etype_table
 
+-- the name of a number, where the table has it
+abbrev pub etype_name_of : ℕ → Option (List ℕ)
+etype_name_of n = option_map (λ e. e.name) (etype_numbered n)
+
 -- the number of bytes of a key, where the table has the number
 abbrev pub key_size_of : ℕ → Option ℕ
 key_size_of n = option_map (λ e. e.key_size) (etype_numbered n)

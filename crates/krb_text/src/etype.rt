@@ -1,10 +1,10 @@
 //! Encryption types by number and by name: those of RFC 3961, 3962, 4757, 6803 and 8009, under the
 //! names that MIT prints.
 
-ghost use Rattle.std.specs.Prelude.{◌≡◌, IsSome, MatchOption};
+ghost use Rattle.std.specs.Prelude.{◌≡◌, IsSome, MatchOption, option_copied};
 ghost use Rattle.std.specs.List.{find};
 ghost use Rattle.krb_wire.specs.Text.{Appended};
-ghost use Rattle.krb_text.specs.Etype.{etype_numbered, etype_text_of, etype_in, key_size_of, is_named, number_named, unnamed};
+ghost use Rattle.krb_text.specs.Etype.{etype_numbered, etype_name_of, etype_text_of, etype_in, key_size_of, is_named, number_named, unnamed};
 
 use crate::append::append;
 use crate::numbers::parse_u16;
@@ -59,6 +59,14 @@ pub fn etype_text<A: Allocator>(etype: u16, out: &mut Vec<u8, A>) -> Result<(), 
         Some((name, _)) => append(name.as_bytes(), out),
         None => unnamed_text(etype, out),
     }
+}
+
+/// The name of an encryption type, as `aes128-cts-hmac-sha1-96`, where it stands in the table.
+pub fn etype_name(etype: u16) -> Option<&'static str>
+    ensures { option_copied result ≡ etype_name_of etype }
+{
+    let (name, _) = row_of(etype)?;
+    Some(name)
 }
 
 /// The number of bytes of a key, where the encryption type stands in the table.

@@ -12,14 +12,14 @@ use std::io::Write;
 // Once this many bytes are gathered they are written.
 const FULL: usize = 32_768;
 
-/// Nothing gathered yet, and room for what two writes take.
+/// Nothing gathered yet, and room for 65,536 bytes: what one write takes, and as much again for the piece that fills it.
 pub fn room_to_gather<A: Allocator>(alloc: A) -> Result<Vec<u8, A>, NoMemory>
     ensures { IfOk result (λ gathered. gathered.items ≡ []) }
 {
     Ok(Vec::with_capacity(alloc, 2 * FULL)?)
 }
 
-/// Writes what is gathered where it is much.
+/// Writes what is gathered once it is 32,768 bytes or more, and else leaves it.
 pub fn send_if_full<A: Allocator, W: Write>(
     gathered: &mut Vec<u8, A>,
     out: &mut Watched<W>,

@@ -22,9 +22,10 @@ mod word;
 
 pub use cache_listing::list_cache;
 pub use columns::{CcColumns, KtColumns};
-pub use etype::{etype_of, etype_text, key_size};
+pub use etype::{etype_name, etype_of, etype_text, key_size};
 pub use find_line::{append_placed, append_removed_ticket, found_text};
 pub use flags::flag_letters;
+pub use gather::{room_to_gather, send_if_full};
 pub use key::{key_text, parse_key};
 pub use line_fault::{LineFault, LineRefusal};
 pub use listing::{append_fault_line, list_keytab};
