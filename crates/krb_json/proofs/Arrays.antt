@@ -1,0 +1,105 @@
+-- The text of an object with arrays in it, in pieces.
+use Rattle.std.proofs.Common.{◌≡◌, ℕ, Bool, true, false, List, [], ◌∷◌, ◌++◌, fold, refl, sym, ap, ◌∙◌, append_assoc}
+use Rattle.std.proofs.lemmas.List.Sums.{fold-append}
+use Rattle.json.specs.Json.{Json, null, boolean, number, string, array, object, Items, no_items, item, Members, no_members, member}
+use Rattle.json.specs.Value.{items_of}
+use Rattle.json.specs.Token.{Token, begin_object, end_object, begin_array, end_array, key}
+use Rattle.json.specs.Print.{print, print_from, ends, ends_value}
+use Rattle.json.specs.Tree.{json_tokens, items_tokens, members_tokens}
+use Rattle.json.proofs.Printed.Tokens.{print_from-append}
+use Rattle.krb_json.specs.Members.{Member, members_of, object_of, array_of}
+use Rattle.krb_json.specs.Pieces.{member_tokens, tokens_of, element_text, elements_text, head_tokens, between_tokens}
+
+-- ---- a value alone
+
+mutual
+  -- a value ends where its tokens do
+  value_ends : (c : Bool) (v : Json) → fold (λ _ t. ends t) c (json_tokens v) ≡ true
+  value_ends c null = refl
+  value_ends c (boolean b) = refl
+  value_ends c (number s) = refl
+  value_ends c (string s) = refl
+  value_ends c (array js) = items_end false js
+  value_ends c (object ms) = members_end false ms
+
+  items_end : (c : Bool) (js : Items) → fold (λ _ t. ends t) c (items_tokens js) ≡ true
+  items_end c no_items = refl
+  items_end c (item j js) = fold-append (λ _ t. ends t) c (json_tokens j) (items_tokens js) ∙ items_end (fold (λ _ t. ends t) c (json_tokens j)) js
+
+  members_end : (c : Bool) (ms : Members) → fold (λ _ t. ends t) c (members_tokens ms) ≡ true
+  members_end c no_members = refl
+  members_end c (member k j ms) = fold-append (λ _ t. ends t) false (json_tokens j) (members_tokens ms) ∙ members_end (fold (λ _ t. ends t) false (json_tokens j)) ms
+
+-- behind another value a comma comes first
+value_begins : (c : Bool) (v : Json) → print_from c (json_tokens v) ≡ element_text c v
+unfolding print_from
+value_begins false v = refl
+value_begins true null = refl
+value_begins true (boolean true) = refl
+value_begins true (boolean false) = refl
+value_begins true (number s) = refl
+value_begins true (string s) = refl
+value_begins true (array js) = refl
+value_begins true (object ms) = refl
+
+-- ---- arrays
+
+-- no comma stands before the end of an array
+array_ends : (c : Bool) (ts : List Token) → print_from c (end_array ∷ ts) ≡ print (end_array ∷ ts)
+unfolding print_from
+array_ends true ts = refl
+array_ends false ts = refl
+
+-- the elements, and what follows them
+pub elements_print : (c : Bool) (vs : List Json) (ts : List Token) → print_from c (items_tokens (items_of vs) ++ ts) ≡ elements_text c vs ++ print (end_array ∷ ts)
+elements_print c [] ts = array_ends c ts
+elements_print c (v ∷ vs) ts =
+    let rest = items_tokens (items_of vs) ++ ts in
+    ap (print_from c) (append_assoc (json_tokens v) (items_tokens (items_of vs)) ts)
+    ∙ print_from-append c (json_tokens v) rest
+    ∙ ap (λ b. print_from c (json_tokens v) ++ print_from b rest) (value_ends c v)
+    ∙ ap (λ l. print_from c (json_tokens v) ++ l) (elements_print true vs ts)
+    ∙ ap (λ l. l ++ (elements_text true vs ++ print (end_array ∷ ts))) (value_begins c v)
+    ∙ sym (append_assoc (element_text c v) (elements_text true vs) (print (end_array ∷ ts)))
+
+-- ---- members
+
+pub members_append : (ms ns : List Member) → members_tokens (members_of (ms ++ ns)) ≡ tokens_of ms ++ members_tokens (members_of ns)
+members_append [] ns = refl
+members_append (m ∷ ms) ns =
+    ap (λ l. key m.0 ∷ (json_tokens m.1 ++ l)) (members_append ms ns) ∙ sym (append_assoc (member_tokens m) (tokens_of ms) (members_tokens (members_of ns)))
+
+pub members_end_object : (ms : List Member) → members_tokens (members_of ms) ≡ tokens_of ms ++ (end_object ∷ [])
+members_end_object [] = refl
+members_end_object (m ∷ ms) =
+    ap (λ l. key m.0 ∷ (json_tokens m.1 ++ l)) (members_end_object ms) ∙ sym (append_assoc (member_tokens m) (tokens_of ms) (end_object ∷ []))
+
+-- ---- objects
+
+-- an object up to an array in it, and from there on
+split_at_array : (ms ns : List Member) (name : List ℕ) (vs : List Json)
+    → json_tokens (object_of (ms ++ (name, array_of vs) ∷ ns)) ≡ head_tokens ms name ++ (items_tokens (items_of vs) ++ members_tokens (members_of ns))
+split_at_array ms ns name vs =
+    let rest = items_tokens (items_of vs) ++ members_tokens (members_of ns) in
+    ap (λ l. begin_object ∷ l) (members_append ms ((name, array_of vs) ∷ ns) ∙ sym (append_assoc (tokens_of ms) (key name ∷ begin_array ∷ []) rest))
+
+-- after what stands before an array no value has ended
+head_is_open : (ms : List Member) (name : List ℕ) → ends_value (head_tokens ms name) ≡ false
+head_is_open ms name = fold-append (λ _ t. ends t) false (tokens_of ms) (key name ∷ begin_array ∷ [])
+
+-- the text of an object with an array in it
+pub object_print : (ms ns : List Member) (name : List ℕ) (vs : List Json)
+    → print (json_tokens (object_of (ms ++ (name, array_of vs) ∷ ns))) ≡ print (head_tokens ms name) ++ (elements_text false vs ++ print (end_array ∷ members_tokens (members_of ns)))
+object_print ms ns name vs =
+    let rest = items_tokens (items_of vs) ++ members_tokens (members_of ns) in
+    ap print (split_at_array ms ns name vs)
+    ∙ print_from-append false (head_tokens ms name) rest
+    ∙ ap (λ b. print (head_tokens ms name) ++ print_from b rest) (head_is_open ms name)
+    ∙ ap (λ l. print (head_tokens ms name) ++ l) (elements_print false vs (members_tokens (members_of ns)))
+
+-- the text of the rest of an object, from the end of an array on, with another array in it
+pub rest_print : (ns : List Member) (name : List ℕ) (vs : List Json)
+    → print (end_array ∷ members_tokens (members_of ((name, array_of vs) ∷ ns))) ≡ print (between_tokens name) ++ (elements_text false vs ++ print (end_array ∷ members_tokens (members_of ns)))
+rest_print ns name vs =
+    let rest = items_tokens (items_of vs) ++ members_tokens (members_of ns) in
+    print_from-append false (between_tokens name) rest ∙ ap (λ l. print (between_tokens name) ++ l) (elements_print false vs (members_tokens (members_of ns)))

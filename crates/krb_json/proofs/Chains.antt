@@ -1,0 +1,71 @@
+-- Tokens behind tokens, and what objects they make.
+use Rattle.std.proofs.Common.{◌≡◌, ℕ, List, [], ◌∷◌, ◌++◌, Option, None, Some, codes, refl, sym, ap, ◌∙◌, append_assoc, append-nil}
+use Rattle.std.proofs.lemmas.Grind.{flat_map-append}
+use Rattle.json.specs.Token.{Token, begin_object, end_object, begin_array, key, string, null}
+use Rattle.json.specs.Tree.{json_tokens}
+use Rattle.krb_json.specs.Members.{Member, object_of, number_of, text_or_null}
+use Rattle.krb_json.specs.Pieces.{member_tokens, tokens_of, head_tokens}
+use Rattle.krb_json.proofs.Arrays.{members_append, members_end_object}
+
+-- behind a list one, and then another
+pub chain : {X : Type 0} (a b c x y : List X) → b ≡ a ++ x → c ≡ b ++ y → c ≡ a ++ (x ++ y)
+chain a b c x y is_b is_c = is_c ∙ ap (λ t. t ++ y) is_b ∙ append_assoc a x y
+
+-- ---- encryption types
+
+pub named_etype : (old mid new : List Token) (etype : ℕ) (o : Option (List ℕ)) (name : List ℕ) → o ≡ Some name → mid ≡ old ++ member_tokens (codes "etype", number_of etype)
+    → new ≡ mid ++ key (codes "etype_name") ∷ string name ∷ [] → new ≡ old ++ tokens_of ((codes "etype", number_of etype) ∷ (codes "etype_name", text_or_null o) ∷ [])
+named_etype old mid new etype o name is is_mid is_new = rw is (chain old mid new (member_tokens (codes "etype", number_of etype)) (key (codes "etype_name") ∷ string name ∷ []) is_mid is_new)
+
+pub unnamed_etype : (old mid new : List Token) (etype : ℕ) (o : Option (List ℕ)) → o ≡ None → mid ≡ old ++ member_tokens (codes "etype", number_of etype)
+    → new ≡ mid ++ key (codes "etype_name") ∷ null ∷ [] → new ≡ old ++ tokens_of ((codes "etype", number_of etype) ∷ (codes "etype_name", text_or_null o) ∷ [])
+unnamed_etype old mid new etype o is is_mid is_new = rw is (chain old mid new (member_tokens (codes "etype", number_of etype)) (key (codes "etype_name") ∷ null ∷ []) is_mid is_new)
+
+-- ---- objects
+
+tokens_push : (ms : List Member) (m : Member) → tokens_of (ms ++ m ∷ []) ≡ tokens_of ms ++ member_tokens m
+tokens_push ms m = flat_map-append member_tokens ms (m ∷ []) ∙ ap (λ l. tokens_of ms ++ l) (append-nil (member_tokens m))
+
+object_by_four : (a b : List Member) (m : Member) (d : List Member)
+    → json_tokens (object_of (a ++ (b ++ (m ∷ d)))) ≡ begin_object ∷ (tokens_of a ++ (tokens_of b ++ (member_tokens m ++ (tokens_of d ++ (end_object ∷ [])))))
+object_by_four a b m d =
+    ap (λ l. begin_object ∷ l)
+    (members_append a (b ++ (m ∷ d)) ∙ ap (λ l. tokens_of a ++ l) (members_append b (m ∷ d) ∙ ap (λ l. tokens_of b ++ (member_tokens m ++ l)) (members_end_object d)))
+
+-- an object of two lists of members, one more, and a last list
+pub written_by_four : (a b : List Member) (m : Member) (d : List Member) (old t u v w x new : List Token)
+    → t ≡ old ++ begin_object ∷ [] → u ≡ t ++ tokens_of a → v ≡ u ++ tokens_of b → w ≡ v ++ member_tokens m → x ≡ w ++ tokens_of d → new ≡ x ++ end_object ∷ []
+    → new ≡ old ++ json_tokens (object_of (a ++ (b ++ (m ∷ d))))
+written_by_four a b m d old t u v w x new e1 e2 e3 e4 e5 e6 =
+    chain old t new (begin_object ∷ []) _ e1
+    (chain t u new (tokens_of a) _ e2 (chain u v new (tokens_of b) _ e3 (chain v w new (member_tokens m) _ e4 (chain w x new (tokens_of d) (end_object ∷ []) e5 e6))))
+    ∙ ap (λ l. old ++ l) (sym (object_by_four a b m d))
+
+object_by_five : (a b c d e : List Member)
+    → json_tokens (object_of (a ++ (b ++ (c ++ (d ++ e))))) ≡ begin_object ∷ (tokens_of a ++ (tokens_of b ++ (tokens_of c ++ (tokens_of d ++ (tokens_of e ++ (end_object ∷ []))))))
+object_by_five a b c d e =
+    ap (λ l. begin_object ∷ l)
+    (members_append a (b ++ (c ++ (d ++ e)))
+    ∙ ap (λ l. tokens_of a ++ l) (members_append b (c ++ (d ++ e))
+    ∙ ap (λ l. tokens_of b ++ l) (members_append c (d ++ e)
+    ∙ ap (λ l. tokens_of c ++ l) (members_append d e ∙ ap (λ l. tokens_of d ++ l) (members_end_object e)))))
+
+-- an object of five lists of members
+pub written_by_five : (a b c d e : List Member) (old t u v w x y new : List Token)
+    → t ≡ old ++ begin_object ∷ [] → u ≡ t ++ tokens_of a → v ≡ u ++ tokens_of b → w ≡ v ++ tokens_of c → x ≡ w ++ tokens_of d → y ≡ x ++ tokens_of e → new ≡ y ++ end_object ∷ []
+    → new ≡ old ++ json_tokens (object_of (a ++ (b ++ (c ++ (d ++ e)))))
+written_by_five a b c d e old t u v w x y new e1 e2 e3 e4 e5 e6 e7 =
+    chain old t new (begin_object ∷ []) _ e1
+    (chain t u new (tokens_of a) _ e2 (chain u v new (tokens_of b) _ e3 (chain v w new (tokens_of c) _ e4 (chain w x new (tokens_of d) _ e5 (chain x y new (tokens_of e) (end_object ∷ []) e6 e7)))))
+    ∙ ap (λ l. old ++ l) (sym (object_by_five a b c d e))
+
+-- what stands before an array
+pub head_written : (ms : List Member) (name : List ℕ) (none t u : List Token) → none ≡ [] → t ≡ none ++ begin_object ∷ tokens_of ms → u ≡ t ++ key name ∷ begin_array ∷ [] → u ≡ head_tokens ms name
+head_written ms name none t u is_none is_t is_u = is_u ∙ ap (λ l. l ++ key name ∷ begin_array ∷ []) (is_t ∙ ap (λ l. l ++ begin_object ∷ tokens_of ms) is_none)
+
+-- with one more member
+pub head_written_more : (ms : List Member) (m : Member) (name : List ℕ) (none t u v : List Token) → none ≡ [] → t ≡ none ++ begin_object ∷ tokens_of ms → u ≡ t ++ member_tokens m
+    → v ≡ u ++ key name ∷ begin_array ∷ [] → v ≡ head_tokens (ms ++ m ∷ []) name
+head_written_more ms m name none t u v is_none is_t is_u is_v =
+    head_written (ms ++ m ∷ []) name [] u v refl
+    (is_u ∙ ap (λ l. l ++ member_tokens m) (is_t ∙ ap (λ l. l ++ begin_object ∷ tokens_of ms) is_none) ∙ ap (λ l. begin_object ∷ l) (sym (tokens_push ms m))) is_v

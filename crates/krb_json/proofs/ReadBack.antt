@@ -1,0 +1,212 @@
+-- What is written is read back.
+use Rattle.std.proofs.Common.{◌≡◌, ℕ, ◌<◌, ◌≤◌, ◌^◌, Bool, true, false, cond, List, [], ◌∷◌, ◌++◌, codes, Option, None, Some, lit<, refl, arith, length}
+use Rattle.std.specs.Str.{is_utf8}
+use Rattle.json.specs.Json.{Json, string, document}
+use Rattle.json.specs.Print.{print}
+use Rattle.json.specs.Tree.{json_tokens, depth, items_depth, members_depth, HasNumbers, ItemsHaveNumbers, MembersHaveNumbers}
+use Rattle.json.specs.Value.{items_of}
+use Rattle.json.proofs.Printed.Decimals.{IsNumber-decimal}
+use Rattle.json.proofs.Printed.Trees.{document-print}
+use Rattle.krb_wire.specs.declared.format.KtFormat.{KtFormat}
+use Rattle.krb_wire.specs.declared.format.KtFormat.TheVariants.{V1, V2}
+use Rattle.krb_wire.specs.Names.{name_text}
+use Rattle.krb_wire.specs.Spelling.{version_byte}
+use Rattle.krb_walk.specs.declared.fault.Fault.{Fault}
+use Rattle.krb_walk.specs.declared.fault.FaultKind.{FaultKind}
+use Rattle.krb_walk.specs.declared.fault.FaultKind.TheVariants.{CutLength, Overrun, BadEntry, BadCredential}
+use Rattle.krb_walk.specs.Numbers.{fault_number}
+use Rattle.krb_walk.specs.Store.{fault_of}
+use Rattle.krb_keytab.specs.Find.{PlacedEntry}
+use Rattle.krb_keytab.specs.Store.{KeytabState, store_of}
+use Rattle.krb_ccache.specs.declared.version.Version.{Version}
+use Rattle.krb_ccache.specs.declared.version.Version.TheVariants.{V3, V4}
+use Rattle.krb_ccache.specs.Store.{CacheState, PlacedCredential, placed_credentials}
+use Rattle.krb_ccache.specs.Store as cache
+use Rattle.krb_ccache.specs.Credential.{FitsTimes}
+use Rattle.krb_ccache.specs.Config.{ConfigParts}
+use Rattle.krb_text.specs.Etype.{etype_name_of}
+use Rattle.krb_json.specs.Members.{Member, members_of, etype_members, file_members, text_member, text_or_null, fault_value, digits_of}
+use Rattle.krb_json.specs.Keytab.{owner_members, key_members, entry_value, entry_values, keytab_value}
+use Rattle.krb_json.specs.Cache.{party_members, time_members, flag_members, size_members, about_member, ticket_value, config_value, ticket_values, config_values, cache_value}
+use Rattle.krb_json.specs.Pieces.{IsPlain, ArePlain}
+
+-- ---- texts
+
+text_numbers : (name text : List ℕ) → HasNumbers (text_member name text).1
+unfolding text_member
+text_numbers name text =
+    elim (is_utf8 text) as (λ b. HasNumbers (cond {A = Member} b (name, string text) (name ++ codes "_hex", digits_of text)).1) [ true ↦ tt | false ↦ tt ]
+
+text_depth : (name text : List ℕ) → depth (text_member name text).1 ≡ 0
+unfolding text_member
+text_depth name text =
+    elim (is_utf8 text) as (λ b. depth (cond {A = Member} b (name, string text) (name ++ codes "_hex", digits_of text)).1 ≡ 0) [ true ↦ refl | false ↦ refl ]
+
+or_null_numbers : (o : Option (List ℕ)) → HasNumbers (text_or_null o)
+or_null_numbers None = tt
+or_null_numbers (Some text) = tt
+
+or_null_depth : (o : Option (List ℕ)) → depth (text_or_null o) ≡ 0
+or_null_depth None = refl
+or_null_depth (Some text) = refl
+
+-- ---- entries
+
+key_numbers : (is_shown : Bool) (key : List ℕ) → MembersHaveNumbers (members_of (key_members is_shown key))
+unfolding key_members
+key_numbers true key = (tt, tt)
+key_numbers false key = tt
+
+key_depth : (is_shown : Bool) (key : List ℕ) → members_depth (members_of (key_members is_shown key)) ≤ 0
+unfolding key_members
+key_depth true key = omega arith
+key_depth false key = omega arith
+
+pub entry_is_plain : (shows_keys : Bool) (x : PlacedEntry) → x.0 < 2 ^ 32 → x.1.version < 2 ^ 32 → x.1.enctype < 2 ^ 16 → x.1.timestamp < 2 ^ 32 → IsPlain (entry_value shows_keys x)
+unfolding entry_value owner_members etype_members
+entry_is_plain shows_keys x place version enctype timestamp =
+    let name = name_text x.1.principal in
+    record {
+      numbers = (
+        IsNumber-decimal x.0 (omega arith),
+        (
+          text_numbers (codes "principal") name,
+          (
+            IsNumber-decimal x.1.version (omega arith),
+            (
+              IsNumber-decimal x.1.enctype (omega arith),
+              (
+                or_null_numbers (etype_name_of x.1.enctype),
+                (
+                  IsNumber-decimal x.1.timestamp (omega arith),
+                  key_numbers shows_keys x.1.key,
+                ),
+              ),
+            ),
+          ),
+        ),
+      );
+      flat = omega (arith, text_depth (codes "principal") name, or_null_depth (etype_name_of x.1.enctype), key_depth shows_keys x.1.key);
+    }
+
+-- ---- credentials
+
+pub ticket_is_plain : (x : PlacedCredential) → x.0 < 2 ^ 32 → FitsTimes x.1.times → x.1.flags < 2 ^ 32 → x.1.key.enctype < 2 ^ 16 → length x.1.addresses < 2 ^ 64 → length x.1.ticket < 2 ^ 64 → IsPlain (ticket_value x)
+unfolding ticket_value party_members time_members flag_members etype_members size_members
+ticket_is_plain x place times flags enctype addresses ticket =
+    let client = name_text x.1.client in
+    let server = name_text x.1.server in
+    record {
+      numbers = (
+        IsNumber-decimal x.0 (omega arith),
+        (
+          text_numbers (codes "client") client,
+          (
+            text_numbers (codes "server") server,
+            (
+              IsNumber-decimal x.1.times.authtime (omega (arith, times.authtime)),
+              (
+                IsNumber-decimal x.1.times.starttime (omega (arith, times.starttime)),
+                (
+                  IsNumber-decimal x.1.times.endtime (omega (arith, times.endtime)),
+                  (
+                    IsNumber-decimal x.1.times.renew_till (omega (arith, times.renew_till)),
+                    (
+                      tt,
+                      (
+                        IsNumber-decimal x.1.flags (omega arith),
+                        (
+                          IsNumber-decimal x.1.key.enctype (omega arith),
+                          (or_null_numbers (etype_name_of x.1.key.enctype), (tt, (IsNumber-decimal (length x.1.addresses) addresses, (IsNumber-decimal (length x.1.ticket) ticket, tt)))),
+                        ),
+                      ),
+                    ),
+                  ),
+                ),
+              ),
+            ),
+          ),
+        ),
+      );
+      flat = omega (arith, text_depth (codes "client") client, text_depth (codes "server") server, or_null_depth (etype_name_of x.1.key.enctype));
+    }
+
+about_numbers : (o : Option (List ℕ)) → HasNumbers (about_member o).1
+about_numbers None = tt
+about_numbers (Some text) = text_numbers (codes "principal") text
+
+about_depth : (o : Option (List ℕ)) → depth (about_member o).1 ≡ 0
+about_depth None = refl
+about_depth (Some text) = text_depth (codes "principal") text
+
+pub config_is_plain : (place : ℕ) (name : ConfigParts) (value : List ℕ) → place < 2 ^ 32 → IsPlain (config_value place name value)
+unfolding config_value
+config_is_plain place name value small = record {
+  numbers = (IsNumber-decimal place (omega arith), (text_numbers (codes "key") name.key, (about_numbers name.principal, (text_numbers (codes "value") value, tt))));
+  flat = omega (arith, text_depth (codes "key") name.key, about_depth name.principal, text_depth (codes "value") value);
+}
+
+-- ---- faults
+
+fault_number_small : (kind : FaultKind) → fault_number kind < 2 ^ 64
+fault_number_small CutLength = lit< tt
+fault_number_small Overrun = lit< tt
+fault_number_small BadEntry = lit< tt
+fault_number_small BadCredential = lit< tt
+
+pub fault_is_plain : (fault : Fault) → fault.place < 2 ^ 32 → IsPlain (fault_value (Some fault))
+fault_is_plain fault small = record {
+  numbers = (IsNumber-decimal (fault_number fault.kind) (fault_number_small fault.kind), (IsNumber-decimal fault.place (omega arith), tt));
+  flat = omega arith;
+}
+
+pub no_fault_is_plain : IsPlain (fault_value None)
+no_fault_is_plain = record { numbers = tt; flat = omega arith }
+
+-- ---- arrays
+
+plain_numbers : (vs : List Json) → ArePlain vs → ItemsHaveNumbers (items_of vs)
+plain_numbers [] h = tt
+plain_numbers (v ∷ vs) h = (h.0.numbers, plain_numbers vs h.1)
+
+plain_depth : (vs : List Json) → ArePlain vs → items_depth (items_of vs) ≤ 1
+plain_depth [] h = omega arith
+plain_depth (v ∷ vs) h = omega (arith, h.0.flat, plain_depth vs h.1)
+
+-- ---- files
+
+version_small : (f : KtFormat) → version_byte f < 2 ^ 64
+version_small (V1 o) = lit< tt
+version_small V2 = lit< tt
+
+pub keytab_is_read : (file : List ℕ) (shows_keys : Bool) (k : KeytabState) → ArePlain (entry_values shows_keys k) → IsPlain (fault_value (fault_of (store_of k)))
+    → document (print (json_tokens (keytab_value file shows_keys k))) ≡ Some (keytab_value file shows_keys k)
+unfolding keytab_value file_members
+keytab_is_read file shows_keys k entries fault =
+    let vs = entry_values shows_keys k in
+    document-print (keytab_value file shows_keys k)
+    (tt, (tt, (IsNumber-decimal (version_byte k.format) (version_small k.format), (plain_numbers vs entries, (fault.numbers, tt)))))
+    (omega (arith, plain_depth vs entries, fault.flat))
+
+cache_version_small : (v : Version) → cache.version_byte v < 2 ^ 64
+cache_version_small V3 = lit< tt
+cache_version_small V4 = lit< tt
+
+pub cache_is_read : (file : List ℕ) (k : CacheState) → ArePlain (ticket_values (placed_credentials k)) → ArePlain (config_values (placed_credentials k)) → IsPlain (fault_value (fault_of (cache.store_of k)))
+    → document (print (json_tokens (cache_value file k))) ≡ Some (cache_value file k)
+unfolding cache_value file_members
+cache_is_read file k tickets configs fault =
+    let ts = ticket_values (placed_credentials k) in
+    let cs = config_values (placed_credentials k) in
+    let name = name_text k.principal in
+    document-print (cache_value file k) (
+      tt,
+      (
+        tt,
+        (
+          IsNumber-decimal (cache.version_byte k.version) (cache_version_small k.version),
+          (text_numbers (codes "default_principal") name, (plain_numbers ts tickets, (plain_numbers cs configs, (fault.numbers, tt)))),
+        ),
+      ),
+    )
+    (omega (arith, text_depth (codes "default_principal") name, plain_depth ts tickets, plain_depth cs configs, fault.flat))

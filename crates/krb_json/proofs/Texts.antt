@@ -1,0 +1,51 @@
+-- What is UTF-8.
+use Rattle.std.proofs.Common.{map, cond, ◌≡◌, ℕ, Bool, true, false, List, [], ◌∷◌, IsUtf8, IsAscii, ◌&&◌, refl}
+use Rattle.std.specs.Prelude.{ltb, filter}
+use Rattle.std.specs.Str.{is_utf8}
+use Rattle.std.proofs.lemmas.Bool.{and_parts, and_from, ltb-true}
+use Rattle.std.proofs.lemmas.Str.{IsUtf8-from_is_utf8, is_utf8-from_IsUtf8, IsUtf8-from_ascii}
+use Rattle.std.proofs.lemmas.Str.Ascii.{IsAscii-nil, IsAscii-cons}
+use Rattle.krb_text.specs.Flags.{flag_table, is_set, flag_letters_of}
+use Rattle.hex.specs.Hex.{encode_lower, lower_digits}
+use Rattle.hex.proofs.HexLemmas.{IsAscii-encode_with}
+
+pub utf8_is_text : (bytes : List ℕ) → IsUtf8 bytes → is_utf8 bytes ≡ true
+utf8_is_text bytes h = is_utf8-from_IsUtf8 bytes h
+
+by_test : (bytes : List ℕ) (b : Bool) → is_utf8 bytes ≡ b → (IsUtf8 bytes → ⊥) → b ≡ false
+by_test bytes false e h = refl
+by_test bytes true e h = absurd (h (IsUtf8-from_is_utf8 bytes e))
+
+pub other_is_no_text : (bytes : List ℕ) → (IsUtf8 bytes → ⊥) → is_utf8 bytes ≡ false
+other_is_no_text bytes h = by_test bytes (is_utf8 bytes) refl h
+
+-- ---- ASCII
+
+-- each byte is ASCII, as a test
+abbrev are_ascii : List ℕ → Bool
+are_ascii [] = true
+are_ascii (b ∷ bytes) = ltb b 128 && are_ascii bytes
+
+ascii_is_text : (bytes : List ℕ) → are_ascii bytes ≡ true → IsAscii bytes
+ascii_is_text [] h = IsAscii-nil
+ascii_is_text (b ∷ bytes) h =
+    let parts = and_parts (ltb b 128) (are_ascii bytes) h in
+    IsAscii-cons b bytes (ltb-true b 128 parts.0) (ascii_is_text bytes parts.1)
+
+sixteen : IsAscii lower_digits
+sixteen = ascii_is_text lower_digits refl
+
+pub digits_are_text : (bytes : List ℕ) → is_utf8 (encode_lower bytes) ≡ true
+digits_are_text bytes = is_utf8-from_IsUtf8 _ (IsUtf8-from_ascii _ (IsAscii-encode_with lower_digits bytes sixteen))
+
+-- letters of a table that pass a test
+letters_are_ascii : (test : ℕ × ℕ → Bool) (table : List (ℕ × ℕ)) → are_ascii (map (λ x. x.1) table) ≡ true → are_ascii (map (λ x. x.1) (filter test table)) ≡ true
+letters_are_ascii test [] h = refl
+letters_are_ascii test (x ∷ table) h =
+    let parts = and_parts (ltb x.1 128) (are_ascii (map (λ x. x.1) table)) h in
+    let rest = letters_are_ascii test table parts.1 in
+    elim (test x) as (λ b. are_ascii (map (λ x. x.1) (cond b (x ∷ filter test table) (filter test table))) ≡ true) [ true ↦ and_from _ _ parts.0 rest | false ↦ rest ]
+
+-- the letters of ticket flags
+pub letters_are_text : (flags : ℕ) → is_utf8 (flag_letters_of flags) ≡ true
+letters_are_text flags = is_utf8-from_IsUtf8 _ (IsUtf8-from_ascii _ (ascii_is_text _ (letters_are_ascii (is_set flags) flag_table refl)))

@@ -1,0 +1,16 @@
+use Rattle.std.proofs.Common.{codes, ◌∷◌, []}
+use Rattle.std.proofs.lemmas.Result.{on_ok_weaker}
+use Rattle.json.specs.Token.{key, string}
+use Rattle.krb_text.specs.Flags.{flag_letters_of}
+use Rattle.krb_json.specs.Members.{number_of}
+use Rattle.krb_json.specs.Cache.{flag_members}
+use Rattle.krb_json.specs.Pieces.{member_tokens}
+use Rattle.krb_json.proofs.Chains.{chain}
+use Rattle.krb_json.proofs.piece.Piece.flags.Goals as goal
+
+pub returns : goal.returns
+unfolding flag_members
+returns g c =
+    let flags = c.args.flags in
+    on_ok_weaker c.number.result (λ last.
+    chain _ _ _ (key (codes "flags") ∷ string (flag_letters_of flags) ∷ []) (member_tokens (codes "flags_value", number_of flags)) c.in_ok-letters.ensures last) c.number.ensures

@@ -1,0 +1,97 @@
+-- A credential cache as a JSON value, and as the text of it.
+use Rattle.std.specs.Prelude.{ℕ, ◌==◌, List, [], ◌∷◌, ◌++◌, length, codes, not, Option, None, Some, filter_map}
+use Rattle.json.specs.Json.{Json, null, boolean, string}
+use Rattle.json.specs.Print.{print}
+use Rattle.json.specs.Tree.{json_tokens}
+use Rattle.krb_wire.specs.Names.{name_text}
+use Rattle.krb_walk.specs.Store.{fault_of}
+use Rattle.krb_ccache.specs.declared.credential.times.Times.{Times}
+use Rattle.krb_ccache.specs.Credential.{CredParts}
+use Rattle.krb_ccache.specs.Config.{ConfigParts, config_name}
+use Rattle.krb_ccache.specs.Store.{CacheState, PlacedCredential, version_byte, store_of, placed_credentials}
+use Rattle.krb_text.specs.Flags.{flag_letters_of}
+use Rattle.krb_json.specs.Members.{Member, object_of, array_of, number_of, text_member, etype_members, fault_value, file_members}
+
+-- where a ticket stands, whose it is, and what it is for
+unfoldable pub party_members : PlacedCredential → List Member
+party_members x =
+    (codes "place", number_of x.0)
+    ∷ text_member (codes "client") (name_text x.1.client)
+    ∷ text_member (codes "server") (name_text x.1.server)
+    ∷ []
+
+-- its four times, in seconds of the file
+unfoldable pub time_members : Times → List Member
+time_members t =
+    (codes "authtime", number_of t.authtime)
+    ∷ (codes "starttime", number_of t.starttime)
+    ∷ (codes "endtime", number_of t.endtime)
+    ∷ (codes "renew_till", number_of t.renew_till)
+    ∷ []
+
+-- its flags, as letters and as a number
+unfoldable pub flag_members : ℕ → List Member
+flag_members flags = (codes "flags", string (flag_letters_of flags)) ∷ (codes "flags_value", number_of flags) ∷ []
+
+-- whether it is encrypted in another ticket's session key, how many addresses it has, and how long the ticket is
+unfoldable pub size_members : CredParts → List Member
+size_members c =
+    (codes "is_skey", boolean (not (c.is_skey == 0)))
+    ∷ (codes "addresses", number_of (length c.addresses))
+    ∷ (codes "ticket_length", number_of (length c.ticket))
+    ∷ []
+
+-- a ticket
+unfoldable pub ticket_value : PlacedCredential → Json
+ticket_value x =
+    object_of (party_members x ++ (time_members x.1.times ++ (flag_members x.1.flags ++ (etype_members x.1.key.enctype ++ size_members x.1))))
+
+-- the principal that a configuration entry is about, or null where there is none
+abbrev pub about_member : Option (List ℕ) → Member
+about_member None = (codes "principal", null)
+about_member (Some text) = text_member (codes "principal") text
+
+-- a configuration entry: its place, what its value is held under, and the value
+unfoldable pub config_value : ℕ → ConfigParts → List ℕ → Json
+config_value place name value =
+    object_of (
+    (codes "place", number_of place)
+    ∷ text_member (codes "key") name.key
+    ∷ about_member name.principal
+    ∷ text_member (codes "value") value
+    ∷ []
+    )
+
+-- what a credential is as a ticket, by what its server names as that of a configuration entry
+abbrev pub ticket_by : Option ConfigParts → PlacedCredential → Option Json
+ticket_by None x = Some (ticket_value x)
+ticket_by (Some name) x = None
+
+-- what a credential is as a configuration entry, by the same
+abbrev pub config_by : Option ConfigParts → PlacedCredential → Option Json
+config_by None x = None
+config_by (Some name) x = Some (config_value x.0 name x.1.ticket)
+
+-- the live credentials that are no configuration entries, in file order
+abbrev pub ticket_values : List PlacedCredential → List Json
+ticket_values xs = filter_map (λ x. ticket_by (config_name x.1.server) x) xs
+
+-- the live credentials that are, in file order
+abbrev pub config_values : List PlacedCredential → List Json
+config_values xs = filter_map (λ x. config_by (config_name x.1.server) x) xs
+
+-- a cache under the name of its file
+unfoldable pub cache_value : List ℕ → CacheState → Json
+cache_value file k =
+    object_of (
+    file_members file (codes "ccache") (version_byte k.version)
+    ++ (text_member (codes "default_principal") (name_text k.principal)
+    ∷ (codes "tickets", array_of (ticket_values (placed_credentials k)))
+    ∷ (codes "config", array_of (config_values (placed_credentials k)))
+    ∷ (codes "fault", fault_value (fault_of (store_of k)))
+    ∷ [])
+    )
+
+-- its text, and the end of the line
+abbrev pub cache_json_text : List ℕ → CacheState → List ℕ
+cache_json_text file k = print (json_tokens (cache_value file k)) ++ codes "\n"

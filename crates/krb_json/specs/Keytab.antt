@@ -1,0 +1,47 @@
+-- A keytab as a JSON value, and as the text of it.
+use Rattle.std.specs.Prelude.{ℕ, List, [], ◌∷◌, ◌++◌, map, codes, Bool, if◌then◌else◌}
+use Rattle.json.specs.Json.{Json}
+use Rattle.json.specs.Print.{print}
+use Rattle.json.specs.Tree.{json_tokens}
+use Rattle.krb_wire.specs.Names.{name_text}
+use Rattle.krb_wire.specs.Spelling.{version_byte}
+use Rattle.krb_walk.specs.Store.{fault_of}
+use Rattle.krb_keytab.specs.Find.{PlacedEntry, placed_entries}
+use Rattle.krb_keytab.specs.Store.{KeytabState, store_of}
+use Rattle.krb_json.specs.Members.{Member, object_of, array_of, number_of, digits_of, text_member, etype_members, fault_value, file_members}
+
+-- the key, if keys are shown
+unfoldable pub key_members : Bool → List ℕ → List Member
+key_members shows_keys key = if shows_keys then (codes "key_hex", digits_of key) ∷ [] else []
+
+-- where an entry stands, whose key it is, and its version
+unfoldable pub owner_members : PlacedEntry → List Member
+owner_members x =
+    (codes "place", number_of x.0)
+    ∷ text_member (codes "principal") (name_text x.1.principal)
+    ∷ (codes "kvno", number_of x.1.version)
+    ∷ []
+
+-- an entry
+unfoldable pub entry_value : Bool → PlacedEntry → Json
+entry_value shows_keys x =
+    object_of (
+    owner_members x
+    ++ (etype_members x.1.enctype ++ ((codes "timestamp", number_of x.1.timestamp) ∷ key_members shows_keys x.1.key))
+    )
+
+-- the entries, in file order
+abbrev pub entry_values : Bool → KeytabState → List Json
+entry_values shows_keys k = map (entry_value shows_keys) (placed_entries k)
+
+-- a keytab under the name of its file
+unfoldable pub keytab_value : List ℕ → Bool → KeytabState → Json
+keytab_value file shows_keys k =
+    object_of (
+    file_members file (codes "keytab") (version_byte k.format)
+    ++ ((codes "entries", array_of (entry_values shows_keys k)) ∷ (codes "fault", fault_value (fault_of (store_of k))) ∷ [])
+    )
+
+-- its text, and the end of the line
+abbrev pub keytab_json_text : List ℕ → Bool → KeytabState → List ℕ
+keytab_json_text file shows_keys k = print (json_tokens (keytab_value file shows_keys k)) ++ codes "\n"

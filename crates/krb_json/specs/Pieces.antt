@@ -1,0 +1,70 @@
+-- The text of a value in pieces: for private contracts.
+use Rattle.std.specs.Prelude.{ℕ, ◌≤◌, ⊤, List, [], ◌∷◌, ◌++◌, flat_map, codes, Bool, true, false, if◌then◌else◌, Option, None, Some}
+use Rattle.std.specs.List.{AllByRecursion}
+use Rattle.json.specs.Json.{Json}
+use Rattle.json.specs.Token.{Token, begin_object, end_object, begin_array, end_array, key}
+use Rattle.json.specs.Print.{print}
+use Rattle.json.specs.Tree.{json_tokens, depth, HasNumbers}
+use Rattle.krb_ccache.specs.Store.{CacheState, PlacedCredential, placed_credentials}
+use Rattle.krb_json.specs.Members.{Member}
+use Rattle.krb_json.specs.Cache.{ticket_values, config_values}
+
+-- the tokens of a member
+abbrev pub member_tokens : Member → List Token
+member_tokens m = key m.0 ∷ json_tokens m.1
+
+-- the tokens of members, one after the other
+abbrev pub tokens_of : List Member → List Token
+tokens_of ms = flat_map member_tokens ms
+
+-- a comma, behind an element
+abbrev pub comma_after : Bool → List ℕ
+comma_after is_after = if is_after then codes "," else []
+
+-- an element of an array, after others or as the first
+abbrev pub element_text : Bool → Json → List ℕ
+element_text is_after v = comma_after is_after ++ print (json_tokens v)
+
+-- elements of an array, after others or from the first on
+abbrev pub elements_text : Bool → List Json → List ℕ
+elements_text is_after [] = []
+elements_text is_after (v ∷ vs) = element_text is_after v ++ elements_text true vs
+
+-- an element, if there is one
+abbrev pub element_if : Bool → Option Json → List ℕ
+element_if is_after None = []
+element_if is_after (Some v) = element_text is_after v
+
+-- the tokens of an object up to an array in it, after these members
+abbrev pub head_tokens : List Member → List ℕ → List Token
+head_tokens ms name = begin_object ∷ (tokens_of ms ++ (key name ∷ begin_array ∷ []))
+
+-- the tokens between two arrays of an object
+abbrev pub between_tokens : List ℕ → List Token
+between_tokens name = end_array ∷ key name ∷ begin_array ∷ []
+
+-- the tokens of an object after an array in it, up to its end, with these members
+abbrev pub tail_tokens : List Member → List Token
+tail_tokens ms = end_array ∷ (tokens_of ms ++ (end_object ∷ []))
+
+-- the text of a cache after its last ticket, up to its last configuration entry
+abbrev pub after_tickets : List PlacedCredential → List ℕ
+after_tickets xs = print (between_tokens (codes "config")) ++ elements_text false (config_values xs)
+
+-- the text of a cache from its first ticket on, up to its last configuration entry
+abbrev pub arrays_text : CacheState → List ℕ
+arrays_text k = elements_text false (ticket_values (placed_credentials k)) ++ after_tickets (placed_credentials k)
+
+-- a value that a reader finds again: its numbers are numbers, and it nests no deeper than an object
+pub record IsPlain (v : Json) : Type 0 where
+  pub numbers : HasNumbers v
+  pub flat : depth v ≤ 1
+
+-- such a value, if there is one
+abbrev pub IfPlain : Option Json → Type 0
+IfPlain None = ⊤
+IfPlain (Some v) = IsPlain v
+
+-- such values
+abbrev pub ArePlain : List Json → Type 0
+ArePlain vs = AllByRecursion IsPlain vs

@@ -1,0 +1,215 @@
+//! A credential cache as JSON.
+
+ghost use Rattle.std.specs.Prelude.{◌≡◌, ◌++◌, [], ◌∷◌, Some, OnOk, OnErr, IfOk, IsFalse, false, codes, is_some, ◌||◌};
+ghost use Rattle.std.specs.Io.KnownBytes.{Appends};
+ghost use Rattle.json.specs.Json.{document};
+ghost use Rattle.json.specs.Print.{print};
+ghost use Rattle.json.specs.Tree.{json_tokens};
+ghost use Rattle.krb_wire.specs.Names.{name_text};
+ghost use Rattle.krb_files.specs.Bytes.{AppendsPrefix, is_write_fault};
+ghost use Rattle.krb_ccache.specs.Config.{config_name};
+ghost use Rattle.krb_ccache.specs.Store.{version_byte, placed_credentials};
+ghost use Rattle.krb_text.specs.Gathered.{Passed};
+ghost use Rattle.krb_json.specs.Members.{file_members, text_member};
+ghost use Rattle.krb_json.specs.Cache.{ticket_by, config_by, ticket_values, config_values, cache_value, cache_json_text};
+ghost use Rattle.krb_json.specs.Pieces.{element_if, elements_text, head_tokens, between_tokens, arrays_text, IfPlain, ArePlain};
+
+use crate::label::Label;
+use crate::piece::Piece;
+use crate::tail::send_tail;
+use krb_ccache::{Ccache, CredView, Version, config_name};
+use krb_files::{OutFault, Watched};
+use krb_text::{room_to_gather, send_if_full};
+use krb_wire::NoMemory;
+use std::alloc::Allocator;
+use std::io::Write;
+
+fn version_number(version: Version) -> u64
+    ensures { result ≡ version_byte version }
+{
+    match version {
+        Version::V3 => 3,
+        Version::V4 => 4,
+    }
+}
+
+// What stands before the first ticket.
+fn append_head<A: Allocator + Copy, B: Allocator>(
+    file: &str,
+    cache: &Ccache<B>,
+    piece: &mut Piece<A>,
+    gathered: &mut Vec<u8, A>,
+) -> Result<(), NoMemory>
+    requires { piece.old ≡ [] }
+    ensures text { OnOk result (gathered.new.items ≡ gathered.old.items
+        ++ print (head_tokens (file_members file.now (codes "ccache") (version_byte cache.now.state.version)
+        ++ text_member (codes "default_principal") (name_text cache.now.state.principal) ∷ []) (codes "tickets"))) }
+    ensures empty { OnOk result (piece.new ≡ []) }
+{
+    piece.begin_file(file, "ccache", version_number(cache.version()))?;
+    piece.name(Label::DefaultPrincipal, &cache.default_principal())?;
+    piece.begin_array("tickets")?;
+    piece.append_to(false, gathered)
+}
+
+// A credential, if it is a ticket. The answer is whether an element stands there now.
+fn append_ticket<A: Allocator + Copy>(
+    place: u32,
+    credential: &CredView<'_>,
+    is_after: bool,
+    piece: &mut Piece<A>,
+    gathered: &mut Vec<u8, A>,
+) -> Result<bool, NoMemory>
+    requires { piece.old ≡ [] }
+    ensures text { OnOk result (gathered.new.items ≡ gathered.old.items
+        ++ element_if is_after (ticket_by (config_name credential.now.server) (place, credential.now))) }
+    ensures after { IfOk result (λ b. b
+        ≡ is_some (ticket_by (config_name credential.now.server) (place, credential.now)) || is_after) }
+    ensures empty { OnOk result (piece.new ≡ []) }
+    ensures plain { OnOk result (IfPlain (ticket_by (config_name credential.now.server) (place, credential.now))) }
+{
+    if config_name(credential).is_some() {
+        return Ok(is_after);
+    }
+    piece.ticket(place, credential)?;
+    piece.append_to(is_after, gathered)?;
+    Ok(true)
+}
+
+// A credential, if it is a configuration entry. The answer is whether an element stands there now.
+fn append_config<A: Allocator + Copy>(
+    place: u32,
+    credential: &CredView<'_>,
+    is_after: bool,
+    piece: &mut Piece<A>,
+    gathered: &mut Vec<u8, A>,
+) -> Result<bool, NoMemory>
+    requires { piece.old ≡ [] }
+    ensures text { OnOk result (gathered.new.items ≡ gathered.old.items
+        ++ element_if is_after (config_by (config_name credential.now.server) (place, credential.now))) }
+    ensures after { IfOk result (λ b. b
+        ≡ is_some (config_by (config_name credential.now.server) (place, credential.now)) || is_after) }
+    ensures empty { OnOk result (piece.new ≡ []) }
+    ensures plain { OnOk result (IfPlain (config_by (config_name credential.now.server) (place, credential.now))) }
+{
+    let Some(name) = config_name(credential) else {
+        return Ok(is_after);
+    };
+    piece.config(place, name, credential.ticket())?;
+    piece.append_to(is_after, gathered)?;
+    Ok(true)
+}
+
+// All tickets.
+fn send_tickets<A: Allocator + Copy, B: Allocator, W: Write>(
+    cache: &Ccache<B>,
+    piece: &mut Piece<A>,
+    gathered: &mut Vec<u8, A>,
+    out: &mut Watched<W>,
+) -> Result<(), OutFault>
+    requires well { IsFalse out.old.failed }
+    requires empty { piece.old ≡ [] }
+    ensures ok { OnOk result (Passed out.old.contents out.new.contents
+        (gathered.old.items ++ elements_text false (ticket_values (placed_credentials cache.now.state)))
+        [] gathered.new.items) }
+    ensures prefix { OnErr result (AppendsPrefix out.old.contents out.new.contents
+        (gathered.old.items ++ elements_text false (ticket_values (placed_credentials cache.now.state)))) }
+    ensures failed { out.new.failed ≡ is_write_fault result }
+    ensures empty { OnOk result (piece.new ≡ []) }
+    ensures plain { OnOk result (ArePlain (ticket_values (placed_credentials cache.now.state))) }
+{
+    let mut is_after = false;
+    'tickets: for (place, credential) in cache.credentials() {
+        is_after = append_ticket(place, &credential, is_after, piece, gathered)?;
+        send_if_full(gathered, out)?;
+    }
+    Ok(())
+}
+
+// All configuration entries.
+fn send_configs<A: Allocator + Copy, B: Allocator, W: Write>(
+    cache: &Ccache<B>,
+    piece: &mut Piece<A>,
+    gathered: &mut Vec<u8, A>,
+    out: &mut Watched<W>,
+) -> Result<(), OutFault>
+    requires well { IsFalse out.old.failed }
+    requires empty { piece.old ≡ [] }
+    ensures ok { OnOk result (Passed out.old.contents out.new.contents
+        (gathered.old.items ++ elements_text false (config_values (placed_credentials cache.now.state)))
+        [] gathered.new.items) }
+    ensures prefix { OnErr result (AppendsPrefix out.old.contents out.new.contents
+        (gathered.old.items ++ elements_text false (config_values (placed_credentials cache.now.state)))) }
+    ensures failed { out.new.failed ≡ is_write_fault result }
+    ensures empty { OnOk result (piece.new ≡ []) }
+    ensures plain { OnOk result (ArePlain (config_values (placed_credentials cache.now.state))) }
+{
+    let mut is_after = false;
+    'configs: for (place, credential) in cache.credentials() {
+        is_after = append_config(place, &credential, is_after, piece, gathered)?;
+        send_if_full(gathered, out)?;
+    }
+    Ok(())
+}
+
+fn append_between<A: Allocator + Copy>(
+    piece: &mut Piece<A>,
+    gathered: &mut Vec<u8, A>,
+) -> Result<(), NoMemory>
+    requires { piece.old ≡ [] }
+    ensures text { OnOk result (gathered.new.items
+        ≡ gathered.old.items ++ print (between_tokens (codes "config"))) }
+    ensures empty { OnOk result (piece.new ≡ []) }
+{
+    piece.next_array("config")?;
+    piece.append_to(false, gathered)
+}
+
+// Both arrays, from the first ticket to the last configuration entry.
+fn send_arrays<A: Allocator + Copy, B: Allocator, W: Write>(
+    cache: &Ccache<B>,
+    piece: &mut Piece<A>,
+    gathered: &mut Vec<u8, A>,
+    out: &mut Watched<W>,
+) -> Result<(), OutFault>
+    requires well { IsFalse out.old.failed }
+    requires empty { piece.old ≡ [] }
+    ensures ok { OnOk result (Passed out.old.contents out.new.contents
+        (gathered.old.items ++ arrays_text cache.now.state) [] gathered.new.items) }
+    ensures prefix { OnErr result (AppendsPrefix out.old.contents out.new.contents
+        (gathered.old.items ++ arrays_text cache.now.state)) }
+    ensures failed { out.new.failed ≡ is_write_fault result }
+    ensures empty { OnOk result (piece.new ≡ []) }
+    ensures tickets { OnOk result (ArePlain (ticket_values (placed_credentials cache.now.state))) }
+    ensures configs { OnOk result (ArePlain (config_values (placed_credentials cache.now.state))) }
+{
+    send_tickets(cache, piece, gathered, out)?;
+    append_between(piece, gathered)?;
+    send_configs(cache, piece, gathered, out)
+}
+
+/// Writes a cache under the name of its file as one JSON object (RFC 8259) and the end of the line: whose it is, an
+/// element for each ticket and for each configuration entry, in file order, and where the image is damaged its fault.
+/// No session key is written. It is gathered into large writes; where one fails, what went out is a prefix of the text.
+pub fn cache_json<A: Allocator + Copy, B: Allocator, W: Write>(
+    alloc: A,
+    file: &str,
+    cache: &Ccache<B>,
+    out: &mut Watched<W>,
+) -> Result<(), OutFault>
+    requires { IsFalse out.old.failed }
+    ensures ok { OnOk result (Appends out.old.contents out.new.contents
+        (cache_json_text file.now cache.now.state)) }
+    ensures prefix { OnErr result (AppendsPrefix out.old.contents out.new.contents
+        (cache_json_text file.now cache.now.state)) }
+    ensures failed { out.new.failed ≡ is_write_fault result }
+    // A reader finds just this value in the text.
+    ensures reads_back { OnOk result (document (print (json_tokens (cache_value file.now cache.now.state)))
+        ≡ Some (cache_value file.now cache.now.state)) }
+{
+    let mut gathered = room_to_gather(alloc)?;
+    let mut piece = Piece::new(alloc);
+    append_head(file, cache, &mut piece, &mut gathered)?;
+    send_arrays(cache, &mut piece, &mut gathered, out)?;
+    send_tail(cache.fault(), &mut piece, &mut gathered, out)
+}

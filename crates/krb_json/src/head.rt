@@ -1,0 +1,58 @@
+//! What stands before the first array of a file, and after the last one.
+
+ghost use Rattle.std.specs.Prelude.{◌≡◌, ◌++◌, [], ◌∷◌, OnOk, codes};
+ghost use Rattle.json.specs.Token.{begin_object};
+ghost use Rattle.krb_json.specs.Members.{file_members, fault_value};
+ghost use Rattle.krb_json.specs.Pieces.{member_tokens, tokens_of, between_tokens, tail_tokens, IsPlain};
+
+use crate::piece::Piece;
+use krb_walk::Fault;
+use krb_wire::NoMemory;
+use std::alloc::Allocator;
+
+impl<A: Allocator> Piece<A> {
+    /// Begins the object of a file, with its name, its kind, and the version of its format.
+    pub fn begin_file(&mut self, file: &str, kind: &str, version: u64) -> Result<(), NoMemory>
+        ensures { OnOk result (self.new
+            ≡ self.old ++ begin_object ∷ tokens_of (file_members file.now kind.now version)) }
+    {
+        self.begin_object()?;
+        self.string("file", file)?;
+        self.string("kind", kind)?;
+        self.number("version", version)
+    }
+
+    /// Ends an array of an object and begins another.
+    pub fn next_array(&mut self, name: &str) -> Result<(), NoMemory>
+        ensures { OnOk result (self.new ≡ self.old ++ between_tokens name.now) }
+    {
+        self.end_array()?;
+        self.begin_array(name)
+    }
+
+    // The kind and the place of a fault, or null.
+    #[tactic(auto, using(crate::proofs::ReadBack::fault_is_plain, crate::proofs::ReadBack::no_fault_is_plain))]
+    fn fault(&mut self, fault: Option<Fault>) -> Result<(), NoMemory>
+        ensures tokens { OnOk result (self.new ≡ self.old ++ member_tokens (codes "fault", fault_value fault)) }
+        ensures plain { OnOk result (IsPlain (fault_value fault)) }
+    {
+        let Some(fault) = fault else {
+            return self.null("fault");
+        };
+        self.begin_object_at("fault")?;
+        self.number("kind", fault.kind.number() as u64)?;
+        self.number("place", fault.place as u64)?;
+        self.end_object()
+    }
+
+    /// Ends the last array, tells the fault, and ends the object of the file.
+    pub fn end_file(&mut self, fault: Option<Fault>) -> Result<(), NoMemory>
+        ensures tokens { OnOk result (self.new
+            ≡ self.old ++ tail_tokens ((codes "fault", fault_value fault) ∷ [])) }
+        ensures plain { OnOk result (IsPlain (fault_value fault)) }
+    {
+        self.end_array()?;
+        self.fault(fault)?;
+        self.end_object()
+    }
+}

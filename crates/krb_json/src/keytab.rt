@@ -1,0 +1,96 @@
+//! A keytab as JSON.
+
+ghost use Rattle.std.specs.Prelude.{◌≡◌, ◌++◌, [], Some, OnOk, OnErr, IsFalse, false, codes};
+ghost use Rattle.std.specs.Io.KnownBytes.{Appends};
+ghost use Rattle.json.specs.Json.{document};
+ghost use Rattle.json.specs.Print.{print};
+ghost use Rattle.json.specs.Tree.{json_tokens};
+ghost use Rattle.krb_wire.specs.Spelling.{version_byte};
+ghost use Rattle.krb_files.specs.Bytes.{AppendsPrefix, is_write_fault};
+ghost use Rattle.krb_text.specs.Gathered.{Passed};
+ghost use Rattle.krb_json.specs.Members.{file_members};
+ghost use Rattle.krb_json.specs.Keytab.{entry_values, keytab_value, keytab_json_text};
+ghost use Rattle.krb_json.specs.Pieces.{elements_text, head_tokens, ArePlain};
+
+use crate::piece::Piece;
+use crate::tail::send_tail;
+use krb_files::{OutFault, Watched};
+use krb_keytab::Keytab;
+use krb_text::{room_to_gather, send_if_full};
+use krb_wire::{KtFormat, NoMemory};
+use std::alloc::Allocator;
+use std::io::Write;
+
+// What stands before the first entry.
+fn append_head<A: Allocator + Copy>(
+    file: &str,
+    format: KtFormat,
+    piece: &mut Piece<A>,
+    gathered: &mut Vec<u8, A>,
+) -> Result<(), NoMemory>
+    requires { piece.old ≡ [] }
+    ensures text { OnOk result (gathered.new.items ≡ gathered.old.items
+        ++ print (head_tokens (file_members file.now (codes "keytab") (version_byte format)) (codes "entries"))) }
+    ensures empty { OnOk result (piece.new ≡ []) }
+{
+    piece.begin_file(file, "keytab", format.version() as u64)?;
+    piece.begin_array("entries")?;
+    piece.append_to(false, gathered)
+}
+
+// All entries.
+fn send_entries<A: Allocator + Copy, B: Allocator, W: Write>(
+    keytab: &Keytab<B>,
+    shows_keys: bool,
+    piece: &mut Piece<A>,
+    gathered: &mut Vec<u8, A>,
+    out: &mut Watched<W>,
+) -> Result<(), OutFault>
+    requires well { IsFalse out.old.failed }
+    requires empty { piece.old ≡ [] }
+    ensures ok { OnOk result (Passed out.old.contents out.new.contents
+        (gathered.old.items ++ elements_text false (entry_values shows_keys keytab.now.state))
+        [] gathered.new.items) }
+    ensures prefix { OnErr result (AppendsPrefix out.old.contents out.new.contents
+        (gathered.old.items ++ elements_text false (entry_values shows_keys keytab.now.state))) }
+    ensures failed { out.new.failed ≡ is_write_fault result }
+    ensures empty { OnOk result (piece.new ≡ []) }
+    ensures plain { OnOk result (ArePlain (entry_values shows_keys keytab.now.state)) }
+{
+    let mut is_after = false;
+    'entries: for (place, entry) in keytab.entries() {
+        piece.entry(place, &entry, shows_keys)?;
+        piece.append_to(is_after, gathered)?;
+        send_if_full(gathered, out)?;
+        is_after = true;
+    }
+    Ok(())
+}
+
+/// Writes a keytab under the name of its file as one JSON object (RFC 8259) and the end of the line: an element for
+/// each entry in file order, with its key where those are asked for, and where the image is damaged its fault. It is
+/// gathered into large writes; where one fails, what went out is a prefix of the text.
+pub fn keytab_json<A: Allocator + Copy, B: Allocator, W: Write>(
+    alloc: A,
+    file: &str,
+    keytab: &Keytab<B>,
+    shows_keys: bool,
+    out: &mut Watched<W>,
+) -> Result<(), OutFault>
+    requires { IsFalse out.old.failed }
+    ensures ok { OnOk result (Appends out.old.contents out.new.contents
+        (keytab_json_text file.now shows_keys keytab.now.state)) }
+    ensures prefix { OnErr result (AppendsPrefix out.old.contents out.new.contents
+        (keytab_json_text file.now shows_keys keytab.now.state)) }
+    ensures failed { out.new.failed ≡ is_write_fault result }
+    // A reader finds just this value in the text.
+    ensures reads_back { OnOk result (document (print (json_tokens
+        (keytab_value file.now shows_keys keytab.now.state)))
+        ≡ Some (keytab_value file.now shows_keys keytab.now.state)) }
+{
+    let mut gathered = room_to_gather(alloc)?;
+    let mut piece = Piece::new(alloc);
+    append_head(file, keytab.format(), &mut piece, &mut gathered)?;
+    send_entries(keytab, shows_keys, &mut piece, &mut gathered, out)?;
+    send_tail(keytab.fault(), &mut piece, &mut gathered, out)
+}

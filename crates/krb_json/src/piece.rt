@@ -1,0 +1,200 @@
+//! A piece of the text, made of tokens.
+
+ghost use Rattle.std.specs.Prelude.{◌≡◌, ◌++◌, [], ◌∷◌, OnOk, not};
+ghost use Rattle.json.specs.Token.{begin_object, end_object, begin_array, end_array, key, string, boolean, null};
+ghost use Rattle.json.specs.Print.{print};
+ghost use Rattle.krb_wire.specs.Names.{name_text};
+ghost use Rattle.krb_text.specs.Flags.{flag_letters_of};
+ghost use Rattle.krb_json.specs.Label.{label_text};
+ghost use Rattle.krb_json.specs.Members.{number_of, digits_of, text_member, etype_members};
+ghost use Rattle.krb_json.specs.Pieces.{member_tokens, tokens_of, comma_after};
+
+use crate::label::Label;
+use crate::put::{put_digits, put_text, text_in};
+use json::Writer;
+use krb_text::{etype_name, flag_letters};
+use krb_wire::{Name, NoMemory, write_name};
+use std::alloc::Allocator;
+use std::marker::Model;
+use std::mem;
+
+/// A piece of the text that is being made, in memory that is kept from piece to piece. Contracts see its tokens.
+#[derive(Drop)]
+pub struct Piece<A: Allocator> {
+    alloc: A,
+    writer: Writer<A>,
+    // What is written as a string next.
+    text: Vec<u8, A>,
+    // Its digits, where it is not UTF-8.
+    digits: Vec<u8, A>,
+}
+
+impl<A: Allocator> Model for Piece<A> {
+    ghost use Rattle.std.specs.Prelude.{◌≡◌, List, []};
+    ghost use Rattle.json.specs.Token.{Token, tokens_code};
+
+    ghost Value = { List Token };
+
+    ghost coded = { tokens_code };
+
+    ghost view = { λ p. p.writer.tokens };
+
+    ghost invariant = { λ p. p.writer.before ≡ [] };
+}
+
+impl<A: Allocator + Copy> Piece<A> {
+    /// An empty piece.
+    pub fn new(alloc: A) -> Piece<A>
+        ensures { result ≡ [] }
+    {
+        Piece {
+            alloc,
+            writer: Writer::new(Vec::new(alloc)),
+            text: Vec::new(alloc),
+            digits: Vec::new(alloc),
+        }
+    }
+
+    /// Appends the text of the piece, behind a comma where it is an element after others, and begins an empty one.
+    pub fn append_to<B: Allocator>(
+        &mut self,
+        is_after: bool,
+        gathered: &mut Vec<u8, B>,
+    ) -> Result<(), NoMemory>
+        ensures text { OnOk result (gathered.new.items
+            ≡ gathered.old.items ++ (comma_after is_after ++ print self.old)) }
+        ensures empty { OnOk result (self.new ≡ []) }
+    {
+        if is_after {
+            gathered.push(b',')?;
+        }
+        let writer = mem::replace(&mut self.writer, Writer::new(Vec::new(self.alloc)));
+        let mut text = writer.into_inner();
+        gathered.extend_from_slice(&text)?;
+        text.clear();
+        self.writer = Writer::new(text);
+        Ok(())
+    }
+}
+
+impl<A: Allocator> Piece<A> {
+    /// Begins an object, as an element or by itself.
+    pub fn begin_object(&mut self) -> Result<(), NoMemory>
+        ensures { OnOk result (self.new ≡ self.old ++ begin_object ∷ []) }
+    {
+        Ok(self.writer.begin_object()?)
+    }
+
+    /// Ends the object that was begun last.
+    pub fn end_object(&mut self) -> Result<(), NoMemory>
+        ensures { OnOk result (self.new ≡ self.old ++ end_object ∷ []) }
+    {
+        Ok(self.writer.end_object()?)
+    }
+
+    /// Begins an array under a name.
+    pub fn begin_array(&mut self, name: &str) -> Result<(), NoMemory>
+        ensures { OnOk result (self.new ≡ self.old ++ key name.now ∷ begin_array ∷ []) }
+    {
+        self.writer.key(name)?;
+        Ok(self.writer.begin_array()?)
+    }
+
+    /// Ends the array that was begun last.
+    pub fn end_array(&mut self) -> Result<(), NoMemory>
+        ensures { OnOk result (self.new ≡ self.old ++ end_array ∷ []) }
+    {
+        Ok(self.writer.end_array()?)
+    }
+
+    /// Begins an object under a name.
+    pub fn begin_object_at(&mut self, name: &str) -> Result<(), NoMemory>
+        ensures { OnOk result (self.new ≡ self.old ++ key name.now ∷ begin_object ∷ []) }
+    {
+        self.writer.key(name)?;
+        Ok(self.writer.begin_object()?)
+    }
+
+    /// A member that is null.
+    pub fn null(&mut self, name: &str) -> Result<(), NoMemory>
+        ensures { OnOk result (self.new ≡ self.old ++ key name.now ∷ null ∷ []) }
+    {
+        self.writer.key(name)?;
+        Ok(self.writer.null()?)
+    }
+
+    /// A member that is true or false.
+    pub fn boolean(&mut self, name: &str, value: bool) -> Result<(), NoMemory>
+        ensures { OnOk result (self.new ≡ self.old ++ key name.now ∷ boolean value ∷ []) }
+    {
+        self.writer.key(name)?;
+        Ok(self.writer.boolean(value)?)
+    }
+
+    /// A member that is a number.
+    pub fn number(&mut self, name: &str, value: u64) -> Result<(), NoMemory>
+        ensures { OnOk result (self.new ≡ self.old ++ member_tokens (name.now, number_of value)) }
+    {
+        self.writer.key(name)?;
+        Ok(self.writer.u64(value)?)
+    }
+
+    /// A member that is a text of the program.
+    pub fn string(&mut self, name: &str, value: &str) -> Result<(), NoMemory>
+        ensures { OnOk result (self.new ≡ self.old ++ key name.now ∷ string value.now ∷ []) }
+    {
+        self.writer.key(name)?;
+        Ok(self.writer.string(value)?)
+    }
+
+    /// A member that is bytes in hexadecimal.
+    pub fn digits(&mut self, name: &str, bytes: &[u8]) -> Result<(), NoMemory>
+        ensures { OnOk result (self.new ≡ self.old ++ member_tokens (name.now, digits_of bytes.now)) }
+    {
+        put_digits(name, bytes, &mut self.digits, &mut self.writer)
+    }
+
+    /// A member that is a text of the file.
+    pub fn text(&mut self, label: Label, bytes: &[u8]) -> Result<(), NoMemory>
+        ensures { OnOk result (self.new
+            ≡ self.old ++ member_tokens (text_member (label_text label) bytes.now)) }
+    {
+        put_text(label, bytes, &mut self.digits, &mut self.writer)
+    }
+
+    /// A member that is a name of the file, as it is printed.
+    pub fn name<N: Name>(&mut self, label: Label, name: &N) -> Result<(), NoMemory>
+        ensures { OnOk result (self.new
+            ≡ self.old ++ member_tokens (text_member (label_text label) (name_text (N.parts name.now)))) }
+    {
+        self.text.clear();
+        write_name(name, &mut self.text)?;
+        put_text(label, &self.text, &mut self.digits, &mut self.writer)
+    }
+
+    /// A member that is the letters of ticket flags.
+    #[tactic(auto, using(crate::proofs::Texts::letters_are_text))]
+    pub fn letters(&mut self, name: &str, flags: u32) -> Result<(), NoMemory>
+        ensures { OnOk result (self.new ≡ self.old ++ key name.now ∷ string (flag_letters_of flags) ∷ []) }
+    {
+        self.text.clear();
+        flag_letters(flags, &mut self.text)?;
+        let Some(letters) = text_in(&self.text) else {
+            unreachable!()
+        };
+        self.writer.key(name)?;
+        Ok(self.writer.string(letters)?)
+    }
+
+    /// An encryption type: its number, and its name if it has one.
+    #[tactic(auto, unfolding(crate::specs::Members::etype_members))]
+    pub fn etype(&mut self, etype: u16) -> Result<(), NoMemory>
+        ensures { OnOk result (self.new ≡ self.old ++ tokens_of (etype_members etype)) }
+    {
+        self.number("etype", etype as u64)?;
+        match etype_name(etype) {
+            Some(name) => self.string("etype_name", name),
+            None => self.null("etype_name"),
+        }
+    }
+}

@@ -1,0 +1,79 @@
+//! Members that are made of bytes.
+
+ghost use Rattle.std.specs.Prelude.{◌≡◌, ◌++◌, [], ◌∷◌, OnOk, MatchOption, true, false};
+ghost use Rattle.std.specs.Str.{is_utf8};
+ghost use Rattle.hex.specs.Hex.{encode_lower};
+ghost use Rattle.json.specs.Token.{key, string};
+ghost use Rattle.krb_json.specs.Label.{label_text};
+ghost use Rattle.krb_json.specs.Members.{text_member};
+ghost use Rattle.krb_json.specs.Pieces.{member_tokens};
+
+use crate::label::Label;
+use json::Writer;
+use krb_wire::NoMemory;
+use std::alloc::Allocator;
+use std::str;
+
+/// The bytes as a text, if they are UTF-8.
+#[tactic(auto, using(crate::proofs::Texts::utf8_is_text, crate::proofs::Texts::other_is_no_text))]
+pub fn text_in(bytes: &[u8]) -> Option<&str>
+    ensures { MatchOption result (is_utf8 bytes.now ≡ false)
+        (λ text. (text.now ≡ bytes.now) × (is_utf8 bytes.now ≡ true)) }
+{
+    match str::from_utf8(bytes) {
+        Ok(text) => Some(text),
+        Err(_) => None,
+    }
+}
+
+// Makes `digits` the bytes in lower case hexadecimal.
+fn fill_digits<A: Allocator>(bytes: &[u8], digits: &mut Vec<u8, A>) -> Result<(), NoMemory>
+    ensures { OnOk result (digits.new.items ≡ encode_lower bytes.now) }
+{
+    let Some(len) = bytes.len().checked_mul(2) else {
+        return Err(NoMemory);
+    };
+    digits.clear();
+    digits.resize(len, 0)?;
+    hex::encode_to_slice(bytes, digits.as_mut_slice()).unwrap();
+    Ok(())
+}
+
+/// Writes a member, bytes in lower case hexadecimal. The digits are made in `digits`.
+#[tactic(auto, using(crate::proofs::Texts::digits_are_text))]
+pub fn put_digits<A: Allocator>(
+    name: &str,
+    bytes: &[u8],
+    digits: &mut Vec<u8, A>,
+    writer: &mut Writer<A>,
+) -> Result<(), NoMemory>
+    ensures before { writer.new.before ≡ writer.old.before }
+    ensures tokens { OnOk result (writer.new.tokens
+        ≡ writer.old.tokens ++ key name.now ∷ string (encode_lower bytes.now) ∷ []) }
+{
+    fill_digits(bytes, digits)?;
+    let Some(text) = text_in(digits) else {
+        unreachable!()
+    };
+    writer.key(name)?;
+    Ok(writer.string(text)?)
+}
+
+/// Writes a member, a text of the file. Digits are made in `digits`.
+#[tactic(auto, unfolding(crate::specs::Members::text_member))]
+pub fn put_text<A: Allocator>(
+    label: Label,
+    bytes: &[u8],
+    digits: &mut Vec<u8, A>,
+    writer: &mut Writer<A>,
+) -> Result<(), NoMemory>
+    ensures before { writer.new.before ≡ writer.old.before }
+    ensures tokens { OnOk result (writer.new.tokens
+        ≡ writer.old.tokens ++ member_tokens (text_member (label_text label) bytes.now)) }
+{
+    let Some(text) = text_in(bytes) else {
+        return put_digits(label.hex_name(), bytes, digits, writer);
+    };
+    writer.key(label.name())?;
+    Ok(writer.string(text)?)
+}

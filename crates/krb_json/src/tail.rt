@@ -1,0 +1,51 @@
+//! What stands after the last array of a file, and is written with what is gathered.
+
+ghost use Rattle.std.specs.Prelude.{◌≡◌, ◌++◌, [], ◌∷◌, OnOk, OnErr, IsFalse, codes};
+ghost use Rattle.std.specs.Io.KnownBytes.{Appends};
+ghost use Rattle.json.specs.Print.{print};
+ghost use Rattle.krb_files.specs.Bytes.{AppendsPrefix, is_write_fault};
+ghost use Rattle.krb_json.specs.Members.{fault_value};
+ghost use Rattle.krb_json.specs.Pieces.{tail_tokens, IsPlain};
+
+use crate::piece::Piece;
+use krb_files::{OutFault, Watched, put};
+use krb_walk::Fault;
+use krb_wire::NoMemory;
+use std::alloc::Allocator;
+use std::io::Write;
+
+// What stands after the last element of a file, and the end of the line.
+fn append_tail<A: Allocator + Copy>(
+    fault: Option<Fault>,
+    piece: &mut Piece<A>,
+    gathered: &mut Vec<u8, A>,
+) -> Result<(), NoMemory>
+    requires { piece.old ≡ [] }
+    ensures text { OnOk result (gathered.new.items ≡ gathered.old.items
+        ++ (print (tail_tokens ((codes "fault", fault_value fault) ∷ [])) ++ codes "\n")) }
+    ensures plain { OnOk result (IsPlain (fault_value fault)) }
+{
+    piece.end_file(fault)?;
+    piece.append_to(false, gathered)?;
+    Ok(gathered.push(b'\n')?)
+}
+
+/// Writes what is gathered, and behind it what stands after the last element of a file.
+pub fn send_tail<A: Allocator + Copy, W: Write>(
+    fault: Option<Fault>,
+    piece: &mut Piece<A>,
+    gathered: &mut Vec<u8, A>,
+    out: &mut Watched<W>,
+) -> Result<(), OutFault>
+    requires well { IsFalse out.old.failed }
+    requires empty { piece.old ≡ [] }
+    ensures ok { OnOk result (Appends out.old.contents out.new.contents (gathered.old.items
+        ++ (print (tail_tokens ((codes "fault", fault_value fault) ∷ [])) ++ codes "\n"))) }
+    ensures prefix { OnErr result (AppendsPrefix out.old.contents out.new.contents (gathered.old.items
+        ++ (print (tail_tokens ((codes "fault", fault_value fault) ∷ [])) ++ codes "\n"))) }
+    ensures failed { out.new.failed ≡ is_write_fault result }
+    ensures plain { OnOk result (IsPlain (fault_value fault)) }
+{
+    append_tail(fault, piece, gathered)?;
+    put(out, gathered)
+}
