@@ -7,6 +7,7 @@ pub mod CacheEdits
 pub mod Removals
 pub mod TicketRemovals
 pub mod Shown
+pub mod Listed
 pub mod Changing
 pub mod ScriptLemmas
 pub mod WordLemmas

@@ -52,7 +52,7 @@ list_kind words =
 
 -- the options of a listing
 abbrev pub list_options : KlistWords → KlistOptions
-list_options words = record { kind = list_kind words; v1_order = order_of words.v1_big }
+list_options words = record { kind = list_kind words; v1_order = order_of words.v1_big; json = words.json }
 
 -- to list the file of that name so
 abbrev pub AsksToList : Action → KlistOptions → List ℕ → Type 0

@@ -18,6 +18,8 @@ pub struct KlistOptions {
     pub kind: ListKind,
     /// The order of a keytab of version 1.
     pub v1_order: Order,
+    /// To give all as one JSON object, whatever is shown; of a keytab the keys only where they are.
+    pub json: bool,
 }
 
 /// What ktfind looks for.

@@ -1,7 +1,9 @@
 //! Lists a file.
 
-ghost use Rattle.std.specs.Prelude.{IsFalse};
-ghost use Rattle.krb_commands.specs.Klist.{listing};
+ghost use Rattle.std.specs.Prelude.{◌≡◌, IsFalse, OnErr, OnOk};
+ghost use Rattle.std.specs.Io.KnownBytes.{Appends};
+ghost use Rattle.krb_files.specs.Bytes.{AppendsPrefix, is_write_fault};
+ghost use Rattle.krb_commands.specs.Klist.{cache_shown, keytab_shown, listing};
 ghost use Rattle.krb_commands.specs.Loading.{PrintsOver, RunsOver};
 
 use crate::action::{KlistOptions, ListKind};
@@ -9,10 +11,59 @@ use crate::error_output::ErrorOutput;
 use crate::loading::{load_cache, load_keytab};
 use crate::telling::{cause_of, tell};
 use crate::trouble::{Trouble, listing_end};
-use krb_files::{Files, Watched};
-use krb_text::{list_cache, list_keytab};
+use krb_ccache::Ccache;
+use krb_files::{Files, OutFault, Watched};
+use krb_json::{cache_json, keytab_json};
+use krb_keytab::Keytab;
+use krb_text::{CcColumns, KtColumns, list_cache, list_keytab};
 use std::alloc::Allocator;
 use std::io::Write;
+
+// Shows a keytab by those columns, or as JSON.
+fn show_keytab<A: Allocator + Copy, B: Allocator, W: Write>(
+    alloc: A,
+    json: bool,
+    columns: KtColumns,
+    file: &str,
+    keytab: &Keytab<B>,
+    out: &mut Watched<W>,
+) -> Result<(), OutFault>
+    requires { IsFalse out.old.failed }
+    ensures ok { OnOk result (Appends out.old.contents out.new.contents
+        (keytab_shown json columns file.now keytab.now.state)) }
+    ensures prefix { OnErr result (AppendsPrefix out.old.contents out.new.contents
+        (keytab_shown json columns file.now keytab.now.state)) }
+    ensures failed { out.new.failed ≡ is_write_fault result }
+{
+    if json {
+        keytab_json(alloc, file, keytab, columns.keys, out)
+    } else {
+        list_keytab(alloc, file, keytab, columns, out)
+    }
+}
+
+// Shows a cache by those columns, or as JSON.
+fn show_cache<A: Allocator + Copy, B: Allocator, W: Write>(
+    alloc: A,
+    json: bool,
+    columns: CcColumns,
+    file: &str,
+    cache: &Ccache<B>,
+    out: &mut Watched<W>,
+) -> Result<(), OutFault>
+    requires { IsFalse out.old.failed }
+    ensures ok { OnOk result (Appends out.old.contents out.new.contents
+        (cache_shown json columns file.now cache.now.state)) }
+    ensures prefix { OnErr result (AppendsPrefix out.old.contents out.new.contents
+        (cache_shown json columns file.now cache.now.state)) }
+    ensures failed { out.new.failed ≡ is_write_fault result }
+{
+    if json {
+        cache_json(alloc, file, cache, out)
+    } else {
+        list_cache(alloc, file, cache, columns, out)
+    }
+}
 
 // Lists the file of that name as the kind of file that was asked for.
 fn list_file<A: Allocator + Copy, F: Files, W: Write>(
@@ -32,12 +83,12 @@ fn list_file<A: Allocator + Copy, F: Files, W: Write>(
                 Ok(keytab) => keytab,
                 Err(why) => return Err(Trouble::of_listed(why)),
             };
-            list_keytab(alloc, file, &keytab, columns, out)?;
+            show_keytab(alloc, options.json, columns, file, &keytab, out)?;
             listing_end(keytab.fault())
         }
         ListKind::Cache(columns) => {
             let cache = load_cache(alloc, files, file)?;
-            list_cache(alloc, file, &cache, columns, out)?;
+            show_cache(alloc, options.json, columns, file, &cache, out)?;
             listing_end(cache.fault())
         }
     }

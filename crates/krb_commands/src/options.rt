@@ -24,6 +24,7 @@ pub struct KlistWords<'a> {
     pub flags: bool,
     pub configs: bool,
     pub v1_big: bool,
+    pub json: bool,
     pub file: &'a str,
 }
 
@@ -136,6 +137,7 @@ fn list_options(words: &KlistWords<'_>) -> KlistOptions
     KlistOptions {
         kind: list_kind(words),
         v1_order: order_of(words.v1_big),
+        json: words.json,
     }
 }
 

@@ -8,8 +8,11 @@ const VERSION: &str = "1.0 (rattle logic dac8208d650f15bf)";
 
 /// The two forms of klist.
 const KLIST_USAGE: &str = "\
-krbfile klist [-c] [-e] [-f] [-C] FILE
-       krbfile klist -k [-t] [-K] [-e] [--v1-big] FILE";
+krbfile klist [-c] [-e] [-f] [-C] [--json] FILE
+       krbfile klist -k [-t] [-K] [-e] [--v1-big] [--json] FILE";
+
+/// What --json does.
+const JSON_HELP: &str = "Print all as one JSON object; keys only with -K";
 
 /// The lines of a script.
 const SCRIPT: &str = "\
@@ -50,18 +53,25 @@ fn flag<'a>(alloc: Global, id: &'a str, letter: char, help: &'a str) -> Arg<'a> 
         .help(help)
 }
 
-fn v1_big<'a>(alloc: Global) -> Arg<'a> {
-    Arg::new(alloc, "v1-big")
-        .long("v1-big")
+fn long_flag<'a>(alloc: Global, name: &'a str, help: &'a str) -> Arg<'a> {
+    Arg::new(alloc, name)
+        .long(name)
         .action(ArgAction::SetTrue)
-        .help("Version 1 files are big-endian")
+        .help(help)
+}
+
+fn v1_big<'a>(alloc: Global) -> Arg<'a> {
+    long_flag(alloc, "v1-big", "Version 1 files are big-endian")
 }
 
 fn explain<'a>(alloc: Global) -> Arg<'a> {
-    Arg::new(alloc, "explain")
-        .long("explain")
-        .action(ArgAction::SetTrue)
-        .help("Say in words too what goes wrong, as on a terminal; stands first")
+    let help = "Say in words too what goes wrong, as on a terminal; stands first";
+    long_flag(alloc, "explain", help)
+}
+
+fn dry_run<'a>(alloc: Global) -> Arg<'a> {
+    let help = "Tell what would be removed, and save nothing";
+    flag(alloc, "dry-run", 'n', help)
 }
 
 fn option<'a>(alloc: Global, id: &'a str, letter: char, value: &'a str, help: &'a str) -> Arg<'a> {
@@ -89,6 +99,7 @@ fn klist_command<'a>(alloc: Global) -> Result<Command<'a>, AllocError> {
         .arg(flag(alloc, "keys", 'K', "Show the keys of entries"))?
         .arg(flag(alloc, "etypes", 'e', "Show encryption types"))?
         .arg(v1_big(alloc))?
+        .arg(long_flag(alloc, "json", JSON_HELP))?
         .arg(operand(alloc, "FILE", "The file to list"))
 }
 
@@ -134,12 +145,7 @@ fn ktremove_command<'a>(alloc: Global) -> Result<Command<'a>, AllocError> {
             "krbfile ktremove [--v1-big] [-n] [-p NAME] [-k KVNO|old] [-e ETYPE].. FILE",
         )
         .args_override_self(true)
-        .arg(flag(
-            alloc,
-            "dry-run",
-            'n',
-            "Tell what would be removed, and save nothing",
-        ))?
+        .arg(dry_run(alloc))?
         .arg(option(
             alloc,
             "name",
@@ -179,12 +185,7 @@ fn ccremove_command<'a>(alloc: Global) -> Result<Command<'a>, AllocError> {
         .about("Removes tickets from a credential cache")
         .override_usage("krbfile ccremove [-n] [-p SERVICE] [--expired] FILE")
         .args_override_self(true)
-        .arg(flag(
-            alloc,
-            "dry-run",
-            'n',
-            "Tell what would be removed, and save nothing",
-        ))?
+        .arg(dry_run(alloc))?
         .arg(option(
             alloc,
             "service",
@@ -192,12 +193,7 @@ fn ccremove_command<'a>(alloc: Global) -> Result<Command<'a>, AllocError> {
             "SERVICE",
             "Tickets for that service, with its realm",
         ))?
-        .arg(
-            Arg::new(alloc, "expired")
-                .long("expired")
-                .action(ArgAction::SetTrue)
-                .help("Tickets that have ended"),
-        )?
+        .arg(long_flag(alloc, "expired", "Tickets that have ended"))?
         .arg(operand(alloc, "FILE", "The file to remove from"))
 }
 

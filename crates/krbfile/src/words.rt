@@ -34,6 +34,7 @@ fn klist_words<'a>(matches: &ArgMatches<'a>) -> Result<KlistWords<'a>, WordFault
         flags: matches.get_flag("flags"),
         configs: matches.get_flag("configs"),
         v1_big: matches.get_flag("v1-big"),
+        json: matches.get_flag("json"),
         file: found_operand("klist", matches, "FILE")?,
     })
 }

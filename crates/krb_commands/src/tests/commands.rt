@@ -184,6 +184,7 @@ fn listing(kind: ListKind) -> KlistOptions {
     KlistOptions {
         kind,
         v1_order: Order::Little,
+        json: false,
     }
 }
 

@@ -187,8 +187,7 @@ fn check_each_growth<R: Abort + AllocGlobal>(rt: &R, command: Command) -> Result
     let requests = refuse_each(rt.alloc(), 200, |heap, request| {
         let got = run(heap, rt.alloc(), command, Failure { request, ..NONE })?;
         let out = got.out.taken.as_slice();
-        let is_whole =
-            got.is(text, command.message(), command.status()) && got.is_saved(command);
+        let is_whole = got.is(text, command.message(), command.status()) && got.is_saved(command);
         let ran_out = text.starts_with(out)
             && got.is(out, "krbfile: out of memory\n", 4)
             && got.is_unsaved(command);
