@@ -30,6 +30,7 @@ complete -c krbfile -n '__fish_seen_subcommand_from klist' -s k -d 'List a keyta
 complete -c krbfile -n '__fish_seen_subcommand_from klist' -s t -d 'Show the times of entries'
 complete -c krbfile -n '__fish_seen_subcommand_from klist' -s K -d 'Show the keys of entries'
 complete -c krbfile -n '__fish_seen_subcommand_from klist' -s e -d 'Show encryption types'
+complete -c krbfile -n '__fish_seen_subcommand_from klist' -l json -d 'Print all as one JSON object'
 
 complete -c krbfile -n '__fish_seen_subcommand_from ktremove' -s n -d 'Save nothing'
 complete -c krbfile -n '__fish_seen_subcommand_from ktremove' -s p -x -d 'Entries of that principal'

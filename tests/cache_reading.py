@@ -40,6 +40,7 @@ class Credential:
     starttime: int
     endtime: int
     renew_till: int
+    is_skey: int
     flags: int
     addresses: list[Typed]
     authdata: list[Typed]
@@ -63,11 +64,14 @@ class Credential:
         if self.renew_till != 0:
             shown.append(b"    renew until " + time_text(self.renew_till))
         if "f" in columns:
-            letters = (letter for letter, bit in FLAGS.items() if self.flags & bit)
-            shown.append(b"    Flags: " + b"".join(letters))
+            shown.append(b"    Flags: " + self.letters())
         if "e" in columns:
             shown.append(b"    Etype: " + etype_text(self.enctype))
         return shown
+
+    def letters(self) -> bytes:
+        """The letters of its flags."""
+        return b"".join(letter for letter, bit in FLAGS.items() if self.flags & bit)
 
     def config_name(self) -> bytes:
         """What a configuration entry has its value under."""
@@ -113,10 +117,11 @@ class CacheFields(Fields):
             self.number(2)
         self.counted32()
         times = [self.number(4) for _ in range(4)]
-        self.number(1)
-        flags, addresses, authdata = self.number(4), self.typed_list(), self.typed_list()
+        is_skey, flags = self.number(1), self.number(4)
+        addresses, authdata = self.typed_list(), self.typed_list()
         ticket, _ = self.counted32(), self.counted32()
-        return Credential(client, server, enctype, *times, flags, addresses, authdata, ticket)
+        return Credential(client, server, enctype, *times, is_skey, flags, addresses, authdata,
+                          ticket)
 
     def header(self) -> list[Typed]:
         """The fields of the header of version 4, which have to fill it: tags and values."""

@@ -6,6 +6,7 @@ from dataclasses import dataclass, replace
 
 import cache_reading
 import check_model
+import json_model
 import reading
 import ticket_removal_model
 from cache_images import PA_TYPE, TICKET, USUAL, VERSION_3, Name, config, credentials, header_field
@@ -99,6 +100,18 @@ def klist_cache(image: bytes, columns: str = "") -> Modelled:
     """A listing of a cache."""
     return listing(f"klist -c{columns} of {len(image)} bytes", ("klist", f"-c{columns}", "c"),
                    image, cache_reading.answer(image, columns))
+
+
+def klist_json(image: bytes) -> Modelled:
+    """A keytab as JSON."""
+    return listing(f"klist -kK --json of {len(image)} bytes", ("klist", "-kK", "--json", "k"),
+                   image, json_model.keytab_json(image, shows_keys=True))
+
+
+def klist_cache_json(image: bytes) -> Modelled:
+    """A cache as JSON."""
+    return listing(f"klist --json of {len(image)} bytes", ("klist", "--json", "c"), image,
+                   json_model.cache_json(image))
 
 
 def ktedit(name: str, image: bytes | None, script: bytes) -> Modelled:
@@ -231,6 +244,8 @@ def small() -> list[Modelled]:
         ktcheck(DAMAGED),
         klist_cache(cache, "efC"),
         klist_cache(cache[:-1]),
+        klist_json(image),
+        klist_cache_json(cache),
         ktedit("a small script", image, mixed_script(image, 4)),
         ktedit("no file", None, b"add 3 1 0 - b@R\nadd 3 1 0 00 c@R\nstart\nstep 0\n"),
         ktedit("a faulty script", image, mixed_script(image, 4) + b"frob\n"),
@@ -258,6 +273,8 @@ def large() -> list[Modelled]:
         ktcheck(rotated_keytab(300)),
         klist_cache(cache),
         klist_cache(cache + b"\0", "efC"),
+        klist_json(image),
+        klist_cache_json(cache),
         ktedit("a long script", image, mixed_script(image, 200)),
         ktremove("of many old versions", rotated_keytab(300), Asked(kvno=OLD)),
         ccedit("a long script", cache, mixed_cache_script(cache, 100)),

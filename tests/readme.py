@@ -3,6 +3,7 @@ from __future__ import annotations
 
 import os
 import re
+import shutil
 import subprocess
 from itertools import takewhile
 
@@ -60,6 +61,9 @@ def check_sessions(report: Report, program: str) -> None:
         os.symlink(program, os.path.join(programs, "krbfile"))
         env = {**os.environ, "PATH": programs + os.pathsep + os.environ["PATH"]}
         for command, wanted in commands:
+            if "| jq " in command and shutil.which("jq") is None:
+                report.skip(f"session of README: {command.splitlines()[0]}", "jq is not there")
+                continue
             done = subprocess.run(["sh", "-c", command], cwd=folder, env=env, check=False,
                                   capture_output=True)
             got = Outcome(done.returncode, done.stdout, done.stderr)

@@ -20,6 +20,7 @@ SAMPLES = {
     ),
     "rotated.keytab": entries(HOST, Entry(version8=5, version32=5), B),
     "twice.keytab": entries(HOST, HOST),
+    "mixed.keytab": entries(HOST, replace(B, enctype=23)),
     "damaged.keytab": keytab(record(HOST.spelled()), CUT),
     "old.keytab": keytab(
         hole(bytes(41), LITTLE), record(HOST.spelled(1, LITTLE), LITTLE),
