@@ -5,6 +5,8 @@ import struct
 from keytabs import key_of
 
 COLUMNS = "tickets, flags and enctypes"  # the group that is listed with these
+REMOVALS = "tickets, the expired ones removed"  # by ccremove -n --expired
+JSON = "tickets, as JSON"  # by klist --json
 OFFSET = struct.pack(">HHHii", 12, 1, 8, 0, 0)  # a header with a time offset alone
 INTEGER, OCTETS, SEQUENCE, STRING, TICKET = 0x02, 0x04, 0x30, 0x1B, 0x61  # tags of ASN.1
 
@@ -63,4 +65,6 @@ GROUPS = [
     # name, unit, maker, sizes, sizes of a quick run
     ("tickets", "tickets", tickets, (1_000, 10_000, 50_000), (100, 1_000)),
     (COLUMNS, "tickets", tickets, (1_000, 10_000, 50_000), (100, 1_000)),
+    (REMOVALS, "tickets", tickets, (1_000, 10_000, 50_000), (100, 1_000)),
+    (JSON, "tickets", tickets, (1_000, 10_000, 50_000), (100, 1_000)),
 ]

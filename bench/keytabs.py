@@ -9,6 +9,7 @@ COLUMNS = "services, all columns"  # the group that is listed with times, keys a
 FINDS = "services, the last one"  # the group in which an entry is looked up
 CHECKS = "services, checked"  # the group that ktcheck goes through
 REMOVALS = "services of two versions, the old ones removed"  # by ktremove -n -k old
+JSON = "services, as JSON"  # by klist -k --json
 QUOTED = b"/@\\\n\t\b\0"  # the bytes that a printed name quotes
 
 
@@ -118,6 +119,7 @@ GROUPS = [
     (FINDS, "entries", services, (1_000, 100_000, 200_000), (1_000, 10_000)),
     (CHECKS, "entries", services, (1_000, 100_000, 200_000), (1_000, 10_000)),
     (REMOVALS, "entries", of_two_versions, (1_000, 100_000, 180_000), (1_000, 10_000)),
+    (JSON, "entries", services, (1_000, 100_000, 200_000), (1_000, 10_000)),
 ]
 
 
