@@ -12,7 +12,7 @@ use std::io::Write;
 // Once this many bytes are gathered they are written.
 const FULL: usize = 32_768;
 
-/// Nothing gathered yet, and room for 65,536 bytes: what one write takes, and as much again for the piece that fills it.
+/// Nothing gathered yet, and room for 65,536 bytes: twice what is gathered before it is written.
 pub fn room_to_gather<A: Allocator>(alloc: A) -> Result<Vec<u8, A>, NoMemory>
     ensures { IfOk result (λ gathered. gathered.items ≡ []) }
 {
