@@ -132,6 +132,7 @@ impl<A: Allocator> Piece<A> {
     }
 
     /// A member that is a number.
+    #[inline(always)]
     pub fn number(&mut self, name: &str, value: u64) -> Result<(), NoMemory>
         ensures { OnOk result (self.new ≡ self.old ++ member_tokens (name.now, number_of value)) }
     {
