@@ -3,30 +3,18 @@ from __future__ import annotations
 
 from cache_edits import SET, SET_3, edit
 from cache_images import U, USUAL, cache, config
-from edits import text
+from edits import LINE_FAULTS, faulty_lines, text
 from file_names import LIMIT
 from harness import Case, Report, check_case, message
 
 # Lines, and the fault that each has.
 FAULTS: dict[str, int] = {
-    " ": 1,
-    " start": 1,
-    "Start": 1,
-    "start\r": 1,
-    "put 2": 1,
+    **LINE_FAULTS,
     "add 3 17 0 - b@R": 1,
     "store": 1,
     "Config k - v": 1,
     "config\tk - v": 1,
     "configk - v": 1,
-    "start ": 2,
-    "start 2": 2,
-    "rewrite 2": 2,
-    "resume": 2,
-    "resume 2 ": 2,
-    "resume  2": 2,
-    "step 0 0": 2,
-    "cut": 2,
     "config": 2,
     "config ": 2,
     "config k": 2,
@@ -37,12 +25,6 @@ FAULTS: dict[str, int] = {
     "config  - v": 2,
     "config k  v": 2,
     "config   ": 2,
-    "resume ": 3,
-    "step x": 3,
-    "step -1": 3,
-    "cut 0x2": 3,
-    "cut 00000000002": 3,
-    "resume 4294967296": 3,
     "config k a v": 6,
     "config k -- v": 6,
     "config k a@R@S v": 6,
@@ -54,21 +36,6 @@ FAULTS: dict[str, int] = {
     "config  a v": 2,
     "config k a ": 6,
 }
-
-
-def faults() -> list[Case]:
-    """Each faulty line after one that is not run, and the first of two."""
-    after = [
-        edit(f"faulty line {line!r}", USUAL, ["cut 40", line], message(1, f"line 2: fault {fault}"))
-        for line, fault in FAULTS.items()
-    ]
-    return [
-        *after,
-        edit("the first of two faulty lines", USUAL, ["# no", "", "start 2", "frob"],
-             message(1, "line 3: fault 2")),
-        edit("a faulty line comes before a file that is no cache", b"", ["frob"],
-             message(1, "line 1: fault 1")),
-    ]
 
 
 def set_by(name: str, line: bytes, key: bytes, value: bytes, principal: bytes | None) -> Case:
@@ -124,7 +91,7 @@ def spellings() -> list[Case]:
 
 def cases() -> list[Case]:
     """All cases of this topic."""
-    return [*faults(), *values(), *spellings()]
+    return [*faulty_lines(edit, USUAL, "cut 40", FAULTS), *values(), *spellings()]
 
 
 def check(report: Report, program: str) -> None:

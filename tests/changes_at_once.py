@@ -12,7 +12,6 @@ import sys
 import tempfile
 import threading
 import time
-from argparse import ArgumentParser
 from collections import Counter
 from collections.abc import Callable
 from dataclasses import dataclass
@@ -20,6 +19,7 @@ from random import Random
 
 sys.dont_write_bytecode = True
 
+from alone import run_alone
 from beside_mit import Mit, are_there
 from disk_saves import tree
 from harness import SECONDS, Report, folder_of, run
@@ -230,17 +230,5 @@ def check(report: Report, program: str, rounds: int = ROUNDS, tell: bool = False
             print(f"{kind}, {rounds} rounds: {told}", flush=True)
 
 
-def main() -> int:
-    """Reads the words, and answers the status."""
-    parser = ArgumentParser(description=__doc__)
-    parser.add_argument("program")
-    parser.add_argument("--rounds", type=int, default=ROUNDS, help="storms of each kind")
-    words = parser.parse_args()
-    report = Report()
-    check(report, os.path.abspath(words.program), words.rounds, tell=True)
-    print(report.summary())
-    return 1 if report.failed else 0
-
-
 if __name__ == "__main__":
-    sys.exit(main())
+    sys.exit(run_alone(__doc__, check, ROUNDS))

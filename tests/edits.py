@@ -1,6 +1,8 @@
 """Scripts of `ktedit`: the replies and the file that is saved, each wanted text written by hand."""
 from __future__ import annotations
 
+from typing import Callable
+
 from file_names import LIMIT, sized
 from harness import Case, Outcome, Report, check_case, message
 from images import B, BIG, END, HOST, LITTLE, TWO, Entry, entries, hole, keytab, record
@@ -14,6 +16,31 @@ C = Entry((b"c",), key=bytes(range(32, 48)))
 
 GAVE_HOST = "walk 0 gave 2 next 53 kvno 3 etype 17 host/a@R"
 GAVE_B = "walk 0 gave 53 next 98 kvno 3 etype 17 b@R"
+
+# Lines that have a fault in a script over a keytab and in one over a cache, and which.
+LINE_FAULTS: dict[str, int] = {
+    " ": 1,
+    " start": 1,
+    "Start": 1,
+    "start\r": 1,
+    "start\t": 1,
+    "put 2": 1,
+    "start ": 2,
+    "start 2": 2,
+    "rewrite 2": 2,
+    "resume": 2,
+    "resume 2 ": 2,
+    "resume  2": 2,
+    "step 0 0": 2,
+    "cut": 2,
+    "resume ": 3,
+    "step x": 3,
+    "step -1": 3,
+    "step +1": 3,
+    "cut 0x2": 3,
+    "cut 00000000002": 3,
+    "resume 4294967296": 3,
+}
 
 # A bad entry stands between two good ones.
 DAMAGED = keytab(HOST_RECORD, record(bytes(10)), B_RECORD)
@@ -48,6 +75,23 @@ def edit(
 def refused(*replies: str) -> Outcome:
     """Replies of which one tells of a refusal or a fault."""
     return Outcome(1, text(list(replies)))
+
+
+def faulty_lines(
+    edit: Callable[..., Case], image: bytes, cut: str, faults: dict[str, int]
+) -> list[Case]:
+    """Each faulty line after a removal that is not run, the first of two, and one over no image."""
+    after = [
+        edit(f"faulty line {line!r}", image, [cut, line], message(1, f"line 2: fault {fault}"))
+        for line, fault in faults.items()
+    ]
+    return [
+        *after,
+        edit("the first of two faulty lines", image, ["# no", "", "start 2", "frob"],
+             message(1, "line 3: fault 2")),
+        edit("a faulty line comes before a file that cannot be opened", b"", ["frob"],
+             message(1, "line 1: fault 1")),
+    ]
 
 
 def each_number(name: str, image: bytes, places: tuple[int, ...]) -> Case:

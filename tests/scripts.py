@@ -1,7 +1,7 @@
 """Lines of a script: how they are read, and which faults they have."""
 from __future__ import annotations
 
-from edits import ADD_B, ADD_HOST, edit, refused, text
+from edits import ADD_B, ADD_HOST, LINE_FAULTS, edit, faulty_lines, refused, text
 from harness import Case, Report, check_case, message
 from file_names import LIMIT
 from images import B, HOST, TWO, Entry, entries
@@ -10,30 +10,10 @@ KEY = "101112131415161718191a1b1c1d1e1f"
 
 # Lines, and the fault that each has.
 FAULTS: dict[str, int] = {
-    " ": 1,
-    " start": 1,
-    "Start": 1,
-    "start\r": 1,
-    "start\t": 1,
-    "put 2": 1,
+    **LINE_FAULTS,
     "frob 1 2 3 4 5 6": 1,
-    "start ": 2,
-    "start 2": 2,
-    "rewrite 2": 2,
-    "resume": 2,
-    "resume 2 ": 2,
-    "resume  2": 2,
-    "step 0 0": 2,
-    "cut": 2,
     "add": 2,
     f"add 3 17 0 {KEY}": 2,
-    "resume ": 3,
-    "step x": 3,
-    "step -1": 3,
-    "step +1": 3,
-    "cut 0x2": 3,
-    "cut 00000000002": 3,
-    "resume 4294967296": 3,
     f"add x 17 0 {KEY} b@R": 3,
     f"add  17 0 {KEY} b@R": 3,
     f"add 3 17 2023-11-14 {KEY} b@R": 3,
@@ -58,19 +38,6 @@ FAULTS: dict[str, int] = {
     "add 3 17 z 0 b": 3,
     "add 3 17 0 0 b": 5,
 }
-
-
-def faults() -> list[Case]:
-    """Each faulty line after one that is not run, and the first of two."""
-    after = [
-        edit(f"faulty line {line!r}", TWO, ["cut 2", line], message(1, f"line 2: fault {fault}"))
-        for line, fault in FAULTS.items()
-    ]
-    first = edit("the first of two faulty lines", TWO, ["# no", "", "start 2", "frob"],
-                 message(1, "line 3: fault 2"))
-    no_keytab = edit("a faulty line comes before a file that is no keytab", b"", ["frob"],
-                     message(1, "line 1: fault 1"))
-    return [*after, first, no_keytab]
 
 
 def spellings() -> list[Case]:
@@ -106,5 +73,5 @@ def spellings() -> list[Case]:
 
 def check(report: Report, program: str) -> None:
     """Runs all of this topic."""
-    for case in [*faults(), *spellings()]:
+    for case in [*faulty_lines(edit, TWO, "cut 2", FAULTS), *spellings()]:
         check_case(report, program, case)

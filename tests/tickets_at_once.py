@@ -9,13 +9,13 @@ import os
 import subprocess
 import sys
 import time
-from argparse import ArgumentParser
 from collections import Counter
 from dataclasses import dataclass
 from random import Random
 
 sys.dont_write_bytecode = True
 
+from alone import run_alone
 from cache_model import Cache
 from cache_reading import read_cache
 from caches_beside_mit import USER, Failed, Realm, are_there, differences_of, realm
@@ -138,17 +138,5 @@ def check(report: Report, program: str, rounds: int = ROUNDS, tell: bool = False
         print(", ".join(f"{count} {what}" for what, count in sorted(counts.items())))
 
 
-def main() -> int:
-    """Reads the words, and answers the status."""
-    parser = ArgumentParser(description=__doc__)
-    parser.add_argument("program")
-    parser.add_argument("--rounds", type=int, default=ROUNDS, help="how many storms")
-    words = parser.parse_args()
-    report = Report()
-    check(report, os.path.abspath(words.program), words.rounds, tell=True)
-    print(report.summary())
-    return 1 if report.failed else 0
-
-
 if __name__ == "__main__":
-    sys.exit(main())
+    sys.exit(run_alone(__doc__, check, ROUNDS))

@@ -51,6 +51,6 @@ module _ {A : Type 0} (o : TicketOptions A) (ended : Option ℕ) where
   over_unspent (Ok k) = if_unspent k (refusal_of k)
   over_unspent (Err why) = inl (_, refl)
 
-  -- what a load answers that fails ends the removal, and nothing ends for want of memory
+  -- what a load answers that fails ends the removal, and nothing ends out of memory
   pub ticket_removal_follows : FollowsLoad (removal o ended)
   ticket_removal_follows = record { failed = refl; memory = refl; unspent = λ answer. over_unspent (cache_of answer) }

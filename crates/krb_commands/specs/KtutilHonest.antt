@@ -26,7 +26,7 @@ follow files (Ends due) = record { outcome = due; files = files }
 follow files (Loads name then_) = follow files (then_ (loaded (files name) most_bytes))
 follow files (Saves name bytes then_) = follow (with_bytes files name bytes) (then_ (Ok tt))
 
--- want of memory, also in a file call, is told as such
+-- where an allocation fails, in a file call too, the line ends out of memory and not by the file
 abbrev pub TellsMemory : LineEnd → Type 0
 TellsMemory (end.Load load.NoMemory) = ⊥
 TellsMemory (end.Save save.NoMemory) = ⊥

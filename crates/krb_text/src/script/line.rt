@@ -12,7 +12,7 @@ pub trait ScriptLine<A: Allocator>: Sized + Drop {
     /// What a line asks for, or its first fault.
     ghost line_in: { List ℕ → Result Self FaultOfLine };
 
-    /// Reads a line. Its fault comes before any want of memory.
+    /// Reads a line. Where it has a fault, that is the answer, even out of memory.
     fn parse(alloc: A, line: &[u8]) -> Result<Self, LineRefusal>
         ensures { Reads (λ asked. asked) (line_in line.now) result };
 }

@@ -104,7 +104,7 @@ fn a_found_line(rt: HostRuntime) -> Result<(), Fail> {
     Ok(())
 }
 
-/// A script is read whole, or refused for want of memory alone.
+/// A script is read whole, or an allocation failed.
 #[test]
 fn a_script(rt: HostRuntime) -> Result<(), Fail> {
     let text = b"start\nadd 3 17 0 000102030405060708090a0b0c0d0e0f host/a@R\ncut 2\n";

@@ -53,7 +53,7 @@ fn a_removed_ticket(rt: HostRuntime) -> Result<(), Fail> {
     Ok(())
 }
 
-/// A script is read whole, or refused for want of memory alone.
+/// A script is read whole, or an allocation failed.
 #[test]
 fn a_script(rt: HostRuntime) -> Result<(), Fail> {
     let text = b"start\nconfig k b@R v\nconfig k - v\ncut 40\n";
