@@ -1,0 +1,3 @@
+-- Lemmas of the walks.
+mod Calls
+mod Clearing

@@ -1,0 +1,3 @@
+-- What it means that a block is cleared.
+pub mod Wiping
+pub mod Zeros

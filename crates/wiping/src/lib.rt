@@ -1,0 +1,9 @@
+//! An allocator that clears each block before it gives the block back.
+#![tactic(auto)]
+
+mod allocator;
+#[cfg(test)]
+mod tests;
+mod zeros;
+
+pub use allocator::Wiping;
