@@ -21,6 +21,7 @@ use krb_files::Cause;
 use std::alloc::Allocator;
 use std::io::ErrorKind;
 use std::rt;
+use wiping::Wiping;
 
 /// A file that this program alone may change, among all that hold a file before they change it: it has
 /// made and locked the new file beside it, `NAME.krbfile`.
@@ -163,7 +164,8 @@ where
     {
         match calls.load(alloc, self.target.path(), limit) {
             Ok((file, bytes)) => {
-                let Ok(copy) = Vec::from_slice(calls.looks().alloc(), &bytes) else {
+                let alloc = Wiping::new(calls.looks().alloc());
+                let Ok(copy) = Vec::from_slice(alloc, &bytes) else {
                     return Err(ReadFault::Disk(DiskFault::NoMemory));
                 };
                 self.seen = Seen::Loaded(file, copy);

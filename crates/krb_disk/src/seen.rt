@@ -9,13 +9,15 @@ use crate::looks::{Found, Looks};
 use crate::read::has_bytes;
 use std::alloc::Allocator;
 use std::{io, rt};
+use wiping::Wiping;
 
-/// What stood under a name when it was held or, if it was loaded since then, what was loaded.
+/// What stood under a name when it was held or, if it was loaded since then, what was loaded, in memory that is
+/// cleared before it is given back.
 #[derive(Drop)]
 pub enum Seen<A: Allocator> {
     Nothing,
     File(Found),
-    Loaded(Found, Vec<u8, A>),
+    Loaded(Found, Vec<u8, Wiping<A>>),
 }
 
 // Whether a name leads to that file, which has these bytes.

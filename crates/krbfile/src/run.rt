@@ -11,6 +11,7 @@ use krb_files::Files;
 use std::alloc::Global;
 use std::io::{Read, Write};
 use std::{env, io, rt};
+use wiping::Wiping;
 
 /// Whether `--explain` is the first word after the program's name. The others may be no text.
 pub fn asks_to_explain<R: rt::Env>(rt: &R) -> bool {
@@ -41,7 +42,7 @@ fn asked<'a>(
     }
 }
 
-/// Does what the words of the command line ask for, and answers the status.
+/// Does what the words of the command line ask for, and answers the status. Memory that it gives back is cleared.
 pub fn run<H: rt::Env + AllocGlobal, F: Files, R: Read, W: Write, E: Write>(
     rt: &H,
     files: &mut F,
@@ -56,5 +57,6 @@ pub fn run<H: rt::Env + AllocGlobal, F: Files, R: Read, W: Write, E: Write>(
         streams.old.out streams.new.out streams.old.err streams.new.err result asked }
 {
     let words = words_of(rt);
-    respond(rt.alloc(), &asked(rt.alloc(), &words), files, now, streams)
+    let alloc = Wiping::new(rt.alloc());
+    respond(alloc, &asked(rt.alloc(), &words), files, now, streams)
 }
