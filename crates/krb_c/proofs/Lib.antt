@@ -1,0 +1,8 @@
+mod AsBox
+pub mod CursorLemmas
+pub mod CacheCells
+pub mod CacheAsked
+pub mod CacheKnown
+pub mod NameLemmas
+pub mod CacheUnread
+mod Sent

@@ -1,0 +1,32 @@
+-- Which cache is opened for C, and which is made.
+use Rattle.std.specs.Prelude.{ℕ, List, Option, Some, None, Result, Ok, Err}
+use Rattle.krb_wire.specs.Spelling.{Parts}
+use Rattle.krb_wire.specs.declared.name_fault.NameFault.{NameFault}
+use Rattle.krb_ccache.specs.declared.open.CcOpenFault.{CcOpenFault}
+use Rattle.krb_ccache.specs.declared.open.CcOpenFault.TheVariants.{TooLarge}
+use Rattle.krb_ccache.specs.Store.{CacheState, open_result}
+use Rattle.krb_ccache.specs.Changes.{create_result}
+use Rattle.krb_c.specs.declared.cache.handle.KrbfCcache.{KrbfCcache}
+use Rattle.krb_c.specs.Behind.{cache_of}
+use Rattle.krb_c.specs.Opens.{OpensNone, Opens}
+use Rattle.krb_c.specs.Limit.{limit_of}
+use Rattle.krb_c.specs.Status.{cc_open_status, name_status, code_status}
+
+-- what opening an image gives with a limit, if it is one
+abbrev pub opened_within : List ℕ → Option ℕ → Result CacheState CcOpenFault
+opened_within image None = Err TooLarge
+opened_within image (Some limit) = open_result limit image
+
+-- the cache of an image, with the limit that C gives, is opened
+abbrev pub OpensImage : List ℕ → ℕ → ℕ → KrbfCcache → Type 0
+OpensImage image limit status cc = Opens cc_open_status (opened_within image (limit_of limit)) status (cache_of cc) cc.handle
+
+-- a cache of a default principal is made within a limit: what is no name is refused
+abbrev pub MakesWithin : ℕ → Result Parts NameFault → ℕ → KrbfCcache → Type 0
+MakesWithin limit (Ok principal) status cc = Opens code_status (create_result principal None limit) status (cache_of cc) cc.handle
+MakesWithin limit (Err fault) status cc = OpensNone (name_status fault) status cc.handle
+
+-- the same with the limit, if it is one: else 13
+abbrev pub Makes : Option ℕ → Result Parts NameFault → ℕ → KrbfCcache → Type 0
+Makes (Some limit) named status cc = MakesWithin limit named status cc
+Makes None named status cc = OpensNone 13 status cc.handle

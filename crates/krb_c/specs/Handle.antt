@@ -1,0 +1,19 @@
+-- What the handle owns: where something stands behind it, the same as a `Box<Held>`.
+use base.Fml.{Fml, ftrue}
+use base.Stored.{Coded}
+use denote.RawPtr.{Ptr}
+use Rattle.std.specs.Prelude.{Option, Some, None}
+use Rattle.std.specs.Coded.{coded_option}
+use Rattle.std.specs.Box.Ownership.{box_owns}
+use Rattle.std.specs.Global.{Global}
+use Rattle.std_heap.specs.contracts.GlobalAllocator.TheImpl.{ghosts}
+use Rattle.krb_c.specs.contracts.held.Held.{the_row}
+
+-- nothing where it is empty, and else a box at its pointer
+abbrev pub handle_owns : Global → Ptr → Option the_row.Denot → Fml
+handle_owns alloc ptr None = ftrue
+handle_owns alloc ptr (Some held) = box_owns (ghosts.dealloc_token alloc) the_row ptr held
+
+-- how the type of what stands behind it is coded
+abbrev pub held_coded : Coded (Option the_row.Denot)
+held_coded = coded_option the_row.coded

@@ -1,0 +1,15 @@
+-- Entries as C sees them.
+use Rattle.std.specs.Prelude.{◌≡◌, ℕ, length}
+use Rattle.krb_keytab.specs.Entry.{EntryParts}
+use Rattle.krb_c.specs.declared.keytab.entry.KrbfEntry.{KrbfEntry}
+
+-- what C sees is the entry at a place
+pub record Shows (seen : KrbfEntry) (at : ℕ) (entry : EntryParts) : Type 0 where
+  pub place : seen.place ≡ at
+  pub kvno : seen.kvno ≡ entry.version
+  pub timestamp : seen.timestamp ≡ entry.timestamp
+  pub name_type : seen.name_type ≡ entry.principal.name_type
+  pub enctype : seen.enctype ≡ entry.enctype
+  pub components : seen.components ≡ length entry.principal.components
+  pub realm : seen.realm.len ≡ length entry.principal.realm
+  pub key : seen.key.len ≡ length entry.key

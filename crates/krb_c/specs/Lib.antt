@@ -1,0 +1,23 @@
+-- What the contracts of this crate say.
+pub mod Status
+pub mod Held
+pub mod Handle
+pub mod Behind
+pub mod Lending
+pub mod Opens
+pub mod Limit
+pub mod Text
+pub mod Cursors
+pub mod Walks
+pub mod CacheTicket
+pub mod CacheWalk
+pub mod CacheNames
+pub mod CacheLooks
+pub mod CacheStore
+pub mod CacheOpens
+pub mod KeytabEntry
+pub mod KeytabLooks
+pub mod KeytabOpens
+pub mod KeytabChanges
+pub mod Phrase
+pub mod Heap

@@ -1,0 +1,58 @@
+-- The numbers that calls answer: 0 done, 1 out of memory, 2 the end of a walk; from 11 on why an image is refused, from 21 on what is wrong with a name, from 31 on why a store refuses.
+use Rattle.std.specs.Prelude.{◌≡◌, ◌⊎◌, ℕ, ◌+◌, Option, Some, None, Result, Ok, Err}
+use Rattle.krb_wire.specs.declared.name_fault.NameFault.{NameFault}
+use Rattle.krb_wire.specs.declared.name_fault.NameFault.TheVariants as fault
+use Rattle.krb_walk.specs.declared.refusal.Code.{Code}
+use Rattle.krb_walk.specs.declared.refusal.Refusal.{Refusal}
+use Rattle.krb_walk.specs.declared.refusal.Refusal.TheVariants as refusal
+use Rattle.krb_walk.specs.declared.fault.Fault.{Fault}
+use Rattle.krb_walk.specs.Numbers.{code_number, fault_number}
+use Rattle.krb_keytab.specs.declared.open.KtOpenFault.{KtOpenFault}
+use Rattle.krb_keytab.specs.Open.{open_fault_number as kt_fault_number}
+use Rattle.krb_ccache.specs.declared.open.CcOpenFault.{CcOpenFault}
+use Rattle.krb_ccache.specs.Open.{open_fault_number as cc_fault_number}
+
+-- of an image that is no keytab
+abbrev pub kt_open_status : KtOpenFault → ℕ
+kt_open_status why = 10 + kt_fault_number why
+
+-- of an image that is no cache
+abbrev pub cc_open_status : CcOpenFault → ℕ
+cc_open_status why = 10 + cc_fault_number why
+
+-- of a text that is no name
+abbrev pub name_status : NameFault → ℕ
+name_status fault.NoRealm = 21
+name_status fault.LoneBackslash = 22
+name_status fault.SecondAt = 23
+name_status fault.SlashInRealm = 24
+name_status fault.NoMemory = 1
+
+-- of a refusal
+abbrev pub code_status : Code → ℕ
+code_status code = 30 + code_number code
+
+-- of a refusal, or of a failed allocation
+abbrev pub refusal_status : Refusal → ℕ
+refusal_status (refusal.Code code) = code_status code
+refusal_status refusal.NoMemory = 1
+
+-- a change answers 0 and gives what it is to give, or tells why it is refused and leaves what there was
+abbrev pub Changes : {S : Type 0} → Result S Code → S → ℕ → S → Type 0
+Changes (Ok given) old status new = (status ≡ 0) × (new ≡ given)
+Changes (Err why) old status new = (status ≡ code_status why) × (new ≡ old)
+
+-- a rewrite is alike, but may run out of memory where nothing refuses it, and then leaves what there was
+abbrev pub Rewrites : {S : Type 0} → Result S Code → S → ℕ → S → Type 0
+Rewrites (Ok given) old status new = ((status ≡ 0) × (new ≡ given)) ⊎ ((status ≡ 1) × (new ≡ old))
+Rewrites (Err why) old status new = (status ≡ code_status why) × (new ≡ old)
+
+-- an addition answers a place with 0; it may run out of memory, and then leaves what there was
+abbrev pub Adds : {S : Type 0} → Result (ℕ × S) Code → S → ℕ → ℕ → S → Type 0
+Adds (Ok given) old status place new = ((status ≡ 0) × (given ≡ (place, new))) ⊎ ((status ≡ 1) × (new ≡ old))
+Adds (Err why) old status place new = ((status ≡ 1) ⊎ (status ≡ code_status why)) × (new ≡ old)
+
+-- the number of what is wrong after the last sound cell: 0 where nothing is
+abbrev pub fault_status : Option Fault → ℕ
+fault_status None = 0
+fault_status (Some fault) = fault_number fault.kind

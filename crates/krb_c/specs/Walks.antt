@@ -1,0 +1,22 @@
+-- Steps of walks, over keytabs and caches alike.
+use Rattle.std.specs.Prelude.{◌≡◌, ℕ, Bool, true, false, Option, IsSomeAnd}
+use Rattle.krb_walk.specs.declared.stop.Stop.{Stop}
+use Rattle.krb_walk.specs.declared.stop.Stop.TheVariants.{Live, End, Fault}
+use Rattle.krb_walk.specs.Store.{Store, is_place, stop_at}
+
+module _ {Record Shown : Type 0} (at_place : ℕ → Option Record) (Shows : Shown → ℕ → Record → Type 0) where
+  -- a step of a walk stopped there: 0 with the record and the cursor after it, 2 at the end, 31 at a fault
+  abbrev pub StepsTo : Stop → ℕ → ℕ → ℕ → Shown → Shown → Type 0
+  StepsTo (Live place next) status cursor new_cursor seen new_seen =
+      (status ≡ 0) × (new_cursor ≡ next) × IsSomeAnd (at_place place) (Shows new_seen place)
+  StepsTo (End next) status cursor new_cursor seen new_seen = (status ≡ 2) × (new_cursor ≡ cursor) × (new_seen ≡ seen)
+  StepsTo (Fault fault) status cursor new_cursor seen new_seen = (status ≡ 31) × (new_cursor ≡ cursor) × (new_seen ≡ seen)
+
+  -- a step of a walk: 34 where the cursor is no place
+  abbrev pub StepsFrom : Bool → Stop → ℕ → ℕ → ℕ → Shown → Shown → Type 0
+  StepsFrom true stop status cursor new_cursor seen new_seen = StepsTo stop status cursor new_cursor seen new_seen
+  StepsFrom false stop status cursor new_cursor seen new_seen = (status ≡ 34) × (new_cursor ≡ cursor) × (new_seen ≡ seen)
+
+  -- a step of a walk over a store from a cursor
+  abbrev pub StepsOver : Store → ℕ → ℕ → ℕ → Shown → Shown → Type 0
+  StepsOver s status cursor new_cursor seen new_seen = StepsFrom (is_place s cursor) (stop_at s cursor) status cursor new_cursor seen new_seen

@@ -1,0 +1,16 @@
+//! Credential caches for C.
+
+mod asked;
+mod change_calls;
+mod changes;
+mod handle;
+mod held;
+mod look_calls;
+mod looks;
+mod names;
+mod numbers;
+mod opening;
+mod ticket;
+
+pub use handle::KrbfCcache;
+pub use held::HeldCache;

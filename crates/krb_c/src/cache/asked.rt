@@ -1,0 +1,106 @@
+//! Credentials that C asks to store.
+
+ghost use Rattle.std.specs.Prelude.{◌≡◌, ◌⊎◌, None, Ok, Err, IfOk, IfErr, IsOk};
+ghost use Rattle.krb_wire.specs.NameOf.{name_of};
+ghost use Rattle.krb_wire.specs.Reading.{principal_parts};
+ghost use Rattle.krb_c.specs.CacheStore.{asked_credential, with_parts};
+
+use crate::cache::numbers::KrbfNumbers;
+use crate::heap::{Heap, heap};
+use crate::status::{NO_MEMORY, of_code};
+use crate::text::read_name;
+use krb_ccache::Cred;
+use krb_walk::Code;
+use krb_wire::Principal;
+use std::alloc::Global;
+use std::marker::Model;
+
+/// What a credential is made of: the texts of its names, its key, its tickets and its numbers.
+#[derive(Drop)]
+pub struct Asked<'a> {
+    pub client: &'a [u8],
+    pub server: &'a [u8],
+    pub key: &'a [u8],
+    pub ticket: &'a [u8],
+    pub second_ticket: &'a [u8],
+    pub numbers: KrbfNumbers,
+}
+
+impl<'a> Model for Asked<'a> {
+    ghost use Rattle.krb_c.specs.CacheStore.{AskedParts};
+
+    ghost Value = { AskedParts };
+
+    ghost view = { λ a. record {
+      client = a.client.now;
+      server = a.server.now;
+      key = a.key.now;
+      ticket = a.ticket.now;
+      second_ticket = a.second_ticket.now;
+      numbers = a.numbers;
+    } };
+}
+
+// A copy of bytes.
+fn copied(alloc: Global, bytes: &[u8]) -> Result<Vec<u8, Heap>, u32>
+    ensures ok { IfOk result (λ v. v.items ≡ bytes.now) }
+    ensures err { IfErr result (λ s. s ≡ 1) }
+{
+    match Vec::from_slice(heap(alloc), bytes) {
+        Ok(copy) => Ok(copy),
+        Err(_) => Err(NO_MEMORY),
+    }
+}
+
+impl<'a> Asked<'a> {
+    // The credential between two names.
+    fn between(
+        &self,
+        alloc: Global,
+        client: Principal<Heap>,
+        server: Principal<Heap>,
+    ) -> Result<Cred<Heap>, u32>
+        ensures ok { IfOk result (λ c. with_parts self.now (principal_parts client) (principal_parts server) ≡ Ok c) }
+        ensures err { IfErr result (λ s. (with_parts self.now (principal_parts client) (principal_parts server) ≡ Err s) ⊎ (s ≡ 1)) }
+    {
+        let numbers = self.numbers;
+        if !numbers.fit() {
+            return Err(of_code(Code::TooLong));
+        }
+        let key = copied(alloc, self.key)?;
+        let ticket = copied(alloc, self.ticket)?;
+        let second_ticket = copied(alloc, self.second_ticket)?;
+        Ok(Cred {
+            client,
+            server,
+            enctype: numbers.enctype as u16,
+            key,
+            authtime: numbers.authtime,
+            starttime: numbers.starttime,
+            endtime: numbers.endtime,
+            renew_till: numbers.renew_till,
+            is_skey: numbers.is_skey as u8,
+            flags: numbers.flags,
+            addresses: Vec::new(heap(alloc)),
+            authdata: Vec::new(heap(alloc)),
+            ticket,
+            second_ticket,
+        })
+    }
+
+    /// The credential that is asked for.
+    pub fn credential(&self, alloc: Global) -> Result<Cred<Heap>, u32>
+        ensures ok { IfOk result (λ c. asked_credential self.now ≡ Ok c) }
+        ensures err { IfErr result (λ s. (asked_credential self.now ≡ Err s) ⊎ ((s ≡ 1) × IsOk (name_of self.now.client None))) }
+    {
+        let client = match read_name(alloc, self.client) {
+            Ok(client) => client,
+            Err(why) => return Err(why),
+        };
+        let server = match read_name(alloc, self.server) {
+            Ok(server) => server,
+            Err(why) => return Err(why),
+        };
+        self.between(alloc, client, server)
+    }
+}

@@ -1,0 +1,199 @@
+//! The calls of the static library that look at a cache.
+
+ghost use Rattle.std.specs.Prelude.{◌≡◌, None, IsSome, IsSomeAnd, length, option_map};
+ghost use Rattle.krb_wire.specs.Names.{name_text};
+ghost use Rattle.krb_wire.specs.NameOf.{name_of};
+ghost use Rattle.krb_walk.specs.Store.{end_of, fault_of};
+ghost use Rattle.krb_ccache.specs.Config.{config_of};
+ghost use Rattle.krb_ccache.specs.Store.{credential_at_place, image_of, store_of};
+ghost use Rattle.krb_c.specs.Behind.{cache_of};
+ghost use Rattle.krb_c.specs.Text.{Tells};
+ghost use Rattle.krb_c.specs.CacheNames.{TellsAt};
+ghost use Rattle.krb_c.specs.CacheLooks.{LooksAt, Finds, TellsValue, text_or_none};
+ghost use Rattle.krb_c.specs.CacheWalk.{Steps};
+ghost use Rattle.krb_c.specs.Status.{fault_status};
+
+use crate::bytes::{KrbfBytes, bytes_of};
+use crate::cache::KrbfCcache;
+use crate::cache::looks::{config, find, look_at};
+use crate::cache::names::{tell_client, tell_server};
+use crate::cache::ticket::KrbfTicket;
+use crate::status::{DONE, of_fault};
+use crate::text::tell_name;
+use std::alloc::Global;
+
+/// Puts the text of the default principal into a room, as much as it takes, and tells its length.
+#[unsafe(no_mangle)]
+pub extern "C" fn krbf_cc_principal(
+    alloc: Global,
+    cc: &mut KrbfCcache,
+    room: &mut [u8],
+    len: &mut usize,
+) -> u32
+    requires { IsSome (cache_of cc.old) }
+    ensures same { cache_of cc.new ≡ cache_of cc.old }
+    ensures tells { IsSomeAnd (cache_of cc.old) (λ k. Tells (name_text k.principal) result room.old room.new len.old len.new) }
+{
+    let held = cc.take(alloc);
+    let status = tell_name(alloc, &held.cache().cache().default_principal(), room, len);
+    cc.put(held);
+    status
+}
+
+/// Tells the place of the first credential, where a walk begins.
+#[unsafe(no_mangle)]
+pub extern "C" fn krbf_cc_first(alloc: Global, cc: &mut KrbfCcache, cursor: &mut u32) -> u32
+    requires { IsSome (cache_of cc.old) }
+    ensures done { result ≡ 0 }
+    ensures same { cache_of cc.new ≡ cache_of cc.old }
+    ensures first { IsSomeAnd (cache_of cc.old) (λ k. cursor.new ≡ (store_of k).first) }
+{
+    let held = cc.take(alloc);
+    *cursor = held.cache().cache().first();
+    cc.put(held);
+    DONE
+}
+
+/// Shows the first live credential at or after a cursor, and moves the cursor after it.
+#[unsafe(no_mangle)]
+pub extern "C" fn krbf_cc_next(
+    alloc: Global,
+    cc: &mut KrbfCcache,
+    cursor: &mut u32,
+    ticket: &mut KrbfTicket,
+) -> u32
+    requires { IsSome (cache_of cc.old) }
+    ensures same { cache_of cc.new ≡ cache_of cc.old }
+    ensures steps { IsSomeAnd (cache_of cc.old) (λ k. Steps k result cursor.old cursor.new ticket.old ticket.new) }
+{
+    let mut held = cc.take(alloc);
+    let status = held.cache_mut().step(cursor, ticket);
+    cc.put(held);
+    status
+}
+
+/// Shows the live credential at a place.
+#[unsafe(no_mangle)]
+pub extern "C" fn krbf_cc_ticket(
+    alloc: Global,
+    cc: &mut KrbfCcache,
+    place: u32,
+    ticket: &mut KrbfTicket,
+) -> u32
+    requires { IsSome (cache_of cc.old) }
+    ensures same { cache_of cc.new ≡ cache_of cc.old }
+    ensures looks { IsSomeAnd (cache_of cc.old) (λ k. LooksAt (credential_at_place k place) place result ticket.old ticket.new) }
+{
+    let held = cc.take(alloc);
+    let status = look_at(held.cache(), place, ticket);
+    cc.put(held);
+    status
+}
+
+/// Puts the text of the client of the credential at a place into a room, as much as it takes, and tells its length.
+#[unsafe(no_mangle)]
+pub extern "C" fn krbf_cc_client(
+    alloc: Global,
+    cc: &mut KrbfCcache,
+    place: u32,
+    room: &mut [u8],
+    len: &mut usize,
+) -> u32
+    requires { IsSome (cache_of cc.old) }
+    ensures same { cache_of cc.new ≡ cache_of cc.old }
+    ensures tells { IsSomeAnd (cache_of cc.old) (λ k. TellsAt (option_map (λ c. name_text c.client) (credential_at_place k place))
+        result room.old room.new len.old len.new) }
+{
+    let held = cc.take(alloc);
+    let status = tell_client(alloc, held.cache(), place, room, len);
+    cc.put(held);
+    status
+}
+
+/// Puts the text of the server of the credential at a place into a room, as much as it takes, and tells its length.
+#[unsafe(no_mangle)]
+pub extern "C" fn krbf_cc_server(
+    alloc: Global,
+    cc: &mut KrbfCcache,
+    place: u32,
+    room: &mut [u8],
+    len: &mut usize,
+) -> u32
+    requires { IsSome (cache_of cc.old) }
+    ensures same { cache_of cc.new ≡ cache_of cc.old }
+    ensures tells { IsSomeAnd (cache_of cc.old) (λ k. TellsAt (option_map (λ c. name_text c.server) (credential_at_place k place))
+        result room.old room.new len.old len.new) }
+{
+    let held = cc.take(alloc);
+    let status = tell_server(alloc, held.cache(), place, room, len);
+    cc.put(held);
+    status
+}
+
+/// Shows the first live ticket for the server that a text names. Configuration entries are passed, and of a damaged
+/// cache the credentials before its fault are looked at.
+#[unsafe(no_mangle)]
+pub extern "C" fn krbf_cc_find(
+    alloc: Global,
+    cc: &mut KrbfCcache,
+    server: &[u8],
+    ticket: &mut KrbfTicket,
+) -> u32
+    requires { IsSome (cache_of cc.old) }
+    ensures same { cache_of cc.new ≡ cache_of cc.old }
+    ensures finds { IsSomeAnd (cache_of cc.old) (λ k. Finds k (name_of server.now None) result ticket.old ticket.new) }
+{
+    let held = cc.take(alloc);
+    let status = find(alloc, held.cache().cache(), server, ticket);
+    cc.put(held);
+    status
+}
+
+/// Tells where the sound credentials end, and the number of what is wrong there: 0 where nothing is.
+#[unsafe(no_mangle)]
+pub extern "C" fn krbf_cc_fault(alloc: Global, cc: &mut KrbfCcache, place: &mut u32) -> u32
+    requires { IsSome (cache_of cc.old) }
+    ensures same { cache_of cc.new ≡ cache_of cc.old }
+    ensures fault { IsSomeAnd (cache_of cc.old) (λ k. result ≡ fault_status (fault_of (store_of k))) }
+    ensures place { IsSomeAnd (cache_of cc.old) (λ k. place.new ≡ end_of (store_of k)) }
+{
+    let held = cc.take(alloc);
+    *place = held.cache().cache().end();
+    let fault = of_fault(held.cache().cache().fault());
+    cc.put(held);
+    fault
+}
+
+/// Shows the value of the configuration entry of the default principal for a key and a principal's text, or for the
+/// key alone where that text has no bytes.
+#[unsafe(no_mangle)]
+pub extern "C" fn krbf_cc_config(
+    alloc: Global,
+    cc: &mut KrbfCcache,
+    key: &[u8],
+    principal: &[u8],
+    value: &mut KrbfBytes,
+) -> u32
+    requires { IsSome (cache_of cc.old) }
+    ensures same { cache_of cc.new ≡ cache_of cc.old }
+    ensures value { IsSomeAnd (cache_of cc.old) (λ k. TellsValue (config_of k key.now (text_or_none principal.now)) result value.old value.new) }
+{
+    let held = cc.take(alloc);
+    let status = config(held.cache().cache(), key, principal, value);
+    cc.put(held);
+    status
+}
+
+/// Shows the image, which lies there until the cache is changed or closed.
+#[unsafe(no_mangle)]
+pub extern "C" fn krbf_cc_image(alloc: Global, cc: &mut KrbfCcache, image: &mut KrbfBytes) -> u32
+    requires { IsSome (cache_of cc.old) }
+    ensures done { result ≡ 0 }
+    ensures same { cache_of cc.new ≡ cache_of cc.old }
+    ensures len { IsSomeAnd (cache_of cc.old) (λ k. image.new.len ≡ length (image_of k)) }
+{
+    let held = cc.take(alloc);
+    *image = bytes_of(held.cache().cache().image());
+    cc.put(held);
+    DONE
+}

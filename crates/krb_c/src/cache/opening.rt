@@ -1,0 +1,107 @@
+//! Opening caches, making them, and closing them.
+
+ghost use Rattle.std.specs.Prelude.{◌≡◌, ◌⊎◌, Ok, Err, Some, None, IsSome};
+ghost use Rattle.krb_wire.specs.NameOf.{name_of};
+ghost use Rattle.krb_ccache.specs.Store.{open_result};
+ghost use Rattle.krb_c.specs.Behind.{cache_of};
+ghost use Rattle.krb_c.specs.CacheOpens.{OpensImage, Makes, MakesWithin};
+ghost use Rattle.krb_c.specs.Limit.{limit_of};
+ghost use Rattle.krb_c.specs.Opens.{Opens, OpensNone};
+ghost use Rattle.krb_c.specs.Status.{cc_open_status};
+
+use crate::cache::KrbfCcache;
+use crate::cache::held::HeldCache;
+use crate::heap::heap;
+use crate::held::Held;
+use crate::limit::limits_of;
+use crate::status::{DONE, NO_MEMORY, TOO_LARGE, of_cc_open, of_refusal};
+use crate::text::read_name;
+use krb_ccache::Ccache;
+use krb_wire::Limits;
+use std::alloc::Global;
+
+impl KrbfCcache {
+    // Puts a cache into an empty handle.
+    fn fill(&mut self, alloc: Global, held: HeldCache) -> u32
+        requires { self.old.handle.held ≡ None }
+        ensures { ((result ≡ 0) × (cache_of self.new ≡ Some held.state)) ⊎ OpensNone 1 result self.new.handle }
+    {
+        match Box::new(alloc, Held::Cache(held)) {
+            Ok(held) => {
+                self.put(held);
+                DONE
+            }
+            Err(_) => NO_MEMORY,
+        }
+    }
+
+    // Opens the cache of a copy of an image.
+    fn open(&mut self, alloc: Global, image: &[u8], limits: Limits) -> u32
+        requires { self.old.handle.held ≡ None }
+        ensures { Opens cc_open_status (open_result limits image.now) result (cache_of self.new) self.new.handle }
+    {
+        let Ok(image) = Vec::from_slice(heap(alloc), image) else {
+            return NO_MEMORY;
+        };
+        match Ccache::open(image, limits) {
+            Ok(cache) => self.fill(alloc, HeldCache::of(cache)),
+            Err(refused) => of_cc_open(refused.why),
+        }
+    }
+
+    // Makes a cache of a default principal.
+    #[tactic(auto, using(crate::proofs::CacheUnread::makes_unread))]
+    fn make(&mut self, alloc: Global, principal: &[u8], limits: Limits) -> u32
+        requires { self.old.handle.held ≡ None }
+        ensures { MakesWithin limits (name_of principal.now None) result self.new }
+    {
+        let name = match read_name(alloc, principal) {
+            Ok(name) => name,
+            Err(status) => return status,
+        };
+        match Ccache::create(heap(alloc), &name, None, limits) {
+            Ok(cache) => self.fill(alloc, HeldCache::of(cache)),
+            Err(refusal) => of_refusal(refusal),
+        }
+    }
+}
+
+/// Opens the cache of a copy of an image. The limit is the greatest length of its image: 0 stands for 16,777,216.
+#[unsafe(no_mangle)]
+pub extern "C" fn krbf_cc_open(alloc: Global, image: &[u8], limit: u32, cc: &mut KrbfCcache) -> u32
+    requires { cc.old.handle.held ≡ None }
+    ensures { OpensImage image.now limit result cc.new }
+{
+    match limits_of(limit) {
+        Some(limits) => cc.open(alloc, image, limits),
+        None => TOO_LARGE,
+    }
+}
+
+/// Makes a cache of version 4 without credentials, of the default principal that a text names.
+#[unsafe(no_mangle)]
+pub extern "C" fn krbf_cc_create(
+    alloc: Global,
+    principal: &[u8],
+    limit: u32,
+    cc: &mut KrbfCcache,
+) -> u32
+    requires { cc.old.handle.held ≡ None }
+    ensures { Makes (limit_of limit) (name_of principal.now None) result cc.new }
+{
+    match limits_of(limit) {
+        Some(limits) => cc.make(alloc, principal, limits),
+        None => TOO_LARGE,
+    }
+}
+
+/// Frees a cache.
+#[unsafe(no_mangle)]
+pub extern "C" fn krbf_cc_close(alloc: Global, cc: &mut KrbfCcache) -> u32
+    requires { IsSome (cache_of cc.old) }
+    ensures done { result ≡ 0 }
+    ensures closed { cc.new.handle.held ≡ None }
+{
+    drop(cc.take(alloc));
+    DONE
+}

@@ -1,0 +1,38 @@
+//! Entries as C sees them.
+
+ghost use Rattle.krb_c.specs.KeytabEntry.{Shows};
+
+use crate::bytes::{KrbfBytes, bytes_of};
+use krb_keytab::EntryView;
+use krb_wire::Name;
+
+/// An entry: the place of its record, its numbers, and where its realm and its key lie.
+#[repr(C)]
+#[derive(Drop)]
+pub struct KrbfEntry {
+    pub place: u32,
+    pub kvno: u32,
+    pub timestamp: u32,
+    pub name_type: u32,
+    pub enctype: u32,
+    pub components: usize,
+    pub realm: KrbfBytes,
+    pub key: KrbfBytes,
+}
+
+/// The entry at a place, as C sees it.
+pub fn shown(place: u32, entry: &EntryView<'_>) -> KrbfEntry
+    ensures { Shows result place entry.now }
+{
+    let name = entry.principal();
+    KrbfEntry {
+        place,
+        kvno: entry.kvno(),
+        timestamp: entry.timestamp(),
+        name_type: name.name_type(),
+        enctype: entry.enctype() as u32,
+        components: name.count(),
+        realm: bytes_of(name.realm()),
+        key: bytes_of(entry.key()),
+    }
+}

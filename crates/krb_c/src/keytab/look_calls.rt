@@ -1,0 +1,139 @@
+//! The calls of the static library that look at a keytab.
+
+ghost use Rattle.std.specs.Prelude.{◌≡◌, None, IsSome, IsSomeAnd, length};
+ghost use Rattle.krb_wire.specs.NameOf.{name_of};
+ghost use Rattle.krb_walk.specs.Store.{end_of, fault_of};
+ghost use Rattle.krb_keytab.specs.Store.{entry_at_place, image_of, store_of};
+ghost use Rattle.krb_c.specs.Behind.{keytab_of};
+ghost use Rattle.krb_c.specs.KeytabLooks.{Steps, LooksAt, Finds, TellsName, ShowsPart};
+ghost use Rattle.krb_c.specs.Status.{fault_status};
+
+use crate::bytes::{KrbfBytes, bytes_of};
+use crate::keytab::KrbfKeytab;
+use crate::keytab::entry::KrbfEntry;
+use crate::keytab::looks::{find, look_at, show_component, tell_name_at};
+use crate::status::{DONE, of_fault};
+use std::alloc::Global;
+
+/// Shows the first entry at or after a cursor, and moves the cursor after it. A walk begins at 2.
+#[unsafe(no_mangle)]
+pub extern "C" fn krbf_kt_next(
+    alloc: Global,
+    kt: &mut KrbfKeytab,
+    cursor: &mut u32,
+    entry: &mut KrbfEntry,
+) -> u32
+    requires { IsSome (keytab_of kt.old) }
+    ensures same { keytab_of kt.new ≡ keytab_of kt.old }
+    ensures steps { IsSomeAnd (keytab_of kt.old) (λ k. Steps k result cursor.old cursor.new entry.old entry.new) }
+{
+    let mut held = kt.take(alloc);
+    let status = held.keytab_mut().step(cursor, entry);
+    kt.put(held);
+    status
+}
+
+/// Shows the entry at a place.
+#[unsafe(no_mangle)]
+pub extern "C" fn krbf_kt_entry(
+    alloc: Global,
+    kt: &mut KrbfKeytab,
+    place: u32,
+    entry: &mut KrbfEntry,
+) -> u32
+    requires { IsSome (keytab_of kt.old) }
+    ensures same { keytab_of kt.new ≡ keytab_of kt.old }
+    ensures looks { IsSomeAnd (keytab_of kt.old) (λ k. LooksAt (entry_at_place k place) place result entry.old entry.new) }
+{
+    let held = kt.take(alloc);
+    let status = look_at(held.keytab(), place, entry);
+    kt.put(held);
+    status
+}
+
+/// Tells where the sound cells end, and the number of what is wrong there: 0 where nothing is.
+#[unsafe(no_mangle)]
+pub extern "C" fn krbf_kt_fault(alloc: Global, kt: &mut KrbfKeytab, place: &mut u32) -> u32
+    requires { IsSome (keytab_of kt.old) }
+    ensures same { keytab_of kt.new ≡ keytab_of kt.old }
+    ensures fault { IsSomeAnd (keytab_of kt.old) (λ k. result ≡ fault_status (fault_of (store_of k))) }
+    ensures place { IsSomeAnd (keytab_of kt.old) (λ k. place.new ≡ end_of (store_of k)) }
+{
+    let held = kt.take(alloc);
+    *place = held.keytab().keytab().end();
+    let fault = of_fault(held.keytab().keytab().fault());
+    kt.put(held);
+    fault
+}
+
+/// Shows the entry of a name, version (0: the highest) and enctype (0: any).
+#[unsafe(no_mangle)]
+pub extern "C" fn krbf_kt_find(
+    alloc: Global,
+    kt: &mut KrbfKeytab,
+    name: &[u8],
+    kvno: u32,
+    enctype: u16,
+    entry: &mut KrbfEntry,
+) -> u32
+    requires { IsSome (keytab_of kt.old) }
+    ensures same { keytab_of kt.new ≡ keytab_of kt.old }
+    ensures finds { IsSomeAnd (keytab_of kt.old) (λ k. Finds k (name_of name.now None) kvno enctype result entry.old entry.new) }
+{
+    let held = kt.take(alloc);
+    let status = find(alloc, held.keytab(), name, kvno, enctype, entry);
+    kt.put(held);
+    status
+}
+
+/// Puts the text of the name of the entry at a place into a room, as much as it takes, and tells its length.
+#[unsafe(no_mangle)]
+pub extern "C" fn krbf_kt_name(
+    alloc: Global,
+    kt: &mut KrbfKeytab,
+    place: u32,
+    room: &mut [u8],
+    len: &mut usize,
+) -> u32
+    requires { IsSome (keytab_of kt.old) }
+    ensures same { keytab_of kt.new ≡ keytab_of kt.old }
+    ensures tells { IsSomeAnd (keytab_of kt.old) (λ k. TellsName (entry_at_place k place) result room.old room.new len.old len.new) }
+{
+    let held = kt.take(alloc);
+    let status = tell_name_at(alloc, held.keytab(), place, room, len);
+    kt.put(held);
+    status
+}
+
+/// Shows a component, from 0 on, of the name of the entry at a place.
+#[unsafe(no_mangle)]
+pub extern "C" fn krbf_kt_component(
+    alloc: Global,
+    kt: &mut KrbfKeytab,
+    place: u32,
+    number: usize,
+    component: &mut KrbfBytes,
+) -> u32
+    requires { IsSome (keytab_of kt.old) }
+    ensures same { keytab_of kt.new ≡ keytab_of kt.old }
+    ensures shows { IsSomeAnd (keytab_of kt.old) (λ k. ShowsPart (entry_at_place k place) number result component.old component.new) }
+{
+    let held = kt.take(alloc);
+    let status = show_component(held.keytab(), place, number, component);
+    kt.put(held);
+    status
+}
+
+/// Shows the image, which lies there until the keytab is changed or closed.
+#[unsafe(no_mangle)]
+pub extern "C" fn krbf_kt_image(alloc: Global, kt: &mut KrbfKeytab, image: &mut KrbfBytes) -> u32
+    requires { IsSome (keytab_of kt.old) }
+    ensures done { result ≡ 0 }
+    ensures same { keytab_of kt.new ≡ keytab_of kt.old }
+    ensures len { IsSomeAnd (keytab_of kt.old) (λ k. image.new.len ≡ length (image_of k)) }
+{
+    let held = kt.take(alloc);
+    *image = bytes_of(held.keytab().keytab().image());
+    kt.put(held);
+    DONE
+}

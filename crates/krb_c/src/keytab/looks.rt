@@ -1,0 +1,90 @@
+//! What is looked at in a keytab.
+
+ghost use Rattle.std.specs.Prelude.{◌≡◌, None};
+ghost use Rattle.krb_wire.specs.NameOf.{name_of};
+ghost use Rattle.krb_keytab.specs.Store.{entry_at_place};
+ghost use Rattle.krb_c.specs.KeytabLooks.{LooksAt, Finds, TellsName, ShowsPart};
+
+use crate::bytes::{KrbfBytes, bytes_of};
+use crate::keytab::HeldKeytab;
+use crate::keytab::entry::{KrbfEntry, shown};
+use crate::status::{DONE, of_code};
+use crate::text::{read_name, tell_name};
+use krb_walk::Code;
+use krb_wire::Name;
+use std::alloc::Global;
+
+/// Shows the entry at a place.
+pub fn look_at(held: &HeldKeytab, place: u32, entry: &mut KrbfEntry) -> u32
+    ensures { LooksAt (entry_at_place held.now.state place) place result entry.old entry.new }
+{
+    match held.keytab().entry_at(place) {
+        Some(seen) => {
+            *entry = shown(place, &seen);
+            DONE
+        }
+        None => of_code(Code::NotLive),
+    }
+}
+
+/// Shows the entry of what a text names, of that version and enctype.
+#[tactic(auto, using(crate::proofs::NameLemmas::finds_unread))]
+pub fn find(
+    alloc: Global,
+    held: &HeldKeytab,
+    text: &[u8],
+    kvno: u32,
+    enctype: u16,
+    entry: &mut KrbfEntry,
+) -> u32
+    ensures { Finds held.now.state (name_of text.now None) kvno enctype result entry.old entry.new }
+{
+    let name = match read_name(alloc, text) {
+        Ok(name) => name,
+        Err(status) => return status,
+    };
+    match held.keytab().find(&name, kvno, enctype) {
+        Ok((place, seen)) => {
+            *entry = shown(place, &seen);
+            DONE
+        }
+        Err(code) => of_code(code),
+    }
+}
+
+/// Puts the text of the name of the entry at a place into a room, and tells its length.
+pub fn tell_name_at(
+    alloc: Global,
+    held: &HeldKeytab,
+    place: u32,
+    room: &mut [u8],
+    len: &mut usize,
+) -> u32
+    ensures { TellsName (entry_at_place held.now.state place) result room.old room.new len.old len.new }
+{
+    match held.keytab().entry_at(place) {
+        Some(entry) => tell_name(alloc, entry.principal(), room, len),
+        None => of_code(Code::NotLive),
+    }
+}
+
+/// Shows a component of the name of the entry at a place.
+pub fn show_component(
+    held: &HeldKeytab,
+    place: u32,
+    number: usize,
+    component: &mut KrbfBytes,
+) -> u32
+    ensures { ShowsPart (entry_at_place held.now.state place) number result component.old component.new }
+{
+    let Some(entry) = held.keytab().entry_at(place) else {
+        return of_code(Code::NotLive);
+    };
+    match entry.principal().component(number) {
+        Some(bytes) => {
+            *component = bytes_of(bytes);
+            DONE
+        }
+        None => of_code(Code::NotFound),
+    }
+}

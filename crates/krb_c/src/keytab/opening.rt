@@ -1,0 +1,116 @@
+//! Opening keytabs, making them, and closing them.
+
+ghost use Rattle.std.specs.Prelude.{◌≡◌, ◌⊎◌, Some, None, IsSome};
+ghost use Rattle.krb_wire.specs.declared.format.KtFormat.TheVariants.{V2};
+ghost use Rattle.krb_keytab.specs.Store.{open_result, empty};
+ghost use Rattle.krb_c.specs.Behind.{keytab_of};
+ghost use Rattle.krb_c.specs.KeytabOpens.{Makes, OpensImage, order_of_flag};
+ghost use Rattle.krb_c.specs.Limit.{limit_of};
+ghost use Rattle.krb_c.specs.Opens.{Opens, OpensNone};
+ghost use Rattle.krb_c.specs.Status.{kt_open_status};
+
+use crate::heap::{Heap, heap};
+use crate::held::Held;
+use crate::keytab::{HeldKeytab, KrbfKeytab};
+use crate::limit::limits_of;
+use crate::status::{DONE, NO_MEMORY, TOO_LARGE, of_kt_open};
+use krb_indexed::Indexed;
+use krb_keytab::Keytab;
+use krb_wire::{KtFormat, Limits, NoMemory, Order};
+use std::alloc::Global;
+
+// The order of the numbers of version 1.
+fn order_of(v1_big: u32) -> Order
+    ensures { result ≡ order_of_flag v1_big }
+{
+    if v1_big == 0 {
+        Order::Little
+    } else {
+        Order::Big
+    }
+}
+
+impl KrbfKeytab {
+    // Puts a keytab with a table of its cells into an empty handle.
+    fn fill(&mut self, alloc: Global, keytab: Keytab<Heap>) -> u32
+        requires { self.old.handle.held ≡ None }
+        ensures { ((result ≡ 0) × (keytab_of self.new ≡ Some keytab.state)) ⊎ OpensNone 1 result self.new.handle }
+    {
+        let Ok(keytab) = Indexed::of(heap(alloc), keytab) else {
+            return NO_MEMORY;
+        };
+        match Box::new(alloc, Held::Keytab(HeldKeytab::of(keytab))) {
+            Ok(held) => {
+                self.put(held);
+                DONE
+            }
+            Err(_) => NO_MEMORY,
+        }
+    }
+
+    // Opens the keytab of a copy of an image.
+    fn open(&mut self, alloc: Global, image: &[u8], v1_order: Order, limits: Limits) -> u32
+        requires { self.old.handle.held ≡ None }
+        ensures { Opens kt_open_status (open_result v1_order limits image.now) result (keytab_of self.new) self.new.handle }
+    {
+        let Ok(image) = Vec::from_slice(heap(alloc), image) else {
+            return NO_MEMORY;
+        };
+        match Keytab::open(image, v1_order, limits) {
+            Ok(keytab) => self.fill(alloc, keytab),
+            Err(refused) => of_kt_open(refused.why),
+        }
+    }
+
+    // Makes a keytab without entries.
+    fn make(&mut self, alloc: Global, limits: Limits) -> u32
+        requires { self.old.handle.held ≡ None }
+        ensures { ((result ≡ 0) × (keytab_of self.new ≡ Some (empty V2 limits))) ⊎ OpensNone 1 result self.new.handle }
+    {
+        match Keytab::create(heap(alloc), KtFormat::V2, limits) {
+            Ok(keytab) => self.fill(alloc, keytab),
+            Err(NoMemory) => NO_MEMORY,
+        }
+    }
+}
+
+/// Makes a keytab of version 2 without entries. The limit is the greatest length of its image: 0 stands for 16,777,216.
+#[unsafe(no_mangle)]
+pub extern "C" fn krbf_kt_create(alloc: Global, limit: u32, kt: &mut KrbfKeytab) -> u32
+    requires { kt.old.handle.held ≡ None }
+    ensures { Makes (limit_of limit) result kt.new }
+{
+    match limits_of(limit) {
+        Some(limits) => kt.make(alloc, limits),
+        None => TOO_LARGE,
+    }
+}
+
+/// Opens the keytab of a copy of an image, with such a limit.
+#[unsafe(no_mangle)]
+pub extern "C" fn krbf_kt_open(
+    alloc: Global,
+    image: &[u8],
+    v1_big: u32,
+    limit: u32,
+    kt: &mut KrbfKeytab,
+) -> u32
+    requires { kt.old.handle.held ≡ None }
+    ensures { OpensImage v1_big image.now (limit_of limit) result kt.new }
+{
+    match limits_of(limit) {
+        Some(limits) => kt.open(alloc, image, order_of(v1_big), limits),
+        None => TOO_LARGE,
+    }
+}
+
+/// Frees a keytab, and leaves its handle empty.
+#[unsafe(no_mangle)]
+pub extern "C" fn krbf_kt_close(alloc: Global, kt: &mut KrbfKeytab) -> u32
+    requires { IsSome (keytab_of kt.old) }
+    ensures done { result ≡ 0 }
+    ensures closed { kt.new.handle.held ≡ None }
+{
+    drop(kt.take(alloc));
+    DONE
+}

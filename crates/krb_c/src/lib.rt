@@ -1,0 +1,16 @@
+//! Keytabs and credential caches for programs in C: the calls of the static library, over those of krb_keytab,
+//! krb_indexed and krb_ccache. c/krbfile.h declares them.
+#![tactic(auto)]
+
+mod bytes;
+mod cache;
+mod cursors;
+mod handle;
+mod heap;
+mod held;
+mod keytab;
+mod limit;
+mod parts;
+mod phrase;
+mod status;
+mod text;

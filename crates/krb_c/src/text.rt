@@ -1,0 +1,56 @@
+//! Names as text: those that C gives, and those that go into a room of C's.
+
+ghost use Rattle.std.specs.Prelude.{◌≡◌, ◌<◌, Ok, None, IfOk, IfErr};
+ghost use Rattle.krb_wire.specs.Reading.{principal_parts};
+ghost use Rattle.krb_wire.specs.NameOf.{name_of};
+ghost use Rattle.krb_wire.specs.Names.{name_text};
+ghost use Rattle.krb_c.specs.Text.{Tells, in_room, IsUnread};
+
+use crate::heap::{Heap, heap};
+use crate::status::{DONE, NO_MEMORY, of_name};
+use krb_wire::{Name, NoMemory, Principal, parse_name, write_name};
+use std::alloc::Global;
+
+/// The name that a text has.
+#[tactic(auto, using(crate::proofs::NameLemmas::fault_told))]
+pub fn read_name(alloc: Global, text: &[u8]) -> Result<Principal<Heap>, u32>
+    ensures ok { IfOk result (λ name. name_of text.now None ≡ Ok (principal_parts name)) }
+    ensures err { IfErr result (IsUnread (name_of text.now None)) }
+    ensures failed { IfErr result (λ status. 0 < status) }
+{
+    match parse_name(heap(alloc), text, None) {
+        Ok(name) => Ok(name),
+        Err(fault) => Err(of_name(fault)),
+    }
+}
+
+// A name as text.
+fn text_of<N: Name>(alloc: Global, name: &N) -> Result<Vec<u8, Heap>, NoMemory>
+    ensures { IfOk result (λ text. text.items ≡ name_text (N.parts name.now)) }
+{
+    let mut text = Vec::new(heap(alloc));
+    write_name(name, &mut text)?;
+    Ok(text)
+}
+
+// Puts as much of a text into a room as it takes.
+fn put_text(room: &mut [u8], text: &[u8])
+    ensures { room.new ≡ in_room room.old text.now }
+{
+    let len = text.len().min(room.len());
+    room[..len].copy_from_slice(&text[..len]);
+}
+
+/// Puts as much of a name's text into a room as it takes, and tells the length of the whole.
+pub fn tell_name<N: Name>(alloc: Global, name: &N, room: &mut [u8], len: &mut usize) -> u32
+    ensures { Tells (name_text (N.parts name.now)) result room.old room.new len.old len.new }
+{
+    match text_of(alloc, name) {
+        Ok(text) => {
+            put_text(room, &text);
+            *len = text.len();
+            DONE
+        }
+        Err(NoMemory) => NO_MEMORY,
+    }
+}
