@@ -1,21 +1,25 @@
 # make try        lists a sample keytab by a program of which nothing is proved
 # make            proves the program and builds bin/krbfile
 # make static     builds bin/krbfile-static, which needs no C library where it runs
+# make lib        proves and builds the C library, lib/libkrbfile.a and lib/libkrbfile.so.1, which c/krbfile.h declares
 # make samples    makes the files that README works on, in samples/
 # make test       proves every crate from nothing, runs all tests, and then those of the program that this built
 # make long-test  runs the long tests of the program, on random and damaged files
-# make install    puts the program into PREFIX/bin, and its manual page and completions below PREFIX/share
+# make install    puts the program into PREFIX/bin, the library and its header into PREFIX/lib and PREFIX/include, and
+#                 their manual pages and completions below PREFIX/share
 
 PREFIX ?= /usr/local
 SHARE = $(DESTDIR)$(PREFIX)/share
 PROGRAM = bin/krbfile
 BUILT = crates/krbfile/out/krbfile
 STATIC = bin/krbfile-static
+LIBRARY = lib/libkrbfile.a
+SHARED = lib/libkrbfile.so.1
 KIT = $(dir $(shell rt doc))
 KTBENCH = crates/ktbench/out/ktbench
 SOURCES = crates.txt $(shell find crates/*/src crates/*/specs crates/*/proofs -type f)
 
-.PHONY: all try static samples test long-test install
+.PHONY: all try static lib samples test long-test install
 
 all: $(PROGRAM)
 
@@ -30,6 +34,23 @@ $(STATIC): $(SOURCES)
 	mkdir -p $(dir $@)
 	$(CC) -static -o $@ $(BUILT).o $(KIT)c/libos_c.a $(KIT)c/liblibc_c.a
 
+# The calls and the C library's heap as one object, which shows the calls alone.
+lib/krbfile.o: $(SOURCES)
+	cd crates/krb_c && rt lib > /dev/null
+	mkdir -p lib/parts
+	cd lib/parts && ar x ../../crates/krb_c/out/libkrb_c.a && ar x $(KIT)c/liblibc_c.a heap.pic.o
+	$(LD) -r -o $@ lib/parts/*.o
+	objcopy --wildcard --keep-global-symbol='krbf_*' $@
+	rm -r lib/parts
+
+$(LIBRARY): lib/krbfile.o
+	rm -f $@
+	$(AR) rcs $@ lib/krbfile.o
+
+$(SHARED): lib/krbfile.o c/krbfile.map
+	$(CC) -shared -Wl,-z,defs -Wl,-soname,libkrbfile.so.1 -Wl,--version-script,c/krbfile.map -o $@ lib/krbfile.o
+	ln -sf libkrbfile.so.1 lib/libkrbfile.so
+
 $(KTBENCH): $(SOURCES)
 	cd crates/ktbench && rt run -- script data/k /dev/null plain little > /dev/null
 	touch $@
@@ -39,6 +60,8 @@ try:
 
 static: $(STATIC)
 
+lib: $(LIBRARY) $(SHARED)
+
 samples:
 	python3 tests/samples.py samples
 
@@ -47,14 +70,22 @@ test:
 	cd crates/krbfile && rt run -- --help > /dev/null
 	$(MAKE) --no-print-directory $(KTBENCH)
 	-$(MAKE) --no-print-directory static
+	$(MAKE) --no-print-directory lib
 	tests/run $(BUILT)
 
 long-test: all $(KTBENCH)
 	tests/long $(PROGRAM)
 
-install: all
+install: all lib
 	install -D -m 755 $(PROGRAM) $(DESTDIR)$(PREFIX)/bin/krbfile
 	install -D -m 644 docs/krbfile.1 $(SHARE)/man/man1/krbfile.1
 	install -D -m 644 completions/krbfile.bash $(SHARE)/bash-completion/completions/krbfile
 	install -D -m 644 completions/_krbfile $(SHARE)/zsh/site-functions/_krbfile
 	install -D -m 644 completions/krbfile.fish $(SHARE)/fish/vendor_completions.d/krbfile.fish
+	install -D -m 644 docs/krbfile.3 $(SHARE)/man/man3/krbfile.3
+	install -D -m 644 c/krbfile.h $(DESTDIR)$(PREFIX)/include/krbfile.h
+	install -D -m 644 $(LIBRARY) $(DESTDIR)$(PREFIX)/lib/libkrbfile.a
+	install -D -m 755 $(SHARED) $(DESTDIR)$(PREFIX)/lib/libkrbfile.so.1
+	ln -sf libkrbfile.so.1 $(DESTDIR)$(PREFIX)/lib/libkrbfile.so
+	mkdir -p $(DESTDIR)$(PREFIX)/lib/pkgconfig
+	sed 's|@PREFIX@|$(PREFIX)|' c/krbfile.pc.in > $(DESTDIR)$(PREFIX)/lib/pkgconfig/krbfile.pc

@@ -14,6 +14,11 @@ import os
 
 from harness import Case, Outcome, Report, check_case
 
+# Where the folder is looked for: it is no part of the repository.
+FOLDER = os.path.join(os.path.dirname(os.path.dirname(os.path.dirname(os.path.abspath(__file__)))),
+                      "shared", "corpus")
+
+
 def given(value: dict) -> bytes:
     """The bytes of an output or a file."""
     return value["text"].encode() if "text" in value else bytes.fromhex(value["hex"])
@@ -23,6 +28,13 @@ def read(path: str) -> bytes:
     """The bytes of a file."""
     with open(path, "rb") as file:
         return file.read()
+
+
+def images(kind: str) -> list[bytes]:
+    """The files of a kind, `keytab` or `ccache`, where the folder is there."""
+    folder = os.path.join(FOLDER, kind)
+    names = sorted(os.listdir(folder)) if os.path.isdir(folder) else []
+    return [read(os.path.join(folder, name)) for name in names if not name.endswith(".txt")]
 
 
 def case_of(folder: str, fields: dict) -> Case:

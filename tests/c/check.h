@@ -1,0 +1,38 @@
+/* What the C tests share: a check that ends the program, and a file as bytes. */
+#ifndef CHECK_H
+#define CHECK_H
+
+#include "krbfile.h"
+
+#include <stdio.h>
+#include <stdlib.h>
+#include <string.h>
+
+#define CHECK(it)                                                         \
+    do {                                                                  \
+        if (!(it)) {                                                      \
+            fprintf(stderr, "%s line %d: %s\n", __FILE__, __LINE__, #it); \
+            exit(99);                                                     \
+        }                                                                 \
+    } while (0)
+
+/* A text, and its length. */
+#define TEXT(text) (text), strlen(text)
+
+static uint8_t image[1 << 24];
+
+/* Reads a file into image, and answers its length. */
+static inline size_t read_image(const char *name) {
+    FILE *file = fopen(name, "rb");
+    CHECK(file);
+    size_t len = fread(image, 1, sizeof image, file);
+    CHECK(!ferror(file));
+    fclose(file);
+    return len;
+}
+
+static inline int is_text(krbf_bytes bytes, const char *text) {
+    return bytes.len == strlen(text) && !memcmp(bytes.at, text, bytes.len);
+}
+
+#endif

@@ -1,0 +1,60 @@
+/* keys KEYTAB CACHE: takes keys through each call that moves them; freed.c, preloaded, looks at
+ * what is given back. */
+#include "check.h"
+
+#include <fcntl.h>
+#include <unistd.h>
+
+static uint8_t key[16];
+
+/* Reads a file without a buffer of the C library's. */
+static size_t read_bare(const char *file) {
+    int from = open(file, O_RDONLY);
+    ssize_t len = read(from, image, sizeof image);
+    CHECK(from >= 0 && len >= 0);
+    close(from);
+    return (size_t)len;
+}
+
+static void keytab(const char *file) {
+    krbf_keytab kt = KRBF_NONE;
+    krbf_entry entry;
+    uint32_t place, cursor = KRBF_FIRST;
+    CHECK(krbf_kt_open(image, read_bare(file), 0, 0, &kt) == KRBF_DONE);
+    for (uint32_t kvno = 1; kvno <= 100; kvno++)
+        CHECK(krbf_kt_add(&kt, TEXT("host/a@R"), 0, kvno, 17, key, sizeof key, &place) ==
+              KRBF_DONE);
+    CHECK(krbf_kt_add(&kt, TEXT("a@b@R"), 0, 1, 17, key, sizeof key, &place) == KRBF_SECOND_AT);
+    CHECK(krbf_kt_find(&kt, TEXT("host/a@R"), 50, 17, &entry) == KRBF_DONE);
+    CHECK(krbf_kt_next(&kt, &cursor, &entry) == KRBF_DONE);
+    CHECK(krbf_kt_remove_at(&kt, entry.place) == KRBF_DONE);
+    CHECK(krbf_kt_rewrite(&kt, &cursor, 1) == KRBF_DONE);
+    krbf_kt_close(&kt);
+    CHECK(krbf_kt_open(image, 1, 0, 0, &kt) == KRBF_TOO_SHORT);
+}
+
+static void cache(const char *file) {
+    static const krbf_numbers numbers = {17, 1, 0, 2, 0, 0, 0};
+    krbf_ccache cc = KRBF_NONE;
+    krbf_ticket ticket;
+    uint32_t place, cursor;
+    CHECK(krbf_cc_open(image, read_bare(file), 0, &cc) == KRBF_DONE);
+    for (int count = 0; count < 100; count++)
+        CHECK(krbf_cc_store(&cc, TEXT("u@R"), TEXT("host/a@R"), key, sizeof key, key, sizeof key,
+                            key, 0, &numbers, &place) == KRBF_DONE);
+    CHECK(krbf_cc_set_config(&cc, TEXT("k"), TEXT(""), key, sizeof key, &place) == KRBF_DONE);
+    krbf_cc_first(&cc, &cursor);
+    CHECK(krbf_cc_next(&cc, &cursor, &ticket) == KRBF_DONE);
+    CHECK(krbf_cc_remove_at(&cc, ticket.place) == KRBF_DONE);
+    CHECK(krbf_cc_rewrite(&cc, &cursor, 1) == KRBF_DONE);
+    krbf_cc_close(&cc);
+}
+
+int main(int argc, char **argv) {
+    CHECK(argc == 3);
+    for (uint8_t at = 0; at < sizeof key; at++)
+        key[at] = at;
+    keytab(argv[1]);
+    cache(argv[2]);
+    return 0;
+}
