@@ -12,6 +12,7 @@ from samples import folder_of_samples
 
 TOP = os.path.dirname(os.path.dirname(os.path.abspath(__file__)))
 SHOWN = os.path.join(TOP, "README.md")
+LIBRARY = os.path.join(TOP, "lib", "libkrbfile.so.1")
 PROVED = os.path.join(TOP, "crates", "krb_indexed", "src", "tests", "readme.rt")
 
 
@@ -53,16 +54,36 @@ def sessions() -> list[tuple[str, bytes]]:
     return found
 
 
+def lacks(command: str) -> str:
+    """What a session needs that is not there."""
+    if "| jq " in command and shutil.which("jq") is None:
+        return "jq is not there"
+    if not command.startswith(("krbfile ", "printf ")) and not os.path.exists(LIBRARY):
+        return "there is no C library: make lib builds it"
+    return ""
+
+
+def surroundings(programs: str) -> dict[str, str]:
+    """The environment of the sessions: the program and the library are as installed."""
+    path = programs + os.pathsep + os.environ["PATH"]
+    libraries = os.path.dirname(LIBRARY)
+    return {**os.environ, "PATH": path, "CPATH": os.path.join(TOP, "c"), "LIBRARY_PATH": libraries,
+            "LD_LIBRARY_PATH": libraries, "PYTHONPATH": os.path.join(TOP, "python"),
+            "PYTHONDONTWRITEBYTECODE": "1"}
+
+
 def check_sessions(report: Report, program: str) -> None:
     """Runs them one after the other over the samples. A fault and a key that stands twice end with status 1."""
     commands = sessions()
     report.check("README has sessions", [] if commands else ["none"])
     with folder_of({}) as programs, folder_of_samples() as folder:
         os.symlink(program, os.path.join(programs, "krbfile"))
-        env = {**os.environ, "PATH": programs + os.pathsep + os.environ["PATH"]}
+        env = surroundings(programs)
+        with open(os.path.join(folder, "list.c"), "w", encoding="utf-8") as file:
+            file.writelines(re.findall(r"```c\n(.*?)```", shown(), re.DOTALL))
         for command, wanted in commands:
-            if "| jq " in command and shutil.which("jq") is None:
-                report.skip(f"session of README: {command.splitlines()[0]}", "jq is not there")
+            if lacks(command):
+                report.skip(f"session of README: {command.splitlines()[0]}", lacks(command))
                 continue
             done = subprocess.run(["sh", "-c", command], cwd=folder, env=env, check=False,
                                   capture_output=True)
