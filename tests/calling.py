@@ -22,7 +22,7 @@ def signature(name: str, contract: str) -> str:
     """A function on one line, under its name with the type's before it, without its clauses."""
     head = re.split(r"\n\s*(?:requires|ensures|where|//|\{)|\s*\{|;", contract)[0]
     head = re.sub(r"\s+", " ", head).replace("( ", "(").replace(", )", ")").strip()
-    return re.sub(r"^(?:pub )?fn \w+", f"fn {name}", head)
+    return re.sub(r"^(?:pub )?(?:const )?fn \w+", f"fn {name}", head)
 
 
 def faults_of_calls(crate: str) -> list[str]:

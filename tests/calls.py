@@ -11,7 +11,7 @@ from harness import Report
 TOP = os.path.dirname(os.path.dirname(os.path.abspath(__file__)))
 TABLE = os.path.join(TOP, "docs", "CALLS.md")
 LIBRARY = ("krb_wire", "krb_walk", "krb_cells", "krb_keytab", "krb_indexed", "krb_ccache",
-           "krb_files", "krb_text", "krb_json", "krb_audit", "krb_commands", "krb_disk")
+           "krb_files", "krb_text", "krb_json", "krb_audit", "krb_commands", "krb_disk", "wiping")
 
 # The head of an item that may hold functions, a function, and the end of such an item.
 ITEM = re.compile(r"(?:pub )?(?:unsafe )?(impl|trait)\b(.*)")

@@ -19,7 +19,7 @@ def read(path: str) -> str:
 
 def crates() -> list[list[str]]:
     """The crates of each paragraph of crates.txt."""
-    return [re.findall(r"^(\w+):", part, re.MULTILINE) for part in read("crates.txt").split("\n\n")]
+    return [re.findall(r"^(\w+)(?: staticlib)?:", part, re.MULTILINE) for part in read("crates.txt").split("\n\n")]
 
 
 def check_map(report: Report) -> None:
