@@ -129,7 +129,7 @@ int main(int argc, char **argv) {
         place = store(&cc);
         set_values(&cc);
         krbf_cc_image(&cc, &bytes);
-        CHECK(fwrite(bytes.at, 1, bytes.len, stderr) == bytes.len);
+        write_image(bytes);
         remove_again(&cc, place, count);
     }
     krbf_cc_close(&cc);

@@ -35,4 +35,15 @@ static inline int is_text(krbf_bytes bytes, const char *text) {
     return bytes.len == strlen(text) && !memcmp(bytes.at, text, bytes.len);
 }
 
+/* Writes an image to the error output. */
+static inline void write_image(krbf_bytes bytes) {
+    CHECK(fwrite(bytes.at, 1, bytes.len, stderr) == bytes.len);
+}
+
+/* Reads all bytes, so that a sanitizer sees where they lie. */
+static inline void touch(krbf_bytes bytes) {
+    for (size_t at = 0; at < bytes.len; at++)
+        (void)*(const volatile uint8_t *)(bytes.at + at);
+}
+
 #endif

@@ -106,7 +106,7 @@ int main(int argc, char **argv) {
             look_up(&kt, &first);
         place = add(&kt);
         krbf_kt_image(&kt, &bytes);
-        CHECK(fwrite(bytes.at, 1, bytes.len, stderr) == bytes.len);
+        write_image(bytes);
         remove_again(&kt, place, count);
     }
     krbf_kt_close(&kt);

@@ -23,6 +23,20 @@ static uint32_t a_place(uint32_t known) {
     return below(4) ? known : below(2) ? below(4096) : below(0xffffffff);
 }
 
+/* An entry that is shown: its parts are there, and it is known. */
+static void see_entry(const krbf_entry *entry, uint32_t *known) {
+    touch(entry->realm);
+    touch(entry->key);
+    *known = entry->place;
+}
+
+static void see_ticket(const krbf_ticket *ticket, uint32_t *known) {
+    touch(ticket->key);
+    touch(ticket->ticket);
+    touch(ticket->second_ticket);
+    *known = ticket->place;
+}
+
 /* A file with some bytes changed, and perhaps cut off. */
 static size_t damaged(const char *file) {
     size_t len = read_image(file);
@@ -40,13 +54,13 @@ static void call_kt(krbf_keytab *kt, uint32_t *cursor, uint32_t *known) {
     switch (below(9)) {
     case 0:
         if (krbf_kt_next(kt, cursor, &entry) == KRBF_DONE)
-            *known = entry.place;
+            see_entry(&entry, known);
         else
             *cursor = a_place(KRBF_FIRST);
         break;
     case 1:
         if (krbf_kt_find(kt, TEXT(name), below(8), (uint16_t)below(20), &entry) == KRBF_DONE)
-            *known = entry.place;
+            see_entry(&entry, known);
         break;
     case 2:
         if (krbf_kt_add(kt, TEXT(name), below(9), below(300), (uint16_t)below(20), image, below(40),
@@ -64,11 +78,12 @@ static void call_kt(krbf_keytab *kt, uint32_t *cursor, uint32_t *known) {
         krbf_kt_name(kt, place, room, below(sizeof room), &len);
         break;
     case 6:
-        if (krbf_kt_component(kt, place, below(4), &bytes) == KRBF_DONE && bytes.len)
-            CHECK(bytes.at[bytes.len - 1] < 256);
+        if (krbf_kt_component(kt, place, below(4), &bytes) == KRBF_DONE)
+            touch(bytes);
         break;
     case 7:
-        krbf_kt_entry(kt, place, &entry);
+        if (krbf_kt_entry(kt, place, &entry) == KRBF_DONE)
+            see_entry(&entry, known);
         break;
     default:
         krbf_kt_fault(kt, &place);
@@ -83,16 +98,16 @@ static void call_cc(krbf_ccache *cc, uint32_t *cursor, uint32_t *known) {
     const char *name = a_name(), *client = a_name();
     size_t len;
     uint32_t place = a_place(*known);
-    switch (below(11)) {
+    switch (below(12)) {
     case 0:
         if (krbf_cc_next(cc, cursor, &ticket) == KRBF_DONE)
-            *known = ticket.place;
+            see_ticket(&ticket, known);
         else
             krbf_cc_first(cc, cursor);
         break;
     case 1:
         if (krbf_cc_find(cc, TEXT(name), &ticket) == KRBF_DONE)
-            *known = ticket.place;
+            see_ticket(&ticket, known);
         break;
     case 2:
         if (krbf_cc_store(cc, TEXT(client), TEXT(name), image, below(40), image, below(40), image,
@@ -113,14 +128,18 @@ static void call_cc(krbf_ccache *cc, uint32_t *cursor, uint32_t *known) {
         krbf_cc_client(cc, place, room, below(sizeof room), &len);
         break;
     case 7:
-        if (krbf_cc_config(cc, TEXT("pa_type"), TEXT(name), &bytes) == KRBF_DONE && bytes.len)
-            CHECK(bytes.at[bytes.len - 1] < 256);
+        if (krbf_cc_config(cc, TEXT("pa_type"), TEXT(name), &bytes) == KRBF_DONE)
+            touch(bytes);
         break;
     case 8:
         krbf_cc_set_config(cc, TEXT("pa_type"), TEXT(name), image, below(40), &place);
         break;
     case 9:
         *cursor = a_place(*cursor);
+        break;
+    case 10:
+        if (krbf_cc_ticket(cc, place, &ticket) == KRBF_DONE)
+            see_ticket(&ticket, known);
         break;
     default:
         krbf_cc_fault(cc, &place);

@@ -8,9 +8,8 @@ use Rattle.krb_walk.specs.declared.refusal.Code.{Code}
 use Rattle.krb_keytab.specs.Entry.{EntryParts}
 use Rattle.krb_keytab.specs.Store.{KeytabState}
 use Rattle.krb_keytab.specs.Find.{find_result}
-use Rattle.krb_keytab.specs.Changes.{put_result}
 use Rattle.krb_c.specs.declared.keytab.entry.KrbfEntry.{KrbfEntry}
-use Rattle.krb_c.specs.Status.{name_status, Adds}
+use Rattle.krb_c.specs.Status.{name_status}
 use Rattle.krb_c.specs.Text.{IsUnread}
 use Rattle.krb_c.specs.KeytabLooks.{FindsOne, Finds}
 use Rattle.krb_c.specs.KeytabChanges.{AddsNamed}
@@ -31,10 +30,6 @@ pub finds_unread : (k : KeytabState) (named : Result Parts NameFault) (kvno enct
 finds_unread k (Ok name) kvno enctype status seen e = found_unread (find_result k name kvno enctype) status seen e
 finds_unread k (Err fault) kvno enctype status seen e = (e, refl)
 
-put_unread : (put : Result (ℕ × KeytabState) Code) (old : KeytabState) (status place : ℕ) → status ≡ 1 → Adds put old status place old
-put_unread (Ok given) old status place e = inr (e, refl)
-put_unread (Err why) old status place e = (inl e, refl)
-
-pub adds_unread : (old : KeytabState) (named : Result Parts NameFault) (entry : Parts → EntryParts) (status place : ℕ) → IsUnread named status → AddsNamed old named entry status place old
-adds_unread old (Ok name) entry status place e = put_unread (put_result old (entry name)) old status place e
-adds_unread old (Err fault) entry status place e = (e, refl)
+pub adds_unread : (old : KeytabState) (named : Result Parts NameFault) (entry : Parts → EntryParts) (status place : ℕ) → IsUnread named status → AddsNamed old named entry status place place old
+adds_unread old (Ok name) entry status place e = inr (e, refl, refl)
+adds_unread old (Err fault) entry status place e = (e, refl, refl)

@@ -1,20 +1,14 @@
 -- What the calls that look at a cache answer.
-use Rattle.std.specs.Prelude.{◌≡◌, ◌⊎◌, ℕ, List, [], ◌∷◌, length, Bool, not, ◌&&◌, Option, Some, None, find, Result, Ok, Err}
+use Rattle.std.specs.Prelude.{◌≡◌, ◌⊎◌, ℕ, List, [], ◌∷◌, Bool, not, ◌&&◌, Option, Some, None, find, Result, Ok, Err}
 use Rattle.krb_wire.specs.Spelling.{Parts}
 use Rattle.krb_wire.specs.SameName.{have_same_name}
 use Rattle.krb_wire.specs.declared.name_fault.NameFault.{NameFault}
 use Rattle.krb_ccache.specs.Credential.{CredParts}
 use Rattle.krb_ccache.specs.Store.{CacheState, PlacedCredential, placed_credentials}
 use Rattle.krb_ccache.specs.Config.{is_config}
-use Rattle.krb_c.specs.declared.bytes.KrbfBytes.{KrbfBytes}
 use Rattle.krb_c.specs.declared.cache.ticket.KrbfTicket.{KrbfTicket}
 use Rattle.krb_c.specs.Status.{name_status}
 use Rattle.krb_c.specs.CacheTicket.{Shows}
-
--- a look at a place shows the live credential there; 35 where none stands
-abbrev pub LooksAt : Option CredParts → ℕ → ℕ → KrbfTicket → KrbfTicket → Type 0
-LooksAt (Some c) place status seen new_seen = (status ≡ 0) × Shows new_seen place c
-LooksAt None place status seen new_seen = (status ≡ 35) × (new_seen ≡ seen)
 
 -- a credential is a ticket for a server: no configuration entry, and its server has that realm and those components
 abbrev pub is_ticket_for : Parts → CredParts → Bool
@@ -38,8 +32,3 @@ Finds k (Err fault) status seen new_seen = (status ≡ name_status fault) × (ne
 abbrev pub text_or_none : List ℕ → Option (List ℕ)
 text_or_none [] = None
 text_or_none (b ∷ bs) = Some (b ∷ bs)
-
--- a call answers 0 and tells where a value lies, or it answers 39
-abbrev pub TellsValue : Option (List ℕ) → ℕ → KrbfBytes → KrbfBytes → Type 0
-TellsValue (Some value) status old new = (status ≡ 0) × (new.len ≡ length value)
-TellsValue None status old new = (status ≡ 39) × (new ≡ old)

@@ -8,7 +8,7 @@ use Rattle.krb_ccache.specs.Credential.{CredParts, plain_key}
 use Rattle.krb_ccache.specs.Store.{CacheState}
 use Rattle.krb_ccache.specs.Changes.{put_result}
 use Rattle.krb_c.specs.declared.cache.numbers.KrbfNumbers.{KrbfNumbers}
-use Rattle.krb_c.specs.Status.{code_status, name_status}
+use Rattle.krb_c.specs.Status.{AddsOr, Refuses, name_status}
 
 -- ---- what a credential is made of
 
@@ -60,20 +60,7 @@ asked_credential a = with_names a (name_of a.client None) (name_of a.server None
 
 -- ---- what an addition answers
 
--- it is refused, and leaves the place and the cache
-abbrev pub Refuses : ℕ → CacheState → ℕ → ℕ → ℕ → CacheState → Type 0
-Refuses why old status place new_place new = (status ≡ why) × (new_place ≡ place) × (new ≡ old)
-
--- an addition answers 0 and tells the place, or it is refused
-abbrev pub AddsOr : Result (ℕ × CacheState) Code → CacheState → ℕ → ℕ → ℕ → CacheState → Type 0
-AddsOr (Ok given) old status place new_place new = (status ≡ 0) × (given ≡ (new_place, new))
-AddsOr (Err why) old status place new_place new = Refuses (code_status why) old status place new_place new
-
--- the same, or memory runs out
-abbrev pub Adds : Result (ℕ × CacheState) Code → CacheState → ℕ → ℕ → ℕ → CacheState → Type 0
-Adds given old status place new_place new = AddsOr given old status place new_place new ⊎ Refuses 1 old status place new_place new
-
--- the same, or memory runs out where nothing refuses the addition
+-- an addition answers as it has to, or memory runs out where nothing refuses it
 abbrev pub AddsIfMemory : Result (ℕ × CacheState) Code → CacheState → ℕ → ℕ → ℕ → CacheState → Type 0
 AddsIfMemory given old status place new_place new =
     AddsOr given old status place new_place new ⊎ (IsOk given × Refuses 1 old status place new_place new)

@@ -6,7 +6,7 @@ use Rattle.krb_keytab.specs.Entry.{EntryParts}
 use Rattle.krb_keytab.specs.Store.{KeytabState, entry_at_place}
 use Rattle.krb_keytab.specs.Changes.{put_result}
 use Rattle.krb_keytab.specs.Form.{read_back}
-use Rattle.krb_c.specs.Status.{Adds, name_status}
+use Rattle.krb_c.specs.Status.{Adds, Refuses, name_status}
 
 -- the entry of a name and the other fields
 abbrev pub entry_with : ℕ → ℕ → ℕ → List ℕ → Parts → EntryParts
@@ -17,6 +17,6 @@ abbrev pub ReadsBack : KeytabState → Result Parts NameFault → (Parts → Ent
 ReadsBack old named entry place new = IfOk named (λ name. entry_at_place new place ≡ Some (read_back old.format (entry name)))
 
 -- an addition of what a text names: a text that is no name is told first
-abbrev pub AddsNamed : KeytabState → Result Parts NameFault → (Parts → EntryParts) → ℕ → ℕ → KeytabState → Type 0
-AddsNamed old (Ok name) entry status place new = Adds (put_result old (entry name)) old status place new
-AddsNamed old (Err fault) entry status place new = (status ≡ name_status fault) × (new ≡ old)
+abbrev pub AddsNamed : KeytabState → Result Parts NameFault → (Parts → EntryParts) → ℕ → ℕ → ℕ → KeytabState → Type 0
+AddsNamed old (Ok name) entry status place new_place new = Adds (put_result old (entry name)) old status place new_place new
+AddsNamed old (Err fault) entry status place new_place new = Refuses (name_status fault) old status place new_place new

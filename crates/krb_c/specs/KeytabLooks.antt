@@ -1,7 +1,6 @@
 -- What the calls that look at a keytab answer.
-use Rattle.std.specs.Prelude.{◌≡◌, ◌⊎◌, ℕ, List, length, Result, Ok, Err, Option, Some, None, IsSomeAnd, slice_get}
+use Rattle.std.specs.Prelude.{◌≡◌, ◌⊎◌, ℕ, List, Result, Ok, Err, Option, Some, None, slice_get}
 use Rattle.krb_wire.specs.Spelling.{Parts}
-use Rattle.krb_wire.specs.Names.{name_text}
 use Rattle.krb_wire.specs.declared.name_fault.NameFault.{NameFault}
 use Rattle.krb_walk.specs.declared.refusal.Code.{Code}
 use Rattle.krb_walk.specs.declared.stop.Stop.{Stop}
@@ -11,8 +10,8 @@ use Rattle.krb_keytab.specs.Find.{find_result}
 use Rattle.krb_c.specs.declared.bytes.KrbfBytes.{KrbfBytes}
 use Rattle.krb_c.specs.declared.keytab.entry.KrbfEntry.{KrbfEntry}
 use Rattle.krb_c.specs.KeytabEntry.{Shows}
+use Rattle.krb_c.specs.Shown.{ShowsBytes}
 use Rattle.krb_c.specs.Status.{name_status, code_status}
-use Rattle.krb_c.specs.Text.{Tells}
 use Rattle.krb_c.specs.Walks as walks
 
 -- a step of a walk stopped there
@@ -22,11 +21,6 @@ StepsTo k = walks.StepsTo (entry_at_place k) Shows
 -- a step of a walk from a cursor
 abbrev pub Steps : KeytabState → ℕ → ℕ → ℕ → KrbfEntry → KrbfEntry → Type 0
 Steps k = walks.StepsOver (entry_at_place k) Shows (store_of k)
-
--- a look at a place shows the entry there; 35 where none stands
-abbrev pub LooksAt : Option EntryParts → ℕ → ℕ → KrbfEntry → KrbfEntry → Type 0
-LooksAt (Some entry) place status seen new_seen = (status ≡ 0) × Shows new_seen place entry
-LooksAt None place status seen new_seen = (status ≡ 35) × (new_seen ≡ seen)
 
 -- a look-up of a name shows what it finds, or tells why it finds nothing; memory may run out
 abbrev pub FindsOne : Result (ℕ × EntryParts) Code → ℕ → KrbfEntry → KrbfEntry → Type 0
@@ -38,17 +32,7 @@ abbrev pub Finds : KeytabState → Result Parts NameFault → ℕ → ℕ → �
 Finds k (Ok name) kvno enctype status seen new_seen = FindsOne (find_result k name kvno enctype) status seen new_seen
 Finds k (Err fault) kvno enctype status seen new_seen = (status ≡ name_status fault) × (new_seen ≡ seen)
 
--- the text of the name of an entry was put into a room; 35 where there is no entry
-abbrev pub TellsName : Option EntryParts → ℕ → List ℕ → List ℕ → ℕ → ℕ → Type 0
-TellsName (Some entry) status room new_room len new_len = Tells (name_text entry.principal) status room new_room len new_len
-TellsName None status room new_room len new_len = (status ≡ 35) × (new_room ≡ room) × (new_len ≡ len)
-
--- a component of a name was shown; 39 where it has none of that number
-abbrev pub ShowsComponent : Option (List ℕ) → ℕ → KrbfBytes → KrbfBytes → Type 0
-ShowsComponent (Some component) status bytes new_bytes = (status ≡ 0) × (new_bytes.len ≡ length component)
-ShowsComponent None status bytes new_bytes = (status ≡ 39) × (new_bytes ≡ bytes)
-
--- the same of the name of an entry; 35 where there is no entry
+-- a component of the name of an entry is shown; 35 where there is no entry
 abbrev pub ShowsPart : Option EntryParts → ℕ → ℕ → KrbfBytes → KrbfBytes → Type 0
-ShowsPart (Some entry) number status bytes new_bytes = ShowsComponent (slice_get entry.principal.components number) status bytes new_bytes
+ShowsPart (Some entry) number status bytes new_bytes = ShowsBytes (slice_get entry.principal.components number) status bytes new_bytes
 ShowsPart None number status bytes new_bytes = (status ≡ 35) × (new_bytes ≡ bytes)

@@ -9,9 +9,9 @@ pub mod Limit
 pub mod Text
 pub mod Cursors
 pub mod Walks
+pub mod Shown
 pub mod CacheTicket
 pub mod CacheWalk
-pub mod CacheNames
 pub mod CacheLooks
 pub mod CacheStore
 pub mod CacheOpens

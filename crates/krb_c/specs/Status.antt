@@ -47,10 +47,18 @@ abbrev pub Rewrites : {S : Type 0} → Result S Code → S → ℕ → S → Typ
 Rewrites (Ok given) old status new = ((status ≡ 0) × (new ≡ given)) ⊎ ((status ≡ 1) × (new ≡ old))
 Rewrites (Err why) old status new = (status ≡ code_status why) × (new ≡ old)
 
--- an addition answers a place with 0; it may run out of memory, and then leaves what there was
-abbrev pub Adds : {S : Type 0} → Result (ℕ × S) Code → S → ℕ → ℕ → S → Type 0
-Adds (Ok given) old status place new = ((status ≡ 0) × (given ≡ (place, new))) ⊎ ((status ≡ 1) × (new ≡ old))
-Adds (Err why) old status place new = ((status ≡ 1) ⊎ (status ≡ code_status why)) × (new ≡ old)
+-- an addition is refused, and leaves the place and what there was
+abbrev pub Refuses : {S : Type 0} → ℕ → S → ℕ → ℕ → ℕ → S → Type 0
+Refuses why old status place new_place new = (status ≡ why) × (new_place ≡ place) × (new ≡ old)
+
+-- an addition answers 0 and tells the place, or it is refused
+abbrev pub AddsOr : {S : Type 0} → Result (ℕ × S) Code → S → ℕ → ℕ → ℕ → S → Type 0
+AddsOr (Ok given) old status place new_place new = (status ≡ 0) × (given ≡ (new_place, new))
+AddsOr (Err why) old status place new_place new = Refuses (code_status why) old status place new_place new
+
+-- the same, or memory runs out
+abbrev pub Adds : {S : Type 0} → Result (ℕ × S) Code → S → ℕ → ℕ → ℕ → S → Type 0
+Adds given old status place new_place new = AddsOr given old status place new_place new ⊎ Refuses 1 old status place new_place new
 
 -- the number of what is wrong after the last sound cell: 0 where nothing is
 abbrev pub fault_status : Option Fault → ℕ

@@ -1,5 +1,5 @@
 -- Names as text: those that C gives, and those that go into a room of C's.
-use Rattle.std.specs.Prelude.{◌≡◌, ◌⊎◌, ℕ, List, ◌++◌, length, take, drop, Result, Ok, Err}
+use Rattle.std.specs.Prelude.{◌≡◌, ◌⊎◌, ℕ, List, ◌++◌, length, take, drop, Option, Some, None, Result, Ok, Err}
 use Rattle.krb_wire.specs.declared.name_fault.NameFault.{NameFault}
 use Rattle.krb_wire.specs.Spelling.{Parts}
 use Rattle.krb_c.specs.Status.{name_status}
@@ -18,3 +18,8 @@ abbrev pub Tells : List ℕ → ℕ → List ℕ → List ℕ → ℕ → ℕ �
 Tells text status room new_room len new_len =
     ((status ≡ 0) × (new_room ≡ in_room room text) × (new_len ≡ length text))
     ⊎ ((status ≡ 1) × (new_room ≡ room) × (new_len ≡ len))
+
+-- the text of a name of what stands at a place is told; 35 where nothing stands there
+abbrev pub TellsAt : Option (List ℕ) → ℕ → List ℕ → List ℕ → ℕ → ℕ → Type 0
+TellsAt (Some text) status room new_room len new_len = Tells text status room new_room len new_len
+TellsAt None status room new_room len new_len = (status ≡ 35) × (new_room ≡ room) × (new_len ≡ len)

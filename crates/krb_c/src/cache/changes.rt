@@ -7,9 +7,9 @@ ghost use Rattle.krb_ccache.specs.Changes.{put_result, cut_result};
 ghost use Rattle.krb_ccache.specs.SetConfig.{set_config_result};
 ghost use Rattle.krb_ccache.specs.Rewrite.{rewrite_result};
 ghost use Rattle.krb_c.specs.Cursors.{with_cursors};
-ghost use Rattle.krb_c.specs.Status.{Changes, Rewrites};
+ghost use Rattle.krb_c.specs.Status.{Adds, Changes, Rewrites};
 ghost use Rattle.krb_c.specs.CacheLooks.{text_or_none};
-ghost use Rattle.krb_c.specs.CacheStore.{Adds, AddsIfMemory, Stores};
+ghost use Rattle.krb_c.specs.CacheStore.{AddsIfMemory, Stores};
 
 use crate::cache::asked::Asked;
 use crate::cache::held::HeldCache;

@@ -7,9 +7,10 @@ ghost use Rattle.krb_walk.specs.Store.{end_of, fault_of};
 ghost use Rattle.krb_ccache.specs.Config.{config_of};
 ghost use Rattle.krb_ccache.specs.Store.{credential_at_place, image_of, store_of};
 ghost use Rattle.krb_c.specs.Behind.{cache_of};
-ghost use Rattle.krb_c.specs.Text.{Tells};
-ghost use Rattle.krb_c.specs.CacheNames.{TellsAt};
-ghost use Rattle.krb_c.specs.CacheLooks.{LooksAt, Finds, TellsValue, text_or_none};
+ghost use Rattle.krb_c.specs.Text.{Tells, TellsAt};
+ghost use Rattle.krb_c.specs.CacheLooks.{Finds, text_or_none};
+ghost use Rattle.krb_c.specs.CacheTicket.{Shows};
+ghost use Rattle.krb_c.specs.Shown.{LooksAt, ShowsBytes};
 ghost use Rattle.krb_c.specs.CacheWalk.{Steps};
 ghost use Rattle.krb_c.specs.Status.{fault_status};
 
@@ -82,7 +83,7 @@ pub extern "C" fn krbf_cc_ticket(
 ) -> u32
     requires { IsSome (cache_of cc.old) }
     ensures same { cache_of cc.new ≡ cache_of cc.old }
-    ensures looks { IsSomeAnd (cache_of cc.old) (λ k. LooksAt (credential_at_place k place) place result ticket.old ticket.new) }
+    ensures looks { IsSomeAnd (cache_of cc.old) (λ k. LooksAt Shows (credential_at_place k place) place result ticket.old ticket.new) }
 {
     let held = cc.take(alloc);
     let status = look_at(held.cache(), place, ticket);
@@ -176,7 +177,7 @@ pub extern "C" fn krbf_cc_config(
 ) -> u32
     requires { IsSome (cache_of cc.old) }
     ensures same { cache_of cc.new ≡ cache_of cc.old }
-    ensures value { IsSomeAnd (cache_of cc.old) (λ k. TellsValue (config_of k key.now (text_or_none principal.now)) result value.old value.new) }
+    ensures value { IsSomeAnd (cache_of cc.old) (λ k. ShowsBytes (config_of k key.now (text_or_none principal.now)) result value.old value.new) }
 {
     let held = cc.take(alloc);
     let status = config(held.cache().cache(), key, principal, value);

@@ -5,7 +5,9 @@ ghost use Rattle.krb_wire.specs.Reading.{principal_parts};
 ghost use Rattle.krb_wire.specs.NameOf.{name_of};
 ghost use Rattle.krb_ccache.specs.Store.{credential_at_place};
 ghost use Rattle.krb_ccache.specs.Config.{config_of};
-ghost use Rattle.krb_c.specs.CacheLooks.{LooksAt, FindsOne, Finds, ticket_for, is_ticket_for, text_or_none, TellsValue};
+ghost use Rattle.krb_c.specs.CacheLooks.{FindsOne, Finds, ticket_for, is_ticket_for, text_or_none};
+ghost use Rattle.krb_c.specs.CacheTicket.{Shows};
+ghost use Rattle.krb_c.specs.Shown.{LooksAt, ShowsBytes};
 
 use crate::bytes::{KrbfBytes, bytes_of};
 use crate::cache::held::HeldCache;
@@ -20,7 +22,7 @@ use std::alloc::Global;
 
 /// Shows the live credential at a place.
 pub fn look_at(held: &HeldCache, place: u32, ticket: &mut KrbfTicket) -> u32
-    ensures { LooksAt (credential_at_place held.now.state place) place result ticket.old ticket.new }
+    ensures { LooksAt Shows (credential_at_place held.now.state place) place result ticket.old ticket.new }
 {
     match held.cred_at(place) {
         Some(credential) => {
@@ -86,7 +88,7 @@ pub fn some_text(text: &[u8]) -> Option<&[u8]>
 
 /// Tells where a configuration value lies.
 pub fn config(cache: &Ccache<Heap>, key: &[u8], principal: &[u8], value: &mut KrbfBytes) -> u32
-    ensures { TellsValue (config_of cache.now.state key.now (text_or_none principal.now)) result value.old value.new }
+    ensures { ShowsBytes (config_of cache.now.state key.now (text_or_none principal.now)) result value.old value.new }
 {
     match cache.config(key, some_text(principal)) {
         Some(bytes) => {

@@ -3,7 +3,7 @@
 ghost use Rattle.std.specs.Prelude.{option_map};
 ghost use Rattle.krb_wire.specs.Names.{name_text};
 ghost use Rattle.krb_ccache.specs.Store.{credential_at_place};
-ghost use Rattle.krb_c.specs.CacheNames.{TellsAt};
+ghost use Rattle.krb_c.specs.Text.{TellsAt};
 
 use crate::cache::held::HeldCache;
 use crate::status::of_code;

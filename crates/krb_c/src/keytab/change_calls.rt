@@ -29,10 +29,9 @@ pub extern "C" fn krbf_kt_add(
 ) -> u32
     requires { IsSome (keytab_of kt.old) }
     ensures adds { Over (keytab_of kt.old) (keytab_of kt.new) (λ old new. AddsNamed old (name_of name.now None)
-        (entry_with timestamp kvno enctype key.now) result place.new new) }
+        (entry_with timestamp kvno enctype key.now) result place.old place.new new) }
     ensures reads { result ≡ 0 → Over (keytab_of kt.old) (keytab_of kt.new) (λ old new. ReadsBack old (name_of name.now None)
         (entry_with timestamp kvno enctype key.now) place.new new) }
-    ensures left { (result ≡ 0) ⊎ (place.new ≡ place.old) }
 {
     let mut held = kt.take(alloc);
     let numbers = Numbers {

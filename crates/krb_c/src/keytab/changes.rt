@@ -38,10 +38,9 @@ pub fn add(
     place: &mut u32,
 ) -> u32
     ensures adds { AddsNamed held.old.state (name_of text.now None)
-        (entry_with numbers.timestamp numbers.kvno numbers.enctype key.now) result place.new held.new.state }
+        (entry_with numbers.timestamp numbers.kvno numbers.enctype key.now) result place.old place.new held.new.state }
     ensures reads { result ≡ 0 → ReadsBack held.old.state (name_of text.now None)
         (entry_with numbers.timestamp numbers.kvno numbers.enctype key.now) place.new held.new.state }
-    ensures left { (result ≡ 0) ⊎ (place.new ≡ place.old) }
 {
     let principal = match read_name(alloc, text) {
         Ok(name) => name,

@@ -1,11 +1,15 @@
 //! The calls of the static library that look at a keytab.
 
-ghost use Rattle.std.specs.Prelude.{◌≡◌, None, IsSome, IsSomeAnd, length};
+ghost use Rattle.std.specs.Prelude.{◌≡◌, None, IsSome, IsSomeAnd, length, option_map};
 ghost use Rattle.krb_wire.specs.NameOf.{name_of};
+ghost use Rattle.krb_wire.specs.Names.{name_text};
 ghost use Rattle.krb_walk.specs.Store.{end_of, fault_of};
 ghost use Rattle.krb_keytab.specs.Store.{entry_at_place, image_of, store_of};
 ghost use Rattle.krb_c.specs.Behind.{keytab_of};
-ghost use Rattle.krb_c.specs.KeytabLooks.{Steps, LooksAt, Finds, TellsName, ShowsPart};
+ghost use Rattle.krb_c.specs.KeytabEntry.{Shows};
+ghost use Rattle.krb_c.specs.KeytabLooks.{Steps, Finds, ShowsPart};
+ghost use Rattle.krb_c.specs.Shown.{LooksAt};
+ghost use Rattle.krb_c.specs.Text.{TellsAt};
 ghost use Rattle.krb_c.specs.Status.{fault_status};
 
 use crate::bytes::{KrbfBytes, bytes_of};
@@ -43,7 +47,7 @@ pub extern "C" fn krbf_kt_entry(
 ) -> u32
     requires { IsSome (keytab_of kt.old) }
     ensures same { keytab_of kt.new ≡ keytab_of kt.old }
-    ensures looks { IsSomeAnd (keytab_of kt.old) (λ k. LooksAt (entry_at_place k place) place result entry.old entry.new) }
+    ensures looks { IsSomeAnd (keytab_of kt.old) (λ k. LooksAt Shows (entry_at_place k place) place result entry.old entry.new) }
 {
     let held = kt.take(alloc);
     let status = look_at(held.keytab(), place, entry);
@@ -97,7 +101,7 @@ pub extern "C" fn krbf_kt_name(
 ) -> u32
     requires { IsSome (keytab_of kt.old) }
     ensures same { keytab_of kt.new ≡ keytab_of kt.old }
-    ensures tells { IsSomeAnd (keytab_of kt.old) (λ k. TellsName (entry_at_place k place) result room.old room.new len.old len.new) }
+    ensures tells { IsSomeAnd (keytab_of kt.old) (λ k. TellsAt (option_map (λ e. name_text e.principal) (entry_at_place k place)) result room.old room.new len.old len.new) }
 {
     let held = kt.take(alloc);
     let status = tell_name_at(alloc, held.keytab(), place, room, len);

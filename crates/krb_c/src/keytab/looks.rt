@@ -1,9 +1,13 @@
 //! What is looked at in a keytab.
 
-ghost use Rattle.std.specs.Prelude.{◌≡◌, None};
+ghost use Rattle.std.specs.Prelude.{◌≡◌, None, option_map};
 ghost use Rattle.krb_wire.specs.NameOf.{name_of};
+ghost use Rattle.krb_wire.specs.Names.{name_text};
 ghost use Rattle.krb_keytab.specs.Store.{entry_at_place};
-ghost use Rattle.krb_c.specs.KeytabLooks.{LooksAt, Finds, TellsName, ShowsPart};
+ghost use Rattle.krb_c.specs.KeytabEntry.{Shows};
+ghost use Rattle.krb_c.specs.KeytabLooks.{Finds, ShowsPart};
+ghost use Rattle.krb_c.specs.Shown.{LooksAt};
+ghost use Rattle.krb_c.specs.Text.{TellsAt};
 
 use crate::bytes::{KrbfBytes, bytes_of};
 use crate::keytab::HeldKeytab;
@@ -16,7 +20,7 @@ use std::alloc::Global;
 
 /// Shows the entry at a place.
 pub fn look_at(held: &HeldKeytab, place: u32, entry: &mut KrbfEntry) -> u32
-    ensures { LooksAt (entry_at_place held.now.state place) place result entry.old entry.new }
+    ensures { LooksAt Shows (entry_at_place held.now.state place) place result entry.old entry.new }
 {
     match held.keytab().entry_at(place) {
         Some(seen) => {
@@ -60,7 +64,7 @@ pub fn tell_name_at(
     room: &mut [u8],
     len: &mut usize,
 ) -> u32
-    ensures { TellsName (entry_at_place held.now.state place) result room.old room.new len.old len.new }
+    ensures { TellsAt (option_map (λ e. name_text e.principal) (entry_at_place held.now.state place)) result room.old room.new len.old len.new }
 {
     match held.keytab().entry_at(place) {
         Some(entry) => tell_name(alloc, entry.principal(), room, len),

@@ -76,7 +76,7 @@ module _ (Z : Al) {M : Type 1} {𝓤 : Ura M} (𝓛 : Logic 𝓤) (at_mem : Memo
     abbrev vs : Ptr → List Val
     vs x = vptr r.ref_ptr.0 r.ref_ptr.1 ∷ ptr_val x ∷ vint w64 n ∷ vint w64 a ∷ []
 
-    -- what is owed for the answer
+    -- the postcondition, at an answer
     abbrev Post : Ptr → Val → SProp 𝓤
     Post x = (walk_of 𝓛 (ended Z) (stayed Z) held).post (bound x)
 

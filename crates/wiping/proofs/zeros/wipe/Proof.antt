@@ -51,12 +51,12 @@ module _ {M : Type 1} {𝓤 : Ura M} (𝓛 : Logic 𝓤) (at_mem : Memory → SP
   abbrev bound : Ptr → (walk_of 𝓛 F.ended stayed held).Ghost
   bound p = ((tt, tt, tt, (p, (n, tt)), (ptr_val p ∷ [], (vint w64 n ∷ [], tt))), τ)
 
-  -- the body, from a pointer to what is owed for the answer
+  -- the body, from a pointer to the postcondition
   abbrev Goes : Ptr → SProp 𝓤
   Goes p = WpFn 𝓤 H 𝓣.C 𝓣.Λ code.function (ptr_val p ∷ vint w64 n ∷ []) ((walk_of 𝓛 F.ended stayed held).post (bound p))
 
   module _ (b o : ℕ) (fn : n < 2 ^ 64) where
-    -- what is owed for the answer
+    -- the postcondition, at an answer
     abbrev Post : Val → SProp 𝓤
     Post = (walk_of 𝓛 F.ended stayed held).post (bound (block_ptr b o))
 
@@ -87,7 +87,7 @@ module _ {M : Type 1} {𝓤 : Ura M} (𝓛 : Logic 𝓤) (at_mem : Memory → SP
       abbrev Now : Cleared → List (Item 𝓤)
       Now t = ‵ (Half 𝓛 b o n t.0) ∷ ‵ Way ∷ holding 𝓛 En ((1, vptr b o) ∷ (2, vint w64 n) ∷ (3, vint w64 t.0) ∷ [])
 
-      -- what is owed for a turn
+      -- what holds after a turn
       abbrev Turned : Cleared → Out → SProp 𝓤
       Turned t = after_turn 𝓤 H (Below 𝓛 Nearer Now t) (after_block 𝓤 H (after_seq 𝓤 H (Wp 𝓤 H 𝓣.C 𝓣.Λ En (after 2 (code.function).body) (at_return 𝓤 H En Post)) (at_return 𝓤 H En Post)))
 

@@ -1,0 +1,13 @@
+-- What C is shown of keytabs and caches alike.
+use Rattle.std.specs.Prelude.{◌≡◌, ℕ, List, length, Option, Some, None}
+use Rattle.krb_c.specs.declared.bytes.KrbfBytes.{KrbfBytes}
+
+-- a look at a place shows what stands there; 35 where nothing does
+abbrev pub LooksAt : {Record Shown : Type 0} → (Shown → ℕ → Record → Type 0) → Option Record → ℕ → ℕ → Shown → Shown → Type 0
+LooksAt Shows (Some x) place status seen new_seen = (status ≡ 0) × Shows new_seen place x
+LooksAt Shows None place status seen new_seen = (status ≡ 35) × (new_seen ≡ seen)
+
+-- bytes are shown, by their length; 39 where there are none of that name or number
+abbrev pub ShowsBytes : Option (List ℕ) → ℕ → KrbfBytes → KrbfBytes → Type 0
+ShowsBytes (Some bytes) status seen new_seen = (status ≡ 0) × (new_seen.len ≡ length bytes)
+ShowsBytes None status seen new_seen = (status ≡ 39) × (new_seen ≡ seen)
