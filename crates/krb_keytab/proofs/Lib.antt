@@ -15,6 +15,7 @@ pub mod Removals
 pub mod StoreChanges
 pub mod HasNameLemmas
 pub mod LookUpLemmas
+pub mod PrefixLemmas
 pub mod WrittenLemmas
 pub mod AfterChanges
 pub mod NewRecords

@@ -17,4 +17,5 @@ pub mod Image
 pub mod CellViews
 pub mod LookUp
 pub mod HasName
+pub mod Prefix
 pub mod Append

@@ -3,30 +3,42 @@
 ghost use Rattle.std.specs.Prelude.{◌≡◌};
 ghost use Rattle.krb_keytab.specs.Find.{placed_entries, find_result};
 ghost use Rattle.krb_keytab.specs.LookUp.{IsFoundAmong};
+ghost use Rattle.krb_keytab.specs.Prefix.{IsPrefix};
 
 use crate::cells::KtCell;
 use crate::entry::EntryView;
 use crate::keytab::Keytab;
 use crate::look_up::{LookUp, Query};
+use crate::prefix::prefix_of;
+use crate::put::bytes_fit;
 use krb_walk::Code;
 use krb_wire::{KtFormat, Name};
 use std::alloc::Allocator;
 
-// What is found after all entries of a keytab of that format.
+// A name that is spelled in more bytes is looked for without a prefix.
+const ROOM: usize = 64;
+
+// What is found after all entries of a keytab of that format. A record without the prefix has another
+// name, and is passed over.
 #[inline(always)]
 fn consider_all_in<'a, N: Name, A: Allocator>(
     format: KtFormat,
     keytab: &'a Keytab<A>,
     query: &Query<'_, N>,
+    prefix: &[u8],
 ) -> LookUp<'a>
-    requires { format ≡ keytab.now.state.format }
+    requires format { format ≡ keytab.now.state.format }
+    requires prefix { IsPrefix keytab.now.state.format (N.parts query.now.name.now) prefix.now }
     ensures { IsFoundAmong (N.parts query.now.name.now) query.now.kvno query.now.enctype
         (placed_entries keytab.entry.now.state) result.named result.best }
 {
     let mut look_up = LookUp::new();
     for (place, cell) in keytab.cells_in(format) {
         if let KtCell::Live(bytes) = cell {
-            look_up.consider(query, format, place as u32, bytes);
+            bytes_fit(bytes);
+            if bytes.starts_with(prefix) {
+                look_up.consider(query, format, place as u32, bytes);
+            }
         }
     }
     look_up
@@ -36,13 +48,15 @@ fn consider_all_in<'a, N: Name, A: Allocator>(
 fn consider_all<'a, N: Name, A: Allocator>(
     keytab: &'a Keytab<A>,
     query: &Query<'_, N>,
+    prefix: &[u8],
 ) -> LookUp<'a>
+    requires { IsPrefix keytab.now.state.format (N.parts query.now.name.now) prefix.now }
     ensures { IsFoundAmong (N.parts query.now.name.now) query.now.kvno query.now.enctype
         (placed_entries keytab.entry.now.state) result.named result.best }
 {
     match keytab.format() {
-        KtFormat::V2 => consider_all_in(KtFormat::V2, keytab, query),
-        KtFormat::V1(order) => consider_all_in(KtFormat::V1(order), keytab, query),
+        KtFormat::V2 => consider_all_in(KtFormat::V2, keytab, query, prefix),
+        KtFormat::V1(order) => consider_all_in(KtFormat::V1(order), keytab, query, prefix),
     }
 }
 
@@ -66,6 +80,8 @@ impl<A: Allocator> Keytab<A> {
             kvno,
             enctype,
         };
-        consider_all(self, &query).answer()
+        let mut room = [0; ROOM];
+        let prefix = prefix_of(self.format(), name, &mut room);
+        consider_all(self, &query, prefix).answer()
     }
 }

@@ -18,6 +18,7 @@ mod look_up;
 mod new_entry;
 mod open;
 mod placed;
+mod prefix;
 mod put;
 mod replace;
 
