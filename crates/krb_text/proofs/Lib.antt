@@ -12,6 +12,5 @@ pub mod Letters
 pub mod Numerals
 pub mod Digits
 pub mod NameFaults
-pub mod Days
 pub mod Numbering
 pub mod Made

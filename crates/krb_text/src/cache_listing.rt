@@ -11,7 +11,7 @@ pub(crate) mod credential;
 pub(crate) mod escape;
 
 use crate::append::append;
-use crate::cache_listing::credential::append_credential;
+use crate::cache_listing::credential::{LastTimes, append_credential};
 use crate::columns::CcColumns;
 use crate::gather::{room_to_gather, send_if_full};
 use crate::listing::send_last;
@@ -54,8 +54,9 @@ fn list_credentials<A: Allocator, B: Allocator, W: Write>(
         (gathered.old.items ++ lines_of_credentials columns (placed_credentials cache.now.state))) }
     ensures failed { out.new.failed ≡ is_write_fault result }
 {
+    let mut last = LastTimes::new();
     'credentials: for (_, credential) in cache.credentials() {
-        append_credential(columns, &credential, gathered)?;
+        append_credential(columns, &mut last, &credential, gathered)?;
         send_if_full(gathered, out)?;
     }
     Ok(())

@@ -7,7 +7,7 @@ use crate::append::{append, append_byte, append_labelled, append_right_in_4};
 use crate::columns::KtColumns;
 use crate::etype::etype_text;
 use crate::key::key_text;
-use crate::time::time_text;
+use crate::time::LastTime;
 use krb_keytab::Fields;
 use krb_walk::Fault;
 use krb_wire::{Name, NoMemory, write_name};
@@ -16,6 +16,7 @@ use std::alloc::Allocator;
 // The time and a space, if times are shown.
 fn append_time<A: Allocator>(
     is_shown: bool,
+    last: &mut LastTime,
     seconds: u32,
     out: &mut Vec<u8, A>,
 ) -> Result<(), NoMemory>
@@ -24,7 +25,7 @@ fn append_time<A: Allocator>(
     if !is_shown {
         return Ok(());
     }
-    time_text(seconds, out)?;
+    last.append(seconds, out)?;
     append_byte(b' ', out)
 }
 
@@ -64,13 +65,14 @@ fn append_key<A: Allocator>(
 /// Appends the line of an entry in a listing.
 pub fn append_entry<N: Name, A: Allocator>(
     columns: KtColumns,
+    last: &mut LastTime,
     entry: &Fields<'_, N>,
     out: &mut Vec<u8, A>,
 ) -> Result<(), NoMemory>
     ensures { AppendedPart (entry_line columns entry.now) out.old out.new result }
 {
     append_right_in_4(entry.kvno as u64, out)?;
-    append_time(columns.times, entry.timestamp, out)?;
+    append_time(columns.times, last, entry.timestamp, out)?;
     write_name(entry.principal, out)?;
     append_etype(columns.etypes, entry.enctype, out)?;
     append_key(columns.keys, entry.key, out)?;

@@ -10,6 +10,7 @@ use crate::append::append;
 use crate::columns::KtColumns;
 use crate::gather::{room_to_gather, send_if_full};
 use crate::line::{append_entry, append_fault};
+use crate::time::LastTime;
 use krb_files::{OutFault, Watched, put};
 use krb_keytab::Keytab;
 use krb_walk::Fault;
@@ -67,8 +68,9 @@ fn list_entries<A: Allocator, B: Allocator, W: Write>(
         (gathered.old.items ++ entry_lines columns keytab.now.state)) }
     ensures failed { out.new.failed ≡ is_write_fault result }
 {
+    let mut last = LastTime::new();
     'entries: for (_, entry) in keytab.entries() {
-        append_entry(columns, &entry.fields(), gathered)?;
+        append_entry(columns, &mut last, &entry.fields(), gathered)?;
         send_if_full(gathered, out)?;
     }
     Ok(())

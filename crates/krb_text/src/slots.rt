@@ -8,6 +8,7 @@ use crate::append::{append, append_right_in_4};
 use crate::columns::KtColumns;
 use crate::line::append_entry;
 use crate::listing::{titles, underlines};
+use crate::time::LastTime;
 use krb_keytab::NewEntry;
 use krb_wire::NoMemory;
 use std::alloc::Allocator;
@@ -23,6 +24,7 @@ fn append_heading<A: Allocator>(times: bool, out: &mut Vec<u8, A>) -> Result<(),
 
 fn append_slot<A: Allocator, B: Allocator>(
     columns: KtColumns,
+    last: &mut LastTime,
     slot: u64,
     entry: &NewEntry<B>,
     out: &mut Vec<u8, A>,
@@ -30,7 +32,7 @@ fn append_slot<A: Allocator, B: Allocator>(
     ensures { AppendedPart (slot_line columns (slot, entry.now)) out.old out.new result }
 {
     append_right_in_4(slot, out)?;
-    append_entry(columns, &entry.fields(), out)
+    append_entry(columns, last, &entry.fields(), out)
 }
 
 fn append_slots<A: Allocator, B: Allocator>(
@@ -40,10 +42,11 @@ fn append_slots<A: Allocator, B: Allocator>(
 ) -> Result<(), NoMemory>
     ensures { AppendedPart (slot_lines columns 1 entries.now) out.old out.new result }
 {
+    let mut last = LastTime::new();
     let mut slot = 0;
     'slots: for entry in entries {
         slot += 1;
-        append_slot(columns, slot, entry, out)?;
+        append_slot(columns, &mut last, slot, entry, out)?;
     }
     Ok(())
 }

@@ -2,24 +2,23 @@
 
 ghost use Rattle.std.specs.Prelude.{◌≡◌, ◌≤◌, ℕ, pos};
 ghost use Rattle.krb_wire.specs.Text.{Appended};
-ghost use Rattle.jiff.specs.Words.{epoch_day};
-ghost use Rattle.krb_text.specs.Calendar.{time_text_of, day_number};
-ghost use Rattle.krb_text.specs.Time.{digit, moment_text};
+ghost use Rattle.krb_text.specs.Calendar.{Day, day_number, day_text, time_text_of};
+ghost use Rattle.krb_text.specs.Time.{digit};
 
 use crate::append::append;
-use jiff::ToSpan;
-use jiff::civil::{self, Date};
+use jiff_core::civil::Date;
 use krb_wire::NoMemory;
 use std::alloc::Allocator;
 
 // The date that many days after 1970-01-01, up to the last day that 32-bit seconds reach.
+#[tactic(auto, using(crate::proofs::Numbering::same_day))]
 fn date_of(days: u32) -> Date
     requires { days ≤ 49_710 }
-    ensures { epoch_day result ≡ pos days }
+    ensures year { result.year ≡ pos (day_number days).year }
+    ensures month { result.month ≡ (day_number days).month }
+    ensures day { result.day ≡ (day_number days).day }
 {
-    civil::date(1970, 1, 1)
-        .checked_add((days as i64).days())
-        .unwrap()
+    Date::from_unix_epoch_day(days as i64).unwrap()
 }
 
 // The last decimal digit.
@@ -29,22 +28,53 @@ fn digit_of(n: u32) -> u8
     b'0' + (n % 10) as u8
 }
 
-// The text of a date and of a second of its day.
-fn moment(year: u32, month: u32, day: u32, second: u32) -> [u8; 20]
-    ensures { result ≡ moment_text year month day second }
+// The text of the first second of that day, of days that count from 1970-01-01.
+fn midnight(days: u32) -> [u8; 20]
+    requires { days ≤ 49_710 }
+    ensures { result ≡ day_text (day_number days) 0 }
+{
+    let date = date_of(days);
+    let (year, month, day) = (date.year.unsigned_abs(), date.month, date.day);
+    [
+        digit_of(year as u32 / 1000),
+        digit_of(year as u32 / 100),
+        digit_of(year as u32 / 10),
+        digit_of(year as u32),
+        b'-',
+        digit_of(month as u32 / 10),
+        digit_of(month as u32),
+        b'-',
+        digit_of(day as u32 / 10),
+        digit_of(day as u32),
+        b'T',
+        b'0',
+        b'0',
+        b':',
+        b'0',
+        b'0',
+        b':',
+        b'0',
+        b'0',
+        b'Z',
+    ]
+}
+
+// The text of another second of the same day.
+fn at_second(day: &[u8; 20], second: u32) -> [u8; 20]
+    ensures { (d : Day) (other : ℕ) → day.now ≡ day_text d other → result ≡ day_text d second }
 {
     [
-        digit_of(year / 1000),
-        digit_of(year / 100),
-        digit_of(year / 10),
-        digit_of(year),
-        b'-',
-        digit_of(month / 10),
-        digit_of(month),
-        b'-',
-        digit_of(day / 10),
-        digit_of(day),
-        b'T',
+        day[0],
+        day[1],
+        day[2],
+        day[3],
+        day[4],
+        day[5],
+        day[6],
+        day[7],
+        day[8],
+        day[9],
+        day[10],
         digit_of(second / 3600 / 10),
         digit_of(second / 3600),
         b':',
@@ -57,32 +87,63 @@ fn moment(year: u32, month: u32, day: u32, second: u32) -> [u8; 20]
     ]
 }
 
-// The year of a date that is not before 1970-01-01.
-fn year_of(date: Date) -> u32
-    requires { (days : ℕ) × (epoch_day date ≡ pos days) }
-    ensures { pos result ≡ date.year }
-{
-    date.year().unsigned_abs() as u32
+/// The last time that was spelled. The next time in a file is often the same, or of the same day.
+#[derive(Drop)]
+pub struct LastTime {
+    seconds: u32,
+    text: [u8; 20],
+    ghost spelled: { text ≡ time_text_of seconds },
 }
 
-// The year, the month and the day that many days after 1970-01-01.
-#[tactic(auto, using(crate::proofs::Numbering::same_day))]
-fn civil_day(days: u32) -> (u32, u32, u32)
-    requires { days ≤ 49_710 }
-    ensures year { result.0 ≡ (day_number days).year }
-    ensures month { result.1 ≡ (day_number days).month }
-    ensures day { result.2 ≡ (day_number days).day }
-{
-    let date = date_of(days);
-    let year = year_of(date);
-    let plain = date.to_plain();
-    (year, plain.month as u32, plain.day as u32)
+impl LastTime {
+    /// Before the first time.
+    pub fn new() -> LastTime {
+        LastTime {
+            seconds: 0,
+            text: *b"1970-01-01T00:00:00Z",
+        }
+    }
+
+    // The text of some second of that day.
+    fn text_of_day(&self, days: u32) -> [u8; 20]
+        requires { days ≤ 49_710 }
+        ensures { (second : ℕ) × (result ≡ day_text (day_number days) second) }
+    {
+        if days == self.seconds / 86_400 {
+            self.text
+        } else {
+            midnight(days)
+        }
+    }
+
+    fn turn_to(&mut self, seconds: u32)
+        ensures { self.new.seconds ≡ seconds }
+    {
+        let day = self.text_of_day(seconds / 86_400);
+        *self = LastTime {
+            seconds,
+            text: at_second(&day, seconds % 86_400),
+        };
+    }
+
+    /// Appends the same text as `time_text`.
+    pub fn append<A: Allocator>(
+        &mut self,
+        seconds: u32,
+        out: &mut Vec<u8, A>,
+    ) -> Result<(), NoMemory>
+        ensures { Appended (time_text_of seconds) out.old out.new result }
+    {
+        if seconds != self.seconds {
+            self.turn_to(seconds);
+        }
+        append(&self.text, out)
+    }
 }
 
 /// Appends the instant that many seconds after 1970-01-01T00:00:00Z, as `2023-11-14T22:13:20Z`.
 pub fn time_text<A: Allocator>(seconds: u32, out: &mut Vec<u8, A>) -> Result<(), NoMemory>
     ensures { Appended (time_text_of seconds) out.old out.new result }
 {
-    let (year, month, day) = civil_day(seconds / 86_400);
-    append(&moment(year, month, day, seconds % 86_400), out)
+    LastTime::new().append(seconds, out)
 }

@@ -10,10 +10,29 @@ use crate::cache_listing::escape::append_escaped;
 use crate::columns::CcColumns;
 use crate::etype::etype_text;
 use crate::flags::flag_letters;
-use crate::time::time_text;
+use crate::time::LastTime;
 use krb_ccache::{ConfigName, CredView, config_name};
 use krb_wire::{NoMemory, write_name};
 use std::alloc::Allocator;
+
+/// The last of each kind of time: among the tickets of a cache all end at the same time, as a rule.
+#[derive(Drop)]
+pub struct LastTimes {
+    start: LastTime,
+    end: LastTime,
+    renewal: LastTime,
+}
+
+impl LastTimes {
+    /// Before the first ticket.
+    pub fn new() -> LastTimes {
+        LastTimes {
+            start: LastTime::new(),
+            end: LastTime::new(),
+            renewal: LastTime::new(),
+        }
+    }
+}
 
 // When a ticket becomes valid: where that is not said, when the client was authenticated.
 fn valid_from(credential: &CredView<'_>) -> u32
@@ -25,47 +44,57 @@ fn valid_from(credential: &CredView<'_>) -> u32
     }
 }
 
-fn append_instant<A: Allocator>(seconds: u32, out: &mut Vec<u8, A>) -> Result<(), NoMemory>
+fn append_instant<A: Allocator>(
+    last: &mut LastTime,
+    seconds: u32,
+    out: &mut Vec<u8, A>,
+) -> Result<(), NoMemory>
     ensures { OnOk result (out.new.items ≡ out.old.items ++ instant seconds) }
 {
-    time_text(seconds, out)?;
+    last.append(seconds, out)?;
     append_byte(b' ', out)
 }
 
 // From when to when a ticket is valid.
 fn append_validity<A: Allocator>(
+    last: &mut LastTimes,
     credential: &CredView<'_>,
     out: &mut Vec<u8, A>,
 ) -> Result<(), NoMemory>
     ensures { OnOk result (out.new.items ≡ out.old.items ++ validity credential.now.times) }
 {
-    append_instant(valid_from(credential), out)?;
-    append_instant(credential.endtime(), out)
+    append_instant(&mut last.start, valid_from(credential), out)?;
+    append_instant(&mut last.end, credential.endtime(), out)
 }
 
 // From when to when a ticket is valid, and what it is for.
 #[tactic(auto, unfolding(crate::specs::Credential::ticket_line))]
 fn append_ticket<A: Allocator>(
+    last: &mut LastTimes,
     credential: &CredView<'_>,
     out: &mut Vec<u8, A>,
 ) -> Result<(), NoMemory>
     ensures { OnOk result (out.new.items ≡ out.old.items ++ ticket_line credential.now) }
 {
-    append_validity(credential, out)?;
+    append_validity(last, credential, out)?;
     write_name(credential.server(), out)?;
     append_byte(b'\n', out)
 }
 
 // Until when it can be renewed, if it can be.
 #[tactic(auto, unfolding(crate::specs::Credential::renew_line))]
-fn append_renewal<A: Allocator>(seconds: u32, out: &mut Vec<u8, A>) -> Result<(), NoMemory>
+fn append_renewal<A: Allocator>(
+    last: &mut LastTime,
+    seconds: u32,
+    out: &mut Vec<u8, A>,
+) -> Result<(), NoMemory>
     ensures { OnOk result (out.new.items ≡ out.old.items ++ renew_line seconds) }
 {
     if seconds == 0 {
         return Ok(());
     }
     append(b"    renew until ", out)?;
-    time_text(seconds, out)?;
+    last.append(seconds, out)?;
     append_byte(b'\n', out)
 }
 
@@ -105,13 +134,14 @@ fn append_etype<A: Allocator>(
 
 fn append_ticket_lines<A: Allocator>(
     columns: CcColumns,
+    last: &mut LastTimes,
     credential: &CredView<'_>,
     out: &mut Vec<u8, A>,
 ) -> Result<(), NoMemory>
     ensures { OnOk result (out.new.items ≡ out.old.items ++ ticket_lines columns credential.now) }
 {
-    append_ticket(credential, out)?;
-    append_renewal(credential.renew_till(), out)?;
+    append_ticket(last, credential, out)?;
+    append_renewal(&mut last.renewal, credential.renew_till(), out)?;
     append_flags(columns.flags, credential.flags(), out)?;
     append_etype(columns.etypes, credential.enctype(), out)
 }
@@ -151,6 +181,7 @@ fn append_config<A: Allocator>(
 /// Appends the lines of a credential: those of a ticket, or that of a configuration entry, if those are shown.
 pub fn append_credential<A: Allocator>(
     columns: CcColumns,
+    last: &mut LastTimes,
     credential: &CredView<'_>,
     out: &mut Vec<u8, A>,
 ) -> Result<(), NoMemory>
@@ -158,7 +189,7 @@ pub fn append_credential<A: Allocator>(
         (out.new.items ≡ out.old.items ++ credential_lines columns credential.now) }
 {
     match config_name(credential) {
-        None => append_ticket_lines(columns, credential, out),
+        None => append_ticket_lines(columns, last, credential, out),
         Some(name) if columns.configs => append_config(name, credential.ticket(), out),
         Some(_) => Ok(()),
     }

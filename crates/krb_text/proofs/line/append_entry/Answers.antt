@@ -13,6 +13,12 @@ behind_three : {A E F : Type 0} {x y z rest : List ℕ} {old a b c new : Vec ℕ
 behind_three first second third more =
     part_then _ _ _ _ _ _ (appended_part _ _ _ _ first) (part_then _ _ _ _ _ _ second (part_then _ _ _ _ _ _ (appended_part _ _ _ _ third) more))
 
+pub returns-in_err-append_right_in_4 : goal.returns-in_err-append_right_in_4
+returns-in_err-append_right_in_4 g c =
+    let p = err_from_is_err_and c.from_residual.result c.from_residual.ensures.1 in
+    let P : EntryParts → Type 0 = λ e. AppendedPart (entry_line c.args.columns e) c.args.out.now c.append_right_in_4.new.out (Err p.0) in
+    rw p.1 (subst P c.entry.view_is (part_fails _ _ _ _ _ _ (appended_part _ _ _ _ c.in_err-append_right_in_4.ensures)))
+
 pub returns-in_err-append_etype : goal.returns-in_err-append_etype
 returns-in_err-append_etype g c =
     let p = err_from_is_err_and c.from_residual-in_err-append_etype.result c.from_residual-in_err-append_etype.ensures.1 in
