@@ -30,6 +30,9 @@ use std::io::{self, ErrorKind};
 use std::os::unix::fs::{OpenOptionsExt, PermissionsExt};
 use std::rt;
 
+/// How many bytes a file that is loaded to be changed may gain before its image moves.
+const ROOM_TO_GROW: u64 = 131_072;
+
 /// The system, as it is asked to change files. Nothing else in this crate can ask it, and nothing but `rename`
 /// notes a save.
 #[derive(Drop)]
@@ -202,7 +205,7 @@ impl<R: rt::Files + Alloc> Calls<'_, R> {
         Ok(())
     }
 
-    /// Loads the old file.
+    /// Loads the old file, with room to grow.
     pub fn load<A: Allocator>(
         &self,
         alloc: A,
@@ -211,7 +214,7 @@ impl<R: rt::Files + Alloc> Calls<'_, R> {
     ) -> Result<(Found, Vec<u8, A>), ReadFault>
         ensures { IfOk result (λ read. vec_len read.1 ≤ limit) }
     {
-        read_file(&self.looks, alloc, path, limit)
+        read_file(&self.looks, alloc, path, limit, ROOM_TO_GROW)
     }
 
     /// Whether what was seen of the old file stands under its name now.

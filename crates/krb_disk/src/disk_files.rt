@@ -85,7 +85,7 @@ where
     {
         match &mut self.held {
             Some(Ok(hold)) if hold.is_of(name) => hold.load(&self.calls, alloc, limit),
-            _ => read_file(self.calls.looks(), alloc, name, limit),
+            _ => read_file(self.calls.looks(), alloc, name, limit, 0),
         }
     }
 

@@ -13,12 +13,13 @@ use std::rt;
 /// How many bytes are compared at once.
 const PIECE: usize = 16_384;
 
-/// The file of that name, and its bytes, if they are at most `limit`.
+/// The file of that name, and its bytes, if they are at most `limit`, with room for so many more.
 pub fn read_file<R: rt::Files, A: Allocator>(
     looks: &Looks<'_, R>,
     alloc: A,
     path: &str,
     limit: u32,
+    room: u64,
 ) -> Result<(Found, Vec<u8, A>), ReadFault>
     ensures { IfOk result (λ read. vec_len read.1 ≤ limit) }
 {
@@ -29,7 +30,7 @@ pub fn read_file<R: rt::Files, A: Allocator>(
     };
     let found = file.tell()?;
     let mut file = WatchedReader::new(Noted::new(file));
-    match load(alloc, &mut file, limit, found.size) {
+    match load(alloc, &mut file, limit, found.size.saturating_add(room)) {
         Ok(bytes) => Ok((found, bytes)),
         Err(LoadFault::TooLarge) => Err(ReadFault::TooLarge),
         Err(LoadFault::NoMemory) => Err(ReadFault::Disk(DiskFault::NoMemory)),

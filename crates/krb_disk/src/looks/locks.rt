@@ -68,7 +68,7 @@ pub fn is_locked<R: rt::Files + Alloc>(
     let (major, minor) = device_of(file);
     let device = format!(in looks.alloc(); "{major:02x}:{minor:02x}")?;
     let inode = format!(in looks.alloc(); "{}", file.inode)?;
-    let list = match read_file(looks, looks.alloc(), LOCKS, MOST_BYTES) {
+    let list = match read_file(looks, looks.alloc(), LOCKS, MOST_BYTES, 0) {
         Ok((_, list)) => list,
         Err(ReadFault::Disk(DiskFault::NoMemory)) => return Err(DiskFault::NoMemory),
         Err(_) => return Ok(false),
