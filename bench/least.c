@@ -1,0 +1,71 @@
+/*
+ * The least that a program can do to list a keytab of version 2: it reads the file whole, steps by the lengths, and
+ * copies names as they are. It checks nothing, so it is safe on good files alone, whose entries end with their 32-bit
+ * version. `klist -k FILE` has the same lines after its heading, where no byte of a name is quoted and no version
+ * has more than four digits.
+ */
+#include <fcntl.h>
+#include <stdint.h>
+#include <stdlib.h>
+#include <string.h>
+#include <sys/stat.h>
+#include <unistd.h>
+
+enum { READ = 131072, WRITE = 32768, LONGEST = 1048576 };
+
+static unsigned get16(const uint8_t *at) { return at[0] << 8 | at[1]; }
+
+static int32_t get32(const uint8_t *at) { return (int32_t)((uint32_t)get16(at) << 16 | get16(at + 2)); }
+
+static char *put(char *out, const uint8_t *bytes, unsigned count) {
+    memcpy(out, bytes, count);
+    return out + count;
+}
+
+/* The line of the entry that stands there. */
+static char *put_line(char *out, const uint8_t *at) {
+    unsigned count = get16(at), realm_len = get16(at + 2);
+    const uint8_t *realm = at + 4;
+    at = realm + realm_len;
+    char *line = memset(out, ' ', 5);
+    out += 5;
+    for (unsigned number = 0; number < count; number++) {
+        if (number > 0)
+            *out++ = '/';
+        out = put(out, at + 2, get16(at));
+        at += 2 + get16(at);
+    }
+    *out++ = '@';
+    out = put(out, realm, realm_len);
+    *out++ = '\n';
+    uint32_t version = (uint32_t)get32(at + 13 + get16(at + 11));
+    char *digit = line + 4;
+    do
+        *--digit = (char)('0' + version % 10);
+    while (version /= 10);
+    return out;
+}
+
+int main(int words, char **word) {
+    struct stat found;
+    int file = words == 2 ? open(word[1], O_RDONLY) : -1;
+    if (file < 0 || fstat(file, &found))
+        return 1;
+    uint8_t *image = malloc((size_t)found.st_size + READ);
+    char *lines = malloc(WRITE + LONGEST), *out = lines;
+    ssize_t len = 0, got;
+    while ((got = read(file, image + len, READ)) > 0)
+        len += got;
+    for (ssize_t at = 2; at + 4 <= len;) {
+        int32_t size = get32(image + at);
+        if (size > 0)
+            out = put_line(out, image + at + 4);
+        at += 4 + (size > 0 ? size : -size);
+        if (out - lines >= WRITE) {
+            if (write(1, lines, (size_t)(out - lines)) < 0)
+                return 3;
+            out = lines;
+        }
+    }
+    return write(1, lines, (size_t)(out - lines)) < 0 ? 3 : 0;
+}
