@@ -9,8 +9,8 @@ use crate::watched_reader::WatchedReader;
 use std::alloc::Allocator;
 use std::io::Read;
 
-/// How many bytes one read asks for at most.
-pub const MOST_READ: usize = 128 * 1024;
+// How many bytes one read asks for at most.
+const MOST_READ: usize = 128 * 1024;
 
 // How many it asks for at least, where there is room.
 const LEAST_READ: usize = 4096;
@@ -100,7 +100,8 @@ fn first_room(expected: u64, limit: u32) -> usize
 }
 
 /// Reads to the end, if no more than `limit` bytes are left; one byte more is read at most. Room for
-/// `expected` bytes, but never for more than may be read, is taken at once.
+/// `expected` bytes, but never for more than may be read, is taken at once, and the first read asks for as
+/// many, or for 4,096.
 pub fn load<A: Allocator, R: Read>(
     alloc: A,
     reader: &mut WatchedReader<R>,
@@ -121,7 +122,7 @@ pub fn load<A: Allocator, R: Read>(
     let Ok(mut bytes) = Vec::with_capacity(alloc, first_room(expected, limit)) else {
         return Err(LoadFault::NoMemory);
     };
-    let mut last = MOST_READ;
+    let mut last = expected.min(MOST_READ as u64) as usize;
     loop {
         let room = next_read(&bytes, last).min(most - bytes.len() + 1);
         last = append_read(&mut bytes, reader, room)?;

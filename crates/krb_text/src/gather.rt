@@ -12,11 +12,12 @@ use std::io::Write;
 // Once this many bytes are gathered they are written.
 const FULL: usize = 32_768;
 
-/// Nothing gathered yet, and room for 65,536 bytes: twice what is gathered before it is written.
+/// Nothing gathered yet, and room for the first lines. A long listing takes more, at most twice what is
+/// gathered before it is written, where no line is longer than that.
 pub fn room_to_gather<A: Allocator>(alloc: A) -> Result<Vec<u8, A>, NoMemory>
     ensures { IfOk result (λ gathered. gathered.items ≡ []) }
 {
-    Ok(Vec::with_capacity(alloc, 2 * FULL)?)
+    Ok(Vec::with_capacity(alloc, FULL / 8)?)
 }
 
 /// Writes what is gathered once it is 32,768 bytes or more, and else leaves it.
