@@ -24,7 +24,7 @@ use Rattle.krb_text.specs.declared.script.ScriptRefusal.TheVariants as refusal
 use Rattle.krb_text.specs.CacheScript.{CacheLineParts}
 use Rattle.krb_text.specs.Script.{ScriptFault, RefusesScript, script_by}
 use Rattle.krb_commands.specs.declared.edited.Edited.{Edited}
-use Rattle.krb_commands.specs.declared.told.Told.{Told}
+use Rattle.krb_commands.specs.declared.telling.told.Told.{Told}
 use Rattle.krb_commands.specs.declared.trouble.FileKind.{FileKind}
 use Rattle.krb_commands.specs.declared.trouble.FileKind.TheVariants as kind
 use Rattle.krb_commands.specs.declared.trouble.Trouble.{Trouble}

@@ -9,8 +9,8 @@ use Rattle.krb_commands.specs.declared.telling.piece.Piece.{Piece}
 use Rattle.krb_commands.specs.declared.trouble.FileKind.{FileKind}
 use Rattle.krb_commands.specs.declared.trouble.Trouble.TheVariants.{Replied}
 use Rattle.krb_files.specs.Bytes.{Watch}
-use Rattle.krb_commands.specs.declared.mistake.BadLine.{BadLine}
-use Rattle.krb_commands.specs.declared.mistake.WordFault.TheVariants as word
+use Rattle.krb_commands.specs.declared.command_line.mistake.BadLine.{BadLine}
+use Rattle.krb_commands.specs.declared.command_line.mistake.WordFault.TheVariants as word
 use Rattle.krb_commands.specs.ErrorOutput.{ErrorWatch}
 use Rattle.krb_commands.specs.Messages.{message}
 use Rattle.krb_commands.specs.Mistakes.{word_text}

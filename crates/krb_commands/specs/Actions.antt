@@ -5,7 +5,7 @@ use Rattle.krb_files.specs.Bytes.{Watch}
 use Rattle.krb_files.specs.Reader.{Source}
 use Rattle.krb_commands.specs.declared.action.Action.{Action}
 use Rattle.krb_commands.specs.declared.action.Action.TheVariants.{Ccedit, Ccremove, Klist, Ktcheck, Ktedit, Ktfind, Ktremove, Ktutil, Help}
-use Rattle.krb_commands.specs.declared.mistake.WordFault.{WordFault}
+use Rattle.krb_commands.specs.declared.command_line.mistake.WordFault.{WordFault}
 use Rattle.krb_commands.specs.Ccedit.{RunsCcedit}
 use Rattle.krb_commands.specs.Ccremove.{RunsCcremove}
 use Rattle.krb_commands.specs.Changing.{RunsChange}

@@ -1,10 +1,10 @@
 -- What is said of a command line that was not read.
 use Rattle.std.specs.Prelude.{◌≡◌, ℕ, List, [], ◌++◌, Bool, Option, None, Some, option_map, codes}
 use Rattle.krb_wire.specs.NameOf.{name_fault_phrase}
-use Rattle.krb_commands.specs.declared.mistake.Mistake.{Mistake}
-use Rattle.krb_commands.specs.declared.mistake.Mistake.TheVariants as mistake
-use Rattle.krb_commands.specs.declared.mistake.WordFault.{WordFault}
-use Rattle.krb_commands.specs.declared.mistake.WordFault.TheVariants as word
+use Rattle.krb_commands.specs.declared.command_line.mistake.Mistake.{Mistake}
+use Rattle.krb_commands.specs.declared.command_line.mistake.Mistake.TheVariants as mistake
+use Rattle.krb_commands.specs.declared.command_line.mistake.WordFault.{WordFault}
+use Rattle.krb_commands.specs.declared.command_line.mistake.WordFault.TheVariants as word
 use Rattle.krb_commands.specs.Messages.{message}
 use Rattle.krb_commands.specs.PieceTexts.{shown_word}
 use Rattle.krb_commands.specs.Words.{words_if}

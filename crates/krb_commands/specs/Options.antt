@@ -14,10 +14,10 @@ use Rattle.krb_commands.specs.declared.action.FindOptions.{FindOptions}
 use Rattle.krb_commands.specs.declared.action.KlistOptions.{KlistOptions}
 use Rattle.krb_commands.specs.declared.action.ListKind.{ListKind}
 use Rattle.krb_commands.specs.declared.action.ListKind.TheVariants.{Keytab, Cache}
-use Rattle.krb_commands.specs.declared.mistake.Mistake.{Mistake}
-use Rattle.krb_commands.specs.declared.mistake.Mistake.TheVariants.{NoVersion, NoEtype, BadName}
-use Rattle.krb_commands.specs.declared.options.KlistWords.{KlistWords}
-use Rattle.krb_commands.specs.declared.options.KtfindWords.{KtfindWords}
+use Rattle.krb_commands.specs.declared.command_line.mistake.Mistake.{Mistake}
+use Rattle.krb_commands.specs.declared.command_line.mistake.Mistake.TheVariants.{NoVersion, NoEtype, BadName}
+use Rattle.krb_commands.specs.declared.command_line.options.KlistWords.{KlistWords}
+use Rattle.krb_commands.specs.declared.command_line.options.KtfindWords.{KtfindWords}
 
 -- the order of a keytab of version 1
 abbrev pub order_of : Bool → Order

@@ -16,8 +16,8 @@ use Rattle.krb_audit.specs.declared.selection.AskedKvno.TheVariants.{Any, Exactl
 use Rattle.krb_commands.specs.declared.action.Action.{Action}
 use Rattle.krb_commands.specs.declared.action.Action.TheVariants.{Ktremove}
 use Rattle.krb_commands.specs.declared.action.RemoveOptions.{RemoveOptions}
-use Rattle.krb_commands.specs.declared.mistake.Mistake.TheVariants.{NoVersion, NoEtype, BadName}
-use Rattle.krb_commands.specs.declared.remove_words.KtremoveWords.{KtremoveWords}
+use Rattle.krb_commands.specs.declared.command_line.mistake.Mistake.TheVariants.{NoVersion, NoEtype, BadName}
+use Rattle.krb_commands.specs.declared.command_line.remove_words.KtremoveWords.{KtremoveWords}
 use Rattle.krb_commands.specs.Mistakes.{mistake_phrase}
 use Rattle.krb_commands.specs.Options.{order_of}
 

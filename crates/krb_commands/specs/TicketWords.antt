@@ -4,7 +4,7 @@ use Rattle.std.specs.Option.{option_or}
 use Rattle.krb_commands.specs.declared.action.Action.{Action}
 use Rattle.krb_commands.specs.declared.action.Action.TheVariants.{Ccremove}
 use Rattle.krb_commands.specs.declared.action.TicketOptions.{TicketOptions}
-use Rattle.krb_commands.specs.declared.ticket_words.CcremoveWords.{CcremoveWords}
+use Rattle.krb_commands.specs.declared.command_line.ticket_words.CcremoveWords.{CcremoveWords}
 use Rattle.krb_commands.specs.RemoveWords.{IsSpelledName, bad_name}
 
 -- what is wrong before any word is read: an option is given twice, or nothing selects

@@ -13,9 +13,9 @@ ghost use Rattle.krb_commands.specs.Edits.{Makes};
 ghost use Rattle.krb_commands.specs.Sessions.{left, new_session};
 
 use crate::edited::{Edited, edited_of, may_change, save_edited};
-use crate::error_output::ErrorOutput;
 use crate::loading::load_cache;
 use crate::scripted::{Editor, run_script};
+use crate::telling::error_output::ErrorOutput;
 use crate::trouble::{FileKind, Trouble};
 use krb_ccache::{Ccache, Cred, Setting};
 use krb_files::{Files, Watched, WatchedReader};

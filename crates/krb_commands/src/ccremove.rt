@@ -8,8 +8,8 @@ ghost use Rattle.krb_commands.specs.Edits.{run_of, Makes};
 
 use crate::action::TicketOptions;
 use crate::edited::{Edited, hold_if, nothing, save_edited, show_edited};
-use crate::error_output::ErrorOutput;
 use crate::loading::load_cache;
+use crate::telling::error_output::ErrorOutput;
 use crate::telling::{cause_of, tell};
 use crate::trouble::{FileKind, Trouble};
 use krb_audit::select_tickets;

@@ -10,7 +10,7 @@ ghost use Rattle.krb_commands.specs.Sessions.{is_change};
 ghost use Rattle.krb_commands.specs.Told.{replied_ending};
 
 use crate::telling::show;
-use crate::told::replied_end;
+use crate::telling::told::replied_end;
 use crate::trouble::{FileKind, Trouble};
 use krb_files::{Files, SaveFault, Watched};
 use krb_text::{RecordFormat, reply_lines};

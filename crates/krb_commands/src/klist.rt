@@ -7,8 +7,8 @@ ghost use Rattle.krb_commands.specs.Klist.{cache_shown, keytab_shown, listing};
 ghost use Rattle.krb_commands.specs.Loading.{PrintsOver, RunsOver};
 
 use crate::action::{KlistOptions, ListKind};
-use crate::error_output::ErrorOutput;
 use crate::loading::{load_cache, load_keytab};
+use crate::telling::error_output::ErrorOutput;
 use crate::telling::{cause_of, tell};
 use crate::trouble::{Trouble, listing_end};
 use krb_ccache::Ccache;

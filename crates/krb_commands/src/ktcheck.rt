@@ -4,8 +4,8 @@ ghost use Rattle.std.specs.Prelude.{◌≡◌, IsFalse};
 ghost use Rattle.krb_commands.specs.Ktcheck.{checking, found_ending};
 ghost use Rattle.krb_commands.specs.Loading.{PrintsOver, RunsOver};
 
-use crate::error_output::ErrorOutput;
 use crate::loading::load_keytab;
+use crate::telling::error_output::ErrorOutput;
 use crate::telling::{cause_of, show, tell};
 use crate::trouble::{Findings, Trouble};
 use krb_audit::check_up;

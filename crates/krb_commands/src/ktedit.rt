@@ -5,9 +5,9 @@ ghost use Rattle.krb_commands.specs.Edits.{Makes};
 ghost use Rattle.krb_commands.specs.Ktedit.{edit_in, RunsEdit, RunsFairly};
 
 use crate::edited::{Edited, edited_of, may_change, save_edited};
-use crate::error_output::ErrorOutput;
 use crate::loading::load_or_new;
 use crate::scripted::{Editor, run_script};
+use crate::telling::error_output::ErrorOutput;
 use crate::trouble::{FileKind, Trouble};
 use krb_files::{Files, Watched, WatchedReader};
 use krb_indexed::Indexed;

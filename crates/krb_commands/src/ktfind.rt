@@ -5,8 +5,8 @@ ghost use Rattle.krb_commands.specs.Ktfind.{finding};
 ghost use Rattle.krb_commands.specs.Loading.{PrintsOver, RunsOver};
 
 use crate::action::FindOptions;
-use crate::error_output::ErrorOutput;
 use crate::loading::load_keytab;
+use crate::telling::error_output::ErrorOutput;
 use crate::telling::{cause_of, show, tell};
 use crate::trouble::Trouble;
 use krb_files::{Files, Watched};

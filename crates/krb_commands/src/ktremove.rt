@@ -10,8 +10,8 @@ ghost use Rattle.krb_commands.specs.Ktremove.{FairRemoval, RemovesFairly, none_e
 
 use crate::action::RemoveOptions;
 use crate::edited::{Edited, hold_if, nothing, save_edited, show_edited};
-use crate::error_output::ErrorOutput;
 use crate::loading::load_keytab;
+use crate::telling::error_output::ErrorOutput;
 use crate::telling::{cause_of, tell};
 use crate::trouble::{FileKind, Trouble};
 use krb_audit::{AskedKvno, Selection, select};

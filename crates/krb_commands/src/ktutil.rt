@@ -14,8 +14,8 @@ mod state;
 mod verb;
 mod words;
 
-use crate::error_output::ErrorOutput;
 use crate::input_lines::InputLines;
+use crate::telling::error_output::ErrorOutput;
 use crate::telling::{cause_of, show, tell};
 use crate::trouble::Trouble;
 use krb_files::{Files, Watched, WatchedReader};

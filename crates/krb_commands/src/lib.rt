@@ -4,8 +4,8 @@
 mod action;
 mod ccedit;
 mod ccremove;
+mod command_line;
 mod edited;
-mod error_output;
 mod input_lines;
 mod klist;
 mod ktcheck;
@@ -14,22 +14,23 @@ mod ktfind;
 mod ktremove;
 mod ktutil;
 mod loading;
-mod mistake;
-mod options;
-mod remove_words;
 mod response;
 mod scripted;
 mod telling;
 #[cfg(test)]
 mod tests;
-mod ticket_words;
-mod told;
 mod trouble;
 
 pub use action::{Action, FindOptions, KlistOptions, ListKind, RemoveOptions, TicketOptions};
 pub use ccedit::run_ccedit;
 pub use ccremove::run_ccremove;
-pub use error_output::ErrorOutput;
+pub use command_line::mistake::{BadLine, Mistake, WordFault};
+pub use command_line::options::{
+    CceditWords, KlistWords, KtcheckWords, KteditWords, KtfindWords, KtutilWords, ccedit_action,
+    klist_action, ktcheck_action, ktedit_action, ktfind_action, ktutil_action,
+};
+pub use command_line::remove_words::{KtremoveWords, ktremove_action};
+pub use command_line::ticket_words::{CcremoveWords, ccremove_action};
 pub use klist::run_klist;
 pub use ktcheck::run_ktcheck;
 pub use ktedit::run_ktedit;
@@ -37,11 +38,5 @@ pub use ktfind::run_ktfind;
 pub use ktremove::run_ktremove;
 pub use ktutil::{Ktutil, LineEnd, file_word, run_ktutil};
 pub use loading::NotKeytab;
-pub use mistake::{BadLine, Mistake, WordFault};
-pub use options::{
-    CceditWords, KlistWords, KtcheckWords, KteditWords, KtfindWords, KtutilWords, ccedit_action,
-    klist_action, ktcheck_action, ktedit_action, ktfind_action, ktutil_action,
-};
-pub use remove_words::{KtremoveWords, ktremove_action};
 pub use response::{Streams, respond};
-pub use ticket_words::{CcremoveWords, ccremove_action};
+pub use telling::error_output::ErrorOutput;

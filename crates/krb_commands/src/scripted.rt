@@ -4,8 +4,8 @@ ghost use Rattle.std.specs.Prelude.{IsFalse};
 ghost use Rattle.krb_commands.specs.Scripted.{EditsByScript, RunsScript};
 
 use crate::edited::{Edited, hold_if, show_edited};
-use crate::error_output::ErrorOutput;
 use crate::input_lines::MOST_INPUT;
+use crate::telling::error_output::ErrorOutput;
 use crate::telling::{cause_of, tell};
 use crate::trouble::Trouble;
 use krb_files::{Files, Watched, WatchedReader, load};

@@ -1,9 +1,11 @@
 //! What a run shows, and how its end is told.
 
+pub(crate) mod error_output;
 mod found_words;
 mod mistake_words;
 mod piece;
 mod saying;
+pub(crate) mod told;
 mod told_words;
 mod words;
 
@@ -14,8 +16,8 @@ ghost use Rattle.krb_commands.specs.PieceTexts.{pieces_text};
 ghost use Rattle.krb_commands.specs.Runs.{SaysEnd, Shows, Tells};
 ghost use Rattle.krb_commands.specs.Troubles.{trouble_message};
 
-use crate::error_output::ErrorOutput;
 use crate::loading::NotKeytab;
+use crate::telling::error_output::ErrorOutput;
 use crate::telling::found_words::say_findings;
 use crate::telling::piece::Piece;
 use crate::telling::saying::say;

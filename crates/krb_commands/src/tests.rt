@@ -7,3 +7,4 @@ mod mistakes;
 mod responses;
 mod runs;
 mod words;
+mod words_of_runs;

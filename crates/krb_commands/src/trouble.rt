@@ -5,7 +5,7 @@ ghost use Rattle.krb_commands.specs.declared.trouble.Trouble.TheVariants as trou
 ghost use Rattle.krb_commands.specs.Troubles.{input_trouble, list_trouble, listing_ending, load_trouble, no_keytab_trouble, out_trouble, save_trouble, script_trouble, trouble_status};
 
 use crate::loading::{NoKeytab, NotCache, NotKeytab};
-use crate::told::Told;
+use crate::telling::told::Told;
 use krb_files::{LoadFault, OutFault, SaveFault};
 use krb_text::{LineFault, ScriptRefusal};
 use krb_walk::{Code, Fault};

@@ -6,8 +6,8 @@ ghost use Rattle.krb_commands.specs.Mistakes.{help_of, mistake_head, mistake_lin
 ghost use Rattle.krb_commands.specs.PieceTexts.{pieces_before, pieces_text, shown_word};
 ghost use Rattle.krb_commands.specs.Runs.{Says};
 
-use crate::error_output::ErrorOutput;
-use crate::mistake::{BadLine, Mistake, WordFault};
+use crate::command_line::mistake::{BadLine, Mistake, WordFault};
+use crate::telling::error_output::ErrorOutput;
 use crate::telling::piece::Piece;
 use crate::telling::saying::say;
 use krb_files::Watched;

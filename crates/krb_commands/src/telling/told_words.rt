@@ -10,8 +10,8 @@ ghost use Rattle.krb_commands.specs.Words.{code_words, fault_words, told_words};
 
 use crate::telling::piece::Piece;
 use crate::telling::saying::{Gathered, add_pieces};
+use crate::telling::told::Told;
 use crate::telling::words::refusal_phrase;
-use crate::told::Told;
 use crate::trouble::FileKind;
 use arrayvec::ArrayVec;
 use krb_files::{OutFault, Watched, put};

@@ -4,7 +4,7 @@ use super::images::{
     ADDED, CACHE, CACHE_EDITED, CACHE_REWRITTEN, EDITED, IMAGE, REMOVED, REWRITTEN,
 };
 use crate::action::{Action, FindOptions, KlistOptions, ListKind, RemoveOptions, TicketOptions};
-use crate::mistake::WordFault;
+use crate::command_line::mistake::WordFault;
 use krb_audit::{AskedKvno, Selection};
 use krb_text::{CcColumns, KtColumns};
 use krb_wire::{Order, Principal, parse_name};

@@ -1,4 +1,4 @@
-use crate::error_output::ErrorOutput;
+use crate::telling::error_output::ErrorOutput;
 use crate::telling::tell;
 use crate::trouble::Trouble;
 use krb_files::Watched;

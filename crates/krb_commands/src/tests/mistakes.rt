@@ -1,7 +1,7 @@
 //! What is told of bad command lines.
 
-use crate::error_output::ErrorOutput;
-use crate::mistake::{BadLine, Mistake, WordFault};
+use crate::command_line::mistake::{BadLine, Mistake, WordFault};
+use crate::telling::error_output::ErrorOutput;
 use crate::telling::tell_word_fault;
 use krb_files::Watched;
 use krb_wire::NameFault;

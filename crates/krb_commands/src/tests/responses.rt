@@ -1,7 +1,7 @@
 use super::commands::{COMMANDS, Command, NO_SLOTS};
 use super::runs::{Failure, NONE, respond_to, run};
 use crate::action::Action;
-use crate::mistake::{BadLine, Mistake, WordFault};
+use crate::command_line::mistake::{BadLine, Mistake, WordFault};
 use refusing::{Refusing, refuse_each};
 use std::process::Abort;
 use std::test::Fail;

@@ -3,9 +3,9 @@
 use super::commands::Command;
 use super::images::{CACHE, IMAGE};
 use crate::action::Action;
-use crate::error_output::ErrorOutput;
-use crate::mistake::WordFault;
+use crate::command_line::mistake::WordFault;
 use crate::response::{Streams, respond};
+use crate::telling::error_output::ErrorOutput;
 use krb_files::{MemFiles, Watched, WatchedReader};
 use refusing::Refusing;
 use std::alloc::{AllocError, Allocator, Global};

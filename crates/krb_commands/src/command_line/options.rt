@@ -8,7 +8,7 @@ ghost use Rattle.krb_commands.specs.Mistakes.{IsRefusal, mistake_phrase};
 ghost use Rattle.krb_commands.specs.Options.{order_of, odd_option, odd_with_cache, odd_with_keytab, list_kind, list_options, Spells, AsksToCheck, AsksToList, AsksToEdit, AsksToEditCache, AsksToFind, find_mistake, name_mistake};
 
 use crate::action::{Action, FindOptions, KlistOptions, ListKind};
-use crate::mistake::{Mistake, WordFault};
+use crate::command_line::mistake::{Mistake, WordFault};
 use krb_text::{CcColumns, KtColumns, etype_of, parse_u32};
 use krb_wire::{NameFault, Order, Principal, parse_name};
 use std::alloc::Global;

@@ -3,10 +3,10 @@ use Rattle.std.specs.Prelude.{IsOk}
 use Rattle.krb_wire.specs.declared.name_fault.NameFault.{NameFault}
 use Rattle.krb_wire.specs.NameOf.{name_of}
 use Rattle.krb_wire.specs.Spelling.{Parts}
-use Rattle.krb_commands.specs.declared.options.KtfindWords.{KtfindWords}
+use Rattle.krb_commands.specs.declared.command_line.options.KtfindWords.{KtfindWords}
 use Rattle.krb_commands.specs.Options.{name_mistake}
 use Rattle.krb_commands.proofs.Faults.{ran_out_at_a_name}
-use Rattle.krb_commands.proofs.options.name_of.Goals as goal
+use Rattle.krb_commands.proofs.command_line.options.name_of.Goals as goal
 
 -- a word that names somebody is no mistake
 no_mistake : (words : KtfindWords) (name : Result Parts NameFault) → IsOk name → name_mistake words name ≡ None

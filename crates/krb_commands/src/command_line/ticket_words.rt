@@ -5,8 +5,8 @@ ghost use Rattle.krb_commands.specs.Mistakes.{IsRefusal, mistake_phrase};
 ghost use Rattle.krb_commands.specs.TicketWords.{AsksToRemoveTickets, SpellsTickets, odd_tickets, ticket_mistake};
 
 use crate::action::{Action, TicketOptions};
-use crate::mistake::{Mistake, WordFault};
-use crate::remove_words::asked_name;
+use crate::command_line::mistake::{Mistake, WordFault};
+use crate::command_line::remove_words::asked_name;
 use std::alloc::Global;
 
 /// What the words of ccremove say; an option with a value has those that it was given.

@@ -7,8 +7,8 @@ ghost use Rattle.krb_commands.specs.Mistakes.{IsRefusal, mistake_phrase};
 ghost use Rattle.krb_commands.specs.RemoveWords.{AsksToRemove, IsSpelledKvno, IsSpelledName, SpellsRemoval, bad_etype, bad_kvno, bad_name, kvno_in, odd_selection, remove_mistake};
 
 use crate::action::{Action, RemoveOptions};
-use crate::mistake::{Mistake, WordFault};
-use crate::options::order_of;
+use crate::command_line::mistake::{Mistake, WordFault};
+use crate::command_line::options::order_of;
 use krb_audit::{AskedKvno, Selection};
 use krb_text::{etype_of, parse_u32};
 use krb_wire::{NameFault, NoMemory, Principal, parse_name};

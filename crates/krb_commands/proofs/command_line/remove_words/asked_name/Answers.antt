@@ -6,7 +6,7 @@ use Rattle.krb_wire.specs.NameOf.{name_of}
 use Rattle.krb_wire.specs.Spelling.{Parts}
 use Rattle.krb_commands.specs.RemoveWords.{bad_parse, bad_name}
 use Rattle.krb_commands.proofs.Faults.{ran_out_at_a_name}
-use Rattle.krb_commands.proofs.remove_words.asked_name.Goals as goal
+use Rattle.krb_commands.proofs.command_line.remove_words.asked_name.Goals as goal
 
 -- a word that names somebody is no mistake
 no_mistake : (word : Bor (List ℕ)) (name : Result Parts NameFault) → IsOk name → bad_parse word name ≡ None

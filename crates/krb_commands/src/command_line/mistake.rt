@@ -1,7 +1,7 @@
 //! What is wrong with a command line.
 
 ghost use Rattle.std.specs.Prelude.{◌≡◌};
-ghost use Rattle.krb_commands.specs.declared.mistake.WordFault.TheVariants.{NoMemory};
+ghost use Rattle.krb_commands.specs.declared.command_line.mistake.WordFault.TheVariants.{NoMemory};
 
 use krb_wire::NameFault;
 use std::alloc::AllocError;
