@@ -114,8 +114,8 @@ fn mistake_of_help<'a>(krbfile: &Command<'a>, words: &'a [String]) -> Mistake<'a
     }
 }
 
-// The words behind the program's name, and behind `--explain` where it stands first.
-fn words_behind(words: &[String]) -> &[String] {
+/// The words behind the program's name, and behind `--explain` where it stands first.
+pub fn words_behind(words: &[String]) -> &[String] {
     match words {
         [_, first, rest @ ..] if first.as_str() == "--explain" => rest,
         [_, rest @ ..] => rest,

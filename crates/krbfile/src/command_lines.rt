@@ -6,6 +6,11 @@ use std::alloc::{AllocError, Global};
 /// The version, and the toolchain whose proofs and compiler it stands on.
 const VERSION: &str = "1.0 (rattle logic dac8208d650f15bf)";
 
+/// The commands, in the order in which help lists them.
+const NAMES: [&str; 8] = [
+    "klist", "ktedit", "ktfind", "ktremove", "ktcheck", "ccedit", "ccremove", "ktutil",
+];
+
 /// The two forms of klist.
 const KLIST_USAGE: &str = "\
 krbfile klist [-c] [-e] [-f] [-C] [--json] FILE
@@ -206,19 +211,32 @@ fn ktutil_command<'a>(alloc: Global) -> Result<Command<'a>, AllocError> {
         .arg(v1_big(alloc))
 }
 
-/// All command lines.
-pub fn krbfile_command<'a>(alloc: Global) -> Result<Command<'a>, AllocError> {
-    Command::new(alloc, "krbfile")
+fn command_of<'a>(alloc: Global, name: &str) -> Result<Command<'a>, AllocError> {
+    match name {
+        "klist" => klist_command(alloc),
+        "ktedit" => ktedit_command(alloc),
+        "ktfind" => ktfind_command(alloc),
+        "ktremove" => ktremove_command(alloc),
+        "ktcheck" => ktcheck_command(alloc),
+        "ccedit" => ccedit_command(alloc),
+        "ccremove" => ccremove_command(alloc),
+        _ => ktutil_command(alloc),
+    }
+}
+
+/// The command lines: where the word is a command's name that of this command alone, so that a run does not build
+/// the others, and else all.
+pub fn krbfile_command<'a>(alloc: Global, word: Option<&str>) -> Result<Command<'a>, AllocError> {
+    let mut krbfile = Command::new(alloc, "krbfile")
         .version(VERSION)
         .about("Lists and edits Kerberos keytabs and credential caches")
         .subcommand_required(true)
-        .arg(explain(alloc))?
-        .subcommand(klist_command(alloc)?)?
-        .subcommand(ktedit_command(alloc)?)?
-        .subcommand(ktfind_command(alloc)?)?
-        .subcommand(ktremove_command(alloc)?)?
-        .subcommand(ktcheck_command(alloc)?)?
-        .subcommand(ccedit_command(alloc)?)?
-        .subcommand(ccremove_command(alloc)?)?
-        .subcommand(ktutil_command(alloc)?)
+        .arg(explain(alloc))?;
+    let is_command = NAMES.iter().any(|name| word == Some(*name));
+    for name in NAMES {
+        if !is_command || word == Some(name) {
+            krbfile = krbfile.subcommand(command_of(alloc, name)?)?;
+        }
+    }
+    Ok(krbfile)
 }

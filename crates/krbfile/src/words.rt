@@ -1,6 +1,6 @@
 //! The words of a command line.
 
-use crate::bad_line::bad_line;
+use crate::bad_line::{bad_line, words_behind};
 use crate::command_lines::krbfile_command;
 use clap::ArgMatches;
 use clap::error::ErrorKind;
@@ -140,7 +140,8 @@ fn command_action<'a>(alloc: Global, matches: &ArgMatches<'a>) -> Result<Action,
 
 /// What the words ask for; the first is the program's name.
 pub fn parse_words<'a>(alloc: Global, words: &'a [String]) -> Result<Action, WordFault<'a>> {
-    let mut command = krbfile_command(alloc)?;
+    let word = words_behind(words).first();
+    let mut command = krbfile_command(alloc, word.map(|word| word.as_str()))?;
     let error = match command.try_get_matches_from_mut(words) {
         Ok(matches) => return command_action(alloc, &matches),
         Err(error) => error,
