@@ -1,6 +1,6 @@
 # make try        lists a sample keytab by a program of which nothing is proved
 # make            proves the program and builds bin/krbfile
-# make static     builds bin/krbfile-static, which needs no C library where it runs
+# make static     builds bin/krbfile-static, which needs no C library where it runs and starts sooner
 # make lib        proves and builds the C library, lib/libkrbfile.a and lib/libkrbfile.so.1, which c/krbfile.h declares
 # make samples    makes the files that README works on, in samples/
 # make test       proves every crate from nothing, runs all tests, and then those of the program that this built
@@ -32,7 +32,9 @@ $(PROGRAM): $(SOURCES)
 $(STATIC): $(SOURCES)
 	cd crates/krbfile && rt run -- --help > /dev/null
 	mkdir -p $(dir $@)
-	$(CC) -static -o $@ $(BUILT).o $(KIT)c/libos_c.a $(KIT)c/liblibc_c.a
+	$(CC) -static-pie -o $@.linked $(BUILT).o $(KIT)c/libos_c.a $(KIT)c/liblibc_c.a
+	install -m 755 $@.linked $@
+	rm $@.linked
 
 # The calls and the C library's heap as one object, which shows the calls alone.
 lib/krbfile.o: $(SOURCES)
