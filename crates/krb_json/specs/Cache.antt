@@ -10,6 +10,8 @@ use Rattle.krb_ccache.specs.Credential.{CredParts}
 use Rattle.krb_ccache.specs.Config.{ConfigParts, config_name}
 use Rattle.krb_ccache.specs.Store.{CacheState, PlacedCredential, version_byte, store_of, placed_credentials}
 use Rattle.krb_text.specs.Flags.{flag_letters_of}
+use Rattle.krb_json.specs.declared.cache.Shown.{Shown}
+use Rattle.krb_json.specs.declared.cache.Shown.TheVariants.{Tickets, Configs}
 use Rattle.krb_json.specs.Members.{Member, object_of, array_of, number_of, text_member, etype_members, fault_value, file_members}
 
 -- where a ticket stands, whose it is, and what it is for
@@ -72,13 +74,22 @@ abbrev pub config_by : Option ConfigParts → PlacedCredential → Option Json
 config_by None x = None
 config_by (Some name) x = Some (config_value x.0 name x.1.ticket)
 
--- the live credentials that are no configuration entries, in file order
-abbrev pub ticket_values : List PlacedCredential → List Json
-ticket_values xs = filter_map (λ x. ticket_by (config_name x.1.server) x) xs
+-- what a credential is as an element of that array, by the same
+abbrev pub shown_by : Shown → Option ConfigParts → PlacedCredential → Option Json
+shown_by Tickets name x = ticket_by name x
+shown_by Configs name x = config_by name x
 
--- the live credentials that are, in file order
+-- the elements of that array: of the live credentials, in file order
+abbrev pub shown_values : Shown → List PlacedCredential → List Json
+shown_values shown xs = filter_map (λ x. shown_by shown (config_name x.1.server) x) xs
+
+-- the live credentials that are no configuration entries
+abbrev pub ticket_values : List PlacedCredential → List Json
+ticket_values xs = shown_values Tickets xs
+
+-- the live credentials that are
 abbrev pub config_values : List PlacedCredential → List Json
-config_values xs = filter_map (λ x. config_by (config_name x.1.server) x) xs
+config_values xs = shown_values Configs xs
 
 -- a cache under the name of its file
 unfoldable pub cache_value : List ℕ → CacheState → Json

@@ -11,7 +11,7 @@ ghost use Rattle.krb_ccache.specs.Config.{config_name};
 ghost use Rattle.krb_ccache.specs.Store.{version_byte, placed_credentials};
 ghost use Rattle.krb_text.specs.Gathered.{Passed};
 ghost use Rattle.krb_json.specs.Members.{file_members, text_member};
-ghost use Rattle.krb_json.specs.Cache.{ticket_by, config_by, ticket_values, config_values, cache_value, cache_json_text};
+ghost use Rattle.krb_json.specs.Cache.{shown_by, shown_values, ticket_values, config_values, cache_value, cache_json_text};
 ghost use Rattle.krb_json.specs.Pieces.{element_if, elements_text, head_tokens, between_tokens, arrays_text, IfPlain, ArePlain};
 
 use crate::label::Label;
@@ -52,8 +52,16 @@ fn append_head<A: Allocator + Copy, B: Allocator>(
     piece.append_to(false, gathered)
 }
 
-// A credential, if it is a ticket. The answer is whether an element stands there now.
-fn append_ticket<A: Allocator + Copy>(
+/// Which credentials an array has.
+#[derive(Clone, Copy)]
+enum Shown {
+    Tickets,
+    Configs,
+}
+
+// A credential, if that array has it. The answer is whether an element stands there now.
+fn append_shown<A: Allocator + Copy>(
+    shown: Shown,
     place: u32,
     credential: &CredView<'_>,
     is_after: bool,
@@ -62,46 +70,24 @@ fn append_ticket<A: Allocator + Copy>(
 ) -> Result<bool, NoMemory>
     requires { piece.old ≡ [] }
     ensures text { OnOk result (gathered.new.items ≡ gathered.old.items
-        ++ element_if is_after (ticket_by (config_name credential.now.server) (place, credential.now))) }
+        ++ element_if is_after (shown_by shown (config_name credential.now.server) (place, credential.now))) }
     ensures after { IfOk result (λ b. b
-        ≡ is_some (ticket_by (config_name credential.now.server) (place, credential.now)) || is_after) }
+        ≡ is_some (shown_by shown (config_name credential.now.server) (place, credential.now)) || is_after) }
     ensures empty { OnOk result (piece.new ≡ []) }
-    ensures plain { OnOk result (IfPlain (ticket_by (config_name credential.now.server) (place, credential.now))) }
+    ensures plain { OnOk result (IfPlain (shown_by shown (config_name credential.now.server) (place, credential.now))) }
 {
-    if config_name(credential).is_some() {
-        return Ok(is_after);
+    match (shown, config_name(credential)) {
+        (Shown::Tickets, None) => piece.ticket(place, credential)?,
+        (Shown::Configs, Some(name)) => piece.config(place, name, credential.ticket())?,
+        _ => return Ok(is_after),
     }
-    piece.ticket(place, credential)?;
     piece.append_to(is_after, gathered)?;
     Ok(true)
 }
 
-// A credential, if it is a configuration entry. The answer is whether an element stands there now.
-fn append_config<A: Allocator + Copy>(
-    place: u32,
-    credential: &CredView<'_>,
-    is_after: bool,
-    piece: &mut Piece<A>,
-    gathered: &mut Vec<u8, A>,
-) -> Result<bool, NoMemory>
-    requires { piece.old ≡ [] }
-    ensures text { OnOk result (gathered.new.items ≡ gathered.old.items
-        ++ element_if is_after (config_by (config_name credential.now.server) (place, credential.now))) }
-    ensures after { IfOk result (λ b. b
-        ≡ is_some (config_by (config_name credential.now.server) (place, credential.now)) || is_after) }
-    ensures empty { OnOk result (piece.new ≡ []) }
-    ensures plain { OnOk result (IfPlain (config_by (config_name credential.now.server) (place, credential.now))) }
-{
-    let Some(name) = config_name(credential) else {
-        return Ok(is_after);
-    };
-    piece.config(place, name, credential.ticket())?;
-    piece.append_to(is_after, gathered)?;
-    Ok(true)
-}
-
-// All tickets.
-fn send_tickets<A: Allocator + Copy, B: Allocator, W: Write>(
+// All elements of that array.
+fn send_shown<A: Allocator + Copy, B: Allocator, W: Write>(
+    shown: Shown,
     cache: &Ccache<B>,
     piece: &mut Piece<A>,
     gathered: &mut Vec<u8, A>,
@@ -110,43 +96,17 @@ fn send_tickets<A: Allocator + Copy, B: Allocator, W: Write>(
     requires well { IsFalse out.old.failed }
     requires empty { piece.old ≡ [] }
     ensures ok { OnOk result (Passed out.old.contents out.new.contents
-        (gathered.old.items ++ elements_text false (ticket_values (placed_credentials cache.now.state)))
+        (gathered.old.items ++ elements_text false (shown_values shown (placed_credentials cache.now.state)))
         [] gathered.new.items) }
     ensures prefix { OnErr result (AppendsPrefix out.old.contents out.new.contents
-        (gathered.old.items ++ elements_text false (ticket_values (placed_credentials cache.now.state)))) }
+        (gathered.old.items ++ elements_text false (shown_values shown (placed_credentials cache.now.state)))) }
     ensures failed { out.new.failed ≡ is_write_fault result }
     ensures empty { OnOk result (piece.new ≡ []) }
-    ensures plain { OnOk result (ArePlain (ticket_values (placed_credentials cache.now.state))) }
+    ensures plain { OnOk result (ArePlain (shown_values shown (placed_credentials cache.now.state))) }
 {
     let mut is_after = false;
-    'tickets: for (place, credential) in cache.credentials() {
-        is_after = append_ticket(place, &credential, is_after, piece, gathered)?;
-        send_if_full(gathered, out)?;
-    }
-    Ok(())
-}
-
-// All configuration entries.
-fn send_configs<A: Allocator + Copy, B: Allocator, W: Write>(
-    cache: &Ccache<B>,
-    piece: &mut Piece<A>,
-    gathered: &mut Vec<u8, A>,
-    out: &mut Watched<W>,
-) -> Result<(), OutFault>
-    requires well { IsFalse out.old.failed }
-    requires empty { piece.old ≡ [] }
-    ensures ok { OnOk result (Passed out.old.contents out.new.contents
-        (gathered.old.items ++ elements_text false (config_values (placed_credentials cache.now.state)))
-        [] gathered.new.items) }
-    ensures prefix { OnErr result (AppendsPrefix out.old.contents out.new.contents
-        (gathered.old.items ++ elements_text false (config_values (placed_credentials cache.now.state)))) }
-    ensures failed { out.new.failed ≡ is_write_fault result }
-    ensures empty { OnOk result (piece.new ≡ []) }
-    ensures plain { OnOk result (ArePlain (config_values (placed_credentials cache.now.state))) }
-{
-    let mut is_after = false;
-    'configs: for (place, credential) in cache.credentials() {
-        is_after = append_config(place, &credential, is_after, piece, gathered)?;
+    'credentials: for (place, credential) in cache.credentials() {
+        is_after = append_shown(shown, place, &credential, is_after, piece, gathered)?;
         send_if_full(gathered, out)?;
     }
     Ok(())
@@ -183,9 +143,9 @@ fn send_arrays<A: Allocator + Copy, B: Allocator, W: Write>(
     ensures tickets { OnOk result (ArePlain (ticket_values (placed_credentials cache.now.state))) }
     ensures configs { OnOk result (ArePlain (config_values (placed_credentials cache.now.state))) }
 {
-    send_tickets(cache, piece, gathered, out)?;
+    send_shown(Shown::Tickets, cache, piece, gathered, out)?;
     append_between(piece, gathered)?;
-    send_configs(cache, piece, gathered, out)
+    send_shown(Shown::Configs, cache, piece, gathered, out)
 }
 
 /// Writes a cache under the name of its file as one JSON object (RFC 8259) and the end of the line: whose it is, an

@@ -1,0 +1,16 @@
+use Rattle.std.proofs.Common.{◌≡◌, [], ◌++◌, false}
+use Rattle.std.specs.Prelude.{IsFalse}
+use Rattle.krb_ccache.specs.Store.{placed_credentials}
+use Rattle.krb_text.specs.Gathered.{Passed}
+use Rattle.krb_json.specs.Cache.{shown_values}
+use Rattle.krb_json.specs.Pieces.{elements_text, ArePlain}
+use Rattle.krb_json.proofs.cache.send_shown.Given as goal
+
+abbrev pub invariant-credentials : goal.invariant-credentials
+invariant-credentials g l = record {
+  well : IsFalse l.out.failed;
+  empty : l.piece ≡ [];
+  passed : Passed l.fn.out.contents l.out.contents (l.fn.gathered.items ++ elements_text false (shown_values l.shown (placed_credentials l.cache.state)))
+      (elements_text l.is_after (shown_values l.shown l.place-iterator)) l.gathered.items;
+  plain : ArePlain (shown_values l.shown l.place-iterator) → ArePlain (shown_values l.shown (placed_credentials l.cache.state));
+}
