@@ -7,9 +7,7 @@ mod edit;
 mod entries;
 mod entry;
 mod fields;
-mod find;
 mod form;
-mod has_name;
 mod image;
 mod keytab;
 mod laws;
@@ -18,7 +16,6 @@ mod look_up;
 mod new_entry;
 mod open;
 mod placed;
-mod prefix;
 mod put;
 mod replace;
 

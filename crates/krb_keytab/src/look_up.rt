@@ -7,8 +7,12 @@ ghost use Rattle.krb_keytab.specs.Entry.{EntryParts, entry_at};
 ghost use Rattle.krb_keytab.specs.Find.{PlacedEntry, look_up_in};
 ghost use Rattle.krb_keytab.specs.LookUp.{answer, IsFoundAmong};
 
+mod find;
+mod has_name;
+mod prefix;
+
 use crate::entry::{EntryView, read_entry};
-use crate::has_name::has_name;
+use has_name::has_name;
 use krb_walk::Code;
 use krb_wire::{KtFormat, Name};
 

@@ -3,7 +3,7 @@ use Rattle.std.specs.Prelude.{IsTrue}
 use Rattle.std.specs.Str.{bytes_eq}
 use Rattle.krb_wire.specs.Reading.{components_of_count}
 use Rattle.krb_keytab.proofs.HasNameLemmas.{none_opens, no_realm, begins, other_count, by_components, same_by, other_components}
-use Rattle.krb_keytab.proofs.has_name.has_name.Goals as goal
+use Rattle.krb_keytab.proofs.look_up.has_name.has_name.Goals as goal
 
 pub returns-in_default : goal.returns-in_default
 returns-in_default g c = λ e read. absurd (none_opens c.args.format c.args.bytes.now e c.order-order.result c.order-order.ensures c.in_default.ensures read)

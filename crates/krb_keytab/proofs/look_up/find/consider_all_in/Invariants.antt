@@ -1,6 +1,6 @@
 use Rattle.std.proofs.Common.{◌≡◌}
 use Rattle.krb_keytab.specs.LookUp.{IsFoundUpTo}
-use Rattle.krb_keytab.proofs.find.consider_all_in.Given as goal
+use Rattle.krb_keytab.proofs.look_up.find.consider_all_in.Given as goal
 
 -- the entries so far were considered
 abbrev pub invariant-loop-place : goal.invariant-loop-place

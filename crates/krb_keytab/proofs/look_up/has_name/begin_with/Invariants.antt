@@ -1,6 +1,6 @@
 use Rattle.std.proofs.Common.{◌≡◌}
 use Rattle.krb_keytab.specs.HasName.{begin_with}
-use Rattle.krb_keytab.proofs.has_name.begin_with.Given as goal
+use Rattle.krb_keytab.proofs.look_up.has_name.begin_with.Given as goal
 
 -- what is asked of the rest is asked of all
 abbrev pub invariant-loop-component : goal.invariant-loop-component

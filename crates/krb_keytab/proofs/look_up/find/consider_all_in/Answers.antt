@@ -5,7 +5,7 @@ use Rattle.krb_keytab.specs.Entry.{entry_at}
 use Rattle.krb_keytab.specs.CellViews.{CellsFrom, BeginsWith, cell_of}
 use Rattle.krb_keytab.proofs.EntryLists.{none_considered, live_considered}
 use Rattle.krb_keytab.proofs.PrefixLemmas.{passed_over}
-use Rattle.krb_keytab.proofs.find.consider_all_in.Goals as goal
+use Rattle.krb_keytab.proofs.look_up.find.consider_all_in.Goals as goal
 
 pub loop-place-init : goal.loop-place-init
 loop-place-init g c =
