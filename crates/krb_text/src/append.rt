@@ -36,6 +36,7 @@ pub fn append_labelled<A: Allocator>(
 }
 
 /// Appends a number in decimal, right in four places, and a space.
+#[inline(always)]
 pub fn append_right_in_4<A: Allocator>(number: u64, out: &mut Vec<u8, A>) -> Result<(), NoMemory>
     ensures { Appended (right_in_4 number ++ 32 ∷ []) out.old out.new result }
 {

@@ -46,7 +46,7 @@ fn append_etype<A: Allocator>(
 }
 
 // The key in parentheses, if keys are shown.
-#[inline]
+#[inline(always)]
 fn append_key<A: Allocator>(
     is_shown: bool,
     key: &[u8],
