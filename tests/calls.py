@@ -22,9 +22,9 @@ Calls = dict[str, str]
 
 
 def read(path: str) -> str:
-    """A file of the repository, without what tests alone have."""
+    """A file of the repository."""
     with open(os.path.join(TOP, path), encoding="utf-8") as file:
-        return file.read().split("#[cfg(test)]\nmod tests {")[0]
+        return file.read()
 
 
 def shown(crate: str) -> set[str]:
@@ -78,8 +78,7 @@ def calls_of(crate: str) -> Calls:
     source = os.path.join("crates", crate, "src")
     for path in glob.glob(os.path.join(TOP, source, "**", "*.rt"), recursive=True):
         below = os.path.relpath(path, os.path.join(TOP, source))
-        if not below.startswith("tests"):
-            found |= calls_in(read(path), shown(crate), below.startswith("laws" + os.sep))
+        found |= calls_in(read(path), shown(crate), below.startswith("laws" + os.sep))
     return found
 
 

@@ -33,6 +33,3 @@ pub use laws::{
 pub use offset::Offset;
 pub use open::{CcOpenFault, CcOpenRefused};
 pub use version::Version;
-
-#[cfg(test)]
-mod tests;

@@ -17,8 +17,6 @@ mod loading;
 mod response;
 mod scripted;
 mod telling;
-#[cfg(test)]
-mod tests;
 mod trouble;
 
 pub use action::{Action, FindOptions, KlistOptions, ListKind, RemoveOptions, TicketOptions};
@@ -37,6 +35,9 @@ pub use ktedit::run_ktedit;
 pub use ktfind::run_ktfind;
 pub use ktremove::run_ktremove;
 pub use ktutil::{Ktutil, LineEnd, file_word, run_ktutil};
-pub use loading::NotKeytab;
+pub use loading::{NotCache, NotKeytab};
 pub use response::{Streams, respond};
 pub use telling::error_output::ErrorOutput;
+pub use telling::told::Told;
+pub use telling::{tell, tell_word_fault};
+pub use trouble::{FileKind, Findings, Trouble};

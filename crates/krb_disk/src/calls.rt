@@ -33,8 +33,7 @@ use std::rt;
 /// How many bytes a file that is loaded to be changed may gain before its image moves.
 const ROOM_TO_GROW: u64 = 131_072;
 
-/// The system, as it is asked to change files. Nothing else in this crate can ask it, and nothing but `rename`
-/// notes a save.
+/// The system, as it is asked to change files: nothing else here can ask it, and `rename` alone notes a save.
 #[derive(Drop)]
 pub struct Calls<'a, R> {
     rt: &'a R,

@@ -18,8 +18,6 @@ mod save;
 mod seen;
 mod stage;
 mod target;
-#[cfg(test)]
-mod tests;
 
 pub use disk_files::DiskFiles;
 pub use laws::each_moment_is_safe;

@@ -6,8 +6,6 @@ mod files;
 mod mem_files;
 mod output;
 mod reader;
-#[cfg(test)]
-mod tests;
 mod watched;
 mod watched_reader;
 mod writer;

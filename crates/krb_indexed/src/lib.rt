@@ -8,8 +8,6 @@ mod nodes;
 mod placed;
 mod slot;
 mod table;
-#[cfg(test)]
-mod tests;
 mod tree;
 
 pub use indexed::Indexed;

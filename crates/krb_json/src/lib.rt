@@ -14,6 +14,3 @@ mod ticket;
 
 pub use cache::cache_json;
 pub use keytab::keytab_json;
-
-#[cfg(test)]
-mod tests;

@@ -40,6 +40,3 @@ pub use text::{all_or_nothing, write_name};
 pub use view::{
     PrincipalView, read_cc_principal, read_kt_principal, split_cc_principal, split_kt_principal,
 };
-
-#[cfg(test)]
-mod tests;

@@ -4,8 +4,6 @@
 mod placed;
 mod shelf;
 mod slots;
-#[cfg(test)]
-mod tests;
 mod worked;
 
 pub use shelf::Shelf;

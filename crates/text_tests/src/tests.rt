@@ -1,4 +1,4 @@
-//! Listings, found entries, replies, scripts, the lines of ktutil, and the texts in them. Images and texts are spelled
+//! Listings, found entries, replies, scripts, what is found in keytabs and caches, and the texts in them. Images and texts are spelled
 //! out by hand.
 
 mod allocations;
@@ -11,7 +11,6 @@ mod etypes;
 mod found;
 mod keys;
 mod keytabs;
-mod ktutil;
 mod listings;
 mod numbers;
 mod phrases;

@@ -2,8 +2,6 @@
 #![tactic(auto)]
 
 mod allocator;
-#[cfg(test)]
-mod tests;
 mod zeros;
 
 pub use allocator::Wiping;

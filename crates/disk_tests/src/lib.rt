@@ -1,0 +1,5 @@
+//! Tests of `krb_disk` by its public calls. They are a crate of their own, since a crate with tests is proved twice.
+#![tactic(auto)]
+
+#[cfg(test)]
+mod tests;
