@@ -20,7 +20,7 @@ from cache_images import (
     header_field,
     offset,
 )
-from edits import refused, text
+from edits import each_number, refused, scripted
 from file_names import LIMIT
 from harness import Case, Outcome, Report, check_case, message
 
@@ -44,25 +44,8 @@ def long_ticket(size: int) -> Credential:
 
 def edit(name: str, image: bytes | None, script: bytes | list[str], wanted: Outcome | list[str],
          after: bytes | None = None) -> Case:
-    """A script over the file `c`, or over none. The file is as before where `after` is None.
-
-    Wanted are the replies with status 0, or an outcome.
-    """
-    if isinstance(wanted, list):
-        wanted = Outcome(0, text(wanted))
-    given = script if isinstance(script, bytes) else text(script)
-    files = {} if image is None else {"c": image}
-    files_after = files if after is None else {"c": after}
-    return Case(f"editing a cache: {name}", ("ccedit", "c"), wanted, files, files_after, given)
-
-
-def each_number(name: str, image: bytes, places: tuple[int, ...]) -> Case:
-    """A walk from each number: those that are places, and no other, begin one."""
-    numbers = [*range(401), 2**31, 2**32 - 1]
-    replies = [f"walk {places.index(number)} at {number}" if number in places else "refused 4"
-               for number in numbers]
-    return edit(f"each number, {name}", image, [f"resume {number}" for number in numbers],
-                refused(*replies))
+    """A script of `ccedit` over the file `c`, or over none; see `scripted`."""
+    return scripted(f"editing a cache: {name}", ("ccedit", "c"), image, script, wanted, after)
 
 
 def walks() -> list[Case]:
@@ -80,9 +63,9 @@ def walks() -> list[Case]:
               "walk 2 end 392", end]),
         edit("no such walk", USUAL, ["step 9", "start", "step 1"],
              refused("refused 6", "walk 0 at 40", "refused 6")),
-        each_number("a whole cache", USUAL, (40, 148, 284, 392)),
-        each_number("a damaged cache", USUAL[:391], (40, 148, 284)),
-        each_number("version 3", VERSION_3, (20, 130)),
+        each_number(edit, "a whole cache", USUAL, (40, 148, 284, 392)),
+        each_number(edit, "a damaged cache", USUAL[:391], (40, 148, 284)),
+        each_number(edit, "version 3", VERSION_3, (20, 130)),
         edit("as many walks as there may be", USUAL,
              ["start"] * 1_025 + ["resume 148", "resume 3", "step 1023"],
              refused(*starts, *["refused 7"] * 3, GAVE_TICKET.replace("walk 0", "walk 1023"))),

@@ -51,6 +51,20 @@ def text(lines: list[str]) -> bytes:
     return "".join(line + "\n" for line in lines).encode()
 
 
+def scripted(name: str, words: tuple[str, ...], image: bytes | None, script: bytes | list[str],
+             wanted: Outcome | list[str], after: bytes | None) -> Case:
+    """A script over the file that the last word names, or over none.
+
+    Wanted are the replies with status 0, or an outcome. With no `after` the file stays as it is.
+    """
+    if isinstance(wanted, list):
+        wanted = Outcome(0, text(wanted))
+    given = script if isinstance(script, bytes) else text(script)
+    files = {} if image is None else {words[-1]: image}
+    files_after = files if after is None else {words[-1]: after}
+    return Case(name, words, wanted, files, files_after, given)
+
+
 def edit(
     name: str,
     image: bytes | None,
@@ -59,17 +73,9 @@ def edit(
     after: bytes | None = None,
     options: tuple[str, ...] = (),
 ) -> Case:
-    """A script over the file `k`, or over none. The file is as before where `after` is None.
-
-    Wanted are the replies with status 0, or an outcome.
-    """
-    if isinstance(wanted, list):
-        wanted = Outcome(0, text(wanted))
-    given = script if isinstance(script, bytes) else text(script)
-    files = {} if image is None else {"k": image}
-    files_after = files if after is None else {"k": after}
+    """A script of `ktedit` over the file `k`, or over none; see `scripted`."""
     words = ("ktedit", *options, "k")
-    return Case(f"editing: {name}", words, wanted, files, files_after, given)
+    return scripted(f"editing: {name}", words, image, script, wanted, after)
 
 
 def refused(*replies: str) -> Outcome:
@@ -94,9 +100,11 @@ def faulty_lines(
     ]
 
 
-def each_number(name: str, image: bytes, places: tuple[int, ...]) -> Case:
+def each_number(
+    edit: Callable[..., Case], name: str, image: bytes, places: tuple[int, ...]
+) -> Case:
     """A walk from each number: those that are places, and no other, begin one."""
-    numbers = [*range(201), 2**31, 2**32 - 1]
+    numbers = [*range(401), 2**31, 2**32 - 1]
     replies = [
         f"walk {places.index(number)} at {number}" if number in places else "refused 4"
         for number in numbers
@@ -121,9 +129,9 @@ def walks() -> list[Case]:
              ["resume 53", "resume 98", "step 0", "step 1", "step 0"], resumed),
         edit("no such walk", TWO, ["step 9", "start", "step 1"],
              refused("refused 6", "walk 0 at 2", "refused 6")),
-        each_number("a whole keytab", TWO, (2, 53, 98)),
-        each_number("a damaged keytab", DAMAGED, (2, 53)),
-        each_number("an end mark", keytab(B_RECORD, END, HOST_RECORD), (2, 47)),
+        each_number(edit, "a whole keytab", TWO, (2, 53, 98)),
+        each_number(edit, "a damaged keytab", DAMAGED, (2, 53)),
+        each_number(edit, "an end mark", keytab(B_RECORD, END, HOST_RECORD), (2, 47)),
         edit("as many walks as there may be", TWO,
              ["start"] * 1025 + ["resume 98", "resume 3", "step 1023"],
              refused(*starts, *["refused 7"] * 3, GAVE_HOST.replace("walk 0", "walk 1023"))),
