@@ -177,23 +177,31 @@ def command_lines() -> list[Case]:
             for line in lines]
 
 
-def check_untouched(report: Report, program: str) -> None:
-    """A run that removes nothing leaves the file alone, its time too; one that removes keeps its mode."""
-    for words in ("-k old", "-k 4", "-n -e 17"):
-        with folder_of({"k": image_of(HOST, B3)}) as folder:
-            path = os.path.join(folder, "k")
-            os.utime(path, ns=(1_000_000_000, 2_000_000_001))
-            before = os.stat(path)
-            run(program, ("ktremove", *words.split(), "k"), folder)
-            after = os.stat(path)
-            same = (before.st_ino, before.st_mtime_ns) == (after.st_ino, after.st_mtime_ns)
-            report.check(f"removal: {words} leaves the file alone", [] if same else ["it changed"])
-    with folder_of({"k": FOUR}) as folder:
-        path = os.path.join(folder, "k")
+def check_left_alone(
+    report: Report, program: str, topic: str, image: bytes, words: tuple[str, ...]
+) -> None:
+    """A run that removes nothing leaves the file that its last word names alone, its time too."""
+    with folder_of({words[-1]: image}) as folder:
+        path = os.path.join(folder, words[-1])
+        os.utime(path, ns=(1_000_000_000, 2_000_000_001))
+        before = os.stat(path)
+        run(program, words, folder)
+        after = os.stat(path)
+    same = (before.st_ino, before.st_mtime_ns) == (after.st_ino, after.st_mtime_ns)
+    report.check(f"{topic}: {' '.join(words[1:-1])} leaves the file alone",
+                 [] if same else ["it changed"])
+
+
+def check_mode(
+    report: Report, program: str, topic: str, image: bytes, words: tuple[str, ...]
+) -> None:
+    """A run that removes something keeps the mode of the file that its last word names."""
+    with folder_of({words[-1]: image}) as folder:
+        path = os.path.join(folder, words[-1])
         os.chmod(path, 0o640)
-        run(program, ("ktremove", "-k", "old", "k"), folder)
+        run(program, words, folder)
         mode = os.stat(path).st_mode & 0o7777
-        report.check("removal: the mode stays", [] if mode == 0o640 else [f"mode {mode:o}"])
+    report.check(f"{topic}: the mode stays", [] if mode == 0o640 else [f"mode {mode:o}"])
 
 
 def check(report: Report, program: str) -> None:
@@ -201,4 +209,7 @@ def check(report: Report, program: str) -> None:
     for one in [*selections(), *old_versions(), *names(), *layouts(), *bad_files(),
                 *command_lines(), *greatest.removals()]:
         check_case(report, program, one)
-    check_untouched(report, program)
+    for words in ("-k old", "-k 4", "-n -e 17"):
+        check_left_alone(report, program, "removal", image_of(HOST, B3),
+                         ("ktremove", *words.split(), "k"))
+    check_mode(report, program, "removal", FOUR, ("ktremove", "-k", "old", "k"))

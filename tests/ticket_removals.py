@@ -23,6 +23,7 @@ from cache_images import (
 from cache_listings import of_host
 from file_names import LIMIT
 from harness import Case, Outcome, Report, check_case, folder_of, message, run
+from removals import check_left_alone, check_mode
 
 NONE = message(1, "c: refused 9")
 DAMAGED = message(1, "c: refused 1")
@@ -219,29 +220,12 @@ def check_keys(report: Report, program: str) -> None:
                      [] if (got.status, found) == (0, kept) else [f"{found} are left by {got}"])
 
 
-def check_untouched(report: Report, program: str) -> None:
-    """A run that removes nothing leaves the file alone, its time too; one that removes keeps its mode."""
-    for words in ("--expired", "-p c@R", "-n -p krbtgt/R@R"):
-        with folder_of({"c": left(LATER)}) as folder:
-            path = os.path.join(folder, "c")
-            os.utime(path, ns=(1_000_000_000, 2_000_000_001))
-            before = os.stat(path)
-            run(program, ("ccremove", *words.split(), "c"), folder)
-            after = os.stat(path)
-            same = (before.st_ino, before.st_mtime_ns) == (after.st_ino, after.st_mtime_ns)
-            report.check(f"ticket removal: {words} leaves the file alone",
-                         [] if same else ["it changed"])
-    with folder_of({"c": MANY}) as folder:
-        path = os.path.join(folder, "c")
-        os.chmod(path, 0o640)
-        run(program, ("ccremove", "--expired", "c"), folder)
-        mode = os.stat(path).st_mode & 0o7777
-        report.check("ticket removal: the mode stays", [] if mode == 0o640 else [f"mode {mode:o}"])
-
-
 def check(report: Report, program: str) -> None:
     """Runs all of this topic."""
     for one in cases():
         check_case(report, program, one)
     check_keys(report, program)
-    check_untouched(report, program)
+    for words in ("--expired", "-p c@R", "-n -p krbtgt/R@R"):
+        check_left_alone(report, program, "ticket removal", left(LATER),
+                         ("ccremove", *words.split(), "c"))
+    check_mode(report, program, "ticket removal", MANY, ("ccremove", "--expired", "c"))
