@@ -3,7 +3,6 @@ from __future__ import annotations
 
 import os
 import resource
-import shutil
 import signal
 import struct
 import subprocess
@@ -29,7 +28,7 @@ from disk_saves import (
 )
 from harness import Outcome, Report, differences, folder_of, message, run
 from preload import MOST_CALLS, Line, built_library
-from system_calls import Call, calls_of, traced
+from system_calls import Call, calls_of, check_traced, traced
 
 LINE = Line(("ktedit", "k"), SCRIPT)
 
@@ -261,13 +260,8 @@ def check_no_proc(report: Report, program: str) -> None:
 
 def check(report: Report, program: str) -> None:
     """Runs all of this topic."""
-    if shutil.which("strace") is None:
-        report.skip("system calls that fail", "there is no strace")
-    else:
-        check_calls(report, program)
-        check_owner(report, program)
-        check_lock(report, program)
-        check_no_proc(report, program)
+    check_traced(report, program, "system calls that fail",
+                 check_calls, check_owner, check_lock, check_no_proc)
     check_preloaded(report, program)
     check_sizes(report, program)
     check_full_disk(report, program)

@@ -6,7 +6,6 @@ the run itself: how often it reads the list of locks hangs on how many others ha
 from __future__ import annotations
 
 import re
-import shutil
 import signal
 from dataclasses import dataclass
 
@@ -28,7 +27,7 @@ from modelled import (
 )
 from preload import Counted, Line
 from removal_model import Asked
-from system_calls import Call, calls_of, traced
+from system_calls import Call, calls_of, check_traced, traced
 
 ERRORS = ("EIO", "ENOSPC", "EACCES", "EPERM", "EINTR", "ENOMEM")
 
@@ -211,10 +210,12 @@ def check_run(report: Report, program: str, run: Modelled, steps: list[Step]) ->
         report.check(f"killed at {call}: {run.case.name}", faults_of_kill(run, got))
 
 
-def check(report: Report, program: str) -> None:
-    """Runs all of this topic."""
-    if shutil.which("strace") is None:
-        report.skip("system calls that fail", "there is no strace")
-        return
+def check_runs(report: Report, program: str) -> None:
+    """Each call of each run fails, and is its last."""
     for run, steps in runs():
         check_run(report, program, run, steps)
+
+
+def check(report: Report, program: str) -> None:
+    """Runs all of this topic."""
+    check_traced(report, program, "system calls that fail", check_runs)

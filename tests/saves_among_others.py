@@ -3,7 +3,6 @@ from __future__ import annotations
 
 import fcntl
 import os
-import shutil
 import struct
 import subprocess
 import sys
@@ -19,7 +18,7 @@ from harness import Outcome, Report, differences, folder_of, run
 from images import B, entries
 from preload import Line
 from script_model import edited
-from system_calls import Halt, halted
+from system_calls import Halt, check_traced, halted
 
 # A user who is not root, and more locks than the system lists at a time.
 USER = 1234
@@ -278,14 +277,8 @@ def check_lasting_lock(report: Report, program: str) -> None:
 
 def check(report: Report, program: str) -> None:
     """Runs all of this topic."""
-    if shutil.which("strace") is None:
-        report.skip("files that are changed meanwhile", "there is no strace")
-    else:
-        check_changes(report, program)
-        check_led_elsewhere(report, program)
-        check_led(report, program)
-        check_crossed(report, program)
-        check_crossed_hold(report, program)
+    check_traced(report, program, "files that are changed meanwhile", check_changes,
+                 check_led_elsewhere, check_led, check_crossed, check_crossed_hold)
     check_lasting_lock(report, program)
     if os.path.exists("/proc/locks"):
         check_locks(report, program)

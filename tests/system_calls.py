@@ -3,6 +3,7 @@ from __future__ import annotations
 
 import os
 import re
+import shutil
 import signal
 import subprocess
 import tempfile
@@ -11,7 +12,7 @@ from collections import Counter
 from collections.abc import Callable, Iterator
 from dataclasses import dataclass
 
-from harness import SECONDS, Outcome, run
+from harness import SECONDS, Outcome, Report, run
 from preload import Line
 
 # A line of a trace that begins a system call.
@@ -99,3 +100,14 @@ def halted(
                 os.kill(int(seen.split()[0]), signal.SIGCONT)
             out, err = started.communicate(timeout=SECONDS)
             return Outcome(started.returncode, out, err)
+
+
+def check_traced(
+    report: Report, program: str, what: str, *checks: Callable[[Report, str], None]
+) -> None:
+    """Makes checks that need strace. Where it is not there, what they are is noted as left out."""
+    if shutil.which("strace") is None:
+        report.skip(what, "there is no strace")
+        return
+    for check in checks:
+        check(report, program)
