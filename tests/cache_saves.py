@@ -9,7 +9,17 @@ from collections.abc import Callable
 from dataclasses import dataclass
 
 from cache_images import PA_TYPE, TICKET, USUAL, credentials, header_field, offset
-from disk_saves import Owned, as_another, as_user, owned, tree, tree_faults, write
+from disk_saves import (
+    Locked,
+    Owned,
+    as_another,
+    as_user,
+    check_locked,
+    owned,
+    tree,
+    tree_faults,
+    write,
+)
 from harness import Outcome, Report, differences, folder_of, message, run
 from saves_among_others import ofd_lock
 
@@ -154,19 +164,10 @@ def check_nothing_left(report: Report, program: str) -> None:
 
 def check_locked_folder(report: Report, program: str) -> None:
     """A folder in which no file may be made keeps a cache from being changed, and from nothing else."""
-    options = as_another(program)
-    if options is None:
-        report.skip("a cache in a locked folder", "none but root may start the program")
-        return
-    for change in (*CHANGES, *HOLDING_NOTHING, *SAVING_NOTHING):
-        with folder_of({"c": USUAL}) as folder:
-            os.chmod(os.path.join(folder, "c"), 0o666)
-            os.chmod(folder, 0o555)
-            wanted = UNSAVED if change in CHANGES else change.wanted
-            faults = differences(wanted, change.run(program, folder, **options))
-            faults += tree_faults({"c": USUAL}, folder)
-            os.chmod(folder, 0o755)
-        report.check(f"a locked folder: {change}", faults)
+    those = [Locked(f"a locked folder: {change}", {"c": USUAL},
+                    [(UNSAVED if change in CHANGES else change.wanted, change.run)])
+             for change in (*CHANGES, *HOLDING_NOTHING, *SAVING_NOTHING)]
+    check_locked(report, program, "a cache in a locked folder", those)
 
 
 def check_sticky_folder(report: Report, program: str) -> None:

@@ -5,6 +5,7 @@ import os
 import stat
 from collections.abc import Callable
 from dataclasses import dataclass
+from functools import partial
 
 from harness import Outcome, Report, differences, folder_of, message, run
 from images import HOST, entries, keytab
@@ -29,9 +30,11 @@ MODES = (0o400, 0o600, 0o640, 0o664, 0o604, 0o6755)
 Place = Callable[[str], None]
 
 
-def edit(program: str, folder: str, name: str = "k", **options: object) -> Outcome:
-    """One run that adds an entry to the file of that name."""
-    return run(program, ("ktedit", name), folder, SCRIPT, **options)
+def edit(
+    program: str, folder: str, name: str = "k", script: bytes = SCRIPT, **options: object
+) -> Outcome:
+    """One run of a script, by itself one that adds an entry, over the file of that name."""
+    return run(program, ("ktedit", name), folder, script, **options)
 
 
 def as_user(groups: tuple[int, ...] = ()) -> dict[str, object]:
@@ -235,32 +238,49 @@ def check_unchanging(report: Report, program: str) -> None:
     for script in (b"", b"# none\n", WALK, b"resume 2\n", b"start\nfrob\n"):
         with folder_of({"k": OLD}) as folder:
             os.utime(folder, (1, 1))
-            got = run(program, ("ktedit", "k"), folder, script)
-            faults = differences(edited(OLD, script)[0], got)
+            faults = differences(edited(OLD, script)[0], edit(program, folder, script=script))
             if os.stat(folder).st_mtime != 1:
                 faults.append("the folder was changed")
         report.check(f"a script that can change nothing: {script}", faults)
 
 
-def check_locked_folder(report: Report, program: str) -> None:
-    """A folder in which no file may be made. Root may in each, so another runs the program."""
+@dataclass(frozen=True)
+class Locked:
+    """A folder in which no file may be made: its files, and runs there with what each answers."""
+
+    name: str
+    files: dict[str, bytes]
+    runs: list[tuple[Outcome, Callable[..., Outcome]]]
+
+
+def check_locked(report: Report, program: str, what: str, those: list[Locked]) -> None:
+    """Such folders, whose files stay. Root may make files in each, so another runs the program."""
     options = as_another(program)
     if options is None:
-        report.skip("a locked folder", "none but root may start the program")
+        report.skip(what, "none but root may start the program")
         return
-    for files in ({"k": OLD}, {}):
-        with folder_of(files) as folder:
-            for name in files:
+    for one in those:
+        with folder_of(one.files) as folder:
+            for name in one.files:
                 os.chmod(os.path.join(folder, name), 0o666)
             os.chmod(folder, 0o555)
-            faults = differences(UNSAVED, edit(program, folder, **options))
-            # What saves nothing needs no right to make a file.
-            for script in (WALK, b"cut 3\n", WALK + b"cut 2\n"):
-                got = run(program, ("ktedit", "k"), folder, script, **options)
-                faults += differences(edited(files.get("k"), script)[0], got)
-            faults += tree_faults(dict(files), folder)
+            faults = []
+            for wanted, run_there in one.runs:
+                faults += differences(wanted, run_there(program, folder, **options))
+            faults += tree_faults(dict(one.files), folder)
             os.chmod(folder, 0o755)
-        report.check(f"a folder that is locked, with {len(files)} files", faults)
+        report.check(one.name, faults)
+
+
+def check_locked_folder(report: Report, program: str) -> None:
+    """A folder in which no file may be made. What saves nothing needs no right to make one."""
+    those = []
+    for files in ({"k": OLD}, {}):
+        runs = [(edited(files.get("k"), script)[0], partial(edit, script=script))
+                for script in (WALK, b"cut 3\n", WALK + b"cut 2\n")]
+        name = f"a folder that is locked, with {len(files)} files"
+        those.append(Locked(name, files, [(UNSAVED, edit), *runs]))
+    check_locked(report, program, "a locked folder", those)
 
 
 def check(report: Report, program: str) -> None:
