@@ -2,13 +2,11 @@
 from __future__ import annotations
 
 from collections.abc import Iterator
-from dataclasses import replace
 from functools import partial
 from random import Random
 
-from harness import Report
 from mit_files import mit_caches
-from mutations import mutated
+from mutations import DamagedFiles, mutated
 from random_caches import KINDS, kinds_of, listings
 from random_runs import CaseAt, Topic
 from sample_caches import caches
@@ -19,13 +17,10 @@ def runs_over(samples: list[bytes], random: Random) -> Iterator[CaseAt]:
     yield from listings(random, mutated(random, samples))
 
 
-TOPIC = Topic("damaged caches", partial(runs_over, caches()), kinds_of, KINDS, usual=200)
-check = TOPIC.check
+def topic_over(samples: list[bytes]) -> Topic:
+    """The topic, over those caches."""
+    return Topic("damaged caches", partial(runs_over, samples), kinds_of, KINDS, usual=200)
 
 
-def check_long(program: str, seed: int, count: int) -> Report:
-    """Runs many, also made from what MIT's programs write here."""
-    report = Report()
-    samples = [*caches(), *mit_caches(report)]
-    replace(TOPIC, cases=partial(runs_over, samples)).check_from(report, program, seed, count)
-    return report
+TOPIC = DamagedFiles(topic_over, caches(), mit_caches)
+check, check_long = TOPIC.check, TOPIC.check_long

@@ -2,13 +2,12 @@
 from __future__ import annotations
 
 from collections.abc import Iterator
-from dataclasses import replace
 from functools import partial
 from random import Random
 
-from harness import Case, Report
+from harness import Case
 from mit_files import mit_keytabs
-from mutations import mutated
+from mutations import DamagedFiles, mutated
 from random_finds import look_up
 from random_images import KINDS, kinds_of, listing, random_columns
 from random_runs import CaseAt, Topic
@@ -37,14 +36,11 @@ def kinds(case: Case) -> Iterator[str]:
         yield "found" if case.wanted.out else "not found"
 
 
-TOPIC = Topic("damaged keytabs", partial(runs_over, keytabs()), kinds,
-              (*KINDS, "found", "not found"), usual=200)
-check = TOPIC.check
+def topic_over(samples: list[bytes]) -> Topic:
+    """The topic, over those keytabs."""
+    return Topic("damaged keytabs", partial(runs_over, samples), kinds,
+                 (*KINDS, "found", "not found"), usual=200)
 
 
-def check_long(program: str, seed: int, count: int) -> Report:
-    """Runs many, also made from what MIT's programs write here."""
-    report = Report()
-    samples = [*keytabs(), *mit_keytabs(report)]
-    replace(TOPIC, cases=partial(runs_over, samples)).check_from(report, program, seed, count)
-    return report
+TOPIC = DamagedFiles(topic_over, keytabs(), mit_keytabs)
+check, check_long = TOPIC.check, TOPIC.check_long
