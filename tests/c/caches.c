@@ -105,13 +105,11 @@ static void remove_again(krbf_ccache *cc, uint32_t place, size_t count) {
 int main(int argc, char **argv) {
     CHECK(argc == 2);
     krbf_ccache cc = KRBF_NONE;
-    krbf_bytes bytes;
     size_t len = 0;
     uint32_t place = 0, status = krbf_cc_open(image, read_image(argv[1]), 0, &cc);
     if (status != KRBF_DONE) {
-        CHECK(cc.held == NULL && krbf_phrase(status, &bytes) == KRBF_DONE);
-        printf("%.*s\n", (int)bytes.len, (const char *)bytes.at);
-        return 2;
+        CHECK(cc.held == NULL);
+        return tell_refusal(status);
     }
     CHECK(krbf_cc_principal(&cc, room, sizeof room, &len) == KRBF_DONE && len <= sizeof room);
     printf("Ticket cache: FILE:%s\nDefault principal: %.*s\n\n", argv[1], (int)len, room);
@@ -128,8 +126,7 @@ int main(int argc, char **argv) {
         CHECK(!fault && krbf_cc_remove_at(&cc, place) == KRBF_DONE);
         place = store(&cc);
         set_values(&cc);
-        krbf_cc_image(&cc, &bytes);
-        write_image(bytes);
+        WRITE_IMAGE(krbf_cc_image, &cc);
         remove_again(&cc, place, count);
     }
     krbf_cc_close(&cc);

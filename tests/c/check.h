@@ -1,4 +1,4 @@
-/* What the C tests share: a check that ends the program, and a file as bytes. */
+/* What the C tests share: a check that ends the program, and images from and to files. */
 #ifndef CHECK_H
 #define CHECK_H
 
@@ -35,10 +35,21 @@ static inline int is_text(krbf_bytes bytes, const char *text) {
     return bytes.len == strlen(text) && !memcmp(bytes.at, text, bytes.len);
 }
 
-/* Writes an image to the error output. */
-static inline void write_image(krbf_bytes bytes) {
-    CHECK(fwrite(bytes.at, 1, bytes.len, stderr) == bytes.len);
+/* Prints why an image is refused, and answers the status of a program to which it is. */
+static inline int tell_refusal(uint32_t status) {
+    krbf_bytes phrase;
+    CHECK(krbf_phrase(status, &phrase) == KRBF_DONE);
+    printf("%.*s\n", (int)phrase.len, (const char *)phrase.at);
+    return 2;
 }
+
+/* Writes the image of a keytab or a cache, which a call gives, to the error output. */
+#define WRITE_IMAGE(image_of, held)                                 \
+    do {                                                            \
+        krbf_bytes bytes;                                           \
+        image_of(held, &bytes);                                     \
+        CHECK(fwrite(bytes.at, 1, bytes.len, stderr) == bytes.len); \
+    } while (0)
 
 /* Reads all bytes, so that a sanitizer sees where they lie. */
 static inline void touch(krbf_bytes bytes) {

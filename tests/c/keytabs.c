@@ -89,12 +89,10 @@ int main(int argc, char **argv) {
     CHECK(argc == 2);
     krbf_keytab kt = KRBF_NONE;
     krbf_entry first = {0};
-    krbf_bytes bytes;
     uint32_t place = 0, status = krbf_kt_open(image, read_image(argv[1]), 0, 0, &kt);
     if (status != KRBF_DONE) {
-        CHECK(kt.held == NULL && krbf_phrase(status, &bytes) == KRBF_DONE);
-        printf("%.*s\n", (int)bytes.len, (const char *)bytes.at);
-        return 2;
+        CHECK(kt.held == NULL);
+        return tell_refusal(status);
     }
     uint32_t fault = krbf_kt_fault(&kt, &place);
     size_t count = list(&kt, argv[1], fault ? KRBF_DAMAGED : KRBF_END, &first);
@@ -105,8 +103,7 @@ int main(int argc, char **argv) {
         if (first.components > 0)
             look_up(&kt, &first);
         place = add(&kt);
-        krbf_kt_image(&kt, &bytes);
-        write_image(bytes);
+        WRITE_IMAGE(krbf_kt_image, &kt);
         remove_again(&kt, place, count);
     }
     krbf_kt_close(&kt);
