@@ -8,12 +8,13 @@ import subprocess
 
 import corpus
 from c_exports import prototypes
-from cache_images import PA_TYPE, TICKET, USUAL, Credential, Name, config, credentials, header_field
+from cache_images import Credential, Name, config, credentials, header_field
 from harness import SECONDS, Outcome, Report, differences, folder_of, run
 from images import TWO
 from sample_caches import caches
 from sample_keytabs import keytabs
 from samples import SAMPLES
+from usual_caches import PA_TYPE, TICKET, USUAL
 
 TOP = os.path.dirname(os.path.dirname(os.path.abspath(__file__)))
 LIBRARY = os.path.join(TOP, "lib", "libkrbfile.a")

@@ -4,12 +4,13 @@ from __future__ import annotations
 from dataclasses import replace
 from itertools import permutations
 
-from cache_images import PA_TYPE, TICKET, USUAL, credentials, offset
+from cache_images import credentials
 from cache_listings import CONFIG_LINE, ETYPE_LINE, FLAGS_LINE, TICKET_LINE
 from cache_reading import listed
 from command_lines import OF_KLIST, Line, check_help, shown
 from harness import Case, Outcome, Report, check_case, message
 from images import TWO
+from usual_caches import OFFSET, PA_TYPE, TICKET, USUAL
 
 # Lines that list the cache `c`, each with the letters of its columns.
 TAKEN: list[tuple[Line, str]] = [
@@ -164,7 +165,7 @@ def check_order(report: Report, program: str) -> None:
 def check_changing(report: Report, program: str) -> None:
     """Lines of ccedit and of ccremove that are taken."""
     gone = Outcome(0, b"removed 40 krbtgt/R@R\n")
-    left = {"c": credentials(PA_TYPE, fields=offset(5, -10))}
+    left = {"c": credentials(PA_TYPE, fields=OFFSET)}
     wanted = [*((words, Outcome(0, b"walk 0 at 40\n"), None) for words in EDITING),
               *((words, gone, left) for words in REMOVING), *((words, gone, None) for words in TELLING)]
     for words, outcome, after in wanted:

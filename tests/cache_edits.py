@@ -4,28 +4,11 @@ from __future__ import annotations
 from dataclasses import replace
 
 from cache_files import sized
-from cache_images import (
-    CONFIG_FIRST,
-    CONFIG_REALM,
-    KRBTGT,
-    PA_TYPE,
-    TICKET,
-    USUAL,
-    VERSION_3,
-    Credential,
-    Name,
-    cache,
-    config,
-    credentials,
-    header_field,
-    offset,
-)
+from cache_images import KRBTGT, Credential, Name, cache, config, credentials, offset
 from edits import each_number, refused, scripted
 from file_names import LIMIT
 from harness import Case, Outcome, Report, check_case, message
-
-# The fields of the usual cache's header.
-FIELDS = header_field(9, b"\xab\xcd") + offset(5, -10)
+from usual_caches import FIELDS, OFFSET, PA_TYPE, TICKET, USUAL, VERSION_3, config_ticket
 
 GAVE_TICKET = "walk 0 gave 40 next 148 etype 17 krbtgt/R@R"
 GAVE_CONFIG = "walk 0 gave 148 next 284 config pa_type(krbtgt/R@R)"
@@ -86,9 +69,6 @@ def given() -> list[Case]:
         line = b"walk 0 at 22\nwalk 0 gave 22 next %d " % end + tail + b"\n"
         return edit(f"given, {name}", credentials(cell), ["start", "step 0"], Outcome(0, line))
 
-    def at(*components: bytes, realm: bytes = CONFIG_REALM) -> Credential:
-        return replace(TICKET, server=Name(components, realm))
-
     odd = Name((b"a/b", b"\n\0@"), b"\\R")
     key = bytes([0, 0x1F, 0x20, 0x5C, 0x7E, 0x7F, 0xFF])
     escaped = b"\\x00\\x1f \\\\~\\x7f\\xff"
@@ -104,11 +84,11 @@ def given() -> list[Case]:
         of("a value without a key", config(b"", b"v"), b"config "),
         of("escapes", config(key, b"v", key), b"config " + escaped + b"(" + escaped + b")"),
         of("another client's value", config(b"k", b"v", client=KRBTGT), b"config k"),
-        of("a value with times and a key", at(CONFIG_FIRST, b"k"), b"config k"),
-        of("one component alone", at(CONFIG_FIRST), b"etype 17 krb5_ccache_conf_data@X-CACHECONF:"),
-        of("four components", at(CONFIG_FIRST, b"a", b"b", b"c"),
+        of("a value with times and a key", config_ticket(b"k"), b"config k"),
+        of("one component alone", config_ticket(), b"etype 17 krb5_ccache_conf_data@X-CACHECONF:"),
+        of("four components", config_ticket(b"a", b"b", b"c"),
            b"etype 17 krb5_ccache_conf_data/a/b/c@X-CACHECONF:"),
-        of("another realm", at(CONFIG_FIRST, b"k", realm=b"X-RMED-CONF:"),
+        of("another realm", config_ticket(b"k", realm=b"X-RMED-CONF:"),
            b"etype 17 krb5_ccache_conf_data/k@X-RMED-CONF:"),
     ]
 
@@ -141,10 +121,10 @@ def settings() -> list[Case]:
     after = credentials(config(b"k", b"1").removed(), TICKET, config(b"k", b"2").removed(),
                         config(b"k", b"3"))
     others = [config(b"k", b"1", b"a@R"), config(b"l", b"1"), config(b"k", b"1", client=KRBTGT),
-              config(b"k", b"1").removed(), replace(TICKET, server=Name((CONFIG_FIRST, b"k")))]
+              config(b"k", b"1").removed(), config_ticket(b"k", realm=b"R")]
     beside = credentials(*others)
     typed = Name((b"u",), b"R", 7)
-    odd = replace(TICKET, client=typed, server=Name((CONFIG_FIRST, b"k"), CONFIG_REALM, 9))
+    odd = config_ticket(b"k", name_type=9, client=typed)
     return [
         edit("a value in place of one", USUAL, [SET_3], ["placed 392", "gone 148"], SET),
         edit("in place of two, in the order of the file", before, ["config k - 3"],
@@ -184,8 +164,8 @@ def set_walks() -> list[Case]:
 
 def rewrites() -> list[Case]:
     """All live credentials anew in version 4, and the walks carried along."""
-    anew = credentials(TICKET, PA_TYPE, fields=offset(5, -10))
-    two = offset(7, 8) + offset(5, -10)
+    anew = credentials(TICKET, PA_TYPE, fields=OFFSET)
+    two = offset(7, 8) + OFFSET
     full = Name((b"x" * (LIMIT - 19),)).spelled()
     return [
         edit("walks are carried", USUAL,
@@ -206,7 +186,7 @@ def rewrites() -> list[Case]:
              refused("rewritten 278", "refused 4", "walk 0 at 34"), anew),
         edit("nothing but removed ones", credentials(TICKET.removed(), fields=FIELDS),
              ["resume 148", "rewrite", "step 0"],
-             ["walk 0 at 148", "rewritten 34", "walk 0 end 34"], cache(fields=offset(5, -10))),
+             ["walk 0 at 148", "rewritten 34", "walk 0 end 34"], cache(fields=OFFSET)),
         edit("too long in version 4", b"\x05\x03" + full, ["start", "rewrite", "resume 22"],
              refused(f"walk 0 at {LIMIT}", "refused 3", "refused 4")),
     ]

@@ -3,18 +3,10 @@ from __future__ import annotations
 
 from dataclasses import replace
 
-from cache_images import (
-    KRBTGT,
-    TICKET,
-    USUAL,
-    Name,
-    cache,
-    credentials,
-    header_field,
-    offset,
-)
+from cache_images import KRBTGT, Name, cache, credentials, header_field, offset
 from cache_listings import CONFIG_LINE, TICKET_LINE, case, damaged, of_host
 from harness import Case, Report, check_case, message
+from usual_caches import TICKET, USUAL
 
 
 def refused(name: str, image: bytes, why: int) -> Case:

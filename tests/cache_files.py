@@ -4,11 +4,12 @@ from __future__ import annotations
 import os
 from dataclasses import replace
 
-from cache_images import TICKET, USUAL, Credential, Name, U, cache, config, credentials
+from cache_images import Credential, Name, U, cache, config, credentials
 from cache_listings import TICKET_LINE
 from cache_reading import listed
 from file_names import LIMIT, NAMES
 from harness import Case, Outcome, Report, check_case, folder_of, message, run
+from usual_caches import TICKET, USUAL
 
 
 def klist(name: str, file: str, wanted: Outcome, files: dict[str, bytes]) -> Case:

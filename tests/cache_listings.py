@@ -4,23 +4,11 @@ from __future__ import annotations
 from dataclasses import replace
 from functools import partial
 
-from cache_images import (
-    CONFIG_FIRST,
-    CONFIG_REALM,
-    PA_TYPE,
-    REMOVED,
-    TICKET,
-    USUAL,
-    VERSION_3,
-    Credential,
-    Name,
-    cache,
-    config,
-    credentials,
-)
+from cache_images import CONFIG_FIRST, CONFIG_REALM, Credential, Name, cache, config, credentials
 from cache_reading import FLAGS, listed
 from columns import KNOWN_TIMES, NAMES, dates, month_edges
 from harness import Case, Outcome, Report, check_case
+from usual_caches import PA_TYPE, TICKET, USUAL, VERSION_3, config_ticket
 
 START, END = b"2023-11-14T22:13:20Z", b"2023-11-15T08:13:20Z"
 TIMES = START + b" " + END + b" "
@@ -130,8 +118,8 @@ def marks() -> list[Case]:
                     shown + b" krbtgt/R@R")
 
     return [
-        case("mark, both", credentials(replace(TICKET, **REMOVED))),
-        case("mark, both and a starttime", credentials(replace(TICKET, starttime=1, **REMOVED))),
+        case("mark, both", credentials(TICKET.removed())),
+        case("mark, both and a starttime", credentials(replace(TICKET, starttime=1).removed())),
         of("endtime 0 alone", START + b" " + never, endtime=0),
         of("authtime 0 and endtime 0", never + b" " + never, authtime=0, endtime=0),
         of("the greatest authtime alone", greatest + b" " + END, authtime=2**32 - 1),
@@ -201,9 +189,6 @@ def configs() -> list[Case]:
         image = credentials(cell, TICKET)
         return case(f"configuration, {name}", image, *lines, TICKET_LINE, columns="C")
 
-    def at(*components: bytes, realm: bytes = CONFIG_REALM) -> Credential:
-        return replace(TICKET, server=Name(components, realm))
-
     ticket = TIMES + CONFIG_FIRST
     other = Name((b"v",), b"S")
     return [
@@ -215,14 +200,14 @@ def configs() -> list[Case]:
            b"config: " + shown + b"(" + shown + b") = " + shown),
         of("another client's", config(b"k", b"v", client=other), b"config: k = v"),
         of("one that was removed", config(b"k", b"v").removed()),
-        of("one with times and a key", at(CONFIG_FIRST, b"k"), b"config: k = tkt"),
-        of("one component", at(CONFIG_FIRST), ticket + b"@X-CACHECONF:"),
-        of("four components", at(CONFIG_FIRST, b"a", b"b", b"c"), ticket + b"/a/b/c@X-CACHECONF:"),
-        of("another first component", at(CONFIG_FIRST[:-1], b"k"),
+        of("one with times and a key", config_ticket(b"k"), b"config: k = tkt"),
+        of("one component", config_ticket(), ticket + b"@X-CACHECONF:"),
+        of("four components", config_ticket(b"a", b"b", b"c"), ticket + b"/a/b/c@X-CACHECONF:"),
+        of("another first component", config_ticket(b"k", first=CONFIG_FIRST[:-1]),
            TIMES + CONFIG_FIRST[:-1] + b"/k@X-CACHECONF:"),
-        of("another realm", at(CONFIG_FIRST, b"k", realm=CONFIG_REALM[:-1]),
+        of("another realm", config_ticket(b"k", realm=CONFIG_REALM[:-1]),
            ticket + b"/k@X-CACHECONF"),
-        of("the realm of MIT's removed ones", at(CONFIG_FIRST, b"k", realm=b"X-RMED-CONF:"),
+        of("the realm of MIT's removed ones", config_ticket(b"k", realm=b"X-RMED-CONF:"),
            ticket + b"/k@X-RMED-CONF:"),
         case("configuration entries without -C", credentials(config(b"k", b"v"), TICKET, PA_TYPE),
              TICKET_LINE, FLAGS_LINE, columns="f"),

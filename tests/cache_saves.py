@@ -8,7 +8,7 @@ import time
 from collections.abc import Callable
 from dataclasses import dataclass
 
-from cache_images import PA_TYPE, TICKET, USUAL, credentials, header_field, offset
+from cache_images import credentials
 from disk_saves import (
     Locked,
     Owned,
@@ -22,14 +22,13 @@ from disk_saves import (
 )
 from harness import Outcome, Report, differences, folder_of, message, run
 from saves_among_others import ofd_lock
+from usual_caches import FIELDS, OFFSET, PA_TYPE, TICKET, USUAL
 
 UNSAVED = message(3, "c: cannot write")
 
 # What needs no hold ends within so many seconds, and a hold that is had waits for a moment.
 AT_ONCE = 3
 MOMENT = 0.3
-
-FIELDS = header_field(9, b"\xab\xcd") + offset(5, -10)
 
 
 @dataclass(frozen=True)
@@ -54,7 +53,7 @@ CHANGES = (
     Change(("ccedit",), Outcome(0, b"gone 40\n"),
            credentials(TICKET.removed(), PA_TYPE, TICKET.removed(), fields=FIELDS), b"cut 40\n"),
     Change(("ccremove", "-p", "krbtgt/R@R"), Outcome(0, b"removed 40 krbtgt/R@R\n"),
-           credentials(PA_TYPE, fields=offset(5, -10))),
+           credentials(PA_TYPE, fields=OFFSET)),
 )
 
 # Runs that take no hold, and those that take one and then have nothing to save.

@@ -2,10 +2,11 @@
 from __future__ import annotations
 
 from cache_edits import SET, SET_3, edit
-from cache_images import U, USUAL, cache, config
+from cache_images import U, cache, config
 from edits import LINE_FAULTS, faulty_lines, text
 from file_names import LIMIT
 from harness import Case, Report, check_case, message
+from usual_caches import USUAL
 
 # Lines, and the fault that each has.
 FAULTS: dict[str, int] = {

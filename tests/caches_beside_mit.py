@@ -15,7 +15,7 @@ from contextlib import contextmanager
 from dataclasses import replace
 from random import Random
 
-from cache_images import PA_TYPE, TICKET, config, credentials, offset
+from cache_images import config, credentials, offset
 from cache_listings import HOST_LINE, of_host
 from cache_peers import told_by_mit, told_by_us
 from cache_reading import listed
@@ -23,6 +23,7 @@ from harness import SECONDS, Outcome, Report, differences, folder_of, run
 from images import Entry, entries
 from random_caches import random_credential, random_name
 from reading import read_image
+from usual_caches import PA_TYPE, TICKET
 
 REMOVER = os.path.join(os.path.dirname(os.path.abspath(__file__)), "remove_credentials.py")
 

@@ -3,12 +3,13 @@ from __future__ import annotations
 
 from dataclasses import replace
 
-from cache_images import TICKET, USUAL, credentials, offset
+from cache_images import credentials, offset
 from edits import text
 from harness import Outcome, Report, differences, message
 from ktutil_lines import ADDENT, KEY, TIMES
 from preload import Line, Preloaded, preloaded
 from terminal import EXPLAIN
+from usual_caches import TICKET, USUAL
 
 LINE = Line(("ktutil",), text([ADDENT, KEY, "l -t"]))
 

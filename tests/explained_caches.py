@@ -3,10 +3,11 @@ from __future__ import annotations
 
 
 from cache_edits import long_ticket
-from cache_images import USUAL, VERSION_3, credentials
+from cache_images import credentials
 from explained import Told, check_told, in_the_way
 from file_names import LIMIT
 from harness import Report
+from usual_caches import USUAL, VERSION_3
 
 DAMAGED = "the file is damaged; klist tells where"
 READ_ONLY = "a cache of version 3 is changed only by a rewrite"

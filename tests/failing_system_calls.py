@@ -9,7 +9,6 @@ import re
 import signal
 from dataclasses import dataclass
 
-from cache_images import USUAL
 from failing_streams import Ends, ends_in_output
 from harness import Outcome, Report, differences, files_in, folder_of
 from images import TWO, B, entries
@@ -28,6 +27,7 @@ from modelled import (
 from preload import Counted, Line
 from removal_model import Asked
 from system_calls import Call, calls_of, check_traced, traced
+from usual_caches import USUAL
 
 ERRORS = ("EIO", "ENOSPC", "EACCES", "EPERM", "EINTR", "ENOMEM")
 

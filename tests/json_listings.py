@@ -4,9 +4,10 @@ from __future__ import annotations
 import json
 from dataclasses import replace
 
-from cache_images import PA_TYPE, TICKET, U, USUAL, VERSION_3, Name, cache, config, credentials
+from cache_images import U, Name, cache, config, credentials
 from harness import Case, Outcome, Report, check_case, message, run_case
 from images import BIG, HOST, LITTLE, TWO, Entry, entries, keytab, record
+from usual_caches import PA_TYPE, TICKET, USUAL, VERSION_3
 
 HOST_FRONT = (b'{"place":2,"principal":"host/a@R","kvno":3,"etype":17,'
               b'"etype_name":"aes128-cts-hmac-sha1-96","timestamp":1700000000')

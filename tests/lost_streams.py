@@ -4,13 +4,14 @@ from __future__ import annotations
 import os
 import subprocess
 
-from cache_images import PA_TYPE, USUAL, credentials, offset
+from cache_images import credentials
 from cache_listings import CONFIG_LINE, TICKET_LINE
 from cache_reading import listed as cache_listed
 from edits import GAVE_HOST, text
 from harness import Case, Outcome, Report, faults_of, folder_of, message, run_case
 from images import B, HOST, TWO, entries, hole, keytab
 from listings import B_LINE, B_RECORD, HOST_LINE, listed
+from usual_caches import OFFSET, PA_TYPE, USUAL
 
 NO_OUTPUT = message(3, "cannot write output")
 NO_INPUT = message(3, "cannot read input")
@@ -27,7 +28,7 @@ REMOVE = ("ktremove", "-p", "host/a@R", "k")
 
 # What a removal of tickets, and what a rewrite, makes of the cache, and the replies of the latter.
 REMOVE_TICKET = ("ccremove", "-p", "krbtgt/R@R", "c")
-TICKETLESS = {**FILES, "c": credentials(PA_TYPE, fields=offset(5, -10))}
+TICKETLESS = {**FILES, "c": credentials(PA_TYPE, fields=OFFSET)}
 CUT_TICKET = b"start\ncut 40\nrewrite\n"
 CUT_REPLIES = b"walk 0 at 40\ngone 40\nrewritten 170\n"
 KLIST, CACHE, KTFIND = ("klist", "-k", "k"), ("klist", "-C", "c"), ("ktfind", "k", "0", "0", "b@R")

@@ -9,7 +9,7 @@ import check_model
 import json_model
 import reading
 import ticket_removal_model
-from cache_images import PA_TYPE, TICKET, USUAL, VERSION_3, Name, config, credentials, header_field
+from cache_images import Name, config, credentials, header_field
 from cache_model import Cache
 from cache_script_model import cache_edited
 from edits import DAMAGED
@@ -20,6 +20,7 @@ from ktutil_model import handled
 from removal_model import OLD, Asked, removal
 from script_model import edited
 from ticket_removal_model import ticket_removal
+from usual_caches import PA_TYPE, TICKET, USUAL, VERSION_3
 
 # The time of a run's start, which is that of new entries.
 NOW = 1_700_000_000

@@ -7,7 +7,7 @@ import signal
 import subprocess
 from dataclasses import dataclass, replace
 
-from cache_images import TICKET, USUAL, Name, credentials
+from cache_images import Name, credentials
 from cache_listings import CONFIG_LINE, ETYPE_LINE, FLAGS_LINE, TICKET_LINE
 from cache_listings import TIMES as CACHE_TIMES
 from cache_reading import listed as cache_listed
@@ -16,6 +16,7 @@ from images import TWO, Entry, entries
 from ktutil_lines import HEADING, lines
 from listings import B_LINE, HOST_LINE, listed
 from terminal import EXPLAIN
+from usual_caches import TICKET, USUAL
 
 FAILED = message(3, "cannot write output")
 

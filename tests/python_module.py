@@ -5,10 +5,11 @@ import os
 import subprocess
 import sys
 
-from cache_images import PA_TYPE, TICKET, Credential, Name, cache, config, credentials
+from cache_images import Credential, Name, cache, config, credentials
 from harness import SECONDS, Outcome, Report
 from images import B, TWO, Entry, entries
 from readme import LIBRARY, surroundings
+from usual_caches import PA_TYPE, TICKET
 
 KEYTABS = """
 from krbfile import Keytab, KrbfileError

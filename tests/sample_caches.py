@@ -4,19 +4,8 @@ from __future__ import annotations
 from dataclasses import replace
 from hashlib import sha256
 
-from cache_images import (
-    PA_TYPE,
-    TICKET,
-    USUAL,
-    VERSION_3,
-    Credential,
-    Name,
-    cache,
-    config,
-    credentials,
-    header_field,
-    offset,
-)
+from cache_images import Credential, Name, cache, config, credentials, header_field, offset
+from usual_caches import PA_TYPE, TICKET, USUAL, VERSION_3
 
 REALM = b"EXAMPLE.COM"
 USER = Name((b"user",), REALM)

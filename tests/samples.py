@@ -6,9 +6,10 @@ import sys
 from contextlib import contextmanager
 from dataclasses import replace
 
-from cache_images import PA_TYPE, TICKET, Name, credentials
+from cache_images import Name, credentials
 from harness import folder_of
 from images import B, HOST, LITTLE, TWO, Entry, entries, hole, keytab, record
+from usual_caches import PA_TYPE, TICKET
 
 # A record that says that it has 47 bytes, of which 20 are there.
 CUT = (47).to_bytes(4, "big") + HOST.spelled()[:20]

@@ -3,11 +3,12 @@ from __future__ import annotations
 
 from dataclasses import dataclass, replace
 
-from cache_images import TICKET, Name, cache, credentials
+from cache_images import Name, cache, credentials
 from cache_model import Cache
 from cache_reading import read_cache
 from images import Entry, entries, keytab
 from reading import no_keytab, read_image
+from usual_caches import TICKET
 
 # How many runs there are at once.
 MANY = 60

@@ -5,25 +5,12 @@ import os
 from dataclasses import replace
 
 from cache_files import sized
-from cache_images import (
-    CONFIG_FIRST,
-    CONFIG_REALM,
-    PA_TYPE,
-    TICKET,
-    USUAL,
-    VERSION_3,
-    Credential,
-    Name,
-    cache,
-    config,
-    credentials,
-    header_field,
-    offset,
-)
+from cache_images import Credential, Name, cache, config, credentials, header_field, offset
 from cache_listings import of_host
 from file_names import LIMIT
 from harness import Case, Outcome, Report, check_case, folder_of, message, run
 from removals import check_left_alone, check_mode
+from usual_caches import FIELDS, OFFSET, PA_TYPE, TICKET, USUAL, VERSION_3, config_ticket
 
 NONE = message(1, "c: refused 9")
 DAMAGED = message(1, "c: refused 1")
@@ -32,9 +19,6 @@ UNREAD = message(2, "bad command line")
 
 # Times that are over, and that do not come.
 PAST, FUTURE = 1_700_036_000, 2**32 - 1
-
-OFFSET = offset(5, -10)
-FIELDS = header_field(9, b"\xab\xcd") + OFFSET
 
 # The key of each, of which nothing is to be left in the file.
 OLD_KEY, NEW_KEY = b"old session key.", b"new session key!"
@@ -109,8 +93,8 @@ def selections() -> list[Case]:
 def values() -> list[Case]:
     """Configuration entries are never asked for, whatever their fields are."""
     text = "krb5_ccache_conf_data/pa_type/krbtgt\\/R\\@R@X-CACHECONF:"
-    timed = replace(TICKET, server=Name((CONFIG_FIRST, b"k"), CONFIG_REALM), endtime=1)
-    nearly = replace(TICKET, server=Name((CONFIG_FIRST,), CONFIG_REALM), endtime=1)
+    timed = config_ticket(b"k", endtime=1)
+    nearly = config_ticket(endtime=1)
     other = config(b"k", b"v", client=Name((b"v",)))
     image = credentials(PA_TYPE, timed, other, nearly)
     place = 22 + len(PA_TYPE.spelled()) + len(timed.spelled()) + len(other.spelled())
