@@ -1,7 +1,4 @@
-//! Texts of keytabs and caches. Images and texts are spelled out by hand.
+//! Texts of keytabs and caches where memory or the output fails. Images and texts are spelled out by hand.
 
-mod caches;
 mod failures;
 mod images;
-mod keytabs;
-mod strings;

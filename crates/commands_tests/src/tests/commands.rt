@@ -181,7 +181,7 @@ const ALL: CcColumns = CcColumns {
 };
 
 /// A listing of that kind of file.
-fn listing(kind: ListKind) -> KlistOptions {
+pub fn listing(kind: ListKind) -> KlistOptions {
     KlistOptions {
         kind,
         v1_order: Order::Little,

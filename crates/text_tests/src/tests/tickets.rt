@@ -93,49 +93,6 @@ fn check<R: Abort + AllocGlobal>(rt: &R, cache: &Ccache<Global>, row: Row) -> Re
     Ok(())
 }
 
-const CONFIG_NAME: &str = "krb5_ccache_conf_data/pa_type/krbtgt\\/R\\@R@X-CACHECONF:";
-
-const ALL: &str = "removed 22 krbtgt/R@R\nremoved 111 host/a@R\nremoved 420 krbtgt/R@R\n";
-
-#[test]
-fn tickets_of_version_4(rt: HostRuntime) -> Result<(), Fail> {
-    let cache = opened(rt.alloc(), b"\x05\x04\0\0", KEY, &TICKETS)?;
-    let rows: [Row; 10] = [
-        (None, None, &[22, 111, 420], ALL, true),
-        (None, Some(u32::MAX), &[22, 111, 420], ALL, true),
-        (None, Some(998), &[], "", true),
-        (None, Some(999), &[420], "removed 420 krbtgt/R@R\n", true),
-        (
-            None,
-            Some(1000),
-            &[22, 420],
-            "removed 22 krbtgt/R@R\nremoved 420 krbtgt/R@R\n",
-            true,
-        ),
-        (
-            Some("krbtgt/R@R"),
-            None,
-            &[22, 420],
-            "removed 22 krbtgt/R@R\nremoved 420 krbtgt/R@R\n",
-            true,
-        ),
-        (Some("host/a@R"), Some(1999), &[], "", true),
-        (
-            Some("host/a@R"),
-            Some(2000),
-            &[111],
-            "removed 111 host/a@R\n",
-            true,
-        ),
-        (Some("host/b@R"), None, &[], "", false),
-        (Some(CONFIG_NAME), None, &[], "", false),
-    ];
-    for row in rows {
-        check(&rt, &cache, row)?;
-    }
-    Ok(())
-}
-
 #[test]
 fn tickets_of_version_3(rt: HostRuntime) -> Result<(), Fail> {
     let cache = opened(rt.alloc(), b"\x05\x03", KEY_OF_VERSION_3, &TICKETS)?;
@@ -157,17 +114,6 @@ fn tickets_of_version_3(rt: HostRuntime) -> Result<(), Fail> {
     ];
     for row in rows {
         check(&rt, &cache, row)?;
-    }
-    Ok(())
-}
-
-/// A configuration entry is no ticket, and neither is what is removed.
-#[test]
-fn a_cache_without_tickets(rt: HostRuntime) -> Result<(), Fail> {
-    let credentials = [(CONFIG, NO_TIMES), (HOST, REMOVED)];
-    let cache = opened(rt.alloc(), b"\x05\x04\0\0", KEY, &credentials)?;
-    for server in [None, Some("host/a@R"), Some(CONFIG_NAME)] {
-        check(&rt, &cache, (server, None, &[], "", false))?;
     }
     Ok(())
 }
