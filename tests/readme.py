@@ -13,7 +13,7 @@ from samples import folder_of_samples
 TOP = os.path.dirname(os.path.dirname(os.path.abspath(__file__)))
 SHOWN = os.path.join(TOP, "README.md")
 LIBRARY = os.path.join(TOP, "lib", "libkrbfile.so.1")
-PROVED = os.path.join(TOP, "crates", "krb_indexed", "src", "tests", "readme.rt")
+PROVED = os.path.join(TOP, "crates", "indexed_tests", "src", "tests", "readme.rt")
 
 
 def shown() -> str:
