@@ -38,15 +38,34 @@ pub const CALLS: [&str; 24] = [
 /// The calls that leave a file that is held.
 pub const LEAVES: &str = "tell\nlook k.krbfile\nremove k.krbfile\n";
 
+/// Files of such a disk. What their calls promise ends at the functions below, which keeps the proofs of tests short.
+pub type Noted<'a, 'c> = DiskFiles<'a, (Disk<'c>, Global)>;
+
+pub fn hold(files: &mut Noted<'_, '_>, name: &str) {
+    files.hold(name);
+}
+
+pub fn release(files: &mut Noted<'_, '_>) {
+    files.release();
+}
+
+/// Whether `k` is loaded.
+pub fn loads(files: &mut Noted<'_, '_>, alloc: Global) -> bool {
+    files.load(alloc, "k", 10).is_ok()
+}
+
 /// What a save answers, how many failures are counted, and what the last one was.
 pub type Saved = (Result<(), SaveFault>, u64, Option<Cause>);
+
+pub fn save_in(files: &mut Noted<'_, '_>, name: &str) -> Saved {
+    let saved = files.save(name, b"bytes");
+    (saved, files.failures(), files.cause())
+}
 
 /// Saves under a name on a disk with those calls.
 pub fn save(alloc: Global, calls: &Calls, name: &str) -> Saved {
     let disk = (Disk { calls }, alloc);
-    let mut files = DiskFiles::new(&disk);
-    let saved = files.save(name, b"bytes");
-    (saved, files.failures(), files.cause())
+    save_in(&mut DiskFiles::new(&disk), name)
 }
 
 /// What a save answers that failed with that cause.

@@ -1,7 +1,7 @@
-use super::calls::{CALLS, LEAVES, Saved, failed, save, some_calls};
+use super::calls::{CALLS, LEAVES, Saved, failed, hold, loads, release, save, save_in, some_calls};
 use super::disks::{Calls, Disk};
 use krb_disk::DiskFiles;
-use krb_files::{Cause, Files};
+use krb_files::Cause;
 use std::alloc::Global;
 use std::test::Fail;
 
@@ -9,12 +9,12 @@ use std::test::Fail;
 fn change(alloc: Global, calls: &Calls, bytes: &'static [u8]) -> Saved {
     let disk = (Disk { calls }, alloc);
     let mut files = DiskFiles::new(&disk);
-    files.hold("k");
-    let _ = files.load(alloc, "k", 10);
+    hold(&mut files, "k");
+    let _ = loads(&mut files, alloc);
     calls.bytes.set(bytes);
-    let saved = files.save("k", b"bytes");
-    files.release();
-    (saved, files.failures(), files.cause())
+    let saved = save_in(&mut files, "k");
+    release(&mut files);
+    saved
 }
 
 /// A file that is held is saved only where it has the bytes that were loaded.
@@ -139,14 +139,14 @@ fn a_file_that_is_left(rt: HostRuntime) -> Result<(), Fail> {
     let calls = Calls::whole(rt.alloc());
     let disk = (Disk { calls: &calls }, rt.alloc());
     let mut files = DiskFiles::new(&disk);
-    files.hold("k");
-    files.release();
-    files.release();
+    hold(&mut files, "k");
+    release(&mut files);
+    release(&mut files);
     let mut lines = some_calls(rt.alloc(), 0, 10)?;
     lines.push_str(LEAVES)?;
     assert!(rt; calls.are(&lines));
-    files.hold("k");
-    let _ = files.save("d", b"bytes");
+    hold(&mut files, "k");
+    let _ = save_in(&mut files, "d");
     lines.push_str(&some_calls(rt.alloc(), 0, 10)?)?;
     lines.push_str(LEAVES)?;
     lines.push_str("look d\n")?;
@@ -160,10 +160,9 @@ fn a_hold_that_is_refused(rt: HostRuntime) -> Result<(), Fail> {
     let calls = Calls::new(rt.alloc(), 2, 13);
     let disk = (Disk { calls: &calls }, rt.alloc());
     let mut files = DiskFiles::new(&disk);
-    files.hold("k");
-    assert!(rt; files.load(rt.alloc(), "k", 10).is_ok());
-    assert!(rt; files.save("k", b"bytes").is_err());
-    assert!(rt; files.cause() == Some(Cause::PermissionDenied));
+    hold(&mut files, "k");
+    assert!(rt; loads(&mut files, rt.alloc()));
+    assert!(rt; save_in(&mut files, "k") == failed(Cause::PermissionDenied));
     assert!(rt; calls.are("look k\nmake k.krbfile\nopen k\ntell\nread\n"));
     Ok(())
 }

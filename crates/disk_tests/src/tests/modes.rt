@@ -1,3 +1,4 @@
+use super::calls::{hold, loads};
 use super::disks::{Calls, Disk};
 use krb_disk::DiskFiles;
 use krb_files::Files;
@@ -49,13 +50,13 @@ fn the_mode_of_the_last_load(rt: HostRuntime) -> Result<(), Fail> {
         let disk = (Disk { calls: &calls }, rt.alloc());
         let mut files = DiskFiles::new(&disk);
         if is_held {
-            files.hold("k");
+            hold(&mut files, "k");
         }
         let held = calls.count.get();
-        assert!(rt; files.load(rt.alloc(), "k", 10).is_ok());
+        assert!(rt; loads(&mut files, rt.alloc()));
         assert!(rt; files.mode() == Some(0o644));
         assert!(rt; calls.count.get() == held.wrapping_add(3));
-        assert!(rt; files.load(rt.alloc(), "k", 10).is_err());
+        assert!(rt; !loads(&mut files, rt.alloc()));
         assert!(rt; files.mode() == None);
     }
     Ok(())

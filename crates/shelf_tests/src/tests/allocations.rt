@@ -58,8 +58,8 @@ fn a_run_goes_on_where_it_stopped(rt: HostRuntime) -> Result<(), Fail> {
     Ok(())
 }
 
-/// The reply to an event that takes no memory.
-fn reply_without_memory<M: Allocator + Copy>(
+/// The reply to an event, unless memory runs out.
+fn reply_to<M: Allocator + Copy>(
     session: &mut Session<Shelf<M>, M>,
     event: Event<[u8; 4]>,
 ) -> Result<Reply<M>, Fail> {
@@ -86,7 +86,7 @@ fn events_without_memory_are_answered_as_ever(rt: HostRuntime) -> Result<(), Fai
         (Event::Put(C), Told::Placed(8)),
         (Event::Rewrite, Told::Rewritten(16)),
     ] {
-        let reply = reply_without_memory(&mut session, event)?;
+        let reply = reply_to(&mut session, event)?;
         assert!(rt; tells(&reply, told));
     }
     assert!(rt; !heap.refused());
@@ -100,9 +100,9 @@ fn events_without_memory_change_nothing(rt: HostRuntime) -> Result<(), Fail> {
     let heap = Refusing::new(rt.alloc());
     let mut session = session_over(&heap, &[Some(A), Some(B)])?;
     heap.refuse_from(1);
-    reply_without_memory(&mut session, Event::Start)?;
-    assert!(rt; session.apply(&Event::Step(0)).is_err());
-    assert!(rt; session.apply(&Event::Put(C)).is_err());
+    reply_to(&mut session, Event::Start)?;
+    assert!(rt; reply_to(&mut session, Event::Step(0)).is_err());
+    assert!(rt; reply_to(&mut session, Event::Put(C)).is_err());
     assert!(rt; heap.refused());
     assert_eq!(rt; session.walks(), 1);
     assert_eq!(rt; session.cursor(0), Some(8));
