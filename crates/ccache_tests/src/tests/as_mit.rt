@@ -3,7 +3,7 @@
 
 use super::changes::created;
 use super::{CONFIG_SERVER, KEY, OWNER, REMOVED, TICKET, TIMES, joined, opened};
-use krb_ccache::Cred;
+use krb_ccache::{Ccache, Cred};
 use krb_wire::{Principal, parse_name};
 use std::alloc::Global;
 use std::test::Fail;
@@ -53,16 +53,35 @@ fn ticket_for(alloc: Global, server: &[u8]) -> Result<Cred<Global>, Fail> {
     })
 }
 
+fn empty(alloc: Global) -> Result<Ccache<Global>, Fail> {
+    match created(alloc, alloc, None)? {
+        Ok(cache) => Ok(cache),
+        Err(_) => Err(Fail::from("no cache")),
+    }
+}
+
+// Whether a ticket for that server is stored at that place.
+fn is_stored(
+    alloc: Global,
+    cache: &mut Ccache<Global>,
+    server: &[u8],
+    place: u32,
+) -> Result<bool, Fail> {
+    Ok(cache.store(&ticket_for(alloc, server)?) == Ok(place))
+}
+
+fn is_removed(cache: &mut Ccache<Global>, place: u32) -> bool {
+    cache.remove_at(place).is_ok()
+}
+
 #[test]
 fn tickets_are_stored_and_removed(rt: HostRuntime) -> Result<(), Fail> {
-    let Ok(mut cache) = created(rt.alloc(), rt.alloc(), None)? else {
-        return Err(Fail::from("no cache"));
-    };
+    let mut cache = empty(rt.alloc())?;
     for (server, place) in [(b"a@R", 22), (b"b@R", 120), (b"c@R", 218)] {
-        assert!(rt; cache.store(&ticket_for(rt.alloc(), server)?) == Ok(place));
+        assert!(rt; is_stored(rt.alloc(), &mut cache, server, place)?);
     }
     assert!(rt; cache.image() == joined(rt.alloc(), &tickets(TIMES))?.as_slice());
-    assert!(rt; cache.remove_at(120).is_ok());
+    assert!(rt; is_removed(&mut cache, 120));
     assert!(rt; cache.image() == joined(rt.alloc(), &tickets(REMOVED))?.as_slice());
     Ok(())
 }
@@ -80,7 +99,7 @@ fn a_removed_configuration_entry_keeps_its_realm(rt: HostRuntime) -> Result<(), 
     let mut after = joined(rt.alloc(), &entry)?;
     after.extend_from_slice(&joined(rt.alloc(), &[REMOVED, VALUE])?)?;
     let mut cache = opened(before)?;
-    assert!(rt; cache.remove_at(22).is_ok());
+    assert!(rt; is_removed(&mut cache, 22));
     assert!(rt; cache.image() == after.as_slice());
     Ok(())
 }
@@ -147,24 +166,36 @@ const SETS: [Set; 5] = [
 
 const CONFIG_REALM: &[u8] = b"\0\0\0\x0cX-CACHECONF:\0\0\0\x15krb5_ccache_conf_data";
 
-#[test]
-fn configuration_values_are_set(rt: HostRuntime) -> Result<(), Fail> {
-    let Ok(mut cache) = created(rt.alloc(), rt.alloc(), None)? else {
-        return Err(Fail::from("no cache"));
-    };
-    let mut image = joined(rt.alloc(), &[FRONT, OWNER])?;
-    for set in &SETS {
-        assert!(rt; cache.set_config(set.key, set.principal, set.value) == Ok(set.place));
-        let server = [
+// Whether a value is set, with its entry at its place.
+fn is_set(cache: &mut Ccache<Global>, set: &Set) -> bool {
+    cache.set_config(set.key, set.principal, set.value) == Ok(set.place)
+}
+
+// The entry of a value.
+fn entry_of(alloc: Global, set: &Set) -> Result<Vec<u8>, Fail> {
+    joined(
+        alloc,
+        &[
             OWNER,
             b"\0\0\0\x01",
             set.count,
             CONFIG_REALM,
             set.components,
-        ];
-        image.extend_from_slice(&joined(rt.alloc(), &server)?)?;
-        let rest = [&[0; 35], set.len, set.value, b"\0\0\0\0"];
-        image.extend_from_slice(&joined(rt.alloc(), &rest)?)?;
+            &[0; 35],
+            set.len,
+            set.value,
+            b"\0\0\0\0",
+        ],
+    )
+}
+
+#[test]
+fn configuration_values_are_set(rt: HostRuntime) -> Result<(), Fail> {
+    let mut cache = empty(rt.alloc())?;
+    let mut image = joined(rt.alloc(), &[FRONT, OWNER])?;
+    for set in &SETS {
+        assert!(rt; is_set(&mut cache, set));
+        image.extend_from_slice(&entry_of(rt.alloc(), set)?)?;
         assert!(rt; cache.image() == image.as_slice());
     }
     Ok(())
