@@ -71,8 +71,8 @@ lib: $(LIBRARY) $(SHARED)
 samples:
 	python3 tests/samples.py samples
 
-# Tests run the programs that the gate leaves, so that nothing is proved twice. What it took over from an earlier run
-# has no object file: then the static program is left out.
+# The tests run the programs that the gate leaves, so those are proved once. A program that the gate took over from an
+# earlier run has no object file: then the static one is left out.
 test:
 	rm -f $(BUILT) $(BUILT).o $(KTBENCH) $(STATIC)
 	rt ci
