@@ -15,6 +15,7 @@ BUILT = crates/krbfile/out/krbfile
 STATIC = bin/krbfile-static
 LIBRARY = lib/libkrbfile.a
 SHARED = lib/libkrbfile.so.1
+LINKER_NAME = lib/libkrbfile.so
 KIT = $(dir $(shell rt doc))
 KTBENCH = crates/ktbench/out/ktbench
 SOURCES = crates.txt $(shell find crates/*/src crates/*/specs crates/*/proofs -type f)
@@ -55,7 +56,9 @@ $(LIBRARY): lib/krbfile.o
 
 $(SHARED): lib/krbfile.o c/krbfile.map
 	$(CC) -shared -Wl,-z,defs -Wl,-soname,libkrbfile.so.1 -Wl,--version-script,c/krbfile.map -o $@ lib/krbfile.o
-	ln -sf libkrbfile.so.1 lib/libkrbfile.so
+
+$(LINKER_NAME): $(SHARED)
+	ln -sf $(notdir $(SHARED)) $@
 
 $(KTBENCH): $(SOURCES)
 	cd crates/ktbench && rt run -- script data/k /dev/null plain little > /dev/null
@@ -66,15 +69,15 @@ try:
 
 static: $(STATIC)
 
-lib: $(LIBRARY) $(SHARED)
+lib: $(LIBRARY) $(SHARED) $(LINKER_NAME)
 
 samples:
 	python3 tests/samples.py samples
 
 # The tests run the programs that the gate leaves, so those are proved once. A program that the gate took over from an
-# earlier run has no object file: then the static one is left out.
+# earlier run has no object file: then the static one is left out. The gate takes no folder that holds a link.
 test:
-	rm -f $(BUILT) $(BUILT).o $(KTBENCH) $(STATIC)
+	rm -f $(BUILT) $(BUILT).o $(KTBENCH) $(STATIC) $(LINKER_NAME)
 	rt ci
 	test -x $(BUILT) || (cd crates/krbfile && rt run -- --help > /dev/null)
 	test -x $(KTBENCH) || $(MAKE) --no-print-directory $(KTBENCH)
