@@ -13,7 +13,7 @@ use Rattle.krb_commands.specs.Loading.{most_bytes, Gives, PrintsOver, run_over}
 use Rattle.krb_commands.specs.Input.{GivesInput}
 use Rattle.krb_commands.specs.Runs.{Run, Shows, Prints, Says, SaysEnd, ends_by}
 use Rattle.krb_files.specs.declared.cause.Cause.{Cause}
-use Rattle.krb_commands.specs.Words.{words_if, ending_words}
+use Rattle.krb_commands.specs.Words.{ending_text, words_if, ending_words}
 use Rattle.krb_commands.specs.ErrorOutput.{ErrorWatch}
 use Rattle.krb_commands.specs.Troubles.{Ending, ending_message}
 use Rattle.krb_files.specs.Reader.{Source, ConsumesAtMost, is_failed}
@@ -36,13 +36,9 @@ SaysEnd-nothing file line err = record {
 }
 
 -- a message was said, with the words that are shown
-pub SaysEnd-by : (file : List ℕ) (line : Option ℕ) (cause : Option Cause) (ending : Ending) (err : ErrorWatch) (to : Watch) (words : List ℕ)
-    → Says err.to to (ending_message file ending ++ words) → words ≡ words_if err.explains (ending_words file line cause ending) → SaysEnd file line ending err (record { to = to; explains = err.explains })
-SaysEnd-by file line cause ending err to words said are = record {
-  cause = cause;
-  said = subst (λ (w : List ℕ). Says err.to to (ending_message file ending ++ w)) are said;
-  still = refl;
-}
+pub Says-words : (file : List ℕ) (line : Option ℕ) (cause : Option Cause) (ending : Ending) (err : ErrorWatch) (to : Watch) (words : List ℕ)
+    → Says err.to to (ending_message file ending ++ words) → words ≡ words_if err.explains (ending_words file line cause ending) → Says err.to to (ending_text err.explains file line cause ending)
+Says-words file line cause ending err to words said are = subst (λ (w : List ℕ). Says err.to to (ending_message file ending ++ w)) are said
 
 -- some trouble, before anything was printed
 pub Shows-trouble : (trouble : Trouble) (out : Watch) → IsFalse out.failed → Shows (ends_by trouble) out out (Err trouble)

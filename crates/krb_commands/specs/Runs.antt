@@ -40,7 +40,7 @@ pub record Says (old new : Watch) (text : List ℕ) : Type 0 where
   pub prefix : AppendsPrefix old.contents new.contents text
   pub whole : IsFalse new.failed → Appends old.contents new.contents text
 
--- it is said how a run, or a line of ktutil, ended that names that file; a cause is what the files told
+-- it is said how a run, or a line of ktutil, ended that names that file, by the words of some cause or of none
 pub record SaysEnd (file : List ℕ) (line : Option ℕ) (ending : Ending) (err err' : ErrorWatch) : Type 0 where
   pub cause : Option Cause
   pub said : Says err.to err'.to (ending_text err.explains file line cause ending)

@@ -13,8 +13,9 @@ ghost use Rattle.std.specs.Prelude.{◌≡◌, IsFalse, Err, codes};
 ghost use Rattle.krb_keytab.specs.Open.{open_fault_number};
 ghost use Rattle.krb_commands.specs.Messages.{file_message, file_number_message, line_message, message};
 ghost use Rattle.krb_commands.specs.PieceTexts.{pieces_text};
-ghost use Rattle.krb_commands.specs.Runs.{SaysEnd, Shows, Tells};
+ghost use Rattle.krb_commands.specs.Runs.{Says, SaysEnd, Shows, Tells};
 ghost use Rattle.krb_commands.specs.Troubles.{trouble_message};
+ghost use Rattle.krb_commands.specs.Words.{ending_text};
 
 use crate::loading::NotKeytab;
 use crate::telling::error_output::ErrorOutput;
@@ -163,7 +164,8 @@ fn say_trouble<E: Write>(
     cause: Option<Cause>,
     err: &mut ErrorOutput<E>,
 )
-    ensures { SaysEnd file.now line (Err trouble) err.old err.new }
+    ensures says { SaysEnd file.now line (Err trouble) err.old err.new }
+    ensures cause { Says err.old.to err.new.to (ending_text err.old.explains file.now line cause (Err trouble)) }
 {
     let message = trouble_message(trouble, file);
     if !err.explains {
@@ -190,7 +192,8 @@ pub fn tell<E: Write>(
     cause: Option<Cause>,
     err: &mut ErrorOutput<E>,
 ) -> u8
-    ensures { Tells file.now line ending err.old err.new result }
+    ensures tells { Tells file.now line ending err.old err.new result }
+    ensures cause { Says err.old.to err.new.to (ending_text err.old.explains file.now line cause ending) }
 {
     match ending {
         Ok(()) => 0,

@@ -25,8 +25,8 @@ returns-in-Ok-false g c =
 pub returns-in-Err : goal.returns-in-Err
 returns-in-Err g c =
     RunsKtutil-unread g.F.Files c.args.now c.args.v1_order c.args.files.now c.args.out.now c.args.err.now c.args.input.now c.read_line.new.reader c.lines.lines c.read_line.new.self c.lines.input.left c.lines.number _ c.lines.invariant.2
-    c.in-Err.ensures.grows c.in-Err.ensures.within c.in-Err.fault c.tell-status.new.err c.max.result c.in-Err.ensures.err c.lines.invariant.2.within c.in-Err.ensures.no_more (c.in-Err.ensures.failed ∙ ap (λ (b : Bool). is_failed c.in-Err.fault || b) c.lines.invariant.1) c.in-Err.ensures.never (λ e. c.in-Err.ensures.too_large (ap Err e)) (rw c.of_input.ensures at c.tell-status.ensures.says)
-    (c.max.ensures ∙ ap (max c.lines.talk.status) (c.tell-status.ensures.status_is ∙ ap trouble_status c.of_input.ensures))
+    c.in-Err.ensures.grows c.in-Err.ensures.within c.in-Err.fault c.tell-status.new.err c.max.result c.in-Err.ensures.err c.lines.invariant.2.within c.in-Err.ensures.no_more (c.in-Err.ensures.failed ∙ ap (λ (b : Bool). is_failed c.in-Err.fault || b) c.lines.invariant.1) c.in-Err.ensures.never (λ e. c.in-Err.ensures.too_large (ap Err e)) (rw c.of_input.ensures at c.tell-status.ensures.tells.says)
+    (c.max.ensures ∙ ap (max c.lines.talk.status) (c.tell-status.ensures.tells.status_is ∙ ap trouble_status c.of_input.ensures))
 
 -- a line was the last
 pub returns-then-not-handle : goal.returns-then-not-handle

@@ -1,7 +1,7 @@
-use Rattle.std.proofs.Common.{Bool, sym, ap}
+use Rattle.std.proofs.Common.{Bool, sym, ap, refl}
 use Rattle.std.specs.Prelude.{Err}
 use Rattle.krb_commands.specs.Words.{trouble_words, words_if}
-use Rattle.krb_commands.proofs.Shown.{SaysEnd-by}
+use Rattle.krb_commands.proofs.Shown.{Says-words}
 use Rattle.krb_commands.proofs.telling.say_trouble.Goals as goal
 
 -- the message and its words
@@ -9,5 +9,6 @@ pub returns-in_default : goal.returns-in_default
 returns-in_default g c =
     let words = trouble_words c.args.file.now c.args.line c.args.cause c.args.trouble in
     let said = rw (c.trouble_message-message.ensures, c.trouble_words.ensures) at c.say-in_default.ensures in
-    rw (← c.err.view_is) (SaysEnd-by c.args.file.now c.args.line c.args.cause (Err c.args.trouble) (record { to = c.err.inside.to; explains = c.err.inside.explains }) c.say-in_default.new.err words
-    said (ap (λ (b : Bool). words_if b words) (sym c.if-not-err.false)))
+    let told = Says-words c.args.file.now c.args.line c.args.cause (Err c.args.trouble) (record { to = c.err.inside.to; explains = c.err.inside.explains }) c.say-in_default.new.err words
+    said (ap (λ (b : Bool). words_if b words) (sym c.if-not-err.false)) in
+    rw (← c.err.view_is) (record { says = record { cause = c.args.cause; said = told; still = refl }; cause = told })

@@ -15,7 +15,7 @@ returns-clause-next g c =
       ends = record {
         ending = c.show-shown.result;
         shows = rw (c.deref.ensures.value, c.ending_of.ensures) at c.show-shown.ensures;
-        told = rw c.file_word.ensures at c.tell-status.ensures;
+        told = rw c.file_word.ensures at c.tell-status.ensures.tells;
       };
       worst = c.max-self.ensures;
     } in
