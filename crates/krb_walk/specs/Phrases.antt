@@ -1,11 +1,13 @@
 -- The phrases that say in words what codes and faults are.
-use Rattle.std.specs.Prelude.{ℕ, List, codes}
+use Rattle.std.specs.Prelude.{ℕ, List, ◌++◌, codes, decimal}
+use Rattle.krb_walk.specs.declared.fault.Fault.{Fault}
 use Rattle.krb_walk.specs.declared.fault.FaultKind.{FaultKind}
 use Rattle.krb_walk.specs.declared.fault.FaultKind.TheVariants.{CutLength, Overrun, BadEntry, BadCredential}
 use Rattle.krb_walk.specs.declared.refusal.Code.{Code}
 use Rattle.krb_walk.specs.declared.refusal.Code.TheVariants.{Damaged, TooLong, Full, NotAPlace, NotLive, NoSuchWalk, TooManyWalks, ReadOnly, NotFound, KvnoNotFound, Marked}
 use Rattle.krb_walk.specs.declared.refusal.Refusal.{Refusal}
 use Rattle.krb_walk.specs.declared.refusal.Refusal.TheVariants.{Code as ByCode, NoMemory}
+use Rattle.krb_walk.specs.Numbers.{fault_number}
 
 -- what a fault is
 abbrev pub fault_phrase : FaultKind → List ℕ
@@ -13,6 +15,10 @@ fault_phrase CutLength = codes "the file ends within a length"
 fault_phrase Overrun = codes "a record or a hole is longer than the rest of the file"
 fault_phrase BadEntry = codes "a record holds no entry"
 fault_phrase BadCredential = codes "no whole credential follows; cut off, or being written"
+
+-- a fault, by its number, its place and its phrase
+abbrev pub fault_text : Fault → List ℕ
+fault_text fault = codes "fault " ++ decimal (fault_number fault.kind) ++ codes " at " ++ decimal fault.place ++ codes ": " ++ fault_phrase fault.kind
 
 -- why a request is refused, where no command is known
 abbrev pub code_phrase : Code → List ℕ

@@ -2,13 +2,13 @@
 
 ghost use Rattle.std.specs.Prelude.{◌≡◌};
 ghost use Rattle.krb_walk.specs.Numbers.{fault_number};
-ghost use Rattle.krb_walk.specs.Phrases.{fault_phrase};
+ghost use Rattle.krb_walk.specs.Phrases.{fault_phrase, fault_text};
 
-use std::error::Error;
 use std::fmt;
+use thiserror::Error;
 
 /// What is wrong with the bytes after the last sound cell.
-#[derive(Clone, Copy, Debug, PartialEq, Eq)]
+#[derive(Clone, Copy, Debug, PartialEq, Eq, Error)]
 pub enum FaultKind {
     /// One to three bytes are left where a length should stand.
     CutLength = 1,
@@ -56,16 +56,18 @@ impl fmt::Display for FaultKind {
     }
 }
 
-impl Error for FaultKind {}
-
 /// A fault, at the end place of the sound cells.
-#[derive(Clone, Copy, Debug, PartialEq, Eq)]
+#[derive(Clone, Copy, Debug, PartialEq, Eq, Error)]
 pub struct Fault {
     pub place: u32,
     pub kind: FaultKind,
 }
 
 impl fmt::Display for Fault {
+    ghost use Rattle.std.specs.Prelude.{Some};
+
+    ghost output = { λ fault. Some (fault_text fault) };
+
     fn fmt<W: fmt::Write>(&self, f: &mut fmt::Formatter<W>) -> fmt::Result {
         let number = self.kind.number();
         let place = self.place;
@@ -73,5 +75,3 @@ impl fmt::Display for Fault {
         write!(f, "fault {number} at {place}: {phrase}")
     }
 }
-
-impl Error for Fault {}

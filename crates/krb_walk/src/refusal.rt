@@ -7,11 +7,11 @@ ghost use Rattle.krb_walk.specs.declared.refusal.Refusal.TheVariants.{Code as By
 
 use krb_wire::NoMemory;
 use std::alloc::{AllocError, AllocFailed};
-use std::error::Error;
 use std::fmt;
+use thiserror::Error;
 
 /// Why a request is refused.
-#[derive(Clone, Copy, Debug, PartialEq, Eq)]
+#[derive(Clone, Copy, Debug, PartialEq, Eq, Error)]
 pub enum Code {
     Damaged = 1,
     TooLong = 2,
@@ -76,10 +76,8 @@ impl fmt::Display for Code {
     }
 }
 
-impl Error for Code {}
-
 /// A refusal, or an allocation that failed.
-#[derive(Clone, Copy, Debug, PartialEq, Eq)]
+#[derive(Clone, Copy, Debug, PartialEq, Eq, Error)]
 pub enum Refusal {
     Code(Code),
     NoMemory,
@@ -106,8 +104,6 @@ impl fmt::Display for Refusal {
         f.write_str(self.phrase())
     }
 }
-
-impl Error for Refusal {}
 
 impl From<Code> for Refusal {
     ghost from_gives = { λ code refusal. refusal ≡ ByCode code };

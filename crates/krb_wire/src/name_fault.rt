@@ -3,11 +3,11 @@
 ghost use Rattle.std.specs.Prelude.{◌≡◌};
 ghost use Rattle.krb_wire.specs.NameOf.{name_fault_number, name_fault_phrase};
 
-use std::error::Error;
 use std::fmt;
+use thiserror::Error;
 
 /// Why a text gives no name.
-#[derive(Clone, Copy, Debug, PartialEq, Eq)]
+#[derive(Clone, Copy, Debug, PartialEq, Eq, Error)]
 pub enum NameFault {
     /// It has no unquoted `@`, and there is no default realm.
     NoRealm = 1,
@@ -50,9 +50,11 @@ impl NameFault {
 }
 
 impl fmt::Display for NameFault {
+    ghost use Rattle.std.specs.Prelude.{Some};
+
+    ghost output = { λ fault. Some (name_fault_phrase fault) };
+
     fn fmt<W: fmt::Write>(&self, f: &mut fmt::Formatter<W>) -> fmt::Result {
         f.write_str(self.phrase())
     }
 }
-
-impl Error for NameFault {}
