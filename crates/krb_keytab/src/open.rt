@@ -9,18 +9,18 @@ ghost use Rattle.krb_keytab.specs.Open.{open_fault_number, open_fault_phrase};
 use crate::image::{CellsEnd, end_of_cells, spelled_of};
 use krb_wire::{KtFormat, Order};
 use std::alloc::Allocator;
-use std::error::Error;
 use std::fmt;
+use thiserror::Error;
 
 /// Why an image is no keytab.
-#[derive(Clone, Copy, Debug, PartialEq, Eq)]
+#[derive(Clone, Copy, Debug, PartialEq, Eq, Error)]
 pub enum KtOpenFault {
     /// It has fewer than two bytes.
-    TooShort,
+    TooShort = 1,
     /// Its first byte is not 5, or its second neither 1 nor 2.
-    BadVersion,
+    BadVersion = 2,
     /// It is longer than the limit.
-    TooLarge,
+    TooLarge = 3,
 }
 
 impl KtOpenFault {
@@ -56,8 +56,6 @@ impl fmt::Display for KtOpenFault {
         f.write_str(self.phrase())
     }
 }
-
-impl Error for KtOpenFault {}
 
 /// An image that is no keytab, handed back as it was.
 #[derive(Drop)]
