@@ -2,5 +2,6 @@
 pub mod Bytes
 pub mod Files
 pub mod MemFiles
+pub mod Numbers
 pub mod Phrases
 pub mod Reader

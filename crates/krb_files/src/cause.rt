@@ -3,9 +3,9 @@
 ghost use Rattle.std.specs.Prelude.{◌≡◌, Some, unsigned_abs};
 ghost use Rattle.krb_files.specs.Phrases.{cause_phrase, cause_text};
 
-use std::error::Error;
 use std::fmt;
 use std::io::{self, ErrorKind};
+use thiserror::Error;
 
 /// The number of ENOLCK.
 const NO_LOCK: i32 = 37;
@@ -14,7 +14,7 @@ const NO_LOCK: i32 = 37;
 const INPUT_OUTPUT: i32 = 5;
 
 /// What a load or a save failed with.
-#[derive(Clone, Copy, Debug, PartialEq, Eq)]
+#[derive(Clone, Copy, Debug, PartialEq, Eq, Error)]
 pub enum Cause {
     PermissionDenied,
     NoDirectory,
@@ -129,5 +129,3 @@ impl fmt::Display for Cause {
         }
     }
 }
-
-impl Error for Cause {}

@@ -2,23 +2,31 @@
 
 ghost use Rattle.std.specs.Prelude.{◌≡◌, ◌≤◌, ◌⊎◌, ℕ, ◌-◌, ◌^◌, List, Option, Result, Ok, Err, OnOk, OnErr, IfOk, IfErr, IsErrOf};
 ghost use Rattle.krb_files.specs.Files.{FileMap, SameFiles, SetsFile, CountsFailure, answer_of, loaded};
+ghost use Rattle.krb_files.specs.Numbers.{load_number, save_number};
 ghost use Rattle.krb_files.specs.Phrases.{load_phrase, save_phrase};
 
 use crate::cause::Cause;
 use std::alloc::Allocator;
-use std::error::Error;
 use std::fmt;
+use thiserror::Error;
 
 /// Why a file was not loaded.
-#[derive(Clone, Copy, Debug, PartialEq, Eq)]
+#[derive(Clone, Copy, Debug, PartialEq, Eq, Error)]
 pub enum LoadFault {
-    Missing,
-    TooLarge,
-    Failed,
-    NoMemory,
+    Missing = 1,
+    TooLarge = 2,
+    Failed = 3,
+    NoMemory = 4,
 }
 
 impl LoadFault {
+    /// Its number, from 1 on in the order above.
+    pub fn number(self) -> u32
+        ensures { result ≡ load_number self }
+    {
+        self as u32
+    }
+
     /// What it is, in words.
     pub fn phrase(self) -> &'static str
         ensures { result.now ≡ load_phrase self }
@@ -42,16 +50,21 @@ impl fmt::Display for LoadFault {
     }
 }
 
-impl Error for LoadFault {}
-
 /// Why a file was not saved.
-#[derive(Clone, Copy, Debug, PartialEq, Eq)]
+#[derive(Clone, Copy, Debug, PartialEq, Eq, Error)]
 pub enum SaveFault {
-    Failed,
-    NoMemory,
+    Failed = 1,
+    NoMemory = 2,
 }
 
 impl SaveFault {
+    /// Its number, from 1 on in the order above.
+    pub fn number(self) -> u32
+        ensures { result ≡ save_number self }
+    {
+        self as u32
+    }
+
     /// What it is, in words.
     pub fn phrase(self) -> &'static str
         ensures { result.now ≡ save_phrase self }
@@ -72,8 +85,6 @@ impl fmt::Display for SaveFault {
         f.write_str(self.phrase())
     }
 }
-
-impl Error for SaveFault {}
 
 /// Files by name. What is said of their bytes holds while the files are honest.
 pub trait Files {

@@ -8,12 +8,12 @@ ghost use Rattle.krb_files.specs.Phrases.{out_phrase};
 
 use crate::watched::Watched;
 use krb_wire::NoMemory;
-use std::error::Error;
 use std::fmt;
 use std::io::Write;
+use thiserror::Error;
 
 /// Why a text was not written.
-#[derive(Clone, Copy, Debug, PartialEq, Eq)]
+#[derive(Clone, Copy, Debug, PartialEq, Eq, Error)]
 pub enum OutFault {
     /// The writer failed, or took no byte.
     Write,
@@ -41,8 +41,6 @@ impl fmt::Display for OutFault {
         f.write_str(self.phrase())
     }
 }
-
-impl Error for OutFault {}
 
 impl From<NoMemory> for OutFault {
     ghost from_gives = { λ _ fault. fault ≡ OutOfMemory };
