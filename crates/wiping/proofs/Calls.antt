@@ -1,10 +1,10 @@
--- A call of `wipe` and of `give_back`: what each is handed, and what its caller has of it. Assumes `Logic`.
+-- A call of `wipe` and of the methods of `Below`: what each is handed, and what its caller has of it. Assumes `Logic`.
 use Rattle.std.proofs.Common.{◌≡◌, ℕ, ◌^◌, ◌<◌, List, [], ◌∷◌, w64, refl, ap}
 use seplogic.Ra.Ura.{Ura}
 use mir.Syntax.{Ty}
 use mir.Val.{Val, vunit, vint, vptr}
 use base.Logic.{SProp, ent, sep, guard, emp, id⊢}
-use base.Fml.{Lft, Share, ftrue, fsep, froom, flft}
+use base.Fml.{Lft, Share, Fml, ftrue, fsep, froom, flft}
 use base.Share
 use prog.Memory.{Memory}
 use prog.Routine.{Routine}
@@ -17,10 +17,15 @@ use denote.RawPtr.{block_ptr}
 use denote.Steps.{nothing, only}
 use denote.Triple.Statement.{Contract}
 use denote.Triple.Spec.{triple_of}
-use Rattle.std.proofs.alloc.Calls.{Al, seen, token}
+use denote.Param.{param}
+use denote.RattleType.{RattleType}
+use denote.Memory.{hidden_shr}
+use Rattle.std.proofs.alloc.Calls.{Al, token, Answered, Takes-gives}
 use Rattle.wiping.specs.Zeros.{HasSize, HasAlign, cleared}
+use Rattle.wiping.specs.contracts.below.Below as BE
+use Rattle.wiping.specs.contracts.below.Below.allocate as AL
+use Rattle.wiping.specs.contracts.below.Below.give_back as GB
 use Rattle.wiping.specs.contracts.zeros.wipe as WI
-use Rattle.wiping.specs.contracts.zeros.give_back as GB
 
 module _ {M : Type 1} {𝓤 : Ura M} (𝓛 : Logic 𝓤) (at_mem : Memory → SProp 𝓤) (run : Routine → Fun 𝓤) where
   -- the contract of `wipe`
@@ -48,24 +53,57 @@ module _ {M : Type 1} {𝓤 : Ura M} (𝓛 : Logic 𝓤) (at_mem : Memory → SP
         use1 𝓛 (later (some (λ (r : Unit {0}). (‵ ftrue ⊛ ‵ (unit.own_val r (v ∷ []))) ⊛ some (λ (ws : Unit {0} × (Unit {0} × Unit {0})). ‵ (fsep ftrue (fsep ftrue ftrue)) ⊛ ‵ (cleared τ n (block_ptr b o)))))) (id⊢ 𝓤 _) $ await ! tt $ pick ! (λ r.
         split ! $ move ! (1 ∷ []) $ pick ! (λ ws. split ! $ move ! (2 ∷ []) $ split ! $ move ! (1 ∷ []) $ feq_l ! (λ e. at_once ! $ check ! (ap only e) $ keep ! (2 ∷ []) $ done !)))
 
+module _ (Z : Al) where
+  -- the allocator below, as it is kept
+  abbrev pub Kept : RattleType
+  Kept = BE.the_row (param 0 Z.row)
+
+  -- it is seen for a lifetime
+  abbrev pub seen : Lft → ℕ × ℕ → Kept.Denot → Fml
+  seen κ p a = hidden_shr Kept κ a p.0 p.1
+
 module _ (Z : Al) {M : Type 1} {𝓤 : Ura M} (𝓛 : Logic 𝓤) (at_mem : Memory → SProp 𝓤) (run : Routine → Fun 𝓤) where
   open 𝓛 use {A, H}
+
+  -- the contract of `allocate`
+  abbrev pub Requests : Contract 𝓤
+  Requests = triple_of 𝓛 (AL.signature Z.row) (AL.spec Z.row Z.g Z.d Z.drops 𝓛 at_mem run)
+
+  module _ (κ : Lft) (q : Share) (p : ℕ × ℕ) (a : (Kept Z).Denot) (n al : ℕ) (τ : Ty) where
+    -- its arguments, where it is called on the allocator at that place
+    abbrev pub at_requests : Requests.Ghost
+    at_requests = (((κ, (κ, tt)), (Share.left q, (Share.right q, tt)), (⊑_refl κ, tt), (record { ref_ptr = p; now = a }, (n, (al, tt))), (vptr p.0 p.1 ∷ [], (vint w64 n ∷ [], (vint w64 al ∷ [], tt)))), τ)
+
+    -- whoever sees the allocator may call it
+    pub Requests-goes : κ ⊑ Z.row.lives → HasSize τ n → HasAlign τ al → n < 2 ^ 64 → al < 2 ^ 64
+        → ent 𝓤 (sep 𝓤 (sem 𝓛 (seen Z κ p a)) (A.lft κ q)) (Requests.pre at_requests)
+    Requests-goes le en ea fn fa =
+        let Said : Type 0 = HasSize τ n × HasAlign τ al in
+        qed 𝓛 (‵ (seen Z κ p a) ∷ ‵ (flft κ q) ∷ []) ∵
+        use0 𝓛 (raw (fact 𝓤 Said)) (fact_i 𝓤 Said (emp 𝓤) (en, ea)) $ use0 𝓛 (raw (fact 𝓤 (κ ⊑ Z.row.lives))) (fact_i 𝓤 (κ ⊑ Z.row.lives) (emp 𝓤) le) $ join ! $
+        nothing ! $ flt_i ! al (2 ^ 64) fa $ feq_i ! (List Val) (vint w64 al ∷ []) (vint w64 al ∷ []) refl $ fjoin ! $ fjoin ! $
+        flt_i ! n (2 ^ 64) fn $ feq_i ! (List Val) (vint w64 n ∷ []) (vint w64 n ∷ []) refl $ fjoin ! $ fjoin ! $ move ! (2 ∷ []) $ feq_i ! (List Val) (vptr p.0 p.1 ∷ []) (vptr p.0 p.1 ∷ []) refl $ fjoin ! $ move ! (0 ∷ 1 ∷ []) $ fjoin ! $
+        move ! (2 ∷ []) $ use1 𝓛 (‵ (flft κ (Share.left q)) ⊛ ‵ (flft κ (Share.right q))) (𝓛.lfts.lft_split κ q) $ split ! $ nothing ! $ move ! (2 ∷ 0 ∷ []) $ join ! $ move ! (1 ∷ 0 ∷ []) $ join ! $ join ! $ done !
+
+    -- and has the block, where there is one, and the token of the reference back
+    pub Requests-gives : (v : Val) → ent 𝓤 (Requests.post at_requests v) (H.⇛ (sep 𝓤 (Answered Z 𝓛 at_mem run a.heap τ v) (A.lft κ q)))
+    Requests-gives v = Takes-gives Z 𝓛 at_mem run κ q p a.heap n al τ v
 
   -- the contract of `give_back`
   abbrev pub Returns : Contract 𝓤
   Returns = triple_of 𝓛 (GB.signature Z.row) (GB.spec Z.row Z.g Z.d Z.drops 𝓛 at_mem run)
 
-  module _ (κ : Lft) (q : Share) (p : ℕ × ℕ) (a : Z.row.Denot) (b o n al : ℕ) (τ : Ty) where
+  module _ (κ : Lft) (q : Share) (p : ℕ × ℕ) (a : (Kept Z).Denot) (b o n al : ℕ) (τ : Ty) where
     -- its arguments, where it is called on the allocator at that place
     abbrev pub at_returns : Returns.Ghost
     at_returns = (((κ, (κ, tt)), (Share.left q, (Share.right q, tt)), (⊑_refl κ, tt), (record { ref_ptr = p; now = a }, (block_ptr b o, (n, (al, tt)))), (vptr p.0 p.1 ∷ [], (vptr b o ∷ [], (vint w64 n ∷ [], (vint w64 al ∷ [], tt))))), τ)
 
     -- whoever sees the allocator, and has a cleared block and the right to free it, may call it
     pub Returns-goes : κ ⊑ Z.row.lives → HasSize τ n → HasAlign τ al → n < 2 ^ 64 → al < 2 ^ 64
-        → ent 𝓤 (sep 𝓤 (sem 𝓛 (cleared τ n (block_ptr b o))) (sep 𝓤 (sem 𝓛 (token Z a τ (block_ptr b o))) (sep 𝓤 (sem 𝓛 (seen Z κ p a)) (A.lft κ q)))) (Returns.pre at_returns)
+        → ent 𝓤 (sep 𝓤 (sem 𝓛 (cleared τ n (block_ptr b o))) (sep 𝓤 (sem 𝓛 (token Z a.heap τ (block_ptr b o))) (sep 𝓤 (sem 𝓛 (seen Z κ p a)) (A.lft κ q)))) (Returns.pre at_returns)
     Returns-goes le en ea fn fa =
         let Said : Type 0 = HasSize τ n × HasAlign τ al in
-        qed 𝓛 (‵ (cleared τ n (block_ptr b o)) ∷ ‵ (token Z a τ (block_ptr b o)) ∷ ‵ (seen Z κ p a) ∷ ‵ (flft κ q) ∷ []) ∵ fjoin ! $
+        qed 𝓛 (‵ (cleared τ n (block_ptr b o)) ∷ ‵ (token Z a.heap τ (block_ptr b o)) ∷ ‵ (seen Z κ p a) ∷ ‵ (flft κ q) ∷ []) ∵ fjoin ! $
         use0 𝓛 (raw (fact 𝓤 Said)) (fact_i 𝓤 Said (emp 𝓤) (en, ea)) $ join ! $ use0 𝓛 (raw (fact 𝓤 (κ ⊑ Z.row.lives))) (fact_i 𝓤 (κ ⊑ Z.row.lives) (emp 𝓤) le) $ join ! $
         nothing ! $ flt_i ! al (2 ^ 64) fa $ feq_i ! (List Val) (vint w64 al ∷ []) (vint w64 al ∷ []) refl $ fjoin ! $ fjoin ! $
         flt_i ! n (2 ^ 64) fn $ feq_i ! (List Val) (vint w64 n ∷ []) (vint w64 n ∷ []) refl $ fjoin ! $ fjoin ! $

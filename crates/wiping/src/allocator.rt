@@ -1,7 +1,8 @@
 //! The allocator: it passes each request on, and clears each block that goes back.
 ghost use Rattle.std.specs.Prelude.{◌≡◌};
 
-use crate::zeros::{give_back, wipe};
+use crate::below::Below;
+use crate::zeros::wipe;
 use std::alloc::{AllocError, Allocator};
 
 /// Passes each request on to the allocator below it, and writes zeros over each block before it gives the block back.
@@ -9,7 +10,7 @@ use std::alloc::{AllocError, Allocator};
 /// So what lay in a vector over it is not left in free memory. A vector that grows or shrinks moves to a new block, and the old one is cleared.
 #[derive(Clone, Copy)]
 pub struct Wiping<B: Allocator> {
-    inner: B,
+    inner: Below<B>,
 }
 
 impl<B: Allocator> Wiping<B> {
@@ -19,13 +20,15 @@ impl<B: Allocator> Wiping<B> {
     pub const fn new(inner: B) -> Wiping<B>
         ensures { inner_of result ≡ inner }
     {
-        Wiping { inner }
+        Wiping {
+            inner: Below::new(inner),
+        }
     }
 }
 
 // SAFETY: each block comes from the allocator below and goes back to it with its own size and alignment.
 unsafe impl<B: Allocator> Allocator for Wiping<B> {
-    ghost dealloc_token = { λ heap ty ptr. B.dealloc_token heap.inner ty ptr };
+    ghost dealloc_token = { λ heap ty ptr. B.dealloc_token heap.inner.heap ty ptr };
 
     fn allocate(&self, size: usize, align: usize) -> Result<*mut u8, AllocError> {
         self.inner.allocate(size, align)
@@ -33,6 +36,6 @@ unsafe impl<B: Allocator> Allocator for Wiping<B> {
 
     unsafe fn deallocate(&self, ptr: *mut u8, size: usize, align: usize) {
         wipe(ptr, size);
-        give_back(&self.inner, ptr, size, align);
+        self.inner.give_back(ptr, size, align);
     }
 }

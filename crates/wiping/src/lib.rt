@@ -2,6 +2,7 @@
 #![tactic(auto)]
 
 mod allocator;
+mod below;
 mod zeros;
 
 pub use allocator::Wiping;

@@ -19,7 +19,7 @@ use denote.Exit.{yes}
 use denote.RattleType.{owns}
 use denote.Ref.{shr_vals}
 use denote.Opens.{unhide}
-use denote.Param.{bounded, param}
+use denote.Param.{bounded, layout, param}
 use denote.Plain.{uint_vals, uint_Tells}
 use denote.Signature.{Slot, plain, types_at}
 use denote.Steps.{heard, nothing}
@@ -37,13 +37,13 @@ use types.ByLocal.{alloc_all, pass_all, free_all, look_at, get, through, sets, l
 use denote.RawPtr.{Ptr, block_ptr, null_ptr, ptr_val, rawptr_vals, rawptr_Tells}
 use denote.Builtin.{usize, RawPtr, RefOf}
 use denote.Triple.Call.{calls_at}
-use Rattle.std.proofs.alloc.Calls.{Al, α, seen, token}
+use Rattle.std.proofs.alloc.Calls.{Al, token}
 use Rattle.wiping.specs.Zeros.{cleared}
-use Rattle.wiping.proofs.Calls.{Wipes, at_wipes, Wipes-goes, Wipes-gives, Returns, at_returns, Returns-goes, Returns-gives}
+use Rattle.wiping.proofs.Calls.{Kept, seen, Wipes, at_wipes, Wipes-goes, Wipes-gives, Returns, at_returns, Returns-goes, Returns-gives}
 use Rattle.wiping.proofs.zeros.wipe.Symbol as wipe_sym
 use Rattle.wiping.proofs.zeros.wipe.Met as wipe_met
-use Rattle.wiping.specs.contracts.zeros.give_back.Key as back_key
-use Rattle.wiping.proofs.zeros.give_back.Met as back_met
+use Rattle.wiping.specs.contracts.below.Below.give_back.Key as back_key
+use Rattle.wiping.proofs.below.Below.give_back.Met as back_met
 use Rattle.wiping.specs.contracts.allocator.Wiping as wrapper
 use Rattle.wiping.specs.contracts.allocator.WipingAllocator.deallocate as F
 use Rattle.wiping.specs.contracts.allocator.WipingAllocator.deallocate.Key as key
@@ -102,15 +102,15 @@ module _ (Z : Al) {M : Type 1} {𝓤 : Ura M} (𝓛 : Logic 𝓤) (at_mem : Memo
     -- the body, from what a call is handed to what it answers
     walk : n < 2 ^ 64 → a < 2 ^ 64 → (x : Ptr) → ent 𝓤 ((walk_of 𝓛 (ended Z) (stayed Z) held).pre (bound x)) (WpFn 𝓤 H 𝓣.C 𝓣.Λ (here Z) (vs x) (Post x))
     walk fn fa null_ptr =
-        qed 𝓛 (entry null_ptr ∷ (raw (fact 𝓤 (κ₂ ⊑ Z.row.lives)) ⊛ raw (fact 𝓤 Said) ⊛ ‵ (fsep ffalse (token Z r.now.inner τ null_ptr))) ∷ []) ∵
+        qed 𝓛 (entry null_ptr ∷ (raw (fact 𝓤 (κ₂ ⊑ Z.row.lives)) ⊛ raw (fact 𝓤 Said) ⊛ ‵ (fsep ffalse (token Z r.now.inner.heap τ null_ptr))) ∷ []) ∵
         move ! (1 ∷ []) $ split3 ! $ move ! (2 ∷ []) $ fsplit ! $ keep ! (0 ∷ []) $ by ! (never_e 𝓤 _)
     walk fn fa (block_ptr b o) =
-        let h : Z.row.Denot = r.now.inner in
-        let p : ℕ × ℕ = (r.ref_ptr.0, r.ref_ptr.1 + up (align (α Z)) 0) in
+        let h : (Kept Z).Denot = r.now.inner in
+        let p : ℕ × ℕ = (r.ref_ptr.0, r.ref_ptr.1 + up (align (layout (Kept Z))) 0) in
         let x : Ptr = block_ptr b o in
         let w : (Wipes 𝓛 at_mem run).Ghost = at_wipes 𝓛 at_mem run b o n τ in
         let y : (Returns Z 𝓛 at_mem run).Ghost = at_returns Z 𝓛 at_mem run κ₁ q₁ p h b o n a τ in
-        qed 𝓛 (entry x ∷ (raw (fact 𝓤 (κ₂ ⊑ Z.row.lives)) ⊛ raw (fact 𝓤 Said) ⊛ ‵ (fsep (froom τ b o) (token Z h τ x))) ∷ []) ∵
+        qed 𝓛 (entry x ∷ (raw (fact 𝓤 (κ₂ ⊑ Z.row.lives)) ⊛ raw (fact 𝓤 Said) ⊛ ‵ (fsep (froom τ b o) (token Z h.heap τ x))) ∷ []) ∵
         move ! (1 ∷ []) $ split3 ! $ heard ! (κ₂ ⊑ Z.row.lives) (λ le. heard ! Said (λ said. move ! (1 ∷ []) $
         split ! $ split ! $ move ! (2 ∷ []) $ fsplit ! $ fsplit ! $ move ! (1 ∷ []) $ unhide ! $ fsplit ! $ fsplit ! $ use1 𝓛 (‵ (seen Z κ₁ p h)) (id⊢ 𝓤 _) $ keep ! (0 ∷ 5 ∷ 6 ∷ 7 ∷ []) $
         enter ! 𝓣.C 𝓣.Λ (here Z) (vs x) _ $ alloc_all ! (λ l. pass_all ! refl ((tt, tt), ((tt, tt), ((tt, record { fits = fn }), ((tt, record { fits = fa }), tt)))) $
@@ -142,5 +142,5 @@ deallocate_spec 𝓤 𝓛 𝓜 𝓡 wired Y L g d d' met drops =
     (walked 𝓛 (ended Z) (stayed Z) c (WpFn 𝓤 𝓛.H 𝓣.C 𝓣.Λ (here Z)) (λ κs. (shr_vals, (rawptr_vals, (uint_vals w64, (uint_vals w64, tt))))) (λ κs. ((λ r vs s. s.0), (rawptr_Tells, (uint_Tells w64, (uint_Tells w64, tt)))))
     (λ κs qs bounds a τ are. walk Z 𝓛 𝓜.mem 𝓡.returns 𝓣
     (cited 𝓤 𝓛.H _ 𝓜 𝓡 𝓡.env wipe_sym.name (𝓡.env wipe_sym.name) refl (wipe_met.met 𝓤 𝓛 𝓜 𝓡 (code.calls-wiping::zeros::wipe 𝓡.env wired)))
-    (cited 𝓤 𝓛.H _ 𝓜 𝓡 𝓡.env (back_key.name (args Z)) (𝓡.env (back_key.name (args Z))) refl (back_met.met 𝓤 𝓛 𝓜 𝓡 (code.calls-wiping::zeros::give_back 𝓡.env wired) Y L g d d' met drops))
+    (cited 𝓤 𝓛.H _ 𝓜 𝓡 𝓡.env (back_key.name (args Z)) (𝓡.env (back_key.name (args Z))) refl (back_met.met 𝓤 𝓛 𝓜 𝓡 (code.calls-wiping::below::Below::give_back 𝓡.env wired) Y L g d d' met drops))
     κs.0 κs.1.0 qs.0 qs.1.0 bounds.0 a.0 a.1.1.0 a.1.1.1.0 τ are.1.1.0.1 are.1.1.1.0.1 a.1.0)))

@@ -1,0 +1,43 @@
+//! The allocator below: blocks come from it, and only cleared ones go back.
+ghost use Rattle.std.specs.Prelude.{◌≡◌};
+ghost use Rattle.std.specs.Allocator.{HasLayout, block_if_ok};
+ghost use Rattle.wiping.specs.Zeros.{HasSize, HasAlign, cleared_block};
+ghost use mir.Syntax.{Ty};
+ghost use types.Logic.{sem};
+
+use std::alloc::{AllocError, Allocator};
+
+/// An allocator that is reached by these calls alone.
+#[derive(Clone, Copy)]
+pub struct Below<B: Allocator> {
+    heap: B,
+}
+
+impl<B: Allocator> Below<B> {
+    ghost use Rattle.wiping.specs.Below.{heap_of};
+
+    /// Keeps `heap`.
+    pub const fn new(heap: B) -> Below<B>
+        ensures { heap_of result ≡ heap }
+    {
+        Below { heap }
+    }
+
+    /// Takes a block from the allocator.
+    pub fn allocate(&self, size: usize, align: usize) -> Result<*mut u8, AllocError>
+        ghost ty: { Ty }
+        requires layout { HasSize ty size × HasAlign ty align }
+        ensures* { sem 𝓛 (block_if_ok (B.dealloc_token (heap_of self.now)) ty result) }
+    {
+        self.heap.allocate(size, align)
+    }
+
+    /// Gives the block at `ptr` back to the allocator that it came from. Each of its bytes is 0.
+    pub unsafe fn give_back(&self, ptr: *mut u8, size: usize, align: usize)
+        ghost ty: { Ty }
+        requires layout { HasSize ty size × HasAlign ty align }
+        requires* block { sem 𝓛 (cleared_block (B.dealloc_token (heap_of self.now)) ty size ptr) }
+    {
+        self.heap.deallocate(ptr, size, align);
+    }
+}
