@@ -1,11 +1,9 @@
 """Caches of other programs that ccedit and ccremove change: MIT's klist shows the tickets that are left.
 
-They are the files in `ccache` of the folder that corpus.py reads. What the change makes of them is what
-the models say.
+What the change makes of them is what the models say.
 """
 from __future__ import annotations
 
-import os
 import shutil
 import time
 from collections.abc import Iterator
@@ -15,7 +13,7 @@ from cache_peers import Shown, Told, told_by_mit, told_by_us
 from cache_reading import read_cache
 from cache_script_model import cache_edited
 from caches_made import told_by
-from corpus import read
+from corpus import files
 from harness import Case, Report, faults_of, files_in, folder_of, message, run
 from reading import name_text
 from ticket_removal_model import Asked, ticket_removal, tickets_of
@@ -79,17 +77,12 @@ def check_change(report: Report, program: str, name: str, case: Case, has_mit: b
     report.check(f"{name}, {case.name}", found)
 
 
-def check(report: Report, program: str, folder: str) -> None:
-    """Changes each cache of the folder."""
-    source = os.path.join(folder, "ccache")
-    if not os.path.isdir(source):
-        report.skip("other programs' caches that are changed", f"there is no {source}")
-        return
+def check(report: Report, program: str) -> None:
+    """Changes each cache."""
     has_mit = shutil.which("klist") is not None
     if not has_mit:
         report.skip("changed caches beside MIT's klist", "it is not there (Debian: krb5-user)")
-    for name in sorted(each for each in os.listdir(source) if not each.endswith(".txt")):
-        image = read(os.path.join(source, name))
+    for name, image in files("ccache"):
         refused = read_cache(image)
         if isinstance(refused, int):
             no_cache = message(1, f"c: not a cache ({refused})")

@@ -1,4 +1,4 @@
-"""Cases over a folder of files that other programs wrote.
+"""Cases over the files in `corpus`, which other programs wrote.
 
 The folder has `cases.jsonl`, one case a line: an object with `id`, `dir` (the folder in it with the
 case's files), `argv` (the program's words), `status`, `stdout`, `stderr`, and perhaps `stdin`,
@@ -14,9 +14,8 @@ import os
 
 from harness import Case, Outcome, Report, check_case
 
-# Where the folder is looked for: it is no part of the repository.
-FOLDER = os.path.join(os.path.dirname(os.path.dirname(os.path.dirname(os.path.abspath(__file__)))),
-                      "shared", "corpus")
+# The folder of the files and cases.
+FOLDER = os.path.join(os.path.dirname(os.path.abspath(__file__)), "corpus")
 
 
 def given(value: dict) -> bytes:
@@ -30,16 +29,20 @@ def read(path: str) -> bytes:
         return file.read()
 
 
-def images(kind: str) -> list[bytes]:
-    """The files of a kind, `keytab` or `ccache`, where the folder is there."""
+def files(kind: str) -> list[tuple[str, bytes]]:
+    """The files of a kind, `keytab` or `ccache`, each with its name."""
     folder = os.path.join(FOLDER, kind)
-    names = sorted(os.listdir(folder)) if os.path.isdir(folder) else []
-    return [read(os.path.join(folder, name)) for name in names if not name.endswith(".txt")]
+    return [(name, read(os.path.join(folder, name))) for name in sorted(os.listdir(folder))]
 
 
-def case_of(folder: str, fields: dict) -> Case:
+def images(kind: str) -> list[bytes]:
+    """The bytes of each file of a kind."""
+    return [image for _, image in files(kind)]
+
+
+def case_of(fields: dict) -> Case:
     """A case from its line."""
-    source = os.path.join(folder, fields["dir"])
+    source = os.path.join(FOLDER, fields["dir"])
     stdin = fields.get("stdin") or ""
     files = {}
     if fields.get("copy"):
@@ -58,12 +61,8 @@ def case_of(folder: str, fields: dict) -> Case:
     return Case(name, tuple(fields["argv"]), wanted, files, after, stdin.encode())
 
 
-def check(report: Report, program: str, folder: str) -> None:
+def check(report: Report, program: str) -> None:
     """Runs each case."""
-    path = os.path.join(folder, "cases.jsonl")
-    if not os.path.exists(path):
-        report.skip("other programs' files", f"there is no {path}")
-        return
-    with open(path, encoding="utf-8") as file:
+    with open(os.path.join(FOLDER, "cases.jsonl"), encoding="utf-8") as file:
         for line in file:
-            check_case(report, program, case_of(folder, json.loads(line)))
+            check_case(report, program, case_of(json.loads(line)))
