@@ -46,6 +46,7 @@ def refused(name: str, image: bytes, words: str, wanted: Outcome) -> Case:
 def selections() -> list[Case]:
     """What each selector asks for."""
     rest = FOUR[53:]
+    signed = image_of(B3, Entry((b"=b",)))
     return [
         removal("old versions", FOUR, "-k old", [X], image_of(47, AES256, FIVE, B3)),
         removal("old versions of a name", FOUR, "-p host/a@R -k old", [X],
@@ -66,6 +67,14 @@ def selections() -> list[Case]:
         removal("a dry run with nothing to do", image_of(B3), "-n -k old", [], None),
         removal("old and new words", FOUR, "-kold -phost/a@R -e17", [X],
                 keytab(hole(bytes(47))) + rest),
+        removal("a value that begins with =", signed, "-p=b@R",
+                ["removed 47 kvno 3 etype 17 =b@R"], image_of(B3, 42)),
+        removal("a value that begins with =, a dry run", signed, "-np=b@R",
+                ["removed 47 kvno 3 etype 17 =b@R"], None),
+        refused("a value that begins with two =", signed, "-p==b@R", NONE),
+        Case("removal: a file of a name like an option", ("ktremove", "-pb@R", "--", "-p=b@R"),
+             Outcome(0, b"removed 2 kvno 3 etype 17 b@R\n"), {"-p=b@R": image_of(B3)},
+             {"-p=b@R": image_of(41)}),
         refused("a name that is not there", FOUR, "-p c@R", NONE),
         refused("old ones of a name that is not there", FOUR, "-p c@R -k old", NONE),
         refused("old ones of an enctype that is not there", FOUR, "-k old -e 23", NONE),
@@ -172,7 +181,8 @@ def command_lines() -> list[Case]:
     lines = ["k", "-n k", "-p", "-p b@R", "-k old", "-e 17", "-p b@R -p b@R k", "-k 3 -k 3 k",
              "-k old -k old k", "-k new k", "-k -1 k", "-k 4294967296 k", "-k Old k", "-k= k",
              "-e any k", "-e 65536 k", "-e 17 -e any k", "-p b k", "-p b@R@R k", "-p b@R/ k",
-             "-p b@R k more", "-x -k old k", "-k old -n=yes k", "--dry-run -k old k", "-K old k"]
+             "-p b@R k more", "-p= k", "-k=3 k", "-nk=old k", "-e=17 k", "-x -k old k",
+             "-k old -n=yes k", "--dry-run -k old k", "-K old k"]
     return [Case(f"removal: {line}", ("ktremove", *line.split()), UNREAD, {"k": FOUR})
             for line in lines]
 

@@ -67,6 +67,7 @@ def selections() -> list[Case]:
                 left(TGT, PA_TYPE, LATER, LATER_HOST)),
         removal("by another text of the name", MANY, r"-p \host/a@R", hosts,
                 left(TGT, PA_TYPE, LATER)),
+        refused("a value that begins with =", MANY, "-p=host/a@R", NONE),
         removal("a dry run", MANY, "-n -p host/a@R", hosts, None),
         removal("a dry run of expired ones", MANY, "-n --expired", over, None),
         removal("nothing is over", left(LATER, PA_TYPE), "--expired", [], None),

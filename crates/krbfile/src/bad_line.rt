@@ -12,13 +12,15 @@ fn has_long(options: &[Arg<'_>], name: &str) -> bool {
     options.iter().any(|option| option.get_long() == Some(name))
 }
 
-fn has_letter(options: &[Arg<'_>], letter: char) -> bool {
+/// Whether an option has that letter.
+pub fn has_letter(options: &[Arg<'_>], letter: char) -> bool {
     options
         .iter()
         .any(|option| option.get_short() == Some(letter))
 }
 
-fn takes_value(options: &[Arg<'_>], letter: char) -> bool {
+/// Whether the option of that letter takes a value.
+pub fn takes_value(options: &[Arg<'_>], letter: char) -> bool {
     options.iter().any(|option| {
         option.get_short() == Some(letter) && option.get_action() == ArgAction::Append
     })

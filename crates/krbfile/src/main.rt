@@ -4,6 +4,7 @@
 mod bad_line;
 mod clock;
 mod command_lines;
+mod equals;
 mod run;
 mod words;
 

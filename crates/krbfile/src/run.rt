@@ -34,7 +34,7 @@ fn words_of<R: rt::Env + AllocGlobal>(rt: &R) -> Result<Vec<String>, WordFault<'
 // What the words of the command line ask for.
 fn asked<'a>(
     alloc: Global,
-    words: &'a Result<Vec<String>, WordFault<'static>>,
+    words: &'a mut Result<Vec<String>, WordFault<'static>>,
 ) -> Result<Action, WordFault<'a>> {
     match words {
         Ok(words) => parse_words(alloc, words),
@@ -56,7 +56,7 @@ pub fn run<H: rt::Env + AllocGlobal, F: Files, R: Read, W: Write, E: Write>(
         × EndsAsked F.Files now streams.old.input streams.new.input files.old files.new
         streams.old.out streams.new.out streams.old.err streams.new.err result asked }
 {
-    let words = words_of(rt);
+    let mut words = words_of(rt);
     let alloc = Wiping::new(rt.alloc());
-    respond(alloc, &asked(rt.alloc(), &words), files, now, streams)
+    respond(alloc, &asked(rt.alloc(), &mut words), files, now, streams)
 }

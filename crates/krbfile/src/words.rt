@@ -2,6 +2,7 @@
 
 use crate::bad_line::{bad_line, words_behind};
 use crate::command_lines::krbfile_command;
+use crate::equals::double_equals;
 use clap::ArgMatches;
 use clap::error::ErrorKind;
 use krb_commands::{
@@ -139,9 +140,11 @@ fn command_action<'a>(alloc: Global, matches: &ArgMatches<'a>) -> Result<Action,
 }
 
 /// What the words ask for; the first is the program's name.
-pub fn parse_words<'a>(alloc: Global, words: &'a [String]) -> Result<Action, WordFault<'a>> {
+pub fn parse_words<'a>(alloc: Global, words: &'a mut [String]) -> Result<Action, WordFault<'a>> {
     let word = words_behind(words).first();
     let mut command = krbfile_command(alloc, word.map(|word| word.as_str()))?;
+    double_equals(alloc, &command, words)?;
+    let words: &'a [String] = words;
     let error = match command.try_get_matches_from_mut(words) {
         Ok(matches) => return command_action(alloc, &matches),
         Err(error) => error,
