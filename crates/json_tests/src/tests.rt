@@ -2,3 +2,5 @@
 
 mod failures;
 mod images;
+mod measured;
+mod pieces;
