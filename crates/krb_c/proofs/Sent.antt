@@ -15,7 +15,7 @@ sent : IsSend heap_row
 sent = search (sendable, heap.send)
 
 freed : Frees heap_ghosts heap_ghosts.dealloc_token
-freed = record { frees = λ a τ p. heap.frees.frees a.inner τ p }
+freed = record { frees = λ a τ p. heap.frees.frees a.inner.heap τ p }
 
 keytab : IsSend (Indexed.the_row heap_row heap_ghosts)
 keytab = search (indexed.the_send, sent, freed)
