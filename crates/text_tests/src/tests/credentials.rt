@@ -5,7 +5,7 @@ use std::alloc::Global;
 use std::test::Fail;
 
 /// The client `b@R`.
-const CLIENT: &[u8] = b"\0\0\0\x01\0\0\0\x01\0\0\0\x01R\0\0\0\x01b";
+pub const CLIENT: &[u8] = b"\0\0\0\x01\0\0\0\x01\0\0\0\x01R\0\0\0\x01b";
 
 /// The server `krbtgt/R@R`.
 pub const KRBTGT: &[u8] = b"\0\0\0\x02\0\0\0\x02\0\0\0\x01R\0\0\0\x06krbtgt\0\0\0\x01R";
