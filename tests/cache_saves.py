@@ -21,8 +21,8 @@ from disk_saves import (
     write,
 )
 from harness import Outcome, Report, differences, folder_of, message, run
-from saves_among_others import ofd_lock
 from usual_caches import FIELDS, OFFSET, PA_TYPE, TICKET, USUAL
+from waits import ofd_lock
 
 UNSAVED = message(3, "c: cannot write")
 

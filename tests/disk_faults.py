@@ -37,6 +37,9 @@ TARGET = "file"
 NEW_NAME = "file.krbfile"
 REMAINS = b"remains"
 
+# The mode of that file. Until it is set the new one is its owner's alone.
+MODE = 0o640
+
 UNPRINTED = message(3, "cannot write output")
 NO_MEMORY = message(4, "out of memory")
 KILLED = Outcome(-signal.SIGKILL)
@@ -47,7 +50,7 @@ WANTED = {SAVED: NEW, UNREAD: OLD, UNSAVED: OLD, UNPRINTED: NEW, NO_MEMORY: OLD}
 
 def place(folder: str) -> None:
     """Makes a link to a file, and beside this what an earlier save left."""
-    write(os.path.join(folder, TARGET), OLD, 0o640)
+    write(os.path.join(folder, TARGET), OLD, MODE)
     write(os.path.join(folder, NEW_NAME), REMAINS)
     os.symlink(TARGET, os.path.join(folder, "k"))
 
@@ -77,6 +80,8 @@ def faults_of_kill(program: str, folder: str, outcome: Outcome) -> list[str]:
     found = tree(folder)
     if found["k"] != TARGET or found[TARGET] not in (OLD, NEW):
         faults.append(f"{found}")
+    if NEW_NAME in found and owned(os.path.join(folder, NEW_NAME)).mode not in (0o600, MODE):
+        faults.append("others may read the new file")
     write(os.path.join(folder, TARGET), OLD)
     faults += differences(SAVED, edit(program, folder))
     return faults + tree_faults({"k": TARGET, TARGET: NEW}, folder)

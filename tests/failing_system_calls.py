@@ -69,9 +69,9 @@ def needed(nth: int, *patterns: str) -> list[Step]:
 
 
 def hold(name: str, nth: int = 1) -> list[Step]:
-    """The steps of a hold, without which a file is loaded and not saved."""
+    """The steps of a hold, without which a file is loaded and not saved. The new file is its owner's alone."""
     stat = rf'\w*stat\w*\(.*"{name}"'
-    made = needed(nth, stat, r"open.*O_CREAT\|O_EXCL", r"flock", r"\w*stat\w*\(\d",
+    made = needed(nth, stat, r"open.*O_CREAT\|O_EXCL\b.*, 0600\)", r"flock", r"\w*stat\w*\(\d",
                   rf'\w*stat\w*\(.*"{name}\.krbfile"', r"fcntl")
     return [*made, Step(r"close", ""), *needed(nth, stat), *listed()]
 

@@ -4,6 +4,7 @@ What is wanted is worked out by hand: most of them repeat one thing.
 """
 from __future__ import annotations
 
+from check_model import mode_of_files
 from edits import text
 from file_names import LIMIT, sized
 from harness import Case, Outcome, message
@@ -64,6 +65,56 @@ def listings() -> list[Case]:
         of("one entry of 65,535 components", filled(entries(many_components())),
            b"   3 " + quoted + b"@R\n"),
         of("the longest keys", filled(keys), line * 255, "-kK"),
+    ]
+
+
+def json() -> list[Case]:
+    """Keytabs as JSON."""
+    least_entries = b",".join(
+        b'{"place":%d,"principal":"@","kvno":0,"etype":0,"etype_name":null,"timestamp":0}'
+        % (2 + at * len(LEAST_RECORD)) for at in range(LEAST_COUNT))
+    quoted = b"/".join([b"\\\\/" * 253] * MANY)
+    long_entry = (b'{"place":2,"principal":"%s@R","kvno":3,"etype":17,'
+                  b'"etype_name":"aes128-cts-hmac-sha1-96","timestamp":1700000000}' % quoted)
+
+    def of(name: str, image: bytes, those: bytes) -> Case:
+        text = b'{"file":"k","kind":"keytab","version":2,"entries":[' + those + b'],"fault":null}\n'
+        return Case(f"JSON, {name}", ("klist", "-k", "--json", "k"), Outcome(0, text), {"k": image})
+
+    return [
+        of("the most entries", filled(least()), least_entries),
+        of("one entry of 65,535 components", filled(entries(many_components())), long_entry),
+        Case("JSON, a file that is too large", ("klist", "-k", "--json", "k"), TOO_LARGE,
+             {"k": sized(LIMIT + 1)}),
+    ]
+
+
+def checks() -> list[Case]:
+    """Keytabs that are checked. Counts of 0 and above 32,767 hide entries from MIT's programs."""
+    mode = mode_of_files()
+    told = b"mode %o\n" % mode if mode & 0o66 else b""
+    size = len(LEAST_RECORD)
+    same = b"".join(b"same %d 2 kvno 0 etype 0 @\n" % (2 + at * size)
+                    for at in range(1, LEAST_COUNT))
+    rest = LIMIT - 2 - size * LEAST_COUNT - 4
+    quoted = b"/".join([b"\\/" * 253] * MANY)
+    long_rest = LIMIT - len(entries(many_components())) - 4
+    holes = (LIMIT - 2) // 5
+
+    def of(name: str, image: bytes, lines: bytes, status: int = 1) -> Case:
+        return Case(f"ktcheck, {name}", ("ktcheck", "k"), Outcome(status, told + lines),
+                    {"k": image})
+
+    return [
+        of("the most entries", filled(least()), b"hidden 2 kvno 0 etype 0 @\n" + same
+           + b"entries %d free %d holes 1\n" % (LEAST_COUNT, rest)),
+        of("the most holes", keytab(hole(b"x") * holes),
+           b"entries 0 free %d holes %d\n" % (holes, holes), 1 if mode & 0o6 else 0),
+        of("one entry of 65,535 components", filled(entries(many_components())),
+           b"hidden 2 kvno 3 etype 17 " + quoted
+           + b"@R\nentries 1 free %d holes 1\n" % long_rest),
+        Case("ktcheck, a file that is too large", ("ktcheck", "k"), TOO_LARGE,
+             {"k": sized(LIMIT + 1)}),
     ]
 
 
@@ -215,4 +266,5 @@ def talks() -> list[Case]:
 
 def cases() -> list[Case]:
     """All of them but for caches, which are elsewhere."""
-    return [*listings(), *finds(), *edits(), *scripts(), *long_scripts(), *talks()]
+    return [*listings(), *json(), *checks(), *finds(), *edits(), *scripts(), *long_scripts(),
+            *talks()]

@@ -1,4 +1,4 @@
-"""Caches of 16,777,216 bytes that are changed, and scripts as long. What is wanted is worked out by hand."""
+"""Caches of 16,777,216 bytes that are changed or told as JSON, and scripts as long. What is wanted is worked out by hand."""
 from __future__ import annotations
 
 from cache_images import Credential, Name, cache, config
@@ -51,6 +51,24 @@ def removals() -> list[Case]:
     ]
 
 
+def json() -> list[Case]:
+    """The most tickets and the longest value, as JSON."""
+    front = b'{"file":"c","kind":"ccache","version":4,"default_principal":"u@R",'
+    tickets = b",".join(
+        b'{"place":%d,"client":"@","server":"@","authtime":0,"starttime":0,"endtime":0,"renew_till":0,'
+        b'"flags":"","flags_value":0,"etype":0,"etype_name":null,"is_skey":false,"addresses":0,'
+        b'"ticket_length":0}' % place for place in PLACES)
+    value = b"v" * (LIMIT - 22 - BARE)
+    entry = b'{"place":22,"key":"k","principal":null,"value":"' + value + b'"}'
+    words = ("klist", "--json")
+    return [
+        of("the most tickets as JSON", words, cache(LEAST.spelled() * COUNT),
+           Outcome(0, front + b'"tickets":[' + tickets + b'],"config":[],"fault":null}\n')),
+        of("the longest value as JSON", words, cache(config(b"k", value).spelled()),
+           Outcome(0, front + b'"tickets":[],"config":[' + entry + b'],"fault":null}\n')),
+    ]
+
+
 def edits() -> list[Case]:
     """Short scripts over the most tickets, and long values."""
     most = cache(LEAST.spelled() * COUNT)
@@ -95,4 +113,4 @@ def long_scripts() -> list[Case]:
 
 def cases() -> list[Case]:
     """All of them."""
-    return [*removals(), *edits(), *long_scripts()]
+    return [*removals(), *json(), *edits(), *long_scripts()]

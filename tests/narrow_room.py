@@ -26,7 +26,7 @@ SPACE = 64 * 1024 * 1024
 LEAST_POWER, MOST_POWER = 22, 30
 
 # The commands that print nothing before all is ready.
-GATHERING = ("ktedit", "ktremove", "ccedit", "ccremove")
+GATHERING = ("ktcheck", "ktedit", "ktremove", "ccedit", "ccremove")
 
 # A long test has its count divided by this many runs.
 SHARE = 200

@@ -1,16 +1,10 @@
-"""A save while others change the file, its name or its folder, or have locked it."""
+"""A save while others change the file, its name or its folder."""
 from __future__ import annotations
 
 import fcntl
 import os
-import struct
-import subprocess
-import sys
-import tempfile
 import threading
-import time
 from collections.abc import Callable
-from contextlib import ExitStack
 
 from disk_saves import NEW, OLD, SAVED, SCRIPT, UNSAVED, Place, edit, tree, tree_faults, write
 from edits import ADD_B, text
@@ -20,12 +14,8 @@ from preload import Line
 from script_model import edited
 from system_calls import Halt, check_traced, halted
 
-# A user who is not root, and more locks than the system lists at a time.
+# A user who is not root.
 USER = 1234
-MANY = 300
-
-# A program that waits to lock a file.
-WAITER = "import fcntl, sys; fcntl.lockf(open(sys.argv[1], 'r+b'), fcntl.LOCK_EX)"
 
 # The calls behind which a run stands still, by a word for them.
 HALTS = {
@@ -189,100 +179,7 @@ def check_crossed_hold(report: Report, program: str) -> None:
     report.check("held by another behind the finding of a new file", faults)
 
 
-def ofd_lock(file, kind: int) -> None:
-    """Locks a file by its open description, as MIT's programs do."""
-    fcntl.fcntl(file, fcntl.F_OFD_SETLK, struct.pack("hhqqixxxx", kind, os.SEEK_SET, 0, 0, 0))
-
-
-def faults_of_waiting(program: str, folder: str, end: Callable[[], None]) -> list[str]:
-    """What is wrong with a run that has to wait until something ends, which it does in a moment."""
-    has_ended = threading.Event()
-
-    def end_it() -> None:
-        has_ended.set()
-        end()
-
-    timer = threading.Timer(0.3, end_it)
-    timer.start()
-    faults = differences(SAVED, edit(program, folder))
-    faults += [] if has_ended.is_set() else ["it did not wait"]
-    timer.join()
-    return faults + tree_faults({"k": NEW}, folder)
-
-
-def check_locks(report: Report, program: str) -> None:
-    """A run waits for another's new file, and for who has locked the file to write in it."""
-    locks = [
-        ("k.krbfile", "another run's lock", lambda file: fcntl.flock(file, fcntl.LOCK_EX)),
-        ("k", "a lock of a program", lambda file: fcntl.lockf(file, fcntl.LOCK_EX)),
-        ("k", "a lock of a part", lambda file: fcntl.lockf(file, fcntl.LOCK_EX, 1, 9)),
-        ("k", "a lock of an open file", lambda file: ofd_lock(file, fcntl.F_WRLCK)),
-    ]
-    for name, what, lock in locks:
-        with folder_of({"k": OLD, name: OLD}) as folder:
-            with open(os.path.join(folder, name), "r+b") as file:
-                lock(file)
-                faults = faults_of_waiting(program, folder, file.close)
-        report.check(f"{what} is waited for", faults)
-    with folder_of({"k": OLD}) as folder, open(os.path.join(folder, "k"), "rb") as file:
-        ofd_lock(file, fcntl.F_RDLCK)
-        faults = differences(SAVED, edit(program, folder)) + tree_faults({"k": NEW}, folder)
-    report.check("a lock to read is not waited for", faults)
-
-
-def check_many_locks(report: Report, program: str) -> None:
-    """A run finds a lock in a list of locks that is too long for one read."""
-    with folder_of({"k": OLD}) as folder, ExitStack() as stack:
-        for number in range(MANY):
-            if number == MANY // 2:
-                there = stack.enter_context(open(os.path.join(folder, "k"), "r+b"))
-                fcntl.lockf(there, fcntl.LOCK_EX)
-            fcntl.flock(stack.enter_context(tempfile.TemporaryFile()), fcntl.LOCK_EX)
-        faults = faults_of_waiting(program, folder, there.close)
-    report.check(f"a lock among {MANY} others is waited for", faults)
-
-
-def check_waiting_locks(report: Report, program: str) -> None:
-    """A run waits also for a program that itself waits to lock the file, until that gives up."""
-    words = (sys.executable, "-c", WAITER, "k")
-    with folder_of({"k": OLD}) as folder:
-        path = os.path.join(folder, "k")
-        with open(path, "rb") as reader:
-            ofd_lock(reader, fcntl.F_RDLCK)
-            with subprocess.Popen(words, cwd=folder) as waiter:
-                while not is_waited_for(path):
-                    time.sleep(0.005)
-                faults = faults_of_waiting(program, folder, waiter.kill)
-    report.check("who waits for a lock is waited for", faults)
-
-
-def is_waited_for(path: str) -> bool:
-    """Whether a program waits for a lock of a file."""
-    with open("/proc/locks", encoding="ascii") as locks:
-        return any("->" in line and f":{os.stat(path).st_ino} " in line for line in locks)
-
-
-def check_lasting_lock(report: Report, program: str) -> None:
-    """A lock that stays: the save is refused after some ten seconds."""
-    with folder_of({"k": OLD, "k.krbfile": b"other"}) as folder:
-        wanted = tree(folder)
-        with open(os.path.join(folder, "k.krbfile"), "rb") as file:
-            fcntl.flock(file, fcntl.LOCK_EX)
-            started = time.monotonic()
-            faults = differences(UNSAVED, edit(program, folder)) + tree_faults(wanted, folder)
-            if time.monotonic() - started < 9:
-                faults.append("it did not wait")
-    report.check("a lock that stays", faults)
-
-
 def check(report: Report, program: str) -> None:
     """Runs all of this topic."""
     check_traced(report, program, "files that are changed meanwhile", check_changes,
                  check_led_elsewhere, check_led, check_crossed, check_crossed_hold)
-    check_lasting_lock(report, program)
-    if os.path.exists("/proc/locks"):
-        check_locks(report, program)
-        check_many_locks(report, program)
-        check_waiting_locks(report, program)
-    else:
-        report.skip("locks that are waited for", "there is no list of locks")
