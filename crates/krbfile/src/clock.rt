@@ -1,4 +1,4 @@
-//! The time of the program's start.
+//! The time of the day.
 
 use std::time::{Clock, SystemTime, UNIX_EPOCH};
 

@@ -8,7 +8,6 @@ mod equals;
 mod run;
 mod words;
 
-use clock::seconds_now;
 use krb_commands::{ErrorOutput, Streams};
 use krb_disk::DiskFiles;
 use krb_files::{Watched, WatchedReader};
@@ -28,6 +27,5 @@ fn main(rt: HostRuntime) -> ExitCode {
             explains,
         },
     };
-    let now = seconds_now(&rt);
-    ExitCode::from(run(&rt, &mut files, now, &mut streams))
+    ExitCode::from(run(&rt, &mut files, &mut streams))
 }

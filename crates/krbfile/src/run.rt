@@ -1,10 +1,11 @@
 //! From the words of the command line to the status.
 
-ghost use Rattle.std.specs.Prelude.{Result, IsFalse};
+ghost use Rattle.std.specs.Prelude.{ℕ, Option, Result, IsFalse};
 ghost use Rattle.krb_commands.specs.declared.action.Action.{Action};
 ghost use Rattle.krb_commands.specs.declared.command_line.mistake.WordFault.{WordFault};
 ghost use Rattle.krb_commands.specs.Actions.{EndsAsked};
 
+use crate::clock::seconds_now;
 use crate::words::parse_words;
 use krb_commands::{Action, BadLine, Mistake, Streams, WordFault, respond};
 use krb_files::Files;
@@ -42,21 +43,36 @@ fn asked<'a>(
     }
 }
 
-/// Does what the words of the command line ask for, and answers the status. Memory that it gives back is cleared.
-pub fn run<H: rt::Env + AllocGlobal, F: Files, R: Read, W: Write, E: Write>(
+// Whether a run needs the time: tickets that have expired, and entries that ktutil adds.
+fn needs_clock(asked: &Result<Action, WordFault<'_>>) -> bool {
+    match asked {
+        Ok(Action::Ktutil(_)) => true,
+        Ok(Action::Ccremove(options, _)) => options.expired,
+        _ => false,
+    }
+}
+
+/// Does what the words of the command line ask for, and answers the status. The clock is read once, and only where
+/// the run needs it. Memory that it gives back is cleared.
+pub fn run<H: rt::Env + rt::Clock + AllocGlobal, F: Files, R: Read, W: Write, E: Write>(
     rt: &H,
     files: &mut F,
-    now: Option<u32>,
     streams: &mut Streams<R, W, E>,
 ) -> u8
     requires { IsFalse streams.old.out.failed }
 
-    // Something was asked for, or the line was not read, and that decides the run.
-    ensures { (asked : Result Action WordFault)
+    // Something was asked for, or the line was not read, and that and the clock decide the run.
+    ensures { (asked : Result Action WordFault) × (now : Option ℕ)
         × EndsAsked F.Files now streams.old.input streams.new.input files.old files.new
         streams.old.out streams.new.out streams.old.err streams.new.err result asked }
 {
     let mut words = words_of(rt);
     let alloc = Wiping::new(rt.alloc());
-    respond(alloc, &asked(rt.alloc(), &mut words), files, now, streams)
+    let asked = asked(rt.alloc(), &mut words);
+    let now = if needs_clock(&asked) {
+        seconds_now(rt)
+    } else {
+        None
+    };
+    respond(alloc, &asked, files, now, streams)
 }
