@@ -2,6 +2,8 @@
 
 mod calls;
 mod causes;
+mod clock;
 mod disks;
 mod holds;
+mod locks;
 mod modes;

@@ -2,9 +2,9 @@
 use Rattle.std.proofs.Common.{◌≡◌, ◌≢◌, ℕ, ◌+◌, Bool, true, false, List, [], ◌∷◌, ◌++◌, Option, None, Some, IsSomeAnd, IsTrue, codes, length, length-append, arith, sym, ap, subst, ◌∙◌, refl}
 use Rattle.krb_disk.specs.declared.looks.Found.{Found}
 use Rattle.krb_disk.specs.declared.stage.Stage.{Stage}
-use Rattle.krb_disk.specs.declared.stage.Stage.TheVariants.{Written, Told, Permitted, Synced, Ours, Same}
-use Rattle.krb_disk.specs.Disk.{File, Names, Save, Call, Make, Lock, Stands, Double, Write, Own, Stat, Permit, Sync, Remove, Fail, Compare, Rename, Intrude, Pass, Moment, Turns, Asks, Does, Happens, IsFirst, IsLeft, HasDueMode, IsSafe}
-use Rattle.krb_disk.specs.Stages.{IsDueMode, IsSame, stood, synced}
+use Rattle.krb_disk.specs.declared.stage.Stage.TheVariants.{Written, Told, Permitted, Synced, Ours, Same, Quiet}
+use Rattle.krb_disk.specs.Disk.{File, Names, Save, Call, Make, Lock, Stands, Double, Write, Own, Stat, Permit, Sync, Remove, Fail, Compare, Watch, Rename, Intrude, Pass, Moment, Turns, Asks, Does, Happens, IsFirst, IsLeft, HasDueMode, IsSafe}
+use Rattle.krb_disk.specs.Stages.{IsDueMode, IsSame, IsQuiet, stood, watched, synced}
 use Rattle.krb_disk.specs.Target.{new_path}
 
 -- it has the bytes
@@ -27,12 +27,19 @@ HasCome save (Permitted old) file = IsPermitted save file
 HasCome save (Synced old) file = IsWhole save file
 HasCome save (Ours old) file = IsWhole save file
 HasCome save (Same old) file = IsWhole save file
+HasCome save (Quiet old) file = IsWhole save file
 HasCome save _ file = Unit {0}
 
 -- as after it was found under its name
 stood_keeps : (save : Save) (s : Stage) (file : Option File) → HasCome save s file → HasCome save (stood s) file
 stood_keeps save (Synced old) file come = come
 stood_keeps save _ file come = tt
+
+-- and after the list of locks was read
+watched_keeps : (save : Save) (is_quiet : Bool) (s : Stage) (file : Option File) → HasCome save s file → HasCome save (watched is_quiet s) file
+watched_keeps save true (Same old) file come = come
+watched_keeps save false (Same old) file come = come
+watched_keeps save _ _ file come = tt
 
 -- and after it was synced
 synced_keeps : (save : Save) (s : Stage) (f : File) → HasCome save s (Some f) → HasCome save (synced s) (Some (record f { durable = true }))
@@ -45,10 +52,10 @@ due_bytes save None Written f mode due come = come
 due_bytes save (Some old) (Told found) f mode due come = come
 due_bytes save _ _ f mode due come = absurd due
 
--- a file that was compared is whole
-same_whole : (save : Save) (s : Stage) (file : Option File) → IsSame s → HasCome save s file → IsWhole save file
-same_whole save (Same old) file same come = come
-same_whole save _ file same come = absurd same
+-- a file that takes the old one's place is whole
+quiet_whole : (save : Save) (s : Stage) (file : Option File) → IsQuiet s → HasCome save s file → IsWhole save file
+quiet_whole save (Quiet old) file quiet come = come
+quiet_whole save _ file quiet come = absurd quiet
 
 -- each call of the new file leaves it as its stage says
 keeps : (save : Save) (call : Call) (s : Stage) (file : Option File) (t : Stage) (new : Option File) → HasCome save s file → Turns save call s file t new → HasCome save t new
@@ -64,6 +71,7 @@ keeps save (Permit mode) s None t new come turns = absurd turns
 keeps save (Permit mode) s (Some f) t new come turns = rw (turns.1, turns.2) (due_bytes save save.old s f mode turns.0 come, (s, turns.0))
 keeps save Sync s None t new come turns = absurd turns
 keeps save Sync s (Some f) t new come turns = rw (turns.0, turns.1) (synced_keeps save s f come)
+keeps save (Watch is_quiet) s file t new come turns = rw (turns.0, turns.1) (watched_keeps save is_quiet s file come)
 keeps save Remove s file t new come turns = rw turns.1 tt
 keeps save Fail s file t new come turns = rw turns tt
 keeps save _ s file t new come turns = absurd turns
@@ -116,7 +124,7 @@ does_holds save Compare m n h d = subst (λ (x : Moment). Holds save x) (sym d.n
 })
 does_holds save Rename m n h d = subst (λ (x : Moment). Holds save x) (sym d.now) (record {
   old = λ is. absurd (cc);
-  whole = λ is. rw d.named (same_whole save m.stage (m.names (new_path save.path)) d.due h.come);
+  whole = λ is. rw d.named (quiet_whole save m.stage (m.names (new_path save.path)) d.due h.come);
   others = λ name p q. d.others name p q ∙ h.others name p q;
   seen = λ is. absurd (cc);
   come = tt;

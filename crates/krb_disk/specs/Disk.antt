@@ -3,7 +3,7 @@ use Rattle.std.specs.Prelude.{◌≡◌, ◌≢◌, ℕ, Bool, true, false, List
 use Rattle.krb_disk.specs.declared.looks.Found.{Found}
 use Rattle.krb_disk.specs.declared.stage.Stage.{Stage}
 use Rattle.krb_disk.specs.declared.stage.Stage.TheVariants.{Made, Locked, Agreed, Held, Written, Told, Permitted, Ours, Same, Lost}
-use Rattle.krb_disk.specs.Stages.{private_mode, IsDueMode, IsFound, IsSame, stood, synced}
+use Rattle.krb_disk.specs.Stages.{private_mode, IsDueMode, IsFound, IsSame, IsQuiet, stood, watched, synced}
 use Rattle.krb_disk.specs.Target.{new_path}
 
 -- a file, and whether a crash leaves its bytes
@@ -37,6 +37,7 @@ pub data Call : Type 0 where
   Remove : Call
   Fail : Call
   Compare : Call
+  Watch : Bool → Call
   Rename : Call
   Intrude : Call
   Pass : Call
@@ -60,6 +61,7 @@ Turns save Own s file t new = (s ≡ Written) × (t ≡ Written) × (new ≡ fil
 Turns save (Stat found) s file t new = (s ≡ Written) × (t ≡ Told found) × (new ≡ file)
 Turns save (Permit mode) s (Some f) t new = IsDueMode save.old s mode × (t ≡ Permitted save.old) × (new ≡ Some (record f { mode = mode; durable = false }))
 Turns save Sync s (Some f) t new = (t ≡ synced s) × (new ≡ Some (record f { durable = true }))
+Turns save (Watch is_quiet) s file t new = (t ≡ watched is_quiet s) × (new ≡ file)
 Turns save Remove s file t new = IsFound s × (t ≡ Lost) × (new ≡ None)
 Turns save Fail s file t new = t ≡ Lost
 Turns save call s file t new = ⊥
@@ -80,7 +82,7 @@ pub record Compares (save : Save) (m n : Moment) : Type 0 where
 
 -- the new file takes the old name
 pub record Renames (save : Save) (m n : Moment) : Type 0 where
-  pub due : IsSame m.stage
+  pub due : IsQuiet m.stage
   pub named : n.names save.path ≡ m.names (new_path save.path)
   pub others : (name : List ℕ) → name ≢ save.path → name ≢ new_path save.path → n.names name ≡ m.names name
   pub now : n ≡ record m { stage = Lost; names = n.names; saved = true; fresh = false }

@@ -6,6 +6,10 @@ use Rattle.krb_files.specs.declared.files.LoadFault.TheVariants as load
 use Rattle.krb_files.specs.declared.files.SaveFault.{SaveFault}
 use Rattle.krb_files.specs.declared.files.SaveFault.TheVariants as save
 use Rattle.krb_files.specs.Files.{CountsFailure}
+use Rattle.krb_disk.specs.declared.fault.DiskFault.{DiskFault}
+use Rattle.krb_disk.specs.declared.fault.DiskFault.TheVariants as disk
+use Rattle.krb_disk.specs.declared.fault.ReadFault.{ReadFault}
+use Rattle.krb_disk.specs.declared.fault.ReadFault.TheVariants as read
 use Rattle.krb_disk.specs.declared.looks.Found.{Found}
 
 -- what contracts see of the files of a disk: how many calls failed, what the last of them failed with, the names and bytes of the saves that made all their calls, the last first, and the permission bits of the file that was loaded last
@@ -24,6 +28,16 @@ pub record Fails (old new : Disk) : Type 0 where
   pub counted : CountsFailure old.failures new.failures
   pub told : IsSome new.cause
   pub unsaved : new.saved ≡ old.saved
+
+-- a load that gives no bytes counts the call that failed, if one did, and changes nothing else
+abbrev pub CountsLoad : Disk → ReadFault → Disk → Type 0
+CountsLoad old (read.Disk (disk.Failed cause)) new = Fails old new × (new.mode ≡ old.mode) × (old.failures ≤ new.failures)
+CountsLoad old _ new = new ≡ old
+
+-- so does a save that was not made
+abbrev pub CountsSave : Disk → DiskFault → Disk → Type 0
+CountsSave old (disk.Failed cause) new = Fails old new × (new.mode ≡ old.mode) × (old.failures ≤ new.failures)
+CountsSave old disk.NoMemory new = new ≡ old
 
 -- a load from a disk gives at most as many bytes as the limit says; where it gives none, no mode is known, and one that does not fail changes nothing else
 abbrev pub AnswersFromDisk : Disk → Disk → ℕ → Result (List ℕ) LoadFault → Type 0

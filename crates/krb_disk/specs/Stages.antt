@@ -1,10 +1,11 @@
 -- What is due at each stage of a new file.
-use Rattle.std.specs.Prelude.{◌≡◌, ℕ, ◌==◌, Option, None, Some}
+use Rattle.std.specs.Prelude.{◌≡◌, ℕ, Bool, true, false, List, ◌==◌, Option, None, Some}
 use Rattle.krb_disk.specs.declared.looks.Found.{Found}
 use Rattle.krb_disk.specs.declared.seen.Seen.{Seen}
 use Rattle.krb_disk.specs.declared.seen.Seen.TheVariants.{Nothing, File, Loaded}
 use Rattle.krb_disk.specs.declared.stage.Stage.{Stage}
-use Rattle.krb_disk.specs.declared.stage.Stage.TheVariants.{Locked, Agreed, Written, Told, Permitted, Synced, Ours, Same, Ended, Lost}
+use Rattle.krb_disk.specs.declared.stage.Stage.TheVariants.{Locked, Agreed, Written, Told, Permitted, Synced, Ours, Same, Quiet, Ended, Lost}
+use Rattle.krb_disk.specs.Looks.{IsPlainOrNone}
 use Rattle.krb_disk.specs.Mode.{IsNewMode}
 
 -- the mode of a file that no other may use
@@ -28,6 +29,12 @@ abbrev pub compared : Stage → Stage
 compared (Ours old) = Same old
 compared _ = Lost
 
+-- after the list of locks was read
+abbrev pub watched : Bool → Stage → Stage
+watched true (Same old) = Quiet old
+watched false (Same old) = Synced old
+watched _ _ = Lost
+
 -- after it was synced
 abbrev pub synced : Stage → Stage
 synced (Permitted old) = Synced old
@@ -46,7 +53,18 @@ seen_file Nothing = None
 seen_file (File found) = Some found
 seen_file (Loaded found bytes) = Some found
 
+-- what was seen is that file with these bytes, and was loaded
+abbrev pub IsLoaded : {A : Type 0} → Found → List ℕ → Seen A → Type 0
+IsLoaded file bytes (Loaded found copy) = (found ≡ file) × (copy.items ≡ bytes)
+IsLoaded file bytes _ = ⊥
+
 -- what was seen stood under the old name
 abbrev pub IsSame : Stage → Type 0
 IsSame (Same old) = Unit {0}
+IsSame (Quiet old) = Unit {0}
 IsSame _ = ⊥
+
+-- and no program had locked it, and it is a plain file, if there was one
+abbrev pub IsQuiet : Stage → Type 0
+IsQuiet (Quiet old) = IsPlainOrNone old
+IsQuiet _ = ⊥

@@ -1,37 +1,31 @@
 //! What is asked of the system and changes something, or decides that it may be changed.
 
-ghost use Rattle.std.specs.Prelude.{◌≡◌, ◌≤◌, [], ◌∷◌, IfOk, OnOk, OnErr, IsTrue, string_bytes, vec_len};
+ghost use Rattle.std.specs.Prelude.{◌≡◌, [], IfOk, IfSome, OnOk, IsTrue, string_bytes};
 ghost use Rattle.std.specs.Io.KnownBytes.{Appends};
-ghost use Rattle.std.specs.Path.{path_buf_bytes};
 ghost use Rattle.krb_disk.specs.NewFile.{IsFilled};
-ghost use Rattle.krb_disk.specs.Stages.{private_mode, IsDueMode, IsFound, IsSame, stood, synced, seen_file};
-ghost use Rattle.krb_disk.specs.Target.{new_path};
-ghost use Rattle.krb_disk.specs.declared.stage.Stage.TheVariants.{Made, Locked, Agreed, Held, Written, Told, Permitted, Ours, Same};
+ghost use Rattle.krb_disk.specs.Stages.{private_mode, IsDueMode, IsFound, stood, synced};
+ghost use Rattle.krb_disk.specs.declared.stage.Stage.TheVariants.{Made, Locked, Agreed, Held, Written, Told, Permitted};
 
 mod leftover;
 mod log;
+mod old;
 
-use crate::fault::{DiskFault, ReadFault};
+use crate::fault::DiskFault;
 use crate::lock::TakeLock;
-use crate::looks::locks::{LockKind, is_locked};
+use crate::looks::device::Device;
+use crate::looks::mounts::mount_device;
 use crate::looks::same::is_same_file;
 use crate::looks::{Found, Looks};
 use crate::noted::Noted;
+use crate::number::Numbered;
 use crate::owner::{SetOwner, set_owner};
-use crate::read::read_file;
-use crate::seen::Seen;
 use crate::stage::Stage;
-use crate::target::Target;
 use krb_files::save;
 use log::Log;
-use std::alloc::Allocator;
 use std::fs::{self, OpenFile, OpenOptions, Permissions};
 use std::io::{self, ErrorKind};
 use std::os::unix::fs::{OpenOptionsExt, PermissionsExt};
 use std::rt;
-
-/// How many bytes a file that is loaded to be changed may gain before its image moves.
-const ROOM_TO_GROW: u64 = 131_072;
 
 /// The system, as it is asked to change files: nothing else here can ask it, and `rename` alone notes a save.
 #[derive(Drop)]
@@ -49,6 +43,8 @@ pub struct NewFile<S, F> {
     path: S,
     file: Noted<F>,
     stage: Stage,
+    /// The device of the mount on which it is, where that is known.
+    mount: Option<Device>,
     /// What was written to it.
     written: Log,
 }
@@ -83,16 +79,6 @@ impl<'a, R: rt::Files> Calls<'a, R> {
     pub fn looks(&self) -> &Looks<'a, R> {
         &self.looks
     }
-
-    /// What stands under the name of the old file.
-    pub fn see(&self, path: &str) -> io::Result<Option<Found>> {
-        self.looks.look(path)
-    }
-
-    /// Lets the names in a folder outlast a crash.
-    pub fn sync_folder(&self, folder: &str) -> io::Result<()> {
-        fs::open(self.rt, folder)?.sync_all()
-    }
 }
 
 impl<R: rt::Files + Alloc> Calls<'_, R> {
@@ -110,6 +96,7 @@ impl<R: rt::Files + Alloc> Calls<'_, R> {
             path,
             file: Noted::new(file),
             stage: Stage::Made,
+            mount: None,
             written: Log::new(),
         })
     }
@@ -203,63 +190,6 @@ impl<R: rt::Files + Alloc> Calls<'_, R> {
         file.stage = synced;
         Ok(())
     }
-
-    /// Loads the old file, with room to grow.
-    pub fn load<A: Allocator>(
-        &self,
-        alloc: A,
-        path: &str,
-        limit: u32,
-    ) -> Result<(Found, Vec<u8, A>), ReadFault>
-        ensures { IfOk result (λ read. vec_len read.1 ≤ limit) }
-    {
-        read_file(&self.looks, alloc, path, limit, ROOM_TO_GROW)
-    }
-
-    /// Whether what was seen of the old file stands under its name now.
-    pub fn compare(
-        &self,
-        file: &mut NewFile<String<R::A>, R::File>,
-        path: &str,
-        seen: &Seen<R::A>,
-    ) -> Result<bool, DiskFault>
-        requires ours { file.old.stage ≡ Ours (seen_file seen.now) }
-        requires beside { string_bytes file.old.path ≡ new_path path.now }
-        ensures { IfOk result (λ is. IsTrue is
-            → file.new ≡ record file.old { stage = Same (seen_file seen.now) }) }
-    {
-        let is_same = seen.is_at(&self.looks, path)?;
-        file.stage = if is_same {
-            file.stage.compared()
-        } else {
-            Stage::Lost
-        };
-        Ok(is_same)
-    }
-
-    /// Whether no program has locked the old file to write in it.
-    pub fn is_quiet(&self, seen: &Found) -> Result<bool, DiskFault> {
-        Ok(!is_locked(&self.looks, seen, LockKind::Record)?)
-    }
-
-    /// Gives the new file, which has these bytes, the name of the old one. That ends a save.
-    pub fn rename(
-        &mut self,
-        file: &mut NewFile<String<R::A>, R::File>,
-        target: &Target<R::A>,
-        bytes: &[u8],
-    ) -> io::Result<()>
-        requires same { IsSame file.old.stage }
-        requires filled { IsFilled (new_path (path_buf_bytes target.now.path)) bytes.now file.old }
-        ensures ok { OnOk result (self.new.saved.entries
-            ≡ (string_bytes target.now.name, bytes.now) ∷ self.old.saved.entries) }
-        ensures err { OnErr result (self.new.saved.entries ≡ self.old.saved.entries) }
-    {
-        file.stage = Stage::Lost;
-        fs::rename(self.rt, &file.path, target.path())?;
-        self.saved = Log::with(&self.saved, target.name().as_bytes(), bytes);
-        Ok(())
-    }
 }
 
 impl<R: rt::Files + Alloc> Calls<'_, R>
@@ -286,15 +216,32 @@ impl<R: rt::Files + Alloc> Calls<'_, R>
 where
     R::File: SetOwner,
 {
-    /// Sets the owner and the group of the new file. The answer is whether that was allowed.
+    /// Gives the new file the group of the old one, and its owner too if one is given. The answer is whether that
+    /// was allowed.
     pub fn own(
         &self,
         file: &NewFile<String<R::A>, R::File>,
+        _old: &Found,
         owner: Option<u32>,
         group: u32,
     ) -> Result<bool, DiskFault>
         requires written { file.now.stage ≡ Written }
+        requires owner { IfSome owner (λ number. number ≡ _old.now.owner) }
+        requires group { group ≡ _old.now.group }
     {
         set_owner(&file.file.file, owner, group)
+    }
+}
+
+impl<R: rt::Files + Alloc> Calls<'_, R>
+where
+    R::File: Numbered,
+{
+    /// Finds out on which mount the new file is, and so the old one.
+    pub fn find_mount(&self, file: &mut NewFile<String<R::A>, R::File>) -> Result<(), DiskFault>
+        ensures { OnOk result (file.new ≡ record file.old { mount = file.new.mount }) }
+    {
+        file.mount = mount_device(&self.looks, file.file.file.number())?;
+        Ok(())
     }
 }

@@ -1,19 +1,19 @@
 //! The files of a disk.
 
-ghost use Rattle.std.specs.Prelude.{◌≡◌, ◌≤◌, ◌<◌, [], ◌∷◌, None, IfOk, OnOk, OnErr, IsSome, string_bytes, vec_len};
-ghost use Rattle.krb_disk.specs.DiskFiles.{Disk, Fails, AnswersFromDisk, SavesToDisk};
+ghost use Rattle.std.specs.Prelude.{◌≡◌, ◌≤◌, ◌<◌, [], ◌∷◌, None, OnOk, OnErr, IsSome};
+ghost use Rattle.krb_disk.specs.DiskFiles.{Disk, Fails, CountsLoad, CountsSave, AnswersFromDisk, SavesToDisk};
+ghost use Rattle.krb_disk.specs.Faults.{load_fault, save_fault};
 
 use crate::calls::Calls;
 use crate::fault::{DiskFault, ReadFault};
-use crate::hold::Hold;
+use crate::held::Held;
 use crate::lock::TakeLock;
-use crate::looks::Found;
+use crate::number::Numbered;
 use crate::owner::SetOwner;
-use crate::read::read_file;
 use krb_files::{Cause, Files, LoadFault, SaveFault};
 use std::alloc::Allocator;
 use std::marker::Model;
-use std::rt;
+use std::{mem, rt};
 
 /// The files of a disk. Nothing is known of what they hold; contracts see how many calls failed, what the last
 /// of them failed with, which saves made all their calls, and the mode of the file that was loaded last. A load reads the whole file. A save makes a new
@@ -26,8 +26,7 @@ pub struct DiskFiles<'a, R: rt::Files + Alloc> {
     cause: Option<Cause>,
     /// The permission bits of the file that was loaded last.
     mode: Option<u32>,
-    /// The file that is held, or why it is not, and cannot be saved.
-    held: Option<Result<Hold<R>, DiskFault>>,
+    held: Held<R>,
 }
 
 impl<'a, R: rt::Files + Alloc> Model for DiskFiles<'a, R> {
@@ -54,7 +53,7 @@ impl<'a, R: rt::Files + Alloc> DiskFiles<'a, R> {
             failures: 0,
             cause: None,
             mode: None,
-            held: None,
+            held: Held::Nothing,
         }
     }
 
@@ -71,40 +70,28 @@ impl<'a, R: rt::Files + Alloc> DiskFiles<'a, R> {
 
 impl<R: rt::Files + rt::Clock + Alloc> DiskFiles<'_, R>
 where
-    R::File: SetOwner + TakeLock,
+    R::File: SetOwner + TakeLock + Numbered,
 {
-    // Reads a file: the one that is held, if it is asked for by the same name.
-    fn read<A: Allocator>(
-        &mut self,
-        alloc: A,
-        name: &str,
-        limit: u32,
-    ) -> Result<(Found, Vec<u8, A>), ReadFault>
-        ensures same { self.new ≡ self.old }
-        ensures within { IfOk result (λ read. vec_len read.1 ≤ limit) }
+    // The answer of a load that gives no bytes. A call that failed is counted.
+    fn refuse_load(&mut self, fault: ReadFault) -> LoadFault
+        ensures exact { result ≡ load_fault fault }
+        ensures counted { CountsLoad self.old fault self.new }
     {
-        match &mut self.held {
-            Some(Ok(hold)) if hold.is_of(name) => hold.load(&self.calls, alloc, limit),
-            _ => read_file(self.calls.looks(), alloc, name, limit, 0),
+        if let ReadFault::Disk(DiskFault::Failed(cause)) = fault {
+            self.count_failure(cause);
         }
+        fault.load_fault()
     }
 
-    // The hold of that file, which is taken now where none was asked for before.
-    fn take_hold(&mut self, name: &str) -> Result<Hold<R>, DiskFault>
-        ensures same { self.new ≡ self.old }
-        ensures named { IfOk result (λ hold. string_bytes hold.target.name ≡ name.now) }
+    // The answer of a save that was not made. A call that failed is counted.
+    fn refuse_save(&mut self, fault: DiskFault) -> SaveFault
+        ensures exact { result ≡ save_fault fault }
+        ensures counted { CountsSave self.old fault self.new }
     {
-        match self.held.take() {
-            Some(Ok(hold)) => {
-                if hold.is_of(name) {
-                    return Ok(hold);
-                }
-                hold.release(&self.calls);
-                Hold::take(&self.calls, name)
-            }
-            Some(Err(fault)) => Err(fault),
-            None => Hold::take(&self.calls, name),
+        if let DiskFault::Failed(cause) = fault {
+            self.count_failure(cause);
         }
+        fault.save_fault()
     }
 
     fn save_held(&mut self, name: &str, bytes: &[u8]) -> Result<(), DiskFault>
@@ -112,14 +99,15 @@ where
             ≡ record self.old { saved = (name.now, bytes.now) ∷ self.old.saved }) }
         ensures err { OnErr result (self.new ≡ self.old) }
     {
-        let hold = self.take_hold(name)?;
+        let held = mem::replace(&mut self.held, Held::Nothing);
+        let hold = held.into_hold(&self.calls, name)?;
         hold.save(&mut self.calls, bytes)
     }
 }
 
 impl<R: rt::Files + rt::Clock + Alloc> Files for DiskFiles<'_, R>
 where
-    R::File: SetOwner + TakeLock,
+    R::File: SetOwner + TakeLock + Numbered,
 {
     ghost file = { λ _ _. None };
 
@@ -135,13 +123,11 @@ where
 
     fn hold(&mut self, name: &str) {
         self.release();
-        self.held = Some(Hold::take(&self.calls, name));
+        self.held = Held::take(&self.calls, name);
     }
 
     fn release(&mut self) {
-        if let Some(Ok(hold)) = self.held.take() {
-            hold.release(&self.calls);
-        }
+        mem::replace(&mut self.held, Held::Nothing).release(&self.calls);
     }
 
     fn load<A: Allocator>(
@@ -154,18 +140,12 @@ where
         if self.failures == u64::MAX {
             return Err(LoadFault::Failed);
         }
-        match self.read(alloc, name, limit) {
+        match self.held.load(&self.calls, alloc, name, limit) {
             Ok((found, bytes)) => {
                 self.mode = found.permissions();
                 Ok(bytes)
             }
-            Err(ReadFault::Missing) => Err(LoadFault::Missing),
-            Err(ReadFault::TooLarge) => Err(LoadFault::TooLarge),
-            Err(ReadFault::Disk(DiskFault::NoMemory)) => Err(LoadFault::NoMemory),
-            Err(ReadFault::Disk(DiskFault::Failed(cause))) => {
-                self.count_failure(cause);
-                Err(LoadFault::Failed)
-            }
+            Err(fault) => Err(self.refuse_load(fault)),
         }
     }
 
@@ -175,11 +155,7 @@ where
         }
         match self.save_held(name, bytes) {
             Ok(()) => Ok(()),
-            Err(DiskFault::NoMemory) => Err(SaveFault::NoMemory),
-            Err(DiskFault::Failed(cause)) => {
-                self.count_failure(cause);
-                Err(SaveFault::Failed)
-            }
+            Err(fault) => Err(self.refuse_save(fault)),
         }
     }
 

@@ -1,10 +1,11 @@
 //! Why a call on the disk failed.
 
 ghost use Rattle.std.specs.Prelude.{◌≡◌};
+ghost use Rattle.krb_disk.specs.Faults.{load_fault, save_fault};
 ghost use Rattle.krb_disk.specs.declared.fault.DiskFault.TheVariants.{NoMemory};
 ghost use Rattle.krb_disk.specs.declared.fault.ReadFault.TheVariants.{Disk};
 
-use krb_files::Cause;
+use krb_files::{Cause, LoadFault, SaveFault};
 use std::alloc::AllocError;
 use std::io::{self, ErrorKind};
 
@@ -47,6 +48,32 @@ impl From<DiskFault> for ReadFault {
 
     fn from(fault: DiskFault) -> ReadFault {
         ReadFault::Disk(fault)
+    }
+}
+
+impl ReadFault {
+    /// What a load answers then.
+    pub fn load_fault(self) -> LoadFault
+        ensures { result ≡ load_fault self }
+    {
+        match self {
+            ReadFault::Missing => LoadFault::Missing,
+            ReadFault::TooLarge => LoadFault::TooLarge,
+            ReadFault::Disk(DiskFault::NoMemory) => LoadFault::NoMemory,
+            ReadFault::Disk(DiskFault::Failed(_)) => LoadFault::Failed,
+        }
+    }
+}
+
+impl DiskFault {
+    /// What a save answers then.
+    pub fn save_fault(self) -> SaveFault
+        ensures { result ≡ save_fault self }
+    {
+        match self {
+            DiskFault::NoMemory => SaveFault::NoMemory,
+            DiskFault::Failed(_) => SaveFault::Failed,
+        }
     }
 }
 

@@ -3,7 +3,9 @@
 ghost use Rattle.std.specs.Prelude.{◌≡◌, ◌↔◌, IsTrue, bit_and};
 ghost use Rattle.krb_disk.specs.DiskFiles.{permissions};
 
+pub mod device;
 pub mod locks;
+pub mod mounts;
 pub mod same;
 pub mod users;
 
@@ -11,7 +13,7 @@ use std::fs::{self, Metadata, OpenFile};
 use std::io::{self, ErrorKind, Read};
 use std::os::unix::fs::MetadataExt;
 use std::path::PathBuf;
-use std::time::Duration;
+use std::time::{Duration, Instant};
 use std::{rt, thread};
 
 /// What the system tells of a file.
@@ -59,6 +61,11 @@ impl Found {
 
     pub fn is_link(&self) -> bool {
         self.mode & 0o170000 == 0o120000
+    }
+
+    /// Whether it is a pipe with a name, whose open may wait for another program.
+    pub fn is_pipe(&self) -> bool {
+        self.mode & 0o170000 == 0o010000
     }
 }
 
@@ -108,11 +115,13 @@ impl<'a, R: rt::Files> Looks<'a, R> {
         Ok(Found::of(&fs::metadata(self.rt, name)?))
     }
 
-    /// Opens a file to be read.
-    pub fn open(&self, path: &str) -> io::Result<Opened<R::File>> {
-        Ok(Opened {
-            file: fs::open(self.rt, path)?,
-        })
+    /// Opens a file to be read, if there is one.
+    pub fn open(&self, path: &str) -> io::Result<Option<Opened<R::File>>> {
+        match fs::open(self.rt, path) {
+            Ok(file) => Ok(Some(Opened { file })),
+            Err(error) if error.kind() == ErrorKind::NotFound => Ok(None),
+            Err(error) => Err(error),
+        }
     }
 }
 
@@ -133,5 +142,10 @@ impl<R: rt::Clock> Looks<'_, R> {
     /// Lets some time pass.
     pub fn pause(&self, time: Duration) {
         thread::sleep(self.rt, time);
+    }
+
+    /// The time, where the clock can be read.
+    pub fn now(&self) -> Option<Instant> {
+        Instant::now(self.rt).ok()
     }
 }

@@ -8,8 +8,10 @@ use crate::calls::{Calls, NewFile};
 use crate::fault::DiskFault;
 use crate::lock::TakeLock;
 use crate::looks::Found;
+use crate::looks::device::Mounted;
 use crate::looks::locks::{LockKind, is_locked};
 use crate::looks::users::Users;
+use crate::patience::Patience;
 use std::io::{self, ErrorKind};
 use std::rt;
 
@@ -100,10 +102,11 @@ where
 }
 
 // What stands where the new file is to be made is in use if a program has locked it.
-fn try_place<R: rt::Files + Alloc>(
+fn try_place<R: rt::Files + rt::Clock + Alloc>(
     calls: &Calls<'_, R>,
     path: &str,
     owner: Option<u32>,
+    patience: &Patience,
 ) -> Result<bool, DiskFault>
 where
     R::File: TakeLock,
@@ -111,17 +114,19 @@ where
     let Some(found) = calls.looks().look(path)? else {
         return Ok(true);
     };
+    let place = Mounted::new(&found, None);
     Ok(
         clear_place(calls, path, &found, owner)?
-            || is_locked(calls.looks(), &found, LockKind::WholeFile)?,
+            || is_locked(calls.looks(), &place, LockKind::WholeFile, patience)?,
     )
 }
 
 /// Tries to make the new file of that name, beside a file of that owner, and to lock it.
-pub fn make_locked<R: rt::Files + Alloc>(
+pub fn make_locked<R: rt::Files + rt::Clock + Alloc>(
     calls: &Calls<'_, R>,
     path: &str,
     owner: Option<u32>,
+    patience: &Patience,
 ) -> Result<Attempt<NewFile<String<R::A>, R::File>>, DiskFault>
 where
     R::File: TakeLock,
@@ -130,7 +135,7 @@ where
     let mut file = match calls.make(path, PRIVATE) {
         Ok(file) => file,
         Err(error) if error.kind() == ErrorKind::AlreadyExists => {
-            return match try_place(calls, path, owner)? {
+            return match try_place(calls, path, owner, patience)? {
                 true => Ok(Attempt::InUse),
                 false => Ok(Attempt::InTheWay),
             };

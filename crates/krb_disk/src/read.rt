@@ -23,10 +23,8 @@ pub fn read_file<R: rt::Files, A: Allocator>(
 ) -> Result<(Found, Vec<u8, A>), ReadFault>
     ensures { IfOk result (λ read. vec_len read.1 ≤ limit) }
 {
-    let file = match looks.open(path) {
-        Ok(file) => file,
-        Err(error) if error.kind() == io::ErrorKind::NotFound => return Err(ReadFault::Missing),
-        Err(error) => return Err(ReadFault::from(error)),
+    let Some(file) = looks.open(path)? else {
+        return Err(ReadFault::Missing);
     };
     let found = file.tell()?;
     let mut file = WatchedReader::new(Noted::new(file));

@@ -23,8 +23,8 @@ where
     R::File: SetOwner,
     requires { file.now.stage ≡ Written }
 {
-    if !calls.own(file, Some(old.owner), old.group)? {
-        calls.own(file, None, old.group)?;
+    if !calls.own(file, old, Some(old.owner), old.group)? {
+        calls.own(file, old, None, old.group)?;
     }
     Ok(())
 }

@@ -1,7 +1,7 @@
 //! How far a new file has come.
 
 ghost use Rattle.std.specs.Prelude.{◌≡◌};
-ghost use Rattle.krb_disk.specs.Stages.{stood, compared, synced, IsFound};
+ghost use Rattle.krb_disk.specs.Stages.{stood, compared, watched, synced, IsFound};
 
 use crate::looks::Found;
 
@@ -25,6 +25,8 @@ pub enum Stage {
     Ours(Option<Found>),
     /// And what was seen of the old file stands under the old one's name.
     Same(Option<Found>),
+    /// And since then no program had locked that one to write in it.
+    Quiet(Option<Found>),
     /// It stands under its name, and is not to be saved.
     Ended,
     /// It has the old file's name, or something else has its own, or a call failed.
@@ -50,6 +52,17 @@ impl Stage {
     {
         match self {
             Stage::Ours(old) => Stage::Same(old),
+            _ => Stage::Lost,
+        }
+    }
+
+    /// Where the list of locks was read. If a program has the old file, all is looked at again.
+    pub fn watched(self, is_quiet: bool) -> Stage
+        ensures { result ≡ watched is_quiet self }
+    {
+        match (self, is_quiet) {
+            (Stage::Same(old), true) => Stage::Quiet(old),
+            (Stage::Same(old), false) => Stage::Synced(old),
             _ => Stage::Lost,
         }
     }

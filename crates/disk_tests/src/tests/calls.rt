@@ -7,17 +7,27 @@ use std::test::Fail;
 /// The number of an input/output error.
 pub const EIO: i32 = 5;
 
-/// The calls of a save in `k`, a plain file that was not held: the first ten hold it.
-pub const CALLS: [&str; 24] = [
+/// The calls of a save in `k`, a plain file that was not held: the first of them hold it.
+pub const CALLS: [&str; 41] = [
     "look k\n",
     "make k.krbfile\n",
     "lock\n",
     "tell\n",
     "look k.krbfile\n",
     "double\n",
+    "open /proc/self/fdinfo/7\n",
+    "tell\n",
+    "read\n",
     "look k\n",
     "open /proc/locks\n",
-    "tell\n",
+    "read\n",
+    "open /proc/locks\n",
+    "read\n",
+    "open /proc/locks\n",
+    "read\n",
+    "open /proc/locks\n",
+    "read\n",
+    "open /proc/locks\n",
     "read\n",
     "write\n",
     "own\n",
@@ -28,12 +38,35 @@ pub const CALLS: [&str; 24] = [
     "look k.krbfile\n",
     "look k\n",
     "open /proc/locks\n",
-    "tell\n",
+    "read\n",
+    "open /proc/locks\n",
+    "read\n",
+    "open /proc/locks\n",
+    "read\n",
+    "open /proc/locks\n",
+    "read\n",
+    "open /proc/locks\n",
     "read\n",
     "rename k.krbfile\n",
     "open .\n",
     "sync\n",
 ];
+
+/// How many of them hold it.
+pub const HOLD: usize = 20;
+
+/// The numbers of some of them, from 1 on.
+pub const WRITE: u64 = 21;
+
+pub const OWN: u64 = 22;
+
+pub const TELL: u64 = 23;
+
+pub const SYNC: u64 = 25;
+
+pub const LAST_LOOK: u64 = 28;
+
+pub const RENAME: u64 = 39;
 
 /// The calls that leave a file that is held.
 pub const LEAVES: &str = "tell\nlook k.krbfile\nremove k.krbfile\n";
@@ -86,10 +119,10 @@ pub fn some_calls(alloc: Global, from: usize, to: usize) -> Result<String, Fail>
 /// counted.
 #[test]
 fn each_call_of_a_save_fails(rt: HostRuntime) -> Result<(), Fail> {
-    for failing in [1usize, 2, 3, 4, 5, 6, 7, 11, 12, 13, 14, 15, 16, 17, 18, 22] {
+    for failing in [1usize, 2, 3, 4, 5, 6, 10, 21, 22, 23, 24, 25, 26, 27, 28, 39] {
         let calls = Calls::new(rt.alloc(), failing as u64, EIO);
         let saved = save(rt.alloc(), &calls, "k");
-        let cause = if failing == 12 {
+        let cause = if failing == OWN as usize {
             Cause::OwnerNotKept
         } else {
             Cause::InputOutput
@@ -104,10 +137,10 @@ fn each_call_of_a_save_fails(rt: HostRuntime) -> Result<(), Fail> {
     Ok(())
 }
 
-/// A save is made without the list of locks, and once the file is renamed.
+/// A save is made without the mount and the list of locks, and once the file is renamed.
 #[test]
 fn calls_that_a_save_does_not_need(rt: HostRuntime) -> Result<(), Fail> {
-    for failing in [0u64, 8, 9, 10, 19, 20, 21, 23, 24] {
+    for failing in [0u64, 7, 8, 9, 11, 12, 19, 20, 29, 30, 37, 38, 40, 41] {
         let calls = Calls::new(rt.alloc(), failing, EIO);
         let saved = save(rt.alloc(), &calls, "k");
         assert!(rt; saved == (Ok(()), 0, None), "at {failing}");
@@ -124,12 +157,12 @@ fn calls_that_a_save_does_not_need(rt: HostRuntime) -> Result<(), Fail> {
 fn an_owner_that_is_refused(rt: HostRuntime) -> Result<(), Fail> {
     // EPERM, EINVAL, ENOSYS and EOPNOTSUPP.
     for error in [1i32, 22, 38, 95] {
-        let calls = Calls::new(rt.alloc(), 12, error);
+        let calls = Calls::new(rt.alloc(), OWN, error);
         let saved = save(rt.alloc(), &calls, "k");
         assert!(rt; saved == (Ok(()), 0, None), "{error}");
-        let mut lines = some_calls(rt.alloc(), 0, 12)?;
+        let mut lines = some_calls(rt.alloc(), 0, OWN as usize)?;
         lines.push_str("own the group\n")?;
-        lines.push_str(&some_calls(rt.alloc(), 12, CALLS.len())?)?;
+        lines.push_str(&some_calls(rt.alloc(), OWN as usize, CALLS.len())?)?;
         assert!(rt; calls.are(&lines), "{error}");
     }
     Ok(())
@@ -161,6 +194,22 @@ fn each_call_of_a_load_fails(rt: HostRuntime) -> Result<(), Fail> {
         let wanted = (Some(LoadFault::Failed), 1, Some(Cause::InputOutput));
         assert!(rt; loaded == wanted, "at {failing}");
         assert!(rt; calls.are(lines), "at {failing}");
+    }
+    Ok(())
+}
+
+/// Only a file that is not there is missing: of the errors of an open ENOENT alone says so.
+#[test]
+fn errors_of_an_open(rt: HostRuntime) -> Result<(), Fail> {
+    for error in 1..134i32 {
+        let calls = Calls::new(rt.alloc(), 1, error);
+        let (fault, _, _) = load(rt.alloc(), &calls);
+        let wanted = if error == 2 {
+            LoadFault::Missing
+        } else {
+            LoadFault::Failed
+        };
+        assert!(rt; fault == Some(wanted), "{error}");
     }
     Ok(())
 }

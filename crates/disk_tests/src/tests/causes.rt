@@ -1,4 +1,4 @@
-use super::calls::{failed, save};
+use super::calls::{LAST_LOOK, RENAME, SYNC, TELL, WRITE, failed, save};
 use super::disks::Calls;
 use krb_files::Cause;
 use std::test::Fail;
@@ -17,7 +17,7 @@ fn what_a_write_fails_with(rt: HostRuntime) -> Result<(), Fail> {
         (122, Cause::QuotaExceeded),
         (71, Cause::System(71)),
     ] {
-        let calls = Calls::new(rt.alloc(), 11, error);
+        let calls = Calls::new(rt.alloc(), WRITE, error);
         assert!(rt; save(rt.alloc(), &calls, "k") == failed(cause), "{error}");
     }
     Ok(())
@@ -50,11 +50,11 @@ fn what_a_hold_fails_with(rt: HostRuntime) -> Result<(), Fail> {
 fn errors_with_a_meaning_of_their_own(rt: HostRuntime) -> Result<(), Fail> {
     let unlocked = Calls::new(rt.alloc(), 3, 95);
     assert!(rt; save(rt.alloc(), &unlocked, "k") == (Ok(()), 0, None));
-    let mounted = Calls::new(rt.alloc(), 22, 16);
+    let mounted = Calls::new(rt.alloc(), RENAME, 16);
     assert!(rt; save(rt.alloc(), &mounted, "k") == failed(Cause::MountPoint));
-    let busy = Calls::new(rt.alloc(), 15, 16);
+    let busy = Calls::new(rt.alloc(), SYNC, 16);
     assert!(rt; save(rt.alloc(), &busy, "k") == failed(Cause::System(16)));
-    for call in [1u64, 2, 3, 11, 13, 22] {
+    for call in [1u64, 2, 3, WRITE, TELL, LAST_LOOK, RENAME] {
         let calls = Calls::new(rt.alloc(), call, 12);
         let saved = save(rt.alloc(), &calls, "k");
         assert!(rt; saved == failed(Cause::System(12)), "at {call}");

@@ -1,6 +1,8 @@
 ghost use Rattle.std.specs.Prelude.{IsErr};
 
-use krb_disk::{SetOwner, TakeLock};
+use super::clock::{Clock, Pace};
+use super::locks::{Locks, Shown};
+use krb_disk::{Numbered, SetOwner, TakeLock};
 use std::alloc::{Allocator, Global};
 use std::cell::{Cell, RefCell};
 use std::fs::{Metadata, OpenFile, OpenOptions, Permissions};
@@ -20,8 +22,11 @@ pub struct Calls {
     error: i32,
     /// The bytes of the file `k`.
     pub bytes: Cell<&'static [u8]>,
-    /// The system's list of locks.
-    pub locks: Cell<&'static [u8]>,
+    pub locks: Locks,
+    /// What the system says of the new file, and of its mounts.
+    pub file_info: Cell<&'static [u8]>,
+    pub mounts: Cell<&'static [u8]>,
+    pub clock: Clock,
     /// Whether another program has the new file.
     pub is_locked: Cell<bool>,
     /// Whether something stands under the name of the new file.
@@ -37,7 +42,10 @@ impl Calls {
             failing,
             error,
             bytes: Cell::new(b""),
-            locks: Cell::new(b""),
+            locks: Locks::none(),
+            file_info: Cell::new(b""),
+            mounts: Cell::new(b""),
+            clock: Clock::new(Pace::Fails),
             is_locked: Cell::new(false),
             is_taken: Cell::new(false),
         }
@@ -80,8 +88,8 @@ pub struct Disk<'a> {
 #[derive(Drop)]
 pub struct Opened<'a> {
     calls: &'a Calls,
-    /// What is still to be read.
-    left: &'static [u8],
+    /// What is still to be read, again and again if it has no end.
+    left: Shown,
 }
 
 fn unsupported<T>() -> io::Result<T>
@@ -93,11 +101,7 @@ fn unsupported<T>() -> io::Result<T>
 impl Read for Opened<'_> {
     fn read(&mut self, buf: &mut [u8]) -> io::Result<usize> {
         self.calls.add("read", "")?;
-        let count = self.left.len().min(buf.len());
-        let (given, left) = self.left.split_at(count);
-        buf[..count].copy_from_slice(given);
-        self.left = left;
-        Ok(count)
+        Ok(self.left.give(buf))
     }
 }
 
@@ -167,13 +171,23 @@ impl TakeLock for Opened<'_> {
     }
 }
 
+impl Numbered for Opened<'_> {
+    fn number(&self) -> i32 {
+        7
+    }
+}
+
 impl rt::Clock for Disk<'_> {
     fn monotonic(&self) -> io::Result<Duration> {
-        unsupported()
+        self.calls.clock.read()
     }
 
     fn since_1970(&self) -> io::Result<Duration> {
         unsupported()
+    }
+
+    fn sleep(&self, time: Duration) {
+        self.calls.clock.sleep(time);
     }
 }
 
@@ -195,9 +209,11 @@ impl<'a> rt::Files for Disk<'a> {
             return Err(io::Error::from(ErrorKind::AlreadyExists));
         }
         let left = match path {
-            "k" => self.calls.bytes.get(),
-            "/proc/locks" => self.calls.locks.get(),
-            _ => b"",
+            "k" => Shown::Bytes(self.calls.bytes.get()),
+            "/proc/locks" => self.calls.locks.open(),
+            "/proc/self/fdinfo/7" => Shown::Bytes(self.calls.file_info.get()),
+            "/proc/self/mountinfo" => Shown::Bytes(self.calls.mounts.get()),
+            _ => Shown::Bytes(b""),
         };
         Ok(Opened {
             calls: self.calls,

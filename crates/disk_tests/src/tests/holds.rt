@@ -1,5 +1,7 @@
-use super::calls::{CALLS, LEAVES, Saved, failed, hold, loads, release, save, save_in, some_calls};
+use super::calls::{CALLS, HOLD, LEAVES, Saved, failed, hold, loads, release, save, save_in, some_calls};
+use super::clock::Pace;
 use super::disks::{Calls, Disk};
+use super::locks::Shown;
 use krb_disk::DiskFiles;
 use krb_files::Cause;
 use std::alloc::Global;
@@ -36,11 +38,11 @@ fn a_file_that_does_not_change(rt: HostRuntime) -> Result<(), Fail> {
     let calls = Calls::whole(rt.alloc());
     calls.bytes.set(b"old");
     assert!(rt; change(rt.alloc(), &calls, b"old") == (Ok(()), 0, None));
-    let mut lines = some_calls(rt.alloc(), 0, 10)?;
+    let mut lines = some_calls(rt.alloc(), 0, HOLD)?;
     lines.push_str("open k\ntell\nread\nread\n")?;
-    lines.push_str(&some_calls(rt.alloc(), 10, 18)?)?;
+    lines.push_str(&some_calls(rt.alloc(), HOLD, 28)?)?;
     lines.push_str("open k\ntell\nread\nread\n")?;
-    lines.push_str(&some_calls(rt.alloc(), 18, CALLS.len())?)?;
+    lines.push_str(&some_calls(rt.alloc(), 28, CALLS.len())?)?;
     assert!(rt; calls.are(&lines));
     Ok(())
 }
@@ -48,7 +50,7 @@ fn a_file_that_does_not_change(rt: HostRuntime) -> Result<(), Fail> {
 /// Each call of that look at the file fails, and the file is not saved.
 #[test]
 fn a_file_that_is_not_read_again(rt: HostRuntime) -> Result<(), Fail> {
-    for failing in [22u64, 23, 24, 25, 26] {
+    for failing in [32u64, 33, 34, 35, 36] {
         let calls = Calls::new(rt.alloc(), failing, 5);
         calls.bytes.set(b"old");
         let saved = change(rt.alloc(), &calls, b"old");
@@ -76,7 +78,9 @@ fn a_place_that_is_taken(rt: HostRuntime) -> Result<(), Fail> {
     let mut lines = String::from_str(rt.alloc(), "look k\n")?;
     for _ in 0..201u32 {
         lines.push_str("make k.krbfile\nlook k.krbfile\ncome to /proc/self\n")?;
-        lines.push_str("open /proc/locks\ntell\nread\n")?;
+        for _ in 0..5u32 {
+            lines.push_str("open /proc/locks\nread\n")?;
+        }
     }
     assert!(rt; calls.are(&lines));
     Ok(())
@@ -120,7 +124,8 @@ fn the_list_of_locks(rt: HostRuntime) -> Result<(), Fail> {
             (true, has_whole, failed(Cause::InTheWay)),
         ] {
             let calls = Calls::whole(rt.alloc());
-            calls.locks.set(list);
+            calls.locks.list.set(Shown::Bytes(list));
+            calls.clock.pace.set(Pace::Runs(100));
             calls.is_taken.set(is_taken);
             let wanted = if is_locked {
                 failed(Cause::InUse)
@@ -142,12 +147,12 @@ fn a_file_that_is_left(rt: HostRuntime) -> Result<(), Fail> {
     hold(&mut files, "k");
     release(&mut files);
     release(&mut files);
-    let mut lines = some_calls(rt.alloc(), 0, 10)?;
+    let mut lines = some_calls(rt.alloc(), 0, HOLD)?;
     lines.push_str(LEAVES)?;
     assert!(rt; calls.are(&lines));
     hold(&mut files, "k");
     let _ = save_in(&mut files, "d");
-    lines.push_str(&some_calls(rt.alloc(), 0, 10)?)?;
+    lines.push_str(&some_calls(rt.alloc(), 0, HOLD)?)?;
     lines.push_str(LEAVES)?;
     lines.push_str("look d\n")?;
     assert!(rt; calls.are(&lines));

@@ -1,8 +1,10 @@
 use super::calls::{hold, loads};
 use super::disks::{Calls, Disk};
 use krb_disk::DiskFiles;
-use krb_files::Files;
+use krb_files::{Cause, Files, LoadFault, SaveFault};
 use std::fs::{self, Permissions};
+use std::io;
+use std::os::fd::AsRawFd;
 use std::os::unix::fs::{PermissionsExt, symlink};
 use std::test::Fail;
 
@@ -41,11 +43,27 @@ fn modes_of_real_files(rt: HostRuntime) -> Result<(), Fail> {
     Ok(())
 }
 
+/// A pipe that was to be held is not opened, so nothing waits until another program writes to it.
+#[test]
+fn a_pipe_is_not_opened(rt: HostRuntime) -> Result<(), Fail> {
+    let (reader, _writer) = io::pipe(&rt)?;
+    let name = format!(in rt.alloc(); "/dev/fd/{}", reader.as_raw_fd())?;
+    let mut files = DiskFiles::new(&rt);
+    files.hold(&name);
+    for _ in 0..2u32 {
+        assert!(rt; files.load(rt.alloc(), &name, 10) == Err(LoadFault::Failed));
+        assert!(rt; files.cause() == Some(Cause::NotAPlainFile));
+    }
+    assert!(rt; files.save(&name, b"new") == Err(SaveFault::Failed));
+    assert!(rt; files.cause() == Some(Cause::NotAPlainFile));
+    Ok(())
+}
+
 /// The mode is that of the open file: a load makes no call more for it, through a hold or without one. One
 /// that fails tells none.
 #[test]
 fn the_mode_of_the_last_load(rt: HostRuntime) -> Result<(), Fail> {
-    for (is_held, failing) in [(false, 5u64), (true, 15)] {
+    for (is_held, failing) in [(false, 5u64), (true, 25)] {
         let calls = Calls::new(rt.alloc(), failing, 5);
         let disk = (Disk { calls: &calls }, rt.alloc());
         let mut files = DiskFiles::new(&disk);

@@ -1,16 +1,26 @@
 //! Files that other programs have locked.
 
-use crate::fault::{DiskFault, ReadFault};
-use crate::looks::{Found, Looks};
-use crate::read::read_file;
+use crate::fault::DiskFault;
+use crate::looks::Looks;
+use crate::looks::device::{Mounted, Place};
+use crate::patience::Patience;
+use krb_files::{LoadFault, WatchedReader, append_read};
 use std::{rt, str};
 
 /// The system's list of locks, and of those that are waited for, each a line, as
 /// `1: -> OFDLCK ADVISORY  WRITE -1 fe:00:131 0 EOF`.
 const LOCKS: &str = "/proc/locks";
 
-/// The most bytes that are read of it.
-const MOST_BYTES: u32 = 16_777_216;
+/// The most bytes that are read of it. Who has more locks than that may have this one.
+const MOST_BYTES: usize = 16_777_216;
+
+/// How many bytes one read asks for: the system gives no more at once.
+const PIECE: usize = 4096;
+
+/// How often the list is read before a file counts as not locked. Between two pieces the system finds its place
+/// again by counting the locks before it, so where one of these goes meanwhile it leaves out a lock that is
+/// there all the time: up to 31 in 2,000 readings were without it, and so one in 10^9 are five in a row.
+const READINGS: u32 = 5;
 
 /// Two kinds of locks, which do not see each other.
 #[derive(Clone, Copy)]
@@ -30,54 +40,69 @@ impl LockKind {
     }
 }
 
-// The number of a file's device in two parts, as Linux puts them into one.
-fn device_of(file: &Found) -> (u64, u64) {
-    let device = file.device;
-    let major = device >> 8 & 0xfff | device >> 32 & 0xffff_f000;
-    let minor = device & 0xff | device >> 12 & 0xffff_ff00;
-    (major, minor)
-}
-
-// Whether a word, as `fe:00:131`, is a file's device and inode. A file system without a disk of its own may
-// have one device here and another where a file is looked at: both begin with `00:`.
-fn is_place(word: &str, device: &str, inode: &str) -> bool {
-    match word.rsplit_once(':') {
-        Some((on, number)) => {
-            let is_device = on == device || (on.starts_with("00:") && device.starts_with("00:"));
-            is_device && number == inode
-        }
+// Whether a word is the place of that file.
+fn is_place(word: &str, file: &Mounted) -> bool {
+    match Place::parse(word) {
+        Some(place) => file.is_at(place),
         None => false,
     }
 }
 
-// Whether a line tells of a lock to write of that kind.
-fn tells_of(line: &str, kind: LockKind, device: &str, inode: &str) -> bool {
+// Whether a line is of a lock to write of that kind.
+fn is_lock(line: &str, kind: LockKind, file: &Mounted) -> bool {
     let mut words = line.split_ascii_whitespace();
     words.any(|word| kind.is_called(word))
         && words.any(|word| word == "WRITE")
-        && words.any(|word| is_place(word, device, inode))
+        && words.any(|word| is_place(word, file))
 }
 
-/// Whether a program has locked a file to write in it, or waits to, as far as the system tells. Where it
-/// has no list of locks, none has.
-pub fn is_locked<R: rt::Files + Alloc>(
-    looks: &Looks<'_, R>,
-    file: &Found,
-    kind: LockKind,
-) -> Result<bool, DiskFault> {
-    let (major, minor) = device_of(file);
-    let device = format!(in looks.alloc(); "{major:02x}:{minor:02x}")?;
-    let inode = format!(in looks.alloc(); "{}", file.inode)?;
-    let list = match read_file(looks, looks.alloc(), LOCKS, MOST_BYTES, 0) {
-        Ok((_, list)) => list,
-        Err(ReadFault::Disk(DiskFault::NoMemory)) => return Err(DiskFault::NoMemory),
-        Err(_) => return Ok(false),
-    };
-    match str::from_utf8(&list) {
-        Ok(list) => Ok(
-            list.lines()
-                .any(|line| tells_of(line, kind, &device, &inode)),
-        ),
-        Err(_) => Ok(false),
+// Whether a list has such a line.
+fn has_lock(list: &[u8], kind: LockKind, file: &Mounted) -> bool {
+    match str::from_utf8(list) {
+        Ok(list) => list.lines().any(|line| is_lock(line, kind, file)),
+        Err(_) => false,
     }
+}
+
+// Reads the list, in place of what was read before. The answer is whether that was all of it, or all that a
+// read that fails left, before the time was over. Where there is no list, no program has a lock.
+fn read_list<R: rt::Files + rt::Clock + Alloc>(
+    looks: &Looks<'_, R>,
+    list: &mut Vec<u8, R::A>,
+    patience: &Patience,
+) -> Result<bool, DiskFault> {
+    list.clear();
+    let Ok(Some(file)) = looks.open(LOCKS) else {
+        return Ok(true);
+    };
+    let mut file = WatchedReader::new(file);
+    for _ in 0..=MOST_BYTES {
+        if list.len() > MOST_BYTES || patience.is_over(looks) {
+            return Ok(false);
+        }
+        match append_read(list, &mut file, PIECE) {
+            Ok(0) => return Ok(true),
+            Ok(_) => {}
+            Err(LoadFault::NoMemory) => return Err(DiskFault::NoMemory),
+            Err(_) => return Ok(true),
+        }
+    }
+    Ok(false)
+}
+
+/// Whether a program has locked a file to write in it, or waits to, as far as the system says. Where that is not
+/// known before the time is over, one has.
+pub fn is_locked<R: rt::Files + rt::Clock + Alloc>(
+    looks: &Looks<'_, R>,
+    file: &Mounted,
+    kind: LockKind,
+    patience: &Patience,
+) -> Result<bool, DiskFault> {
+    let mut list = Vec::new(looks.alloc());
+    for _ in 0..READINGS {
+        if !read_list(looks, &mut list, patience)? || has_lock(&list, kind, file) {
+            return Ok(true);
+        }
+    }
+    Ok(false)
 }

@@ -1,5 +1,8 @@
 //! Of whom a leftover may be.
 
+ghost use Rattle.std.specs.Prelude.{◌↔◌, IsTrue};
+ghost use Rattle.krb_disk.specs.Looks.{MayBeLeft};
+
 use crate::looks::{Found, Looks};
 use std::rt;
 
@@ -24,7 +27,9 @@ impl Users {
     }
 
     /// Whether a killed run may have left this file.
-    pub fn may_have_left(self, found: &Found) -> bool {
+    pub fn may_have_left(self, found: &Found) -> bool
+        ensures { IsTrue result ↔ MayBeLeft self.owner self.this found.now }
+    {
         let user = Some(found.owner);
         found.is_file() && found.links == 1 && (user == self.owner || user == self.this)
     }

@@ -1,0 +1,123 @@
+//! What is asked of the old file, and the rename that ends a save.
+
+ghost use Rattle.std.specs.Prelude.{◌≡◌, ◌≤◌, ◌∷◌, IfOk, OnOk, OnErr, IsTrue, string_bytes, vec_len};
+ghost use Rattle.std.specs.Path.{path_buf_bytes};
+ghost use Rattle.krb_disk.specs.Looks.{IsPlainOrNone};
+ghost use Rattle.krb_disk.specs.NewFile.{IsFilled};
+ghost use Rattle.krb_disk.specs.Stages.{IsQuiet, watched, seen_file};
+ghost use Rattle.krb_disk.specs.Target.{new_path};
+ghost use Rattle.krb_disk.specs.declared.stage.Stage.TheVariants.{Ours, Same};
+
+use super::log::Log;
+use super::{Calls, NewFile};
+use crate::fault::{DiskFault, ReadFault};
+use crate::looks::Found;
+use crate::looks::device::Mounted;
+use crate::looks::locks::{LockKind, is_locked};
+use crate::patience::Patience;
+use crate::read::read_file;
+use crate::seen::Seen;
+use crate::stage::Stage;
+use crate::target::Target;
+use std::alloc::Allocator;
+use std::fs::{self, OpenFile};
+use std::{io, rt};
+
+/// How many bytes a file that is loaded to be changed may gain before its image moves.
+const ROOM_TO_GROW: u64 = 131_072;
+
+impl<R: rt::Files> Calls<'_, R> {
+    /// What stands under the name of the old file.
+    pub fn see(&self, path: &str) -> io::Result<Option<Found>> {
+        self.looks.look(path)
+    }
+
+    /// Lets the names in a folder outlast a crash.
+    pub fn sync_folder(&self, folder: &str) -> io::Result<()> {
+        fs::open(self.rt, folder)?.sync_all()
+    }
+}
+
+impl<R: rt::Files + Alloc> Calls<'_, R> {
+    /// Loads the old file, with room to grow.
+    pub fn load<A: Allocator>(
+        &self,
+        alloc: A,
+        path: &str,
+        limit: u32,
+    ) -> Result<(Found, Vec<u8, A>), ReadFault>
+        ensures { IfOk result (λ read. vec_len read.1 ≤ limit) }
+    {
+        read_file(&self.looks, alloc, path, limit, ROOM_TO_GROW)
+    }
+
+    /// Whether what was seen of the old file stands under its name now.
+    pub fn compare(
+        &self,
+        file: &mut NewFile<String<R::A>, R::File>,
+        path: &str,
+        seen: &Seen<R::A>,
+    ) -> Result<bool, DiskFault>
+        requires ours { file.old.stage ≡ Ours (seen_file seen.now) }
+        requires beside { string_bytes file.old.path ≡ new_path path.now }
+        ensures same { IfOk result (λ is. IsTrue is
+            → file.new ≡ record file.old { stage = Same (seen_file seen.now) }) }
+        ensures plain { IfOk result (λ is. IsTrue is → IsPlainOrNone (seen_file seen.now)) }
+    {
+        let is_same = seen.is_at(&self.looks, path)?;
+        file.stage = if is_same {
+            file.stage.compared()
+        } else {
+            Stage::Lost
+        };
+        Ok(is_same)
+    }
+
+    /// Gives the new file, which has these bytes, the name of the old one. That ends a save.
+    pub fn rename(
+        &mut self,
+        file: &mut NewFile<String<R::A>, R::File>,
+        target: &Target<R::A>,
+        bytes: &[u8],
+    ) -> io::Result<()>
+        requires quiet { IsQuiet file.old.stage }
+        requires filled { IsFilled (new_path (path_buf_bytes target.now.path)) bytes.now file.old }
+        ensures ok { OnOk result (self.new.saved.entries
+            ≡ (string_bytes target.now.name, bytes.now) ∷ self.old.saved.entries) }
+        ensures err { OnErr result (self.new.saved.entries ≡ self.old.saved.entries) }
+    {
+        file.stage = Stage::Lost;
+        fs::rename(self.rt, &file.path, target.path())?;
+        self.saved = Log::with(&self.saved, target.name().as_bytes(), bytes);
+        Ok(())
+    }
+}
+
+impl<R: rt::Files + rt::Clock + Alloc> Calls<'_, R> {
+    /// Whether no program has locked a file beside the new one to write in it.
+    pub fn is_quiet(
+        &self,
+        beside: &NewFile<String<R::A>, R::File>,
+        file: &Found,
+        patience: &Patience,
+    ) -> Result<bool, DiskFault> {
+        let file = Mounted::new(file, beside.mount);
+        Ok(!is_locked(&self.looks, &file, LockKind::Record, patience)?)
+    }
+
+    /// Whether no program has locked the old file, as it was compared, to write in it.
+    pub fn watch(
+        &self,
+        file: &mut NewFile<String<R::A>, R::File>,
+        patience: &Patience,
+    ) -> Result<bool, DiskFault>
+        ensures { IfOk result (λ is. file.new ≡ record file.old { stage = watched is file.old.stage }) }
+    {
+        let is_quiet = match file.stage {
+            Stage::Same(Some(old)) => self.is_quiet(file, &old, patience)?,
+            _ => true,
+        };
+        file.stage = file.stage.watched(is_quiet);
+        Ok(is_quiet)
+    }
+}
