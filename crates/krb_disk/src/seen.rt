@@ -77,9 +77,9 @@ impl<A: Allocator> Seen<A> {
         match (self, looks.look(path)?) {
             (Seen::Nothing, None) => Ok(true),
             (Seen::File(file), Some(found)) => Ok(file.is_file() && is_unchanged(file, &found)),
-            (Seen::Loaded(file, bytes), Some(found)) => Ok(file.is_file()
-                && is_unchanged(file, &found)
-                && leads_to(looks, path, file, bytes)?),
+            (Seen::Loaded(file, bytes), Some(found)) => Ok(
+                file.is_file() && is_unchanged(file, &found) && leads_to(looks, path, file, bytes)?,
+            ),
             _ => Ok(false),
         }
     }

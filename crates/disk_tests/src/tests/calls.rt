@@ -119,7 +119,9 @@ pub fn some_calls(alloc: Global, from: usize, to: usize) -> Result<String, Fail>
 /// counted.
 #[test]
 fn each_call_of_a_save_fails(rt: HostRuntime) -> Result<(), Fail> {
-    for failing in [1usize, 2, 3, 4, 5, 6, 10, 21, 22, 23, 24, 25, 26, 27, 28, 39] {
+    for failing in [
+        1usize, 2, 3, 4, 5, 6, 10, 21, 22, 23, 24, 25, 26, 27, 28, 39,
+    ] {
         let calls = Calls::new(rt.alloc(), failing as u64, EIO);
         let saved = save(rt.alloc(), &calls, "k");
         let cause = if failing == OWN as usize {

@@ -45,9 +45,12 @@ impl Clock {
     }
 
     pub fn sleep(&self, time: Duration) {
-        let milliseconds = time.as_secs().saturating_mul(1000)
+        let milliseconds = time
+            .as_secs()
+            .saturating_mul(1000)
             .saturating_add(u64::from(time.subsec_millis()));
-        self.slept.set(self.slept.get().saturating_add(milliseconds));
+        self.slept
+            .set(self.slept.get().saturating_add(milliseconds));
         if matches!(self.pace.get(), Pace::Runs(_)) {
             self.pass(milliseconds);
         }

@@ -1,4 +1,6 @@
-use super::calls::{CALLS, HOLD, LEAVES, Saved, failed, hold, loads, release, save, save_in, some_calls};
+use super::calls::{
+    CALLS, HOLD, LEAVES, Saved, failed, hold, loads, release, save, save_in, some_calls,
+};
 use super::clock::Pace;
 use super::disks::{Calls, Disk};
 use super::locks::Shown;

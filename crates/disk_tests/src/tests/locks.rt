@@ -116,9 +116,15 @@ fn a_lock_that_stays(rt: HostRuntime) -> Result<(), Fail> {
         let calls = Calls::whole(rt.alloc());
         calls.clock.pace.set(pace);
         calls.locks.list.set(Shown::Bytes(LOCK));
-        assert!(rt; save(rt.alloc(), &calls, "k") == failed(Cause::InUse), "{pace:?}");
+        assert!(rt;
+            save(rt.alloc(), &calls, "k") == failed(Cause::InUse),
+            "{pace:?}"
+        );
         let slept = calls.clock.slept.get();
-        assert!(rt; slept <= most && most <= slept.saturating_mul(2), "{pace:?} {slept}");
+        assert!(rt;
+            slept <= most && most <= slept.saturating_mul(2),
+            "{pace:?} {slept}"
+        );
     }
     Ok(())
 }
@@ -157,7 +163,11 @@ fn a_place_that_is_taken_for_a_second(rt: HostRuntime) -> Result<(), Fail> {
     calls.is_taken.set(true);
     calls.clock.pace.set(Pace::Runs(20));
     assert!(rt; save(rt.alloc(), &calls, "k") == failed(Cause::InTheWay));
-    assert!(rt; calls.clock.time.get() < 1_500, "{}", calls.clock.time.get());
+    assert!(rt;
+        calls.clock.time.get() < 1_500,
+        "{}",
+        calls.clock.time.get()
+    );
     Ok(())
 }
 
@@ -177,8 +187,16 @@ fn files_of_one_number(rt: HostRuntime) -> Result<(), Fail> {
         (b"1: POSIX  ADVISORY  WRITE 12 00:26:0 0 EOF\n", true, true),
         (b"1: POSIX  ADVISORY  WRITE 12 00:00:0 0 EOF\n", true, true),
         (b"1: POSIX  ADVISORY  WRITE 12 00:1f:0 0 EOF\n", false, true),
-        (b"1: POSIX  ADVISORY  WRITE 12 00:26:1 0 EOF\n", false, false),
-        (b"1: POSIX  ADVISORY  WRITE 12 103:26:0 0 EOF\n", false, false),
+        (
+            b"1: POSIX  ADVISORY  WRITE 12 00:26:1 0 EOF\n",
+            false,
+            false,
+        ),
+        (
+            b"1: POSIX  ADVISORY  WRITE 12 103:26:0 0 EOF\n",
+            false,
+            false,
+        ),
     ];
     for (list, is_known, otherwise) in lists {
         for (file_info, mounts, is_locked) in [
