@@ -60,11 +60,6 @@ asked_credential a = with_names a (name_of a.client None) (name_of a.server None
 
 -- ---- what an addition answers
 
--- an addition answers as it has to, or memory runs out where nothing refuses it
-abbrev pub AddsIfMemory : Result (ℕ × CacheState) Code → CacheState → ℕ → ℕ → ℕ → CacheState → Type 0
-AddsIfMemory given old status place new_place new =
-    AddsOr given old status place new_place new ⊎ (IsOk given × Refuses 1 old status place new_place new)
-
 -- the credential that is asked for is stored, or refused
 abbrev pub StoresOr : Result CredParts ℕ → CacheState → ℕ → ℕ → ℕ → CacheState → Type 0
 StoresOr (Ok c) old status place new_place new = AddsOr (put_result old c) old status place new_place new

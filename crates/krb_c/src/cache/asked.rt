@@ -6,8 +6,8 @@ ghost use Rattle.krb_wire.specs.Reading.{principal_parts};
 ghost use Rattle.krb_c.specs.CacheStore.{asked_credential, with_parts};
 
 use crate::cache::numbers::KrbfNumbers;
-use crate::heap::{Heap, heap};
-use crate::status::{NO_MEMORY, of_code};
+use crate::heap::{Heap, copied, heap};
+use crate::status::of_code;
 use crate::text::read_name;
 use krb_ccache::Cred;
 use krb_walk::Code;
@@ -39,17 +39,6 @@ impl<'a> Model for Asked<'a> {
       second_ticket = a.second_ticket.now;
       numbers = a.numbers;
     } };
-}
-
-// A copy of bytes.
-fn copied(alloc: Global, bytes: &[u8]) -> Result<Vec<u8, Heap>, u32>
-    ensures ok { IfOk result (λ v. v.items ≡ bytes.now) }
-    ensures err { IfErr result (λ s. s ≡ 1) }
-{
-    match Vec::from_slice(heap(alloc), bytes) {
-        Ok(copy) => Ok(copy),
-        Err(_) => Err(NO_MEMORY),
-    }
 }
 
 impl<'a> Asked<'a> {

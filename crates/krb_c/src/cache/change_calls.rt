@@ -8,9 +8,9 @@ ghost use Rattle.krb_ccache.specs.SetConfig.{set_config_result};
 ghost use Rattle.krb_ccache.specs.Rewrite.{rewrite_result};
 ghost use Rattle.krb_c.specs.Behind.{cache_of, Over};
 ghost use Rattle.krb_c.specs.Cursors.{with_cursors};
-ghost use Rattle.krb_c.specs.Status.{Changes, Rewrites};
+ghost use Rattle.krb_c.specs.Status.{Adds, Changes, Rewrites};
 ghost use Rattle.krb_c.specs.CacheLooks.{text_or_none};
-ghost use Rattle.krb_c.specs.CacheStore.{AddsIfMemory, Stores, asked_of};
+ghost use Rattle.krb_c.specs.CacheStore.{Stores, asked_of};
 
 use crate::cache::KrbfCcache;
 use crate::cache::asked::Asked;
@@ -76,11 +76,11 @@ pub extern "C" fn krbf_cc_set_config(
 ) -> u32
     requires { IsSome (cache_of cc.old) }
     ensures { Over (cache_of cc.old) (cache_of cc.new)
-        (λ old new. AddsIfMemory (set_config_result old key.now (text_or_none principal.now) value.now)
+        (λ old new. Adds (set_config_result old key.now (text_or_none principal.now) value.now)
         old result place.old place.new new) }
 {
     let mut held = cc.take(alloc);
-    let status = set_config(held.cache_mut(), key, principal, value, place);
+    let status = set_config(alloc, held.cache_mut(), key, principal, value, place);
     cc.put(held);
     status
 }

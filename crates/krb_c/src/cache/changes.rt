@@ -9,14 +9,14 @@ ghost use Rattle.krb_ccache.specs.Rewrite.{rewrite_result};
 ghost use Rattle.krb_c.specs.Cursors.{with_cursors};
 ghost use Rattle.krb_c.specs.Status.{Adds, Changes, Rewrites};
 ghost use Rattle.krb_c.specs.CacheLooks.{text_or_none};
-ghost use Rattle.krb_c.specs.CacheStore.{AddsIfMemory, Stores};
+ghost use Rattle.krb_c.specs.CacheStore.{Stores};
 
 use crate::cache::asked::Asked;
 use crate::cache::held::HeldCache;
 use crate::cache::looks::some_text;
 use crate::cursors::are_places;
-use crate::heap::Heap;
-use crate::status::{DONE, of_code, of_refusal};
+use crate::heap::{Heap, copied};
+use crate::status::{DONE, NO_MEMORY, of_code, of_refusal};
 use krb_ccache::Cred;
 use krb_walk::Code;
 use std::alloc::Global;
@@ -56,16 +56,26 @@ pub fn remove(held: &mut HeldCache, place: u32) -> u32
 
 /// Sets a configuration value, and tells the place of its entry.
 pub fn set_config(
+    alloc: Global,
     held: &mut HeldCache,
     key: &[u8],
     principal: &[u8],
     value: &[u8],
     place: &mut u32,
 ) -> u32
-    ensures { AddsIfMemory (set_config_result held.old.state key.now (text_or_none principal.now) value.now)
+    ensures { Adds (set_config_result held.old.state key.now (text_or_none principal.now) value.now)
         held.old.state result place.old place.new held.new.state }
 {
-    match held.set_config(key, some_text(principal), value) {
+    let Ok(key) = copied(alloc, key) else {
+        return NO_MEMORY;
+    };
+    let Ok(principal) = copied(alloc, principal) else {
+        return NO_MEMORY;
+    };
+    let Ok(value) = copied(alloc, value) else {
+        return NO_MEMORY;
+    };
+    match held.set_config(&key, some_text(&principal), &value) {
         Ok(put) => {
             *place = put;
             DONE

@@ -1,13 +1,12 @@
 //! Changes of a cache behind a handle. Where places stay what they are, a walk goes on as before.
 
-ghost use Rattle.std.specs.Prelude.{◌≡◌, true, map, OnOk, OnErr, option_copied};
+ghost use Rattle.std.specs.Prelude.{◌≡◌, map, OnOk, OnErr, option_copied};
 ghost use Rattle.std.specs.List.{AllByRecursion};
 ghost use Rattle.krb_walk.specs.Rules.{PutGives, CutGives, RewriteGives};
-ghost use Rattle.krb_walk.specs.Memory.{HadMemory};
 ghost use Rattle.krb_walk.specs.Store.{IsPlace};
 ghost use Rattle.krb_walk.specs.Ranks.{carry};
 ghost use Rattle.krb_ccache.specs.Store.{store_of};
-ghost use Rattle.krb_ccache.specs.Changes.{put_result, cut_result, is_refused};
+ghost use Rattle.krb_ccache.specs.Changes.{put_result, cut_result};
 ghost use Rattle.krb_ccache.specs.SetConfig.{set_config_result};
 ghost use Rattle.krb_ccache.specs.Rewrite.{rewrite_result};
 
@@ -40,10 +39,8 @@ impl HeldCache {
         principal: Option<&[u8]>,
         value: &[u8],
     ) -> Result<u32, Refusal>
-        ensures gives { PutGives (set_config_result self.old.state key.now (option_copied principal.entry) value.now)
+        ensures { PutGives (set_config_result self.old.state key.now (option_copied principal.entry) value.now)
             self.old.state result self.new.state }
-        ensures memory { is_refused (set_config_result self.old.state key.now (option_copied principal.entry) value.now) ≡ true
-            → HadMemory result }
     {
         self.given = None;
         self.next = None;
