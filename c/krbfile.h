@@ -2,12 +2,13 @@
  *
  * A caller owes what stands here, and each call then does what it says:
  * - A handle begins as KRBF_NONE. Open and create are given one of nothing: KRBF_NONE, or one that they refused or
- *   that was closed. Each other call is given one that open or create answered with KRBF_DONE and that is not closed.
+ *   that was closed. Close is given any of these, and then does nothing, or an open one. Each other call is given one
+ *   that open or create answered with KRBF_DONE and that is not closed.
  * - A handle is not copied. It may go to another thread, and is used by one call at a time. No call is made from a
  *   signal handler, or in the forked child of a process with threads.
- * - A pointer is not NULL, even where there are no bytes, and what two pointers of one call point to does not overlap.
+ * - A pointer is not NULL, but beside a length of 0, and what a call writes to overlaps nothing else that it is given.
  * - A krbf_bytes lies in the memory of its keytab or cache. It is read until that is changed or closed, and never
- *   written.
+ *   written. The call that changes that may be given it: it copies what it is given first.
  *
  * Nothing else is asked: any image, name, key, number, place and cursor is looked at before it is used. Unless a call
  * answers KRBF_DONE, all is as it was before. Memory is the C library's, and is cleared before it is given back. */
@@ -82,10 +83,10 @@ typedef struct {
 uint32_t krbf_kt_create(uint32_t limit, krbf_keytab *kt);
 
 /* krb5_kt_resolve: the keytab of a copy of an image; one of version 1 is big-endian where v1_big is not 0. A damaged one
- * opens with the entries before its fault. KRBF_TOO_SHORT, KRBF_BAD_VERSION, KRBF_TOO_LARGE. */
+ * opens with the entries before its fault. KRBF_TOO_SHORT, KRBF_BAD_VERSION, KRBF_TOO_LARGE, before it is copied. */
 uint32_t krbf_kt_open(const uint8_t *image, size_t image_len, uint32_t v1_big, uint32_t limit, krbf_keytab *kt);
 
-/* krb5_kt_close: leaves a handle of nothing. */
+/* krb5_kt_close: leaves a handle of nothing. One of nothing stays so. */
 uint32_t krbf_kt_close(krbf_keytab *kt);
 
 /* krb5_kt_next_entry: the first entry at or after the cursor, which is then the place after it. KRBF_END,
@@ -104,7 +105,8 @@ uint32_t krbf_kt_find(krbf_keytab *kt, const char *name, size_t name_len, uint32
  * takes. No NUL is added. KRBF_NOT_LIVE. */
 uint32_t krbf_kt_name(krbf_keytab *kt, uint32_t place, char *room, size_t room_len, size_t *len);
 
-/* The component of that number, from 0, of that name. KRBF_NOT_LIVE, KRBF_NOT_FOUND. */
+/* The component of that number, from 0, of that name. Each call reads the record from its front: of a name with many
+ * components, krbf_kt_name gives all in one pass. KRBF_NOT_LIVE, KRBF_NOT_FOUND. */
 uint32_t krbf_kt_component(krbf_keytab *kt, uint32_t place, size_t number, krbf_bytes *component);
 
 /* krb5_kt_add_entry: in the first hole with room, or else at the end. Its name has type 1, NT-PRINCIPAL. What is wrong
@@ -119,9 +121,9 @@ uint32_t krbf_kt_remove_at(krbf_keytab *kt, uint32_t place);
  * KRBF_NOT_A_PLACE, KRBF_DAMAGED, KRBF_FULL. */
 uint32_t krbf_kt_rewrite(krbf_keytab *kt, uint32_t *cursors, size_t cursors_len);
 
-/* Where what can be read ends, and what is wrong there: 0 nothing, 1 a length that is cut off, 2 a length beyond the
- * bytes, 3 a record with no entry in it. */
-uint32_t krbf_kt_fault(krbf_keytab *kt, uint32_t *place);
+/* Where what can be read ends, and the kind of what is wrong there: 0 nothing, 1 a length that is cut off, 2 a length
+ * beyond the bytes, 3 a record with no entry in it. Always KRBF_DONE. */
+uint32_t krbf_kt_fault(krbf_keytab *kt, uint32_t *kind, uint32_t *place);
 
 /* The bytes of its file. */
 uint32_t krbf_kt_image(krbf_keytab *kt, krbf_bytes *image);
@@ -154,11 +156,11 @@ typedef struct {
  * wrong with the name, KRBF_FULL, KRBF_TOO_LARGE. */
 uint32_t krbf_cc_create(const char *principal, size_t principal_len, uint32_t limit, krbf_ccache *cc);
 
-/* krb5_cc_resolve: the cache of a copy of an image. KRBF_TOO_SHORT, KRBF_BAD_VERSION, KRBF_TOO_LARGE, KRBF_BAD_HEADER,
- * KRBF_BAD_DEFAULT_PRINCIPAL. */
+/* krb5_cc_resolve: the cache of a copy of an image. KRBF_TOO_SHORT, KRBF_BAD_VERSION, KRBF_TOO_LARGE, before it is
+ * copied; KRBF_BAD_HEADER, KRBF_BAD_DEFAULT_PRINCIPAL. */
 uint32_t krbf_cc_open(const uint8_t *image, size_t image_len, uint32_t limit, krbf_ccache *cc);
 
-/* krb5_cc_close: leaves a handle of nothing. */
+/* krb5_cc_close: leaves a handle of nothing. One of nothing stays so. */
 uint32_t krbf_cc_close(krbf_ccache *cc);
 
 /* krb5_cc_get_principal, as text. */
@@ -208,8 +210,9 @@ uint32_t krbf_cc_set_config(krbf_ccache *cc, const char *key, size_t key_len, co
  * KRBF_NOT_A_PLACE, KRBF_DAMAGED, KRBF_FULL. */
 uint32_t krbf_cc_rewrite(krbf_ccache *cc, uint32_t *cursors, size_t cursors_len);
 
-/* Where what can be read ends, and what is wrong there: 0 nothing, 4 bytes that begin with no ticket. */
-uint32_t krbf_cc_fault(krbf_ccache *cc, uint32_t *place);
+/* Where what can be read ends, and the kind of what is wrong there: 0 nothing, 4 bytes that begin with no ticket. Always
+ * KRBF_DONE. */
+uint32_t krbf_cc_fault(krbf_ccache *cc, uint32_t *kind, uint32_t *place);
 
 /* The bytes of its file. */
 uint32_t krbf_cc_image(krbf_ccache *cc, krbf_bytes *image);

@@ -131,7 +131,7 @@ PROGRAM_RUNS = (
 
 
 def check_example(report: Report, program: str) -> None:
-    """The example of krbfile(3) leaves the keytab that `ktremove` does."""
+    """The example of krbfile(3) leaves the keytab that `ktremove` does, and prints no part of one."""
     with open(os.path.join(TOP, "docs", "krbfile.3"), encoding="ascii") as file:
         source = re.findall(r"^#include <krbfile.*?^\}$", file.read(), re.DOTALL | re.M)
     keytab = SAMPLES["mixed.keytab"]
@@ -141,6 +141,10 @@ def check_example(report: Report, program: str) -> None:
         run(program, ("ktremove", "-e", "23", "k"), folder)
         with open(os.path.join(folder, "k"), "rb") as file:
             report.compare("the example of krbfile(3)", Outcome(0, file.read()), got)
+        hole = (-(1 << 24)).to_bytes(4, "big", signed=True) + bytes(1 << 24)
+        for what, image in (("damaged", keytab + b"\x7f"), ("large", TWO + hole)):
+            got = run(built, (), folder, image)
+            report.compare(f"the example of krbfile(3), {what}", Outcome(1), got)
 
 
 def check_rust(report: Report, program: str, folder: str) -> None:
@@ -164,6 +168,19 @@ def check_memory(report: Report, folder: str) -> None:
     """Each allocation of each call fails in turn."""
     built = build(folder, "refused_memory", "-Wl,--wrap=malloc,--wrap=realloc")
     report.compare("C: each allocation fails in turn", Outcome(0), run(built, (), folder))
+
+
+def check_given(report: Report, folder: str) -> None:
+    """Calls are given no bytes, and bytes that lie in their own keytab or cache."""
+    for name in ("no_bytes", "own_bytes"):
+        built = build(folder, name, *SANITIZED)
+        report.compare(f"C: {name}.c under sanitizers", Outcome(0), run(built, (), folder))
+    if shutil.which("valgrind") is None:
+        report.skip("own_bytes.c under valgrind", "valgrind is not there")
+        return
+    words = ("-q", "--error-exitcode=97", "--leak-check=full", build(folder, "own_bytes"))
+    report.compare("C: own_bytes.c under valgrind", Outcome(0),
+                   run(shutil.which("valgrind"), words, folder))
 
 
 def check_keys(report: Report, program: str, folder: str) -> None:
@@ -196,5 +213,6 @@ def check(report: Report, program: str) -> None:
         check_caches(report, program, folder)
         check_example(report, program)
         check_rust(report, program, folder)
+        check_given(report, folder)
         check_memory(report, folder)
         check_keys(report, program, folder)

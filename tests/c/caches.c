@@ -114,7 +114,8 @@ int main(int argc, char **argv) {
     CHECK(krbf_cc_principal(&cc, room, sizeof room, &len) == KRBF_DONE && len <= sizeof room);
     printf("Ticket cache: FILE:%s\nDefault principal: %.*s\n\n", argv[1], (int)len, room);
     printf("Valid starting       Expires              Service principal\n");
-    uint32_t fault = krbf_cc_fault(&cc, &place), refusal;
+    uint32_t fault, refusal;
+    CHECK(krbf_cc_fault(&cc, &fault, &place) == KRBF_DONE);
     size_t count = list(&cc, fault ? KRBF_DAMAGED : KRBF_END);
     if (fault)
         printf("fault %u at %u\n", fault, place);

@@ -94,7 +94,8 @@ int main(int argc, char **argv) {
         CHECK(kt.held == NULL);
         return tell_refusal(status);
     }
-    uint32_t fault = krbf_kt_fault(&kt, &place);
+    uint32_t fault;
+    CHECK(krbf_kt_fault(&kt, &fault, &place) == KRBF_DONE);
     size_t count = list(&kt, argv[1], fault ? KRBF_DAMAGED : KRBF_END, &first);
     if (fault) {
         CHECK(krbf_kt_remove_at(&kt, KRBF_FIRST) == KRBF_DAMAGED);

@@ -50,7 +50,7 @@ static void call_kt(krbf_keytab *kt, uint32_t *cursor, uint32_t *known) {
     krbf_bytes bytes;
     const char *name = a_name();
     size_t len;
-    uint32_t place = a_place(*known);
+    uint32_t place = a_place(*known), kind;
     switch (below(9)) {
     case 0:
         if (krbf_kt_next(kt, cursor, &entry) == KRBF_DONE)
@@ -86,7 +86,7 @@ static void call_kt(krbf_keytab *kt, uint32_t *cursor, uint32_t *known) {
             see_entry(&entry, known);
         break;
     default:
-        krbf_kt_fault(kt, &place);
+        CHECK(krbf_kt_fault(kt, &kind, &place) == KRBF_DONE);
     }
 }
 
@@ -97,7 +97,7 @@ static void call_cc(krbf_ccache *cc, uint32_t *cursor, uint32_t *known) {
     krbf_bytes bytes;
     const char *name = a_name(), *client = a_name();
     size_t len;
-    uint32_t place = a_place(*known);
+    uint32_t place = a_place(*known), kind;
     switch (below(12)) {
     case 0:
         if (krbf_cc_next(cc, cursor, &ticket) == KRBF_DONE)
@@ -142,7 +142,7 @@ static void call_cc(krbf_ccache *cc, uint32_t *cursor, uint32_t *known) {
             see_ticket(&ticket, known);
         break;
     default:
-        krbf_cc_fault(cc, &place);
+        CHECK(krbf_cc_fault(cc, &kind, &place) == KRBF_DONE);
         krbf_cc_principal(cc, room, below(sizeof room), &len);
     }
 }

@@ -85,7 +85,22 @@ static void sweep(uint32_t (*call)(void)) {
     CHECK(!"a call asks for memory without end");
 }
 
+/* What the length or the version of an image refuses asks for no memory. */
+static void open_none(void) {
+    static const uint8_t zeros[64];
+    refused = 1;
+    CHECK(krbf_kt_open(zeros, 1, 0, 0, &kt) == KRBF_TOO_SHORT);
+    CHECK(krbf_kt_open(zeros, sizeof zeros, 0, 0, &kt) == KRBF_BAD_VERSION);
+    CHECK(krbf_kt_open((const uint8_t *)"\5\2", 3, 0, 2, &kt) == KRBF_TOO_LARGE);
+    CHECK(krbf_cc_open(zeros, 1, 0, &cc) == KRBF_TOO_SHORT);
+    CHECK(krbf_cc_open(zeros, sizeof zeros, 0, &cc) == KRBF_BAD_VERSION);
+    CHECK(krbf_cc_open((const uint8_t *)"\5\4", 3, 2, &cc) == KRBF_TOO_LARGE);
+    CHECK(refused == 1);
+    refused = 0;
+}
+
 int main(void) {
+    open_none();
     sweep(create_kt);
     sweep(add);
     sweep(find);

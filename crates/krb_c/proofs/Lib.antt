@@ -5,4 +5,5 @@ pub mod CacheAsked
 pub mod CacheKnown
 pub mod NameLemmas
 pub mod CacheUnread
+pub mod Deeper
 mod Sent

@@ -1,9 +1,9 @@
 -- Which cache is opened for C, and which is made.
-use Rattle.std.specs.Prelude.{ℕ, List, Option, Some, None, Result, Ok, Err}
+use Rattle.std.specs.Prelude.{◌≡◌, ◌⊎◌, ℕ, List, Option, Some, None, Result, Ok, Err}
 use Rattle.krb_wire.specs.Spelling.{Parts}
 use Rattle.krb_wire.specs.declared.name_fault.NameFault.{NameFault}
 use Rattle.krb_ccache.specs.declared.open.CcOpenFault.{CcOpenFault}
-use Rattle.krb_ccache.specs.declared.open.CcOpenFault.TheVariants.{TooLarge}
+use Rattle.krb_ccache.specs.declared.open.CcOpenFault.TheVariants.{TooLarge, BadHeader, BadDefault}
 use Rattle.krb_ccache.specs.Store.{CacheState, open_result}
 use Rattle.krb_ccache.specs.Changes.{create_result}
 use Rattle.krb_c.specs.declared.cache.handle.KrbfCcache.{KrbfCcache}
@@ -16,6 +16,10 @@ use Rattle.krb_c.specs.Status.{cc_open_status, name_status, code_status}
 abbrev pub opened_within : List ℕ → Option ℕ → Result CacheState CcOpenFault
 opened_within image None = Err TooLarge
 opened_within image (Some limit) = open_result limit image
+
+-- a fault that neither the length nor the version of an image tells
+abbrev pub IsDeeper : CcOpenFault → Type 0
+IsDeeper why = (why ≡ BadHeader) ⊎ (why ≡ BadDefault)
 
 -- the cache of an image, with the limit that C gives, is opened
 abbrev pub OpensImage : List ℕ → ℕ → ℕ → KrbfCcache → Type 0

@@ -1,14 +1,15 @@
 -- What C sees of a credential.
-use Rattle.std.specs.Prelude.{◌≡◌, ℕ, length, Bool, if◌then◌else◌}
+use Rattle.std.specs.Prelude.{◌≡◌, ℕ, Bool, if◌then◌else◌}
 use Rattle.krb_ccache.specs.Credential.{CredParts}
 use Rattle.krb_ccache.specs.Config.{is_config}
 use Rattle.krb_c.specs.declared.cache.ticket.KrbfTicket.{KrbfTicket}
+use Rattle.krb_c.specs.Shown.{AreShown}
 
 -- 1 where it is so, and else 0
 abbrev pub flag : Bool → ℕ
 flag b = if b then 1 else 0
 
--- what C sees is the credential at a place: its numbers, and how long its bytes are
+-- what C sees is the credential at a place: its numbers, and where its bytes lie
 pub record Shows (seen : KrbfTicket) (at : ℕ) (c : CredParts) : Type 0 where
   pub place : seen.place ≡ at
   pub enctype : seen.enctype ≡ c.key.enctype
@@ -19,6 +20,6 @@ pub record Shows (seen : KrbfTicket) (at : ℕ) (c : CredParts) : Type 0 where
   pub flags : seen.flags ≡ c.flags
   pub is_skey : seen.is_skey ≡ c.is_skey
   pub is_config : seen.is_config ≡ flag (is_config c)
-  pub key : seen.key.len ≡ length c.key.bytes
-  pub ticket : seen.ticket.len ≡ length c.ticket
-  pub second_ticket : seen.second_ticket.len ≡ length c.second_ticket
+  pub key : AreShown seen.key c.key.bytes
+  pub ticket : AreShown seen.ticket c.ticket
+  pub second_ticket : AreShown seen.second_ticket c.second_ticket

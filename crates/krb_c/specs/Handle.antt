@@ -1,7 +1,7 @@
 -- What the handle owns: where something stands behind it, the same as a `Box<Held>`.
-use base.Fml.{Fml, ftrue}
+use base.Fml.{Fml, feq}
 use base.Stored.{Coded}
-use denote.RawPtr.{Ptr}
+use denote.RawPtr.{Ptr, null_ptr}
 use Rattle.std.specs.Prelude.{Option, Some, None}
 use Rattle.std.specs.Coded.{coded_option}
 use Rattle.std.specs.Box.Ownership.{box_owns}
@@ -9,9 +9,9 @@ use Rattle.std.specs.Global.{Global}
 use Rattle.std_heap.specs.contracts.GlobalAllocator.TheImpl.{ghosts}
 use Rattle.krb_c.specs.contracts.held.Held.{the_row}
 
--- nothing where it is empty, and else a box at its pointer
+-- nothing where it is empty, and then its pointer is null; else a box at its pointer
 abbrev pub handle_owns : Global → Ptr → Option the_row.Denot → Fml
-handle_owns alloc ptr None = ftrue
+handle_owns alloc ptr None = feq Ptr ptr null_ptr
 handle_owns alloc ptr (Some held) = box_owns (ghosts.dealloc_token alloc) the_row ptr held
 
 -- how the type of what stands behind it is coded

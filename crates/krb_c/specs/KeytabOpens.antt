@@ -1,5 +1,5 @@
 -- Which keytab is opened for C, and which is made.
-use Rattle.std.specs.Prelude.{◌≡◌, ◌⊎◌, ℕ, zero, suc, List, Option, Some, None}
+use Rattle.std.specs.Prelude.{◌≡◌, ◌⊎◌, ℕ, zero, suc, List, Option, Some, None, IsOk}
 use Rattle.krb_wire.specs.declared.format.Order.{Order}
 use Rattle.krb_wire.specs.declared.format.Order.TheVariants.{Big, Little}
 use Rattle.krb_wire.specs.declared.format.KtFormat.TheVariants.{V2}
@@ -18,6 +18,11 @@ order_of_flag (suc n) = Big
 abbrev pub OpensImage : ℕ → List ℕ → Option ℕ → ℕ → KrbfKeytab → Type 0
 OpensImage v1_big image (Some limit) status kt = Opens kt_open_status (open_result (order_of_flag v1_big) limit image) status (keytab_of kt) kt.handle
 OpensImage v1_big image None status kt = OpensNone 13 status kt.handle
+
+-- an image is a keytab that the limit allows
+abbrev pub IsKeytab : ℕ → List ℕ → Option ℕ → Type 0
+IsKeytab v1_big image (Some limit) = IsOk (open_result (order_of_flag v1_big) limit image)
+IsKeytab v1_big image None = ⊥
 
 -- a keytab of version 2 without entries is made with a limit, if it is one: else 13
 abbrev pub Makes : Option ℕ → ℕ → KrbfKeytab → Type 0

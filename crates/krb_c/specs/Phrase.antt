@@ -1,5 +1,5 @@
 -- What a status is, in words.
-use Rattle.std.specs.Prelude.{◌≡◌, ℕ, ◌==◌, List, length, codes, Option, Some, None, option_map, if◌then◌else◌}
+use Rattle.std.specs.Prelude.{◌≡◌, ℕ, ◌==◌, List, codes, Option, Some, None, option_map, if◌then◌else◌}
 use Rattle.std.specs.Option.{option_or}
 use Rattle.krb_wire.specs.declared.name_fault.NameFault.{NameFault}
 use Rattle.krb_wire.specs.declared.name_fault.NameFault.TheVariants as fault
@@ -11,6 +11,7 @@ use Rattle.krb_ccache.specs.declared.open.CcOpenFault.{CcOpenFault}
 use Rattle.krb_ccache.specs.declared.open.CcOpenFault.TheVariants as opening
 use Rattle.krb_ccache.specs.Open.{open_fault_phrase}
 use Rattle.krb_c.specs.declared.bytes.KrbfBytes.{KrbfBytes}
+use Rattle.krb_c.specs.Shown.{AreShown}
 
 -- the code of a refusal, by its status
 abbrev pub code_of : ℕ → Option Code
@@ -49,5 +50,5 @@ phrase_of n =
 
 -- what C is shown of a phrase: 39 where there is none
 abbrev pub ShowsPhrase : Option (List ℕ) → ℕ → KrbfBytes → KrbfBytes → Type 0
-ShowsPhrase (Some phrase) answer bytes new_bytes = (answer ≡ 0) × (new_bytes.len ≡ length phrase)
+ShowsPhrase (Some phrase) answer bytes new_bytes = (answer ≡ 0) × AreShown new_bytes phrase
 ShowsPhrase None answer bytes new_bytes = (answer ≡ 39) × (new_bytes ≡ bytes)

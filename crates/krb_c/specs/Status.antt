@@ -61,6 +61,6 @@ abbrev pub Adds : {S : Type 0} → Result (ℕ × S) Code → S → ℕ → ℕ 
 Adds given old status place new_place new = AddsOr given old status place new_place new ⊎ Refuses 1 old status place new_place new
 
 -- the number of what is wrong after the last sound cell: 0 where nothing is
-abbrev pub fault_status : Option Fault → ℕ
-fault_status None = 0
-fault_status (Some fault) = fault_number fault.kind
+abbrev pub kind_number : Option Fault → ℕ
+kind_number None = 0
+kind_number (Some fault) = fault_number fault.kind

@@ -1,6 +1,6 @@
 //! Bytes that C reads where they lie.
 
-ghost use Rattle.std.specs.Prelude.{◌≡◌, length};
+ghost use Rattle.krb_c.specs.Shown.{AreShown};
 
 use std::ptr;
 
@@ -15,7 +15,7 @@ pub struct KrbfBytes {
 
 /// Where bytes lie; where there are none, the pointer is null.
 pub fn bytes_of(bytes: &[u8]) -> KrbfBytes
-    ensures { result.len ≡ length bytes.now }
+    ensures { AreShown result bytes.now }
 {
     let at = match bytes.first() {
         Some(first) => ptr::from_ref(first),

@@ -1,6 +1,7 @@
 //! The handle that C holds: a struct of one pointer.
 
-ghost use Rattle.std.specs.Prelude.{◌≡◌, Option, Some, None, IsSome};
+ghost use Rattle.std.specs.Prelude.{◌≡◌, Option, Some, None, IsSome, option_map};
+ghost use Rattle.std.specs.Ptr.{null_ptr};
 ghost use Rattle.krb_c.specs.declared.held.Held.{Held};
 ghost use Rattle.krb_c.specs.Handle.{handle_owns, held_coded};
 
@@ -24,8 +25,9 @@ impl Model for Handle {
 }
 
 impl Handle {
-    // An empty handle.
+    // An empty handle, whose pointer is null.
     fn none_at(ptr: *mut u8, alloc: Global) -> Handle
+        requires { ptr ≡ null_ptr }
         ensures { result.held ≡ None }
     {
         Handle { ptr, alloc }
@@ -41,19 +43,25 @@ impl Handle {
         }
     }
 
-    fn into_parts(self) -> Parts<Held, Global>
-        requires { IsSome self.held }
-        ensures { self.held ≡ Some result.value }
+    // The parts of the box that it is a handle of; none where it is empty, as its pointer tells.
+    fn parts(self) -> Option<Parts<Held, Global>>
+        ensures { self.held ≡ option_map (λ p. p.value) result }
     {
         let Handle { ptr, alloc } = self;
-        Parts {
-            ptr: ptr as *mut Held,
-            alloc,
+        if ptr.is_null() {
+            None
+        } else {
+            Some(Parts {
+                ptr: ptr as *mut Held,
+                alloc,
+            })
         }
     }
 
     // The null pointer.
-    fn nowhere() -> *mut u8 {
+    fn nowhere() -> *mut u8
+        ensures { result ≡ null_ptr }
+    {
         ptr::null_mut()
     }
 
@@ -71,12 +79,12 @@ impl Handle {
         Handle::of_parts(Parts::of(held))
     }
 
-    /// The box that it is a handle of.
-    pub fn into_box(self) -> Box<Held, Global>
-        requires { IsSome self.held }
-        ensures { self.held ≡ Some result.value }
+    // Takes the parts out of it, if it is not empty.
+    fn take_parts(&mut self, alloc: Global) -> Option<Parts<Held, Global>>
+        ensures taken { self.old.held ≡ option_map (λ p. p.value) result }
+        ensures left { self.new.held ≡ None }
     {
-        self.into_parts().into_box()
+        mem::replace(self, Handle::none(alloc)).parts()
     }
 
     /// Takes the box out of it.
@@ -85,8 +93,19 @@ impl Handle {
         ensures taken { self.old.held ≡ Some result.value }
         ensures left { self.new.held ≡ None }
     {
-        let full = mem::replace(self, Handle::none(alloc));
-        full.into_box()
+        match self.take_parts(alloc) {
+            Some(parts) => parts.into_box(),
+            None => unreachable!(),
+        }
+    }
+
+    /// Frees what it is a handle of, which leaves it empty. Of an empty one there is nothing to free.
+    pub fn free(&mut self, alloc: Global)
+        ensures { self.new.held ≡ None }
+    {
+        if let Some(parts) = self.take_parts(alloc) {
+            drop(parts.into_box());
+        }
     }
 }
 

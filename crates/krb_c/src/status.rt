@@ -1,7 +1,7 @@
 //! The numbers that calls answer.
 
 ghost use Rattle.std.specs.Prelude.{◌≡◌, ◌<◌};
-ghost use Rattle.krb_c.specs.Status.{kt_open_status, cc_open_status, name_status, code_status, refusal_status, fault_status};
+ghost use Rattle.krb_c.specs.Status.{kt_open_status, cc_open_status, name_status, code_status, refusal_status, kind_number};
 
 use krb_ccache::CcOpenFault;
 use krb_keytab::KtOpenFault;
@@ -69,9 +69,9 @@ pub fn of_refusal(refusal: Refusal) -> u32
     }
 }
 
-/// What is wrong after the last sound cell: 0 where nothing is.
-pub fn of_fault(fault: Option<Fault>) -> u32
-    ensures { result ≡ fault_status fault }
+/// The number of what is wrong after the last sound cell: 0 where nothing is.
+pub fn kind_of(fault: Option<Fault>) -> u32
+    ensures { result ≡ kind_number fault }
 {
     match fault {
         Some(fault) => fault.kind.number(),

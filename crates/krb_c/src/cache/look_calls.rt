@@ -1,6 +1,6 @@
 //! The calls of the static library that look at a cache.
 
-ghost use Rattle.std.specs.Prelude.{◌≡◌, None, IsSome, IsSomeAnd, length, option_map};
+ghost use Rattle.std.specs.Prelude.{◌≡◌, None, IsSome, IsSomeAnd, option_map};
 ghost use Rattle.krb_wire.specs.Names.{name_text};
 ghost use Rattle.krb_wire.specs.NameOf.{name_of};
 ghost use Rattle.krb_walk.specs.Store.{end_of, fault_of};
@@ -10,16 +10,16 @@ ghost use Rattle.krb_c.specs.Behind.{cache_of};
 ghost use Rattle.krb_c.specs.Text.{Tells, TellsAt};
 ghost use Rattle.krb_c.specs.CacheLooks.{Finds, text_or_none};
 ghost use Rattle.krb_c.specs.CacheTicket.{Shows};
-ghost use Rattle.krb_c.specs.Shown.{LooksAt, ShowsBytes};
+ghost use Rattle.krb_c.specs.Shown.{AreShown, LooksAt, ShowsBytes};
 ghost use Rattle.krb_c.specs.CacheWalk.{Steps};
-ghost use Rattle.krb_c.specs.Status.{fault_status};
+ghost use Rattle.krb_c.specs.Status.{kind_number};
 
 use crate::bytes::{KrbfBytes, bytes_of};
 use crate::cache::KrbfCcache;
 use crate::cache::looks::{config, find, look_at};
 use crate::cache::names::{tell_client, tell_server};
 use crate::cache::ticket::KrbfTicket;
-use crate::status::{DONE, of_fault};
+use crate::status::{DONE, kind_of};
 use crate::text::tell_name;
 use std::alloc::Global;
 
@@ -150,19 +150,25 @@ pub extern "C" fn krbf_cc_find(
     status
 }
 
-/// Tells where the sound credentials end, and the number of what is wrong there: 0 where nothing is.
+/// Tells the number of what is wrong where the sound credentials end, 0 where nothing is, and where they end.
 #[unsafe(no_mangle)]
-pub extern "C" fn krbf_cc_fault(alloc: Global, cc: &mut KrbfCcache, place: &mut u32) -> u32
+pub extern "C" fn krbf_cc_fault(
+    alloc: Global,
+    cc: &mut KrbfCcache,
+    kind: &mut u32,
+    place: &mut u32,
+) -> u32
     requires { IsSome (cache_of cc.old) }
+    ensures done { result ≡ 0 }
     ensures same { cache_of cc.new ≡ cache_of cc.old }
-    ensures fault { IsSomeAnd (cache_of cc.old) (λ k. result ≡ fault_status (fault_of (store_of k))) }
+    ensures kind { IsSomeAnd (cache_of cc.old) (λ k. kind.new ≡ kind_number (fault_of (store_of k))) }
     ensures place { IsSomeAnd (cache_of cc.old) (λ k. place.new ≡ end_of (store_of k)) }
 {
     let held = cc.take(alloc);
+    *kind = kind_of(held.cache().cache().fault());
     *place = held.cache().cache().end();
-    let fault = of_fault(held.cache().cache().fault());
     cc.put(held);
-    fault
+    DONE
 }
 
 /// Shows the value of the configuration entry of the default principal for a key and a principal's text, or for the
@@ -191,7 +197,7 @@ pub extern "C" fn krbf_cc_image(alloc: Global, cc: &mut KrbfCcache, image: &mut 
     requires { IsSome (cache_of cc.old) }
     ensures done { result ≡ 0 }
     ensures same { cache_of cc.new ≡ cache_of cc.old }
-    ensures len { IsSomeAnd (cache_of cc.old) (λ k. image.new.len ≡ length (image_of k)) }
+    ensures image { IsSomeAnd (cache_of cc.old) (λ k. AreShown image.new (image_of k)) }
 {
     let held = cc.take(alloc);
     *image = bytes_of(held.cache().cache().image());

@@ -1,10 +1,10 @@
 //! Opening caches, making them, and closing them.
 
-ghost use Rattle.std.specs.Prelude.{◌≡◌, ◌⊎◌, Ok, Err, Some, None, IsSome};
+ghost use Rattle.std.specs.Prelude.{◌≡◌, ◌≤◌, ◌⊎◌, length, Ok, Err, Some, None, IfOk, IfErr};
 ghost use Rattle.krb_wire.specs.NameOf.{name_of};
-ghost use Rattle.krb_ccache.specs.Store.{open_result};
+ghost use Rattle.krb_ccache.specs.Store.{open_result, version_in};
 ghost use Rattle.krb_c.specs.Behind.{cache_of};
-ghost use Rattle.krb_c.specs.CacheOpens.{OpensImage, Makes, MakesWithin};
+ghost use Rattle.krb_c.specs.CacheOpens.{IsDeeper, OpensImage, Makes, MakesWithin, opened_within};
 ghost use Rattle.krb_c.specs.Limit.{limit_of};
 ghost use Rattle.krb_c.specs.Opens.{Opens, OpensNone};
 ghost use Rattle.krb_c.specs.Status.{cc_open_status};
@@ -16,9 +16,42 @@ use crate::held::Held;
 use crate::limit::limits_of;
 use crate::status::{DONE, NO_MEMORY, TOO_LARGE, of_cc_open, of_refusal};
 use crate::text::read_name;
-use krb_ccache::Ccache;
+use krb_ccache::{CcOpenFault, Ccache, Version};
 use krb_wire::Limits;
 use std::alloc::Global;
+
+// The version that the first two bytes tell.
+fn version_in(image: &[u8]) -> Option<Version>
+    requires { 2 ≤ length image.now }
+    ensures { result ≡ version_in image.now }
+{
+    if image[0] != 5 {
+        return None;
+    }
+    match image[1] {
+        3 => Some(Version::V3),
+        4 => Some(Version::V4),
+        _ => None,
+    }
+}
+
+// Why an image is no cache, where its length and its first two bytes tell it.
+#[tactic(auto, using(crate::proofs::Deeper::header_is_deeper))]
+fn look_at_front(image: &[u8], limits: Limits) -> Result<(), CcOpenFault>
+    ensures ok { IfOk result (λ _. IfErr (open_result limits image.now) IsDeeper) }
+    ensures err { IfErr result (λ why. open_result limits image.now ≡ Err why) }
+{
+    if image.len() < 2 {
+        return Err(CcOpenFault::TooShort);
+    }
+    let Some(_version) = version_in(image) else {
+        return Err(CcOpenFault::BadVersion);
+    };
+    if image.len() > limits.image() as usize {
+        return Err(CcOpenFault::TooLarge);
+    }
+    Ok(())
+}
 
 impl KrbfCcache {
     // Puts a cache into an empty handle.
@@ -38,8 +71,12 @@ impl KrbfCcache {
     // Opens the cache of a copy of an image.
     fn open(&mut self, alloc: Global, image: &[u8], limits: Limits) -> u32
         requires { self.old.handle.held ≡ None }
-        ensures { Opens cc_open_status (open_result limits image.now) result (cache_of self.new) self.new.handle }
+        ensures opens { Opens cc_open_status (open_result limits image.now) result (cache_of self.new) self.new.handle }
+        ensures memory { result ≡ 1 → IfErr (open_result limits image.now) IsDeeper }
     {
+        if let Err(why) = look_at_front(image, limits) {
+            return of_cc_open(why);
+        }
         let Ok(image) = Vec::from_slice(heap(alloc), image) else {
             return NO_MEMORY;
         };
@@ -66,11 +103,13 @@ impl KrbfCcache {
     }
 }
 
-/// Opens the cache of a copy of an image. The limit is the greatest length of its image: 0 stands for 16,777,216.
+/// Opens the cache of a copy of an image. The limit is the greatest length of its image: 0 stands for 16,777,216. What
+/// its length and its version refuse is refused before it is copied.
 #[unsafe(no_mangle)]
 pub extern "C" fn krbf_cc_open(alloc: Global, image: &[u8], limit: u32, cc: &mut KrbfCcache) -> u32
     requires { cc.old.handle.held ≡ None }
-    ensures { OpensImage image.now limit result cc.new }
+    ensures opens { OpensImage image.now limit result cc.new }
+    ensures memory { result ≡ 1 → IfErr (opened_within image.now (limit_of limit)) IsDeeper }
 {
     match limits_of(limit) {
         Some(limits) => cc.open(alloc, image, limits),
@@ -95,13 +134,12 @@ pub extern "C" fn krbf_cc_create(
     }
 }
 
-/// Frees a cache.
+/// Frees a cache, and leaves its handle empty. One that is empty stays so.
 #[unsafe(no_mangle)]
 pub extern "C" fn krbf_cc_close(alloc: Global, cc: &mut KrbfCcache) -> u32
-    requires { IsSome (cache_of cc.old) }
     ensures done { result ≡ 0 }
     ensures closed { cc.new.handle.held ≡ None }
 {
-    drop(cc.take(alloc));
+    cc.handle.free(alloc);
     DONE
 }

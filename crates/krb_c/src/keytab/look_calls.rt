@@ -1,6 +1,6 @@
 //! The calls of the static library that look at a keytab.
 
-ghost use Rattle.std.specs.Prelude.{◌≡◌, None, IsSome, IsSomeAnd, length, option_map};
+ghost use Rattle.std.specs.Prelude.{◌≡◌, None, IsSome, IsSomeAnd, option_map};
 ghost use Rattle.krb_wire.specs.NameOf.{name_of};
 ghost use Rattle.krb_wire.specs.Names.{name_text};
 ghost use Rattle.krb_walk.specs.Store.{end_of, fault_of};
@@ -8,15 +8,15 @@ ghost use Rattle.krb_keytab.specs.Store.{entry_at_place, image_of, store_of};
 ghost use Rattle.krb_c.specs.Behind.{keytab_of};
 ghost use Rattle.krb_c.specs.KeytabEntry.{Shows};
 ghost use Rattle.krb_c.specs.KeytabLooks.{Steps, Finds, ShowsPart};
-ghost use Rattle.krb_c.specs.Shown.{LooksAt};
+ghost use Rattle.krb_c.specs.Shown.{AreShown, LooksAt};
 ghost use Rattle.krb_c.specs.Text.{TellsAt};
-ghost use Rattle.krb_c.specs.Status.{fault_status};
+ghost use Rattle.krb_c.specs.Status.{kind_number};
 
 use crate::bytes::{KrbfBytes, bytes_of};
 use crate::keytab::KrbfKeytab;
 use crate::keytab::entry::KrbfEntry;
 use crate::keytab::looks::{find, look_at, show_component, tell_name_at};
-use crate::status::{DONE, of_fault};
+use crate::status::{DONE, kind_of};
 use std::alloc::Global;
 
 /// Shows the first entry at or after a cursor, and moves the cursor after it. A walk begins at 2.
@@ -55,19 +55,25 @@ pub extern "C" fn krbf_kt_entry(
     status
 }
 
-/// Tells where the sound cells end, and the number of what is wrong there: 0 where nothing is.
+/// Tells the number of what is wrong where the sound cells end, 0 where nothing is, and where they end.
 #[unsafe(no_mangle)]
-pub extern "C" fn krbf_kt_fault(alloc: Global, kt: &mut KrbfKeytab, place: &mut u32) -> u32
+pub extern "C" fn krbf_kt_fault(
+    alloc: Global,
+    kt: &mut KrbfKeytab,
+    kind: &mut u32,
+    place: &mut u32,
+) -> u32
     requires { IsSome (keytab_of kt.old) }
+    ensures done { result ≡ 0 }
     ensures same { keytab_of kt.new ≡ keytab_of kt.old }
-    ensures fault { IsSomeAnd (keytab_of kt.old) (λ k. result ≡ fault_status (fault_of (store_of k))) }
+    ensures kind { IsSomeAnd (keytab_of kt.old) (λ k. kind.new ≡ kind_number (fault_of (store_of k))) }
     ensures place { IsSomeAnd (keytab_of kt.old) (λ k. place.new ≡ end_of (store_of k)) }
 {
     let held = kt.take(alloc);
+    *kind = kind_of(held.keytab().keytab().fault());
     *place = held.keytab().keytab().end();
-    let fault = of_fault(held.keytab().keytab().fault());
     kt.put(held);
-    fault
+    DONE
 }
 
 /// Shows the entry of a name, version (0: the highest) and enctype (0: any).
@@ -134,7 +140,7 @@ pub extern "C" fn krbf_kt_image(alloc: Global, kt: &mut KrbfKeytab, image: &mut 
     requires { IsSome (keytab_of kt.old) }
     ensures done { result ≡ 0 }
     ensures same { keytab_of kt.new ≡ keytab_of kt.old }
-    ensures len { IsSomeAnd (keytab_of kt.old) (λ k. image.new.len ≡ length (image_of k)) }
+    ensures image { IsSomeAnd (keytab_of kt.old) (λ k. AreShown image.new (image_of k)) }
 {
     let held = kt.take(alloc);
     *image = bytes_of(held.keytab().keytab().image());

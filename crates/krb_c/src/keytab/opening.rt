@@ -1,10 +1,10 @@
 //! Opening keytabs, making them, and closing them.
 
-ghost use Rattle.std.specs.Prelude.{◌≡◌, ◌⊎◌, Some, None, IsSome};
+ghost use Rattle.std.specs.Prelude.{◌≡◌, ◌≤◌, ◌⊎◌, length, Some, None, Err, IsOk, IfOk, IfErr};
 ghost use Rattle.krb_wire.specs.declared.format.KtFormat.TheVariants.{V2};
-ghost use Rattle.krb_keytab.specs.Store.{open_result, empty};
+ghost use Rattle.krb_keytab.specs.Store.{format_of, open_result, empty};
 ghost use Rattle.krb_c.specs.Behind.{keytab_of};
-ghost use Rattle.krb_c.specs.KeytabOpens.{Makes, OpensImage, order_of_flag};
+ghost use Rattle.krb_c.specs.KeytabOpens.{IsKeytab, Makes, OpensImage, order_of_flag};
 ghost use Rattle.krb_c.specs.Limit.{limit_of};
 ghost use Rattle.krb_c.specs.Opens.{Opens, OpensNone};
 ghost use Rattle.krb_c.specs.Status.{kt_open_status};
@@ -15,7 +15,7 @@ use crate::keytab::{HeldKeytab, KrbfKeytab};
 use crate::limit::limits_of;
 use crate::status::{DONE, NO_MEMORY, TOO_LARGE, of_kt_open};
 use krb_indexed::Indexed;
-use krb_keytab::Keytab;
+use krb_keytab::{Keytab, KtOpenFault};
 use krb_wire::{KtFormat, Limits, NoMemory, Order};
 use std::alloc::Global;
 
@@ -28,6 +28,38 @@ fn order_of(v1_big: u32) -> Order
     } else {
         Order::Big
     }
+}
+
+// The format that the first two bytes tell.
+fn format_in(v1_order: Order, image: &[u8]) -> Option<KtFormat>
+    requires { 2 ≤ length image.now }
+    ensures { result ≡ format_of v1_order image.now }
+{
+    if image[0] != 5 {
+        return None;
+    }
+    match image[1] {
+        1 => Some(KtFormat::V1(v1_order)),
+        2 => Some(KtFormat::V2),
+        _ => None,
+    }
+}
+
+// Why an image is no keytab, which its length and its first two bytes tell.
+fn look_at_front(image: &[u8], v1_order: Order, limits: Limits) -> Result<(), KtOpenFault>
+    ensures ok { IfOk result (λ _. IsOk (open_result v1_order limits image.now)) }
+    ensures err { IfErr result (λ why. open_result v1_order limits image.now ≡ Err why) }
+{
+    if image.len() < 2 {
+        return Err(KtOpenFault::TooShort);
+    }
+    let Some(_format) = format_in(v1_order, image) else {
+        return Err(KtOpenFault::BadVersion);
+    };
+    if image.len() > limits.image() as usize {
+        return Err(KtOpenFault::TooLarge);
+    }
+    Ok(())
 }
 
 impl KrbfKeytab {
@@ -51,8 +83,12 @@ impl KrbfKeytab {
     // Opens the keytab of a copy of an image.
     fn open(&mut self, alloc: Global, image: &[u8], v1_order: Order, limits: Limits) -> u32
         requires { self.old.handle.held ≡ None }
-        ensures { Opens kt_open_status (open_result v1_order limits image.now) result (keytab_of self.new) self.new.handle }
+        ensures opens { Opens kt_open_status (open_result v1_order limits image.now) result (keytab_of self.new) self.new.handle }
+        ensures memory { result ≡ 1 → IsOk (open_result v1_order limits image.now) }
     {
+        if let Err(why) = look_at_front(image, v1_order, limits) {
+            return of_kt_open(why);
+        }
         let Ok(image) = Vec::from_slice(heap(alloc), image) else {
             return NO_MEMORY;
         };
@@ -86,7 +122,8 @@ pub extern "C" fn krbf_kt_create(alloc: Global, limit: u32, kt: &mut KrbfKeytab)
     }
 }
 
-/// Opens the keytab of a copy of an image, with such a limit.
+/// Opens the keytab of a copy of an image, with such a limit. Memory runs out for a keytab alone: what is none is
+/// refused before it is copied.
 #[unsafe(no_mangle)]
 pub extern "C" fn krbf_kt_open(
     alloc: Global,
@@ -96,7 +133,8 @@ pub extern "C" fn krbf_kt_open(
     kt: &mut KrbfKeytab,
 ) -> u32
     requires { kt.old.handle.held ≡ None }
-    ensures { OpensImage v1_big image.now (limit_of limit) result kt.new }
+    ensures opens { OpensImage v1_big image.now (limit_of limit) result kt.new }
+    ensures memory { result ≡ 1 → IsKeytab v1_big image.now (limit_of limit) }
 {
     match limits_of(limit) {
         Some(limits) => kt.open(alloc, image, order_of(v1_big), limits),
@@ -104,13 +142,12 @@ pub extern "C" fn krbf_kt_open(
     }
 }
 
-/// Frees a keytab, and leaves its handle empty.
+/// Frees a keytab, and leaves its handle empty. One that is empty stays so.
 #[unsafe(no_mangle)]
 pub extern "C" fn krbf_kt_close(alloc: Global, kt: &mut KrbfKeytab) -> u32
-    requires { IsSome (keytab_of kt.old) }
     ensures done { result ≡ 0 }
     ensures closed { kt.new.handle.held ≡ None }
 {
-    drop(kt.take(alloc));
+    kt.handle.free(alloc);
     DONE
 }

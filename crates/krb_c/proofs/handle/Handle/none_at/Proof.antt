@@ -1,5 +1,5 @@
--- `none_at` puts a pointer and a handle of the heap into a struct, and owns nothing behind the pointer.
-use mathlib.Core.Path.{refl, sym, subst}
+-- `none_at` puts a null pointer and a handle of the heap into a struct, and owns nothing behind the pointer.
+use mathlib.Core.Path.{◌≡◌, refl, sym, subst}
 use mathlib.Core.Bool.{Bool, true, false, ◌&&◌}
 use mathlib.Core.List.{List, [], ◌∷◌, ◌++◌}
 use Rattle.std.specs.Prelude.{None}
@@ -7,13 +7,13 @@ use lib.Dec.{T, lit<}
 use seplogic.Ra.Ura.{Ura}
 use mir.Syntax.{ty_ptr}
 use mir.Val.{Val, vstruct, vcons, vnil, has_ty, WT}
-use base.Logic.{SProp, ent, emp, id⊢}
+use base.Logic.{SProp, ent, id⊢}
 use base.Fml.{ftrue}
 use prog.Memory.{Memory}
 use prog.Routine.{Routine}
 use prog.Wp.{WpFn, Tables}
 use types.Logic.{Logic}
-use contract.Monad.{Fun}
+use contract.Monad.{Fun, fact}
 use contract.Running.{tables, tables_of}
 use sound.WpLaws.{WpFn-mono}
 use types.Kit.{‵, raw, ◌⊛◌, ◌$◌, ◌∵◌, !, qed, move, drop, use1, join, split, fsplit, fjoin, fpack, feq_i, feq_l, suffices, done}
@@ -24,7 +24,7 @@ use denote.Exit.{yes}
 use denote.RattleType.{Valss, owns}
 use denote.RawPtr.{Ptr, RawPtr, block_ptr, null_ptr, ptr_val}
 use denote.Signature.{type_at, plain}
-use denote.Steps.{nothing}
+use denote.Steps.{nothing, heard}
 use denote.Struct.Struct.{within}
 use denote.Struct.Owning.{shape, to}
 use denote.Param.{layout}
@@ -68,18 +68,18 @@ module _ {M : Type 1} {𝓤 : Ura M} (𝓛 : Logic 𝓤) (at_mem : Memory → SP
       let Run : List Val → SProp 𝓤 = λ ws. WpFn 𝓤 H 𝓣.C 𝓣.Λ code.function ws Post in
       let To = type_at (F.signature).result tt in
       let made : To.Denot = record { ptr = p; alloc = a; held = None } in
-      qed 𝓛 ((‵ ftrue ⊛ ‵ (owns (RawPtr ∷ Heap.the_row ∷ []) (p, (a, tt)) (z.0.4.0, (z.0.4.1.0, tt)))) ∷ raw (emp 𝓤) ∷ []) ∵ split ! $ drop ! $ fsplit ! $ feq_l ! (λ ep. fsplit !
+      qed 𝓛 ((‵ ftrue ⊛ ‵ (owns (RawPtr ∷ Heap.the_row ∷ []) (p, (a, tt)) (z.0.4.0, (z.0.4.1.0, tt)))) ∷ raw (fact 𝓤 (p ≡ null_ptr)) ∷ []) ∵ move ! (1 ∷ []) $ heard ! (p ≡ null_ptr) (λ en. split ! $ drop ! $ fsplit ! $ feq_l ! (λ ep. fsplit !
       $ handle_tells E.al ! a z.0.4.1.0 (λ h eh fits.
       let w = word p h in
       let good : T (has_ty ty_ptr (ptr_val p) && (has_ty (layout Heap.the_row) h && true)) × WT w = (both_tt (has_ty ty_ptr (ptr_val p)) (has_ty (layout Heap.the_row) h) (ptr_good p).0 fits.0, ((ptr_good p).1, (fits.1, tt))) in
       -- [the handle of the heap; true; nothing]
       nothing ! $ move ! (1 ∷ 0 ∷ []) $ fjoin ! $ feq_i ! (List Val) (ptr_val p ∷ []) (ptr_val p ∷ []) refl $ fjoin ! $ feq_i ! (List Val) (w ∷ []) (w ∷ []) refl $ fjoin ! $
-      fpack ! (Valss (RawPtr ∷ Heap.the_row ∷ [])) (within (shape Handle.the_type) (to Handle.the_type made) (w ∷ [])) (ptr_val p ∷ [], (h ∷ [], tt)) $ fjoin ! $ use1 𝓛 (‵ (To.own_val made (w ∷ []))) (id⊢ 𝓤 _) $ move ! (1 ∷ []) $ drop ! $
+      fpack ! (Valss (RawPtr ∷ Heap.the_row ∷ [])) (within (shape Handle.the_type) (to Handle.the_type made) (w ∷ [])) (ptr_val p ∷ [], (h ∷ [], tt)) $ feq_i ! Ptr p null_ptr en $ move ! (1 ∷ []) $ fjoin ! $ use1 𝓛 (‵ (To.own_val made (w ∷ []))) (id⊢ 𝓤 _) $ move ! (1 ∷ []) $ drop ! $
       suffices ! (Run (ptr_val p ∷ h ∷ [])) (subst (λ (us : List Val). ent 𝓤 (Run (ptr_val p ∷ h ∷ [])) (Run us)) (sym (λ i. ep i ++ (eh i ++ []))) (id⊢ 𝓤 (Run (ptr_val p ∷ h ∷ [])))) $
       enter ! 𝓣.C 𝓣.Λ code.function (ptr_val p ∷ h ∷ []) Post $ alloc_all ! (λ l. pass_all ! refl (ptr_good p, (fits, tt)) $
       sets ! (agg ! (and_then ! (get ! refl) (and_then ! (get ! refl) (no_more !)))) refl good $ returns ! (look_at ! 0 refl) $ free_all ! refl $
       suffices ! _ (ends_at 𝓛 F.ended stayed (F.clauses 𝓛 at_mem run) z w made (tt, (tt, tt)) (tt, (tt, tt))) $ says ! refl $
-      nothing ! $ nothing ! $ fjoin ! $ nothing ! $ fjoin ! $ join ! $ nothing ! $ join ! $ done !)))
+      nothing ! $ nothing ! $ fjoin ! $ nothing ! $ fjoin ! $ join ! $ nothing ! $ join ! $ done !))))
 
 pub none_at_spec : {M : Type 1} → stated.statement M
 unfolding tables_of

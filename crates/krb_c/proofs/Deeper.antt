@@ -1,0 +1,16 @@
+-- What is refused after the length and the version of an image is its header or its default principal.
+use Rattle.std.proofs.Common.{ℕ, List, Option, Some, None, refl, inl, inr}
+use Rattle.std.specs.Prelude.{IfErr}
+use Rattle.krb_wire.specs.Spelling.{Parts}
+use Rattle.krb_ccache.specs.declared.version.Version.{Version}
+use Rattle.krb_ccache.specs.Header.{Field}
+use Rattle.krb_ccache.specs.Store.{open_default, open_header}
+use Rattle.krb_c.specs.CacheOpens.{IsDeeper}
+
+default_is_deeper : (v : Version) (limit : ℕ) (xs : List Field) (p : Option (Parts × List ℕ)) → IfErr (open_default v limit xs p) IsDeeper
+default_is_deeper v limit xs None = inr refl
+default_is_deeper v limit xs (Some p) = tt
+
+pub header_is_deeper : (v : Version) (limit : ℕ) (h : Option (List Field × List ℕ)) → IfErr (open_header v limit h) IsDeeper
+header_is_deeper v limit None = inl refl
+header_is_deeper v limit (Some h) = default_is_deeper v limit h.0 _
