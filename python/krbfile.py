@@ -5,21 +5,26 @@
             print(entry.kvno, entry.name)
 
 Bytes in, bytes out: the caller reads and writes the files. A keytab or a cache may be changed while
-it is walked. Where the library refuses a call, it raises `KrbfileError`, whose `status` is the
-number in krbfile.h.
+it is walked, and threads may share one. Where the library refuses a call, it raises `KrbfileError`,
+whose `status` is the number in krbfile.h. A number that does not fit raises `OverflowError`, and
+what is no number, no bytes or no text `TypeError`.
 """
 from __future__ import annotations
 
 import ctypes
 import ctypes.util
+import re
 from collections.abc import Iterator, Sequence
 from ctypes import byref, c_char_p, c_size_t, c_uint16, c_uint32, c_void_p
 from dataclasses import dataclass
+from operator import index
+from threading import RLock
 from typing import Any
 
 DONE, END, NOT_FOUND = 0, 2, 39
 
-_library = ctypes.CDLL(ctypes.util.find_library("krbfile") or "libkrbfile.so.1")
+# A call does not give up the interpreter's lock: most are shorter than that takes.
+_library = ctypes.PyDLL(ctypes.util.find_library("krbfile") or "libkrbfile.so.1")
 
 
 class KrbfileError(Exception):
@@ -102,28 +107,81 @@ def _check(status: int) -> None:
         raise KrbfileError(status)
 
 
-def _sized(data: bytes | str) -> tuple[c_char_p, c_size_t]:
-    """Bytes, or a text, as a pointer and a length."""
-    data = data.encode() if isinstance(data, str) else bytes(data)
+def _number(kind: Any, value: int) -> Any:
+    """A number as a parameter of C's."""
+    number = index(value)
+    if not 0 <= number < 1 << 8 * ctypes.sizeof(kind):
+        raise OverflowError(f"{number} does not fit {8 * ctypes.sizeof(kind)} bits")
+    return kind(number)
+
+
+def _sized(data: bytes) -> tuple[c_char_p, c_size_t]:
+    """Bytes as a pointer and a length."""
+    data = data if isinstance(data, bytes) else bytes(memoryview(data))
     return c_char_p(data), c_size_t(len(data))
 
 
+def _name(name: bytes | str) -> tuple[c_char_p, c_size_t]:
+    """A name, as bytes or a text, as a pointer and a length."""
+    return _sized(name.encode() if isinstance(name, str) else name)
+
+
+# A component in the text of a name: after it comes a slash, or an @ after the last.
+_COMPONENT = re.compile(rb"([^\\/@]*(?:\\.[^\\/@]*)*)([/@])", re.DOTALL)
+_ESCAPED = re.compile(rb"\\(.)", re.DOTALL)
+_CONTROLS = {b"0": b"\0", b"b": b"\b", b"n": b"\n", b"t": b"\t"}
+
+
+def _components(name: bytes) -> Iterator[bytes]:
+    """The components of a name's text, in one pass."""
+    for component in _COMPONENT.finditer(name):
+        yield _ESCAPED.sub(lambda found: _CONTROLS.get(found[1], found[1]), component[1])
+        if component[2] == b"@":
+            return
+
+
 class _Store:
-    """What keytabs and caches have in common: a handle, its image, and the end of both."""
+    """What keytabs and caches have in common: a handle, its image, and the end of both.
+
+    Its lock is held from a call until the bytes that the call shows are copied.
+    """
 
     _kind: str
 
-    def __init__(self) -> None:
-        self._handle = c_void_p()
+    def __new__(cls) -> Any:
+        self = super().__new__(cls)
+        self._handle, self._lock = c_void_p(), RLock()
+        return self
+
+    def __reduce__(self) -> Any:
+        raise TypeError(f"a {type(self).__name__} is neither copied nor pickled; its image can be")
 
     def _ask(self, name: str, *words: Any) -> int:
         """The number that a call answers."""
-        if not self._handle:
-            raise ValueError("it is closed")
-        return getattr(_library, f"krbf_{self._kind}_{name}")(byref(self._handle), *words)
+        with self._lock:
+            if not self._handle:
+                raise ValueError("it is closed")
+            return getattr(_library, f"krbf_{self._kind}_{name}")(byref(self._handle), *words)
 
     def _do(self, name: str, *words: Any) -> None:
         _check(self._ask(name, *words))
+
+    def _shown(self, record: Any, name: str, *words: Any) -> Any:
+        """What a call shows in a record."""
+        with self._lock:
+            self._do(name, *words, byref(record))
+            return self._read(record)
+
+    def _read(self, record: Any) -> Any:
+        """A copy of what a record shows."""
+        raise NotImplementedError
+
+    def _bytes(self, name: str, *words: Any) -> bytes:
+        """A copy of the bytes that a call shows."""
+        found = _Bytes()
+        with self._lock:
+            self._do(name, *words, byref(found))
+            return found.read()
 
     def _text(self, name: str, *words: Any) -> bytes:
         """A text that a call puts into a room, in a larger one where it is cut off."""
@@ -136,19 +194,19 @@ class _Store:
             size = length.value
 
     def _walk(self, cursor: c_uint32, record: Any) -> Iterator[Any]:
-        """What each step of a walk gives, in one record."""
+        """What each step of a walk shows, in one record."""
         while True:
             try:
-                self._do("next", byref(cursor), byref(record))
+                found = self._shown(record, "next", byref(cursor))
             except KrbfileError as error:
                 if error.status == END:
                     return
                 raise
-            yield record
+            yield found
 
     def close(self) -> None:
         """Gives the memory back, cleared. May be called twice."""
-        if self._handle:
+        with self._lock:
             getattr(_library, f"krbf_{self._kind}_close")(byref(self._handle))
 
     def __enter__(self) -> Any:
@@ -163,26 +221,24 @@ class _Store:
     @property
     def image(self) -> bytes:
         """The bytes of its file."""
-        found = _Bytes()
-        self._do("image", byref(found))
-        return found.read()
+        return self._bytes("image")
 
     @property
     def fault(self) -> tuple[int, int] | None:
         """The number of what is wrong, and its place, where something is."""
-        place = c_uint32()
-        number = self._ask("fault", byref(place))
-        return (number, place.value) if number else None
+        kind, place = c_uint32(), c_uint32()
+        self._do("fault", byref(kind), byref(place))
+        return (kind.value, place.value) if kind else None
 
     def remove_at(self, place: int) -> None:
         """Removes what stands there."""
-        self._do("remove_at", c_uint32(place))
+        self._do("remove_at", _number(c_uint32, place))
 
     def rewrite(self, cursors: Sequence[int] = ()) -> list[int]:
         """Writes all anew without what was removed; the places at which walks then go on."""
-        carried = (c_uint32 * max(len(cursors), 1))(*cursors)
+        carried = (c_uint32 * len(cursors))(*(_number(c_uint32, cursor) for cursor in cursors))
         self._do("rewrite", carried, c_size_t(len(cursors)))
-        return list(carried)[:len(cursors)]
+        return list(carried)
 
 
 class Keytab(_Store):
@@ -194,46 +250,42 @@ class Keytab(_Store):
     def create(cls, limit: int = 0) -> Keytab:
         """An empty keytab, whose image has at most `limit` bytes (0: 16 MiB)."""
         keytab = cls()
-        _check(_library.krbf_kt_create(c_uint32(limit), byref(keytab._handle)))
+        _check(_library.krbf_kt_create(_number(c_uint32, limit), byref(keytab._handle)))
         return keytab
 
     @classmethod
     def open(cls, image: bytes, *, v1_big: bool = False, limit: int = 0) -> Keytab:
         """The keytab of an image."""
         keytab = cls()
-        words = (*_sized(image), c_uint32(v1_big), c_uint32(limit))
+        words = (*_sized(image), _number(c_uint32, v1_big), _number(c_uint32, limit))
         _check(_library.krbf_kt_open(*words, byref(keytab._handle)))
         return keytab
 
     def _read(self, entry: _Entry) -> Entry:
-        parts = []
-        for number in range(entry.components):
-            part = _Bytes()
-            self._do("component", c_uint32(entry.place), c_size_t(number), byref(part))
-            parts.append(part.read())
+        name = self._text("name", c_uint32(entry.place))
         return Entry(
-            place=entry.place, name=self._text("name", c_uint32(entry.place)),
-            realm=entry.realm.read(), components=tuple(parts), name_type=entry.name_type,
-            timestamp=entry.timestamp, kvno=entry.kvno, enctype=entry.enctype,
-            key=entry.key.read(),
+            place=entry.place, name=name, realm=entry.realm.read(),
+            components=tuple(_components(name)) if entry.components else (),
+            name_type=entry.name_type, timestamp=entry.timestamp, kvno=entry.kvno,
+            enctype=entry.enctype, key=entry.key.read(),
         )
 
     def __iter__(self) -> Iterator[Entry]:
-        return map(self._read, self._walk(c_uint32(2), _Entry()))
+        return self._walk(c_uint32(2), _Entry())
 
     def find(self, name: bytes | str, kvno: int = 0, enctype: int = 0) -> Entry:
         """The entry of a name; version 0 is the highest, enctype 0 any."""
-        entry = _Entry()
-        self._do("find", *_sized(name), c_uint32(kvno), c_uint16(enctype), byref(entry))
-        return self._read(entry)
+        words = (*_name(name), _number(c_uint32, kvno), _number(c_uint16, enctype))
+        return self._shown(_Entry(), "find", *words)
 
     def add(
         self, name: bytes | str, kvno: int, enctype: int, key: bytes, timestamp: int = 0
     ) -> int:
         """Adds an entry, and answers its place."""
         place = c_uint32()
-        self._do("add", *_sized(name), c_uint32(timestamp), c_uint32(kvno), c_uint16(enctype),
-                 *_sized(key), byref(place))
+        numbers = (_number(c_uint32, timestamp), _number(c_uint32, kvno),
+                   _number(c_uint16, enctype))
+        self._do("add", *_name(name), *numbers, *_sized(key), byref(place))
         return place.value
 
 
@@ -246,7 +298,7 @@ class Cache(_Store):
     def create(cls, principal: bytes | str, limit: int = 0) -> Cache:
         """An empty cache of a default principal."""
         cache = cls()
-        words = (*_sized(principal), c_uint32(limit))
+        words = (*_name(principal), _number(c_uint32, limit))
         _check(_library.krbf_cc_create(*words, byref(cache._handle)))
         return cache
 
@@ -254,7 +306,8 @@ class Cache(_Store):
     def open(cls, image: bytes, *, limit: int = 0) -> Cache:
         """The cache of an image."""
         cache = cls()
-        _check(_library.krbf_cc_open(*_sized(image), c_uint32(limit), byref(cache._handle)))
+        words = (*_sized(image), _number(c_uint32, limit))
+        _check(_library.krbf_cc_open(*words, byref(cache._handle)))
         return cache
 
     @property
@@ -275,36 +328,34 @@ class Cache(_Store):
     def __iter__(self) -> Iterator[Ticket]:
         cursor = c_uint32()
         self._do("first", byref(cursor))
-        return map(self._read, self._walk(cursor, _Ticket()))
+        return self._walk(cursor, _Ticket())
 
     def find(self, server: bytes | str) -> Ticket:
         """The first ticket for a server."""
-        ticket = _Ticket()
-        self._do("find", *_sized(server), byref(ticket))
-        return self._read(ticket)
+        return self._shown(_Ticket(), "find", *_name(server))
 
     def store(self, ticket: Ticket) -> int:
         """Stores a ticket, whose own place is not looked at, and answers where."""
-        numbers = _Numbers(*(int(getattr(ticket, name)) for name in _NUMBERS))
+        widths = {"enctype": c_uint16}
+        numbers = _Numbers(*(_number(widths.get(name, c_uint32), getattr(ticket, name)).value
+                             for name in _NUMBERS))
         place = c_uint32()
-        parts = (ticket.client, ticket.server, ticket.key, ticket.ticket, ticket.second_ticket)
-        words = (word for part in parts for word in _sized(part))
-        self._do("store", *words, byref(numbers), byref(place))
+        names = (*_name(ticket.client), *_name(ticket.server))
+        parts = (*_sized(ticket.key), *_sized(ticket.ticket), *_sized(ticket.second_ticket))
+        self._do("store", *names, *parts, byref(numbers), byref(place))
         return place.value
 
     def config(self, key: bytes | str, principal: bytes | str = b"") -> bytes | None:
         """The value of a key, of a principal or of the whole cache, if it is set."""
-        value = _Bytes()
         try:
-            self._do("config", *_sized(key), *_sized(principal), byref(value))
+            return self._bytes("config", *_name(key), *_name(principal))
         except KrbfileError as error:
             if error.status == NOT_FOUND:
                 return None
             raise
-        return value.read()
 
     def set_config(self, key: bytes | str, value: bytes, principal: bytes | str = b"") -> int:
         """Sets a value, and answers the place of its entry."""
         place = c_uint32()
-        self._do("set_config", *_sized(key), *_sized(principal), *_sized(value), byref(place))
+        self._do("set_config", *_name(key), *_name(principal), *_sized(value), byref(place))
         return place.value

@@ -72,6 +72,128 @@ with Cache.create("a@R", limit=30) as made:
         print(error.status, error, made.image.hex())
 """
 
+# What is no number, no bytes or no text, and numbers that do not fit.
+REFUSED = """
+from dataclasses import replace
+from krbfile import Cache, Keytab, Ticket
+import copy, pickle, sys
+
+keytab, cache = Keytab.open(sys.stdin.buffer.read()), Cache.create("u@R")
+ticket = Ticket(0, b"u@R", b"a@R", 17, b"", 0, 0, 0, 0, 0, False, False, b"", b"")
+
+def add(kvno=1, enctype=17, key=b"", timestamp=0):
+    keytab.add("a@R", kvno, enctype, key, timestamp)
+
+def each(wrong, wide, narrow):
+    yield lambda: keytab.remove_at(wrong(wide))
+    yield lambda: keytab.rewrite([2, wrong(wide)])
+    yield lambda: keytab.find("a@R", wrong(wide))
+    yield lambda: keytab.find("a@R", 0, wrong(narrow))
+    yield lambda: add(kvno=wrong(wide))
+    yield lambda: add(enctype=wrong(narrow))
+    yield lambda: add(timestamp=wrong(wide))
+    yield lambda: Keytab.create(wrong(wide))
+    yield lambda: Keytab.open(b"", limit=wrong(wide))
+    yield lambda: Keytab.open(b"", v1_big=wrong(wide))
+    yield lambda: Cache.create("a@R", wrong(wide))
+    yield lambda: Cache.open(b"", limit=wrong(wide))
+    yield lambda: cache.remove_at(wrong(wide))
+    for name in ("authtime", "starttime", "endtime", "renew_till", "flags", "is_skey"):
+        yield lambda: cache.store(replace(ticket, **{name: wrong(wide)}))
+    yield lambda: cache.store(replace(ticket, enctype=wrong(narrow)))
+
+def no_bytes(wrong):
+    yield lambda: Keytab.open(wrong)
+    yield lambda: Cache.open(wrong)
+    yield lambda: add(key=wrong)
+    for name in ("key", "ticket", "second_ticket"):
+        yield lambda: cache.store(replace(ticket, **{name: wrong}))
+    yield lambda: cache.set_config("k", wrong)
+
+def no_name(wrong):
+    yield lambda: keytab.find(wrong)
+    yield lambda: keytab.add(wrong, 1, 17, b"")
+    yield lambda: Cache.create(wrong)
+    yield lambda: cache.find(wrong)
+    yield lambda: cache.store(replace(ticket, client=wrong))
+    yield lambda: cache.store(replace(ticket, server=wrong))
+    yield lambda: cache.config(wrong)
+    yield lambda: cache.config("k", wrong)
+    yield lambda: cache.set_config(wrong, b"")
+    yield lambda: cache.set_config("k", b"", wrong)
+
+def copies(wrong):
+    for it in (keytab, cache):
+        yield lambda: copy.copy(it)
+        yield lambda: copy.deepcopy(it)
+        yield lambda: pickle.dumps(it)
+
+def answers(calls):
+    for call in calls:
+        try:
+            yield repr(call())
+        except Exception as error:
+            yield type(error).__name__
+
+before = keytab.image, cache.image
+for calls in (
+    each(lambda bound: bound, 2**32, 2**16), each(lambda bound: bound + 2, 2**32, 2**16),
+    each(lambda bound: -1, 2**32, 2**16), each(lambda bound: "2", 2**32, 2**16),
+    each(lambda bound: 2.0, 2**32, 2**16), each(lambda bound: None, 2**32, 2**16),
+    no_bytes(16), no_bytes("00ff"), no_bytes([1, 2]), no_bytes(None),
+    no_name(3), no_name([97]), no_name(None), copies(None),
+):
+    found = list(answers(calls))
+    print(len(found), *sorted(set(found)))
+print((keytab.image, cache.image) == before)
+add(2**32 - 1, 2**16 - 1, bytearray(b"k"), 2**32 - 1)
+found = keytab.find("a@R")
+print(found.kvno == 2**32 - 1, found.enctype == 2**16 - 1, found.key, found.timestamp == 2**32 - 1)
+"""
+
+# Two threads walk a keytab, and one reads what another moves in memory.
+THREADS = """
+from krbfile import Keytab
+from threading import Thread
+import sys
+
+sys.setswitchinterval(1e-6)
+image = sys.stdin.buffer.read()
+keytab, changed = Keytab.open(image), Keytab.open(image)
+entries, wrong = list(keytab), []
+
+def walk():
+    for _ in range(300):
+        if list(keytab) != entries:
+            wrong.append("a walk")
+
+def read():
+    for _ in range(1000):
+        if changed.find("host/a@R") != entries[0] or not changed.image.startswith(image):
+            wrong.append("a read")
+
+def change():
+    for _ in range(1000):
+        changed.remove_at(changed.add("c@R", 1, 17, bytes(4096)))
+        changed.rewrite()
+
+threads = [Thread(target=run) for run in (walk, walk, read, read, change)]
+for run in ("start", "join"):
+    for thread in threads:
+        getattr(thread, run)()
+print(wrong, changed.image == image)
+"""
+
+# A name's components as its entry has them: each byte, empty ones, none, and very many of them.
+COMPONENTS = """
+from krbfile import Keytab
+import sys
+
+with Keytab.open(sys.stdin.buffer.read()) as keytab:
+    for entry in keytab:
+        print(len(entry.components), b"|".join(entry.components[:8]).hex(), entry.realm)
+"""
+
 
 def wanted_keytabs() -> bytes:
     """What the first script prints. HOST has 51 bytes, B 45: c@R is put where HOST stood."""
@@ -113,9 +235,36 @@ def wanted_caches() -> bytes:
     ))
 
 
+def wanted_refused() -> bytes:
+    """What the third script prints: how many calls there are, and what they raise."""
+    return b"\n".join((
+        *3 * (b"20 OverflowError",), *3 * (b"20 TypeError",), *4 * (b"7 TypeError",),
+        *3 * (b"10 TypeError",), b"6 TypeError", b"True", b"True True b'k' True", b"",
+    ))
+
+
+def wanted_threads() -> bytes:
+    """What the fourth script prints: nothing is wrong."""
+    return b"[] True\n"
+
+
+# Names with each byte, slashes, empty components and none, and as many as a name can have.
+NAMES = ((bytes(range(256)),), (b"a/b@c\\", b"", b"\0\b\n\t0bnt"), (b"",), (), (b"", b""),
+         (b"",) * 65_535)
+
+
+def wanted_components() -> bytes:
+    """What the last script prints."""
+    parts = ((len(name), b"|".join(name[:8]).hex()) for name in NAMES)
+    return b"".join(b"%d %s b'R/@'\n" % (count, text.encode()) for count, text in parts)
+
+
 SCRIPTS = (
     ("keytabs", KEYTABS, TWO, wanted_keytabs),
     ("caches", CACHES, credentials(TICKET, PA_TYPE), wanted_caches),
+    ("what it refuses", REFUSED, TWO, wanted_refused),
+    ("threads", THREADS, TWO, wanted_threads),
+    ("components", COMPONENTS, entries(*(Entry(name, b"R/@") for name in NAMES)), wanted_components),
 )
 
 
