@@ -3,7 +3,8 @@
 # make static     builds bin/krbfile-static, which needs no C library where it runs and starts sooner
 # make lib        proves and builds the C library, lib/libkrbfile.a and lib/libkrbfile.so.1, which c/krbfile.h declares
 # make samples    makes the files that README works on, in samples/
-# make test       proves every crate from nothing, runs all tests, and then those of the program that this built
+# make test       proves every crate from nothing, runs all tests, those of the program that this built too, and tries
+#                 the wrong bodies; afterwards the other targets prove nothing again
 # make long-test  runs the long tests of the program, on random and damaged files
 # make install    puts the program into PREFIX/bin, the library and its header into PREFIX/lib and PREFIX/include, and
 #                 their manual pages and completions below PREFIX/share
@@ -13,6 +14,7 @@ SHARE = $(DESTDIR)$(PREFIX)/share
 PROGRAM = bin/krbfile
 BUILT = crates/krbfile/out/krbfile
 STATIC = bin/krbfile-static
+ARCHIVE = crates/krb_c/out/libkrb_c.a
 LIBRARY = lib/libkrbfile.a
 SHARED = lib/libkrbfile.so.1
 LINKER_NAME = lib/libkrbfile.so
@@ -20,32 +22,34 @@ KIT = $(dir $(shell rt doc))
 KTBENCH = crates/ktbench/out/ktbench
 SOURCES = crates.txt $(shell find crates/*/src crates/*/specs crates/*/proofs -type f)
 
-.PHONY: all try static linked-static lib samples test long-test install
+.PHONY: all try static lib samples test long-test install
 
 all: $(PROGRAM)
 
-# The program that a crate's folder has goes with each run of the gate, and comes again.
-$(PROGRAM): $(SOURCES)
+# The program that make test left is as good as that of rt run.
+$(BUILT): $(SOURCES)
 	cd crates/krbfile && rt run -- --help > /dev/null
+	touch $@
+
+$(PROGRAM): $(BUILT)
 	install -D -m 755 $(BUILT) $@
 
 # What rt links for the program, and the C library with it.
-define LINK_STATIC
+$(STATIC): $(BUILT)
+	test -f $(BUILT).o || (cd crates/krbfile && rt run -- --help > /dev/null)
 	mkdir -p $(dir $(STATIC))
 	$(CC) -static-pie -o $(STATIC).linked $(BUILT).o $(KIT)c/libos_c.a $(KIT)c/liblibc_c.a
 	install -m 755 $(STATIC).linked $(STATIC)
 	rm $(STATIC).linked
-endef
 
-$(STATIC): $(SOURCES)
-	cd crates/krbfile && rt run -- --help > /dev/null
-	$(LINK_STATIC)
+$(ARCHIVE): $(SOURCES)
+	cd crates/krb_c && rt lib > /dev/null
+	touch $@
 
 # The calls and the C library's heap as one object, which shows the calls alone.
-lib/krbfile.o: $(SOURCES)
-	cd crates/krb_c && rt lib > /dev/null
+lib/krbfile.o: $(ARCHIVE)
 	mkdir -p lib/parts
-	cd lib/parts && ar x ../../crates/krb_c/out/libkrb_c.a && ar x $(KIT)c/liblibc_c.a heap.pic.o
+	cd lib/parts && ar x ../../$(ARCHIVE) && ar x $(KIT)c/liblibc_c.a heap.pic.o
 	$(LD) -r -o $@ lib/parts/*.o
 	objcopy --wildcard --keep-global-symbol='krbf_*' $@
 	rm -r lib/parts
@@ -74,19 +78,19 @@ lib: $(LIBRARY) $(SHARED) $(LINKER_NAME)
 samples:
 	python3 tests/samples.py samples
 
-# The tests run the programs that the gate leaves, so those are proved once. A program that the gate took over from an
-# earlier run has no object file: then the static one is left out. The gate takes no folder that holds a link.
+# The programs and libraries that the gate leaves are what is tested, so each crate is proved once. The gate would put
+# libraries of earlier checks back in their place, and it takes no folder that holds a link. A program that it took over
+# from an earlier run has no object file: then the static one is left out.
 test:
-	rm -f $(BUILT) $(BUILT).o $(KTBENCH) $(STATIC) $(LINKER_NAME)
+	rm -f $(BUILT) $(BUILT).o $(KTBENCH) $(STATIC) $(LINKER_NAME) $(ARCHIVE)
+	rm -rf crates/*/out/rlib
 	rt ci
-	test -x $(BUILT) || (cd crates/krbfile && rt run -- --help > /dev/null)
-	test -x $(KTBENCH) || $(MAKE) --no-print-directory $(KTBENCH)
-	-test ! -f $(BUILT).o || $(MAKE) --no-print-directory linked-static
+	$(MAKE) --no-print-directory $(BUILT) $(KTBENCH)
+	-test ! -f $(BUILT).o || $(MAKE) --no-print-directory static
+	tests/archive $(ARCHIVE)
 	$(MAKE) --no-print-directory lib
 	tests/run $(BUILT)
-
-linked-static:
-	$(LINK_STATIC)
+	tests/wrong
 
 long-test: all $(KTBENCH)
 	tests/long $(PROGRAM)

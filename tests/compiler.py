@@ -1,0 +1,124 @@
+"""The compiler's own command, for the crates of the repository.
+
+It goes over the libraries in `crates/*/out/rlib`. Those that `rt ci` left there have no stamp, so the
+commands of `rt` would prove each of them once more.
+"""
+from __future__ import annotations
+
+import os
+import re
+import shutil
+import subprocess
+from dataclasses import dataclass
+from functools import cache
+
+from edited import TOP
+
+# How a check names a goal that is left open in a function with answers, and those in one without.
+OPEN_GOAL = re.compile(r"note: \S+: it is not proved that .*?\(`([\w-]+)`\)")
+NOT_FOUND = re.compile(r"; `search` did not prove (.*)")
+VERDICT = re.compile(r"fn \w+::(\S+): (.*)")
+ENDED = re.compile(r"^only=\d+ proved=\d+$", re.M)
+REJECTED = re.compile(r"^(?:error\b.*|(?:\./)?src/\S+: error.*)", re.M)
+
+
+@dataclass(frozen=True)
+class Answer:
+    """What a check says: whether all is proved, each function's open goals, and why it ended before."""
+
+    is_proved: bool
+    goals: dict[str, list[str]]
+    rejected: str | None
+
+
+@cache
+def kit() -> str:
+    """The folder of the toolchain."""
+    said = subprocess.run(["rt", "doc"], stdout=subprocess.PIPE, text=True, check=True).stdout
+    return os.path.dirname(said.strip())
+
+
+@cache
+def crates() -> dict[str, tuple[str, list[str]]]:
+    """The kind of each crate, empty or `staticlib`, and the libraries that it uses."""
+    found = {}
+    with open(os.path.join(TOP, "crates.txt"), encoding="utf-8") as file:
+        for line in file:
+            head, colon, uses = line.partition("#")[0].partition(":")
+            if colon:
+                name, *kind = head.split()
+                found[name] = "".join(kind), uses.split()
+    return found
+
+
+def library(crate: str) -> str:
+    """The folder of a library, of the repository or of the toolchain."""
+    if crate in crates():
+        return os.path.join(TOP, "crates", crate, "out", "rlib", f"{crate}.rlib")
+    return os.path.join(kit(), "rlibs", f"{crate}.rlib")
+
+
+def below(crate: str) -> set[str]:
+    """The repository's libraries that a crate uses, and those that they use."""
+    used = [it for it in crates()[crate][1] if it in crates()]
+    return {*used, *(lower for it in used for lower in below(it))}
+
+
+def command(verb: str, crate: str, jobs: int) -> list[str]:
+    """The words that check or build a crate, in its folder or in a copy of that."""
+    kind, uses = crates()[crate]
+    is_program = os.path.exists(os.path.join(TOP, "crates", crate, "src", "main.rt"))
+    words = [os.path.join(kit(), "bin", "rattle"), verb, "--crate-name", crate]
+    words.append("src/main.rt" if is_program else "src/lib.rt")
+    for it in dict.fromkeys(["std", *uses]):
+        words += ["--extern", f"{it}={library(it)}"]
+    for it in ["std", *sorted(below(crate))]:
+        words += ["-L", f"dependency={os.path.dirname(library(it))}"]
+    words += ["--antt-project", os.path.join(kit(), "rattle", "logic", "antt-project.json")]
+    words += ["--logic-built", os.path.join(kit(), "logic_built")]
+    words += ["--links", f"{crate}=", "--jobs", str(jobs)]
+    return [*words, "--crate-type", kind] if kind else words
+
+
+def goals_of(said: str) -> dict[str, list[str]]:
+    """The open goals of each function that a check names. They stand before its verdict, or in it."""
+    found, before = {}, []
+    for line in said.splitlines():
+        goal, verdict = OPEN_GOAL.match(line), VERDICT.match(line)
+        if goal:
+            before.append(goal[1])
+        elif verdict:
+            listed = NOT_FOUND.search(verdict[2])
+            goals = before + (re.findall(r"`([\w-]+)`", listed[1]) if listed else [])
+            found[verdict[1]] = sorted(set(goals))
+            before = []
+    return found
+
+
+def check(crate: str, folder: str, only: list[str], kept: str) -> Answer:
+    """Checks functions of the crate in a folder, over what earlier checks left in the folder `kept`."""
+    words = [*command("check", crate, 1), "--incremental", kept]
+    for function in only:
+        words += ["--only", function]
+    done = subprocess.run(words, cwd=folder, stdin=subprocess.DEVNULL, stdout=subprocess.PIPE,
+                          stderr=subprocess.STDOUT, text=True, errors="replace", check=False)
+    rejected = REJECTED.search(done.stdout)
+    if not rejected and not ENDED.search(done.stdout):
+        rejected = re.search(r".*\Z", done.stdout.rstrip())
+    return Answer(done.returncode == 0, goals_of(done.stdout), rejected[0] if rejected else None)
+
+
+def link_or_copy(source: str, target: str) -> None:
+    """A check replaces the file of a checked module and never writes into it, so a link is enough."""
+    try:
+        if source.endswith(".oantt"):
+            os.link(source, target)
+            return
+    except OSError:
+        pass
+    shutil.copy2(source, target)
+
+
+def copy_kept(source: str, target: str) -> None:
+    """Copies what checks left in a folder."""
+    shutil.copytree(source, target, copy_function=link_or_copy)
