@@ -2,13 +2,15 @@
 
 An edit has lines `file: PATH`, and after each any number of pairs `old: TEXT` and `new: TEXT`. The old
 text is in that file once, and further pairs apply to what the earlier ones made. `only: FUNCTION`
-names a function to check, by its path below the crate. `refused: FUNCTION CLAUSE` says which clause of
-which function is then not proved, by the name that the check prints.
+names a function to check, by its path below the crate. `refused: FUNCTION CLAUSE` says which clause is
+then not proved, by the name that the check prints: an `ensures` of the function, or a `requires` of a
+call in it. A loop's invariant is no clause: it serves the proof alone.
 """
 from __future__ import annotations
 
 import glob
 import os
+import re
 import shutil
 from dataclasses import dataclass
 
@@ -16,6 +18,10 @@ TOP = os.path.dirname(os.path.dirname(os.path.abspath(__file__)))
 
 # What a check reads of a crate.
 PARTS = ("src", "specs", "proofs")
+
+# The functions and clauses that lines `only:` and `refused:` name.
+FUNCTION = re.compile(r"[\w:]+")
+CLAUSE = re.compile(r"([\w:]+) (returns(?:-[\w-]+)?|[\w-]+-requires(?:-[\w-]+)?)")
 
 
 class BadEdit(Exception):
@@ -77,11 +83,12 @@ def read(path: str) -> Edit:
     with open(path, encoding="utf-8") as file:
         split = [line.rstrip("\n").partition(":") for line in file]
     lines = [(word, text.removeprefix(" ")) for word, _, text in split]
-    only = tuple(text.strip() for word, text in lines if word == "only")
-    refused = tuple(tuple(text.split()) for word, text in lines if word == "refused")
-    if not only or not refused or any(len(it) != 2 for it in refused):
+    only = [FUNCTION.fullmatch(text) for word, text in lines if word == "only"]
+    refused = [CLAUSE.fullmatch(text) for word, text in lines if word == "refused"]
+    if not only or not refused or None in only or None in refused:
         raise BadEdit("it needs lines `only: FUNCTION` and `refused: FUNCTION CLAUSE`")
-    return Edit(*crate_and_name(path), pairs_of(lines), only, refused)
+    return Edit(*crate_and_name(path), pairs_of(lines), tuple(it[0] for it in only),
+                tuple((it[1], it[2]) for it in refused))
 
 
 def copy_crate(crate: str, folder: str) -> None:
