@@ -14,22 +14,22 @@ use crate::open::header::skip_header;
 use crate::version::Version;
 use krb_wire::{split_cc_principal, tail};
 use std::alloc::Allocator;
-use std::error::Error;
 use std::fmt;
+use thiserror::Error;
 
 /// Why an image is no cache.
-#[derive(Clone, Copy, Debug, PartialEq, Eq)]
+#[derive(Clone, Copy, Debug, PartialEq, Eq, Error)]
 pub enum CcOpenFault {
     /// It has fewer than two bytes.
-    TooShort,
+    TooShort = 1,
     /// Its first byte is not 5, or its second neither 3 nor 4.
-    BadVersion,
+    BadVersion = 2,
     /// It is longer than the limit.
-    TooLarge,
+    TooLarge = 3,
     /// Its header does not fit it, or fields do not fill the header exactly.
-    BadHeader,
+    BadHeader = 4,
     /// No default principal stands after the header.
-    BadDefault,
+    BadDefault = 5,
 }
 
 impl CcOpenFault {
@@ -69,8 +69,6 @@ impl fmt::Display for CcOpenFault {
         f.write_str(self.phrase())
     }
 }
-
-impl Error for CcOpenFault {}
 
 /// An image that is no cache, handed back as it was.
 #[derive(Drop)]
