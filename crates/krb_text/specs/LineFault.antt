@@ -34,6 +34,11 @@ ktutil_phrase WordCount = codes "words are wrong, missing, repeated or left over
 ktutil_phrase BadKey = codes "the key is not hexadecimal, not as long as its type's, or empty"
 ktutil_phrase fault = line_phrase fault
 
+-- why a line gives nothing
+abbrev pub refusal_phrase : LineRefusal → List ℕ
+refusal_phrase (Fault fault) = line_phrase fault
+refusal_phrase NoMemory = codes "out of memory"
+
 -- a line or a word gives this value, seen by `view`, or this fault; memory may be refused only where it gives a value
 abbrev pub Reads : {T V : Type 0} → (T → V) → Result V LineFault → Result T LineRefusal → Type 0
 Reads view given (Ok x) = given ≡ Ok (view x)

@@ -1,5 +1,5 @@
 -- Scripts: lines that ask for events, and perhaps for more.
-use Rattle.std.specs.Prelude.{◌≡◌, ℕ, ◌==◌, List, [], ◌∷◌, codes, Bool, false, not, if◌then◌else◌, filter, bytes_eq, Option, None, Some, ok_or, Result, Ok, Err, IsOk}
+use Rattle.std.specs.Prelude.{◌≡◌, ℕ, ◌==◌, List, [], ◌∷◌, ◌++◌, codes, decimal, Bool, false, not, if◌then◌else◌, filter, bytes_eq, Option, None, Some, ok_or, Result, Ok, Err, IsOk}
 use Rattle.std.specs.List.{filter_map, enumerate_from, join_with_byte}
 use Rattle.std.specs.Result.{result_ok}
 use Rattle.krb_walk.specs.declared.event.Event.{Event}
@@ -11,6 +11,7 @@ use Rattle.krb_text.specs.declared.script.command.Command.{Command}
 use Rattle.krb_text.specs.declared.script.command.Command.TheVariants as command
 use Rattle.krb_text.specs.declared.script.ScriptRefusal.{ScriptRefusal}
 use Rattle.krb_text.specs.declared.script.ScriptRefusal.TheVariants.{Fault, NoMemory}
+use Rattle.krb_text.specs.LineFault.{line_phrase}
 use Rattle.krb_text.specs.Pieces.{pieces}
 use Rattle.krb_text.specs.Word.{number_word, etype_word, key_word, name_word}
 
@@ -151,6 +152,11 @@ script_by line_in text = script_of line_in (asked_from 1 (pieces 10 text))
 -- the events of a keytab's script
 abbrev pub script : List ℕ → Result (List (Event EntryParts)) ScriptFault
 script text = script_by event_in text
+
+-- why a script is refused, in words
+abbrev pub refusal_text : ScriptRefusal → List ℕ
+refusal_text (Fault line kind) = codes "line " ++ decimal line ++ codes ": " ++ line_phrase kind
+refusal_text NoMemory = codes "out of memory"
 
 -- a script is refused for its first faulty line, or for memory
 abbrev pub RefusesScript : {L : Type 0} → Result (List L) ScriptFault → ScriptRefusal → Type 0

@@ -2,14 +2,14 @@
 
 ghost use Rattle.std.specs.Prelude.{◌≡◌};
 ghost use Rattle.krb_text.specs.declared.line_fault.LineRefusal.TheVariants.{Fault as Faulty, NoMemory as OutOfMemory};
-ghost use Rattle.krb_text.specs.LineFault.{ktutil_phrase, line_fault_number, line_phrase};
+ghost use Rattle.krb_text.specs.LineFault.{ktutil_phrase, line_fault_number, line_phrase, refusal_phrase};
 
 use krb_wire::NoMemory;
-use std::error::Error;
 use std::fmt;
+use thiserror::Error;
 
 /// What is wrong with a line of a script, or with one that ktutil reads.
-#[derive(Clone, Copy, Debug, PartialEq, Eq)]
+#[derive(Clone, Copy, Debug, PartialEq, Eq, Error)]
 pub enum LineFault {
     UnknownWord = 1,
     WordCount = 2,
@@ -68,10 +68,8 @@ impl fmt::Display for LineFault {
     }
 }
 
-impl Error for LineFault {}
-
 /// Why a line, or a word of it, gives nothing.
-#[derive(Clone, Copy, Debug, PartialEq, Eq)]
+#[derive(Clone, Copy, Debug, PartialEq, Eq, Error)]
 pub enum LineRefusal {
     Fault(LineFault),
     /// An allocation failed.
@@ -79,6 +77,10 @@ pub enum LineRefusal {
 }
 
 impl fmt::Display for LineRefusal {
+    ghost use Rattle.std.specs.Prelude.{Some};
+
+    ghost output = { λ refusal. Some (refusal_phrase refusal) };
+
     fn fmt<W: fmt::Write>(&self, f: &mut fmt::Formatter<W>) -> fmt::Result {
         match self {
             LineRefusal::Fault(fault) => f.write_str(fault.phrase()),
@@ -86,8 +88,6 @@ impl fmt::Display for LineRefusal {
         }
     }
 }
-
-impl Error for LineRefusal {}
 
 impl From<LineFault> for LineRefusal {
     ghost from_gives = { λ fault refusal. refusal ≡ Faulty fault };

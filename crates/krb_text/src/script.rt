@@ -3,7 +3,7 @@
 ghost use Rattle.std.specs.Prelude.{◌≡◌, ◌++◌, ◌∷◌, [], Ok, IfOk, IfErr, OnOk, IsOkAnd, IsErrOf};
 ghost use Rattle.krb_text.specs.declared.script.ScriptRefusal.TheVariants.{NoMemory as OutOfMemory};
 ghost use Rattle.krb_text.specs.Pieces.{pieces};
-ghost use Rattle.krb_text.specs.Script.{is_asked, asked_from, script_of, script_by, RefusesScript, TakesMemory};
+ghost use Rattle.krb_text.specs.Script.{is_asked, asked_from, script_of, script_by, refusal_text, RefusesScript, TakesMemory};
 
 mod addition;
 pub(crate) mod asked;
@@ -17,11 +17,11 @@ use crate::line_fault::{LineFault, LineRefusal};
 use crate::pieces::Lines;
 use crate::script::line::ScriptLine;
 use std::alloc::{AllocFailed, Allocator};
-use std::error::Error;
 use std::fmt;
+use thiserror::Error;
 
 /// Why a script is refused.
-#[derive(Clone, Copy, Debug, PartialEq, Eq)]
+#[derive(Clone, Copy, Debug, PartialEq, Eq, Error)]
 pub enum ScriptRefusal {
     /// The first faulty line, counted from 1, and its first fault.
     Fault { line: u64, kind: LineFault },
@@ -30,6 +30,10 @@ pub enum ScriptRefusal {
 }
 
 impl fmt::Display for ScriptRefusal {
+    ghost use Rattle.std.specs.Prelude.{Some};
+
+    ghost output = { λ refusal. Some (refusal_text refusal) };
+
     fn fmt<W: fmt::Write>(&self, f: &mut fmt::Formatter<W>) -> fmt::Result {
         match self {
             ScriptRefusal::Fault { line, kind } => write!(f, "line {line}: {kind}"),
@@ -37,8 +41,6 @@ impl fmt::Display for ScriptRefusal {
         }
     }
 }
-
-impl Error for ScriptRefusal {}
 
 impl<T: Drop> From<AllocFailed<T>> for ScriptRefusal {
     ghost from_gives = { λ _ refusal. refusal ≡ OutOfMemory };

@@ -6,11 +6,13 @@ ghost use Rattle.krb_text.specs.Calendar.{Day, day_number, day_text, time_text_o
 ghost use Rattle.krb_text.specs.Time.{digit};
 
 use crate::append::append;
-use jiff_core::civil::Date;
+use jiff::civil::Date;
+use jiff_core::civil;
 use krb_wire::NoMemory;
 use std::alloc::Allocator;
 
-// The date that many days after 1970-01-01, up to the last day that 32-bit seconds reach.
+// The date that many days after 1970-01-01, up to the last day that 32-bit seconds reach. To add a span of days to
+// the first takes eight times the instructions.
 #[tactic(auto, using(crate::proofs::Numbering::same_day))]
 fn date_of(days: u32) -> Date
     requires { days ≤ 49_710 }
@@ -18,7 +20,7 @@ fn date_of(days: u32) -> Date
     ensures month { result.month ≡ (day_number days).month }
     ensures day { result.day ≡ (day_number days).day }
 {
-    Date::from_unix_epoch_day(days as i64).unwrap()
+    Date::from_plain(civil::Date::from_unix_epoch_day(days as i64).unwrap())
 }
 
 // The last decimal digit.
@@ -34,7 +36,8 @@ fn midnight(days: u32) -> [u8; 20]
     ensures { result ≡ day_text (day_number days) 0 }
 {
     let date = date_of(days);
-    let (year, month, day) = (date.year.unsigned_abs(), date.month, date.day);
+    let year = date.year().unsigned_abs();
+    let (month, day) = (date.month().unsigned_abs(), date.day().unsigned_abs());
     [
         digit_of(year as u32 / 1000),
         digit_of(year as u32 / 100),
