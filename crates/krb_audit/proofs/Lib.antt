@@ -8,3 +8,4 @@ pub mod CountsLemmas
 pub mod Numbers
 pub mod FirstsLemmas
 pub mod FindingsLemmas
+pub mod NewestLemmas

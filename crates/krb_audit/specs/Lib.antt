@@ -3,6 +3,7 @@ pub mod Selection
 pub mod Tickets
 pub mod Findings
 pub mod Report
+pub mod Laws
 -- For private contracts alone.
 pub mod Names
 pub mod Hash

@@ -11,6 +11,7 @@ mod counts;
 mod findings;
 mod firsts;
 mod hash;
+mod laws;
 mod marks;
 mod mit;
 mod mode;
@@ -23,6 +24,7 @@ mod told;
 
 pub use asked::{Selected, select};
 pub use findings::{CheckUp, check_up};
+pub use laws::each_name_keeps_an_entry;
 pub use selection::{AskedKvno, Selection};
 pub use tickets::{SelectedTickets, select_tickets};
 pub use told::Told;

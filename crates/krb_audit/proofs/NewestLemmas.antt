@@ -1,0 +1,115 @@
+-- The newest entry of a name is one of its entries, and not old.
+use Rattle.std.proofs.Common.{◌≡◌, ◌⊎◌, ℕ, Bool, true, false, cond, List, [], ◌∷◌, ◌++◌, Option, Some, None, refl, sym, ap, ◌∙◌, subst, inl, inr, arith}
+use Rattle.std.specs.Prelude.{filter, not}
+use Rattle.std.specs.List.{Contains}
+use Rattle.std.proofs.lemmas.Bool.{eq-eqb}
+use Rattle.std.proofs.lemmas.List.Elements.{Contains-append_left, Contains-append_right, Contains-append_cases, Contains-push, Contains-push_cases, filter_agree}
+use Rattle.krb_wire.specs.Spelling.{Parts}
+use Rattle.krb_wire.specs.SameName.{have_same_name}
+use Rattle.krb_keytab.specs.Entry.{EntryParts}
+use Rattle.krb_keytab.specs.Find.{PlacedEntry}
+use Rattle.krb_audit.specs.Newest.{is_newer, newer, newest_from, newest, has_other_version, is_old}
+use Rattle.krb_audit.specs.Laws.{HasEntry}
+use Rattle.krb_audit.proofs.FirstNumbers.{same_equiv}
+
+-- ---- it is one of the entries
+
+one_of_two : (b : Bool) (e later found : EntryParts) → cond b later e ≡ found → (e ≡ found) ⊎ (later ≡ found)
+one_of_two true e later found is = inr is
+one_of_two false e later found is = inl is
+
+some_entry : (a b : EntryParts) → Some a ≡ Some b → a ≡ b
+some_entry a b e = cc
+
+newer_is : (o : Option EntryParts) (later e : EntryParts) → newer o later ≡ Some e → (o ≡ Some e) ⊎ (later ≡ e)
+newer_is None later e is = inr (some_entry later e is)
+newer_is (Some a) later e is = elim (one_of_two (is_newer a later) a later e (some_entry (cond (is_newer a later) later a) e is)) [
+  | inl same ↦ inl (ap (λ (x : EntryParts). Some x) same)
+  | inr same ↦ inr same
+]
+
+-- what is found was found before, or is one of the entries
+abbrev Found : Parts → Option EntryParts → List PlacedEntry → EntryParts → Type 0
+Found name o xs e = (o ≡ Some e) ⊎ HasEntry xs name e
+
+behind : (name : Parts) (x : PlacedEntry) (xs : List PlacedEntry) (e : EntryParts) → HasEntry xs name e → HasEntry (x ∷ xs) name e
+behind name x xs e h = (h.0, Contains-append_right (x ∷ []) xs (h.0, e) h.1, h.2)
+
+first : (x : PlacedEntry) (xs : List PlacedEntry) → Contains (x ∷ xs) x
+first x xs = Contains-append_left (x ∷ []) xs x (Contains-push [] x)
+
+found_by : (b : Bool) (name : Parts) (o : Option EntryParts) (x : PlacedEntry) (xs ys : List PlacedEntry) (e : EntryParts) → have_same_name name x.1.principal ≡ b
+    → ((o' : Option EntryParts) → newest_from o' ys ≡ Some e → Found name o' xs e) → newest_from o (cond b (x ∷ ys) ys) ≡ Some e → Found name o (x ∷ xs) e
+found_by true name o x xs ys e same ih is = elim (ih (newer o x.1) is) [
+  | inl found ↦ elim (newer_is o x.1 e found) [
+    | inl before ↦ inl before
+    | inr this ↦ inr (x.0, subst (λ (z : EntryParts). Contains (x ∷ xs) (x.0, z)) this (first x xs), subst (λ (z : EntryParts). have_same_name name z.principal ≡ true) this same)
+  ]
+  | inr found ↦ inr (behind name x xs e found)
+]
+found_by false name o x xs ys e other ih is = elim (ih o is) [
+  | inl before ↦ inl before
+  | inr found ↦ inr (behind name x xs e found)
+]
+
+found_in : (name : Parts) (o : Option EntryParts) (xs : List PlacedEntry) (e : EntryParts) → newest_from o (filter (λ x. have_same_name name x.1.principal) xs) ≡ Some e → Found name o xs e
+found_in name o [] e is = inl is
+found_in name o (x ∷ xs) e is =
+    found_by (have_same_name name x.1.principal) name o x xs (filter (λ y. have_same_name name y.1.principal) xs) e refl (λ o' h. found_in name o' xs e h) is
+
+pub newest_is : (name : Parts) (xs : List PlacedEntry) (e : EntryParts) → newest name xs ≡ Some e → HasEntry xs name e
+newest_is name xs e is = elim (found_in name None xs e is) [
+  | inl none ↦ absurd cc
+  | inr found ↦ found
+]
+
+-- ---- a name that has an entry has a newest one
+
+-- there is one
+abbrev IsThere : Option EntryParts → Type 0
+IsThere o = (e : EntryParts) × (o ≡ Some e)
+
+stays : (a : EntryParts) (ys : List PlacedEntry) → IsThere (newest_from (Some a) ys)
+stays a [] = (a, refl)
+stays a (y ∷ ys) = stays (cond (is_newer a y.1) y.1 a) ys
+
+begins : (o : Option EntryParts) (x : EntryParts) (ys : List PlacedEntry) → IsThere (newest_from (newer o x) ys)
+begins None x ys = stays x ys
+begins (Some a) x ys = stays (cond (is_newer a x) x a) ys
+
+there_by : (b : Bool) (o : Option EntryParts) (x : PlacedEntry) (ys : List PlacedEntry) → ((b ≡ false) → IsThere (newest_from o ys)) → IsThere (newest_from o (cond b (x ∷ ys) ys))
+there_by true o x ys ih = begins o x.1 ys
+there_by false o x ys ih = ih refl
+
+none_in : (x : PlacedEntry) → Contains [] x → ⊥
+none_in x h = let lt = h.1 in absurd (omega (arith, lt))
+
+there : (name : Parts) (xs : List PlacedEntry) (x : PlacedEntry) → have_same_name name x.1.principal ≡ true → Contains xs x → IsThere (newest name xs)
+there name [] x same h = absurd (none_in x h)
+there name (y ∷ ys) x same h =
+    there_by (have_same_name name y.1.principal) None y (filter (λ z. have_same_name name z.1.principal) ys)
+    (λ other. elim (Contains-append_cases (y ∷ []) ys x h) [
+      | inl here ↦ elim (Contains-push_cases [] y x here) [
+        | inl none ↦ absurd (none_in x none)
+        | inr is ↦ (let clash : true ≡ false = sym same ∙ sym (ap (λ (z : PlacedEntry). have_same_name name z.1.principal) is) ∙ other in absurd cc)
+      ]
+      | inr later ↦ there name ys x same later
+    ])
+
+-- ---- and that is not old
+
+not_other : (e : EntryParts) (o : Option EntryParts) → o ≡ Some e → has_other_version e o ≡ false
+not_other e o is = ap (has_other_version e) is ∙ ap not (eq-eqb e.version e.version refl)
+
+pub newest_kept : (name : Parts) (xs : List PlacedEntry) (e : EntryParts) → newest name xs ≡ Some e → is_old xs e ≡ false
+newest_kept name xs e is =
+    let same = (newest_is name xs e is).2 in
+    let alike : filter (λ (x : PlacedEntry). have_same_name e.principal x.1.principal) xs ≡ filter (λ (x : PlacedEntry). have_same_name name x.1.principal) xs
+        = filter_agree (λ (x : PlacedEntry). have_same_name e.principal x.1.principal) (λ (x : PlacedEntry). have_same_name name x.1.principal) (λ x. sym (same_equiv.congr name e.principal x.1.principal same)) xs in
+    not_other e (newest e.principal xs) (ap (newest_from None) alike ∙ is)
+
+pub name_kept : (xs : List PlacedEntry) (x : PlacedEntry) → Contains xs x → (e : EntryParts) × HasEntry xs x.1.principal e × (is_old xs e ≡ false)
+name_kept xs x h =
+    let name = x.1.principal in
+    let n = there name xs x (same_equiv.refl name) h in
+    (n.0, newest_is name xs n.0 n.1, newest_kept name xs n.0 n.1)

@@ -1,0 +1,20 @@
+-- Laws of the definitions.
+use Rattle.std.specs.Prelude.{◌≡◌, ℕ, List, true, false, Some}
+use Rattle.std.specs.List.{Contains}
+use Rattle.krb_wire.specs.Spelling.{Parts}
+use Rattle.krb_wire.specs.SameName.{have_same_name}
+use Rattle.krb_keytab.specs.Entry.{EntryParts}
+use Rattle.krb_keytab.specs.Find.{PlacedEntry}
+use Rattle.krb_audit.specs.Newest.{newest, is_old}
+
+-- an entry of that name stands somewhere among entries
+abbrev pub HasEntry : List PlacedEntry → Parts → EntryParts → Type 0
+HasEntry xs name e = (place : ℕ) × Contains xs (place, e) × (have_same_name name e.principal ≡ true)
+
+-- the newest entry of a name is one of its entries
+abbrev pub IsOfItsName : Type 0
+IsOfItsName = (name : Parts) (xs : List PlacedEntry) (e : EntryParts) → newest name xs ≡ Some e → HasEntry xs name e
+
+-- each entry's name has an entry that is not old
+abbrev pub KeepsEachName : Type 0
+KeepsEachName = (xs : List PlacedEntry) (x : PlacedEntry) → Contains xs x → (e : EntryParts) × HasEntry xs x.1.principal e × (is_old xs e ≡ false)
