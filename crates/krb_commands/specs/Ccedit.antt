@@ -18,6 +18,7 @@ use Rattle.krb_text.specs.CacheReply.{cache_reply_text}
 use Rattle.krb_text.specs.CacheScript.{CacheLineParts, cache_line_in}
 use Rattle.krb_commands.specs.declared.trouble.FileKind.TheVariants as kind
 use Rattle.krb_commands.specs.Changing.{Edit, edit_over, FairOver}
+use Rattle.krb_commands.specs.Edits.{may_change}
 use Rattle.krb_commands.specs.ErrorOutput.{ErrorWatch}
 use Rattle.krb_commands.specs.Loading.{cache_of}
 use Rattle.krb_commands.specs.Scripted as scripted
@@ -31,6 +32,11 @@ is_refusal said = false
 -- a session over a cache in memory
 abbrev pub cache_session : SessionState InMemory → SessionState CacheState
 cache_session s = session_of (λ k. k.state) s
+
+-- a line that may change a cache
+abbrev pub line_may_change : CacheLineParts → Bool
+line_may_change (asked.Event event) = may_change event
+line_may_change (asked.Setting setting) = true
 
 -- the events that a line asks for when the run reaches it: its event, or those that set its value
 abbrev pub line_events : SessionState CacheState → CacheLineParts → List (Event CredParts)

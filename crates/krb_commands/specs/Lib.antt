@@ -13,6 +13,7 @@ pub mod InputLines
 pub mod Klist
 pub mod Ktfind
 pub mod Changing
+pub mod Edits
 pub mod Sessions
 pub mod Scripted
 pub mod Ktcheck
@@ -28,7 +29,6 @@ pub mod KtutilHonest
 pub mod KtutilTalk
 pub mod KtutilDue
 pub mod Ktutil
-pub mod Edits
 pub mod Options
 pub mod RemoveWords
 pub mod TicketWords

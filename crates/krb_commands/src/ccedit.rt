@@ -136,11 +136,13 @@ fn edit<A: Allocator + Copy>(
 struct CacheEditor;
 
 impl<A: Allocator + Copy> Editor<A, CacheLine<A>> for CacheEditor {
-    ghost use Rattle.krb_commands.specs.Ccedit.{edit_due, edit_fairly};
+    ghost use Rattle.krb_commands.specs.Ccedit.{edit_due, edit_fairly, line_may_change};
 
     ghost due = { λ editor. edit_due };
 
     ghost fairly = { λ editor. edit_fairly };
+
+    ghost changes = { line_may_change };
 
     fn may_change(&self, line: &CacheLine<A>) -> bool {
         match line {

@@ -43,11 +43,14 @@ struct KeytabEditor {
 }
 
 impl<A: Allocator + Copy> Editor<A, Event<NewEntry<A>>> for KeytabEditor {
+    ghost use Rattle.krb_commands.specs.Edits.{may_change};
     ghost use Rattle.krb_commands.specs.Ktedit.{edit_due, edit_fairly};
 
     ghost due = { λ editor. edit_due editor.v1_order };
 
     ghost fairly = { λ editor. edit_fairly editor.v1_order };
+
+    ghost changes = { may_change };
 
     fn may_change(&self, event: &Event<NewEntry<A>>) -> bool {
         may_change(event)

@@ -15,7 +15,7 @@ use std::io::{Read, Write};
 
 /// A kind of file, as the lines `L` of a script edit it.
 pub trait Editor<A: Allocator + Copy, L: ScriptLine<A>> {
-    ghost use Rattle.std.specs.Prelude.{◌≡◌, ℕ, List, Result};
+    ghost use Rattle.std.specs.Prelude.{◌≡◌, ℕ, Bool, List, Result};
     ghost use Rattle.krb_files.specs.declared.files.LoadFault.{LoadFault};
     ghost use Rattle.krb_commands.specs.Changing.{ChangesFile, Edit, FollowsLoad};
     ghost use Rattle.krb_commands.specs.Edits.{run_of};
@@ -27,7 +27,11 @@ pub trait Editor<A: Allocator + Copy, L: ScriptLine<A>> {
     ghost fairly: { Self → List L → Result (List ℕ) LoadFault → Type 0 };
 
     /// Whether a line may change the file.
-    fn may_change(&self, line: &L) -> bool;
+    ghost changes: { L → Bool };
+
+    /// Whether a line may change the file.
+    fn may_change(&self, line: &L) -> bool
+        ensures { result ≡ changes line.now };
 
     /// Runs lines over the file of that name, which is held, and saves it where they changed it.
     fn edit_held<F: Files>(
