@@ -208,7 +208,7 @@ fn look_up(alloc: Global) -> Result<FindOptions<Global>, Fail> {
 }
 
 /// A removal of `host/a@R` of version 3 and enctype 17.
-fn removal(alloc: Global) -> Result<RemoveOptions<Global>, Fail> {
+pub fn removal(alloc: Global) -> Result<RemoveOptions<Global>, Fail> {
     Ok(RemoveOptions {
         selection: Selection {
             name: Some(name(alloc, b"host/a@R")?),
@@ -221,7 +221,7 @@ fn removal(alloc: Global) -> Result<RemoveOptions<Global>, Fail> {
 }
 
 /// A removal of the tickets for `krbtgt/R@R`.
-fn tickets(alloc: Global) -> Result<TicketOptions<Global>, Fail> {
+pub fn tickets(alloc: Global) -> Result<TicketOptions<Global>, Fail> {
     Ok(TicketOptions {
         server: Some(name(alloc, b"krbtgt/R@R")?),
         expired: false,

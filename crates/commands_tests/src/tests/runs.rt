@@ -69,7 +69,7 @@ impl Outcome<'_> {
 }
 
 /// A file `k`, the keytab, and a file `c`, the cache.
-fn files_of<A: Allocator + Copy>(alloc: A) -> Result<MemFiles<A>, AllocError> {
+pub fn files_of<A: Allocator + Copy>(alloc: A) -> Result<MemFiles<A>, AllocError> {
     let mut files = Vec::new(alloc);
     for (name, image) in [("k", IMAGE), ("c", CACHE)] {
         files.push((
