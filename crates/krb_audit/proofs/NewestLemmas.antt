@@ -105,7 +105,7 @@ pub newest_kept : (name : Parts) (xs : List PlacedEntry) (e : EntryParts) → ne
 newest_kept name xs e is =
     let same = (newest_is name xs e is).2 in
     let alike : filter (λ (x : PlacedEntry). have_same_name e.principal x.1.principal) xs ≡ filter (λ (x : PlacedEntry). have_same_name name x.1.principal) xs
-        = filter_agree (λ (x : PlacedEntry). have_same_name e.principal x.1.principal) (λ (x : PlacedEntry). have_same_name name x.1.principal) (λ x. sym (same_equiv.congr name e.principal x.1.principal same)) xs in
+    = filter_agree (λ (x : PlacedEntry). have_same_name e.principal x.1.principal) (λ (x : PlacedEntry). have_same_name name x.1.principal) (λ x. sym (same_equiv.congr name e.principal x.1.principal same)) xs in
     not_other e (newest e.principal xs) (ap (newest_from None) alike ∙ is)
 
 pub name_kept : (xs : List PlacedEntry) (x : PlacedEntry) → Contains xs x → (e : EntryParts) × HasEntry xs x.1.principal e × (is_old xs e ≡ false)
