@@ -25,7 +25,7 @@ MOST = 10_000
 LEAST_WAIT, LONGEST_WAIT = 9, 20
 
 # Runs that wait at the same time, and for how many seconds.
-RUNS, WHILE = 10, 3
+RUNS, WHILE = 8, 3
 
 # A program that waits to lock a file, and one that makes and frees locks of its own without end. Locks are
 # listed by the processor that made them, so these come before those of a higher one.
@@ -37,7 +37,7 @@ with open(sys.argv[1], "wb") as file:
     print(flush=True)
     while True:
         for kind in (fcntl.LOCK_EX, fcntl.LOCK_UN):
-            for at in range(200):
+            for at in range(100):
                 fcntl.lockf(file, kind, 1, 2 * at)
 """
 
@@ -168,15 +168,16 @@ def changing_locks() -> Iterator[None]:
 
 def check_changing_locks(report: Report, program: str) -> None:
     """A lock that is held all the time is waited for by each run, while other locks come and go."""
-    with changing_locks(), ExitStack() as stack, ThreadPoolExecutor(RUNS) as pool:
+    with ExitStack() as stack, ThreadPoolExecutor(RUNS) as pool:
         folders = [stack.enter_context(folder_of({"k": OLD})) for _ in range(RUNS)]
         held = [stack.enter_context(open(os.path.join(folder, "k"), "r+b")) for folder in folders]
         with on_last_processor():
             for file in held:
                 ofd_lock(file, fcntl.F_WRLCK)
-        runs = [pool.submit(edit, program, folder) for folder in folders]
-        time.sleep(WHILE)
-        ended = [run.done() for run in runs]
+        with changing_locks():
+            runs = [pool.submit(edit, program, folder) for folder in folders]
+            time.sleep(WHILE)
+            ended = [run.done() for run in runs]
         for file in held:
             file.close()
         faults = [f"{sum(ended)} of {RUNS} did not wait"] if any(ended) else []
