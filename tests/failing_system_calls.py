@@ -34,6 +34,9 @@ ERRORS = ("EIO", "ENOSPC", "EACCES", "EPERM", "EINTR", "ENOMEM")
 # The calls that are made again where they were interrupted. Reads and writes are not.
 REPEATED = ("open", "openat", "flock", "fchmod", "fsync")
 
+# How often the list of locks is read.
+READINGS = 5
+
 # The errors of fchown that say that the owner may not be given: the mode is narrowed.
 NOT_PERMITTED = ("EACCES", "EPERM")
 
@@ -57,10 +60,15 @@ def load(name: str, nth: int = 1) -> list[Step]:
     return [*(Step(pattern, "load", nth) for pattern in patterns), Step(r"close", "")]
 
 
-def listed() -> list[Step]:
-    """The steps of a look at the list of locks, which is not needed."""
-    patterns = (r'open.*"/proc/locks"', r"\w*stat\w*\(\d", r"read\([1-9]", r"close")
+def looked(path: str) -> list[Step]:
+    """The steps of a look at a file of the system, which is not needed."""
+    patterns = (rf'open.*"{path}"', r"\w*stat\w*\(\d", r"read\([1-9]", r"close")
     return [Step(pattern, "list") for pattern in patterns]
+
+
+def listed() -> list[Step]:
+    """The steps of a look at the locks. That there is none is what several readings in a row say."""
+    return looked("/proc/locks") * READINGS
 
 
 def needed(nth: int, *patterns: str) -> list[Step]:
@@ -73,7 +81,8 @@ def hold(name: str, nth: int = 1) -> list[Step]:
     stat = rf'\w*stat\w*\(.*"{name}"'
     made = needed(nth, stat, r"open.*O_CREAT\|O_EXCL\b.*, 0600\)", r"flock", r"\w*stat\w*\(\d",
                   rf'\w*stat\w*\(.*"{name}\.krbfile"', r"fcntl")
-    return [*made, Step(r"close", ""), *needed(nth, stat), *listed()]
+    disk = [*looked(r"/proc/self/fdinfo/\d+"), *looked("/proc/self/mountinfo")]
+    return [*made, Step(r"close", ""), *disk, *needed(nth, stat), *listed()]
 
 
 def save(name: str, nth: int = 1, is_new: bool = False) -> list[Step]:
