@@ -20,8 +20,8 @@ impl Write for Writes {
     }
 }
 
-/// So the messages of runs that share an error output do not mix. A name of more than 4,096 bytes goes
-/// out on its own.
+/// So the messages of runs that share an error output do not mix. A name for which there is no room goes out
+/// on its own.
 #[test]
 fn a_message_is_one_write(rt: HostRuntime) -> Result<(), Fail> {
     let options = listing(ListKind::Keytab(KtColumns::default()));

@@ -12,7 +12,7 @@ use itoa::Buffer;
 use krb_files::{OutFault, Watched, put};
 use std::io::Write;
 
-// A message that names a file has room in this, with its words, if the name has at most 4,096 bytes.
+// The most bytes of a message and its words that go out in one write.
 const ROOM: usize = 4352;
 
 /// A message as far as it is gathered.
