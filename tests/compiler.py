@@ -24,7 +24,7 @@ REJECTED = re.compile(r"^(?:error\b.*|(?:\./)?src/\S+: error.*)", re.M)
 
 @dataclass(frozen=True)
 class Answer:
-    """What a check says: whether all is proved, each function's open goals, and why it ended before."""
+    """What a check says: whether all is proved, the open goals of each function that is not, and why it gave no verdict."""
 
     is_proved: bool
     goals: dict[str, list[str]]
@@ -81,7 +81,7 @@ def command(verb: str, crate: str, jobs: int) -> list[str]:
 
 
 def goals_of(said: str) -> dict[str, list[str]]:
-    """The open goals of each function that a check names. They stand before its verdict, or in it."""
+    """The open goals of each function that is not proved. They stand before its verdict, or in it."""
     found, before = {}, []
     for line in said.splitlines():
         goal, verdict = OPEN_GOAL.match(line), VERDICT.match(line)
@@ -90,7 +90,8 @@ def goals_of(said: str) -> dict[str, list[str]]:
         elif verdict:
             listed = NOT_FOUND.search(verdict[2])
             goals = before + (re.findall(r"`([\w-]+)`", listed[1]) if listed else [])
-            found[verdict[1]] = sorted(set(goals))
+            if verdict[2] != "proved":
+                found[verdict[1]] = sorted(set(goals))
             before = []
     return found
 
