@@ -18,16 +18,18 @@ from edited import TOP
 OPEN_GOAL = re.compile(r"note: \S+: it is not proved that .*?\(`([\w-]+)`\)")
 NOT_FOUND = re.compile(r"; `search` did not prove (.*)")
 VERDICT = re.compile(r"fn \w+::(\S+): (.*)")
+# A goal's name has the branch where it comes up, which the clause's name has not.
+GOAL = re.compile(r"(returns|.*?-requires)(?:-.*?)??(-clause-[\w-]+)?")
 ENDED = re.compile(r"^only=\d+ proved=\d+$", re.M)
 REJECTED = re.compile(r"^(?:error\b.*|(?:\./)?src/\S+: error.*)", re.M)
 
 
 @dataclass(frozen=True)
 class Answer:
-    """What a check says: whether all is proved, the open goals of each function that is not, and why it gave no verdict."""
+    """What a check says: whether all is proved, each function that is not with its open clauses, and why it ended before."""
 
     is_proved: bool
-    goals: dict[str, list[str]]
+    clauses: dict[str, list[str]]
     rejected: str | None
 
 
@@ -80,8 +82,14 @@ def command(verb: str, crate: str, jobs: int) -> list[str]:
     return [*words, "--crate-type", kind] if kind else words
 
 
-def goals_of(said: str) -> dict[str, list[str]]:
-    """The open goals of each function that is not proved. They stand before its verdict, or in it."""
+def clause_of(goal: str) -> str:
+    """The name of the clause that a goal is of. A loop's goals keep their names."""
+    found = GOAL.fullmatch(goal)
+    return found[1] + (found[2] or "") if found else goal
+
+
+def clauses_of(said: str) -> dict[str, list[str]]:
+    """The open clauses of each function that is not proved. Their goals stand before its verdict, or in it."""
     found, before = {}, []
     for line in said.splitlines():
         goal, verdict = OPEN_GOAL.match(line), VERDICT.match(line)
@@ -91,7 +99,7 @@ def goals_of(said: str) -> dict[str, list[str]]:
             listed = NOT_FOUND.search(verdict[2])
             goals = before + (re.findall(r"`([\w-]+)`", listed[1]) if listed else [])
             if verdict[2] != "proved":
-                found[verdict[1]] = sorted(set(goals))
+                found[verdict[1]] = sorted({clause_of(it) for it in goals})
             before = []
     return found
 
@@ -106,7 +114,7 @@ def check(crate: str, folder: str, only: list[str], kept: str) -> Answer:
     rejected = REJECTED.search(done.stdout)
     if not rejected and not ENDED.search(done.stdout):
         rejected = re.search(r".*\Z", done.stdout.rstrip())
-    return Answer(done.returncode == 0, goals_of(done.stdout), rejected[0] if rejected else None)
+    return Answer(done.returncode == 0, clauses_of(done.stdout), rejected[0] if rejected else None)
 
 
 def link_or_copy(source: str, target: str) -> None:

@@ -3,7 +3,7 @@
 An edit has lines `file: PATH`, and after each any number of pairs `old: TEXT` and `new: TEXT`. The old
 text is in that file once, and further pairs apply to what the earlier ones made. `only: FUNCTION`
 names a function to check, by its path below the crate. `refused: FUNCTION CLAUSE` says which clause is
-then not proved, by the name that the check prints: an `ensures` of the function, or a `requires` of a
+then not proved, as `wrong CRATE NAME` prints it: an `ensures` of the function, or a `requires` of a
 call in it. A loop's invariant is no clause: it serves the proof alone.
 """
 from __future__ import annotations
@@ -21,7 +21,7 @@ PARTS = ("src", "specs", "proofs")
 
 # The functions and clauses that lines `only:` and `refused:` name.
 FUNCTION = re.compile(r"[\w:]+")
-CLAUSE = re.compile(r"([\w:]+) (returns(?:-[\w-]+)?|[\w-]+-requires(?:-[\w-]+)?)")
+CLAUSE = re.compile(r"([\w:]+) ((?:returns|[\w-]+-requires)(?:-clause-[\w-]+)?)")
 
 
 class BadEdit(Exception):
