@@ -1,3 +1,5 @@
+ghost use Rattle.std.specs.Prelude.{◌≤◌, length};
+
 use super::calls::{failed, hold, save, save_in, some_calls};
 use super::clock::Pace;
 use super::disks::{Calls, Disk};
@@ -20,7 +22,9 @@ pub enum Shown {
 
 impl Shown {
     /// Gives what is left of it, as much as has room.
-    pub fn give(&mut self, buf: &mut [u8]) -> usize {
+    pub fn give(&mut self, buf: &mut [u8]) -> usize
+        ensures { result ≤ length buf.old }
+    {
         match *self {
             Shown::Bytes(left) => {
                 let count = left.len().min(buf.len());
