@@ -1,14 +1,14 @@
 //! Each allocation fails in turn: what was not done is as it was, and is done the next time.
 
 use super::edited::{Edited, indexed_of};
-use super::made::{USUAL, b, joined, keytab_of};
-use super::records::{B, HEAD, HOST, UNTYPED_BYTES, VERSION_1};
+use super::made::{USUAL, b, joined, keytab_of, name_of};
+use super::records::{B, B_AND_ZEROS, HEAD, HOST, HOST_17, HOST_18, UNTYPED_BYTES, VERSION_1};
 use super::turns::Told::{Gone, Placed, Rewritten};
 use super::turns::Turn::{Cut, Rewrite};
 use super::turns::{PUT_B, PUT_HOST, Row, check_outcome, events_of};
 use krb_indexed::Indexed;
 use krb_keytab::{Keytab, NewEntry};
-use krb_walk::{Event, Reply, Session};
+use krb_walk::{Code, Event, Refusal, Reply, Session, Stop};
 use krb_wire::{KtFormat, Limits, Order};
 use refusing::{Refusing, refuse_each};
 use std::alloc::{Allocator, Global};
@@ -178,6 +178,11 @@ fn each_allocation_fails_in_turn(rt: HostRuntime) -> Result<(), Fail> {
     Ok(())
 }
 
+/// The lengths of holes of 47 and of 41 bytes.
+const HOLE_47: &[u8] = b"\xff\xff\xff\xd1";
+
+const HOLE_41: &[u8] = b"\xff\xff\xff\xd7";
+
 /// An end mark, and bytes after it that an addition takes.
 const MARK: &[u8] = b"\0\0\0\0";
 
@@ -187,29 +192,71 @@ const BEHIND: &[u8] = &[0xff; 45];
 const NO_GROWTH: &[(&[&[u8]], u32, &[&[u8]])] = &[
     (&[HEAD, MARK, BEHIND], 2, &[HEAD, B, MARK]),
     (&[HEAD, HOST, MARK, BEHIND], 53, &[HEAD, HOST, B, MARK]),
+    (&[HEAD, HOLE_41, &[0; 41], HOST], 2, &[HEAD, B, HOST]),
     (
-        &[HEAD, b"\xff\xff\xff\xd7", &[0; 41], HOST],
+        &[HEAD, HOLE_47, &[0; 47], HOLE_41, &[0; 41]],
         2,
-        &[HEAD, B, HOST],
+        &[HEAD, b"\0\0\0\x2f", B_AND_ZEROS, HOLE_41, &[0; 41]],
     ),
 ];
 
+/// Adds an entry where every allocation fails.
+fn put<P: krb_walk::Placed>(
+    heap: &Refusing<Global>,
+    store: &mut P,
+    entry: &P::Item,
+) -> Result<u32, Refusal> {
+    heap.refuse_from(0);
+    let added = store.put(entry);
+    heap.grant();
+    added
+}
+
+/// Removes one where every allocation fails.
+fn cut<P: krb_walk::Placed>(
+    heap: &Refusing<Global>,
+    store: &mut P,
+    place: u32,
+) -> Result<(), Code> {
+    heap.refuse_from(0);
+    let removed = store.cut(place);
+    heap.grant();
+    removed
+}
+
 /// The first addition after the cells, where the image does not grow, needs no room in the table either.
 #[test]
-fn what_takes_no_memory_succeeds_where_all_is_refused(rt: HostRuntime) -> Result<(), Fail> {
+fn changes_without_growth_take_no_memory(rt: HostRuntime) -> Result<(), Fail> {
     let heap = Refusing::new(rt.alloc());
     let entry = b(&heap)?;
     for (before, place, after) in NO_GROWTH {
+        let after = joined(rt.alloc(), after)?;
+        let mut keytab = keytab_of(joined(&heap, before)?, USUAL)?;
+        assert!(rt; put(&heap, &mut keytab, &entry) == Ok(*place));
+        assert!(rt; keytab.image() == after.as_slice());
+        assert!(rt; cut(&heap, &mut keytab, *place) == Ok(()));
         let mut indexed = indexed_of(joined(&heap, before)?, USUAL)?;
-        heap.refuse_from(0);
-        let added = indexed.add(&entry);
-        heap.grant();
-        assert!(rt; added == Ok(*place));
-        assert!(rt; indexed.image() == joined(rt.alloc(), after)?.as_slice());
-        heap.refuse_from(0);
-        let removed = indexed.remove_at(*place);
-        heap.grant();
-        assert!(rt; removed == Ok(()));
+        assert!(rt; put(&heap, &mut indexed, &entry) == Ok(*place));
+        assert!(rt; indexed.image() == after.as_slice());
+        assert!(rt; cut(&heap, &mut indexed, *place) == Ok(()));
     }
+    Ok(())
+}
+
+/// A look-up, a removal by name, and a step of a walk where every allocation fails.
+#[test]
+fn look_ups_and_steps_take_no_memory(rt: HostRuntime) -> Result<(), Fail> {
+    let heap = Refusing::new(rt.alloc());
+    let name = name_of(&heap, b"host/a@R")?;
+    let image = joined(&heap, &[HEAD, HOST, HOST_18, HOST_17])?;
+    let mut keytab = keytab_of(image, USUAL)?;
+    heap.refuse_from(0);
+    assert!(rt; keytab.remove(&name, 0, 17) == Ok(120));
+    let (place, _) = keytab.find(&name, 0, 0)?;
+    assert_eq!(rt; place, 53);
+    let mut session = Session::new(&heap, keytab);
+    assert!(rt; session.apply(&Event::Start).is_ok());
+    assert!(rt; session.step(0) == Ok(Stop::Live { place: 2, next: 53 }));
+    assert_eq!(rt; heap.requests(), 0);
     Ok(())
 }

@@ -2,7 +2,7 @@
 
 use super::edited::Edited;
 use super::made::{USUAL, entry_of, joined};
-use super::records::{HIGH_KEY, LOW_KEY};
+use super::records::{C_KEY, HIGH_KEY, LOW_KEY};
 use krb_indexed::Indexed;
 use krb_keytab::{Keytab, NewEntry};
 use krb_walk::{Code, Event, FaultKind, Reply};
@@ -14,16 +14,19 @@ use std::test::Fail;
 #[derive(Clone, Copy)]
 pub enum Turn {
     Start,
+    Resume(u32),
     Step(u32),
     Put(&'static [u8], (u32, u16, u32), &'static [u8]),
     Cut(u32),
     Rewrite,
 }
 
-/// Puts the entry of the record `HOST` and of `B`.
+/// Puts the entry of the record `HOST`, of `B` and of `C_AND_ZEROS`.
 pub const PUT_HOST: Turn = Turn::Put(b"host/a@R", (3, 17, 1_700_000_000), LOW_KEY);
 
 pub const PUT_B: Turn = Turn::Put(b"b@R", (3, 17, 1_700_000_000), HIGH_KEY);
+
+pub const PUT_C: Turn = Turn::Put(b"c@R", (3, 17, 1_700_000_000), C_KEY);
 
 /// A reply: the walk first, then places.
 #[derive(Clone, Copy, PartialEq, Eq)]
@@ -50,6 +53,7 @@ pub struct Row<'a> {
 fn event_of<A: Allocator + Copy>(alloc: A, turn: Turn) -> Result<Event<NewEntry<A>>, Fail> {
     Ok(match turn {
         Turn::Start => Event::Start,
+        Turn::Resume(place) => Event::Resume(place),
         Turn::Step(walk) => Event::Step(walk),
         Turn::Put(name, numbers, key) => Event::Put(entry_of(alloc, name, numbers, key)?),
         Turn::Cut(place) => Event::Cut(place),
