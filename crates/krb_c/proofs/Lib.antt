@@ -6,4 +6,5 @@ pub mod CacheKnown
 pub mod NameLemmas
 pub mod CacheUnread
 pub mod Deeper
+pub mod Refused
 mod Sent

@@ -12,7 +12,7 @@ use Rattle.krb_c.specs.contracts.held.Held as Held
 use Rattle.krb_c.specs.Heap.{heap_row, heap_ghosts}
 
 sent : IsSend heap_row
-sent = search (sendable, heap.send)
+sent = search (sendable, heap.send) depth 20
 
 freed : Frees heap_ghosts heap_ghosts.dealloc_token
 freed = record { frees = λ a τ p. heap.frees.frees a.inner.heap τ p }

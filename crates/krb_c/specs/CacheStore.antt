@@ -1,9 +1,8 @@
 -- Changes of a cache that C asks for.
-use Rattle.std.specs.Prelude.{◌≡◌, ℕ, List, [], Bool, ◌&&◌, nat_lt, None, Result, Ok, Err, IsOk, ◌⊎◌, if◌then◌else◌}
+use Rattle.std.specs.Prelude.{ℕ, List, [], Bool, ◌&&◌, nat_lt, None, Result, Ok, Err, IsOk, ◌⊎◌, if◌then◌else◌}
 use Rattle.krb_wire.specs.Spelling.{Parts}
 use Rattle.krb_wire.specs.NameOf.{name_of}
 use Rattle.krb_wire.specs.declared.name_fault.NameFault.{NameFault}
-use Rattle.krb_walk.specs.declared.refusal.Code.{Code}
 use Rattle.krb_ccache.specs.Credential.{CredParts, plain_key}
 use Rattle.krb_ccache.specs.Store.{CacheState}
 use Rattle.krb_ccache.specs.Changes.{put_result}

@@ -54,7 +54,21 @@ pub fn remove(held: &mut HeldCache, place: u32) -> u32
     }
 }
 
-/// Sets a configuration value, and tells the place of its entry.
+// Sets a configuration value, and tells the place of its entry.
+fn set(held: &mut HeldCache, key: &[u8], principal: &[u8], value: &[u8], place: &mut u32) -> u32
+    ensures { Adds (set_config_result held.old.state key.now (text_or_none principal.now) value.now)
+        held.old.state result place.old place.new held.new.state }
+{
+    match held.set_config(key, some_text(principal), value) {
+        Ok(put) => {
+            *place = put;
+            DONE
+        }
+        Err(refusal) => of_refusal(refusal),
+    }
+}
+
+/// Sets a configuration value, whose bytes may lie in the cache, and tells the place of its entry.
 pub fn set_config(
     alloc: Global,
     held: &mut HeldCache,
@@ -75,13 +89,7 @@ pub fn set_config(
     let Ok(value) = copied(alloc, value) else {
         return NO_MEMORY;
     };
-    match held.set_config(&key, some_text(&principal), &value) {
-        Ok(put) => {
-            *place = put;
-            DONE
-        }
-        Err(refusal) => of_refusal(refusal),
-    }
+    set(held, &key, &principal, &value, place)
 }
 
 /// Writes the live credentials anew, and carries each cursor along.

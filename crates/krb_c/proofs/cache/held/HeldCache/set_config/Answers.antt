@@ -1,4 +1,4 @@
 use Rattle.krb_c.proofs.cache.held.HeldCache.set_config.Goals as goal
 
-pub returns-clause-gives : goal.returns-clause-gives
-returns-clause-gives c = rw (← c.self.view_is) c.set_config.ensures.gives
+pub returns : goal.returns
+returns c = rw (← c.self.view_is) c.set_config.ensures.gives
