@@ -146,7 +146,7 @@ fn a_cut_cache_is_read_up_to_the_cut(rt: HostRuntime) -> Result<(), Fail> {
 }
 
 #[test]
-fn an_address_count_without_addresses_is_a_fault(rt: HostRuntime) -> Result<(), Fail> {
+fn a_component_count_without_components_is_a_fault(rt: HostRuntime) -> Result<(), Fail> {
     let cache = opened(joined(
         rt.alloc(),
         &[HEADER, OWNER, b"\0\0\0\x01\xff\xff\xff\xff\0\0\0\x01R"],

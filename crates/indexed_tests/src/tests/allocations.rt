@@ -226,7 +226,7 @@ fn cut<P: krb_walk::Placed>(
 
 /// The first addition after the cells, where the image does not grow, needs no room in the table either.
 #[test]
-fn changes_without_growth_take_no_memory(rt: HostRuntime) -> Result<(), Fail> {
+fn what_takes_no_memory_succeeds_where_all_is_refused(rt: HostRuntime) -> Result<(), Fail> {
     let heap = Refusing::new(rt.alloc());
     let entry = b(&heap)?;
     for (before, place, after) in NO_GROWTH {
