@@ -5,6 +5,7 @@ import os
 import subprocess
 import sys
 
+import python_limits
 from cache_images import Credential, Name, cache, config, credentials
 from harness import SECONDS, Outcome, Report
 from images import B, TWO, Entry, entries
@@ -264,6 +265,7 @@ SCRIPTS = (
     ("caches", CACHES, credentials(TICKET, PA_TYPE), wanted_caches),
     ("what it refuses", REFUSED, TWO, wanted_refused),
     ("threads", THREADS, TWO, wanted_threads),
+    *python_limits.SCRIPTS,
     ("components", COMPONENTS, entries(*(Entry(name, b"R/@") for name in NAMES)), wanted_components),
 )
 
