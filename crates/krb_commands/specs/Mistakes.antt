@@ -56,6 +56,11 @@ abbrev pub word_text : Bool → WordFault → List ℕ
 word_text explains word.NoMemory = message (codes "out of memory")
 word_text explains (word.BadLine line) = message (codes "bad command line") ++ words_if explains (mistake_words line.mistake (option_map (λ command. command.now) line.command))
 
+-- the number of why words were not read
+abbrev pub word_number : WordFault → ℕ
+word_number (word.BadLine line) = 1
+word_number word.NoMemory = 2
+
 -- the status of a run that has no words to run by
 abbrev pub word_status : WordFault → ℕ
 word_status (word.BadLine line) = 2

@@ -6,14 +6,14 @@ use krb_wire::{Order, Principal};
 use std::alloc::{Allocator, Global};
 
 /// The kind of file that klist lists, and what it shows of it.
-#[derive(Clone, Copy, Debug, PartialEq, Eq)]
+#[derive(Clone, Copy)]
 pub enum ListKind {
     Keytab(KtColumns),
     Cache(CcColumns),
 }
 
 /// The options of klist.
-#[derive(Clone, Copy, Debug, PartialEq, Eq)]
+#[derive(Clone, Copy)]
 pub struct KlistOptions {
     pub kind: ListKind,
     /// The order of a keytab of version 1.

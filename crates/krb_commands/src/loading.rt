@@ -17,7 +17,7 @@ use std::alloc::Allocator;
 pub const MOST_BYTES: u32 = 16_777_216;
 
 /// Why a file gave no keytab.
-#[derive(Clone, Copy, Debug, PartialEq, Eq)]
+#[derive(Clone, Copy)]
 pub enum NoKeytab {
     /// It was not loaded, or there was no memory for a new one.
     Load(LoadFault),
@@ -26,14 +26,14 @@ pub enum NoKeytab {
 }
 
 /// Why an image is no keytab, and whether it begins as a cache.
-#[derive(Clone, Copy, Debug, PartialEq, Eq)]
+#[derive(Clone, Copy, PartialEq, Eq)]
 pub struct NotKeytab {
     pub fault: KtOpenFault,
     pub is_cache: bool,
 }
 
 /// Why an image is no cache, and whether it begins as a keytab or as a cache of version 1 or 2.
-#[derive(Clone, Copy, Debug, PartialEq, Eq)]
+#[derive(Clone, Copy)]
 pub struct NotCache {
     pub fault: CcOpenFault,
     pub is_keytab: bool,

@@ -12,14 +12,14 @@ use krb_walk::{Code, Fault};
 use krb_wire::NoMemory;
 
 /// The kind of file that a run changes.
-#[derive(Clone, Copy, Debug, PartialEq, Eq)]
+#[derive(Clone, Copy)]
 pub enum FileKind {
     Keytab,
     Cache,
 }
 
 /// What was found about a keytab: which words were printed, the fault, and whether something is wrong.
-#[derive(Clone, Copy, Debug, PartialEq, Eq)]
+#[derive(Clone, Copy)]
 pub struct Findings {
     pub words: krb_audit::Told,
     pub fault: Option<Fault>,
@@ -28,7 +28,7 @@ pub struct Findings {
 
 /// What ends a run, or a line of ktutil, before its end. The file is the one that the run or the line
 /// names; a line has its number, counted from 1.
-#[derive(Clone, Copy, Debug, PartialEq, Eq)]
+#[derive(Clone, Copy)]
 pub enum Trouble {
     InputTooLarge,
     InputNotRead,

@@ -8,7 +8,7 @@ use std::alloc::AllocError;
 
 /// What is wrong with a command line. A word is shown as it stands there, an operand that is missing by its name
 /// in the synopsis.
-#[derive(Clone, Copy, Debug, PartialEq, Eq)]
+#[derive(Clone, Copy)]
 pub enum Mistake<'a> {
     NoCommand,
     UnknownCommand(&'a str),
@@ -31,21 +31,21 @@ pub enum Mistake<'a> {
 }
 
 /// A mistake, and the command whose help says more, where there is one.
-#[derive(Clone, Copy, Debug, PartialEq, Eq)]
+#[derive(Clone, Copy)]
 pub struct BadLine<'a> {
     pub mistake: Mistake<'a>,
     pub command: Option<&'a str>,
 }
 
 /// Why a command line was not read.
-#[derive(Clone, Copy, Debug, PartialEq, Eq)]
+#[derive(Clone, Copy)]
 pub enum WordFault<'a> {
     BadLine(BadLine<'a>),
     NoMemory,
 }
 
 impl<'a> WordFault<'a> {
-    ghost use Rattle.krb_commands.specs.Mistakes.{IsMistake};
+    ghost use Rattle.krb_commands.specs.Mistakes.{IsMistake, word_number};
 
     /// That the words of that command have that mistake.
     pub fn of(command: &'a str, mistake: Mistake<'a>) -> WordFault<'a>
@@ -55,6 +55,16 @@ impl<'a> WordFault<'a> {
             mistake,
             command: Some(command),
         })
+    }
+
+    /// 1 for a bad line, 2 where an allocation failed.
+    pub fn number(self) -> u32
+        ensures { result ≡ word_number self }
+    {
+        match self {
+            WordFault::BadLine(_) => 1,
+            WordFault::NoMemory => 2,
+        }
     }
 }
 

@@ -9,7 +9,7 @@ use krb_text::LineFault;
 use krb_walk::Code;
 
 /// How a line ends. Where an allocation failed, also one for a file, that is `NoMemory`.
-#[derive(Clone, Copy, Debug, PartialEq, Eq)]
+#[derive(Clone, Copy, PartialEq, Eq)]
 pub enum LineEnd {
     Done,
     Quit,

@@ -11,7 +11,7 @@ use std::alloc::Allocator;
 
 /// The kind of file that replies speak of, and the codes and the faults that they tell of, each at its place in
 /// the order of their numbers.
-#[derive(Clone, Copy, Debug, PartialEq, Eq)]
+#[derive(Clone, Copy)]
 pub struct Told {
     pub kind: FileKind,
     pub codes: [Option<Code>; 11],
