@@ -6,11 +6,6 @@ use std::alloc::{AllocError, Global};
 /// The version, and the toolchain whose proofs and compiler it stands on.
 const VERSION: &str = "1.0 (rattle logic dac8208d650f15bf)";
 
-/// The commands, in the order in which help lists them.
-const NAMES: [&str; 8] = [
-    "klist", "ktedit", "ktfind", "ktremove", "ktcheck", "ccedit", "ccremove", "ktutil",
-];
-
 /// The two forms of klist.
 const KLIST_USAGE: &str = "\
 krbfile klist [-c] [-e] [-f] [-C] [--json] FILE
@@ -51,191 +46,212 @@ Commands, each on a line, and their short names:
   clear_list, clear          Empties the list
   quit, q, exit              Ends";
 
-fn flag<'a>(alloc: Global, id: &'a str, letter: char, help: &'a str) -> Arg<'a> {
-    Arg::new(alloc, id)
-        .short(letter)
-        .action(ArgAction::SetTrue)
-        .help(help)
+/// What --v1-big does.
+const V1_BIG: Word = Word::LongFlag("v1-big", "Version 1 files are big-endian");
+
+/// What -n does.
+const DRY_RUN: Word = Word::Flag(
+    "dry-run",
+    'n',
+    "Tell what would be removed, and save nothing",
+);
+
+/// A word of a command line: its name, its letter if it has one, the name of its value, and what help says of it.
+#[derive(Clone, Copy)]
+enum Word {
+    Flag(&'static str, char, &'static str),
+    LongFlag(&'static str, &'static str),
+    Valued(&'static str, char, &'static str, &'static str),
+    Operand(&'static str, &'static str),
 }
 
-fn long_flag<'a>(alloc: Global, name: &'a str, help: &'a str) -> Arg<'a> {
-    Arg::new(alloc, name)
-        .long(name)
-        .action(ArgAction::SetTrue)
-        .help(help)
+/// A command: its name, what help says of it, how it is used, what help says after that, and its words.
+#[derive(Clone, Copy)]
+struct Line {
+    name: &'static str,
+    about: &'static str,
+    usage: &'static str,
+    after_help: Option<&'static str>,
+    words: &'static [Word],
 }
 
-fn v1_big<'a>(alloc: Global) -> Arg<'a> {
-    long_flag(alloc, "v1-big", "Version 1 files are big-endian")
-}
+/// The commands, in the order in which help lists them.
+const LINES: &[Line] = &[
+    Line {
+        name: "klist",
+        about: "Lists a keytab or a credential cache",
+        usage: KLIST_USAGE,
+        after_help: None,
+        words: &[
+            Word::Flag("cache", 'c', "List a credential cache (the default)"),
+            Word::Flag("flags", 'f', "Show the flags of tickets"),
+            Word::Flag("configs", 'C', "Show configuration entries"),
+            Word::Flag("keytab", 'k', "List a keytab"),
+            Word::Flag("times", 't', "Show the times of entries"),
+            Word::Flag("keys", 'K', "Show the keys of entries"),
+            Word::Flag("etypes", 'e', "Show encryption types"),
+            V1_BIG,
+            Word::LongFlag("json", JSON_HELP),
+            Word::Operand("FILE", "The file to list"),
+        ],
+    },
+    Line {
+        name: "ktedit",
+        about: "Edits a keytab by a script from the standard input",
+        usage: "krbfile ktedit [--v1-big] FILE < SCRIPT",
+        after_help: Some(SCRIPT),
+        words: &[
+            V1_BIG,
+            Word::Operand("FILE", "The file to edit, made where it is missing"),
+        ],
+    },
+    Line {
+        name: "ktfind",
+        about: "Finds an entry in a keytab",
+        usage: "krbfile ktfind [--v1-big] FILE KVNO ETYPE NAME",
+        after_help: None,
+        words: &[
+            V1_BIG,
+            Word::Operand("FILE", "The file to look in"),
+            Word::Operand("KVNO", "The key version, 0 for the highest"),
+            Word::Operand("ETYPE", "The encryption type by name or number, 0 for any"),
+            Word::Operand("NAME", "The principal, with its realm"),
+        ],
+    },
+    Line {
+        name: "ktremove",
+        about: "Removes entries from a keytab",
+        usage: "krbfile ktremove [--v1-big] [-n] [-p NAME] [-k KVNO|old] [-e ETYPE].. FILE",
+        after_help: None,
+        words: &[
+            DRY_RUN,
+            Word::Valued(
+                "name",
+                'p',
+                "NAME",
+                "Entries of that principal, with its realm",
+            ),
+            Word::Valued(
+                "kvno",
+                'k',
+                "KVNO",
+                "Entries of that version; old: those older than the newest",
+            ),
+            Word::Valued(
+                "etype",
+                'e',
+                "ETYPE",
+                "Entries of that encryption type, by name or number; may be repeated",
+            ),
+            V1_BIG,
+            Word::Operand("FILE", "The file to remove from"),
+        ],
+    },
+    Line {
+        name: "ktcheck",
+        about: "Tells what is wrong with a keytab",
+        usage: "krbfile ktcheck [--v1-big] FILE",
+        after_help: None,
+        words: &[V1_BIG, Word::Operand("FILE", "The file to check")],
+    },
+    Line {
+        name: "ccedit",
+        about: "Edits a credential cache by a script from the standard input",
+        usage: "krbfile ccedit FILE < SCRIPT",
+        after_help: Some(CACHE_SCRIPT),
+        words: &[Word::Operand("FILE", "The file to edit")],
+    },
+    Line {
+        name: "ccremove",
+        about: "Removes tickets from a credential cache",
+        usage: "krbfile ccremove [-n] [-p SERVICE] [--expired] FILE",
+        after_help: None,
+        words: &[
+            DRY_RUN,
+            Word::Valued(
+                "service",
+                'p',
+                "SERVICE",
+                "Tickets for that service, with its realm",
+            ),
+            Word::LongFlag("expired", "Tickets that have ended"),
+            Word::Operand("FILE", "The file to remove from"),
+        ],
+    },
+    Line {
+        name: "ktutil",
+        about: "Edits a list of entries by commands from the standard input",
+        usage: "krbfile ktutil [--v1-big] < COMMANDS",
+        after_help: Some(COMMANDS),
+        words: &[V1_BIG],
+    },
+];
 
-fn explain<'a>(alloc: Global) -> Arg<'a> {
-    let help = "Say in words too what goes wrong, as on a terminal; stands first";
-    long_flag(alloc, "explain", help)
-}
-
-fn dry_run<'a>(alloc: Global) -> Arg<'a> {
-    let help = "Tell what would be removed, and save nothing";
-    flag(alloc, "dry-run", 'n', help)
-}
-
-fn option<'a>(alloc: Global, id: &'a str, letter: char, value: &'a str, help: &'a str) -> Arg<'a> {
-    Arg::new(alloc, id)
-        .short(letter)
-        .action(ArgAction::Append)
-        .value_name(value)
-        .help(help)
-}
-
-fn operand<'a>(alloc: Global, name: &'a str, help: &'a str) -> Arg<'a> {
-    Arg::new(alloc, name).required(true).help(help)
-}
-
-fn klist_command<'a>(alloc: Global) -> Result<Command<'a>, AllocError> {
-    Command::new(alloc, "klist")
-        .about("Lists a keytab or a credential cache")
-        .override_usage(KLIST_USAGE)
-        .args_override_self(true)
-        .arg(flag(alloc, "cache", 'c', "List a credential cache (the default)"))?
-        .arg(flag(alloc, "flags", 'f', "Show the flags of tickets"))?
-        .arg(flag(alloc, "configs", 'C', "Show configuration entries"))?
-        .arg(flag(alloc, "keytab", 'k', "List a keytab"))?
-        .arg(flag(alloc, "times", 't', "Show the times of entries"))?
-        .arg(flag(alloc, "keys", 'K', "Show the keys of entries"))?
-        .arg(flag(alloc, "etypes", 'e', "Show encryption types"))?
-        .arg(v1_big(alloc))?
-        .arg(long_flag(alloc, "json", JSON_HELP))?
-        .arg(operand(alloc, "FILE", "The file to list"))
-}
-
-fn ktedit_command<'a>(alloc: Global) -> Result<Command<'a>, AllocError> {
-    Command::new(alloc, "ktedit")
-        .about("Edits a keytab by a script from the standard input")
-        .override_usage("krbfile ktedit [--v1-big] FILE < SCRIPT")
-        .after_help(SCRIPT)
-        .args_override_self(true)
-        .arg(v1_big(alloc))?
-        .arg(operand(alloc, "FILE", "The file to edit, made where it is missing"))
-}
-
-fn ktfind_command<'a>(alloc: Global) -> Result<Command<'a>, AllocError> {
-    Command::new(alloc, "ktfind")
-        .about("Finds an entry in a keytab")
-        .override_usage("krbfile ktfind [--v1-big] FILE KVNO ETYPE NAME")
-        .args_override_self(true)
-        .arg(v1_big(alloc))?
-        .arg(operand(alloc, "FILE", "The file to look in"))?
-        .arg(operand(alloc, "KVNO", "The key version, 0 for the highest"))?
-        .arg(operand(
-            alloc,
-            "ETYPE",
-            "The encryption type by name or number, 0 for any",
-        ))?
-        .arg(operand(alloc, "NAME", "The principal, with its realm"))
-}
-
-fn ktcheck_command<'a>(alloc: Global) -> Result<Command<'a>, AllocError> {
-    Command::new(alloc, "ktcheck")
-        .about("Tells what is wrong with a keytab")
-        .override_usage("krbfile ktcheck [--v1-big] FILE")
-        .args_override_self(true)
-        .arg(v1_big(alloc))?
-        .arg(operand(alloc, "FILE", "The file to check"))
-}
-
-fn ktremove_command<'a>(alloc: Global) -> Result<Command<'a>, AllocError> {
-    Command::new(alloc, "ktremove")
-        .about("Removes entries from a keytab")
-        .override_usage(
-            "krbfile ktremove [--v1-big] [-n] [-p NAME] [-k KVNO|old] [-e ETYPE].. FILE",
-        )
-        .args_override_self(true)
-        .arg(dry_run(alloc))?
-        .arg(option(
-            alloc,
-            "name",
-            'p',
-            "NAME",
-            "Entries of that principal, with its realm",
-        ))?
-        .arg(option(
-            alloc,
-            "kvno",
-            'k',
-            "KVNO",
-            "Entries of that version; old: those older than the newest",
-        ))?
-        .arg(option(
-            alloc,
-            "etype",
-            'e',
-            "ETYPE",
-            "Entries of that encryption type, by name or number; may be repeated",
-        ))?
-        .arg(v1_big(alloc))?
-        .arg(operand(alloc, "FILE", "The file to remove from"))
-}
-
-fn ccedit_command<'a>(alloc: Global) -> Result<Command<'a>, AllocError> {
-    Command::new(alloc, "ccedit")
-        .about("Edits a credential cache by a script from the standard input")
-        .override_usage("krbfile ccedit FILE < SCRIPT")
-        .after_help(CACHE_SCRIPT)
-        .args_override_self(true)
-        .arg(operand(alloc, "FILE", "The file to edit"))
-}
-
-fn ccremove_command<'a>(alloc: Global) -> Result<Command<'a>, AllocError> {
-    Command::new(alloc, "ccremove")
-        .about("Removes tickets from a credential cache")
-        .override_usage("krbfile ccremove [-n] [-p SERVICE] [--expired] FILE")
-        .args_override_self(true)
-        .arg(dry_run(alloc))?
-        .arg(option(
-            alloc,
-            "service",
-            'p',
-            "SERVICE",
-            "Tickets for that service, with its realm",
-        ))?
-        .arg(long_flag(alloc, "expired", "Tickets that have ended"))?
-        .arg(operand(alloc, "FILE", "The file to remove from"))
-}
-
-fn ktutil_command<'a>(alloc: Global) -> Result<Command<'a>, AllocError> {
-    Command::new(alloc, "ktutil")
-        .about("Edits a list of entries by commands from the standard input")
-        .override_usage("krbfile ktutil [--v1-big] < COMMANDS")
-        .after_help(COMMANDS)
-        .args_override_self(true)
-        .arg(v1_big(alloc))
-}
-
-fn command_of<'a>(alloc: Global, name: &str) -> Result<Command<'a>, AllocError> {
-    match name {
-        "klist" => klist_command(alloc),
-        "ktedit" => ktedit_command(alloc),
-        "ktfind" => ktfind_command(alloc),
-        "ktremove" => ktremove_command(alloc),
-        "ktcheck" => ktcheck_command(alloc),
-        "ccedit" => ccedit_command(alloc),
-        "ccremove" => ccremove_command(alloc),
-        _ => ktutil_command(alloc),
+fn arg_of<'a>(alloc: Global, word: Word) -> Arg<'a> {
+    match word {
+        Word::Flag(id, letter, help) => Arg::new(alloc, id)
+            .short(letter)
+            .action(ArgAction::SetTrue)
+            .help(help),
+        Word::LongFlag(name, help) => Arg::new(alloc, name)
+            .long(name)
+            .action(ArgAction::SetTrue)
+            .help(help),
+        Word::Valued(id, letter, value, help) => Arg::new(alloc, id)
+            .short(letter)
+            .action(ArgAction::Append)
+            .value_name(value)
+            .help(help),
+        Word::Operand(name, help) => Arg::new(alloc, name).required(true).help(help),
     }
+}
+
+fn empty_command<'a>(alloc: Global, line: &Line) -> Command<'a> {
+    let command = Command::new(alloc, line.name)
+        .about(line.about)
+        .override_usage(line.usage)
+        .args_override_self(true);
+    match line.after_help {
+        Some(text) => command.after_help(text),
+        None => command,
+    }
+}
+
+fn command_of<'a>(alloc: Global, line: &Line) -> Result<Command<'a>, AllocError> {
+    let mut command = empty_command(alloc, line);
+    for word in line.words {
+        command = command.arg(arg_of(alloc, *word))?;
+    }
+    Ok(command)
+}
+
+// The program's own words.
+fn top_command<'a>(alloc: Global) -> Result<Command<'a>, AllocError> {
+    let help = "Say in words too what goes wrong, as on a terminal; stands first";
+    Command::new(alloc, "krbfile")
+        .version(VERSION)
+        .about("Lists and edits Kerberos keytabs and credential caches")
+        .subcommand_required(true)
+        .arg(arg_of(alloc, Word::LongFlag("explain", help)))
+}
+
+// Whether a word is the name of a command.
+fn is_command(word: Option<&str>) -> bool {
+    LINES.iter().any(|line| word == Some(line.name))
+}
+
+fn with_line<'a>(alloc: Global, all: Command<'a>, line: &Line) -> Result<Command<'a>, AllocError> {
+    all.subcommand(command_of(alloc, line)?)
 }
 
 /// The command lines: where the word is a command's name that of this command alone, so that a run does not build
 /// the others, and else all.
 pub fn krbfile_command<'a>(alloc: Global, word: Option<&str>) -> Result<Command<'a>, AllocError> {
-    let mut krbfile = Command::new(alloc, "krbfile")
-        .version(VERSION)
-        .about("Lists and edits Kerberos keytabs and credential caches")
-        .subcommand_required(true)
-        .arg(explain(alloc))?;
-    let is_command = NAMES.iter().any(|name| word == Some(*name));
-    for name in NAMES {
-        if !is_command || word == Some(name) {
-            krbfile = krbfile.subcommand(command_of(alloc, name)?)?;
+    let mut krbfile = top_command(alloc)?;
+    let is_alone = is_command(word);
+    for line in LINES {
+        if !is_alone || word == Some(line.name) {
+            krbfile = with_line(alloc, krbfile, line)?;
         }
     }
     Ok(krbfile)
