@@ -9,20 +9,22 @@ use krb_files::Files;
 use krb_keytab::{Keytab, NewEntry};
 use krb_wire::{Limits, Order, parse_name};
 use rotation::rotate;
+use std::alloc::Global;
 use std::env;
+use std::io::Print;
 
-fn main(rt: HostRuntime) -> anyhow::Result<()> {
-    let alloc = rt.alloc();
-    let words: Vec<String> = env::args(&rt)?.collect(alloc)?;
-    let [_, file, name, key, seconds] = words.as_slice() else {
-        bail!("usage: rotate_keys FILE NAME KEY SECONDS");
-    };
-    let mut files = DiskFiles::new(&rt);
-    files.hold(file.as_str());
-    let image = files.load(alloc, file.as_str(), Limits::usual().image())?;
+fn keytab_of<F: Files>(alloc: Global, files: &mut F, file: &str) -> anyhow::Result<Keytab<Global>> {
+    let image = files.load(alloc, file, Limits::usual().image())?;
     let opened = Keytab::open(image, Order::Little, Limits::usual());
-    let mut keytab = opened.map_err(|refused| refused.why)?;
+    Ok(opened.map_err(|refused| refused.why)?)
+}
 
+// The entry with the next key of a name, and the version of its last one.
+fn next_key(
+    alloc: Global,
+    keytab: &Keytab<Global>,
+    [name, key, seconds]: [&str; 3],
+) -> anyhow::Result<(NewEntry<Global>, u32)> {
     let name = parse_name(alloc, name.as_bytes(), None)?;
     let (_, last) = keytab.find(&name, 0, 0)?;
     let (last, enctype) = (last.kvno(), last.enctype());
@@ -33,10 +35,28 @@ fn main(rt: HostRuntime) -> anyhow::Result<()> {
         enctype,
         key: hex::decode(alloc, key)?,
     };
-    rotate(alloc, &mut keytab, &next, last)?;
-    files.save(file.as_str(), keytab.image())?;
+    Ok((next, last))
+}
+
+fn print_versions(rt: &impl Print, keytab: &Keytab<Global>) -> anyhow::Result<()> {
     for (place, entry) in keytab.entries() {
         println!(rt; "{place}: version {}", entry.kvno())?;
     }
     Ok(())
+}
+
+fn main(rt: HostRuntime) -> anyhow::Result<()> {
+    let alloc = rt.alloc();
+    let words: Vec<String> = env::args(&rt)?.collect(alloc)?;
+    let [_, file, name, key, seconds] = words.as_slice() else {
+        bail!("usage: rotate_keys FILE NAME KEY SECONDS");
+    };
+    let mut files = DiskFiles::new(&rt);
+    files.hold(file.as_str());
+    let mut keytab = keytab_of(alloc, &mut files, file.as_str())?;
+    let asked = [name.as_str(), key.as_str(), seconds.as_str()];
+    let (next, last) = next_key(alloc, &keytab, asked)?;
+    rotate(alloc, &mut keytab, &next, last)?;
+    files.save(file.as_str(), keytab.image())?;
+    print_versions(&rt, &keytab)
 }
