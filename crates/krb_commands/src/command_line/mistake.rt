@@ -59,7 +59,7 @@ impl<'a> WordFault<'a> {
 
     /// 1 for a bad line, 2 where an allocation failed.
     pub fn number(self) -> u32
-        ensures { result ≡ word_number self }
+        ensures { result ≡ word_number self.entry }
     {
         match self {
             WordFault::BadLine(_) => 1,
