@@ -243,6 +243,18 @@ fn what_takes_no_memory_succeeds_where_all_is_refused(rt: HostRuntime) -> Result
     Ok(())
 }
 
+/// Begins a walk, and makes its first step.
+fn step_once<R: Abort, A: Allocator + Copy>(
+    rt: &R,
+    alloc: A,
+    keytab: Keytab<A>,
+) -> Result<(), Fail> {
+    let mut session = Session::new(alloc, keytab);
+    assert!(rt; session.apply(&Event::Start).is_ok());
+    assert!(rt; session.step(0) == Ok(Stop::Live { place: 2, next: 53 }));
+    Ok(())
+}
+
 /// A look-up, a removal by name, and a step of a walk where every allocation fails.
 #[test]
 fn look_ups_and_steps_take_no_memory(rt: HostRuntime) -> Result<(), Fail> {
@@ -254,9 +266,7 @@ fn look_ups_and_steps_take_no_memory(rt: HostRuntime) -> Result<(), Fail> {
     assert!(rt; keytab.remove(&name, 0, 17) == Ok(120));
     let (place, _) = keytab.find(&name, 0, 0)?;
     assert_eq!(rt; place, 53);
-    let mut session = Session::new(&heap, keytab);
-    assert!(rt; session.apply(&Event::Start).is_ok());
-    assert!(rt; session.step(0) == Ok(Stop::Live { place: 2, next: 53 }));
+    step_once(&rt, &heap, keytab)?;
     assert_eq!(rt; heap.requests(), 0);
     Ok(())
 }

@@ -7,9 +7,10 @@ use super::records::{
 use super::turns::Told::{Ended, Gave, Gone, Placed, Refused, Rewritten, Started};
 use super::turns::Turn::{Cut, Resume, Rewrite, Start, Step};
 use super::turns::{PUT_B, PUT_C, Row, check, check_outcome, check_row, events_of};
-use krb_walk::{Code, Session};
+use krb_keytab::{Keytab, NewEntry};
+use krb_walk::{Code, Event, Session};
 use refusing::{Refusing, refuse_each};
-use std::alloc::Global;
+use std::alloc::{Allocator, Global};
 use std::process::Abort;
 use std::test::Fail;
 
@@ -112,19 +113,31 @@ fn walks_over_changes(rt: HostRuntime) -> Result<(), Fail> {
     check_row(&rt, 49, &NO_ROOM)
 }
 
-/// Runs the events of a walk, and after a failed allocation those without a reply, in the same session.
+/// Runs events, and after a failed allocation those without a reply, in the same session. The answer is whether one
+/// failed.
+fn run_in_parts<R: Abort + AllocGlobal, A: Allocator + Copy>(
+    rt: &R,
+    alloc: A,
+    keytab: Keytab<A>,
+    events: &[Event<NewEntry<A>>],
+) -> Result<bool, Fail> {
+    let mut session = Session::new(alloc, keytab);
+    let mut replies = Vec::new(alloc);
+    let ran_out = session.run(events, &mut replies).is_err();
+    let rest = events.get(replies.len()..).ok_or("too many replies")?;
+    session.run(rest, &mut replies)?;
+    check_outcome(rt, &WALK, &replies, session.store().image())?;
+    Ok(ran_out)
+}
+
+/// Runs the events of a walk where the n-th allocation fails.
 fn run<R: Abort + AllocGlobal>(rt: &R, heap: &Refusing<Global>, n: u64) -> Result<(), Fail> {
     let events = events_of(heap, WALK.turns)?;
     let keytab = keytab_of(joined(heap, WALK.before)?, USUAL)?;
-    let mut session = Session::new(heap, keytab);
-    let mut replies = Vec::new(heap);
     heap.refuse(n);
-    let ran_out = session.run(&events, &mut replies).is_err();
+    let ran_out = run_in_parts(rt, heap, keytab, &events)?;
     assert!(rt; ran_out == heap.refused());
-    heap.grant();
-    let rest = events.get(replies.len()..).ok_or("too many replies")?;
-    session.run(rest, &mut replies)?;
-    check_outcome(rt, &WALK, &replies, session.store().image())
+    Ok(())
 }
 
 /// Applies them one by one.
