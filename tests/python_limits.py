@@ -3,7 +3,8 @@ from __future__ import annotations
 
 from images import HOST, LITTLE, TWO, entries
 
-# Cut, damaged and limited keytabs: the places and versions of the entries before the fault, and the fault.
+# Cut, damaged and limited keytabs: the places and versions of the entries before the fault, the status
+# that ends the walk there, and the fault.
 DAMAGED = """
 from itertools import groupby
 from krbfile import Keytab, KrbfileError
@@ -14,10 +15,16 @@ host = image[6:53]
 
 def seen(image, **limit):
     try:
-        with Keytab.open(image, **limit) as keytab:
-            return [(entry.place, entry.kvno) for entry in keytab], keytab.fault
+        keytab = Keytab.open(image, **limit)
     except KrbfileError as error:
         return error.status
+    found = []
+    try:
+        for entry in keytab:
+            found.append((entry.place, entry.kvno))
+    except KrbfileError as error:
+        found.append(error.status)
+    return found, keytab.fault
 
 def told(lengths, made):
     for answer, group in groupby(lengths, lambda length: seen(made(length))):
@@ -51,17 +58,17 @@ def wanted_damaged() -> bytes:
     return b"".join(line + b"\n" for line in (
         b"0 11",
         b"2 ([], None)",
-        b"3 ([], (1, 2))",
-        b"6 ([], (2, 2))",
+        b"3 ([31], (1, 2))",
+        b"6 ([31], (2, 2))",
         b"53 ([(2, 3)], None)",
-        b"54 ([(2, 3)], (1, 53))",
-        b"57 ([(2, 3)], (2, 53))",
+        b"54 ([(2, 3), 31], (1, 53))",
+        b"57 ([(2, 3), 31], (2, 53))",
         b"98 ([(2, 3), (53, 3)], None)",
-        b"1 ([], (3, 2))",
+        b"1 ([31], (3, 2))",
         b"43 ([(2, 3)], None)",
-        b"6 ([], (3, 2))",
-        b"8 ([], (3, 2))",
-        b"31 ([], (3, 2))",
+        b"6 ([31], (3, 2))",
+        b"8 ([31], (3, 2))",
+        b"31 ([31], (3, 2))",
         b"11 12 12 13",
     ))
 
