@@ -1,5 +1,7 @@
 //! Files that note how they are used.
 
+ghost use Rattle.std.specs.Prelude.{◌≡◌};
+
 use krb_files::{Files, LoadFault, SaveFault};
 use std::alloc::Allocator;
 use std::marker::Model;
