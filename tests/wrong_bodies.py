@@ -90,7 +90,7 @@ WRONG_BODIES = {
         "forgets-what-was-loaded": "the bytes that were loaded are not compared before the rename",
         "made-for-all": "the new file may be read by all while it is written",
         "majors-of-eight-bits": "the major number of a device is cut to 8 bits",
-        "owner-and-group-turned-round": "the new file gets the old one's owner as its group, and its group as its owner",
+        "owner-and-group-turned-round": "the old file's owner and its group change places in the new one",
         "removes-a-file-of-another-user": "a leftover of another user is removed",
         "removes-anothers-new-file": "the new file of another run is removed",
         "renames-a-locked-file": "a file that another program has locked is replaced",
