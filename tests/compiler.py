@@ -18,6 +18,8 @@ from edited import TOP
 OPEN_GOAL = re.compile(r"note: \S+: it is not proved that .*?\(`([\w-]+)`\)")
 NOT_FOUND = re.compile(r"; `search` did not prove (.*)")
 VERDICT = re.compile(r"fn \w+::(\S+): (.*)")
+# A function that is proved by hand has no open goals: its proof is refused.
+BY_HAND = re.compile(r"\./proofs/(\S+)/Proof\.antt:\S+ error: ")
 # A goal's name has the branch where it comes up, which the clause's name has not.
 GOAL = re.compile(r"(returns|.*?-requires)(?:-.*?)??(-clause-[\w-]+)?")
 ENDED = re.compile(r"^only=\d+ proved=\d+$", re.M)
@@ -90,16 +92,19 @@ def clause_of(goal: str) -> str:
 
 def clauses_of(said: str) -> dict[str, list[str]]:
     """The open clauses of each function that is not proved. Their goals stand before its verdict, or in it."""
-    found, before = {}, []
+    found, before, by_hand = {}, [], set()
     for line in said.splitlines():
-        goal, verdict = OPEN_GOAL.match(line), VERDICT.match(line)
-        if goal:
+        goal, verdict, refused = OPEN_GOAL.match(line), VERDICT.match(line), BY_HAND.match(line)
+        if refused:
+            by_hand.add(refused[1].replace("/", "::"))
+        elif goal:
             before.append(goal[1])
         elif verdict:
             listed = NOT_FOUND.search(verdict[2])
             goals = before + (re.findall(r"`([\w-]+)`", listed[1]) if listed else [])
             if verdict[2] != "proved":
-                found[verdict[1]] = sorted({clause_of(it) for it in goals})
+                proof = ["proof"] if verdict[1] in by_hand else []
+                found[verdict[1]] = proof + sorted({clause_of(it) for it in goals})
             before = []
     return found
 

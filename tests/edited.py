@@ -4,7 +4,8 @@ An edit has lines `file: PATH`, and after each any number of pairs `old: TEXT` a
 text is in that file once, and further pairs apply to what the earlier ones made. `only: FUNCTION`
 names a function to check, by its path below the crate. `refused: FUNCTION CLAUSE` says which clause is
 then not proved, as `wrong CRATE NAME` prints it: an `ensures` of the function, or a `requires` of a
-call in it. A loop's invariant is no clause: it serves the proof alone.
+call in it. A loop's invariant is no clause: it serves the proof alone. A function that is proved by hand
+has no clause that is not proved: `refused: FUNCTION proof` says that its proof is refused.
 """
 from __future__ import annotations
 
@@ -21,7 +22,7 @@ PARTS = ("src", "specs", "proofs")
 
 # The functions and clauses that lines `only:` and `refused:` name.
 FUNCTION = re.compile(r"[\w:]+")
-CLAUSE = re.compile(r"([\w:]+) ((?:returns|[\w-]+-requires)(?:-clause-[\w-]+)?)")
+CLAUSE = re.compile(r"([\w:]+) ((?:returns|[\w-]+-requires)(?:-clause-[\w-]+)?|proof)")
 
 
 class BadEdit(Exception):
