@@ -201,11 +201,24 @@ def first_text(run: Modelled, steps: list[Step]) -> str:
     return next(f'"{word}"' for word in run.case.words if word in run.case.files)
 
 
+def hasty_renames(calls: list[Call], run: Modelled) -> list[str]:
+    """The renames over a file before which the locks were not read often enough since the new file was synced."""
+    found, readings = [], 0
+    for call in calls:
+        readings = 0 if call.line.startswith("fsync") else readings + ('"/proc/locks"' in call.line)
+        renamed = re.match(r'rename.*"(\w+)"[^"]*$', call.line)
+        if renamed and renamed[1] in run.case.files and readings < READINGS:
+            found.append(f"{readings} readings before {call.line}")
+    return found
+
+
 def check_run(report: Report, program: str, run: Modelled, steps: list[Step]) -> None:
     """Each call of a run fails, and is its last."""
     got, trace = traced_run(program, run)
     first = first_text(run, steps)
-    found = steps_of([*calls_of(trace, first)], steps)
+    calls = [*calls_of(trace, first)]
+    report.check(f"the locks before a rename of {run.case.name}", hasty_renames(calls, run))
+    found = steps_of(calls, steps)
     report.check(f"the system calls of {run.case.name}",
                  [] if found and run.is_whole(got.outcome, got.files) else ["not as wanted"])
     ends = Ends(run)
