@@ -106,7 +106,6 @@ WRONG_BODIES = {
         "a-refused-value-removes-the-old-one": "a configuration value that is refused removes the old one",
         "all-have-expired-without-a-clock": "every ticket has expired where the clock cannot be read",
         "an-input-that-was-read-is-told-as-failed": "an empty input is reported as one that cannot be read",
-        "passes-over-a-failed-save": "a run whose save failed ends well",
         "removed-keys-stay-in-the-file": "the removed tickets stay in the file that is saved",
         "saves-part": "write_kt saves what it added before a refusal",
         "saves-the-text": "what is printed is saved in the file's place",
