@@ -20,7 +20,7 @@ NOT_FOUND = re.compile(r"; `search` did not prove (.*)")
 VERDICT = re.compile(r"fn \w+::(\S+): (.*)")
 # A function that is proved by hand has no open goals: its proof is refused.
 BY_HAND = re.compile(r"\./proofs/(\S+)/Proof\.antt:\S+ error: ")
-# A goal's name has the branch where it comes up, which the clause's name has not.
+# A goal's name has the branch that it comes from; the clause's name does not.
 GOAL = re.compile(r"(returns|.*?-requires)(?:-.*?)??(-clause-[\w-]+)?")
 ENDED = re.compile(r"^only=\d+ proved=\d+$", re.M)
 REJECTED = re.compile(r"^(?:error\b.*|(?:\./)?src/\S+: error.*)", re.M)
