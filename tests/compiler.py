@@ -7,12 +7,15 @@ from __future__ import annotations
 
 import os
 import re
-import shutil
 import subprocess
+from collections.abc import Iterable
 from dataclasses import dataclass
 from functools import cache
 
 from edited import TOP
+
+# What a check takes at most, in KB.
+MEMORY = 3_500_000
 
 # How a check names a goal that is left open in a function with answers, and those in one without.
 OPEN_GOAL = re.compile(r"note: \S+: it is not proved that .*?\(`([\w-]+)`\)")
@@ -28,11 +31,18 @@ REJECTED = re.compile(r"^(?:error\b.*|(?:\./)?src/\S+: error.*)", re.M)
 
 @dataclass(frozen=True)
 class Answer:
-    """What a check says: whether all is proved, each function that is not with its open clauses, and why it ended before."""
+    """What a check says: the functions that are proved, those that are not with their open clauses, and why it ended before."""
 
-    is_proved: bool
+    proved: set[str]
     clauses: dict[str, list[str]]
     rejected: str | None
+
+
+def at_once(jobs: int) -> int:
+    """How many checks run at once: as asked for, as far as the memory has room for them."""
+    with open("/proc/meminfo", encoding="ascii") as file:
+        free = int(re.search(r"MemAvailable:\s+(\d+)", file.read())[1])
+    return max(1, min(jobs, free // MEMORY))
 
 
 @cache
@@ -90,6 +100,12 @@ def clause_of(goal: str) -> str:
     return found[1] + (found[2] or "") if found else goal
 
 
+def proved_in(said: str) -> set[str]:
+    """The functions that are proved."""
+    verdicts = filter(None, map(VERDICT.match, said.splitlines()))
+    return {verdict[1] for verdict in verdicts if verdict[2] == "proved"}
+
+
 def clauses_of(said: str) -> dict[str, list[str]]:
     """The open clauses of each function that is not proved. Their goals stand before its verdict, or in it."""
     found, before, by_hand = {}, [], set()
@@ -109,9 +125,9 @@ def clauses_of(said: str) -> dict[str, list[str]]:
     return found
 
 
-def check(crate: str, folder: str, only: list[str], kept: str) -> Answer:
-    """Checks functions of the crate in a folder, over what earlier checks left in the folder `kept`."""
-    words = [*command("check", crate, 1), "--incremental", kept]
+def check_functions(crate: str, folder: str, only: Iterable[str]) -> Answer:
+    """Checks functions of the crate in a folder."""
+    words = command("check", crate, 1)
     for function in only:
         words += ["--only", function]
     done = subprocess.run(words, cwd=folder, stdin=subprocess.DEVNULL, stdout=subprocess.PIPE,
@@ -119,20 +135,4 @@ def check(crate: str, folder: str, only: list[str], kept: str) -> Answer:
     rejected = REJECTED.search(done.stdout)
     if not rejected and not ENDED.search(done.stdout):
         rejected = re.search(r".*\Z", done.stdout.rstrip())
-    return Answer(done.returncode == 0, clauses_of(done.stdout), rejected[0] if rejected else None)
-
-
-def link_or_copy(source: str, target: str) -> None:
-    """A check replaces the file of a checked module and never writes into it, so a link is enough."""
-    try:
-        if source.endswith(".oantt"):
-            os.link(source, target)
-            return
-    except OSError:
-        pass
-    shutil.copy2(source, target)
-
-
-def copy_kept(source: str, target: str) -> None:
-    """Copies what checks left in a folder."""
-    shutil.copytree(source, target, copy_function=link_or_copy)
+    return Answer(proved_in(done.stdout), clauses_of(done.stdout), rejected[0] if rejected else None)

@@ -52,9 +52,15 @@ class Report:
         """Counts one case, which failed where there are faults."""
         if faults:
             self.failed += 1
-            print(f"{name}: {'; '.join(faults)}")
+            print(f"{name}: {'; '.join(faults)}", flush=True)
         else:
             self.passed += 1
+
+    def add(self, other: Report) -> None:
+        """Takes in what another report counted."""
+        self.passed += other.passed
+        self.failed += other.failed
+        self.left_out += other.left_out
 
     def compare(self, name: str, wanted: Outcome, got: Outcome) -> None:
         """Counts one case, which failed where the outcomes differ."""

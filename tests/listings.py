@@ -1,7 +1,7 @@
 """Listings of small keytabs by `klist -k`. Each wanted text is written by hand from the layout."""
 from __future__ import annotations
 
-from harness import Case, Outcome, message
+from harness import Case, Outcome, Report, check_case, message
 from images import B, BIG, END, HOST, LITTLE, TWO, Entry, entries, hole, keytab, record
 
 HOST_RECORD = record(HOST.spelled())
@@ -202,3 +202,9 @@ def cases() -> list[Case]:
     """All cases of this topic."""
     entries_and_holes = [*plain(), *versions(), *names(), *large_counts(), *holes()]
     return [*entries_and_holes, *bad_entries(), *bad_lengths(), *version_one(), *no_keytab()]
+
+
+def check(report: Report, program: str) -> None:
+    """Runs them."""
+    for case in cases():
+        check_case(report, program, case)
