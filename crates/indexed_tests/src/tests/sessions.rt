@@ -8,7 +8,7 @@ use super::turns::Told::{Ended, Gave, Gone, Placed, Refused, Rewritten, Started}
 use super::turns::Turn::{Cut, Resume, Rewrite, Start, Step};
 use super::turns::{PUT_B, PUT_C, Row, check, check_outcome, check_row, events_of};
 use krb_keytab::{Keytab, NewEntry};
-use krb_walk::{Code, Event, Session};
+use krb_walk::{Code, Event, Reply, Session};
 use refusing::{Refusing, refuse_each};
 use std::alloc::{Allocator, Global};
 use std::process::Abort;
@@ -140,21 +140,43 @@ fn run<R: Abort + AllocGlobal>(rt: &R, heap: &Refusing<Global>, n: u64) -> Resul
     Ok(())
 }
 
-/// Applies them one by one.
-fn apply<R: Abort + AllocGlobal>(rt: &R) -> Result<(), Fail> {
-    let alloc = rt.alloc();
-    let keytab = keytab_of(joined(alloc, WALK.before)?, USUAL)?;
+/// The reply to an event, which is applied once more where memory ran out.
+fn applied<A: Allocator + Copy>(
+    session: &mut Session<Keytab<A>, A>,
+    event: &Event<NewEntry<A>>,
+) -> Result<Reply<A>, Fail> {
+    match session.apply(event) {
+        Ok(reply) => Ok(reply),
+        Err(_) => Ok(session.apply(event)?),
+    }
+}
+
+/// Applies events one by one.
+fn apply_each<R: Abort + AllocGlobal, A: Allocator + Copy>(
+    rt: &R,
+    alloc: A,
+    keytab: Keytab<A>,
+    events: &[Event<NewEntry<A>>],
+) -> Result<(), Fail> {
     let mut session = Session::new(alloc, keytab);
-    let mut replies = Vec::new(alloc);
-    for event in &events_of(alloc, WALK.turns)? {
-        replies.push(session.apply(event)?)?;
+    let mut replies = Vec::new(rt.alloc());
+    for event in events {
+        replies.push(applied(&mut session, event)?)?;
     }
     check_outcome(rt, &WALK, &replies, session.store().image())
 }
 
+/// Applies the events of a walk one by one, where the n-th allocation fails.
+fn apply<R: Abort + AllocGlobal>(rt: &R, heap: &Refusing<Global>, n: u64) -> Result<(), Fail> {
+    let events = events_of(heap, WALK.turns)?;
+    let keytab = keytab_of(joined(heap, WALK.before)?, USUAL)?;
+    heap.refuse(n);
+    apply_each(rt, heap, keytab, &events)
+}
+
 #[test]
 fn a_run_in_parts(rt: HostRuntime) -> Result<(), Fail> {
-    apply(&rt)?;
+    assert!(rt; refuse_each(rt.alloc(), 100, |heap, n| apply(&rt, heap, n))? >= 2);
     assert!(rt; refuse_each(rt.alloc(), 100, |heap, n| run(&rt, heap, n))? >= 4);
     Ok(())
 }

@@ -1,5 +1,0 @@
-pub mod Places
-pub mod Stops
-pub mod Changes
-pub mod Runs
-pub mod Rewrites

@@ -1,3 +1,0 @@
--- What the contracts of this crate say.
-pub mod Shelf
-pub mod Worked
