@@ -19,7 +19,6 @@ LIBRARY = lib/libkrbfile.a
 SHARED = lib/libkrbfile.so.1
 LINKER_NAME = lib/libkrbfile.so
 KIT = $(dir $(shell rt doc))
-KTBENCH = crates/ktbench/out/ktbench
 SOURCES = crates.txt $(shell find crates/*/src crates/*/specs crates/*/proofs -type f)
 
 .PHONY: all try static lib samples test long-test install
@@ -64,10 +63,6 @@ $(SHARED): lib/krbfile.o c/krbfile.map
 $(LINKER_NAME): $(SHARED)
 	ln -sf $(notdir $(SHARED)) $@
 
-$(KTBENCH): $(SOURCES)
-	cd crates/ktbench && rt run -- script data/k /dev/null plain little > /dev/null
-	touch $@
-
 try:
 	cd crates/krbfile && rt try -- klist -k data/k
 
@@ -82,17 +77,17 @@ samples:
 # libraries of earlier checks back in their place, and it takes no folder that holds a link. A program that it took over
 # from an earlier run has no object file: then the static one is left out.
 test:
-	rm -f $(BUILT) $(BUILT).o $(KTBENCH) $(STATIC) $(LINKER_NAME) $(ARCHIVE)
+	rm -f $(BUILT) $(BUILT).o $(STATIC) $(LINKER_NAME) $(ARCHIVE)
 	rm -rf crates/*/out/rlib
 	rt ci
-	$(MAKE) --no-print-directory $(BUILT) $(KTBENCH)
+	$(MAKE) --no-print-directory $(BUILT)
 	-test ! -f $(BUILT).o || $(MAKE) --no-print-directory static
 	tests/archive $(ARCHIVE)
 	$(MAKE) --no-print-directory lib
 	tests/run $(BUILT)
 	tests/wrong
 
-long-test: all $(KTBENCH)
+long-test: all
 	tests/long $(PROGRAM)
 
 install: all lib

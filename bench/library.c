@@ -3,11 +3,9 @@
  * The answer is a line for each: what was done, by which library, and nanoseconds of the processor. Needs
  * krb5.h (Debian: libkrb5-dev).
  */
-#include "krbfile.h"
+#include "image.h"
 
 #include <krb5.h>
-#include <stdio.h>
-#include <stdlib.h>
 #include <string.h>
 #include <time.h>
 
@@ -19,13 +17,6 @@ static krbf_keytab ours = KRBF_NONE;
 static char **names;
 static int names_count;
 
-static void must(int is_so, const char *what) {
-    if (!is_so) {
-        fprintf(stderr, "library: %s\n", what);
-        exit(1);
-    }
-}
-
 static long long now(void) {
     struct timespec time;
     clock_gettime(CLOCK_PROCESS_CPUTIME_ID, &time);
@@ -34,13 +25,8 @@ static long long now(void) {
 
 /* Reads the file and opens it, as a service does once. */
 static void open_ours(const char *file) {
-    FILE *from = fopen(file, "rb");
-    must(from && !fseek(from, 0, SEEK_END), "the file");
-    size_t len = (size_t)ftell(from);
-    uint8_t *image = malloc(len);
-    rewind(from);
-    must(image && fread(image, 1, len, from) == len, "the file");
-    fclose(from);
+    size_t len;
+    uint8_t *image = read_file(file, &len);
     must(krbf_kt_open(image, len, 0, 0, &ours) == KRBF_DONE, "krbf_kt_open");
     free(image);
 }

@@ -1,7 +1,7 @@
 /*
  * Adds entries to a keytab file by MIT's libkrb5 and removes its last ones: mit_edits FILE ADDITIONS
- * REMOVALS. It does what crates/ktbench does, for bench/edits. REMOVALS "-" removes none, and then it
- * does not go through all entries first to know the last ones.
+ * REMOVALS. It does what edits.c does, for bench/edits. REMOVALS "-" removes none, and then it does not
+ * go through all entries first to know the last ones.
  */
 #include <stdio.h>
 #include <stdlib.h>
@@ -66,7 +66,7 @@ static void must(krb5_error_code code, const char *what)
 	exit(1);
 }
 
-/* The entry of that number, as crates/ktbench makes it; libkrb5 sets its time. */
+/* The entry of that number, as edits.c makes it; libkrb5 sets its time. */
 static void add_entry(krb5_keytab keytab, unsigned int number)
 {
 	static unsigned char key[32];

@@ -11,6 +11,8 @@ import time
 from pathlib import Path
 from typing import NamedTuple
 
+HERE = Path(__file__).resolve().parent
+
 
 class Used(NamedTuple):
     """Seconds, or what is made of them."""
@@ -75,12 +77,25 @@ def mit(program):
     return path, said.replace("Kerberos 5 version", "MIT krb5")
 
 
+def built(folder, name, *more):
+    """The program of NAME.c, built with what else the linker is given."""
+    program = str(Path(folder) / name)
+    words = ["cc", "-O2", "-Wall", f"-I{HERE.parent / 'c'}", "-o", program, HERE / f"{name}.c", *more]
+    subprocess.run(words, check=True)
+    return program
+
+
 def built_edits(folder):
     """mit_edits, built. It takes the library by its file, so that its headers need not be there."""
-    built = str(Path(folder) / "mit_edits")
-    source = Path(__file__).resolve().parent / "mit_edits.c"
-    subprocess.run(["cc", "-O2", "-Wall", "-o", built, source, "-l:libkrb5.so.3"], check=True)
-    return built
+    return built(folder, "mit_edits", "-l:libkrb5.so.3")
+
+
+def built_over_library(folder, name, *more):
+    """The program of NAME.c over libkrbfile."""
+    library = HERE.parent / "lib" / "libkrbfile.a"
+    if not library.exists():
+        sys.exit(f"bench: {library} is not there: make lib builds it")
+    return built(folder, name, library, *more)
 
 
 def processor():
