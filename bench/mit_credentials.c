@@ -1,9 +1,9 @@
 /*
  * Stores credentials in a cache file by MIT's libkrb5, removes its last ones and sets configuration
- * values: mit_credentials FILE STORES REMOVALS SETTINGS [replace]. It does what crates/ccbench does,
+ * values: mit_credentials FILE STORES REMOVALS SETTINGS KEYS [replace]. It does what credentials.c does,
  * for bench/credentials. REMOVALS "-" removes none, and then it does not go through all credentials
  * first to know the last ones. With "replace" it removes what is set under a key before it sets it, as
- * crates/ccbench does; else it leaves it.
+ * credentials.c does; else it leaves it.
  */
 #include <krb5.h>
 #include <stdio.h>
@@ -20,7 +20,7 @@ static void must(krb5_error_code code, const char *what)
 	exit(1);
 }
 
-/* The ticket of that number, as crates/ccbench makes it. */
+/* The ticket of that number, as credentials.c makes it. */
 static void store(krb5_ccache cache, unsigned int number)
 {
 	static unsigned char key[32];
@@ -48,7 +48,7 @@ static void store(krb5_ccache cache, unsigned int number)
 	krb5_free_principal(context, creds.server);
 }
 
-/* Sets a configuration value under the key of that number, as crates/ccbench sets it. */
+/* Sets a configuration value under the key of that number, as credentials.c sets it. */
 static void set(krb5_ccache cache, unsigned int number, int replace)
 {
 	krb5_data value = { 0 };
