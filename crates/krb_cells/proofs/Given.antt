@@ -210,17 +210,6 @@ stands_at cells image at end c ahead within are first =
       others = subst (AreCells cells) same has.3;
     }
 
--- a number fits into it
-pub has_room : (cells : List ℕ → List Cell) (all : List Cell) (news : Store) (first end : ℕ) (image bytes : List ℕ) (old left : Store) (at to w : ℕ) → IsGivenIn cells all news first end image old at to → bytes ≡ between at end image → Passes cells bytes old w left
-    → (4 ≤ w) × (at + w ≤ end)
-has_room cells all news first end image bytes old left at to w g is y =
-    let x = subst (λ (b : List ℕ). Passes cells b old w left) is y in
-    let s = stands_at cells image at end x.cell g.ahead g.within g.are x.parts in
-    let wide = s.wide in
-    let room = s.room in
-    let is_w = x.is_width in
-    (omega (arith, wide, is_w), omega (arith, room, is_w))
-
 -- and then that at the place is given its own
 pub one_given : (cells : List ℕ → List Cell) (all : List Cell) (news : Store) (first end : ℕ) (image put bytes : List ℕ) (old left : Store) (at to w n next : ℕ) → IsGivenIn cells all news first end image old at to → bytes ≡ between at end image → Passes cells bytes old w left
     → put ≡ splice image at n (digits Big w32 to) → n ≡ at + 4 → length put ≡ length image → next ≡ left.first → IsGivenIn cells all news first end put left (at + w) next
