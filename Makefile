@@ -1,4 +1,5 @@
 # make try        lists a sample keytab by a program of which nothing is proved
+# make check      runs the tests over such a program: minutes, for who changes a line
 # make            proves the program and builds bin/krbfile
 # make static     builds bin/krbfile-static, which needs no C library where it runs and starts sooner
 # make lib        proves and builds the C library, lib/libkrbfile.a and lib/libkrbfile.so.1, which c/krbfile.h declares
@@ -21,29 +22,27 @@ LINKER_NAME = lib/libkrbfile.so
 KIT = $(dir $(shell rt doc))
 SOURCES = crates.txt $(shell find crates/*/src crates/*/specs crates/*/proofs -type f)
 
-.PHONY: all try static lib samples test long-test install
+.PHONY: all try check static lib samples test long-test install
 
 all: $(PROGRAM)
 
-# The program that make test left is as good as that of rt run.
+# What make test left is not proved again.
 $(BUILT): $(SOURCES)
-	cd crates/krbfile && rt run -- --help > /dev/null
-	touch $@
+	tests/prove krbfile
 
 $(PROGRAM): $(BUILT)
 	install -D -m 755 $(BUILT) $@
 
 # What rt links for the program, and the C library with it.
 $(STATIC): $(BUILT)
-	test -f $(BUILT).o || (cd crates/krbfile && rt run -- --help > /dev/null)
+	test -f $(BUILT).o || (rm $(BUILT) && tests/prove krbfile)
 	mkdir -p $(dir $(STATIC))
 	$(CC) -static-pie -o $(STATIC).linked $(BUILT).o $(KIT)c/libos_c.a $(KIT)c/liblibc_c.a
 	install -m 755 $(STATIC).linked $(STATIC)
 	rm $(STATIC).linked
 
 $(ARCHIVE): $(SOURCES)
-	cd crates/krb_c && rt lib > /dev/null
-	touch $@
+	tests/prove krb_c
 
 # The calls and the C library's heap as one object, which shows the calls alone.
 lib/krbfile.o: $(ARCHIVE)
@@ -66,6 +65,11 @@ $(LINKER_NAME): $(SHARED)
 try:
 	cd crates/krbfile && rt try -- klist -k data/k
 
+check:
+	tests/unproved bin/unproved/krbfile
+	tests/run --unproved --program bin/unproved/krbfile
+	@echo "Nothing was proved: make and make test prove."
+
 static: $(STATIC)
 
 lib: $(LIBRARY) $(SHARED) $(LINKER_NAME)
@@ -80,11 +84,10 @@ test:
 	rm -f $(BUILT) $(BUILT).o $(STATIC) $(LINKER_NAME) $(ARCHIVE)
 	rm -rf crates/*/out/rlib
 	rt ci
-	$(MAKE) --no-print-directory $(BUILT)
+	touch crates/*/out/rlib/*.rlib $(BUILT)
 	-test ! -f $(BUILT).o || $(MAKE) --no-print-directory static
-	tests/archive $(ARCHIVE)
 	$(MAKE) --no-print-directory lib
-	tests/run $(BUILT)
+	tests/run
 	tests/wrong
 
 long-test: all
