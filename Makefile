@@ -75,7 +75,7 @@ static: $(STATIC)
 lib: $(LIBRARY) $(SHARED) $(LINKER_NAME)
 
 samples:
-	python3 tests/samples.py samples
+	tests/samples samples
 
 # The programs and libraries that the gate leaves are what is tested, so each crate is proved once. The gate would put
 # libraries of earlier checks back in their place, and it takes no folder that holds a link. A program that it took over

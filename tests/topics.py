@@ -1,7 +1,8 @@
-"""The topics of the tests: the modules of this folder that have a certain function."""
+"""The topics of the tests: modules in the folders beside this file that have a certain function."""
 from __future__ import annotations
 
 import os
+from functools import cache
 from importlib import import_module
 from pkgutil import iter_modules
 from types import ModuleType
@@ -9,7 +10,16 @@ from types import ModuleType
 FOLDER = os.path.dirname(os.path.abspath(__file__))
 
 
+def modules() -> dict[str, ModuleType]:
+    """The modules in each folder, by their own names."""
+    found = {}
+    for room in sorted(each.name for each in os.scandir(FOLDER) if each.is_dir()):
+        for each in iter_modules([os.path.join(FOLDER, room)]):
+            found[each.name] = import_module(f"{room}.{each.name}")
+    return found
+
+
+@cache
 def topics(function: str) -> dict[str, ModuleType]:
     """The modules that have a function of that name, by their own names."""
-    modules = {each.name: import_module(each.name) for each in iter_modules([FOLDER])}
-    return {name: module for name, module in modules.items() if hasattr(module, function)}
+    return {name: module for name, module in modules().items() if hasattr(module, function)}

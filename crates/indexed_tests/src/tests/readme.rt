@@ -1,4 +1,4 @@
-//! What README shows, line by line: `tests/readme.py` compares the two.
+//! What README shows, line by line: `tests/pages/readme.py` compares the two.
 
 use super::made::{USUAL, b, joined, keytab_of};
 use super::records::{B, HEAD, HOST};

@@ -1,5 +1,5 @@
 //! The phrases of codes and causes, and what is printed of an error of each type. The phrases of faults are told by the
-//! program, and `tests/explained.py` and `explained_caches.py` have them.
+//! program, and `tests/words/explained.py` and `explained_caches.py` have them.
 
 use krb_files::{Cause, LoadFault, OutFault, SaveFault};
 use krb_text::{LineFault, LineRefusal, ScriptRefusal};

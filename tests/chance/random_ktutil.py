@@ -1,0 +1,98 @@
+"""Random inputs of `ktutil` over random files."""
+from __future__ import annotations
+
+from collections.abc import Iterator
+from random import Random
+
+from chance.random_keytabs import random_keytab
+from chance.random_scripts import random_etype_and_key, random_name, random_number
+from keytabs.ktutil_lines import FAULTS, NO_KEYS
+from models.ktutil_model import handled
+from runs.harness import Case
+from runs.random_runs import CaseAt, Topic
+
+# The commands, by how often.
+COMMANDS = {"list": 4, "read": 7, "write": 5, "add": 5, "delete": 3, "clear": 1, "quit": 1, "": 1}
+
+SPELLINGS = {
+    "list": ("list", "l"),
+    "read": ("read_kt", "rkt"),
+    "write": ("write_kt", "wkt"),
+    "add": ("add_entry", "addent"),
+    "delete": ("delete_entry", "delent"),
+    "clear": ("clear_list", "clear"),
+    "quit": ("quit", "q", "exit"),
+    "": ("", " \t"),
+}
+
+# Files that are there, may be missing, have no folder, are a folder, or are no text.
+NAMES = [*[b"a", b"b", b"c"] * 5, b"d", b"no/k", b".", b"\xff", b"a\\\\", b"\0"]
+
+# The kinds of answers that have to come up.
+KINDS = (
+    "slot", "refused 1", "no such file", "cannot read", "cannot write", "not a keytab",
+    *(f"fault {number}" for number in range(1, 9)),
+)
+
+
+def random_entry_lines(random: Random, word: bytes) -> list[bytes]:
+    """The line of a new entry with its options in any order, and the line of its key."""
+    etype, key = random_etype_and_key(random)
+    if random.random() < 0.1:
+        key = random.choice(NO_KEYS)
+    name = random_name(random).replace(b" ", b"\\ ")
+    options = [[b"-key"], [b"-p", name], [b"-k", random_number(random).encode()],
+               [b"-e", etype.encode()]]
+    random.shuffle(options)
+    blanks = random.choice(["", " ", "\t "])
+    return [b" ".join([word, *sum(options, [])]), (blanks + key + blanks).encode()]
+
+
+def random_lines(random: Random) -> list[bytes]:
+    """One command, perhaps a faulty one."""
+    if random.random() < 0.06:
+        return [random.choice(list(FAULTS)).encode()]
+    command = random.choices(list(COMMANDS), COMMANDS.values())[0]
+    word = random.choice(SPELLINGS[command]).encode()
+    if command == "add":
+        return random_entry_lines(random, word)
+    words = [word]
+    if command == "list":
+        words += random.sample([b"-t", b"-k", b"-e"], random.randrange(4))
+    if command in ("read", "write"):
+        words.append(random.choice(NAMES))
+    if command == "delete":
+        words.append(b"%d" % random.choice([0, 1, 1, 1, 1, 2, 2, 9]))
+    return [random.choice([b" ", b" ", b"\t ", b"  "]).join(words)]
+
+
+def random_input(random: Random) -> Iterator[CaseAt]:
+    """An input over some files."""
+    files = {}
+    v1_big = False
+    for name in "abc":
+        files[name], big = random_keytab(random)
+        v1_big |= big
+    commands = [random_lines(random) for _ in range(random.randrange(25))]
+    given = b"\n".join(line for those in commands for line in those)
+    given += random.choice([b"", b"\n", b"\n"])
+    words = ("ktutil", "--v1-big") if v1_big else ("ktutil",)
+
+    def case_at(now: int) -> Case:
+        wanted, after = handled(files, given, now, v1_big)
+        return Case("", words, wanted, files, after, given)
+
+    yield case_at
+
+
+def kinds_of(case: Case) -> Iterator[str]:
+    """The kinds of what a run prints and says."""
+    if case.wanted.out:
+        yield "slot"
+    for line in case.wanted.err.decode("latin-1").splitlines():
+        last = line.split(": ")[-1]
+        yield "not a keytab" if last.startswith("not") else last
+
+
+TOPIC = Topic("random inputs of ktutil", random_input, kinds_of, KINDS, usual=600)
+check, check_long = TOPIC.check, TOPIC.check_long

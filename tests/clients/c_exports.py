@@ -1,0 +1,90 @@
+"""The C library's header and manual page say what its exports are, and what parameters they take."""
+from __future__ import annotations
+
+import glob
+import os
+import re
+
+from runs.harness import TOP, Report
+
+HEADER = os.path.join(TOP, "c", "krbfile.h")
+PAGE = os.path.join(TOP, "docs", "krbfile.3")
+EXPORT = re.compile(r'pub extern "C" fn (krbf_\w+)\(([^)]*)\)(?: -> (\w+))?', re.S)
+PROTOTYPE = re.compile(r"^(uint32_t|void) (krbf_\w+)\(([^)]*)\);", re.S | re.M)
+
+# What a parameter of an export is in C. An allocator takes no bytes.
+IN_C = {
+    "Global": [],
+    "u16": ["uint16_t"],
+    "u32": ["uint32_t"],
+    "usize": ["size_t"],
+    "&[u8]": ["const bytes *", "size_t"],
+    "&mut [u8]": ["bytes *", "size_t"],
+    "&mut [u32]": ["uint32_t *", "size_t"],
+    "&mut u32": ["uint32_t *"],
+    "&mut usize": ["size_t *"],
+    "&KrbfNumbers": ["const krbf_numbers *"],
+    "&mut KrbfBytes": ["krbf_bytes *"],
+    "&mut KrbfEntry": ["krbf_entry *"],
+    "&mut KrbfTicket": ["krbf_ticket *"],
+    "&mut KrbfKeytab": ["krbf_keytab *"],
+    "&mut KrbfCcache": ["krbf_ccache *"],
+}
+
+# A call's answer, and the kinds of its parameters.
+Signature = tuple[str, tuple[str, ...]]
+
+
+def parts(text: str) -> list[str]:
+    """What stands between commas."""
+    return [" ".join(part.split()) for part in text.split(",") if part.strip()]
+
+
+def exports() -> dict[str, Signature]:
+    """The exports of the sources, by name."""
+    found = {}
+    for path in glob.glob(os.path.join(TOP, "crates/krb_c/src/**/*.rt"), recursive=True):
+        with open(path, encoding="utf-8") as file:
+            source = file.read()
+        for name, words, answer in EXPORT.findall(source):
+            kinds = [kind for word in parts(words) for kind in IN_C[word.split(": ", 1)[1]]]
+            found[name] = {"u32": "uint32_t", "": "void"}[answer], tuple(kinds)
+    return found
+
+
+def kind_of(parameter: str) -> str:
+    """The kind of a parameter in the header. Bytes and text are the same to an export."""
+    kind = re.sub(r"\w+$", "", parameter).strip()
+    return re.sub(r"(uint8_t|char) \*", "bytes *", kind)
+
+
+def prototypes() -> dict[str, Signature]:
+    """The calls of the header, by name."""
+    with open(HEADER, encoding="utf-8") as file:
+        header = file.read()
+    return {
+        name: (answer, tuple(kind_of(part) for part in parts(words)))
+        for answer, name, words in PROTOTYPE.findall(header)
+    }
+
+
+def shown() -> dict[str, Signature]:
+    """The calls of the manual page's synopsis, by name."""
+    with open(PAGE, encoding="ascii") as file:
+        page = file.read()
+    return {
+        name: (answer, tuple(kind_of(word) for word in re.findall(r'"([^"]*)"', words)))
+        for answer, name, words in re.findall(r"^\.Ft (\w+)\n\.Fn (krbf_\w+)(.*)$", page, re.M)
+    }
+
+
+def check(report: Report, _program: str) -> None:
+    """Runs all of this topic."""
+    said, there = prototypes(), exports()
+    wrong = sorted(name for name in said.keys() | shown() if said.get(name) != shown().get(name))
+    report.check("the synopsis of krbfile(3)", wrong)
+    report.check("krbfile.h has calls", [] if len(said) > 30 else [f"{len(said)} were found"])
+    for name in sorted(said.keys() | there.keys()):
+        is_same = said.get(name) == there.get(name)
+        faults = [] if is_same else [f"{said.get(name)}, not {there.get(name)}"]
+        report.check(f"krbfile.h: {name}", faults)

@@ -1,0 +1,217 @@
+"""The C library: C programs over it beside `krbfile`, with memory refused, and keys looked for."""
+from __future__ import annotations
+
+import os
+import re
+import shutil
+import subprocess
+
+from clients.c_exports import prototypes
+from makers.cache_images import Credential, Name, config, credentials, header_field
+from makers.images import TWO
+from makers.sample_caches import caches
+from makers.sample_keytabs import keytabs
+from makers.samples import SAMPLES
+from makers.usual_caches import PA_TYPE, TICKET, USUAL
+from peers import corpus
+from runs.harness import SECONDS, TOP, Outcome, Report, differences, folder_of, run
+
+LIBRARY = os.path.join(TOP, "lib", "libkrbfile.a")
+SHARED = os.path.join(TOP, "lib", "libkrbfile.so.1")
+SOURCES = os.path.join(TOP, "tests", "c")
+STRICT = ("-std=c11", "-D_POSIX_C_SOURCE=200809L", "-Wall", "-Wextra", "-Werror", "-g", "-O1")
+SANITIZED = ("-fsanitize=address,undefined", "-fno-sanitize-recover=all")
+ADDED = "add 200 17 1700000000 000102030405060708090a0b0c0d0e0f c/abi@EXAMPLE.ORG\n"
+
+
+def is_built(report: Report, what: str) -> bool:
+    """Whether the library and a C compiler are there; else it is noted that a part is left out."""
+    if not os.path.exists(LIBRARY):
+        report.skip(what, "there is no C library: make lib builds it")
+    elif shutil.which("cc") is None:
+        report.skip(what, "there is no C compiler")
+    else:
+        return True
+    return False
+
+
+def build(folder: str, name: str, *words: str, sources: str = SOURCES) -> str:
+    """Builds a C program of the tests with the library, and answers its path."""
+    path = os.path.join(folder, name)
+    subprocess.run(["cc", *STRICT, *words, f"-I{TOP}/c", "-o", path,
+                    os.path.join(sources, f"{name}.c"), LIBRARY], check=True, timeout=SECONDS)
+    return path
+
+
+def symbols(path: str, *words: str) -> set[str]:
+    """The symbols that a library defines for others."""
+    listed = subprocess.run(["nm", "-g", "--defined-only", *words, path], check=True,
+                            capture_output=True, text=True).stdout
+    fields = (line.split() for line in listed.splitlines())
+    return {line[-1].split("@")[0] for line in fields if len(line) == 3 and line[1] != "A"}
+
+
+def check_symbols(report: Report) -> None:
+    """Both libraries show the calls of the header and nothing else; the shared one has its name."""
+    wanted = set(prototypes())
+    for path, words in ((LIBRARY, ()), (SHARED, ("-D",))):
+        found = symbols(path, *words)
+        report.check(f"symbols of {os.path.basename(path)}", sorted(wanted ^ found))
+    dynamic = subprocess.run(["readelf", "-d", SHARED], check=True, capture_output=True, text=True)
+    faults = [] if "soname: [libkrbfile.so.1]" in dynamic.stdout else ["it has no such soname"]
+    faults += ["it has text relocations"] if "TEXTREL" in dynamic.stdout else []
+    report.check("the shared library's name", faults)
+
+
+def edited(program: str, image: bytes) -> bytes:
+    """A keytab after an addition by `ktedit`."""
+    with folder_of({"f": image}) as folder:
+        run(program, ("ktedit", "f"), folder, ADDED.encode())
+        with open(os.path.join(folder, "f"), "rb") as file:
+            return file.read()
+
+
+def stored(image: bytes) -> bytes:
+    """A cache whose default principal is u@R, after what caches.c stores and sets."""
+    ticket = Credential(server=Name((b"c", b"abi"), b"EXAMPLE.ORG"))
+    those = (config(b"c_abi_0", b"v").removed(), ticket, config(b"c_abi", b"1").removed(),
+             config(b"c_abi", b"2", b"b@R"), config(b"c_abi", b"33"))
+    return image + b"".join(one.spelled() for one in those)
+
+
+def check_image(
+    report: Report, program: str, built: str, option: str, image: bytes, after: bytes | None
+) -> None:
+    """Over an image the C program lists what `klist` does, and makes the image that is wanted."""
+    with folder_of({"f": image}) as folder:
+        wanted, got = run(program, ("klist", option, "f"), folder), run(built, ("f",), folder)
+    if wanted.err:
+        faults = [] if got.status == 2 and got.out else [f"an image that is refused: {got}"]
+    else:
+        faults = differences(Outcome(wanted.status, wanted.out), Outcome(got.status, got.out))
+    if after is not None and got.err != after:
+        faults.append("the changed image is not as wanted")
+    report.check(f"{os.path.basename(built)}.c over an image of {len(image)} bytes", faults)
+
+
+def check_keytabs(report: Report, program: str, folder: str) -> None:
+    """What keytabs.c lists and adds, beside `klist -k` and `ktedit`, under gcc's sanitizers."""
+    built = build(folder, "keytabs", *SANITIZED)
+    samples = (data for name, data in SAMPLES.items() if name.endswith(".keytab"))
+    for image in (*keytabs(), *samples, *corpus.images("keytab"), b"", b"\5", USUAL):
+        with folder_of({"f": image}) as at:
+            is_sound = run(program, ("klist", "-k", "f"), at).status == 0
+        after = edited(program, image) if is_sound else None
+        check_image(report, program, built, "-k", image, after)
+
+
+def check_caches(report: Report, program: str, folder: str) -> None:
+    """What caches.c lists, stores and sets, beside `klist` and by hand, under gcc's sanitizers."""
+    built = build(folder, "caches", *SANITIZED)
+    field = header_field(9, b"\xab")
+    for image in (USUAL, credentials(TICKET, PA_TYPE), credentials(TICKET, fields=field)):
+        check_image(report, program, built, "-c", image, stored(image))
+    for image in (*caches(), *corpus.images("ccache"), b"", b"\5\4\0", TWO):
+        check_image(report, program, built, "-c", image, None)
+
+
+# Runs of the program that move keys, which are the bytes 0 to 15 as in all images of these tests.
+PROGRAM_RUNS = (
+    (("klist", "-ktKe", "k"), b""),
+    (("klist", "-ktKe", "--json", "k"), b""),
+    (("klist", "-cef", "c"), b""),
+    (("ktfind", "k", "0", "0", "host/a@R"), b""),
+    (("ktremove", "-n", "-p", "host/a@R", "k"), b""),
+    (("ktedit", "k"), ADDED.encode() + b"start\nstep 0\nrewrite\ncut 2\n"),
+    (("ccedit", "c"), b"start\nconfig k - v\nstep 0\nrewrite\n"),
+    (("ktutil",), b"rkt k\naddent -key -p c@R -k 3 -e 17\n000102030405060708090a0b0c0d0e0f\n"
+                  b"l -k\nwkt j\n"),
+)
+
+
+def check_example(report: Report, program: str) -> None:
+    """The example of krbfile(3) leaves the keytab that `ktremove` does, and prints no part of one."""
+    with open(os.path.join(TOP, "docs", "krbfile.3"), encoding="ascii") as file:
+        source = re.findall(r"^#include <krbfile.*?^\}$", file.read(), re.DOTALL | re.M)
+    keytab = SAMPLES["mixed.keytab"]
+    with folder_of({"k": keytab, "filter.c": "".join(source).encode()}) as folder:
+        built = build(folder, "filter", sources=folder)
+        got = run(built, (), folder, keytab)
+        run(program, ("ktremove", "-e", "23", "k"), folder)
+        with open(os.path.join(folder, "k"), "rb") as file:
+            report.compare("the example of krbfile(3)", Outcome(0, file.read()), got)
+        hole = (-(1 << 24)).to_bytes(4, "big", signed=True) + bytes(1 << 24)
+        for what, image in (("damaged", keytab + b"\x7f"), ("large", TWO + hole)):
+            got = run(built, (), folder, image)
+            report.compare(f"the example of krbfile(3), {what}", Outcome(1), got)
+
+
+def check_rust(report: Report, program: str, folder: str) -> None:
+    """A program in Rust lists what `klist -k` does."""
+    if shutil.which("rustc") is None:
+        report.skip("the C library from Rust", "rustc is not there")
+        return
+    built = os.path.join(folder, "list")
+    subprocess.run(["rustc", "--edition", "2021", "-D", "warnings", "-A", "dead_code", "-o", built,
+                    "-L", os.path.dirname(LIBRARY), "-l", "static=krbfile",
+                    os.path.join(SOURCES, "list.rs")], check=True, timeout=SECONDS)
+    for image in keytabs():
+        with folder_of({"f": image}) as at:
+            listed = run(program, ("klist", "-k", "f"), at).out.splitlines(keepends=True)[3:]
+            got = run(built, (), at, image)
+        wanted = b"".join(line for line in listed if not line.startswith(b"fault "))
+        report.compare(f"from Rust: a keytab of {len(image)} bytes", Outcome(0, wanted), got)
+
+
+def check_memory(report: Report, folder: str) -> None:
+    """Each allocation of each call fails in turn."""
+    built = build(folder, "refused_memory", "-Wl,--wrap=malloc,--wrap=realloc")
+    report.compare("C: each allocation fails in turn", Outcome(0), run(built, (), folder))
+
+
+def check_given(report: Report, folder: str) -> None:
+    """Calls are given no bytes, and bytes that lie in their own keytab or cache."""
+    for name in ("no_bytes", "own_bytes"):
+        built = build(folder, name, *SANITIZED)
+        report.compare(f"C: {name}.c under sanitizers", Outcome(0), run(built, (), folder))
+    if shutil.which("valgrind") is None:
+        report.skip("own_bytes.c under valgrind", "valgrind is not there")
+        return
+    words = ("-q", "--error-exitcode=97", "--leak-check=full", build(folder, "own_bytes"))
+    report.compare("C: own_bytes.c under valgrind", Outcome(0),
+                   run(shutil.which("valgrind"), words, folder))
+
+
+def check_keys(report: Report, program: str, folder: str) -> None:
+    """No block that is given back holds a key, in C and in the program."""
+    freed = os.path.join(folder, "freed.so")
+    subprocess.run(["cc", "-shared", "-fPIC", "-O2", "-Wall", "-Wextra", "-Werror", "-o", freed,
+                    os.path.join(SOURCES, "freed.c")], check=True, timeout=SECONDS)
+    with folder_of({"k": TWO, "c": USUAL}) as at:
+        runs = [(build(folder, "keys"), ("k", "c"), b"")]
+        runs += [(program, words, stdin) for words, stdin in PROGRAM_RUNS]
+        for named, words, stdin in runs:
+            seen = os.path.join(folder, "seen")
+            env = {**os.environ, "LD_PRELOAD": freed, "FREED_SEEN": seen}
+            got = run(named, words, at, stdin, env=env)
+            faults = [got.err.decode()] if got.status else []
+            if os.path.exists(seen):
+                os.remove(seen)
+            else:
+                faults.append("no block that was given back is seen")
+            report.check(f"keys are cleared: {os.path.basename(named)} {' '.join(words)}", faults)
+
+
+def check(report: Report, program: str) -> None:
+    """Runs all of this topic, where the library was built."""
+    if not is_built(report, "the C library"):
+        return
+    check_symbols(report)
+    with folder_of({}) as folder:
+        check_keytabs(report, program, folder)
+        check_caches(report, program, folder)
+        check_example(report, program)
+        check_rust(report, program, folder)
+        check_given(report, folder)
+        check_memory(report, folder)
+        check_keys(report, program, folder)

@@ -1,0 +1,282 @@
+"""Python's module over the C library: each of its calls, with what it gives written by hand."""
+from __future__ import annotations
+
+import os
+import subprocess
+import sys
+
+from clients import python_limits
+from makers.cache_images import Credential, Name, cache, config, credentials
+from makers.images import B, TWO, Entry, entries
+from makers.usual_caches import PA_TYPE, TICKET
+from pages.readme import LIBRARY, surroundings
+from runs.harness import SECONDS, Outcome, Report
+
+KEYTABS = """
+from krbfile import Keytab, KrbfileError
+import sys
+
+image = sys.stdin.buffer.read()
+with Keytab.open(image) as keytab:
+    print([(entry.place, entry.name, entry.kvno, entry.enctype) for entry in keytab])
+    host = keytab.find("host/a@R")
+    print(host.realm, host.components, host.name_type, host.timestamp, host.key == bytes(range(16)))
+    walk = iter(keytab)
+    next(walk)
+    keytab.remove_at(2)
+    print(keytab.add(b"c@R", 7, 17, bytes(16), 5), [entry.name for entry in walk])
+    print(keytab.rewrite([2, 53]), keytab.fault)
+    for call in (lambda: keytab.find("c"), lambda: keytab.find("d@R"), lambda: keytab.remove_at(3)):
+        try:
+            call()
+        except KrbfileError as error:
+            print(error.status, error)
+    sys.stdout.flush()
+    after = keytab.image
+keytab.close()
+try:
+    keytab.image
+except ValueError as error:
+    print(error)
+try:
+    Keytab.open(b"5")
+except KrbfileError as error:
+    print(error.status, error)
+print(Keytab.open(image[:60]).fault, Keytab.open(image, v1_big=True, limit=98).image == image)
+print(len(Keytab.create().image), after.hex())
+"""
+
+CACHES = """
+from dataclasses import replace
+from krbfile import Cache, KrbfileError
+import sys
+
+with Cache.open(sys.stdin.buffer.read()) as cache:
+    first, second = cache
+    print(cache.principal, first.server, first.client, second.is_config, first.place, second.place)
+    print(first.enctype, first.authtime, first.starttime, first.endtime, first.renew_till)
+    print(hex(first.flags))
+    print(first.key == bytes(range(16)), first.ticket, first.second_ticket, first.is_skey)
+    print(cache.config("pa_type", b"krbtgt/R@R"), cache.config(b"pa_type"))
+    print(cache.find("krbtgt/R@R") == first)
+    other = replace(first, second_ticket=b"2", is_skey=True)
+    place = cache.store(replace(other, server=b"host/a@R"))
+    print(place, replace(cache.find(b"host/a@R"), place=22, server=b"krbtgt/R@R") == other)
+    cache.set_config("pa_type", b"3", "krbtgt/R@R")
+    cache.remove_at(first.place)
+    print(cache.rewrite([first.place, place]), cache.fault)
+    print([ticket.server for ticket in cache if not ticket.is_config], cache.image.hex())
+with Cache.create("a@R", limit=30) as made:
+    try:
+        made.store(first)
+    except KrbfileError as error:
+        print(error.status, error, made.image.hex())
+"""
+
+# What is no number, no bytes or no text, and numbers that do not fit.
+REFUSED = """
+from dataclasses import replace
+from krbfile import Cache, Keytab, Ticket
+import copy, pickle, sys
+
+keytab, cache = Keytab.open(sys.stdin.buffer.read()), Cache.create("u@R")
+ticket = Ticket(0, b"u@R", b"a@R", 17, b"", 0, 0, 0, 0, 0, False, False, b"", b"")
+
+def add(kvno=1, enctype=17, key=b"", timestamp=0):
+    keytab.add("a@R", kvno, enctype, key, timestamp)
+
+def each(wrong, wide, narrow):
+    yield lambda: keytab.remove_at(wrong(wide))
+    yield lambda: keytab.rewrite([2, wrong(wide)])
+    yield lambda: keytab.find("a@R", wrong(wide))
+    yield lambda: keytab.find("a@R", 0, wrong(narrow))
+    yield lambda: add(kvno=wrong(wide))
+    yield lambda: add(enctype=wrong(narrow))
+    yield lambda: add(timestamp=wrong(wide))
+    yield lambda: Keytab.create(wrong(wide))
+    yield lambda: Keytab.open(b"", limit=wrong(wide))
+    yield lambda: Keytab.open(b"", v1_big=wrong(wide))
+    yield lambda: Cache.create("a@R", wrong(wide))
+    yield lambda: Cache.open(b"", limit=wrong(wide))
+    yield lambda: cache.remove_at(wrong(wide))
+    for name in ("authtime", "starttime", "endtime", "renew_till", "flags", "is_skey"):
+        yield lambda: cache.store(replace(ticket, **{name: wrong(wide)}))
+    yield lambda: cache.store(replace(ticket, enctype=wrong(narrow)))
+
+def no_bytes(wrong):
+    yield lambda: Keytab.open(wrong)
+    yield lambda: Cache.open(wrong)
+    yield lambda: add(key=wrong)
+    for name in ("key", "ticket", "second_ticket"):
+        yield lambda: cache.store(replace(ticket, **{name: wrong}))
+    yield lambda: cache.set_config("k", wrong)
+
+def no_name(wrong):
+    yield lambda: keytab.find(wrong)
+    yield lambda: keytab.add(wrong, 1, 17, b"")
+    yield lambda: Cache.create(wrong)
+    yield lambda: cache.find(wrong)
+    yield lambda: cache.store(replace(ticket, client=wrong))
+    yield lambda: cache.store(replace(ticket, server=wrong))
+    yield lambda: cache.config(wrong)
+    yield lambda: cache.config("k", wrong)
+    yield lambda: cache.set_config(wrong, b"")
+    yield lambda: cache.set_config("k", b"", wrong)
+
+def copies(wrong):
+    for it in (keytab, cache):
+        yield lambda: copy.copy(it)
+        yield lambda: copy.deepcopy(it)
+        yield lambda: pickle.dumps(it)
+
+def answers(calls):
+    for call in calls:
+        try:
+            yield repr(call())
+        except Exception as error:
+            yield type(error).__name__
+
+before = keytab.image, cache.image
+for calls in (
+    each(lambda bound: bound, 2**32, 2**16), each(lambda bound: bound + 2, 2**32, 2**16),
+    each(lambda bound: -1, 2**32, 2**16), each(lambda bound: "2", 2**32, 2**16),
+    each(lambda bound: 2.0, 2**32, 2**16), each(lambda bound: None, 2**32, 2**16),
+    no_bytes(16), no_bytes("00ff"), no_bytes([1, 2]), no_bytes(None),
+    no_name(3), no_name([97]), no_name(None), copies(None),
+):
+    found = list(answers(calls))
+    print(len(found), *sorted(set(found)))
+print((keytab.image, cache.image) == before)
+add(2**32 - 1, 2**16 - 1, bytearray(b"k"), 2**32 - 1)
+found = keytab.find("a@R")
+print(found.kvno == 2**32 - 1, found.enctype == 2**16 - 1, found.key, found.timestamp == 2**32 - 1)
+"""
+
+# Two threads walk a keytab, and one reads what another moves in memory.
+THREADS = """
+from krbfile import Keytab
+from threading import Thread
+import sys
+
+sys.setswitchinterval(1e-6)
+image = sys.stdin.buffer.read()
+keytab, changed = Keytab.open(image), Keytab.open(image)
+entries, wrong = list(keytab), []
+
+def walk():
+    for _ in range(300):
+        if list(keytab) != entries:
+            wrong.append("a walk")
+
+def read():
+    for _ in range(1000):
+        if changed.find("host/a@R") != entries[0] or not changed.image.startswith(image):
+            wrong.append("a read")
+
+def change():
+    for _ in range(1000):
+        changed.remove_at(changed.add("c@R", 1, 17, bytes(4096)))
+        changed.rewrite()
+
+threads = [Thread(target=run) for run in (walk, walk, read, read, change)]
+for run in ("start", "join"):
+    for thread in threads:
+        getattr(thread, run)()
+print(wrong, changed.image == image)
+"""
+
+# A name's components as its entry has them: each byte, empty ones, none, and very many of them.
+COMPONENTS = """
+from krbfile import Keytab
+import sys
+
+with Keytab.open(sys.stdin.buffer.read()) as keytab:
+    for entry in keytab:
+        print(len(entry.components), b"|".join(entry.components[:8]).hex(), entry.realm)
+"""
+
+
+def wanted_keytabs() -> bytes:
+    """What the first script prints. HOST has 51 bytes, B 45: c@R is put where HOST stood."""
+    c = Entry((b"c",), key=bytes(16), version8=7, version32=7, timestamp=5)
+    after = entries(c, B)
+    return b"\n".join((
+        b"[(2, b'host/a@R', 3, 17), (53, b'b@R', 3, 17)]",
+        b"b'R' (b'host', b'a') 1 1700000000 True",
+        b"2 [b'b@R']",
+        b"[2, 47] None",
+        b"21 no realm",
+        b"39 no entry of this name and encryption type",
+        b"35 nothing to remove stands at this place",
+        b"it is closed",
+        b"11 it has fewer than two bytes",
+        b"(2, 53) True",
+        b"2 " + after.hex().encode(),
+        b"",
+    ))
+
+
+def wanted_caches() -> bytes:
+    """What the second script prints. The ticket stands at 22, the value at 130."""
+    host = Credential(server=Name((b"host", b"a")), is_skey=1, second_ticket=b"2")
+    after = credentials(host, config(b"pa_type", b"3", b"krbtgt/R@R"))
+    made = cache(default=Name((b"a",)))
+    return b"\n".join((
+        b"b'u@R' b'krbtgt/R@R' b'u@R' True 22 130",
+        b"17 1700000000 0 1700036000 0",
+        b"0x40e00000",
+        b"True b'tkt' b'' False",
+        b"b'2' None",
+        b"True",
+        b"266 True",
+        b"[22, 22] None",
+        b"[b'host/a@R'] " + after.hex().encode(),
+        b"33 the file would be longer than its limit " + made.hex().encode(),
+        b"",
+    ))
+
+
+def wanted_refused() -> bytes:
+    """What the third script prints: how many calls there are, and what they raise."""
+    return b"\n".join((
+        *3 * (b"20 OverflowError",), *3 * (b"20 TypeError",), *4 * (b"7 TypeError",),
+        *3 * (b"10 TypeError",), b"6 TypeError", b"True", b"True True b'k' True", b"",
+    ))
+
+
+def wanted_threads() -> bytes:
+    """What the fourth script prints: nothing is wrong."""
+    return b"[] True\n"
+
+
+# Names with each byte, slashes, empty components and none, and as many as a name can have.
+NAMES = ((bytes(range(256)),), (b"a/b@c\\", b"", b"\0\b\n\t0bnt"), (b"",), (), (b"", b""),
+         (b"",) * 65_535)
+
+
+def wanted_components() -> bytes:
+    """What the last script prints."""
+    parts = ((len(name), b"|".join(name[:8]).hex()) for name in NAMES)
+    return b"".join(b"%d %s b'R/@'\n" % (count, text.encode()) for count, text in parts)
+
+
+SCRIPTS = (
+    ("keytabs", KEYTABS, TWO, wanted_keytabs),
+    ("caches", CACHES, credentials(TICKET, PA_TYPE), wanted_caches),
+    ("what it refuses", REFUSED, TWO, wanted_refused),
+    ("threads", THREADS, TWO, wanted_threads),
+    *python_limits.SCRIPTS,
+    ("components", COMPONENTS, entries(*(Entry(name, b"R/@") for name in NAMES)), wanted_components),
+)
+
+
+def check(report: Report, _program: str) -> None:
+    """Runs all of this topic, where the library was built."""
+    if not os.path.exists(LIBRARY):
+        report.skip("Python's module", "there is no C library: make lib builds it")
+        return
+    for name, script, image, wanted in SCRIPTS:
+        done = subprocess.run([sys.executable, "-c", script], input=image, capture_output=True,
+                              env=surroundings("/bin"), timeout=SECONDS, check=False)
+        got = Outcome(done.returncode, done.stdout, done.stderr)
+        report.compare(f"Python's module: {name}", Outcome(0, wanted()), got)

@@ -1,0 +1,161 @@
+"""What `ktcheck` finds, by hand. Places are counted from the lengths of the records before."""
+from __future__ import annotations
+
+import os
+import stat
+
+from keytabs.removals import AES256, B3, FIVE, FOUR, versioned
+from makers.images import B, BIG, END, HOST, LITTLE, TWO, Entry, entries, hole, keytab, record
+from models.check_model import checked
+from runs.harness import Case, Outcome, Report, check_case, differences, folder_of, message, run
+
+# The smallest length that MIT's reader takes for the end.
+LONG = 32_768
+
+# Entries that MIT's programs end before, and some that they list.
+ODD = {
+    "no components": Entry(()),
+    "no components and an empty realm": Entry((), b""),
+    "an empty component": Entry((b"",)),
+    "an empty first component": Entry((b"", b"x")),
+    "an empty middle component": Entry((b"a", b"", b"b")),
+    "an empty last component": Entry((b"host", b"")),
+    "an empty realm": Entry((b"a",), b""),
+    "no key": Entry(key=b""),
+    "a long key": Entry(key=bytes(LONG)),
+    "the longest key": Entry(key=bytes(65_535)),
+    "a long component": Entry((b"x" * LONG,)),
+    "a long second component": Entry((b"a", b"x" * 65_535)),
+    "a long realm": Entry((b"a",), b"R" * LONG),
+    "many components": Entry((b"p",) * LONG),
+}
+EVEN = {
+    "a key of a byte": Entry(key=b"x"),
+    "a key almost too long": Entry(key=bytes(LONG - 1)),
+    "a component almost too long": Entry((b"x" * (LONG - 1),)),
+    "a realm almost too long": Entry((b"a",), b"R" * (LONG - 1)),
+    "almost too many components": Entry((b"p",) * (LONG - 1)),
+    "odd numbers": Entry(name_type=2**32 - 1, timestamp=2**31, enctype=65_535, version32=0),
+}
+
+
+def check_up(name: str, image: bytes, lines: list[str], status: int = 0, options=()) -> Case:
+    """A check of that image, which is its owner's alone."""
+    out = "".join(f"{line}\n" for line in lines).encode()
+    return Case(f"check: {name}", ("ktcheck", *options, "k"), Outcome(status, out), {"k": image})
+
+
+def findings() -> list[Case]:
+    """Each word, and what is no finding."""
+    other = Entry(key=bytes(16))
+    weak = [Entry((b"a",), enctype=enctype, version8=enctype, version32=enctype) for enctype in
+            (1, 2, 3, 4, 5, 6, 7, 8, 9, 16, 17, 18, 23, 24, 25)]
+    # Each record of a@R has 45 bytes. The last version of a name is its newest, and all before are old.
+    of_weak = [f"{word} {2 + 45 * at} kvno {entry.enctype} etype {entry.enctype} a@R"
+               for at, entry in enumerate(weak)
+               for word in (["weak"] if entry.enctype in (1, 2, 3, 4, 6, 8, 16, 23, 24) else [])
+               + (["old"] if at < len(weak) - 1 else [])]
+    return [
+        check_up("nothing", TWO, ["entries 2 free 0 holes 0"]),
+        check_up("no entry", keytab(), ["entries 0 free 0 holes 0"]),
+        check_up("old", FOUR, ["old 2 kvno 3 etype 17 host/a@R", "entries 4 free 0 holes 0"]),
+        check_up("versions that have wrapped", entries(versioned(255, 1), versioned(1, 2)),
+                 ["old 2 kvno 255 etype 17 a@R", "entries 2 free 0 holes 0"]),
+        check_up("weak", entries(*weak), [*of_weak, "entries 15 free 0 holes 0"], 1),
+        check_up("the same key three times", entries(HOST, B, HOST, HOST),
+                 ["same 98 2 kvno 3 etype 17 host/a@R", "same 149 2 kvno 3 etype 17 host/a@R",
+                  "entries 4 free 0 holes 0"], 1),
+        check_up("another key", entries(HOST, other, HOST),
+                 ["clash 53 2 kvno 3 etype 17 host/a@R", "same 104 2 kvno 3 etype 17 host/a@R",
+                  "entries 3 free 0 holes 0"], 1),
+        check_up("another name type is no other name", entries(HOST, Entry(name_type=7)),
+                 ["same 53 2 kvno 3 etype 17 host/a@R", "entries 2 free 0 holes 0"], 1),
+        check_up("other versions and enctypes are others", entries(AES256, FIVE, B3),
+                 ["entries 3 free 0 holes 0"]),
+        check_up("all words of one entry", entries(Entry((b"",), enctype=23), Entry((b"",), enctype=23),
+                                                   Entry((b"",), version8=4, version32=4)),
+                 ["weak 2 kvno 3 etype 23 @R", "hidden 2 kvno 3 etype 23 @R", "old 2 kvno 3 etype 23 @R",
+                  "weak 46 kvno 3 etype 23 @R", "same 46 2 kvno 3 etype 23 @R",
+                  "old 46 kvno 3 etype 23 @R", "entries 3 free 0 holes 0"], 1),
+    ]
+
+
+def hidden() -> list[Case]:
+    """Which entries MIT's programs end before, each between two that they list."""
+    first, last = Entry((b"first",)), Entry((b"last",), key=b"")
+    cases = []
+    for version, order in ((2, BIG), (1, LITTLE)):
+        place = 2 + 4 + len(first.spelled(version, order))
+        for name, entry in {**ODD, **EVEN}.items():
+            image = entries(first, entry, last, version=version, order=order)
+            got = checked(image)
+            where = place if name in ODD else place + 4 + len(entry.spelled(version, order))
+            told = [line for line in got.out.split(b"\n") if line.startswith(b"hidden ")]
+            # The last one has no key, and is told where none before it is.
+            assert [line.split()[1] for line in told] == [b"%d" % where], (name, told)
+            cases.append(Case(f"check: hidden, {name}, version {version}", ("ktcheck", "k"), got,
+                              {"k": image}))
+    return cases
+
+
+def layouts() -> list[Case]:
+    """Holes, ends, damage, and version 1 in both orders."""
+    holes = keytab(hole(bytes(3)), record(B.spelled()), hole(b"xyz12"), END, b"more")
+    bad = keytab(record(HOST.spelled()), hole(bytes(9)), record(bytes(10)), record(B.spelled()))
+    big = entries(HOST, B, version=1, order=BIG)
+    return [
+        check_up("holes", holes, ["entries 1 free 8 holes 2"]),
+        check_up("a damaged keytab", bad, ["fault 3 at 66", "entries 1 free 9 holes 1"], 1),
+        check_up("damage at once", keytab(b"\0"), ["fault 1 at 2", "entries 0 free 0 holes 0"], 1),
+        check_up("version 1, big-endian", big, ["entries 2 free 0 holes 0"], 0, ("--v1-big",)),
+        check_up("version 1, big-endian, read as little", big,
+                 ["fault 2 at 2", "entries 0 free 0 holes 0"], 1),
+    ]
+
+
+def refused() -> list[Case]:
+    """Files that are no keytabs, and command lines that are not read."""
+    files = {"k": b"xy", "c": b"\x05\x04"}
+    cases = [("k", message(1, "k: not a keytab (2)")), ("c", message(1, "c: not a keytab (2)")),
+             ("no", message(1, "no: no such file")), (".", message(3, ".: cannot read"))]
+    lines = [(), ("-k", "k"), ("-n", "k"), ("k", "c"), ("--mode", "k")]
+    return [
+        *(Case(f"check: {name}", ("ktcheck", name), wanted, files) for name, wanted in cases),
+        Case("check: a large file", ("ktcheck", "k"), message(1, "k: file too large"),
+             {"k": bytes(16_777_217)}),
+        *(Case(f"check: {words}", ("ktcheck", *words), message(2, "bad command line"), files)
+          for words in lines),
+    ]
+
+
+def check_modes(report: Report, program: str) -> None:
+    """The mode of a plain file, also one behind a link, is told where others may read or write it."""
+    rows = [(0o600, None, 0), (0o400, None, 0), (0o611, None, 0), (0o7711, None, 0),
+            (0o640, "640", 0), (0o660, "660", 0), (0o620, "620", 0), (0o604, "604", 1),
+            (0o602, "602", 1), (0o644, "644", 1), (0o666, "666", 1), (0o4640, "4640", 0),
+            (0o1644, "1644", 1), (0o060, "60", 0), (0o006, "6", 1)]
+    with folder_of({"k": TWO}) as folder:
+        os.symlink("k", os.path.join(folder, "link"))
+        path = os.path.join(folder, "k")
+        for mode, told, status in rows:
+            os.chmod(path, mode)
+            if stat.S_IMODE(os.stat(path).st_mode) != mode:
+                report.skip(f"mode {mode:o}", "the file does not take it")
+                continue
+            out = (f"mode {told}\n" if told else "") + "entries 2 free 0 holes 0\n"
+            for name in ("k", "link"):
+                got = run(program, ("ktcheck", name), folder)
+                if mode & 0o400 or os.geteuid() == 0:
+                    report.check(f"check: mode {mode:o} of {name}",
+                                 differences(Outcome(status, out.encode()), got))
+
+
+def check(report: Report, program: str) -> None:
+    """Runs all of this topic."""
+    before = os.umask(0o077)
+    try:
+        for one in [*findings(), *hidden(), *layouts(), *refused()]:
+            check_case(report, program, one)
+    finally:
+        os.umask(before)
+    check_modes(report, program)

@@ -1,0 +1,168 @@
+"""ktutil with somebody at the other end: each line is answered before the next one is there."""
+from __future__ import annotations
+
+import os
+import pty
+import select
+import subprocess
+import termios
+import time
+
+from keytabs.edits import text
+from keytabs.ktutil_lines import ADDENT, HEADING, KEY, NO_SLOTS, TIMES
+from makers.images import TWO
+from models.reading import time_text
+from runs.harness import SECONDS, Outcome, Report, differences, folder_of, message, short
+
+LISTED = text([*HEADING, "   1    3 host/a@R", "   2    3 b@R"])
+
+
+class Talk:
+    """A run of ktutil whose input stays open."""
+
+    def __init__(
+        self, program: str, folder: str, stdin: int, input_end: int, *options: str
+    ) -> None:
+        self.input_end = input_end
+        self.found: list[str] = []
+        self.run = subprocess.Popen([program, "ktutil", *options], cwd=folder, stdin=stdin,
+                                    stdout=subprocess.PIPE, stderr=subprocess.PIPE, bufsize=0)
+        os.close(stdin)
+
+    def send(self, data: bytes) -> None:
+        """Gives it some bytes."""
+        os.write(self.input_end, data)
+
+    def take(self, count: int, stream) -> bytes:
+        """Waits for that many bytes of an output."""
+        heard = b""
+        while len(heard) < count and select.select([stream], [], [], 5)[0]:
+            piece = stream.read(count - len(heard))
+            if not piece:
+                break
+            heard += piece
+        return heard
+
+    def hear(self, wanted: bytes, stream=None) -> None:
+        """Waits for those bytes of an output."""
+        heard = self.take(len(wanted), stream or self.run.stdout)
+        if heard != wanted:
+            self.found.append(f"{short(heard)} came, not {short(wanted)}")
+
+    def hear_nothing(self) -> None:
+        """For a while there is no output."""
+        if select.select([self.run.stdout, self.run.stderr], [], [], 0.2)[0]:
+            self.found.append("something came")
+
+    def end(self, wanted: Outcome) -> None:
+        """The run ends by itself, with that and no more."""
+        try:
+            out, err = self.run.communicate(timeout=SECONDS)
+            self.found += differences(wanted, Outcome(self.run.returncode, out or b"", err))
+        except subprocess.TimeoutExpired:
+            self.run.kill()
+            self.found.append("it does not end")
+
+
+def talk_lines(talk: Talk) -> None:
+    """Lines one by one, one in pieces, and faults in their turn."""
+    talk.send(b"l\n")
+    talk.hear(NO_SLOTS)
+    talk.send(b"rkt k\nl\n")
+    talk.hear(LISTED)
+    talk.send(b"frob\n")
+    talk.hear(b"krbfile: line 4: fault 1\n", talk.run.stderr)
+    talk.send(b"cle")
+    talk.hear_nothing()
+    talk.send(b"ar\nl\n")
+    talk.hear(NO_SLOTS)
+
+
+def talk_to_quit(talk: Talk) -> None:
+    """The input stays open behind a `quit`."""
+    talk_lines(talk)
+    talk.send(b"q\n")
+    talk.end(Outcome(1))
+    os.close(talk.input_end)
+
+
+def talk_to_end(talk: Talk) -> None:
+    """The input ends in the midst of a line, which is then handled."""
+    talk_lines(talk)
+    talk.send(b"l")
+    talk.hear_nothing()
+    os.close(talk.input_end)
+    talk.end(Outcome(1, NO_SLOTS))
+
+
+def talk_to_nobody(talk: Talk) -> None:
+    """The reader of the output goes away: the run ends at once, though its input stays open."""
+    talk.send(b"l\n")
+    talk.hear(NO_SLOTS)
+    talk.run.stdout.close()
+    talk.send(b"l\n")
+    err = talk.run.stderr.read()
+    talk.run.stdout = None
+    talk.end(Outcome(3))
+    if err != message(3, "cannot write output").err:
+        talk.found.append(f"error output {err!r}")
+    os.close(talk.input_end)
+
+
+def talk_at_terminal(talk: Talk) -> None:
+    """A terminal gives whole lines, and its end-of-file character ends the input."""
+    talk_lines_at_terminal = (b"l\n", NO_SLOTS), (b"rkt k\nl\n", LISTED)
+    for line, wanted in talk_lines_at_terminal:
+        talk.send(line)
+        talk.hear(wanted)
+    talk.send(b"\x04")
+    talk.end(Outcome(0))
+    os.close(talk.input_end)
+
+
+def listed_at(now: int) -> bytes:
+    """The listing of an entry that has that time."""
+    return text(TIMES) + b"   1    3 " + time_text(now) + b" host/a@R\n"
+
+
+def check_start(report: Report, program: str) -> None:
+    """The time of an entry is that of the run's start, however long after it the entry is added."""
+    before = int(time.time())
+    with folder_of({}) as folder:
+        talk = Talk(program, folder, *os.pipe())
+        talk.send(b"l\n")
+        talk.hear(NO_SLOTS)
+        started = int(time.time())
+        time.sleep(1.5)
+        talk.send(text([ADDENT, KEY, "l -t"]))
+        heard = talk.take(len(listed_at(before)), talk.run.stdout)
+        if heard not in map(listed_at, range(before, started + 1)):
+            talk.found.append(f"{short(heard)} came")
+        os.close(talk.input_end)
+        talk.end(Outcome(0))
+    report.check("an entry has the time of the run's start", talk.found)
+
+
+def terminal() -> tuple[int, int]:
+    """A terminal without echo: its two ends."""
+    master, slave = pty.openpty()
+    settings = termios.tcgetattr(slave)
+    settings[3] &= ~termios.ECHO
+    termios.tcsetattr(slave, termios.TCSANOW, settings)
+    return slave, master
+
+
+def check(report: Report, program: str) -> None:
+    """Runs all of this topic."""
+    talks = [
+        ("up to quit", os.pipe, talk_to_quit),
+        ("up to the end of the input", os.pipe, talk_to_end),
+        ("until nobody listens", os.pipe, talk_to_nobody),
+        ("at a terminal", terminal, talk_at_terminal),
+    ]
+    for name, opened, go in talks:
+        with folder_of({"k": TWO}) as folder:
+            talk = Talk(program, folder, *opened())
+            go(talk)
+        report.check(f"ktutil answers line by line, {name}", talk.found)
+    check_start(report, program)

@@ -1,0 +1,134 @@
+"""Files with damage: in their bits, bytes and numbers, in their length, or from another file."""
+from __future__ import annotations
+
+from collections.abc import Callable
+from dataclasses import dataclass
+from random import Random
+
+from makers.images import BIG, LITTLE, number
+from runs.harness import Report
+from runs.random_runs import Topic
+
+# A change of a file; the second file is one from which bytes may come.
+Change = Callable[[Random, bytes, bytes], bytes]
+
+
+def span(random: Random, image: bytes) -> tuple[int, int]:
+    """Where some bytes begin and end, mostly few."""
+    at = random.randrange(len(image))
+    return at, min(len(image), at + random.choice([1, 1, 2, 4, 20, 100]))
+
+
+def flip(random: Random, image: bytes, _: bytes) -> bytes:
+    """One bit is another."""
+    at = random.randrange(len(image))
+    return image[:at] + bytes([image[at] ^ 1 << random.randrange(8)]) + image[at + 1:]
+
+
+def set_byte(random: Random, image: bytes, _: bytes) -> bytes:
+    """One byte is another."""
+    at = random.randrange(len(image))
+    byte = random.choice([b"\0", b"\1", b"\x7f", b"\x80", b"\xff", random.randbytes(1)])
+    return image[:at] + byte + image[at + 1:]
+
+
+def likely_numbers(image: bytes, width: int, order: str) -> list[int]:
+    """The places where a number of that width is small enough to be a count or a length."""
+    high = slice(0, width // 2) if order == BIG else slice(width - width // 2, width)
+    zeros = bytes(width // 2)
+    return [at for at in range(len(image) - width + 1) if image[at : at + width][high] == zeros]
+
+
+def set_number(random: Random, image: bytes, _: bytes) -> bytes:
+    """A count or a length is nothing, a little off, negative, far too great, or up to the end."""
+    width, order = random.choice([2, 4, 4]), random.choice([BIG, BIG, LITTLE])
+    places = likely_numbers(image, width, order)
+    if not places:
+        return image
+    at = random.choice(places)
+    old = int.from_bytes(image[at : at + width], order)
+    rest = len(image) - at - width
+    near = [old - 4, old - 1, old + 1, old + 4, -old, rest - 1, rest, rest + 1, -rest, -rest - 1]
+    edges = [0, 1, 2, -1, 2 ** (8 * width - 1), 2 ** (8 * width - 1) - 1, 2**16, 2**16 - 1]
+    new = random.choice([*near, *edges]) % 2 ** (8 * width)
+    return image[:at] + number(new, width, order) + image[at + width:]
+
+
+def insert(random: Random, image: bytes, _: bytes) -> bytes:
+    """Some bytes more stand in it or after it."""
+    at = random.randrange(len(image) + 1)
+    count = random.choice([1, 2, 3, 4, 8, 30])
+    return image[:at] + random.choice([bytes(count), random.randbytes(count)]) + image[at:]
+
+
+def remove(random: Random, image: bytes, _: bytes) -> bytes:
+    """Some bytes are missing."""
+    at, to = span(random, image)
+    return image[:at] + image[to:]
+
+
+def repeat(random: Random, image: bytes, _: bytes) -> bytes:
+    """Some bytes stand twice."""
+    at, to = span(random, image)
+    return image[:to] + image[at:]
+
+
+def cut(random: Random, image: bytes, _: bytes) -> bytes:
+    """It ends early, now and then at once."""
+    most = min(len(image), 8) if random.random() < 0.1 else len(image)
+    return image[: random.randrange(most)]
+
+
+def splice(random: Random, image: bytes, other: bytes) -> bytes:
+    """It goes on as another file."""
+    return image[: random.randrange(len(image))] + other[random.randrange(len(other)):]
+
+
+def graft(random: Random, image: bytes, other: bytes) -> bytes:
+    """Some bytes of another file stand over its own."""
+    at, to = span(random, image)
+    begin = random.randrange(len(other))
+    return image[:at] + other[begin : begin + to - at] + image[to:]
+
+
+# The changes, by how often.
+CHANGES: dict[Change, int] = {
+    flip: 3, set_byte: 2, set_number: 6, cut: 2, splice: 2,
+    insert: 1, remove: 1, repeat: 1, graft: 1,
+}
+
+
+def damaged(random: Random, image: bytes, other: bytes, most: int = 3) -> bytes:
+    """The file with up to that many changes, mostly one."""
+    for _ in range(random.choice([1, 1, *range(1, most + 1)])):
+        if image:
+            change = random.choices(list(CHANGES), CHANGES.values())[0]
+            image = change(random, image, other)
+    return image
+
+
+def mutated(random: Random, samples: list[bytes]) -> bytes:
+    """One of those files, with changes; now and then without."""
+    image = random.choice(samples)
+    return image if random.random() < 0.02 else damaged(random, image, random.choice(samples))
+
+
+@dataclass(frozen=True)
+class DamagedFiles:
+    """A topic of files with damage, which are made from samples."""
+
+    topic_over: Callable[[list[bytes]], Topic]
+    samples: list[bytes]
+    # What MIT's programs write here, where they are there.
+    mit_samples: Callable[[Report], list[bytes]]
+
+    def check(self, report: Report, program: str) -> None:
+        """Runs as many numbers as usual, the same in each run."""
+        self.topic_over(self.samples).check(report, program)
+
+    def check_long(self, program: str, seed: int, count: int) -> Report:
+        """Runs many, also made from what MIT's programs write here."""
+        report = Report()
+        samples = [*self.samples, *self.mit_samples(report)]
+        self.topic_over(samples).check_from(report, program, seed, count)
+        return report

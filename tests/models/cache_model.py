@@ -1,0 +1,167 @@
+"""A cache that is changed: its cells, what each change does to them, and the image they spell.
+
+It is written from the rules of the format, to say what the program has to answer and to save.
+"""
+from __future__ import annotations
+
+from dataclasses import dataclass
+from functools import cached_property
+
+from makers.cache_images import CONFIG_FIRST, Name, config, header_field
+from makers.images import counted
+from models.cache_reading import CacheFields, Credential, read_cache
+from models.reading import name_text
+from models.walks import DAMAGED, FULL, LIMIT, NOT_LIVE, READ_ONLY, Refused, carried
+
+# The only kind of fault that a cache has.
+BAD_CREDENTIAL = 4
+
+
+@dataclass(frozen=True)
+class Cell:
+    """The bytes of a credential, in a cache of that version."""
+
+    data: bytes
+    version: int
+
+    @cached_property
+    def said(self) -> Credential:
+        """What they say."""
+        return CacheFields(self.data).credential(self.version)
+
+    def is_live(self) -> bool:
+        """Whether it was not removed."""
+        return not self.said.is_removed()
+
+    def front(self) -> int:
+        """How many bytes its two names have, and the first enctype."""
+        rest = CacheFields(self.data)
+        for _ in range(2):
+            rest.name()
+        return len(self.data) - len(rest.data) + 2
+
+    def key(self) -> bytes:
+        """The session key."""
+        return CacheFields(self.in_version_4().data[self.front():]).counted32()
+
+    def marked(self) -> Cell:
+        """The same with the two times of one that was removed; in version 4 alone."""
+        at = self.front()
+        rest = CacheFields(self.data[at:])
+        rest.counted32()
+        at = len(self.data) - len(rest.data)
+        times = b"\xff" * 4 + self.data[at + 4 : at + 8] + bytes(4)
+        return Cell(self.data[:at] + times + self.data[at + 12:], 4)
+
+    def in_version_4(self) -> Cell:
+        """The same in version 4, which has no second enctype."""
+        skipped = 2 if self.version == 3 else 0
+        at = self.front()
+        return Cell(self.data[:at] + self.data[at + skipped:], 4)
+
+
+class Cache:
+    """A cache as what stands before its cells, the cells, and the bytes after them, if damaged."""
+
+    def __init__(self, image: bytes) -> None:
+        read = read_cache(image)
+        places = [at for at, _ in read.cells] + [read.end]
+        self.version = image[1]
+        rest = CacheFields(image[2 : places[0]])
+        fields = rest.header() if self.version == 4 else []
+        self.offsets = [value for tag, value in fields if tag == 1 and len(value) == 8]
+        self.default, self.default_data = read.default, rest.data
+        self.front = image[: places[0]]
+        self.cells = [Cell(image[at:to], self.version) for at, to in zip(places, places[1:])]
+        self.rest = image[read.end:]
+        self.fault = (BAD_CREDENTIAL, read.end) if read.is_damaged else None
+
+    def image(self) -> bytes:
+        """The bytes of the file."""
+        return b"".join([self.front, *(cell.data for cell in self.cells), self.rest])
+
+    def places(self) -> list[int]:
+        """The place of each cell, and where they end."""
+        found = [len(self.front)]
+        for cell in self.cells:
+            found.append(found[-1] + len(cell.data))
+        return found
+
+    def live(self) -> list[tuple[int, Credential]]:
+        """Each credential that was not removed, with its place."""
+        placed = zip(self.places(), self.cells)
+        return [(place, cell.said) for place, cell in placed if cell.is_live()]
+
+    def keys_of(self, server: bytes) -> list[bytes]:
+        """The session key of each live ticket for a server, by the text of its name."""
+        live = (cell for cell in self.cells if cell.is_live())
+        return [cell.key() for cell in live if name_text(cell.said.server) == server]
+
+    def live_places(self) -> list[int]:
+        """The place of each of them."""
+        return [place for place, _ in self.live()]
+
+    def next_record(self, place: int) -> tuple[int, int, Credential] | None:
+        """The place of the first live credential from a place on, the place after it, and itself."""
+        places = self.places()
+        for at, after, cell in zip(places, places[1:], self.cells):
+            if at >= place and cell.is_live():
+                return at, after, cell.said
+        return None
+
+    def check_writable(self) -> None:
+        """Version 3 refuses each change but a rewrite, and damage refuses that too."""
+        if self.version == 3:
+            raise Refused(READ_ONLY)
+        self.check_sound()
+
+    def check_sound(self) -> None:
+        """A damaged cache refuses each change."""
+        if self.fault:
+            raise Refused(DAMAGED)
+
+    def add(self, data: bytes) -> int:
+        """Puts a credential behind all others; its place."""
+        self.check_writable()
+        end = self.places()[-1]
+        if end + len(data) > LIMIT:
+            raise Refused(FULL)
+        self.cells.append(Cell(data, 4))
+        return end
+
+    def cut(self, place: int) -> int:
+        """Marks the live credential at a place as removed."""
+        self.check_writable()
+        for at, (here, cell) in enumerate(zip(self.places(), self.cells)):
+            if here == place and cell.is_live():
+                self.cells[at] = cell.marked()
+                return place
+        raise Refused(NOT_LIVE)
+
+    def settings(self, key: bytes, principal: bytes | None) -> list[int]:
+        """The places of the values under a key that the default principal has."""
+        own = [CONFIG_FIRST, key] if principal is None else [CONFIG_FIRST, key, principal]
+        return [place for place, said in self.live()
+                if said.is_config() and [*said.server[:-1]] == own and said.client == self.default]
+
+    def setting(self, key: bytes, value: bytes, principal: bytes | None) -> bytes:
+        """The bytes of a new value of the default principal."""
+        *components, realm = self.default
+        name_type = int.from_bytes(self.default_data[:4], "big")
+        client = Name(tuple(components), realm, name_type)
+        return config(key, value, principal, client).spelled()
+
+    def rewrite(self, cursors: list[int]) -> int:
+        """Writes the live credentials anew in version 4, and carries the cursors along."""
+        self.check_sound()
+        kept = b"".join(header_field(1, value) for value in self.offsets[:1])
+        front = b"\x05\x04" + counted(kept) + self.default_data
+        cells = [cell.in_version_4() for cell in self.cells if cell.is_live()]
+        places = [len(front)]
+        for cell in cells:
+            places.append(places[-1] + len(cell.data))
+        if places[-1] > LIMIT:
+            raise Refused(FULL)
+        cursors[:] = carried(cursors, self.live_places(), places)
+        self.version, self.front, self.cells = 4, front, cells
+        return places[-1]

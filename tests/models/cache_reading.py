@@ -1,0 +1,202 @@
+"""What `klist` answers on a credential cache, worked out from the format's rules."""
+from __future__ import annotations
+
+from dataclasses import dataclass
+
+from makers.cache_images import CONFIG_FIRST, CONFIG_REALM, Typed
+from makers.images import BIG
+from models.reading import Fields, NoEntry, etype_text, name_text, time_text
+from runs.harness import Outcome, message
+
+# The letters of the flags in the order in which they are printed.
+FLAGS = {
+    b"F": 0x40000000,
+    b"f": 0x20000000,
+    b"P": 0x10000000,
+    b"p": 0x08000000,
+    b"D": 0x04000000,
+    b"d": 0x02000000,
+    b"i": 0x01000000,
+    b"R": 0x00800000,
+    b"I": 0x00400000,
+    b"H": 0x00100000,
+    b"A": 0x00200000,
+    b"T": 0x00080000,
+    b"O": 0x00040000,
+    b"a": 0x00008000,
+}
+
+HEADING = b"Valid starting       Expires              Service principal"
+
+
+@dataclass(frozen=True)
+class Credential:
+    """What a credential says. A name is its components and then its realm."""
+
+    client: tuple[bytes, ...]
+    server: tuple[bytes, ...]
+    enctype: int
+    authtime: int
+    starttime: int
+    endtime: int
+    renew_till: int
+    is_skey: int
+    flags: int
+    addresses: list[Typed]
+    authdata: list[Typed]
+    ticket: bytes
+
+    def is_removed(self) -> bool:
+        """Whether it has the removed mark."""
+        return self.endtime == 0 and self.authtime == 2**32 - 1
+
+    def is_config(self) -> bool:
+        """Whether it is a configuration entry, which its server's name alone tells."""
+        *components, realm = self.server
+        return realm == CONFIG_REALM and len(components) in (2, 3) and components[0] == CONFIG_FIRST
+
+    def lines(self, columns: str) -> list[bytes]:
+        """Its lines of a listing."""
+        if self.is_config():
+            return [self.config_line()] if "C" in columns else []
+        times = time_text(self.starttime or self.authtime), time_text(self.endtime)
+        shown = [b" ".join([*times, name_text(self.server)])]
+        if self.renew_till != 0:
+            shown.append(b"    renew until " + time_text(self.renew_till))
+        if "f" in columns:
+            shown.append(b"    Flags: " + self.letters())
+        if "e" in columns:
+            shown.append(b"    Etype: " + etype_text(self.enctype))
+        return shown
+
+    def letters(self) -> bytes:
+        """The letters of its flags."""
+        return b"".join(letter for letter, bit in FLAGS.items() if self.flags & bit)
+
+    def config_name(self) -> bytes:
+        """What a configuration entry has its value under."""
+        _, key, *principals, _ = self.server
+        return escaped(key) + b"".join(b"(" + escaped(text) + b")" for text in principals)
+
+    def config_line(self) -> bytes:
+        """The line of a configuration entry."""
+        return b"config: " + self.config_name() + b" = " + escaped(self.ticket)
+
+    def tail(self) -> bytes:
+        """The end of a line that tells of one that a walk was given."""
+        if self.is_config():
+            return b"config " + self.config_name()
+        return b"etype %d " % self.enctype + name_text(self.server)
+
+
+class CacheFields(Fields):
+    """The fields of a cache, taken one after the other; the numbers are big-endian."""
+
+    def __init__(self, data: bytes) -> None:
+        super().__init__(data, BIG)
+
+    def counted32(self) -> bytes:
+        """The next data after its 32-bit length."""
+        return self.take(self.number(4))
+
+    def name(self) -> tuple[bytes, ...]:
+        """The next principal: its components and then its realm."""
+        self.number(4)
+        count = self.number(4)
+        realm = self.counted32()
+        return (*[self.counted32() for _ in range(count)], realm)
+
+    def typed_list(self) -> list[Typed]:
+        """The next addresses, or elements of the authorization data."""
+        return [(self.number(2), self.counted32()) for _ in range(self.number(4))]
+
+    def credential(self, version: int) -> Credential:
+        """The next credential."""
+        client, server, enctype = self.name(), self.name(), self.number(2)
+        if version == 3:
+            self.number(2)
+        self.counted32()
+        times = [self.number(4) for _ in range(4)]
+        is_skey, flags = self.number(1), self.number(4)
+        addresses, authdata = self.typed_list(), self.typed_list()
+        ticket, _ = self.counted32(), self.counted32()
+        return Credential(client, server, enctype, *times, is_skey, flags, addresses, authdata,
+                          ticket)
+
+    def header(self) -> list[Typed]:
+        """The fields of the header of version 4, which have to fill it: tags and values."""
+        header = CacheFields(self.counted())
+        found = []
+        while header.data:
+            found.append((header.number(2), header.counted()))
+        return found
+
+
+def escaped(data: bytes) -> bytes:
+    """Bytes as the line of a configuration entry has them."""
+    return b"".join(
+        b"\\\\" if byte == 0x5C else bytes([byte]) if 0x20 <= byte <= 0x7E else b"\\x%02x" % byte
+        for byte in data
+    )
+
+
+@dataclass(frozen=True)
+class Cache:
+    """A cache: its default principal, and each credential with its place, removed ones too."""
+
+    default: tuple[bytes, ...]
+    cells: list[tuple[int, Credential]]
+    end: int
+    is_damaged: bool
+
+
+def read_cells(image: bytes, at: int) -> tuple[list[tuple[int, Credential]], int]:
+    """The credentials from a place on, and where the last of them ends."""
+    cells = []
+    while at < len(image):
+        rest = CacheFields(image[at:])
+        try:
+            credential = rest.credential(image[1])
+        except NoEntry:
+            break
+        cells.append((at, credential))
+        at = len(image) - len(rest.data)
+    return cells, at
+
+
+def read_cache(image: bytes) -> Cache | int:
+    """A cache, or the number of the refusal."""
+    if len(image) < 2:
+        return 1
+    if image[0] != 5 or image[1] not in (3, 4):
+        return 2
+    rest = CacheFields(image[2:])
+    try:
+        if image[1] == 4:
+            rest.header()
+    except NoEntry:
+        return 4
+    try:
+        default = rest.name()
+    except NoEntry:
+        return 5
+    cells, end = read_cells(image, len(image) - len(rest.data))
+    return Cache(default, cells, end, end < len(image))
+
+
+def listed(default: bytes, *lines: bytes, name: bytes = b"c") -> bytes:
+    """The text of a listing: four first lines, and those of the credentials or of a fault."""
+    first = (b"Ticket cache: FILE:" + name, b"Default principal: " + default, b"", HEADING)
+    return b"".join(line + b"\n" for line in (*first, *lines))
+
+
+def answer(image: bytes, columns: str = "") -> Outcome:
+    """What `klist` answers on that image, as the file `c`."""
+    cache = read_cache(image)
+    if isinstance(cache, int):
+        return message(1, f"c: not a cache ({cache})")
+    live = [credential for _, credential in cache.cells if not credential.is_removed()]
+    lines = [line for credential in live for line in credential.lines(columns)]
+    if cache.is_damaged:
+        lines.append(b"fault 4 at %d" % cache.end)
+    return Outcome(1 if cache.is_damaged else 0, listed(name_text(cache.default), *lines))

@@ -1,0 +1,235 @@
+"""What `ktutil` does with its lines: what it prints, what it says is wrong, and what it saves."""
+from __future__ import annotations
+
+import re
+from collections.abc import Callable
+from dataclasses import replace
+
+from makers.script_lines import (
+    BAD_FILE,
+    BAD_KEY,
+    BAD_SLOT,
+    UNKNOWN_WORD,
+    WORD_COUNT,
+    LineFault,
+    name_in,
+    number_in,
+)
+from models.keytab_model import Keytab
+from models.reading import KeytabEntry, no_keytab
+from models.script_model import etype_in, key_in
+from models.walks import DAMAGED, LIMIT, Refused
+from runs.harness import Outcome
+
+# The options of a listing, and the letters of their columns.
+COLUMNS = {b"-t": "t", b"-k": "K", b"-e": "e"}
+
+# The greatest length of a file's name.
+LONGEST_NAME = 255
+
+
+class Failure(Exception):
+    """A line fails, with a message and a status."""
+
+    def __init__(self, text: bytes, status: int) -> None:
+        super().__init__(text, status)
+        self.text, self.status = text, status
+
+
+def words_in(line: bytes) -> list[bytes]:
+    """The words of a line: a backslash keeps the byte after it in its word."""
+    return re.findall(rb"(?:\\.|[^ \t])+", line, re.DOTALL)
+
+
+def check_count(words: list[bytes], count: int) -> None:
+    """That many words."""
+    if len(words) != count:
+        raise LineFault(WORD_COUNT)
+
+
+def file_name(word: bytes) -> str:
+    """The name of a file, which is text."""
+    try:
+        return word.decode()
+    except UnicodeDecodeError:
+        raise LineFault(BAD_FILE) from None
+
+
+def slots(entries: list[KeytabEntry], columns: str) -> bytes:
+    """The text of a list."""
+    time = (b"Timestamp            ", b"-------------------- ") if "t" in columns else (b"", b"")
+    lines = [b"slot KVNO %sPrincipal" % time[0], b"---- ---- %s---------" % time[1]]
+    lines += [b"%4d " % slot + entry.line(columns) for slot, entry in enumerate(entries, 1)]
+    return b"".join(line + b"\n" for line in lines)
+
+
+def options_of_entry(words: list[bytes]) -> dict[bytes, bytes]:
+    """What stands after each option of a new entry. All are there, each once, in any order."""
+    found: dict[bytes, bytes] = {}
+    left = list(words)
+    while left:
+        option = left.pop(0)
+        takes_none = option == b"-key"
+        if option not in (b"-key", b"-p", b"-k", b"-e") or option in found:
+            raise LineFault(WORD_COUNT)
+        if not left and not takes_none:
+            raise LineFault(WORD_COUNT)
+        found[option] = b"" if takes_none else left.pop(0)
+    check_count(list(found), 4)
+    return found
+
+
+class Ktutil:
+    """The list, the entry that awaits its key, the files, and what was printed and said."""
+
+    def __init__(self, files: dict[str, bytes], now: int, v1_big: bool) -> None:
+        self.files = dict(files)
+        self.now, self.v1_big = now, v1_big
+        self.entries: list[KeytabEntry] = []
+        self.awaited: KeytabEntry | None = None
+        self.is_over = False
+        self.out, self.err, self.status = b"", b"", 0
+
+    def say(self, text: bytes, status: int) -> None:
+        """A message on the error output."""
+        self.err += b"krbfile: " + text + b"\n"
+        self.status = max(self.status, status)
+
+    def handle(self, number: int, line: bytes) -> None:
+        """Does what the line of that number says, or says what is wrong with it."""
+        try:
+            if self.awaited is None:
+                self.command(words_in(line))
+            else:
+                self.take_key(line.strip(b" \t"))
+        except LineFault as fault:
+            self.say(b"line %d: fault %d" % (number, fault.number), 1)
+        except Refused as refused:
+            self.say(b"line %d: refused %d" % (number, refused.code), 1)
+        except Failure as failure:
+            self.say(failure.text, failure.status)
+
+    def command(self, words: list[bytes]) -> None:
+        """Runs the command of a line's words, if there are any."""
+        if not words:
+            return
+        if words[0] not in COMMANDS:
+            raise LineFault(UNKNOWN_WORD)
+        COMMANDS[words[0]](self, words[1:])
+
+    def take_key(self, word: bytes) -> None:
+        """Adds the awaited entry with its key."""
+        entry, self.awaited = self.awaited, None
+        if word == b"":
+            raise LineFault(BAD_KEY)
+        self.entries.append(replace(entry, key=key_in(word, entry.enctype)))
+
+    def list_slots(self, words: list[bytes]) -> None:
+        """`list`."""
+        if len(set(words)) < len(words) or not set(words) <= set(COLUMNS):
+            raise LineFault(WORD_COUNT)
+        self.out += slots(self.entries, "".join(COLUMNS[word] for word in words))
+
+    def load(self, word: bytes) -> Keytab | None:
+        """The keytab of a file; None where the file is missing."""
+        name = file_name(word)
+        if name == "." or "\0" in name or len(word) > LONGEST_NAME:
+            raise Failure(word + b": cannot read", 3)
+        if name not in self.files:
+            return None
+        image = self.files[name]
+        if len(image) > LIMIT:
+            raise Failure(word + b": file too large", 1)
+        refused = no_keytab(image, name)
+        if refused:
+            raise Failure(refused.err.removeprefix(b"krbfile: ").removesuffix(b"\n"), 1)
+        return Keytab(image, self.v1_big)
+
+    def read_kt(self, words: list[bytes]) -> None:
+        """`read_kt`."""
+        check_count(words, 1)
+        keytab = self.load(words[0])
+        if keytab is None:
+            raise Failure(words[0] + b": no such file", 1)
+        if keytab.fault:
+            raise Refused(DAMAGED)
+        self.entries += keytab.entries()
+
+    def write_kt(self, words: list[bytes]) -> None:
+        """`write_kt`. A name with a slash has a folder that is not there."""
+        check_count(words, 1)
+        keytab = self.load(words[0]) or Keytab()
+        for entry in self.entries:
+            keytab.add(entry)
+        if b"/" in words[0]:
+            raise Failure(words[0] + b": cannot write", 3)
+        self.files[file_name(words[0])] = keytab.image()
+
+    def add_entry(self, words: list[bytes]) -> None:
+        """`add_entry`, whose key comes with the next line."""
+        found = options_of_entry(words)
+        kvno, enctype = number_in(found[b"-k"]), etype_in(found[b"-e"])
+        self.awaited = KeytabEntry(name_in(found[b"-p"]), 1, self.now, kvno, enctype, b"")
+
+    def delete_entry(self, words: list[bytes]) -> None:
+        """`delete_entry`."""
+        check_count(words, 1)
+        slot = number_in(words[0])
+        if not 1 <= slot <= len(self.entries):
+            raise LineFault(BAD_SLOT)
+        del self.entries[slot - 1]
+
+    def clear_list(self, words: list[bytes]) -> None:
+        """`clear_list`."""
+        check_count(words, 0)
+        self.entries = []
+
+    def quit(self, words: list[bytes]) -> None:
+        """`quit`."""
+        check_count(words, 0)
+        self.is_over = True
+
+
+# What each command's words do.
+COMMANDS: dict[bytes, Callable[[Ktutil, list[bytes]], None]] = {
+    b"list": Ktutil.list_slots,
+    b"l": Ktutil.list_slots,
+    b"read_kt": Ktutil.read_kt,
+    b"rkt": Ktutil.read_kt,
+    b"write_kt": Ktutil.write_kt,
+    b"wkt": Ktutil.write_kt,
+    b"add_entry": Ktutil.add_entry,
+    b"addent": Ktutil.add_entry,
+    b"delete_entry": Ktutil.delete_entry,
+    b"delent": Ktutil.delete_entry,
+    b"clear_list": Ktutil.clear_list,
+    b"clear": Ktutil.clear_list,
+    b"quit": Ktutil.quit,
+    b"q": Ktutil.quit,
+    b"exit": Ktutil.quit,
+}
+
+
+def handled(
+    files: dict[str, bytes], given: bytes, now: int, v1_big: bool = False, is_cut: bool = False
+) -> tuple[Outcome, dict[str, bytes]]:
+    """What `ktutil` answers to an input, and the files after it.
+
+    Where the input is cut, since a read failed or it is too large, a piece without a line end is no
+    line.
+    """
+    ktutil = Ktutil(files, now, v1_big)
+    *lines, last = given[:LIMIT].split(b"\n")
+    is_large = len(given) > LIMIT
+    if last and not is_cut and not is_large:
+        lines.append(last)
+    for number, line in enumerate(lines, 1):
+        ktutil.handle(number, line)
+        if ktutil.is_over:
+            break
+    else:
+        if is_cut:
+            ktutil.say(b"cannot read input", 3)
+        elif is_large:
+            ktutil.say(b"input too large", 1)
+    return Outcome(ktutil.status, ktutil.out, ktutil.err), ktutil.files

@@ -1,0 +1,220 @@
+"""What `klist -k` and `ktfind` answer on an image, worked out from the format's rules."""
+from __future__ import annotations
+
+from dataclasses import dataclass
+from datetime import datetime, timedelta
+
+from keytabs.columns import NAMES, headed
+from makers.images import BIG, LITTLE
+from runs.harness import Outcome, message
+
+FIRST_SECOND = datetime(1970, 1, 1)
+
+QUOTES = {
+    ord("/"): b"\\/",
+    ord("@"): b"\\@",
+    ord("\\"): b"\\\\",
+    ord("\n"): b"\\n",
+    ord("\t"): b"\\t",
+    ord("\b"): b"\\b",
+    0: b"\\0",
+}
+
+
+class NoEntry(Exception):
+    """A record begins with no entry."""
+
+
+@dataclass(frozen=True)
+class KeytabEntry:
+    """What an entry says."""
+
+    name: tuple[bytes, ...]  # the components and then the realm
+    name_type: int
+    timestamp: int
+    kvno: int
+    enctype: int
+    key: bytes
+
+    def text(self) -> bytes:
+        """The text of the name."""
+        return name_text(self.name)
+
+    def line(self, columns: str) -> bytes:
+        """The line of a listing."""
+        shown = b"%4d " % self.kvno
+        if "t" in columns:
+            shown += time_text(self.timestamp) + b" "
+        shown += self.text()
+        if "e" in columns:
+            shown += b" (" + etype_text(self.enctype) + b")"
+        if "K" in columns:
+            shown += b" (0x" + self.key.hex().encode() + b")"
+        return shown
+
+    def tail(self) -> bytes:
+        """The end of a line that tells of one entry."""
+        return b"kvno %d etype %d " % (self.kvno, self.enctype) + self.text()
+
+
+@dataclass
+class Cell:
+    """A record or a hole, without its length."""
+
+    data: bytes
+    is_record: bool
+
+
+class Fields:
+    """The fields of a record, taken one after the other."""
+
+    def __init__(self, data: bytes, order: str) -> None:
+        self.data = data
+        self.order = order
+
+    def take(self, count: int) -> bytes:
+        """The next bytes."""
+        if count > len(self.data):
+            raise NoEntry
+        taken, self.data = self.data[:count], self.data[count:]
+        return taken
+
+    def number(self, width: int) -> int:
+        """The next unsigned number."""
+        return int.from_bytes(self.take(width), self.order)
+
+    def counted(self) -> bytes:
+        """The next data after its 16-bit length."""
+        return self.take(self.number(2))
+
+
+def quoted(part: bytes) -> bytes:
+    """A component or realm as a name's text has it."""
+    return b"".join(QUOTES.get(byte, bytes([byte])) for byte in part)
+
+
+def name_text(name: tuple[bytes, ...]) -> bytes:
+    """The text of a name, which is its components and then its realm."""
+    *components, realm = map(quoted, name)
+    return b"/".join(components) + b"@" + realm
+
+
+def time_text(seconds: int) -> bytes:
+    """The text of a time."""
+    time = FIRST_SECOND + timedelta(seconds=seconds)
+    return time.strftime("%Y-%m-%dT%H:%M:%SZ").encode()
+
+
+def etype_text(enctype: int) -> bytes:
+    """The text of an enctype."""
+    return NAMES.get(enctype, b"etype %d" % enctype)
+
+
+def read_entry(data: bytes, version: int, order: str) -> KeytabEntry:
+    """The entry that begins a record."""
+    fields = Fields(data, order)
+    count = fields.number(2)
+    if version == 1:
+        if count == 0:
+            raise NoEntry
+        count -= 1
+    realm = fields.counted()
+    components = [fields.counted() for _ in range(count)]
+    name_type = fields.number(4) if version == 2 else 0
+    timestamp = fields.number(4)
+    kvno = fields.number(1)
+    enctype = fields.number(2)
+    key = fields.counted()
+    if len(fields.data) >= 4:
+        kvno = fields.number(4) or kvno
+    return KeytabEntry((*components, realm), name_type, timestamp, kvno, enctype, key)
+
+
+def order_of(image: bytes, v1_big: bool) -> str:
+    """The order of a keytab's numbers."""
+    return BIG if image[1] == 2 or v1_big else LITTLE
+
+
+def fault_or_size(image: bytes, at: int, order: str) -> tuple[int, int]:
+    """The fault of the length at that place, or 0, and the length; a length 0 is the end."""
+    rest = len(image) - at
+    if rest < 4:
+        return 1, 0
+    size = int.from_bytes(image[at : at + 4], order, signed=True)
+    return (2 if abs(size) > rest - 4 else 0), size
+
+
+def no_keytab(image: bytes, name: str = "k") -> Outcome | None:
+    """What is answered of a file that does not begin as a keytab."""
+    if len(image) < 2:
+        return message(1, f"{name}: not a keytab (1)")
+    if image[0] != 5 or image[1] not in (1, 2):
+        return message(1, f"{name}: not a keytab (2)")
+    return None
+
+
+def read_cells(image: bytes, v1_big: bool) -> tuple[list[Cell], tuple[int, int] | None, int]:
+    """The cells of a keytab, the kind and place of its fault, and where the cells end."""
+    order = order_of(image, v1_big)
+    cells, at = [], 2
+    while at < len(image):
+        fault, size = fault_or_size(image, at, order)
+        if fault == 0 and size == 0:
+            break
+        after = at + 4 + abs(size)
+        cell = Cell(image[at + 4 : after], size > 0)
+        if fault == 0 and cell.is_record:
+            try:
+                read_entry(cell.data, image[1], order)
+            except NoEntry:
+                fault = 3
+        if fault != 0:
+            return cells, (fault, at), at
+        cells.append(cell)
+        at = after
+    return cells, None, at
+
+
+def read_image(
+    image: bytes, v1_big: bool
+) -> tuple[list[tuple[int, KeytabEntry]], tuple[int, int] | None]:
+    """The entries of a keytab with their places, and the kind and place of its fault."""
+    cells, fault, _ = read_cells(image, v1_big)
+    those, at = [], 2
+    for cell in cells:
+        if cell.is_record:
+            those.append((at, read_entry(cell.data, image[1], order_of(image, v1_big))))
+        at += 4 + len(cell.data)
+    return those, fault
+
+
+def answer(image: bytes, v1_big: bool, columns: str = "") -> Outcome:
+    """What `klist -k` answers on that image, as the file `k`."""
+    refused = no_keytab(image)
+    if refused:
+        return refused
+    those, fault = read_image(image, v1_big)
+    lines = [entry.line(columns) for _, entry in those]
+    if fault:
+        return Outcome(1, headed(columns, *lines, b"fault %d at %d" % fault))
+    return Outcome(0, headed(columns, *lines))
+
+
+def found(image: bytes, v1_big: bool, kvno: int, enctype: int, name: tuple[bytes, ...]) -> Outcome:
+    """What `ktfind` answers on that image, as the file `k`."""
+    refused = no_keytab(image)
+    if refused:
+        return refused
+    those, fault = read_image(image, v1_big)
+    if fault:
+        return message(1, "k: refused 1")
+    those = [(place, one) for place, one in those if one.name == name]
+    those = [(place, one) for place, one in those if enctype in (0, one.enctype)]
+    if not those:
+        return message(1, "k: refused 9")
+    wanted = kvno or max(one.kvno for _, one in those)
+    those = [(place, one) for place, one in those if one.kvno == wanted]
+    if not those:
+        return message(1, "k: refused 10")
+    place, one = those[0]
+    return Outcome(0, b"found %d " % place + one.tail() + b"\n")

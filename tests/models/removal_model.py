@@ -1,0 +1,87 @@
+"""What ktremove does, written from its rules: which entries it removes, what it prints, and the file."""
+from __future__ import annotations
+
+from dataclasses import dataclass
+
+from models.keytab_model import Keytab
+from models.reading import KeytabEntry
+from models.walks import DAMAGED
+from runs.harness import Outcome, message
+
+OLD = "old"
+
+
+@dataclass(frozen=True)
+class Asked:
+    """What the words ask for. `name` is the text of a name, `kvno` a number or OLD."""
+
+    name: bytes | None = None
+    kvno: int | str | None = None
+    etypes: tuple[int, ...] = ()
+
+    def words(self) -> list[str | bytes]:
+        """The words that ask for it."""
+        words: list[str | bytes] = [] if self.name is None else ["-p", self.name]
+        words += [] if self.kvno is None else ["-k", str(self.kvno)]
+        for etype in self.etypes:
+            words += ["-e", str(etype)]
+        return words
+
+    def is_named(self, entry: KeytabEntry) -> bool:
+        """Whether an entry has the name and the enctype."""
+        has_name = self.name is None or entry.text() == self.name
+        return has_name and (not self.etypes or entry.enctype in self.etypes)
+
+
+def takes_over(newest: KeytabEntry, later: KeytabEntry) -> bool:
+    """Whether a later entry of a name takes the place of the newest so far."""
+    small, large = sorted((newest, later), key=lambda entry: entry.kvno)
+    if small.kvno < 128 and large.kvno > 240:
+        if small.timestamp == large.timestamp:
+            return later is small
+        return later.timestamp > newest.timestamp
+    return later.kvno > newest.kvno
+
+
+def newest_versions(entries: list[KeytabEntry]) -> dict[tuple[bytes, ...], int]:
+    """The version of the newest entry of each name."""
+    newest: dict[tuple[bytes, ...], KeytabEntry] = {}
+    for entry in entries:
+        if entry.name not in newest or takes_over(newest[entry.name], entry):
+            newest[entry.name] = entry
+    return {name: entry.kvno for name, entry in newest.items()}
+
+
+def removed_by(keytab: Keytab, asked: Asked) -> list[tuple[int, KeytabEntry]]:
+    """The entries that are asked for, with their places."""
+    newest = newest_versions(keytab.entries())
+    found = []
+    for place, cell in zip(keytab.places(), keytab.cells):
+        if not cell.is_record:
+            continue
+        entry = keytab.entry(cell)
+        if asked.kvno == OLD:
+            has_version = entry.kvno != newest[entry.name]
+        else:
+            has_version = asked.kvno in (None, entry.kvno)
+        if has_version and asked.is_named(entry):
+            found.append((place, entry))
+    return found
+
+
+def removal(image: bytes, v1_big: bool, asked: Asked) -> tuple[Outcome, bytes]:
+    """What a run over the file k answers, and the file afterwards; the image is a keytab's."""
+    keytab = Keytab(image, v1_big)
+    if keytab.fault:
+        return message(1, f"k: refused {DAMAGED}"), image
+    found = removed_by(keytab, asked)
+    if not found:
+        is_any = asked.name is None and not asked.etypes
+        if asked.kvno == OLD and (is_any or any(map(asked.is_named, keytab.entries()))):
+            return Outcome(0), image
+        return message(1, "k: refused 9"), image
+    lines = b""
+    for place, entry in found:
+        keytab.cut(place)
+        lines += b"removed %d " % place + entry.tail() + b"\n"
+    return Outcome(0, lines), keytab.image()

@@ -1,0 +1,81 @@
+"""What `ktedit` does with a script: its lines, the replies to them, and the file that is saved."""
+from __future__ import annotations
+
+import re
+
+from keytabs.columns import NAMES
+from makers.script_lines import (
+    BAD_ETYPE,
+    BAD_KEY,
+    LineFault,
+    events_in,
+    name_in,
+    number_in,
+    rest_in,
+    walk_event,
+)
+from models.keytab_model import Keytab
+from models.reading import KeytabEntry, no_keytab
+from models.walks import LIMIT, Event, Session, run_events
+from runs.harness import Outcome, message
+
+ETYPES = {name: number for number, name in NAMES.items()}
+KEY_SIZES = {16: 24, 17: 16, 18: 32, 19: 16, 20: 32, 23: 16, 25: 16, 26: 32}
+
+
+def etype_in(word: bytes) -> int:
+    """An enctype by its name or number."""
+    return ETYPES[word] if word in ETYPES else number_in(word, 65_535, BAD_ETYPE)
+
+
+def key_in(word: bytes, enctype: int) -> bytes:
+    """A key in hexadecimal, as long as its enctype has it."""
+    if not re.fullmatch(rb"([0-9a-fA-F]{2})*", word):
+        raise LineFault(BAD_KEY)
+    key = bytes.fromhex(word.decode())
+    if len(key) != KEY_SIZES.get(enctype, len(key)):
+        raise LineFault(BAD_KEY)
+    return key
+
+
+def entry_in(words: list[bytes]) -> KeytabEntry:
+    """The entry of the words after `add`."""
+    kvno, enctype = number_in(words[0]), etype_in(words[1])
+    timestamp = number_in(words[2])
+    key = key_in(b"" if words[3] == b"-" else words[3], enctype)
+    return KeytabEntry(name_in(words[4]), 1, timestamp, kvno, enctype, key)
+
+
+def event_in(line: bytes) -> Event:
+    """The event of a line."""
+    if line.split(b" ")[0] == b"add":
+        return "add", entry_in(rest_in(line, 5))
+    return walk_event(line)
+
+
+class KeytabSession(Session):
+    """A keytab and the walks over it."""
+
+    store: Keytab
+
+    def add(self, entry: KeytabEntry) -> bytes:
+        """An entry is added."""
+        place = self.store.add(entry)
+        self.is_changed = True
+        return b"placed %d" % place
+
+
+def edited(
+    image: bytes | None, script: bytes, v1_big: bool = False
+) -> tuple[Outcome, bytes | None]:
+    """What `ktedit k` answers to a script, and the file `k` after it; None is no file."""
+    events = events_in(script, event_in)
+    if isinstance(events, Outcome):
+        return events, image
+    if image is not None and len(image) > LIMIT:
+        return message(1, "k: file too large"), image
+    opened = b"\x05\x02" if image is None else image
+    refused = no_keytab(opened)
+    if refused:
+        return refused, image
+    return run_events(KeytabSession(Keytab(opened, v1_big)), events, image)

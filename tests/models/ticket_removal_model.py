@@ -1,0 +1,63 @@
+"""What ccremove does, written from its rules: which tickets it removes, what it prints, and the file."""
+from __future__ import annotations
+
+from dataclasses import dataclass
+
+from models.cache_model import Cache
+from models.cache_reading import Credential
+from models.cache_script_model import no_cache
+from models.reading import name_text
+from models.walks import DAMAGED, READ_ONLY
+from runs.harness import Outcome, message
+
+NOT_FOUND = 9
+
+
+@dataclass(frozen=True)
+class Asked:
+    """What the words ask for. `service` is the text of a name."""
+
+    service: bytes | None = None
+    is_expired: bool = False
+
+    def words(self) -> list[str | bytes]:
+        """The words that ask for it."""
+        words: list[str | bytes] = [] if self.service is None else ["-p", self.service]
+        return words + ["--expired"] * self.is_expired
+
+    def is_named(self, ticket: Credential) -> bool:
+        """Whether a ticket is one for the service."""
+        return self.service is None or name_text(ticket.server) == self.service
+
+    def is_asked(self, ticket: Credential, now: int) -> bool:
+        """Whether a ticket is asked for."""
+        return self.is_named(ticket) and (not self.is_expired or ticket.endtime <= now)
+
+
+def tickets_of(cache: Cache) -> list[tuple[int, Credential]]:
+    """The tickets with their places: what was not removed and is no configuration entry."""
+    return [(place, said) for place, said in cache.live() if not said.is_config()]
+
+
+def ticket_removal(image: bytes, asked: Asked, now: int) -> tuple[Outcome, bytes]:
+    """What a run over the file c answers at a time, and the file afterwards."""
+    refused = no_cache(image)
+    if refused:
+        return refused, image
+    cache = Cache(image)
+    if cache.version == 3:
+        return message(1, f"c: refused {READ_ONLY}"), image
+    if cache.fault:
+        return message(1, f"c: refused {DAMAGED}"), image
+    tickets = tickets_of(cache)
+    found = [(place, said) for place, said in tickets if asked.is_asked(said, now)]
+    if not found:
+        is_any = asked.service is None or any(asked.is_named(said) for _, said in tickets)
+        is_done = asked.is_expired and is_any
+        return Outcome(0) if is_done else message(1, f"c: refused {NOT_FOUND}"), image
+    lines = b""
+    for place, said in found:
+        cache.cut(place)
+        lines += b"removed %d " % place + name_text(said.server) + b"\n"
+    cache.rewrite([])
+    return Outcome(0, lines), cache.image()

@@ -1,0 +1,55 @@
+"""The pages for callers, `crates/NAME/CALLING.md`: their calls are those of the sources, their code is proved."""
+from __future__ import annotations
+
+import os
+import re
+
+from pages.calls import LIBRARY, TOP, calls_of
+from pages.documents import read
+from pages.readme import lines_of, stands_in
+from runs.harness import Report
+
+# Crates without a page: what `krb_disk` offers stands on that of `krb_files`.
+WITHOUT = ("krb_disk",)
+
+
+def page_of(crate: str) -> str:
+    """The path of a crate's page."""
+    return os.path.join("crates", crate, "CALLING.md")
+
+
+def signature(name: str, contract: str) -> str:
+    """A function on one line, under its name with the type's before it, without its clauses."""
+    head = re.split(r"\n\s*(?:requires|ensures|where|//|\{)|\s*\{|;", contract)[0]
+    head = re.sub(r"\s+", " ", head).replace("( ", "(").replace(", )", ")").strip()
+    return re.sub(r"^(?:pub )?(?:const )?fn \w+", f"fn {name}", head)
+
+
+def faults_of_calls(crate: str) -> list[str]:
+    """The calls on a page that no crate of the library has so."""
+    calls = {**calls_of(crate), **(calls_of("krb_disk") if crate == "krb_files" else {})}
+    known = {signature(name, contract) for name, contract in calls.items()}
+    lists = re.findall(r"```text\n(.*?)```", read(page_of(crate)), re.DOTALL)
+    return [line for line in "".join(lists).splitlines() if line not in known]
+
+
+def faults_of_code(crate: str) -> list[str]:
+    """The pieces of code on a page that do not stand in the file that is named last before."""
+    wrong = []
+    parts = re.split(r"```rust\n(.*?)```", read(page_of(crate)), flags=re.DOTALL)
+    for at in range(1, len(parts), 2):
+        path = re.findall(r"\]\(([\w./]+\.rt)\)", "".join(parts[:at:2]))[-1]
+        source = read(os.path.join("crates", crate, path))
+        if not stands_in(lines_of(parts[at]), lines_of(source)):
+            wrong.append(f"{parts[at].splitlines()[0]} .. is not in {path}")
+    return wrong
+
+
+def check(report: Report, program: str) -> None:
+    """Compares the pages with the sources. The program is not run."""
+    for crate in (crate for crate in LIBRARY if crate not in WITHOUT):
+        is_there = os.path.exists(os.path.join(TOP, page_of(crate)))
+        report.check(f"the page of {crate}", [] if is_there else ["there is none"])
+        if is_there:
+            report.check(f"the calls on the page of {crate}", faults_of_calls(crate))
+            report.check(f"the code on the page of {crate}", faults_of_code(crate))

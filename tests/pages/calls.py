@@ -1,0 +1,146 @@
+"""docs/CALLS.md has each public call that may be refused, and names clauses and tests that there are."""
+from __future__ import annotations
+
+import glob
+import os
+import re
+from collections import Counter
+
+from runs.harness import TOP, Report
+
+TABLE = os.path.join(TOP, "docs", "CALLS.md")
+LIBRARY = ("krb_wire", "krb_walk", "krb_cells", "krb_keytab", "krb_indexed", "krb_ccache",
+           "krb_files", "krb_text", "krb_json", "krb_audit", "krb_commands", "krb_disk", "wiping")
+
+# The head of an item that may hold functions, a function, and the end of such an item.
+ITEM = re.compile(r"(?:pub )?(?:unsafe )?(impl|trait)\b(.*)")
+FUNCTION = re.compile(r"( *)(pub )?(?:const )?fn (\w+)")
+
+# The contract of each public call by its name.
+Calls = dict[str, str]
+
+
+def read(path: str) -> str:
+    """A file of the repository."""
+    with open(os.path.join(TOP, path), encoding="utf-8") as file:
+        return file.read()
+
+
+def shown(crate: str) -> set[str]:
+    """What a crate hands on to its users."""
+    names: set[str] = set()
+    root = read(f"crates/{crate}/src/lib.rt")
+    for group, name in re.findall(r"pub use [\w:]+::(?:\{([^}]*)\}|(\w+));", root):
+        names |= {part.strip() for part in (group or name).split(",")}
+    return names
+
+
+def owner_of(line: str) -> tuple[str, bool]:
+    """The type or trait of an item, and whether it is a trait. An implementation of a trait has none."""
+    kind, rest = ITEM.match(line).groups()
+    if kind == "impl" and " for " in rest:
+        return "", False
+    rest = re.sub(r"^<(?:[^<>]|<[^<>]*>)*>", "", rest) if kind == "impl" else rest
+    return re.match(r" (\w+)", rest).group(1), kind == "trait"
+
+
+def contract_from(lines: list[str]) -> str:
+    """The lines of a function up to its body, or to its end where it has none."""
+    for at, line in enumerate(lines):
+        if line.strip() in ("{", "{}") or line.endswith((" {", ";")):
+            return "\n".join(lines[: at + 1])
+    return "\n".join(lines)
+
+
+def calls_in(text: str, names: set[str], is_open: bool) -> Calls:
+    """The calls of a file by the names that its crate hands on; of an open module each function is one."""
+    found: Calls = {}
+    owner, is_trait = "", False
+    lines = text.split("\n")
+    for at, line in enumerate(lines):
+        if ITEM.match(line):
+            owner, is_trait = owner_of(line)
+        function = FUNCTION.match(line)
+        if function is None:
+            continue
+        indent, is_pub, name = function.groups()
+        if not indent and is_pub and (is_open or name in names):
+            found[name] = contract_from(lines[at:])
+        if indent and owner in names and (is_pub or is_trait):
+            found[f"{owner}::{name}"] = contract_from(lines[at:])
+    return found
+
+
+def calls_of(crate: str) -> Calls:
+    """The public calls of a crate."""
+    found: Calls = {}
+    source = os.path.join("crates", crate, "src")
+    for path in glob.glob(os.path.join(TOP, source, "**", "*.rt"), recursive=True):
+        below = os.path.relpath(path, os.path.join(TOP, source))
+        found |= calls_in(read(path), shown(crate), below.startswith("laws" + os.sep))
+    return found
+
+
+def rows_of(crate: str) -> list[list[str]]:
+    """The cells of a crate's rows in both tables: they stand under its name."""
+    rows: list[list[str]] = []
+    above = ""
+    for line in read(TABLE).splitlines():
+        cells = [cell.strip() for cell in line.strip("|").split(" | ")]
+        if line.startswith("| **"):
+            above = cells[0].strip("*")
+        elif line.startswith("| `") and above == crate:
+            rows.append(cells)
+    return rows
+
+
+def quoted(cell: str) -> list[str]:
+    """What stands between backticks."""
+    return re.findall(r"`([^`]+)`", cell)
+
+
+def may_be_refused(contract: str) -> bool:
+    """Whether a call answers what may be none or an error."""
+    return re.search(r"-> (?:Option|Result)<", contract) is not None
+
+
+def faults_of_names(calls: Calls, rows: list[list[str]]) -> list[str]:
+    """Each call that may be refused has one row, and each row is of calls."""
+    named = Counter(name for row in rows for name in quoted(row[0]))
+    wrong = [f"{name} has no row" for name, contract in sorted(calls.items())
+             if may_be_refused(contract) and name not in named]
+    wrong += [f"{name} is no call" for name in sorted(named) if name not in calls]
+    return wrong + [f"{name} has {count} rows" for name, count in named.items() if count > 1]
+
+
+def faults_of_clauses(calls: Calls, rows: list[list[str]]) -> list[str]:
+    """The last cell but one of a long row, and the third of a short one, names clauses of each of its calls."""
+    wrong = []
+    for row in rows:
+        for name in quoted(row[0]):
+            for clause in quoted(row[4] if len(row) == 6 else "".join(row[2:])):
+                if f"ensures {clause} {{" not in calls.get(name, ""):
+                    wrong.append(f"{name} has no clause {clause}")
+    return wrong
+
+
+def faults_of_tests(crate: str, rows: list[list[str]]) -> list[str]:
+    """The last cell of a long row names tests, each as the file below `crates` and its function."""
+    wrong = []
+    for row in rows:
+        for test in quoted(row[5]) if len(row) == 6 else []:
+            path, name = test.split(": ")
+            whole = os.path.join(TOP, "crates", path.replace("/", "/src/", 1))
+            with open(whole, encoding="utf-8") as file:
+                if f"fn {name}(" not in file.read():
+                    wrong.append(f"{crate}: no test {test}")
+    return wrong
+
+
+def check(report: Report, program: str) -> None:
+    """Compares the table with the sources. The program is not run."""
+    for crate in LIBRARY:
+        calls, rows = calls_of(crate), rows_of(crate)
+        report.check(f"the calls of {crate}", faults_of_names(calls, rows))
+        report.check(f"the clauses of {crate}", faults_of_clauses(calls, rows))
+        report.check(f"the tests of {crate}", faults_of_tests(crate, rows))

@@ -1,0 +1,47 @@
+"""The map has each crate in its place, and each link of a document leads to a file."""
+from __future__ import annotations
+
+import glob
+import os
+import re
+
+from runs.harness import TOP, Report
+
+MAP = os.path.join("docs", "ARCHITECTURE.md")
+
+
+def read(path: str) -> str:
+    """A file of the repository."""
+    with open(os.path.join(TOP, path), encoding="utf-8") as file:
+        return file.read()
+
+
+def crates() -> list[list[str]]:
+    """The crates of each paragraph of crates.txt."""
+    return [re.findall(r"^(\w+)(?: staticlib)?:", part, re.MULTILINE) for part in read("crates.txt").split("\n\n")]
+
+
+def check_map(report: Report) -> None:
+    """The first paragraph's crates are the rows of the map, in order; it names all others below."""
+    rows = re.findall(r"^\| `(krb\w+)` \|", read(MAP), re.MULTILINE)
+    own, *others = crates()
+    report.check("the rows of the map", [] if rows == own else [f"{rows}, not {own}"])
+    missing = [name for part in others for name in part if f"`{name}`" not in read(MAP)]
+    report.check("the other crates of the map", missing)
+
+
+def check_links(report: Report) -> None:
+    """Looks for each file."""
+    pages = [path for pattern in ("docs/*.md", "crates/*/CALLING.md")
+             for path in sorted(glob.glob(pattern, root_dir=TOP))]
+    for path in ["README.md", *pages]:
+        links = re.findall(r"\]\(([\w./]+)\)", read(path))
+        folder = os.path.join(TOP, os.path.dirname(path))
+        wrong = [link for link in links if not os.path.exists(os.path.join(folder, link))]
+        report.check(f"the links of {path}", wrong)
+
+
+def check(report: Report, program: str) -> None:
+    """Reads the documents. The program is not run."""
+    check_map(report)
+    check_links(report)

@@ -1,0 +1,49 @@
+"""The program stands on the libraries that it is meant to stand on, and each other one has its reason."""
+from __future__ import annotations
+
+import glob
+import os
+import re
+
+from runs.harness import TOP, Report
+
+# The libraries that the program is written over.
+MEANT = ("byteorder", "clap", "hex", "jiff", "thiserror")
+
+
+def read(*path: str) -> str:
+    """A file of the repository."""
+    with open(os.path.join(TOP, *path), encoding="utf-8") as file:
+        return file.read()
+
+
+def uses() -> dict[str, list[str]]:
+    """What each crate uses, by its line of crates.txt."""
+    lines = re.findall(r"^(\w+)(?: staticlib)?:(.*)$", read("crates.txt"), re.MULTILINE)
+    return {crate: below.split() for crate, below in lines}
+
+
+def reached(crate: str, below: dict[str, list[str]]) -> set[str]:
+    """A crate, and those of the repository that it stands on."""
+    return {crate}.union(*(reached(each, below) for each in below[crate] if each in below))
+
+
+def is_used(library: str, crate: str) -> bool:
+    """Whether a source of the crate names something of the library."""
+    pattern = re.compile(rf"\b{library}::")
+    sources = glob.glob(os.path.join(TOP, "crates", crate, "src", "**", "*.rt"), recursive=True)
+    return any(pattern.search(read(path)) for path in sources)
+
+
+def check(report: Report, program: str) -> None:
+    """Reads crates.txt, the sources and the decisions. The program is not run."""
+    below = uses()
+    crates = reached("krbfile", below)
+    for library in MEANT:
+        users = [crate for crate in crates if library in below[crate] and is_used(library, crate)]
+        report.check(f"the library {library}", [] if users else ["no crate of the program uses it"])
+    others = {each for crate in crates for each in below[crate]} - {*below, *MEANT}
+    decisions = read("docs", "DECISIONS.md")
+    for library in sorted(others):
+        found = [] if f"`{library}`" in decisions else ["DECISIONS.md has no reason for it"]
+        report.check(f"the library {library}", found)

@@ -1,0 +1,133 @@
+"""The wrong bodies that may not be missing, each an edit in its crate's `wrong`.
+
+`wrong` tries them. A body that always answers that it is out of memory has none: the tests that
+docs/CALLS.md names refuse it.
+"""
+from __future__ import annotations
+
+from proving import edited
+from runs.harness import Report
+
+# By crate, the name of each, and what it does wrong.
+WRONG_BODIES = {
+    "wiping": {
+        "clears-too-little": "as many bytes are cleared as the alignment says",
+        "leaves-bytes-as-they-are": "a block of bytes goes back as it is",
+    },
+    "krb_wire": {
+        "32-bits-are-read-twice": "the rest after a number begins with that number",
+        "half-a-name-is-kept": "a name that memory is lacking for leaves a byte of it",
+        "length-of-sixteen-bits": "a length of 32 bits is read as one of 16",
+        "second-at": "a second `@` of a text is read as part of the realm",
+        "unquoted-at": "an `@` in a name is printed without its backslash",
+        "version-1-does-not-count-the-realm": "a count of version 1 is read without the realm",
+    },
+    "krb_walk": {
+        "copy-at-start": "a walk passes over a record that was added after it started",
+        "counting-cursor": "a cursor counts records, so a removal behind it skips one",
+        "ends-early": "a walk ends at the first free cell",
+        "never-moves": "a step leaves its cursor where it was",
+        "refuses-free-place": "a walk is not resumed at a free cell",
+        "removal-moves-cursor": "a removal at a cursor moves it past the removed record",
+        "reset-cursors": "a rewrite puts cursors at the front",
+        "restart-at-front": "the step after a removal begins at the front",
+        "rounds-place": "a walk that is resumed within a record begins at that record",
+        "stale-cursors": "a rewrite leaves cursors as they are",
+    },
+    "krb_keytab": {
+        "any-enctype": "a look-up passes over the encryption type",
+        "best-fit": "an addition takes the smallest hole that is large enough, not the first",
+        "false-full": "an addition is refused though the entry fits",
+        "join-holes": "a removal makes one hole of two neighbours",
+        "keeps-old-bytes": "a hole that is used again keeps old bytes behind the entry",
+        "keeps-the-key": "a removal negates the length and leaves the key",
+        "keeps-the-rest": "an addition at an end mark leaves old bytes behind it",
+        "last-of-equals": "a look-up answers the last of equal entries",
+        "open-reserves-what-a-count-says": "an image is moved to memory for as many bytes as it says",
+        "reads-past-fault": "the cells go on behind a bad entry",
+        "refuses-damaged": "a damaged image is refused whole",
+        "split-hole": "an addition leaves a hole of the bytes that it does not need",
+        "stale-cursors": "a rewrite leaves cursors as they are",
+        "zero-version": "a 32-bit version of 0 replaces the one of 8 bits",
+    },
+    "krb_indexed": {
+        "best-fit": "the search takes the hole on the right where that is tighter",
+        "reads-all-leaves": "the first hole is found by a look at each leaf of the tree",
+    },
+    "krb_ccache": {
+        "config-left-live": "a new configuration value leaves the old one live",
+        "cuts-out": "a removal takes the credential's bytes out of the image",
+        "refuses-free-place": "a walk is not resumed at a removed credential",
+        "removed-by-the-endtime-alone": "a credential that has ended at 0 counts as removed",
+        "reuses-marked": "a credential is written over the last removed one, if that is of its size",
+        "rounds-place": "the number after a place counts as one",
+        "trusts-the-header-beyond-the-file": "a header that the file cuts short is read as empty",
+    },
+    "krb_files": {
+        "a-read-that-did-not-fail-is-told-as-failed": "an empty file is reported as one that cannot be read",
+    },
+    "krb_json": {
+        "hexadecimal-under-the-plain-name": "bytes that are no text stand as hexadecimal under the text's name",
+        "is-skey-at-1-alone": "`is_skey` is false for numbers above 1",
+        "leaves-the-key-out": "an entry has no key where keys are asked for",
+    },
+    "krb_audit": {
+        "a-clash-is-not-wrong": "an entry whose key differs from one alike is not wrong",
+        "expired-settings-are-asked-for": "the removal of what has expired takes configuration values too",
+        "hidden-at-each": "each entry that ends MIT's reading is hidden, not the first alone",
+        "keeps-the-last-alike": "an entry is compared with the last one alike, not the first",
+        "nothing-old-is-nothing-named": "a name without old entries counts as missing",
+        "old-by-enctype": "the newest version is one for each encryption type",
+        "old-without-wrapping": "a version of 8 bits that went round counts as old",
+        "removes-the-newest": "the newest version counts as old",
+        "same-without-the-key": "two entries count as the same whatever their keys are",
+    },
+    "krb_disk": {
+        "a-file-of-any-user-is-a-leftover": "a leftover may be of any user",
+        "a-file-that-may-not-be-read-is-missing": "a file that may not be read is reported as missing",
+        "a-mode-that-lets-all-write": "a saved file may be written by all",
+        "an-inode-is-a-file": "files of one inode on two devices count as one file",
+        "forgets-what-was-loaded": "the bytes that were loaded are not compared before the rename",
+        "made-for-all": "the new file may be read by all while it is written",
+        "majors-of-eight-bits": "the major number of a device is cut to 8 bits",
+        "owner-and-group-turned-round": "the old file's owner and its group change places in the new one",
+        "removes-a-file-of-another-user": "a leftover of another user is removed",
+        "removes-anothers-new-file": "the new file of another run is removed",
+        "renames-a-locked-file": "a file that another program has locked is replaced",
+        "renames-before-the-bytes": "the new file is renamed before it is written",
+        "renames-before-the-sync": "the new file is renamed before it is on the disk",
+        "renames-to-another-path": "the new file is renamed to another path",
+        "renames-without-comparing": "a file that changed meanwhile is replaced",
+        "replaces-what-is-no-file": "what is held may be a directory or a device",
+        "saves-other-bytes": "other bytes are saved",
+        "saves-under-another-name": "the file is saved under another name",
+    },
+    "krb_commands": {
+        "a-refused-value-removes-the-old-one": "a configuration value that is refused removes the old one",
+        "all-have-expired-without-a-clock": "every ticket has expired where the clock cannot be read",
+        "an-input-that-was-read-is-told-as-failed": "an empty input is reported as one that cannot be read",
+        "removed-keys-stay-in-the-file": "the removed tickets stay in the file that is saved",
+        "saves-part": "write_kt saves what it added before a refusal",
+        "saves-the-text": "what is printed is saved in the file's place",
+    },
+    "krb_c": {
+        "tells-the-length-that-was-cut": "a text that does not fit answers the length that was taken",
+    },
+}
+
+
+def differences(crate: str, wanted: set[str], found: set[str]) -> list[str]:
+    """What is wrong with the edits of a crate."""
+    return [*(f"no {name}.edit: {WRONG_BODIES[crate][name]}" for name in sorted(wanted - found)),
+            *(f"{name}.edit is not in the list" for name in sorted(found - wanted))]
+
+
+def check(report: Report, program: str) -> None:
+    """Looks for each edit. The program is not run."""
+    found: dict[str, set[str]] = {}
+    for path in edited.paths():
+        crate, name = edited.crate_and_name(path)
+        found.setdefault(crate, set()).add(name)
+    for crate in sorted({*WRONG_BODIES, *found}):
+        wanted = set(WRONG_BODIES.get(crate, ()))
+        report.check(f"the wrong bodies of {crate}", differences(crate, wanted, found.get(crate, set())))

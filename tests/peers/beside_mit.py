@@ -1,0 +1,152 @@
+"""Files that ktedit changed, as MIT's klist and ktutil read them."""
+from __future__ import annotations
+
+import os
+import re
+import select
+import shutil
+import subprocess
+import sys
+import time
+
+from keytabs.columns import NAMES
+from keytabs.edits import ADD_B, ADD_C, ADD_HOST, text
+from keytabs.listings import B_RECORD, HOST_RECORD
+from makers.images import HOST, LITTLE, TWO, Entry, entries, hole, keytab
+from models.keytab_model import Keytab
+from models.reading import KeytabEntry
+from models.script_model import KEY_SIZES, edited
+from runs.harness import SECONDS, Report, folder_of, run
+
+# A line that MIT's klist or ktutil lists an entry by, after its slot if there is one.
+LINE = re.compile(
+    rb" *(\d+) (\d\d/\d\d/\d\d \d\d:\d\d:\d\d) +(.*)"
+    rb" \((?:DEPRECATED:)?(\S+)\)  ?\(0x([0-9a-f]*)\) *"
+)
+
+# Entries of each enctype that has a name, with names that are quoted, and versions of more bits.
+EACH_ETYPE = [
+    f"add {300 * number} {number} {number} {bytes(range(size)).hex()} a\\/b\\@/c d\\n\\\\/e@R\\/S"
+    for number, size in KEY_SIZES.items()
+]
+HOLES = keytab(hole(bytes(60)), HOST_RECORD, hole(bytes(41)), B_RECORD)
+OLD = entries(HOST, Entry((b"a",), b"R", version32=None), version=1, order=LITTLE)
+
+# Scripts over a keytab, or over none.
+SCRIPTS: list[tuple[str, bytes | None, list[str]]] = [
+    ("a new file", None, [ADD_HOST, *EACH_ETYPE]),
+    ("holes that are filled", HOLES, [ADD_B, ADD_C, ADD_HOST]),
+    ("removals and additions", TWO, ["cut 2", ADD_C, *EACH_ETYPE, "cut 53", "cut 98", ADD_B]),
+    ("a rewrite", HOLES, [ADD_C, *EACH_ETYPE, "cut 66", "rewrite", ADD_HOST]),
+    ("all removed", TWO, ["cut 2", "cut 53"]),
+    ("an end mark", keytab(HOST_RECORD, bytes(4), b"\xff" * 50), [ADD_B, ADD_C]),
+    ("a version 1 file", OLD, ["cut 2", ADD_B, ADD_HOST]),
+    ("a version 1 file that is rewritten", OLD, ["cut 2", "rewrite", ADD_B]),
+]
+
+# What MIT's ktutil prints where it waits for a request, also into a pipe.
+PROMPT = b"ktutil:  "
+
+
+def told(entry: KeytabEntry) -> tuple[bytes, ...]:
+    """What a listing with all columns has of an entry."""
+    then = time.gmtime(entry.timestamp)
+    second = time.strftime("%m/%d/%y %H:%M:%S", then).encode()
+    return (b"%d" % entry.kvno, second, entry.text(), NAMES[entry.enctype],
+            entry.key.hex().encode())
+
+
+class Mit:
+    """MIT's programs, in a folder."""
+
+    def __init__(self, folder: str) -> None:
+        self.folder = folder
+        conf = os.path.join(folder, "krb5.conf")
+        with open(conf, "w", encoding="ascii"):
+            pass
+        self.env = {**os.environ, "KRB5_CONFIG": conf, "LC_ALL": "C", "TZ": "UTC"}
+
+    def klist(self, name: str) -> list[tuple[bytes, ...]]:
+        """The entries of a file, as klist lists them."""
+        done = subprocess.run(["klist", "-k", "-t", "-K", "-e", name], cwd=self.folder,
+                              env=self.env, capture_output=True, check=False)
+        return self.entries_in(done.stdout, rb"")
+
+    def ktutil(self, *requests: str) -> list[bytes]:
+        """What ktutil prints after each request. What a request asks for is a line behind it.
+
+        The next request is given where the prompt asks for it. Until then nothing else may lie in
+        the pipe: a request that asks for a line takes all that is there.
+        """
+        with subprocess.Popen(["ktutil"], cwd=self.folder, env=self.env, bufsize=0,
+                              stdin=subprocess.PIPE, stdout=subprocess.PIPE,
+                              stderr=subprocess.STDOUT) as started:
+            answers = [self.answer(started)]
+            for request in requests:
+                started.stdin.write(request.encode() + b"\n")
+                answers.append(self.answer(started))
+            started.communicate(b"quit\n", timeout=SECONDS)
+        return answers[1:]
+
+    def answer(self, started: subprocess.Popen[bytes]) -> bytes:
+        """What ktutil prints up to its prompt."""
+        heard = b""
+        while not heard.endswith(PROMPT):
+            is_there = select.select([started.stdout], [], [], SECONDS)[0]
+            piece = os.read(started.stdout.fileno(), 65_536) if is_there else b""
+            if not piece:
+                started.kill()
+                raise EOFError(f"ktutil ended or hangs after {heard!r}")
+            heard += piece
+        return heard.removesuffix(PROMPT)
+
+    def ktutil_list(self, name: str) -> list[tuple[bytes, ...]]:
+        """The entries of a file, as ktutil lists them."""
+        listed = self.ktutil(f"rkt {name}", "l -t -k -e")[1]
+        return self.entries_in(listed, rb" *\d+ ")
+
+    def entries_in(self, listed: bytes, slot: bytes) -> list[tuple[bytes, ...]]:
+        """The entries of a listing's lines after its heading."""
+        lines = listed.splitlines()
+        headings = [number for number, line in enumerate(lines) if line.startswith(b"----")]
+        if not headings:
+            return [(listed,)]
+        found = []
+        for line in lines[headings[0] + 1 :]:
+            match = LINE.fullmatch(re.sub(rb"^" + slot, b"", line, count=1))
+            found.append(match.groups() if match else (line,))
+        return found
+
+
+def check_scripts(report: Report, program: str) -> None:
+    """What ktedit saves has, for MIT's programs, the entries that the model has."""
+    for name, image, script in SCRIPTS:
+        if image is OLD and sys.byteorder != LITTLE:
+            continue
+        files = {} if image is None else {"k": image}
+        with folder_of(files) as folder:
+            mit = Mit(folder)
+            run(program, ("ktedit", "k"), folder, text(script))
+            _, after = edited(image, text(script))
+            wanted = [told(entry) for entry in Keytab(after).entries()]
+            for peer, listed in (("klist", mit.klist("k")), ("ktutil", mit.ktutil_list("k"))):
+                found = [] if listed == wanted else [f"{listed} is listed, not {wanted}"]
+                report.check(f"MIT's {peer} after ktedit: {name}", found)
+
+
+def are_there(report: Report, what: str) -> bool:
+    """Whether MIT's programs are there; where they are not, that part is left out."""
+    try:
+        said = subprocess.run(["klist", "-V"], capture_output=True, check=False).stdout
+    except FileNotFoundError:
+        said = b""
+    found = said.startswith(b"Kerberos 5 version") and shutil.which("ktutil") is not None
+    if not found:
+        report.skip(what, "MIT's klist and ktutil (krb5-user) are not there")
+    return found
+
+
+def check(report: Report, program: str) -> None:
+    """Runs all of this topic where MIT's programs are there."""
+    if are_there(report, "ktedit beside MIT's programs"):
+        check_scripts(report, program)

@@ -1,0 +1,271 @@
+"""Caches that MIT's kinit and kvno fill in a realm made here, as MIT's klist and ours list them.
+
+The KDC listens at an address of this machine alone, for as long as the test runs.
+"""
+from __future__ import annotations
+
+import os
+import shutil
+import socket
+import subprocess
+import sys
+import time
+from collections.abc import Iterator
+from contextlib import contextmanager
+from dataclasses import replace
+from random import Random
+
+from caches.cache_listings import HOST_LINE, of_host
+from chance.random_caches import random_credential, random_name
+from makers.cache_images import config, credentials, offset
+from makers.cache_peers import told_by_mit, told_by_us
+from makers.images import Entry, entries
+from makers.usual_caches import PA_TYPE, TICKET
+from models.cache_reading import listed
+from models.reading import read_image
+from runs.harness import SECONDS, Outcome, Report, differences, folder_of, run
+
+REMOVER = os.path.join(os.path.dirname(os.path.abspath(__file__)), "remove_credentials.py")
+
+# MIT's programs; those of the KDC may be where the path of a plain user does not lead.
+TOOLS = ("klist", "kinit", "kvno", "kdb5_util", "krb5kdc")
+PATHS = os.pathsep.join([os.environ.get("PATH", ""), "/usr/sbin", "/usr/local/sbin"])
+
+CLIENT_CONF = """[libdefaults]
+ default_realm = CACHE.TEST
+ dns_lookup_kdc = false
+ dns_lookup_realm = false
+ dns_canonicalize_hostname = false
+ udp_preference_limit = 1
+ ccache_type = {version}
+[realms]
+ CACHE.TEST = {{
+  kdc = 127.0.0.1:{port}
+ }}
+"""
+KDC_CONF = """[kdcdefaults]
+ kdc_listen = 127.0.0.1:{port}
+ kdc_tcp_listen = 127.0.0.1:{port}
+[realms]
+ CACHE.TEST = {{
+  database_name = {folder}/principal
+  key_stash_file = {folder}/stash
+  acl_file = {folder}/acl
+  max_renewable_life = 7d
+ }}
+[logging]
+ kdc = FILE:{folder}/log
+"""
+
+ETYPES = ("aes128-cts-hmac-sha1-96", "aes256-cts-hmac-sha1-96", "aes128-cts-hmac-sha256-128",
+          "aes256-cts-hmac-sha384-192", "camellia128-cts-cmac", "camellia256-cts-cmac")
+
+# The principals beside those that a new realm has, as the text of a name has them.
+HOST, ODD_NAME = "host/a.cache.test", "a\\/b\\@c/d\\\\e"
+PRINCIPALS = ("user", "svc/h", HOST, ODD_NAME)
+
+# The key of the database is that of each of them, for the stash tells it: a keytab serves kinit.
+KINIT = ("kinit", "-k", "-t", "k")
+USER = (*KINIT, "user")
+
+# For each cache its version, and the commands that fill it.
+FILLED: dict[str, tuple[int, list[tuple[str, ...]]]] = {
+    "a plain one": (4, [USER, ("kvno", HOST, ODD_NAME)]),
+    "many flags": (4, [(*KINIT, "-f", "-p", "-r", "3d", "user"), ("kvno", "svc/h")]),
+    "a service's alone": (4, [(*KINIT, "-S", HOST, "user")]),
+    "a ticket that begins later": (4, [(*KINIT, "-s", "1h", "-l", "2h", "user")]),
+    "each enctype": (4, [USER, *(("kvno", "-e", etype, HOST) for etype in ETYPES)]),
+    "user to user": (4, [USER, ("kvno", "--u2u", "FILE:c", "user")]),
+    "another client": (4, [(*KINIT, "-f", "svc/h"), ("kvno", "-U", "user", "svc/h")]),
+    "version 3": (3, [(*KINIT, "-r", "2d", "user"), ("kvno", HOST)]),
+}
+
+REALM = b"CACHE.TEST"
+
+RANDOM_CACHES = 60
+
+
+class Failed(Exception):
+    """One of MIT's programs did not do what it had to."""
+
+
+class Realm:
+    """A realm in a folder, whose KDC runs."""
+
+    def __init__(self, folder: str, port: int) -> None:
+        self.folder = folder
+        for version in (3, 4):
+            self.write(f"krb5-{version}.conf", CLIENT_CONF.format(version=version, port=port))
+        self.write("kdc.conf", KDC_CONF.format(folder=folder, port=port))
+        self.env = {name: value for name, value in os.environ.items()
+                    if not name.startswith("KRB5")}
+        self.env |= {"KRB5_KDC_PROFILE": os.path.join(folder, "kdc.conf"), "PATH": PATHS,
+                     "KRB5CCNAME": "FILE:c", "LC_ALL": "C", "TZ": "UTC"}
+
+    def write(self, name: str, text: str) -> None:
+        """Makes a file of the folder."""
+        with open(os.path.join(self.folder, name), "w", encoding="ascii") as file:
+            file.write(text)
+
+    def surroundings(self, version: int = 4) -> dict[str, str]:
+        """The environment of a program that makes caches of that version."""
+        return self.env | {"KRB5_CONFIG": os.path.join(self.folder, f"krb5-{version}.conf")}
+
+    def call(self, *words: str, folder: str | None = None, version: int = 4) -> bytes:
+        """The output of a program that has to succeed."""
+        done = subprocess.run(words, cwd=folder or self.folder, env=self.surroundings(version),
+                              stdin=subprocess.DEVNULL, capture_output=True, timeout=SECONDS,
+                              check=False)
+        if done.returncode != 0:
+            raise Failed(f"{' '.join(words)}: {done.stderr.decode(errors='replace').strip()}")
+        return done.stdout
+
+    def create(self) -> None:
+        """Makes the database."""
+        self.call("kdb5_util", "create", "-s", "-P", "master", "-r", "CACHE.TEST")
+
+    def fill(self, names: tuple[str, ...]) -> None:
+        """Makes the principals of those names, by an edited dump."""
+        head, *lines = self.call("kdb5_util", "dump").decode().splitlines()
+        master = next(line for line in lines if "\tK/M@" in line)
+        more = [principal_line(master, name) for name in names]
+        self.write("more", "".join(line + "\n" for line in [head, *more]))
+        self.call("kdb5_util", "load", "-update", "more")
+
+    def keytab(self) -> bytes:
+        """A keytab with the key of each principal, which is that of the database."""
+        with open(os.path.join(self.folder, "stash"), "rb") as file:
+            (_, master), = read_image(file.read(), False)[0]
+        names = (tuple(part.encode() for part in name.split("/")) for name in ("user", "svc/h"))
+        return entries(*(Entry(name, REALM, enctype=master.enctype, key=master.key, version8=1,
+                               version32=1) for name in names))
+
+    def klist(self, folder: str, *options: str) -> bytes:
+        """What MIT's klist prints of the cache `c`."""
+        done = subprocess.run(["klist", *options, "c"], cwd=folder, env=self.surroundings(),
+                              check=False, capture_output=True, timeout=SECONDS)
+        return done.stdout
+
+
+def principal_line(master: str, name: str) -> str:
+    """The line of a dump for a principal with the key of the database, and all session enctypes."""
+    fields = master.split("\t")
+    key = fields[15 + 3 * int(fields[3]):-1]  # after the numbers of the front and the tagged data
+    enctypes = b"session_enctypes\0" + ",".join(ETYPES).encode() + b"\0"
+    full = name + "@" + REALM.decode()
+    front = [*fields[:2], len(full), 1, *fields[4:6], full, 0, *fields[8:15]]
+    return "\t".join(map(str, [*front, 11, len(enctypes), enctypes.hex(), *key, fields[-1]]))
+
+
+def free_port() -> int:
+    """A port that nobody listens at."""
+    with socket.socket() as listener:
+        listener.bind(("127.0.0.1", 0))
+        return listener.getsockname()[1]
+
+
+def wait_for(port: int, started: subprocess.Popen[bytes]) -> None:
+    """Waits until the KDC takes connections."""
+    for _ in range(100):
+        with socket.socket() as caller:
+            if caller.connect_ex(("127.0.0.1", port)) == 0:
+                return
+        if started.poll() is not None:
+            break
+        time.sleep(0.1)
+    raise Failed("krb5kdc does not listen")
+
+
+@contextmanager
+def realm(more: tuple[str, ...] = ()) -> Iterator[Realm]:
+    """A realm with its principals and more of them, whose KDC runs for as long as it is used."""
+    with folder_of({}) as folder:
+        port = free_port()
+        made = Realm(folder, port)
+        made.create()
+        made.fill((*PRINCIPALS, *more))
+        with subprocess.Popen(["krb5kdc", "-n"], cwd=folder, env=made.surroundings(),
+                              stdout=subprocess.DEVNULL, stderr=subprocess.DEVNULL) as started:
+            try:
+                wait_for(port, started)
+                yield made
+            finally:
+                started.terminate()
+
+
+def differences_of(program: str, realm_of: Realm, folder: str, *options: str) -> list[str]:
+    """What MIT's klist and ours tell differently of the cache `c`."""
+    ours = run(program, ("klist", *options, "c"), folder)
+    theirs = realm_of.klist(folder, *options)
+    heads = [out.splitlines()[:2] for out in (ours.out, theirs)]
+    wanted, got = told_by_mit(theirs), told_by_us(ours.out)
+    found = [] if got == wanted else [f"{got}, not {wanted}"]
+    found += [] if heads[0] == heads[1] else [f"first lines {heads[0]}, not {heads[1]}"]
+    return found + ([] if (ours.status, ours.err) == (0, b"") else [f"ended with {ours}"])
+
+
+def check_filled(report: Report, program: str, realm_of: Realm) -> None:
+    """Fills each cache by MIT's programs, and lists it."""
+    keytab = realm_of.keytab()
+    for name, (version, commands) in FILLED.items():
+        with folder_of({"k": keytab}) as folder:
+            for words in commands:
+                realm_of.call(*words, folder=folder, version=version)
+            found = differences_of(program, realm_of, folder, "-f", "-e", "-C")
+            found += [] if b"CACHE.TEST" in realm_of.klist(folder) else ["MIT's lists nothing"]
+            with open(os.path.join(folder, "c"), "rb") as file:
+                found += [] if file.read(2)[1] == version else ["it has another version"]
+        report.check(f"MIT's klist and ours: {name}", found)
+
+
+def random_sound(random: Random) -> bytes:
+    """A cache whose tickets are all of its default principal, none a configuration entry."""
+    default = random_name(random, False)
+    names = (random_name(random, False) for _ in range(random.randrange(8)))
+    those = [replace(random_credential(random), client=default, server=name) for name in names]
+    version = random.choice([3, 4])
+    return credentials(*those, default=default, fields=offset(5, -10), version=version)
+
+
+def check_random(report: Report, program: str, realm_of: Realm) -> None:
+    """Random caches tell the same but for enctypes, which MIT's klist tells of real tickets alone.
+    """
+    wrong = []
+    for seed in range(RANDOM_CACHES):
+        image = random_sound(Random(seed))
+        with folder_of({"c": image}) as folder:
+            found = differences_of(program, realm_of, folder, "-f")
+        wrong += [f"{image.hex()}: {fault}" for fault in found]
+    report.check("MIT's klist and ours: random caches", wrong[:3])
+
+
+def check_removed(report: Report, program: str, realm_of: Realm) -> None:
+    """What MIT's library has removed is not listed; what it has left is."""
+    image = credentials(TICKET, of_host(), PA_TYPE, config(b"k", b"v"), config(b"l", b"w"))
+    with folder_of({"c": image}) as folder:
+        realm_of.call(sys.executable, REMOVER, "c", folder=folder)
+        found = differences_of(program, realm_of, folder, "-f", "-C")
+        got = run(program, ("klist", "-C", "c"), folder)
+    wanted = Outcome(0, listed(b"u@R", HOST_LINE, b"config: l = w"))
+    report.check("what MIT's library has removed", found + differences(wanted, got))
+
+
+def are_there(report: Report, what: str, tools: tuple[str, ...] = TOOLS) -> bool:
+    """Whether MIT's programs are there; where they are not, that part is left out."""
+    missing = [name for name in tools if shutil.which(name, path=PATHS) is None]
+    if missing:
+        report.skip(what, f"{missing[0]} is not there (Debian: krb5-user, krb5-kdc, krb5-admin-server)")
+    return not missing
+
+
+def check(report: Report, program: str) -> None:
+    """Runs all of this topic where MIT's programs are there."""
+    if not are_there(report, "caches beside MIT's programs"):
+        return
+    try:
+        with realm() as made:
+            check_filled(report, program, made)
+            check_random(report, program, made)
+            check_removed(report, program, made)
+    except Failed as failed:
+        report.check("MIT's programs in a realm made here", [str(failed)])

@@ -1,0 +1,68 @@
+"""Cases over the files in `corpus`, which other programs wrote.
+
+The folder has `cases.jsonl`, one case a line: an object with `id`, `dir` (the folder in it with the
+case's files), `argv` (the program's words), `status`, `stdout`, `stderr`, and perhaps `stdin`,
+`copy` (a pair: a file of `dir`, and its name where the program runs) and `result_file` (names, each
+with what stands there afterwards). An output is {"text"} or {"hex"}; what stands in a file is that,
+or the name of a file of `dir` with the same bytes. A word of the line or of the standard input that
+names a file of `dir` has that file copied to where the program runs.
+"""
+from __future__ import annotations
+
+import json
+import os
+
+from runs.harness import TOP, Case, Outcome, Report, check_case
+
+# The folder of the files and cases.
+FOLDER = os.path.join(TOP, "tests", "corpus")
+
+
+def given(value: dict) -> bytes:
+    """The bytes of an output or a file."""
+    return value["text"].encode() if "text" in value else bytes.fromhex(value["hex"])
+
+
+def read(path: str) -> bytes:
+    """The bytes of a file."""
+    with open(path, "rb") as file:
+        return file.read()
+
+
+def files(kind: str) -> list[tuple[str, bytes]]:
+    """The files of a kind, `keytab` or `ccache`, each with its name."""
+    folder = os.path.join(FOLDER, kind)
+    return [(name, read(os.path.join(folder, name))) for name in sorted(os.listdir(folder))]
+
+
+def images(kind: str) -> list[bytes]:
+    """The bytes of each file of a kind."""
+    return [image for _, image in files(kind)]
+
+
+def case_of(fields: dict) -> Case:
+    """A case from its line."""
+    source = os.path.join(FOLDER, fields["dir"])
+    stdin = fields.get("stdin") or ""
+    files = {}
+    if fields.get("copy"):
+        name, to = fields["copy"]
+        files[to] = read(os.path.join(source, name))
+    for word in [*fields["argv"], *stdin.split()]:
+        path = os.path.join(source, word)
+        if "/" not in word and os.path.isfile(path):
+            files.setdefault(word, read(path))
+    after = dict(files)
+    for name, value in (fields.get("result_file") or {}).items():
+        is_name = isinstance(value, str)
+        after[name] = read(os.path.join(source, value)) if is_name else given(value)
+    wanted = Outcome(fields["status"], given(fields["stdout"]), given(fields["stderr"]))
+    name = f"other programs' files: {fields['id']}"
+    return Case(name, tuple(fields["argv"]), wanted, files, after, stdin.encode())
+
+
+def check(report: Report, program: str) -> None:
+    """Runs each case."""
+    with open(os.path.join(FOLDER, "cases.jsonl"), encoding="utf-8") as file:
+        for line in file:
+            check_case(report, program, case_of(json.loads(line)))

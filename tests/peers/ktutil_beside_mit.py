@@ -1,0 +1,71 @@
+"""`ktutil` beside MIT's: the same lines for both, and a keytab that MIT's wrote."""
+from __future__ import annotations
+
+import os
+from dataclasses import replace
+
+from keytabs.edits import text
+from makers.images import HOST, Entry, entries, keytab
+from models.keytab_model import Keytab
+from models.reading import KeytabEntry
+from peers.beside_mit import HOLES, Mit, are_there
+from runs.harness import Outcome, Report, folder_of, run
+
+
+def untimed(image: bytes) -> list[tuple[bool, int, KeytabEntry | None]]:
+    """The cells of a keytab, and their entries without times."""
+    opened = Keytab(image)
+    return [
+        (cell.is_record, len(cell.data),
+         replace(opened.entry(cell), timestamp=0) if cell.is_record else None)
+        for cell in opened.cells
+    ]
+
+
+def check_same_lines(report: Report, program: str) -> None:
+    """The same lines for both ktutils leave the same files, but for times, which MIT makes new."""
+    key = bytes(range(32)).hex()
+    addent = f"addent -key -p host/z@R -k 300 -e aes256-cts-hmac-sha1-96\n{key}"
+    given = ["rkt j", "rkt k", "delent 1", addent, "wkt n", "wkt k", "clear", "wkt n"]
+    files = {"j": entries(HOST, Entry((b"a", b"b"), version32=None)), "k": HOLES}
+    kept = {}
+    with folder_of(files) as folder:
+        Mit(folder).ktutil(*given)
+        kept["MIT"] = read_all(folder, "nk")
+    with folder_of(files) as folder:
+        run(program, ("ktutil",), folder, text(given))
+        kept["krbfile"] = read_all(folder, "nk")
+    for name in "nk":
+        theirs, ours = (untimed(kept[side][name]) for side in ("MIT", "krbfile"))
+        found = [] if theirs == ours else [f"MIT's has {theirs}, krbfile's {ours}"]
+        report.check(f"the same lines for both ktutils: file {name}", found)
+
+
+def read_all(folder: str, names: str) -> dict[str, bytes]:
+    """Some files of a folder; one that is not there is an empty keytab."""
+    found = {}
+    for name in names:
+        path = os.path.join(folder, name)
+        found[name] = keytab()
+        if os.path.exists(path):
+            with open(path, "rb") as file:
+                found[name] = file.read()
+    return found
+
+
+def check_reads(report: Report, program: str) -> None:
+    """A keytab that MIT's ktutil wrote is read by ours."""
+    addent = "addent -key -p host/a@R -k 3 -e aes128-cts-hmac-sha1-96\n" + "00" * 16
+    with folder_of({}) as folder:
+        Mit(folder).ktutil(addent, "wkt k")
+        got = run(program, ("ktutil",), folder, b"rkt k\nl -e -k\n")
+    line = b"   1    3 host/a@R (aes128-cts-hmac-sha1-96) (0x" + b"00" * 16 + b")\n"
+    wanted = b"slot KVNO Principal\n---- ---- ---------\n" + line
+    report.compare("ktutil reads what MIT's wrote", Outcome(0, wanted), got)
+
+
+def check(report: Report, program: str) -> None:
+    """Runs all of this topic where MIT's programs are there."""
+    if are_there(report, "ktutil beside MIT's"):
+        check_same_lines(report, program)
+        check_reads(report, program)

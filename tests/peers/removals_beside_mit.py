@@ -1,0 +1,69 @@
+"""Old entries removed by `kadmin.local ktremove NAME old` and by ours: the files are the same."""
+from __future__ import annotations
+
+import os
+from random import Random
+
+from makers.images import Entry, entries
+from models.removal_model import OLD, Asked, removal
+from peers.caches_beside_mit import Failed, Realm, are_there
+from runs.harness import Report, differences, folder_of, run
+
+# The tools of MIT's that this needs.
+TOOLS = ("kdb5_util", "kadmin.local")
+
+# Names of few texts, and versions on both sides of where they wrap.
+NAMES = ((b"a",), (b"host", b"a"), (b"b",))
+VERSIONS = (1, 2, 126, 127, 128, 129, 239, 240, 241, 242, 254, 255, 256, 257)
+
+KEYTABS = 300
+
+
+def random_entry(random: Random) -> Entry:
+    """An entry with the 32 bits of its version, or with 8 where they are enough."""
+    kvno = random.choice(VERSIONS)
+    is_wide = kvno > 255 or random.random() < 0.5
+    return Entry(random.choice(NAMES), timestamp=1_700_000_000 + random.randrange(3),
+                 version8=kvno % 256, enctype=random.choice((17, 18)),
+                 version32=kvno if is_wide else None)
+
+
+def removed_by_mit(realm: Realm, name: bytes, image: bytes) -> bytes:
+    """The file after kadmin.local removed the old entries of a name."""
+    with folder_of({"k": image}) as folder:
+        words = ("-r", "CACHE.TEST", "ktremove", "-k", "FILE:k", name.decode(), "old")
+        realm.call("kadmin.local", *words, folder=folder)
+        with open(os.path.join(folder, "k"), "rb") as file:
+            return file.read()
+
+
+def faults_of(program: str, realm: Realm, random: Random) -> list[str]:
+    """What is otherwise than MIT's and the model's in a removal from a random keytab."""
+    those = [random_entry(random) for _ in range(random.randrange(1, 9))]
+    image, name = entries(*those), b"/".join(random.choice(those).components) + b"@R"
+    wanted, after = removal(image, False, Asked(name, OLD))
+    theirs = removed_by_mit(realm, name, image)
+    with folder_of({"k": image}) as folder:
+        got = run(program, ("ktremove", "-p", name, "-k", OLD, "k"), folder)
+        with open(os.path.join(folder, "k"), "rb") as file:
+            ours = file.read()
+    found = differences(wanted, got)
+    found += [] if ours == after else [f"{ours.hex()} of {image.hex()}, not {after.hex()}"]
+    found += [] if theirs == ours else [f"MIT's is {theirs.hex()} of {image.hex()}, not {ours.hex()}"]
+    return found
+
+
+def check(report: Report, program: str) -> None:
+    """Runs all of this topic where MIT's programs are there."""
+    if not are_there(report, "removals beside MIT's kadmin.local", TOOLS):
+        return
+    wrong: list[str] = []
+    try:
+        with folder_of({}) as folder:
+            realm = Realm(folder, 0)
+            realm.create()
+            for seed in range(KEYTABS):
+                wrong += faults_of(program, realm, Random(seed))
+    except Failed as failed:
+        wrong.append(str(failed))
+    report.check("old entries that kadmin.local and ktremove remove", wrong[:3])

@@ -1,0 +1,198 @@
+"""Caches of MIT's kinit and kvno that ccedit and ccremove change: MIT's programs go on working with them.
+
+The realm and its KDC are those of caches_beside_mit.
+"""
+from __future__ import annotations
+
+import os
+import time
+from collections.abc import Iterator
+from contextlib import contextmanager
+
+from models.cache_model import Cache
+from models.cache_script_model import cache_edited
+from peers.caches_beside_mit import (
+    FILLED,
+    HOST,
+    KINIT,
+    USER,
+    Failed,
+    Realm,
+    are_there,
+    differences_of,
+    realm,
+)
+from runs.harness import Outcome, Report, differences, folder_of, run
+
+TGT = b"krbtgt/CACHE.TEST@CACHE.TEST"
+HOST_TEXT = HOST.encode() + b"@CACHE.TEST"
+SVC_TEXT = b"svc/h@CACHE.TEST"
+
+
+class Filled:
+    """A cache `c` that MIT's programs filled, and the programs that use it."""
+
+    def __init__(self, program: str, made: Realm, folder: str) -> None:
+        self.program, self.made, self.folder = program, made, folder
+        self.found: list[str] = []
+
+    def image(self) -> bytes:
+        """The file."""
+        with open(os.path.join(self.folder, "c"), "rb") as file:
+            return file.read()
+
+    def cache(self) -> Cache:
+        """What it says."""
+        return Cache(self.image())
+
+    def want(self, what: str, is_so: bool) -> None:
+        """Notes what is not so."""
+        self.found += [] if is_so else [what]
+
+    def change(self, words: tuple[str, ...], wanted: Outcome, script: bytes = b"") -> None:
+        """A run of ours over the cache, after which MIT's klist and ours list the same."""
+        got = run(self.program, (*words, "c"), self.folder, script)
+        self.found += differences(wanted, got)
+        self.found += differences_of(self.program, self.made, self.folder, "-f", "-e", "-C")
+
+    def use(self, *words: str, version: int = 4) -> None:
+        """A run of MIT's over the cache, which has to succeed."""
+        self.made.call(*words, folder=self.folder, version=version)
+
+    def places_of(self, server: bytes) -> list[int]:
+        """The places of the live tickets for a server."""
+        return [place for place, said in self.cache().live()
+                if said.tail().endswith(b" " + server)]
+
+    def remove(self, server: bytes) -> None:
+        """Removes the tickets for a server by ccremove."""
+        lines = b"".join(b"removed %d %s\n" % (place, server) for place in self.places_of(server))
+        self.want(f"there is no {server!r}", lines != b"")
+        self.change(("ccremove", "-p", server.decode()), Outcome(0, lines))
+
+    def cut(self, server: bytes) -> None:
+        """Removes the ticket for a server by a script."""
+        place, = self.places_of(server)
+        self.change(("ccedit",), Outcome(0, b"gone %d\n" % place), b"cut %d\n" % place)
+
+
+@contextmanager
+def filled(program: str, made: Realm, *commands: tuple[str, ...], version: int = 4) -> Iterator[Filled]:
+    """A cache that some commands of MIT's fill."""
+    with folder_of({"k": made.keytab()}) as folder:
+        one = Filled(program, made, folder)
+        for words in commands:
+            one.use(*words, version=version)
+        yield one
+
+
+def check_removed(report: Report, program: str, made: Realm) -> None:
+    """A ticket that ccremove removed is asked for anew, and nothing of its key is left in the file."""
+    with filled(program, made, USER, ("kvno", HOST, "svc/h")) as one:
+        old, = one.cache().keys_of(HOST_TEXT)
+        kept = [one.cache().keys_of(server) for server in (TGT, SVC_TEXT)]
+        one.remove(HOST_TEXT)
+        one.want("its key is left", old not in one.image())
+        one.want("others are gone", kept == [one.cache().keys_of(name) for name in (TGT, SVC_TEXT)])
+        one.use("kvno", HOST)
+        new = one.cache().keys_of(HOST_TEXT)
+        one.want("kvno asked for no other", len(new) == 1 and new != [old])
+        one.use("kvno", HOST, "svc/h")
+        one.want("kvno asks again for what is there", one.cache().keys_of(HOST_TEXT) == new)
+        one.remove(TGT)
+        one.use(*USER)
+        one.use("kvno", HOST)
+        one.want("a new ticket of kinit is not used", len(one.cache().keys_of(HOST_TEXT)) == 1)
+    report.check("kvno asks anew for what ccremove removed", one.found)
+
+
+def check_cut(report: Report, program: str, made: Realm) -> None:
+    """A ticket that ccedit removed is asked for anew too; its key goes with the rewrite."""
+    with filled(program, made, USER, ("kvno", HOST)) as one:
+        old, = one.cache().keys_of(HOST_TEXT)
+        one.cut(HOST_TEXT)
+        one.want("a mark took the key away", old in one.image())
+        one.use("kvno", HOST)
+        new = one.cache().keys_of(HOST_TEXT)
+        one.want("kvno asked for no other", len(new) == 1 and new != [old])
+        wanted, after = cache_edited(one.image(), b"rewrite\n")
+        one.change(("ccedit",), wanted, b"rewrite\n")
+        one.want("it is not written anew", one.image() == after and old not in one.image())
+        one.use("kvno", HOST)
+        one.want("kvno asks again for what is there", one.cache().keys_of(HOST_TEXT) == new)
+    report.check("kvno asks anew for what ccedit removed", one.found)
+
+
+def check_expired(report: Report, program: str, made: Realm) -> None:
+    """Tickets that last for a second go once it is over, and values stay."""
+    with filled(program, made, (*KINIT, "-l", "1s", "user")) as one:
+        said = {said.endtime for _, said in one.cache().live() if not said.is_config()}
+        values = [place for place, said in one.cache().live() if said.is_config()]
+        time.sleep(max(0, max(said) - time.time()) + 0.01)
+        lines = b"".join(b"removed %d %s\n" % (place, TGT) for place in one.places_of(TGT))
+        one.change(("ccremove", "--expired"), Outcome(0, lines))
+        one.want("a ticket is left, or a value is gone", len(one.cache().live()) == len(values))
+        one.change(("ccremove", "--expired"), Outcome(0))
+        one.use(*USER)
+        one.change(("ccremove", "--expired"), Outcome(0))
+        one.use("kvno", HOST)
+    report.check("tickets of kinit that have expired", one.found)
+
+
+def check_values(report: Report, program: str, made: Realm) -> None:
+    """A value that ccedit sets is the one that MIT's klist shows, in place of that of kinit."""
+    with filled(program, made, USER) as one:
+        key = b"fast_avail " + TGT
+        script = b"config %s no\nconfig mine - 1\n" % key
+        wanted, after = cache_edited(one.image(), script)
+        one.change(("ccedit",), wanted, script)
+        shown = made.klist(one.folder, "-C")
+        one.want("another file", one.image() == after)
+        one.want(f"MIT's klist shows {shown!r}", b"config: mine = 1\n" in shown
+                 and shown.count(b"fast_avail") == 1 and b" = no\n" in shown)
+        one.use("kvno", HOST)
+    report.check("MIT's klist shows a value that ccedit sets", one.found)
+
+
+def check_version_3(report: Report, program: str, made: Realm) -> None:
+    """A cache of version 3 is refused, and is one of version 4 after a rewrite, which kvno uses."""
+    with filled(program, made, USER, ("kvno", HOST), version=3) as one:
+        before = one.image()
+        one.change(("ccremove", "--expired"), Outcome(1, err=b"krbfile: c: refused 8\n"))
+        one.want("it changed", one.image() == before)
+        keys = one.cache().keys_of(HOST_TEXT)
+        wanted, _ = cache_edited(before, b"rewrite\n")
+        one.change(("ccedit",), wanted, b"rewrite\n")
+        one.want("it has other keys", one.cache().keys_of(HOST_TEXT) == keys)
+        one.use("kvno", HOST, "svc/h")
+        one.want("kvno asks again for what is there", one.cache().keys_of(HOST_TEXT) == keys)
+        one.remove(HOST_TEXT)
+    report.check("a cache of version 3 that is written anew", one.found)
+
+
+def check_each_place(report: Report, program: str, made: Realm) -> None:
+    """Of each cache that MIT fills each ticket and each value goes, and all is written anew."""
+    for name, (version, commands) in FILLED.items():
+        with filled(program, made, *commands, version=version) as one:
+            if version == 3:
+                one.change(("ccedit",), cache_edited(one.image(), b"rewrite\n")[0], b"rewrite\n")
+            for place in one.cache().live_places():
+                one.change(("ccedit",), Outcome(0, b"gone %d\n" % place), b"cut %d\n" % place)
+            wanted, after = cache_edited(one.image(), b"rewrite\n")
+            one.change(("ccedit",), wanted, b"rewrite\n")
+            one.want("something is left", one.image() == after and not one.cache().cells)
+            one.use(*USER)
+        report.check(f"each place of a cache of MIT's: {name}", one.found[:3])
+
+
+def check(report: Report, program: str) -> None:
+    """Runs all of this topic where MIT's programs are there."""
+    if not are_there(report, "changes of caches beside MIT's programs"):
+        return
+    try:
+        with realm() as made:
+            for topic in (check_removed, check_cut, check_expired, check_values, check_version_3,
+                          check_each_place):
+                topic(report, program, made)
+    except Failed as failed:
+        report.check("MIT's programs over caches that were changed", [str(failed)])

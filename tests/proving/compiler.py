@@ -1,0 +1,138 @@
+"""The compiler's own command, for the crates of the repository.
+
+It goes over the libraries in `crates/*/out/rlib`. Those that `rt ci` left there have no stamp, so the
+commands of `rt` would prove each of them once more.
+"""
+from __future__ import annotations
+
+import os
+import re
+import subprocess
+from collections.abc import Iterable
+from dataclasses import dataclass
+from functools import cache
+
+from proving.edited import TOP
+
+# What a check takes at most, in KB.
+MEMORY = 3_500_000
+
+# How a check names a goal that is left open in a function with answers, and those in one without.
+OPEN_GOAL = re.compile(r"note: \S+: it is not proved that .*?\(`([\w-]+)`\)")
+NOT_FOUND = re.compile(r"; `search` did not prove (.*)")
+VERDICT = re.compile(r"fn \w+::(\S+): (.*)")
+# A function that is proved by hand has no open goals: its proof is refused.
+BY_HAND = re.compile(r"\./proofs/(\S+)/Proof\.antt:\S+ error: ")
+# A goal's name has the branch that it comes from; the clause's name does not.
+GOAL = re.compile(r"(returns|.*?-requires)(?:-.*?)??(-clause-[\w-]+)?")
+ENDED = re.compile(r"^only=\d+ proved=\d+$", re.M)
+REJECTED = re.compile(r"^(?:error\b.*|(?:\./)?src/\S+: error.*)", re.M)
+
+
+@dataclass(frozen=True)
+class Answer:
+    """What a check says: the functions that are proved, those that are not with their open clauses, and why it ended before."""
+
+    proved: set[str]
+    clauses: dict[str, list[str]]
+    rejected: str | None
+
+
+def at_once(jobs: int) -> int:
+    """How many checks run at once: as asked for, as far as the memory has room for them."""
+    with open("/proc/meminfo", encoding="ascii") as file:
+        free = int(re.search(r"MemAvailable:\s+(\d+)", file.read())[1])
+    return max(1, min(jobs, free // MEMORY))
+
+
+@cache
+def kit() -> str:
+    """The folder of the toolchain."""
+    said = subprocess.run(["rt", "doc"], stdout=subprocess.PIPE, text=True, check=True).stdout
+    return os.path.dirname(said.strip())
+
+
+@cache
+def crates() -> dict[str, tuple[str, list[str]]]:
+    """The kind of each crate, empty or `staticlib`, and the libraries that it uses."""
+    found = {}
+    with open(os.path.join(TOP, "crates.txt"), encoding="utf-8") as file:
+        for line in file:
+            head, colon, uses = line.partition("#")[0].partition(":")
+            if colon:
+                name, *kind = head.split()
+                found[name] = "".join(kind), uses.split()
+    return found
+
+
+def library(crate: str) -> str:
+    """The folder of a library, of the repository or of the toolchain."""
+    if crate in crates():
+        return os.path.join(TOP, "crates", crate, "out", "rlib", f"{crate}.rlib")
+    return os.path.join(kit(), "rlibs", f"{crate}.rlib")
+
+
+def below(crate: str) -> set[str]:
+    """The repository's libraries that a crate uses, and those that they use."""
+    used = [it for it in crates()[crate][1] if it in crates()]
+    return {*used, *(lower for it in used for lower in below(it))}
+
+
+def command(verb: str, crate: str, jobs: int) -> list[str]:
+    """The words that check or build a crate, in its folder or in a copy of that."""
+    kind, uses = crates()[crate]
+    is_program = os.path.exists(os.path.join(TOP, "crates", crate, "src", "main.rt"))
+    words = [os.path.join(kit(), "bin", "rattle"), verb, "--crate-name", crate]
+    words.append("src/main.rt" if is_program else "src/lib.rt")
+    for it in dict.fromkeys(["std", *uses]):
+        words += ["--extern", f"{it}={library(it)}"]
+    for it in ["std", *sorted(below(crate))]:
+        words += ["-L", f"dependency={os.path.dirname(library(it))}"]
+    words += ["--antt-project", os.path.join(kit(), "rattle", "logic", "antt-project.json")]
+    words += ["--logic-built", os.path.join(kit(), "logic_built")]
+    words += ["--links", f"{crate}=", "--jobs", str(jobs)]
+    return [*words, "--crate-type", kind] if kind else words
+
+
+def clause_of(goal: str) -> str:
+    """The name of the clause that a goal is of. A loop's goals keep their names."""
+    found = GOAL.fullmatch(goal)
+    return found[1] + (found[2] or "") if found else goal
+
+
+def proved_in(said: str) -> set[str]:
+    """The functions that are proved."""
+    verdicts = filter(None, map(VERDICT.match, said.splitlines()))
+    return {verdict[1] for verdict in verdicts if verdict[2] == "proved"}
+
+
+def clauses_of(said: str) -> dict[str, list[str]]:
+    """The open clauses of each function that is not proved. Their goals stand before its verdict, or in it."""
+    found, before, by_hand = {}, [], set()
+    for line in said.splitlines():
+        goal, verdict, refused = OPEN_GOAL.match(line), VERDICT.match(line), BY_HAND.match(line)
+        if refused:
+            by_hand.add(refused[1].replace("/", "::"))
+        elif goal:
+            before.append(goal[1])
+        elif verdict:
+            listed = NOT_FOUND.search(verdict[2])
+            goals = before + (re.findall(r"`([\w-]+)`", listed[1]) if listed else [])
+            if verdict[2] != "proved":
+                proof = ["proof"] if verdict[1] in by_hand else []
+                found[verdict[1]] = proof + sorted({clause_of(it) for it in goals})
+            before = []
+    return found
+
+
+def check_functions(crate: str, folder: str, only: Iterable[str]) -> Answer:
+    """Checks functions of the crate in a folder."""
+    words = command("check", crate, 1)
+    for function in only:
+        words += ["--only", function]
+    done = subprocess.run(words, cwd=folder, stdin=subprocess.DEVNULL, stdout=subprocess.PIPE,
+                          stderr=subprocess.STDOUT, text=True, errors="replace", check=False)
+    rejected = REJECTED.search(done.stdout)
+    if not rejected and not ENDED.search(done.stdout):
+        rejected = re.search(r".*\Z", done.stdout.rstrip())
+    return Answer(proved_in(done.stdout), clauses_of(done.stdout), rejected[0] if rejected else None)

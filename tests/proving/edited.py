@@ -1,0 +1,112 @@
+"""Reads the edits of `crates/NAME/wrong`, and applies one to a copy of its crate.
+
+An edit has lines `file: PATH`, and after each any number of pairs `old: TEXT` and `new: TEXT`. The old
+text is in that file once, and further pairs apply to what the earlier ones made. `only: FUNCTION`
+names a function to check, by its path below the crate. `refused: FUNCTION CLAUSE` says which clause is
+then not proved, as `wrong CRATE NAME` prints it: an `ensures` of the function, or a `requires` of a
+call in it. A loop's invariant is no clause: it serves the proof alone. A function that is proved by hand
+has no clause that is not proved: `refused: FUNCTION proof` says that its proof is refused.
+"""
+from __future__ import annotations
+
+import glob
+import os
+import re
+import shutil
+from dataclasses import dataclass
+
+from runs.harness import TOP
+
+# What a check reads of a crate.
+PARTS = ("src", "specs", "proofs")
+
+# The functions and clauses that lines `only:` and `refused:` name.
+FUNCTION = re.compile(r"[\w:]+")
+CLAUSE = re.compile(r"([\w:]+) ((?:returns|[\w-]+-requires)(?:-clause-[\w-]+)?|proof)")
+
+
+class BadEdit(Exception):
+    """Says why an edit cannot be tried."""
+
+
+@dataclass(frozen=True)
+class Pair:
+    """A text of a file, and the one that takes its place."""
+
+    path: str
+    old: str
+    new: str
+
+
+@dataclass(frozen=True)
+class Edit:
+    """A wrong body, the functions to check, and the clauses that refuse it."""
+
+    crate: str
+    name: str
+    pairs: tuple[Pair, ...]
+    only: tuple[str, ...]
+    refused: tuple[tuple[str, str], ...]
+
+    def __str__(self) -> str:
+        return f"{self.crate}/{self.name}"
+
+
+def paths() -> list[str]:
+    """The file of each edit."""
+    return sorted(glob.glob(os.path.join(TOP, "crates", "*", "wrong", "*.edit")))
+
+
+def crate_and_name(path: str) -> tuple[str, str]:
+    """The crate and the name of the edit in a file."""
+    crate = os.path.basename(os.path.dirname(os.path.dirname(path)))
+    return crate, os.path.basename(path).removesuffix(".edit")
+
+
+def pairs_of(lines: list[tuple[str, str]]) -> tuple[Pair, ...]:
+    """The pairs that lines of a word and a text spell."""
+    found, path, old = [], None, None
+    for word, text in lines:
+        if word == "file":
+            path = text
+        elif word == "old":
+            old = text
+        elif word == "new":
+            if not path or not old:
+                raise BadEdit("a `new:` line has no `file:` or `old:` line")
+            found.append(Pair(path, old, text))
+            old = None
+    return tuple(found)
+
+
+def read(path: str) -> Edit:
+    """The edit in a file."""
+    with open(path, encoding="utf-8") as file:
+        split = [line.rstrip("\n").partition(":") for line in file]
+    lines = [(word, text.removeprefix(" ")) for word, _, text in split]
+    only = [FUNCTION.fullmatch(text) for word, text in lines if word == "only"]
+    refused = [CLAUSE.fullmatch(text) for word, text in lines if word == "refused"]
+    if not only or not refused or None in only or None in refused:
+        raise BadEdit("it needs lines `only: FUNCTION` and `refused: FUNCTION CLAUSE`")
+    return Edit(*crate_and_name(path), pairs_of(lines), tuple(it[0] for it in only),
+                tuple((it[1], it[2]) for it in refused))
+
+
+def copy_crate(crate: str, folder: str) -> None:
+    """Copies to a folder what a check reads of a crate."""
+    for part in PARTS:
+        source = os.path.join(TOP, "crates", crate, part)
+        if os.path.isdir(source):
+            shutil.copytree(source, os.path.join(folder, part))
+
+
+def apply(pairs: tuple[Pair, ...], folder: str) -> None:
+    """Makes the changes of an edit to the copy of its crate in a folder."""
+    for pair in pairs:
+        path = os.path.join(folder, pair.path)
+        with open(path, encoding="utf-8") as file:
+            text = file.read()
+        if text.count(pair.old) != 1:
+            raise BadEdit(f"{pair.path} has {text.count(pair.old)} times, not once: {pair.old}")
+        with open(path, "w", encoding="utf-8") as file:
+            file.write(text.replace(pair.old, pair.new))

@@ -1,0 +1,174 @@
+"""Runs the program on a case in a folder of its own, and says what differs from what is wanted."""
+from __future__ import annotations
+
+import os
+import subprocess
+import tempfile
+import time
+from collections.abc import Callable
+from contextlib import contextmanager
+from dataclasses import dataclass, field
+
+# The repository.
+TOP = os.path.dirname(os.path.dirname(os.path.dirname(os.path.abspath(__file__))))
+
+# Longer than any run takes.
+SECONDS = 60
+
+# Over more bytes than this, a program of which nothing is proved takes longer: it checks each access to memory.
+LARGE = 1_000_000
+
+
+@dataclass(frozen=True)
+class Outcome:
+    """What a run leaves: its status (negative: the signal that ended it), and what it wrote."""
+
+    status: int
+    out: bytes = b""
+    err: bytes = b""
+
+
+def message(status: int, text: str) -> Outcome:
+    """A run that only says what is wrong."""
+    return Outcome(status, err=f"krbfile: {text}\n".encode())
+
+
+@dataclass(frozen=True)
+class Case:
+    """The program's words, what is wanted, and the files that lie where it runs."""
+
+    name: str
+    words: tuple[str | bytes, ...]
+    wanted: Outcome
+    files: dict[str, bytes] = field(default_factory=dict)
+    # The files after the run, where they are not those before it.
+    files_after: dict[str, bytes] | None = None
+    stdin: bytes = b""
+
+
+class Report:
+    """Counts what passed and failed, and prints a line for each failure."""
+
+    def __init__(self, is_proved: bool = True) -> None:
+        self.is_proved = is_proved
+        self.passed = 0
+        self.failed = 0
+        self.large = 0
+        self.left_out: list[str] = []
+
+    def check(self, name: str, faults: list[str]) -> None:
+        """Counts one case, which failed where there are faults."""
+        if faults:
+            self.failed += 1
+            print(f"{name}: {'; '.join(faults)}", flush=True)
+        else:
+            self.passed += 1
+
+    def add(self, other: Report) -> None:
+        """Takes in what another report counted."""
+        self.passed += other.passed
+        self.failed += other.failed
+        self.large += other.large
+        self.left_out += other.left_out
+
+    def compare(self, name: str, wanted: Outcome, got: Outcome) -> None:
+        """Counts one case, which failed where the outcomes differ."""
+        self.check(name, differences(wanted, got))
+
+    def skip(self, what: str, why: str) -> None:
+        """Notes that a part is left out."""
+        self.left_out.append(f"{what}: left out, since {why}")
+
+    def summary(self) -> str:
+        """What was left out, a line each, and the counts."""
+        if self.large:
+            self.skip(f"cases of over {LARGE:,} bytes, {self.large} in all", "the program is not proved, and takes long")
+        return "\n".join([*self.left_out, f"{self.passed} passed, {self.failed} failed"])
+
+
+def short(data: bytes) -> str:
+    """Bytes as a message shows them."""
+    if len(data) <= 300:
+        return repr(data)
+    return f"{data[:140]!r} ... {data[-140:]!r} ({len(data)} bytes)"
+
+
+def differences(wanted: Outcome, got: Outcome) -> list[str]:
+    """What two outcomes differ in, one text each."""
+    found = []
+    if got.status != wanted.status:
+        found.append(f"status {got.status}, not {wanted.status}")
+    if got.out != wanted.out:
+        found.append(f"output {short(got.out)}, not {short(wanted.out)}")
+    if got.err != wanted.err:
+        found.append(f"error output {short(got.err)}, not {short(wanted.err)}")
+    return found
+
+
+def files_in(folder: str) -> dict[str, bytes]:
+    """The files below a folder, by their paths from it."""
+    found = {}
+    for at, _, names in os.walk(folder):
+        for name in names:
+            path = os.path.join(at, name)
+            with open(path, "rb") as file:
+                found[os.path.relpath(path, folder)] = file.read()
+    return found
+
+
+@contextmanager
+def folder_of(files: dict[str, bytes]):
+    """A folder that has those files, for as long as it is used."""
+    with tempfile.TemporaryDirectory(prefix="krbfile-") as folder:
+        for name, data in files.items():
+            with open(os.path.join(folder, name), "wb") as file:
+                file.write(data)
+        yield folder
+
+
+def run(program: str, words, folder: str, stdin: bytes = b"", **options) -> Outcome:
+    """One run in that folder. Both outputs are taken, but for one that `options` send elsewhere."""
+    options = {"stdout": subprocess.PIPE, "stderr": subprocess.PIPE, **options}
+    done = subprocess.run([program, *words], cwd=folder, input=stdin, timeout=SECONDS, **options)
+    return Outcome(done.returncode, done.stdout or b"", done.stderr or b"")
+
+
+def run_case(program: str, case: Case, **options) -> tuple[Outcome, dict[str, bytes]]:
+    """Runs a case in a folder of its own; the files that lie there afterwards."""
+    with folder_of(case.files) as folder:
+        return run(program, case.words, folder, case.stdin, **options), files_in(folder)
+
+
+def faults_of(case: Case, got: Outcome, after: dict[str, bytes]) -> list[str]:
+    """What is wrong with a run of a case, and with the files afterwards."""
+    found = differences(case.wanted, got)
+    wanted = case.files if case.files_after is None else case.files_after
+    for name in sorted(set(after) | set(wanted)):
+        if after.get(name) != wanted.get(name):
+            found.append(f"file {name} is not as it should be")
+    return found
+
+
+def size_of(case: Case) -> int:
+    """The bytes that a case gives the program."""
+    return len(case.stdin) + sum(map(len, case.files.values()))
+
+
+def check_case(report: Report, program: str, case: Case) -> None:
+    """Runs a case and reports it."""
+    if not report.is_proved and size_of(case) > LARGE:
+        report.large += 1
+        return
+    try:
+        found = faults_of(case, *run_case(program, case))
+    except subprocess.TimeoutExpired:
+        found = [f"no end in {SECONDS} seconds"]
+    report.check(case.name, found)
+
+
+def faults_by_clock(program: str, case_at: Callable[[int], Case]) -> list[str]:
+    """What is wrong with a run that hangs on the clock: the program took its time while it ran."""
+    before = int(time.time())
+    got = run_case(program, case_at(before))
+    tried = [faults_of(case_at(now), *got) for now in range(before, int(time.time()) + 1)]
+    return min(tried, key=len)

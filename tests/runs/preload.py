@@ -1,0 +1,95 @@
+"""Runs of the program under a preloaded C library (preload.c) that lets chosen calls fail."""
+from __future__ import annotations
+
+import os
+import shutil
+import struct
+import subprocess
+import tempfile
+from collections.abc import Iterator
+from contextlib import contextmanager
+from dataclasses import dataclass
+
+from runs.harness import Outcome, Report, files_in, folder_of, run
+
+SOURCE = os.path.join(os.path.dirname(os.path.abspath(__file__)), "preload.c")
+
+# More calls of one kind than any run makes.
+MOST_CALLS = 10_000
+
+# More bytes than any read or write moves.
+WHOLE = 1_000_000
+
+
+@dataclass(frozen=True)
+class Line:
+    """The program's words and its standard input."""
+
+    words: tuple[str, ...]
+    stdin: bytes = b""
+
+    def __str__(self) -> str:
+        return " ".join(self.words)
+
+
+@dataclass(frozen=True)
+class Counted:
+    """A run, the files after it, its requests for memory, and its calls that were not granted."""
+
+    outcome: Outcome
+    files: dict[str, bytes]
+    requests: int
+    failures: int
+
+
+class Preloaded:
+    """Runs a program in a folder with some of its calls failing, each time over the same files."""
+
+    def __init__(self, program: str, library: str, files: dict[str, bytes]) -> None:
+        self.program = program
+        self.library = library
+        self.files = files
+
+    def over(self, files: dict[str, bytes]) -> Preloaded:
+        """The same over other files."""
+        return Preloaded(self.program, self.library, files)
+
+    def run(self, line: Line, **settings: int) -> Counted | None:
+        """One run with the settings that preload.c tells of; None where it was not loaded."""
+        with tempfile.TemporaryDirectory() as top, folder_of(self.files) as folder:
+            counts = os.path.join(top, "counts")
+            env = {"LD_PRELOAD": self.library, "PRELOAD_COUNTS": counts}
+            env.update((name, str(value)) for name, value in settings.items())
+            outcome = run(self.program, line.words, folder, line.stdin, env=env)
+            if not os.path.exists(counts):
+                return None
+            with open(counts, "rb") as file:
+                requests, _, _, failures = struct.unpack("=4Q", file.read(32))
+            return Counted(outcome, files_in(folder), requests, failures)
+
+
+def built_library(folder: str) -> str | None:
+    """The library, built by the C compiler that is there; None where there is none."""
+    compilers = map(shutil.which, (os.environ.get("CC") or "cc", "gcc", "clang"))
+    compiler = next((path for path in compilers if path), None)
+    if compiler is None:
+        return None
+    library = os.path.join(folder, "preload.so")
+    words = [compiler, "-O2", "-Wall", "-shared", "-fPIC", "-o", library, SOURCE, "-ldl"]
+    return library if subprocess.run(words, check=False).returncode == 0 else None
+
+
+@contextmanager
+def preloaded(
+    report: Report, program: str, what: str, files: dict[str, bytes]
+) -> Iterator[Preloaded | None]:
+    """The program with the library under it; None where that cannot be had, which is reported."""
+    with tempfile.TemporaryDirectory() as top:
+        library = built_library(top)
+        made = Preloaded(program, library, files) if library else None
+        if made is None:
+            report.skip(what, "no C compiler built preload.c")
+        elif made.run(Line(("--help",))) is None:
+            report.skip(what, "the program does not load a preloaded library")
+            made = None
+        yield made

@@ -1,0 +1,39 @@
+"""Runs whose error output is a terminal, or which are asked to explain themselves."""
+from __future__ import annotations
+
+import os
+import subprocess
+from contextlib import suppress
+
+from runs.harness import SECONDS, Outcome, run
+
+EXPLAIN = "--explain"
+
+
+def all_of(end: int) -> bytes:
+    """What a terminal was written, once nobody has its other end open."""
+    parts = []
+    with suppress(OSError):
+        while part := os.read(end, 65_536):
+            parts.append(part)
+    return b"".join(parts).replace(b"\r\n", b"\n")
+
+
+def run_on_terminal(program: str, words, folder: str, stdin: bytes = b"") -> Outcome:
+    """A run whose error output is a terminal. What it writes there has to fit the terminal's buffer."""
+    ours, theirs = os.openpty()
+    try:
+        done = subprocess.run([program, *words], cwd=folder, input=stdin, stdout=subprocess.PIPE,
+                              stderr=theirs, timeout=SECONDS, check=False)
+    finally:
+        os.close(theirs)
+    try:
+        return Outcome(done.returncode, done.stdout, all_of(ours))
+    finally:
+        os.close(ours)
+
+
+def runs_with_words(program: str, words, folder: str, stdin: bytes = b""):
+    """The two ways to be told in words, each with its outcome."""
+    yield "on a terminal", run_on_terminal(program, words, folder, stdin)
+    yield EXPLAIN, run(program, (EXPLAIN, *words), folder, stdin)

@@ -1,0 +1,206 @@
+"""Each read and each write of each command fails, by several errors, or moves few bytes.
+
+What is wanted is what the models say. A read or write that is interrupted counts as failed.
+"""
+from __future__ import annotations
+
+from collections.abc import Iterable, Iterator
+from errno import EACCES, EAGAIN, EINTR, ENOMEM, ENOSPC, errorcode
+from functools import cached_property
+from random import Random
+
+from models.ktutil_model import Failure, Ktutil, handled
+from models.modelled import NOW, Modelled, Stage, large, small
+from runs.harness import Outcome, Report, differences, message
+from runs.preload import MOST_CALLS, WHOLE, Counted, Line, Preloaded, preloaded
+
+ERRORS = (EINTR, EAGAIN, ENOSPC, ENOMEM, EACCES)
+
+# How few bytes one read or write moves.
+FEW = 60
+
+# A long test has its count divided by this many runs.
+SHARE = 4
+
+NO_OUTPUT = message(3, "cannot write output")
+
+# What may fail in a run that reads a file, in one that saves it, and in one that takes an input too.
+OF_READER = ("FAIL_READ", "FAIL_WRITE", "ZERO_WRITE")
+OF_REMOVER = (*OF_READER, "FAIL_SAVE", "ZERO_SAVE")
+OF_EDITOR = ("FAIL_INPUT", *OF_REMOVER)
+
+# A run's end, and the files after it.
+End = tuple[Outcome, dict[str, bytes]]
+
+
+class FailingFiles(dict):
+    """Files of which one load or one save fails, the nth of its kind."""
+
+    def __init__(self, files: dict[str, bytes], load: int = 0, save: int = 0) -> None:
+        super().__init__(files)
+        self.loads_left, self.saves_left = load, save
+
+    def __contains__(self, name: str) -> bool:
+        self.loads_left -= 1
+        if self.loads_left == 0:
+            raise Failure(f"{name}: cannot read".encode(), 3)
+        return super().__contains__(name)
+
+    def __setitem__(self, name: str, data: bytes) -> None:
+        self.saves_left -= 1
+        if self.saves_left == 0:
+            raise Failure(f"{name}: cannot write".encode(), 3)
+        super().__setitem__(name, data)
+
+
+def talk_with(run: Modelled, **failing: int) -> End:
+    """What ktutil answers where one load or save fails."""
+    ktutil = Ktutil({}, NOW, False)
+    ktutil.files = FailingFiles(run.case.files, **failing)
+    for number, line in enumerate(run.case.stdin.splitlines(), 1):
+        ktutil.handle(number, line)
+    return Outcome(ktutil.status, ktutil.out, ktutil.err), dict(ktutil.files)
+
+
+class Ends:
+    """How a run ends where a read, or a write to a file, fails."""
+
+    def __init__(self, run: Modelled) -> None:
+        self.run = run
+
+    def talks(self, kind: str) -> Iterator[End]:
+        """What ktutil answers for each load or save that fails."""
+        whole = (self.run.case.wanted, self.run.after())
+        nth = 1
+        while (end := talk_with(self.run, **{kind: nth})) != whole:
+            yield end
+            nth += 1
+
+    @cached_property
+    def of_loads(self) -> list[End]:
+        """How it ends for each load that fails."""
+        words = self.run.case.words
+        if words[0] == "ktutil":
+            return [*self.talks("load")]
+        name = words[1] if words[0] in ("ktfind", "ktedit") else words[-1]
+        return [(message(3, f"{name}: cannot read"), self.run.case.files)]
+
+    @cached_property
+    def of_saves(self) -> list[End]:
+        """How it ends for each save that fails."""
+        words = self.run.case.words
+        if words[0] == "ktutil":
+            return [*self.talks("save")]
+        return [(message(3, f"{words[-1]}: cannot write"), self.run.case.files)]
+
+    def of_input(self, given: int) -> End:
+        """How it ends where its input fails after that many bytes."""
+        case = self.run.case
+        if case.words[0] == "ktutil":
+            return handled(case.files, case.stdin[:given], NOW, is_cut=True)
+        return message(3, "cannot read input"), case.files
+
+    def are_met(self, setting: str, given: int, got: Counted) -> bool:
+        """Whether a run in which that failed ended as it has to."""
+        end = (got.outcome, got.files)
+        if setting == "FAIL_INPUT":
+            return end == self.of_input(given)
+        if setting == "FAIL_READ":
+            # A file that is to be saved is read once more before.
+            return end in self.of_loads or end in self.of_saves
+        if setting in ("FAIL_SAVE", "ZERO_SAVE"):
+            return end in self.of_saves
+        return ends_in_output(self.run, got)
+
+
+def ends_in_output(run: Modelled, got: Counted) -> bool:
+    """Whether a run ended as its output failed: a prefix was printed, and a script is saved."""
+    is_talk = run.case.words[0] == "ktutil"
+    stages = run.stages if is_talk else (Stage(b"", b"", run.after()),)
+    printing = Modelled(run.case, stages, may_print=True)
+    return printing.ends_early(got.outcome, got.files, NO_OUTPUT)
+
+
+def faults_of_call(
+    over: Preloaded, ends: Ends, setting: str, nth: int, most: int, error: int
+) -> tuple[list[str], bool]:
+    """What is wrong where that call fails, and whether it was made."""
+    run = ends.run
+    settings = {setting: nth, "MOST": most, "ERROR": error}
+    got = over.run(Line(run.case.words, run.case.stdin), CLOCK=NOW, **settings)
+    if got.failures:
+        is_wanted = ends.are_met(setting, (nth - 1) * most, got)
+    else:
+        is_wanted = run.is_whole(got.outcome, got.files)
+    return [] if is_wanted else [f"at {nth} {got.outcome.status}, {got.outcome.err!r}"], bool(
+        got.failures)
+
+
+# How many bytes a call moves, and how one fails: over small files, and over larger ones.
+OF_SMALL = (*((WHOLE, error) for error in ERRORS), (FEW, EINTR))
+OF_LARGE = ((WHOLE, EINTR), (20_000, EACCES))
+
+
+def check_setting(
+    report: Report, over: Preloaded, ends: Ends, setting: str, ways: Iterable[tuple[int, int]]
+) -> None:
+    """Each call of a kind fails in each way."""
+    for most, error in ways:
+        faults = []
+        for nth in range(1, MOST_CALLS):
+            found, is_made = faults_of_call(over, ends, setting, nth, most, error)
+            faults += found
+            if not is_made:
+                break
+        name = f"{setting} {errorcode[error]}, at most {most} bytes"
+        report.check(f"{name}: {ends.run.case.name}", faults[:3])
+
+
+def settings_of(run: Modelled) -> tuple[str, ...]:
+    """What may fail in a run."""
+    if run.case.words[0] in ("ktedit", "ktutil", "ccedit"):
+        return OF_EDITOR
+    return OF_REMOVER if run.case.words[0] in ("ktremove", "ccremove") else OF_READER
+
+
+def check_few_bytes(report: Report, over: Preloaded, run: Modelled, most: int) -> None:
+    """Reads and writes of at most that many bytes change nothing."""
+    got = over.run(Line(run.case.words, run.case.stdin), CLOCK=NOW, MOST=most)
+    is_whole = run.is_whole(got.outcome, got.files)
+    faults = [] if is_whole else [*differences(run.case.wanted, got.outcome), "or other files"]
+    report.check(f"{most} bytes at a time: {run.case.name}", faults)
+
+
+def check(report: Report, program: str) -> None:
+    """Runs all of this topic."""
+    with preloaded(report, program, "failing streams", {}) as under:
+        if under is None:
+            return
+        runs = [*((run, OF_SMALL) for run in small()), *((run, OF_LARGE) for run in large())]
+        for run, ways in runs:
+            ends = Ends(run)
+            for setting in settings_of(run):
+                check_setting(report, under.over(run.case.files), ends, setting, ways)
+        for run in [*small(), *large()]:
+            for most in (1, 7, 4_095):
+                check_few_bytes(report, under.over(run.case.files), run, most)
+
+
+def check_long(program: str, seed: int, count: int) -> Report:
+    """Lets calls fail that a seed chooses, of runs over larger files too."""
+    report = Report()
+    random = Random(seed)
+    with preloaded(report, program, "failing streams", {}) as under:
+        if under is None:
+            return report
+        those = [Ends(run) for run in [*small(), *large()]]
+        for number in range(count // SHARE):
+            ends = random.choice(those)
+            setting = random.choice(settings_of(ends.run))
+            nth, most = int(2 ** random.uniform(0, 7)), int(2 ** random.uniform(0, 17))
+            error = random.choice(ERRORS)
+            faults, _ = faults_of_call(under.over(ends.run.case.files), ends, setting, nth, most,
+                                       error)
+            name = f"{setting} {errorcode[error]}, at most {most} bytes, seed {seed}, {number}"
+            report.check(f"{name}: {ends.run.case.name}", faults)
+    return report

@@ -1,0 +1,243 @@
+"""Each system call of each command fails, by several errors, and is the last of its run.
+
+What a failure leads to is told by the step of the work that the call belongs to. That is asked of
+the run itself: how often it reads the list of locks hangs on how many others have.
+"""
+from __future__ import annotations
+
+import re
+import signal
+from dataclasses import dataclass
+
+from makers.images import TWO, B, entries
+from makers.usual_caches import USUAL
+from models.modelled import (
+    Modelled,
+    ccedit,
+    ccremove,
+    klist,
+    klist_cache,
+    ktcheck,
+    ktedit,
+    ktfind,
+    ktremove,
+    ktutil,
+)
+from models.removal_model import Asked
+from runs.harness import Outcome, Report, differences, files_in, folder_of
+from runs.preload import Counted, Line
+from runs.system_calls import Call, calls_of, check_traced, traced
+from system.failing_streams import Ends, ends_in_output
+
+ERRORS = ("EIO", "ENOSPC", "EACCES", "EPERM", "EINTR", "ENOMEM")
+
+# The calls that are made again where they were interrupted. Reads and writes are not.
+REPEATED = ("open", "openat", "flock", "fchmod", "fsync")
+
+# How often the list of locks is read.
+READINGS = 5
+
+# The errors of fchown that say that the owner may not be given: the mode is narrowed.
+NOT_PERMITTED = ("EACCES", "EPERM")
+
+
+@dataclass(frozen=True)
+class Step:
+    """A step of a run: the trace of its calls, what fails with them, and which of its kind."""
+
+    pattern: str
+    fails: str
+    nth: int = 1
+
+
+# A call that did not fail, and one that has no place among the steps.
+NONE, UNKNOWN = Step("", ""), Step("", "unknown")
+
+
+def load(name: str, nth: int = 1) -> list[Step]:
+    """The steps of a load."""
+    patterns = (rf'open.*"{name}", O_RDONLY', r"\w*stat\w*\(\d", r"read\([1-9]")
+    return [*(Step(pattern, "load", nth) for pattern in patterns), Step(r"close", "")]
+
+
+def looked(path: str) -> list[Step]:
+    """The steps of a look at a file of the system, which is not needed."""
+    patterns = (rf'open.*"{path}"', r"\w*stat\w*\(\d", r"read\([1-9]", r"close")
+    return [Step(pattern, "list") for pattern in patterns]
+
+
+def listed() -> list[Step]:
+    """The steps of a look at the locks. That there is none is what several readings in a row say."""
+    return looked("/proc/locks") * READINGS
+
+
+def needed(nth: int, *patterns: str) -> list[Step]:
+    """Steps without which there is no save."""
+    return [Step(pattern, "save", nth) for pattern in patterns]
+
+
+def hold(name: str, nth: int = 1) -> list[Step]:
+    """The steps of a hold, without which a file is loaded and not saved. The new file is its owner's alone."""
+    stat = rf'\w*stat\w*\(.*"{name}"'
+    made = needed(nth, stat, r"open.*O_CREAT\|O_EXCL\b.*, 0600\)", r"flock", r"\w*stat\w*\(\d",
+                  rf'\w*stat\w*\(.*"{name}\.krbfile"', r"fcntl")
+    disk = [*looked(r"/proc/self/fdinfo/\d+"), *looked("/proc/self/mountinfo")]
+    return [*made, Step(r"close", ""), *disk, *needed(nth, stat), *listed()]
+
+
+def save(name: str, nth: int = 1, is_new: bool = False) -> list[Step]:
+    """The steps of a save. Where the folder cannot be synced it is made."""
+    stat = rf'\w*stat\w*\(.*"{name}'
+    owner = [] if is_new else [Step(r"fchown", "owner", nth), *needed(nth, r"\w*stat\w*\(\d")]
+    made = needed(nth, r"fchmod", r"fsync", r"\w*stat\w*\(\d", stat + r'\.krbfile"', stat + '"')
+    again = needed(nth, rf'open.*"{name}", O_RDONLY', r"\w*stat\w*\(\d", r"read\([1-9]")
+    again = [] if is_new else [*again, Step(r"close", ""), *listed()]
+    synced = [Step(pattern, "") for pattern in (r'open.*"\."', r"fsync", r"close")]
+    return [*needed(nth, r"write\([3-9]"), *owner, *made, *again, *needed(nth, r"rename"), *synced]
+
+
+READ = Step(r"read\(0", "input")
+PRINT = Step(r"write\(1", "output")
+
+TALK = ["rkt j", "l", "wkt k", "wkt n", "l -e", "rkt n", "l"]
+TALKED = [READ, *load("j"), PRINT, *hold("k"), *load("k", 2), *save("k"), *hold("n", 2),
+          *load("n", 3), *save("n", 2, is_new=True), PRINT, *load("n", 4), PRINT, READ]
+
+
+def runs() -> list[tuple[Modelled, list[Step]]]:
+    """Runs and their steps."""
+    add = b"add 3 17 0 000102030405060708090a0b0c0d0e0f host/a@R\n"
+    files = {"j": TWO, "k": entries(B)}
+    return [
+        (klist(TWO, "tKe"), [*load("k"), PRINT]),
+        (klist_cache(USUAL, "efC"), [*load("c"), PRINT]),
+        (ktfind(TWO, 0, 0, "b@R"), [*load("k"), PRINT]),
+        (ktcheck(TWO), [*load("k"), PRINT]),
+        (ktedit("a keytab", TWO, b"start\ncut 2\n" + add),
+         [READ, *hold("k"), *load("k"), *save("k"), PRINT]),
+        (ktedit("no file", None, add),
+         [READ, *hold("k"), *load("k"), *save("k", is_new=True), PRINT]),
+        (ktremove("a keytab", TWO, Asked(b"host/a@R")),
+         [*hold("k"), *load("k"), *save("k"), PRINT]),
+        (ccedit("a cache", USUAL, b"start\ncut 40\nconfig pa_type krbtgt/R@R 3\n"),
+         [READ, *hold("c"), *load("c"), *save("c"), PRINT]),
+        (ccremove("a cache", USUAL, b"krbtgt/R@R"),
+         [*hold("c"), *load("c"), *save("c"), PRINT]),
+        (ktutil("three files", files, TALK), TALKED),
+    ]
+
+
+def steps_of(calls: list[Call], steps: list[Step]) -> list[tuple[Call, Step]] | None:
+    """Each call with its step. A step may have several calls, or none; None where one has none."""
+    left = list(steps)
+    found = []
+    for call in calls:
+        while left and not re.match(left[0].pattern, call.line):
+            left.pop(0)
+        if not left:
+            return None
+        found.append((call, left[0]))
+    return found
+
+
+def failed_step(trace: list[str], first: str, steps: list[Step]) -> Step:
+    """The step of the call that failed in a run; NONE where it came to no such call."""
+    calls = [*calls_of(trace, first)]
+    for number, call in enumerate(calls, 1):
+        if call.line.endswith("(INJECTED)"):
+            found = steps_of(calls[:number], steps)
+            return found[-1][1] if found else UNKNOWN
+    return NONE
+
+
+def is_end_of_step(ends: Ends, step: Step, got: Counted) -> bool:
+    """Whether a run ended as it has to where a call of that step fails."""
+    end = (got.outcome, got.files)
+    if step.fails == "input":
+        return end in (ends.of_input(0), ends.of_input(len(ends.run.case.stdin)))
+    if step.fails == "output":
+        return ends_in_output(ends.run, got)
+    found = ends.of_loads if step.fails == "load" else ends.of_saves
+    return end == found[step.nth - 1]
+
+
+def faults_of_failure(
+    ends: Ends, call: Call, step: Step, error: str, got: Counted
+) -> list[str]:
+    """What is wrong with a run in which a call of that step failed."""
+    if step == UNKNOWN:
+        return ["it is the call of no step"]
+    is_narrowed = step.fails == "owner" and error in NOT_PERMITTED
+    is_repeated = error == "EINTR" and call.name in REPEATED
+    if step.fails in ("", "list") or is_narrowed or is_repeated:
+        is_wanted = ends.run.is_whole(got.outcome, got.files)
+    else:
+        is_wanted = is_end_of_step(ends, step, got)
+    return [] if is_wanted else [f"{got.outcome} and {sorted(got.files)}"]
+
+
+def faults_of_kill(run: Modelled, got: Counted) -> list[str]:
+    """What is wrong with a run that was killed, or ended before. New files may lie beside."""
+    if run.is_whole(got.outcome, got.files):
+        return []
+    files = {name: data for name, data in got.files.items() if not name.endswith(".krbfile")}
+    may_be = [stage.files for stage in run.stages] + [run.after()]
+    return differences(Outcome(-signal.SIGKILL, got.outcome.out, got.outcome.err), got.outcome) + (
+        [] if files in may_be else [f"the files {sorted(got.files)} are not whole"])
+
+
+def traced_run(program: str, run: Modelled, *options: str) -> tuple[Counted, list[str]]:
+    """One run under strace."""
+    with folder_of(run.case.files) as folder:
+        line = Line(run.case.words, run.case.stdin)
+        outcome, trace = traced(program, line, folder, *options)
+        return Counted(outcome, files_in(folder), 0, 0), trace
+
+
+def first_text(run: Modelled, steps: list[Step]) -> str:
+    """What stands in the first call of a run's work: it reads the input, or names the file."""
+    if READ in steps:
+        return "read(0"
+    return next(f'"{word}"' for word in run.case.words if word in run.case.files)
+
+
+def hasty_renames(calls: list[Call], run: Modelled) -> list[str]:
+    """The renames over a file before which the locks were not read often enough since the new file was synced."""
+    found, readings = [], 0
+    for call in calls:
+        readings = 0 if call.line.startswith("fsync") else readings + ('"/proc/locks"' in call.line)
+        renamed = re.match(r'rename.*"(\w+)"[^"]*$', call.line)
+        if renamed and renamed[1] in run.case.files and readings < READINGS:
+            found.append(f"{readings} readings before {call.line}")
+    return found
+
+
+def check_run(report: Report, program: str, run: Modelled, steps: list[Step]) -> None:
+    """Each call of a run fails, and is its last."""
+    got, trace = traced_run(program, run)
+    first = first_text(run, steps)
+    calls = [*calls_of(trace, first)]
+    report.check(f"the locks before a rename of {run.case.name}", hasty_renames(calls, run))
+    found = steps_of(calls, steps)
+    report.check(f"the system calls of {run.case.name}",
+                 [] if found and run.is_whole(got.outcome, got.files) else ["not as wanted"])
+    ends = Ends(run)
+    for call, _ in found or []:
+        for error in ERRORS:
+            got, trace = traced_run(program, run, *call.to(f"error={error}"))
+            step = failed_step(trace, first, steps)
+            faults = faults_of_failure(ends, call, step, error, got)
+            report.check(f"{call} fails with {error}: {run.case.name}", faults)
+        got, _ = traced_run(program, run, *call.to("signal=KILL"))
+        report.check(f"killed at {call}: {run.case.name}", faults_of_kill(run, got))
+
+
+def check_runs(report: Report, program: str) -> None:
+    """Each call of each run fails, and is its last."""
+    for run, steps in runs():
+        check_run(report, program, run, steps)
+
+
+def check(report: Report, program: str) -> None:
+    """Runs all of this topic."""
+    check_traced(report, program, "system calls that fail", check_runs)

@@ -1,0 +1,102 @@
+"""The greatest files and inputs, run in plenty of room, on a small stack, and in little memory.
+
+On a small stack each run is as it is to be. In little memory it is too, or says that there is none:
+then a prefix of its text may be printed, and each file is as before or as after the whole run. Where
+a file would take all of the memory, each command has to say so.
+"""
+from __future__ import annotations
+
+import resource
+import subprocess
+from collections.abc import Callable
+from random import Random
+
+from caches import cache_files
+from caches import greatest_caches
+from keytabs.file_names import LIMIT, sized
+from keytabs.greatest import cases
+from models.modelled import NO_MEMORY
+from runs.harness import SECONDS, Case, Outcome, Report, check_case, faults_of, run_case
+
+STACK = 256 * 1024
+SPACE = 64 * 1024 * 1024
+
+# The memory that a long test lets a run have, as powers of two: from a little more than the program
+# itself takes up to more than any run does.
+LEAST_POWER, MOST_POWER = 22, 30
+
+# The commands that print nothing before all is ready.
+GATHERING = ("ktcheck", "ktedit", "ktremove", "ccedit", "ccremove")
+
+# A long test has its count divided by this many runs.
+SHARE = 200
+
+
+def limit(kind: int, most: int) -> Callable[[], None]:
+    """What lets a run have so much of a kind at most."""
+    return lambda: resource.setrlimit(kind, (most, most))
+
+
+def is_early(case: Case, got: Outcome, after: dict[str, bytes]) -> bool:
+    """Whether a run said that there is no memory, after a part of what it does."""
+    if got.status != NO_MEMORY.status or not got.err.endswith(NO_MEMORY.err):
+        return False
+    last = case.files if case.files_after is None else case.files_after
+    files_are_whole = all(after.get(name) in (case.files.get(name), last.get(name))
+                          for name in {*after, *last})
+    said = got.err.removesuffix(NO_MEMORY.err)
+    is_front = case.wanted.out.startswith(got.out) and case.wanted.err.startswith(said)
+    has_done_nothing = not got.out and after == case.files
+    return files_are_whole and is_front and (has_done_nothing or case.words[0] not in GATHERING)
+
+
+def all_cases() -> list[Case]:
+    """Those of keytabs, scripts and ktutil, and those of caches."""
+    return [*cases(), *cache_files.sizes(), *cache_files.large(), *greatest_caches.cases()]
+
+
+def faults_in(program: str, case: Case, kind: int, most: int) -> list[str]:
+    """What is wrong with a run of a case that may have so much of a kind."""
+    try:
+        got, after = run_case(program, case, preexec_fn=limit(kind, most))
+    except subprocess.TimeoutExpired:
+        return [f"no end in {SECONDS} seconds"]
+    may_be_early = kind == resource.RLIMIT_AS
+    return [] if may_be_early and is_early(case, got, after) else faults_of(case, got, after)
+
+
+def without_room() -> list[Case]:
+    """A run of each command over a file of as many bytes as there is memory."""
+    lines = {("klist", "-k", "k"): b"", ("ktfind", "k", "0", "0", "b@R"): b"",
+             ("ktedit", "k"): b"start\n", ("ktutil",): b"rkt k\n",
+             ("ktremove", "-k", "3", "k"): b"", ("ktcheck", "k"): b"", ("klist", "c"): b"",
+             ("ccedit", "c"): b"start\n", ("ccremove", "--expired", "c"): b""}
+    files = {"k": sized(LIMIT), "c": cache_files.sized(LIMIT)}
+    return [Case(f"a file as large as the memory: {' '.join(words)}", words, NO_MEMORY, files,
+                 stdin=stdin) for words, stdin in lines.items()]
+
+
+def check(report: Report, program: str) -> None:
+    """Runs all of this topic."""
+    for case in [*cases(), *greatest_caches.cases()]:
+        check_case(report, program, case)
+    for case in without_room():
+        got = run_case(program, case, preexec_fn=limit(resource.RLIMIT_AS, LIMIT))
+        report.check(case.name, faults_of(case, *got))
+    for case in all_cases():
+        faults = faults_in(program, case, resource.RLIMIT_STACK, STACK)
+        report.check(f"{case.name}, on a stack of 256 KB", faults)
+        faults = faults_in(program, case, resource.RLIMIT_AS, SPACE)
+        report.check(f"{case.name}, in 64 MB of memory", faults)
+
+
+def check_long(program: str, seed: int, count: int) -> Report:
+    """Runs cases in amounts of memory that a seed chooses."""
+    report = Report()
+    random = Random(seed)
+    those = all_cases()
+    for _ in range(count // SHARE):
+        case, most = random.choice(those), int(2 ** random.uniform(LEAST_POWER, MOST_POWER))
+        faults = faults_in(program, case, resource.RLIMIT_AS, most)
+        report.check(f"{case.name}, in {most} bytes of memory", faults)
+    return report

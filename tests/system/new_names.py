@@ -1,0 +1,218 @@
+"""What stands beside a file under the name of its new file, and names that no file is saved under.
+
+What a killed run left is taken away. All else is left as it is, and then the file is not saved.
+"""
+from __future__ import annotations
+
+import os
+from collections.abc import Callable
+from concurrent.futures import ThreadPoolExecutor
+
+from makers.images import B, HOST, entries
+from runs.harness import Outcome, Report, differences, folder_of, message, run
+from system.disk_saves import (
+    NEW,
+    OLD,
+    SAVED,
+    UNSAVED,
+    USER,
+    WALK,
+    as_another,
+    edit,
+    tree,
+    tree_faults,
+    write,
+)
+
+# Another user who is not root.
+STRANGER = 1234
+
+NEW_FILE = "k.krbfile"
+
+# Makes something under a path.
+Make = Callable[[str], None]
+
+# What a walk through a keytab without entries prints.
+WALKED = Outcome(0, b"walk 0 at 2\nwalk 0 end 2\n")
+
+
+def beside(path: str, name: str) -> str:
+    """Another path in the same folder."""
+    return os.path.join(os.path.dirname(path), name)
+
+
+def filled(path: str) -> None:
+    """Makes a folder with a file."""
+    os.mkdir(path)
+    write(os.path.join(path, "other"), b"other")
+
+
+def owned_by(owner: int, mode: int = 0o600) -> Make:
+    """What makes a file of that owner."""
+
+    def make(path: str) -> None:
+        write(path, b"strange", mode)
+        os.chown(path, owner, -1)
+
+    return make
+
+
+# What no killed run leaves.
+STRANGE: list[tuple[str, Make]] = [
+    ("an empty folder", os.mkdir),
+    ("a folder", filled),
+    ("a link to a file", lambda path: os.symlink("other", path)),
+    ("a link to the file", lambda path: os.symlink("k", path)),
+    ("a link that dangles", lambda path: os.symlink("no", path)),
+    ("a link to itself", lambda path: os.symlink(NEW_FILE, path)),
+    ("a pipe", os.mkfifo),
+    ("another name of a file", lambda path: os.link(beside(path, "other"), path)),
+    ("another name of the file", lambda path: os.link(beside(path, "k"), path)),
+]
+
+
+def stands(folder: str) -> dict[str, tuple[object, ...]]:
+    """What stands in a folder, with owners, modes and times."""
+    found = {}
+    for name, data in tree(folder).items():
+        own = os.lstat(os.path.join(folder, name))
+        found[name] = (data, own.st_ino, own.st_mode, own.st_uid, own.st_nlink, own.st_mtime_ns)
+    return found
+
+
+def faults_in_the_way(
+    program: str, make: Make, mode: int, owner: int | None, **options: object
+) -> list[str]:
+    """What is wrong with a run while something stands in the way, in a folder of that mode."""
+    with folder_of({"other": b"other"}) as folder:
+        if owner is not None:
+            write(os.path.join(folder, "k"), OLD)
+            os.chown(os.path.join(folder, "k"), owner, -1)
+        make(os.path.join(folder, NEW_FILE))
+        os.chmod(folder, mode)
+        wanted = stands(folder)
+        faults = differences(UNSAVED, edit(program, folder, **options))
+        if stands(folder) != wanted:
+            faults.append(f"{tree(folder)} are there, or are not as they were")
+        return faults
+
+
+def check_strange(report: Report, program: str) -> None:
+    """What no killed run of this user, or of the file's owner, left: it is not touched."""
+    root, user = os.geteuid() == 0, as_another(program)
+    cases = [(name, make, 0o700, os.geteuid(), {}) for name, make in STRANGE]
+    cases += [("a folder where no file is", os.mkdir, 0o700, None, {})]
+    if root:
+        cases += [("a user's file beside root's", owned_by(STRANGER), 0o700, 0, {}),
+                  ("a user's file where no file is", owned_by(STRANGER), 0o700, None, {}),
+                  ("a user's file beside another's", owned_by(STRANGER), 0o700, USER, {})]
+    if root and user:
+        cases += [("another's that is open to all", owned_by(STRANGER, 0o666), 0o777, USER, user),
+                  ("another's, in a sticky folder", owned_by(STRANGER, 0o666), 0o1777, USER, user),
+                  ("another's that is closed", owned_by(STRANGER), 0o1777, USER, user),
+                  ("an own file that may not be opened", owned_by(USER, 0), 0o777, USER, user),
+                  ("an own file that may not be read", owned_by(USER, 0o200), 0o777, USER, user)]
+    with ThreadPoolExecutor(len(cases)) as pool:
+        found = [pool.submit(faults_in_the_way, program, make, mode, owner, **options)
+                 for _, make, mode, owner, options in cases]
+    for (name, *_), faults in zip(cases, found):
+        report.check(f"{name} in the new file's place", faults.result())
+
+
+def check_leftovers(report: Report, program: str) -> None:
+    """What a killed run left is taken away."""
+    root, user, me = os.geteuid() == 0, as_another(program), os.geteuid()
+    cases = [("to be written", {"k": OLD}, owned_by(me), me, {}),
+             ("to be read", {"k": OLD}, owned_by(me, 0o400), me, {}),
+             ("where no file is", {}, owned_by(me), me, {})]
+    if root:
+        cases += [("that may not be read", {"k": OLD}, owned_by(me, 0), me, {}),
+                  ("of the file's owner", {"k": OLD}, owned_by(STRANGER), STRANGER, {}),
+                  ("of root, beside a user's file", {"k": OLD}, owned_by(0), STRANGER, {})]
+    if root and user:
+        cases += [("of a user's", {"k": OLD}, owned_by(USER), USER, user),
+                  ("of a user's, beside root's file", {"k": OLD}, owned_by(USER), 0, user)]
+    for name, files, make, owner, options in cases:
+        with folder_of(files) as folder:
+            for each in files:
+                os.chown(os.path.join(folder, each), owner, -1)
+            make(os.path.join(folder, NEW_FILE))
+            os.chmod(folder, 0o777)
+            faults = differences(SAVED, edit(program, folder, **options))
+            faults += tree_faults({"k": NEW}, folder)
+        report.check(f"what a killed run left, {name}", faults)
+
+
+def check_strangers(report: Report, program: str) -> None:
+    """A stranger's `k.new` is left as it is."""
+    runs = [(("ktedit", "k"), b"cut 2\n"), (("ktutil",), b"rkt k.new\nwkt k\n")]
+    makes: list[tuple[str, Make]] = [
+        ("a keytab", lambda path: write(path, entries(B))),
+        ("a keytab that may not be written", lambda path: write(path, entries(B), 0o400)),
+        ("a link", lambda path: os.symlink("other", path)),
+        ("another name", lambda path: os.link(beside(path, "other"), path)),
+    ]
+    for what, make in makes:
+        for words, text in runs:
+            with folder_of({"k": entries(HOST), "other": entries(B)}) as folder:
+                make(os.path.join(folder, "k.new"))
+                wanted = stands(folder)
+                got = run(program, words, folder, text)
+                found = stands(folder)
+            faults = [] if got.status == 0 else [f"{got}"]
+            if found.pop("k") == wanted.pop("k"):
+                faults.append("the file is as before")
+            faults += [] if found == wanted else [f"{[*found]} are there, or are not as they were"]
+            report.check(f"{what} as k.new: {' '.join(words)}", faults)
+
+
+def check_own_names(report: Report, program: str) -> None:
+    """A file with the name of a new one is walked through, and not changed, also by a link."""
+    for name in (NEW_FILE, ".krbfile", "k.krbfile.krbfile", "./k.krbfile", "link", "dangling"):
+        path = "t.krbfile" if name == "link" else os.path.normpath(name)
+        is_there = name != "dangling"
+        with folder_of({path: OLD} if is_there else {}) as folder:
+            os.symlink("t.krbfile", os.path.join(folder, "link"))
+            os.symlink("no.krbfile", os.path.join(folder, "dangling"))
+            wanted = tree(folder)
+            unsaved = message(3, f"{name}: cannot write")
+            faults = differences(unsaved, edit(program, folder, name))
+            talk = f"addent -key -p a@R -k 1 -e 1\n00\nwkt {name}\n".encode()
+            faults += differences(unsaved, run(program, ("ktutil",), folder, talk))
+            if is_there:
+                faults += differences(WALKED, run(program, ("ktedit", name), folder, WALK))
+            faults += tree_faults(wanted, folder)
+        report.check(f"save as {name}, which has a new file's name", faults)
+
+
+def check_places(report: Report, program: str) -> None:
+    """Names under which no file can be saved, and the longest that can be."""
+    longest = "x" * (255 - len(".krbfile"))
+    cases = [
+        ("k", SAVED),
+        ("./k", SAVED),
+        ("k.krbfil", SAVED),
+        ("krbfile", SAVED),
+        (longest, SAVED),
+        (longest + "x", message(3, f"{longest}x: cannot write")),
+        ("no/k", message(3, "no/k: cannot write")),
+        ("", message(3, ": cannot write")),
+    ]
+    for name, outcome in cases:
+        with folder_of({".krbfile": b"other", ".new": b"other"}) as folder:
+            wanted = tree(folder)
+            if outcome == SAVED:
+                wanted[os.path.normpath(name)] = NEW
+            faults = differences(outcome, edit(program, folder, name))
+            report.check(f"save as {name[:20]!r}", faults + tree_faults(wanted, folder))
+
+
+def check(report: Report, program: str) -> None:
+    """Runs all of this topic."""
+    if os.geteuid() != 0 or as_another(program) is None:
+        report.skip("new files of others", "none but root may make them, or start the program")
+    check_strange(report, program)
+    check_leftovers(report, program)
+    check_strangers(report, program)
+    check_own_names(report, program)
+    check_places(report, program)

@@ -1,0 +1,57 @@
+"""A pipe of that name is not opened by a run that is to change the file, so that it does not wait for a writer."""
+from __future__ import annotations
+
+import os
+import threading
+from collections.abc import Iterator
+from contextlib import contextmanager, suppress
+
+from runs.harness import Outcome, Report, differences, folder_of, run
+from runs.terminal import EXPLAIN
+from system.disk_saves import OLD, SCRIPT, tree_faults
+
+ADDENT = b"addent -key -p a@R -k 1 -e 17\n000102030405060708090a0b0c0d0e0f\n"
+
+# Runs that are to change what has their last name: their words, their input, and where words are told.
+RUNS = (
+    (("ktedit", "k"), SCRIPT, "k", ""),
+    (("ktremove", "-k", "3", "k"), b"", "k", ""),
+    (("ktremove", "-k", "3", "link"), b"", "link", ""),
+    (("ccedit", "k"), b"cut 40\n", "k", ""),
+    (("ccremove", "--expired", "k"), b"", "k", ""),
+    (("ktutil",), ADDENT + b"wkt k\n", "k", "line 3: "),
+)
+
+
+@contextmanager
+def fed(path: str) -> Iterator[list[bool]]:
+    """A pipe that gives a keytab to who opens it to read, which is noted."""
+    opened: list[bool] = []
+
+    def feed() -> None:
+        with suppress(BrokenPipeError), open(path, "wb", buffering=0) as pipe:
+            opened.append(True)
+            pipe.write(OLD)
+
+    os.mkfifo(path)
+    feeder = threading.Thread(target=feed)
+    feeder.start()
+    try:
+        yield opened
+    finally:
+        os.close(os.open(path, os.O_RDONLY | os.O_NONBLOCK))
+        feeder.join()
+
+
+def check(report: Report, program: str) -> None:
+    """Runs all of this topic."""
+    for words, stdin, name, place in RUNS:
+        said = f"krbfile: {name}: cannot read\nkrbfile: {place}not a plain file\n"
+        with folder_of({}) as folder:
+            os.symlink("k", os.path.join(folder, "link"))
+            with fed(os.path.join(folder, "k")) as opened:
+                got = run(program, (EXPLAIN, *words), folder, stdin)
+                faults = differences(Outcome(3, err=said.encode()), got)
+                faults += ["it was opened"] if opened else []
+                faults += tree_faults({"k": "p", "link": "k"}, folder)
+        report.check(f"a pipe is not changed: {' '.join(words)}", faults)

@@ -1,0 +1,101 @@
+"""Each request for memory of each command refused, once and from it on, beside the models.
+
+A run that is refused memory says so, with status 4. klist and ktfind may have printed a prefix of
+their text, ktedit has neither printed nor saved, and ktutil has done its lines up to some line. Help
+is printed, or a prefix of it.
+"""
+from __future__ import annotations
+
+from random import Random
+
+from models.modelled import NO_MEMORY, NOW, Modelled, large, listing, small
+from runs.harness import Report, differences, message
+from runs.preload import Counted, Line, Preloaded, preloaded
+
+# How many requests of a run are refused: over small files all that there are, and over larger ones
+# some. Of the latter a long test runs its count divided by SHARE.
+FEW = 5_000
+SOME = 45
+SHARE = 100
+
+# The settings that refuse one request, and those that refuse all from it on.
+WAYS = {"once": {}, "from it on": {"REFUSE_LASTS": 1}}
+
+
+def spread(requests: int, most: int) -> list[int]:
+    """Numbers of requests: all, or the first, the last and some between."""
+    if requests <= most:
+        return [*range(1, requests + 1)]
+    third = most // 3
+    step = requests // third
+    return sorted({*range(1, third + 1), *range(third, requests, step),
+                   *range(requests - third + 1, requests + 1)})
+
+
+def faults_of(run: Modelled, nth: int, got: Counted) -> list[str]:
+    """What is wrong with a run that was refused its nth request."""
+    if got.failures == 0:
+        return [f"at {nth} nothing is refused"]
+    # A program that is refused memory once may do without it.
+    if got.failures == 1 and run.is_whole(got.outcome, got.files):
+        return []
+    if run.ends_early(got.outcome, got.files, NO_MEMORY):
+        return []
+    said = ", ".join(differences(NO_MEMORY, got.outcome))
+    return [f"at {nth} {said or 'files that are not as they should be'}"]
+
+
+def check_run(report: Report, under: Preloaded, run: Modelled, numbers) -> None:
+    """Refuses the requests whose numbers are chosen from how many there are, in both ways."""
+    over = under.over(run.case.files)
+    line = Line(run.case.words, run.case.stdin)
+    whole = over.run(line, CLOCK=NOW)
+    if not run.is_whole(whole.outcome, whole.files):
+        report.check(run.case.name, ["it is not as modelled where nothing is refused"])
+        return
+    if whole.requests == 0:
+        report.check(run.case.name, ["its requests for memory are not seen"])
+        return
+    for way, settings in WAYS.items():
+        faults = []
+        for nth in numbers(whole.requests):
+            got = over.run(line, CLOCK=NOW, REFUSE=nth, **settings)
+            faults += faults_of(run, nth, got)
+        report.check(f"memory refused {way}: {run.case.name}", faults[:3])
+
+
+def command_lines(under: Preloaded) -> list[Modelled]:
+    """Runs that ask for help, or that are not read. Help is what it is where nothing is refused."""
+    asked = (("--help",), ("klist", "--help"))
+    wanted = [(words, under.run(Line(words)).outcome) for words in asked]
+    unread = message(2, "bad command line")
+    wanted += [(words, unread) for words in (("frob",), ("klist", "-k", "k", "--nosuch"))]
+    return [listing(" ".join(words), words, b"", outcome) for words, outcome in wanted]
+
+
+def check(report: Report, program: str) -> None:
+    """Runs all of this topic."""
+    with preloaded(report, program, "memory that is refused", {}) as under:
+        if under is None:
+            return
+        for run in command_lines(under):
+            check_run(report, under, run, lambda requests: spread(requests, FEW))
+        for run in small():
+            check_run(report, under, run, lambda requests: spread(requests, FEW))
+        for run in large():
+            check_run(report, under, run, lambda requests: spread(requests, SOME))
+
+
+def check_long(program: str, seed: int, count: int) -> Report:
+    """Refuses requests over larger files that a seed chooses."""
+    report = Report()
+    random = Random(seed)
+
+    def chosen(requests: int) -> list[int]:
+        return random.sample(range(1, requests + 1), min(requests, count // SHARE))
+
+    with preloaded(report, program, "memory that is refused", {}) as under:
+        if under is not None:
+            for run in large():
+                check_run(report, under, run, chosen)
+    return report

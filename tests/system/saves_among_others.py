@@ -1,0 +1,185 @@
+"""A save while others change the file, its name or its folder."""
+from __future__ import annotations
+
+import fcntl
+import os
+import threading
+from collections.abc import Callable
+
+from keytabs.edits import ADD_B, text
+from makers.images import B, entries
+from models.script_model import edited
+from runs.harness import Outcome, Report, differences, folder_of, run
+from runs.preload import Line
+from runs.system_calls import Halt, check_traced, halted
+from system.disk_saves import NEW, OLD, SAVED, SCRIPT, UNSAVED, Place, tree, tree_faults, write
+
+# A user who is not root.
+USER = 1234
+
+# The calls behind which a run stands still, by a word for them.
+HALTS = {
+    "look": Halt("?statx,?newfstatat,?lstat,?lstat64", paths=("file",)),
+    "making": Halt("openat", paths=("k.krbfile",)),
+    "finding": Halt("openat", 2, ("k.krbfile",)),
+    "opening": Halt("openat", paths=("k", "file")),
+    "writing": Halt("write"),
+    "syncing": Halt("fsync"),
+}
+
+
+def edited_while(program: str, folder: str, call: str, change: Place) -> Outcome:
+    """A run that adds an entry, and stands still behind a system call while a change is made."""
+    return halted(program, Line(("ktedit", "k"), SCRIPT), folder, HALTS[call], change)
+
+
+def named(name: str, make: Callable[[str], None]) -> Place:
+    """Makes something beside, which then takes that name."""
+
+    def change(folder: str) -> None:
+        make(os.path.join(folder, "spare"))
+        os.rename(os.path.join(folder, "spare"), os.path.join(folder, name))
+
+    return change
+
+
+def at_name(do: Callable[[str], None]) -> Place:
+    """Does something to what has the name."""
+    return lambda folder: do(os.path.join(folder, "k"))
+
+
+# What takes the place of the file after it was opened to be loaded, and whether there was one.
+REPLACED: list[tuple[str, bool, Place]] = [
+    ("another file of the same bytes", True, named("k", lambda path: write(path, OLD))),
+    ("a link to another file", True, named("k", lambda path: os.symlink("other", path))),
+    ("a link to a file of the same bytes", True, named("k", lambda path: os.symlink("old", path))),
+    ("a file where none was", False, at_name(lambda path: write(path, OLD))),
+    ("an empty file where none was", False, at_name(lambda path: write(path, b""))),
+    ("a link where no file was", False, at_name(lambda path: os.symlink("none", path))),
+    ("no file any more", True, at_name(os.remove)),
+    ("another new file", True, named("k.krbfile", lambda path: write(path, b"strange"))),
+    ("a link as new file", True, named("k.krbfile", lambda path: os.symlink("other", path))),
+]
+
+# What is changed of the file after it was loaded. The last may be changed by root alone.
+CHANGED: list[tuple[str, bool, Place]] = [
+    ("another mode", True, at_name(lambda path: os.chmod(path, 0o640))),
+    ("no bytes", True, at_name(lambda path: write(path, b""))),
+    ("a byte less", True, at_name(lambda path: write(path, OLD[:-1]))),
+    ("an entry more", True, at_name(lambda path: write(path, entries(B)))),
+    ("another group", True, at_name(lambda path: os.chown(path, -1, USER))),
+    ("another owner", True, at_name(lambda path: os.chown(path, USER, -1))),
+]
+
+
+def known(folder: str) -> dict[str, object]:
+    """What stands in a folder, with owners and modes; a new file of ours is not counted."""
+    found: dict[str, object] = {}
+    for name, data in tree(folder).items():
+        if not (name == "k.krbfile" and data in (b"", NEW)):
+            own = os.lstat(os.path.join(folder, name))
+            found[name] = (data, own.st_ino, own.st_mode, own.st_uid, own.st_gid)
+    return found
+
+
+def check_change(report: Report, program: str, call: str, of: tuple[str, bool, Place]) -> None:
+    """A change behind that call of a run: the file stays as it is, and what took its name too."""
+    what, is_there, change = of
+    with folder_of({"old": OLD, "other": b"other"}) as folder:
+        if is_there:
+            write(os.path.join(folder, "k"), OLD)
+        wanted: dict[str, object] = {}
+
+        def change_and_look(folder: str) -> None:
+            change(folder)
+            wanted.update(known(folder))
+
+        faults = differences(UNSAVED, edited_while(program, folder, call, change_and_look))
+        if known(folder) != wanted or NEW in tree(folder).values():
+            faults.append(f"{[*tree(folder)]} are there, or are not as they were")
+    report.check(f"{what}, behind the {call} of a run", faults)
+
+
+def check_changes(report: Report, program: str) -> None:
+    """A file that is not as it was loaded is not saved."""
+    for call in ("opening", "writing", "syncing"):
+        for of in REPLACED:
+            check_change(report, program, call, of)
+    for call in ("writing", "syncing"):
+        for of in CHANGED if os.geteuid() == 0 else CHANGED[:-2]:
+            check_change(report, program, call, of)
+
+
+def check_led_elsewhere(report: Report, program: str) -> None:
+    """A link that gives way: the file that was loaded is saved, and no other gets its keys."""
+    places = {"another link": lambda path: os.symlink("other", path),
+              "a file": lambda path: write(path, OLD, 0o644)}
+    for call in ("opening", "writing", "syncing"):
+        for what, make in places.items():
+            with folder_of({"file": OLD, "other": OLD}) as folder:
+                os.symlink("file", os.path.join(folder, "k"))
+                faults = differences(SAVED, edited_while(program, folder, call, named("k", make)))
+                there = {"file": NEW, "other": OLD, "k": OLD if what == "a file" else "other"}
+                faults += tree_faults(there, folder)
+            report.check(f"{what} in place of a link, behind the {call} of a run", faults)
+
+
+def check_led(report: Report, program: str) -> None:
+    """A file that others save, make or remove while a link to it is followed is saved."""
+    changes = [
+        ("another file", {"file": OLD}, named("file", lambda path: write(path, OLD))),
+        ("a file where none was", {}, named("file", lambda path: write(path, OLD))),
+        ("no file any more", {"file": OLD}, lambda folder: os.remove(os.path.join(folder, "file"))),
+    ]
+    for what, files, change in changes:
+        with folder_of(files) as folder:
+            os.symlink("file", os.path.join(folder, "k"))
+            faults = differences(SAVED, edited_while(program, folder, "look", change))
+            faults += tree_faults({"k": "file", "file": NEW}, folder)
+        report.check(f"{what} at the end of a link, behind a look at it", faults)
+
+
+def check_crossed(report: Report, program: str) -> None:
+    """A run that is overtaken while it makes its new file, or looks at one that was left."""
+    wanted, image = edited(entries(B), SCRIPT)
+    for call, files in (("making", {}), ("making", {"k.krbfile": b"left"}),
+                        ("finding", {"k.krbfile": b"left"})):
+        with folder_of({"k": OLD, **files}) as folder:
+            others: list[Outcome] = []
+
+            def save(folder: str) -> None:
+                others.append(run(program, ("ktedit", "k"), folder, text([ADD_B])))
+
+            faults = differences(wanted, edited_while(program, folder, call, save))
+            faults += differences(SAVED, others[0]) + tree_faults({"k": image}, folder)
+        report.check(f"overtaken behind the {call} of a new file, beside {len(files)}", faults)
+
+
+def check_crossed_hold(report: Report, program: str) -> None:
+    """A run that finds a new file which was left, and in its place by then one that is held."""
+    with folder_of({"k": OLD, "k.krbfile": b"left"}) as folder:
+        held = []
+
+        def hold(folder: str) -> None:
+            os.remove(os.path.join(folder, "k.krbfile"))
+            held.append(open(os.path.join(folder, "k.krbfile"), "xb"))
+            fcntl.flock(held[0], fcntl.LOCK_EX)
+            timer.start()
+
+        def save() -> None:
+            write(os.path.join(folder, "k"), entries(B))
+            os.remove(os.path.join(folder, "k.krbfile"))
+            held[0].close()
+
+        timer = threading.Timer(0.3, save)
+        wanted, image = edited(entries(B), SCRIPT)
+        faults = differences(wanted, edited_while(program, folder, "finding", hold))
+        faults += tree_faults({"k": image}, folder)
+        timer.join()
+    report.check("held by another behind the finding of a new file", faults)
+
+
+def check(report: Report, program: str) -> None:
+    """Runs all of this topic."""
+    check_traced(report, program, "files that are changed meanwhile", check_changes,
+                 check_led_elsewhere, check_led, check_crossed, check_crossed_hold)

@@ -1,0 +1,62 @@
+"""The program that `make static` builds: it runs where there is no C library, nor anything else."""
+from __future__ import annotations
+
+import os
+import shutil
+import struct
+import subprocess
+
+from keytabs.columns import sample
+from makers.images import TWO
+from runs.harness import SECONDS, TOP, Outcome, Report, folder_of
+
+PROGRAM = os.path.join(TOP, "bin", "krbfile-static")
+
+# The kind of a program header that names an interpreter, which loads shared libraries.
+INTERPRETER = 3
+
+
+def header_kinds(program: str) -> list[int]:
+    """The kinds of the program headers of a 64-bit ELF file."""
+    with open(program, "rb") as file:
+        start = file.read(64)
+        (table,) = struct.unpack_from("<Q", start, 32)
+        size, count = struct.unpack_from("<HH", start, 54)
+        file.seek(table)
+        headers = file.read(size * count)
+    return [struct.unpack_from("<I", headers, size * at)[0] for at in range(count)]
+
+
+def run_alone(words: tuple[str, ...]) -> Outcome:
+    """A run in a root that has the program and a keytab `k` alone."""
+    with folder_of({"k": TWO}) as root:
+        shutil.copy(PROGRAM, os.path.join(root, "krbfile"))
+        done = subprocess.run(["unshare", "--map-root-user", "chroot", root, "/krbfile", *words],
+                              capture_output=True, timeout=SECONDS, check=False)
+    return Outcome(done.returncode, done.stdout, done.stderr)
+
+
+def may_change_root() -> bool:
+    """Whether this user may run a program in a root of its own."""
+    if shutil.which("unshare") is None:
+        return False
+    return subprocess.run(["unshare", "--map-root-user", "chroot", "/", "/bin/true"],
+                          capture_output=True, check=False).returncode == 0
+
+
+def check(report: Report, program: str) -> None:
+    """Runs all of this topic, over the static program alone."""
+    if not os.access(PROGRAM, os.X_OK):
+        report.skip("the static program", "there is none: make static builds it")
+        return
+    needs = INTERPRETER in header_kinds(PROGRAM)
+    report.check("the static program loads no library", ["it does"] if needs else [])
+    if not may_change_root():
+        report.skip("the static program alone", "this user may not change the root")
+        return
+    listed = run_alone(("klist", "-kt", "/k"))
+    wanted = Outcome(0, sample("t").replace(b"FILE:k\n", b"FILE:/k\n"))
+    report.compare("the static program alone: a listing", wanted, listed)
+    missing = run_alone(("klist", "-k", "/x"))
+    refusal = Outcome(1, err=b"krbfile: /x: no such file\n")
+    report.compare("the static program alone: a missing file", refusal, missing)

@@ -1,0 +1,127 @@
+"""Runs that are stopped and continued, as by a shell: they go on as if nothing had been.
+
+And runs that stand still since nobody reads what they print: they keep no other from the file.
+"""
+from __future__ import annotations
+
+import os
+import signal
+import subprocess
+import time
+from collections.abc import Iterator
+from contextlib import contextmanager
+
+from keytabs.conversations import LISTED, Talk, terminal
+from keytabs.edits import text
+from keytabs.ktutil_lines import HEADING, NO_SLOTS
+from makers.images import TWO, B, entries
+from models.script_model import edited
+from runs.harness import SECONDS, Outcome, Report, differences, folder_of, message
+from system.disk_saves import NEW, OLD, SAVED, SCRIPT, edit, tree_faults, write
+from system.outputs import KLIST, LONG, piped
+
+# How long a run has to come to where it waits.
+MOMENT = 0.05
+
+
+def stop(pid: int) -> None:
+    """Stops a run for a moment."""
+    time.sleep(MOMENT)
+    os.kill(pid, signal.SIGSTOP)
+    os.waitid(os.P_PID, pid, os.WSTOPPED)
+    os.kill(pid, signal.SIGCONT)
+
+
+def check_talk(report: Report, program: str, name: str, opened) -> None:
+    """ktutil, while it waits for a line."""
+    with folder_of({"k": TWO}) as folder:
+        talk = Talk(program, folder, *opened())
+        lines = ((b"l\n", NO_SLOTS), (b"rkt k\nl\n", LISTED), (b"clear\nl\n", NO_SLOTS))
+        for line, wanted in lines:
+            stop(talk.run.pid)
+            talk.send(line)
+            talk.hear(wanted)
+        talk.send(b"q\n")
+        talk.end(Outcome(0))
+        os.close(talk.input_end)
+    report.check(f"ktutil is stopped and continued at {name}", talk.found)
+
+
+def check_full_pipe(report: Report, program: str) -> None:
+    """klist, while it waits for a reader of its output."""
+    with folder_of(LONG.files()) as folder, piped(program, KLIST.words, folder) as started:
+        stop(started.pid)
+        out, err = started.communicate(timeout=SECONDS)
+        got = Outcome(started.returncode, out, err)
+    report.compare("klist is stopped and continued at a full pipe", Outcome(0, LONG.text), got)
+
+
+@contextmanager
+def full_pipe() -> Iterator[int]:
+    """The end of a pipe that is full, and that nobody reads."""
+    taken, given = os.pipe()
+    os.set_blocking(given, False)
+    with open(taken, "rb"), open(given, "wb", buffering=0) as end:
+        while end.write(bytes(4096)):
+            pass
+        os.set_blocking(given, True)
+        yield given
+
+
+def waits_for(process: subprocess.Popen[bytes], stream: int) -> bool:
+    """Whether a run waits in a system call on that stream, or has ended."""
+    with open(f"/proc/{process.pid}/syscall", encoding="ascii") as file:
+        words = file.read().split()
+    return words[1:2] == [hex(stream)] or process.poll() is not None
+
+
+def check_unread(report: Report, program: str) -> None:
+    """While nobody reads what a run prints, another run changes the file."""
+    cases = [(1, "ktedit k", SCRIPT, OLD), (1, "ktedit k", b"cut 3\n", OLD),
+             (2, "ktedit k", SCRIPT, b"other"), (2, "ktutil", b"rkt j\nwkt k\n", b"other"),
+             (2, "ktutil", b"rkt j\nwkt k\n", TWO[:-1])]
+    for number, words, text, data in cases:
+        stream = {1: "stdout", 2: "stderr"}[number]
+        with full_pipe() as given, folder_of({"j": entries(B), "k": data}) as folder:
+            slow = subprocess.Popen([program, *words.split()], cwd=folder, stdin=subprocess.PIPE,
+                                    **{stream: given})
+            slow.stdin.write(text)
+            slow.stdin.close()
+            while not waits_for(slow, number):
+                time.sleep(MOMENT)
+            write(os.path.join(folder, "k"), OLD)
+            faults = differences(SAVED, edit(program, folder))
+            faults += tree_faults({"j": entries(B), "k": NEW}, folder)
+            faults += [] if slow.poll() is None else ["the first run has ended"]
+            slow.kill()
+            slow.wait(SECONDS)
+        report.check(f"{words} with {text[:3]}, and nobody reads its {stream}", faults)
+
+
+def check_idle(report: Report, program: str) -> None:
+    """While ktutil waits for its next line, another run changes the file that it wrote."""
+    wanted, image = edited(entries(B), SCRIPT)
+    with folder_of({"j": entries(B), "k": OLD, "x": b"other"}) as folder:
+        talk = Talk(program, folder, *os.pipe())
+        talk.send(b"rkt j\nwkt k\nwkt x\nl\n")
+        talk.hear(text([*HEADING, "   1    3 b@R"]))
+        found = differences(wanted, edit(program, folder))
+        write(os.path.join(folder, "x"), OLD)
+        found += differences(SAVED, edit(program, folder, "x"))
+        talk.send(b"q\n")
+        talk.end(message(1, "x: not a keytab (2)"))
+        os.close(talk.input_end)
+        found += tree_faults({"j": entries(B), "k": image, "x": NEW}, folder)
+    report.check("a file changes that ktutil wrote", found + talk.found)
+
+
+def check(report: Report, program: str) -> None:
+    """Runs all of this topic."""
+    check_talk(report, program, "a pipe", os.pipe)
+    check_talk(report, program, "a terminal", terminal)
+    check_full_pipe(report, program)
+    check_idle(report, program)
+    if os.path.exists("/proc/self/syscall"):
+        check_unread(report, program)
+    else:
+        report.skip("outputs that nobody reads", "it is not told what a run waits for")

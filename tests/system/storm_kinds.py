@@ -1,0 +1,104 @@
+"""The kinds of storms: which commands run at the same time over a file, and what each of them does to it."""
+from __future__ import annotations
+
+from dataclasses import dataclass, replace
+
+from makers.cache_images import Name, cache, credentials
+from makers.images import Entry, entries, keytab
+from makers.usual_caches import TICKET
+from models.cache_model import Cache
+from models.cache_reading import read_cache
+from models.reading import no_keytab, read_image
+
+# How many runs there are at once.
+MANY = 60
+
+KEY = "000102030405060708090a0b0c0d0e0f"
+
+
+def removes(command: str) -> bool:
+    """Whether a command removes what is there at first. Others add theirs."""
+    return command.endswith("remove")
+
+
+def change(command: str, name: str, path: str = "k") -> tuple[tuple[str, ...], str]:
+    """The words of a run that adds or removes what has that name, and its input."""
+    if removes(command):
+        return (command, "-p", f"{name}@R", path), "\n"
+    if command == "ccedit":
+        return ("ccedit", path), f"config {name} - v\n"
+    if command == "ktedit":
+        return ("ktedit", path), f"add 1 17 1700000000 {KEY} {name}@R\n"
+    return ("ktutil",), f"addent -key -p {name}@R -k 1 -e 17\n{KEY}\nwkt {path}\n"
+
+
+def names_of_keytab(image: bytes) -> list[str] | None:
+    """The first components of the names in a keytab; none where it is not whole."""
+    if no_keytab(image):
+        return None
+    those, fault = read_image(image, False)
+    return None if fault else [entry.name[0].decode() for _, entry in those]
+
+
+def names_of_cache(image: bytes) -> list[str] | None:
+    """The first components of a cache's servers, or the keys of its values; none where it is not whole."""
+    if isinstance(read_cache(image), int):
+        return None
+    made = Cache(image)
+    return None if made.fault else [said.server[said.is_config()].decode() for _, said in made.live()]
+
+
+@dataclass(frozen=True)
+class Kind:
+    """A kind of storm: the commands of ours in turn, and what else it is than one over a file."""
+
+    commands: tuple[str, ...]
+    over_none: bool = False
+    kills: bool = False
+    # Half of the programs are MIT's ktutil, and they begin within a second.
+    with_mit: bool = False
+
+    @property
+    def is_of_caches(self) -> bool:
+        """Whether the file is a cache."""
+        return self.commands[0].startswith("cc")
+
+    def command(self, number: int) -> str:
+        """The command of the run of that number."""
+        return self.commands[number % len(self.commands)]
+
+    def image(self) -> bytes:
+        """The file at first, where there is one."""
+        has_removals = any(map(removes, self.commands))
+        names = [f"h{number}" for number in range(MANY)] + ["last"] if has_removals else []
+        components = [(name.encode(),) for name in names]
+        if self.is_of_caches:
+            tickets = (replace(TICKET, server=Name(name)) for name in components)
+            return credentials(*tickets) if names else cache()
+        return entries(*map(Entry, components)) if names else keytab()
+
+    def names(self, image: bytes) -> list[str] | None:
+        """The names that the file has; none where it is not whole."""
+        return names_of_cache(image) if self.is_of_caches else names_of_keytab(image)
+
+    def is_no_file(self, image: bytes) -> bool:
+        """Whether an image is no keytab, or no cache, at all."""
+        if self.is_of_caches:
+            return isinstance(read_cache(image), int)
+        return no_keytab(image) is not None
+
+    def __str__(self) -> str:
+        words = [f"{MANY} runs of {' and '.join(self.commands)}"]
+        words += ["over none" if self.over_none else "over a file"]
+        words += ["half of them killed"] * self.kills + ["half of them MIT's"] * self.with_mit
+        return ", ".join(words)
+
+
+KTEDIT, KTUTIL, KTREMOVE = ("ktedit",), ("ktutil",), ("ktremove",)
+CCEDIT, CCREMOVE, BOTH = ("ccedit",), ("ccremove",), ("ccedit", "ccremove", "ccremove", "ccedit")
+
+KINDS = (Kind(KTEDIT), Kind(KTEDIT, over_none=True), Kind(KTUTIL), Kind(KTUTIL, over_none=True),
+         Kind(KTEDIT, kills=True), Kind(KTEDIT, over_none=True, kills=True),
+         Kind(KTUTIL, kills=True), Kind(KTEDIT, with_mit=True), Kind(KTUTIL, with_mit=True),
+         Kind(KTREMOVE), Kind(KTREMOVE, kills=True), Kind(CCEDIT), Kind(CCREMOVE), Kind(BOTH),
+         Kind(CCEDIT, kills=True), Kind(CCREMOVE, kills=True), Kind(BOTH, kills=True))
