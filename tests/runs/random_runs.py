@@ -1,7 +1,7 @@
 """Random cases beside what a model says of them, each made from a number.
 
-The cases of one number run in turn. Several processes share the numbers of a topic. A case that
-goes wrong is kept.
+The cases of one number run in turn. In a long run several processes share the numbers of a topic. A
+case that goes wrong is kept.
 """
 from __future__ import annotations
 
@@ -99,17 +99,21 @@ class Topic:
         if faults:
             tried.wrong.append(Wrong(number, nth, case_at(0), faults))
 
-    def check_numbers(self, report: Report, program: str, numbers: range) -> None:
-        """Runs the cases of all numbers, on all processors."""
+    def try_on_all_processors(self, program: str, numbers: range) -> Tried:
+        """Runs the cases of some numbers, in several processes."""
         tried = Tried()
         size = max(1, AT_ONCE // self.share)
         parts = [numbers[at : at + size] for at in range(0, len(numbers), size)]
         with get_context("fork").Pool(FOR_EACH * len(os.sched_getaffinity(0))) as pool:
             for part in pool.imap_unordered(partial(self.try_numbers, program), parts):
                 tried.add(part)
+        return tried
+
+    def judge(self, report: Report, program: str, tried: Tried, count: int) -> None:
+        """Reports what came of so many numbers."""
         report.passed += tried.runs - len(tried.wrong)
         self.tell_wrong(report, program, sorted(tried.wrong, key=lambda one: (one.number, one.nth)))
-        if len(numbers) >= self.usual:
+        if count >= self.usual:
             missing = [f"no {kind}" for kind in self.kinds if tried.seen[kind] < FEWEST]
             report.check(f"{self.name}: each kind", missing)
 
@@ -124,11 +128,12 @@ class Topic:
 
     def check(self, report: Report, program: str) -> None:
         """Runs as many numbers as usual, the same in each run."""
-        self.check_numbers(report, program, range(self.usual))
+        self.judge(report, program, self.try_numbers(program, range(self.usual)), self.usual)
 
     def check_from(self, report: Report, program: str, seed: int, count: int) -> None:
         """Runs many numbers, from a seed on."""
-        self.check_numbers(report, program, range(seed, seed + max(1, count // self.share)))
+        numbers = range(seed, seed + max(1, count // self.share))
+        self.judge(report, program, self.try_on_all_processors(program, numbers), len(numbers))
 
     def check_long(self, program: str, seed: int, count: int) -> Report:
         """Runs many numbers, from a seed on, and answers what came of them."""
