@@ -3,7 +3,7 @@ use Rattle.std.proofs.Common.{◌≡◌, ℕ, suc, ◌+◌, ◌-◌, ◌^◌, �
 use Rattle.std.specs.Prelude.{option_map, IsSome, IfSome, ◌==◌, if◌then◌else◌}
 use Rattle.std.specs.List.{splice}
 use Rattle.std.proofs.lemmas.Bool.{leb-true}
-use Rattle.std.proofs.lemmas.List.{append-nil, length-append, length-map, length-replicate}
+use Rattle.std.proofs.lemmas.List.{length-append, length-map, length-replicate}
 use Rattle.krb_wire.specs.declared.format.KtFormat.{KtFormat}
 use Rattle.krb_wire.specs.Spelling.{order_of}
 use Rattle.krb_wire.proofs.Fields.{IsBytes, IsBytes-drop, some_is}
@@ -132,10 +132,6 @@ hole_in f image n h end fits known e = hole_by f image n h end (first_hole 2 n (
 
 pub padded_len : (x : List ℕ) (n : ℕ) → length x ≤ n → length (with_zeros x n) ≡ n
 padded_len x n le = omega (arith, length-append x (replicate {A = ℕ} (n - length x) 0), length-replicate {A = ℕ} (n - length x) 0)
-
--- a record of just that length has no zeros
-pub padded_self : (x : List ℕ) → with_zeros x (length x) ≡ x
-padded_self x = let none : length x - length x ≡ 0 = omega arith in ap (λ (m : ℕ). x ++ replicate {A = ℕ} m 0) none ∙ append-nil x
 
 -- a record takes the hole
 pub filled_is : (f : KtFormat) (image image' x : List ℕ) (h : Hole) (end : CellsEnd) → 2 ≤ length image → length image ≤ 2 ^ 30 → IsBytes image → IsBytes image' → IsKnownEnd f image end → IsRecord f x
