@@ -9,7 +9,6 @@ pub mod Form
 pub mod Changes
 pub mod Rewrite
 pub mod Placed
-pub mod Edit
 pub mod Open
 pub mod Laws
 -- For private contracts alone.

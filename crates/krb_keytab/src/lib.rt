@@ -3,7 +3,6 @@
 
 mod append;
 mod cells;
-mod edit;
 mod entries;
 mod entry;
 mod fields;
@@ -20,7 +19,6 @@ mod put;
 mod replace;
 
 pub use cells::{CellViews, Hole, KtCell};
-pub use edit::{EditRefused, edit_image};
 pub use entries::Entries;
 pub use entry::{EntryView, read_entry};
 pub use fields::Fields;

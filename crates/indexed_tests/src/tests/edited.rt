@@ -3,9 +3,9 @@
 
 use super::made::keytab_of;
 use krb_indexed::Indexed;
-use krb_keytab::{EditRefused, EntryView, Keytab, NewEntry, edit_image};
+use krb_keytab::{EntryView, Keytab, NewEntry};
 use krb_walk::{Code, Event, Reply, Session};
-use krb_wire::{Limits, Order, Principal};
+use krb_wire::Principal;
 use std::alloc::{Allocator, Global};
 use std::test::Fail;
 
@@ -61,12 +61,9 @@ impl Edited for Keytab<Global> {
         replies: &mut Vec<Reply<A>, A>,
     ) -> Result<(Vec<u8, A>, bool), Fail> {
         let alloc = *image.allocator();
-        let limits = Limits::of(limit).ok_or("no such limit")?;
-        match edit_image(alloc, image, Order::Little, limits, events, replies) {
-            Ok(image) => Ok((image, false)),
-            Err(EditRefused::NoMemory(image)) => Ok((image, true)),
-            Err(EditRefused::NotAKeytab(_)) => Err(Fail::from("no keytab")),
-        }
+        let mut session = Session::new(alloc, keytab_of(image, limit)?);
+        let ran_out = session.run(events, replies).is_err();
+        Ok((session.into_store().into_image(), ran_out))
     }
 }
 
