@@ -13,7 +13,7 @@ use Rattle.krb_walk.specs.Store.{Cell as StoreCell, live_bytes}
 use Rattle.krb_walk.proofs.Stops.{bytes_from}
 use Rattle.krb_walk.proofs.Splits.{bytes_ahead}
 use Rattle.krb_cells.proofs.Cuts.{live_is_place}
-use Rattle.krb_keytab.specs.Cells.{Cell, Live, Free, IsCell, IsSound, cell}
+use Rattle.krb_keytab.specs.Cells.{Cell, Live, Free, IsCell, IsSound}
 use Rattle.krb_keytab.specs.Cells as cells
 use Rattle.krb_keytab.specs.Store.{KeytabState, store_of, store_cell, end_place}
 use Rattle.krb_keytab.proofs.Cuts.{live_there, store_sound}
