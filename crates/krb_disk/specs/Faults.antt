@@ -1,5 +1,4 @@
 -- What a load and a save answer by why a file was not read or written.
-use Rattle.std.specs.Prelude.{ℕ}
 use Rattle.krb_files.specs.declared.files.LoadFault.{LoadFault}
 use Rattle.krb_files.specs.declared.files.LoadFault.TheVariants as load
 use Rattle.krb_files.specs.declared.files.SaveFault.{SaveFault}
