@@ -17,12 +17,12 @@ find-map v test (x ∷ xs) = elim (test (v x)) as (λ b. cond b (Some (v x)) (fi
 ]
 
 -- the number of a position is that of the elements before it
-position-some : (k len n : ℕ) (b : Bool) → nat_lt k len ≡ b → Some n ≡ cond b (Some k) None → (k ≡ n) × (n < len)
+pub position-some : (k len n : ℕ) (b : Bool) → nat_lt k len ≡ b → Some n ≡ cond b (Some k) None → (k ≡ n) × (n < len)
 position-some k len n true e h = let same : k ≡ n = cc in (same, subst (λ m. m < len) same (ltb-true k len e))
 position-some k len n false e h = absurd (cc)
 
 -- without a position no element passes
-position-none : (k len : ℕ) (b : Bool) → nat_lt k len ≡ b → None ≡ cond b (Some k) None → len ≤ k
+pub position-none : (k len : ℕ) (b : Bool) → nat_lt k len ≡ b → None ≡ cond b (Some k) None → len ≤ k
 position-none k len true e h = absurd (cc)
 position-none k len false e h = ltb-false k len e
 

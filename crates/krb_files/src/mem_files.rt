@@ -1,6 +1,6 @@
 //! Files in memory.
 
-ghost use Rattle.std.specs.Prelude.{◌≡◌, ◌⊎◌, ◌↔◌, None, Ok, IfOk, IfErr, IsErrOf, IsTrue, OnOk, OnErr, option_map, option_copied, find, position, string_bytes};
+ghost use Rattle.std.specs.Prelude.{◌≡◌, ◌⊎◌, ◌↔◌, None, Ok, IfOk, IfErr, IsErrOf, IsTrue, OnOk, OnErr, option_map, position, string_bytes};
 ghost use Rattle.std.specs.Str.{bytes_eq};
 ghost use Rattle.krb_files.specs.Files.{SetsFile, loaded};
 ghost use Rattle.krb_files.specs.MemFiles.{Memory, pairs_of, AnswersOf, SavesOf, FaultOf, file_in, with_file, failing_next, after_call};
@@ -51,7 +51,8 @@ impl<A: Allocator> MemFiles<A> {
     pub fn get(&self, name: &str) -> Option<&[u8]>
         ensures { option_map (λ b. b.now) result ≡ file_in self.now.files name.now }
     {
-        first_named(&self.files, name).map(|file| file.1.as_slice())
+        let place = place_of(&self.files, name)?;
+        Some(&self.files[place].1)
     }
 
     /// Lets the n-th load or save from now fail, counted from 1, and no other; none where n is 0.
@@ -85,17 +86,6 @@ impl<A: Allocator> MemFiles<A> {
     }
 }
 
-// The first file of that name.
-fn first_named<'a, A: Allocator>(
-    files: &'a [(String<A>, Vec<u8, A>)],
-    name: &str,
-) -> Option<&'a (String<A>, Vec<u8, A>)>
-    ensures { option_copied result
-        ≡ find (λ file. bytes_eq (string_bytes file.0) name.now) files.entry.now }
-{
-    files.iter().find(|file| file.0.as_str() == name)
-}
-
 // A copy of the bytes, if they are at most `limit`.
 fn copy_within<A: Allocator>(
     alloc: A,
@@ -113,7 +103,10 @@ fn copy_within<A: Allocator>(
     if bytes.len() > limit as usize {
         return Err(LoadFault::TooLarge);
     }
-    Vec::from_slice(alloc, bytes).map_err(|_| LoadFault::NoMemory)
+    match Vec::from_slice(alloc, bytes) {
+        Ok(copy) => Ok(copy),
+        Err(_) => Err(LoadFault::NoMemory),
+    }
 }
 
 // Where the first file of that name stands.
