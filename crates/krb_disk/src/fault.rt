@@ -10,14 +10,14 @@ use std::alloc::AllocError;
 use std::io::{self, ErrorKind};
 
 /// Why a call on the disk failed.
-#[derive(Clone, Copy, Debug, PartialEq, Eq)]
+#[derive(Clone, Copy)]
 pub enum DiskFault {
     NoMemory,
     Failed(Cause),
 }
 
 /// Why a file was not read.
-#[derive(Clone, Copy, Debug, PartialEq, Eq)]
+#[derive(Clone, Copy)]
 pub enum ReadFault {
     Missing,
     TooLarge,

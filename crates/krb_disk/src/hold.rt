@@ -25,7 +25,6 @@ use krb_files::Cause;
 use std::alloc::Allocator;
 use std::io::ErrorKind;
 use std::rt;
-use wiping::Wiping;
 
 /// A file that this program alone may change, among all that hold a file before they change it: it has
 /// made and locked the new file beside it, `NAME.krbfile`.
@@ -60,6 +59,16 @@ where
     Err(DiskFault::Failed(Cause::InUse))
 }
 
+// What stands under the name, where that is nothing or a plain file.
+fn see_plain<R: rt::Files>(calls: &Calls<'_, R>, path: &str) -> Result<Option<Found>, DiskFault>
+    ensures { IfOk result IsPlainOrNone }
+{
+    match calls.see(path)? {
+        Some(found) if !found.is_file() => Err(DiskFault::Failed(Cause::NotAPlainFile)),
+        seen => Ok(seen),
+    }
+}
+
 // What stands under the name, once no program that holds no file, as MIT's, has locked it.
 fn wait_until_quiet<R: rt::Files + rt::Clock + Alloc>(
     calls: &Calls<'_, R>,
@@ -70,14 +79,13 @@ fn wait_until_quiet<R: rt::Files + rt::Clock + Alloc>(
     ensures { IfOk result IsPlainOrNone }
 {
     for _ in 0..=MOST_TRIES {
-        match calls.see(path)? {
-            None => return Ok(None),
-            Some(found) if !found.is_file() => {
-                return Err(DiskFault::Failed(Cause::NotAPlainFile));
-            }
-            Some(found) if calls.is_quiet(new_file, &found, patience)? => return Ok(Some(found)),
-            Some(_) => patience.pause(calls.looks())?,
+        let Some(found) = see_plain(calls, path)? else {
+            return Ok(None);
+        };
+        if calls.is_quiet(new_file, &found, patience)? {
+            return Ok(Some(found));
         }
+        patience.pause(calls.looks())?;
     }
     Err(DiskFault::Failed(Cause::InUse))
 }
@@ -213,11 +221,7 @@ where
     {
         match calls.load(alloc, self.target.path(), limit) {
             Ok((file, bytes)) => {
-                let alloc = Wiping::new(calls.looks().alloc());
-                let Ok(copy) = Vec::from_slice(alloc, &bytes) else {
-                    return Err(ReadFault::Disk(DiskFault::NoMemory));
-                };
-                self.seen = Seen::Loaded(file, copy);
+                self.seen = Seen::loaded(calls.looks().alloc(), file, &bytes)?;
                 Ok((file, bytes))
             }
             Err(ReadFault::Missing) => {

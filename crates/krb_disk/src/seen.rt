@@ -2,7 +2,7 @@
 
 ghost use Rattle.std.specs.Prelude.{◌≡◌, IsTrue, IfOk, IfSome};
 ghost use Rattle.krb_disk.specs.Looks.{IsPlainOrNone};
-ghost use Rattle.krb_disk.specs.Stages.{seen_file};
+ghost use Rattle.krb_disk.specs.Stages.{IsLoaded, seen_file};
 
 use crate::fault::DiskFault;
 use crate::looks::same::is_unchanged;
@@ -59,13 +59,22 @@ impl<A: Allocator> Seen<A> {
         }
     }
 
+    /// A file that was loaded, and a copy of its bytes.
+    pub fn loaded(alloc: A, file: Found, bytes: &[u8]) -> Result<Seen<A>, DiskFault>
+        ensures { IfOk result (λ seen. IsLoaded file bytes.now seen) }
+    {
+        let copy = Vec::from_slice(Wiping::new(alloc), bytes)?;
+        Ok(Seen::Loaded(file, copy))
+    }
+
     /// The file, if there was one.
     pub fn file(&self) -> Option<Found>
         ensures { result ≡ seen_file self.now }
     {
         match self {
             Seen::Nothing => None,
-            Seen::File(file) | Seen::Loaded(file, _) => Some(*file),
+            Seen::File(file) => Some(*file),
+            Seen::Loaded(file, _) => Some(*file),
         }
     }
 

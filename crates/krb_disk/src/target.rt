@@ -68,7 +68,10 @@ impl<A: Allocator> Target<A> {
 
     /// The user who owns the file, if there is one.
     pub fn owner(&self) -> Option<u32> {
-        self.old.as_ref().map(|old| old.owner)
+        match self.old {
+            Some(old) => Some(old.owner),
+            None => None,
+        }
     }
 }
 
@@ -87,40 +90,44 @@ pub fn find_target<R: rt::Files + Alloc>(
         return Err(DiskFault::Failed(Cause::NoDirectory));
     }
     for _ in 0..MOST_WAYS {
-        let target = follow_links(looks, name)?;
-        if target.path.as_str() == name || leads_to(looks, name, target.old.as_ref())? {
-            return refuse_new_file(target);
+        let (path, old) = follow_links(looks, name)?;
+        if path.as_str() == name || leads_to(looks, name, old)? {
+            return target_at(looks.alloc(), name, path, old);
         }
     }
     Err(DiskFault::Failed(Cause::NoName))
 }
 
-// The name of a new file is no target.
-fn refuse_new_file<A: Allocator>(target: Target<A>) -> Result<Target<A>, DiskFault>
-    ensures { IfOk result (λ same. same ≡ target) }
+// What was asked for stands there. The name of a new file is no target.
+fn target_at<A: Allocator>(
+    alloc: A,
+    name: &str,
+    path: PathBuf<A>,
+    old: Option<Found>,
+) -> Result<Target<A>, DiskFault>
+    ensures asked { IfOk result (λ target. string_bytes target.name ≡ name.now) }
+    ensures old { IfOk result (λ target. target.old ≡ old) }
 {
-    if target.path.as_str().ends_with(SUFFIX) {
-        Err(DiskFault::Failed(Cause::NameOfSaves))
-    } else {
-        Ok(target)
+    if path.as_str().ends_with(SUFFIX) {
+        return Err(DiskFault::Failed(Cause::NameOfSaves));
     }
+    let name = String::from_str(alloc, name)?;
+    Ok(Target { name, path, old })
 }
 
-// Goes from link to link by their texts.
+// Goes from link to link by their texts: to where the last one leads, and what is known of the file there.
 fn follow_links<R: rt::Files + Alloc>(
     looks: &Looks<'_, R>,
     name: &str,
-) -> Result<Target<R::A>, DiskFault>
-    ensures asked { IfOk result (λ target. string_bytes target.name ≡ name.now) }
-    ensures plain { IfOk result (λ target. IfSome target.old (λ old. bit_and old.mode 0o170000 ≡ 0o100000)) }
+) -> Result<(PathBuf<R::A>, Option<Found>), DiskFault>
+    ensures { IfOk result (λ end. IfSome end.1 (λ old. bit_and old.mode 0o170000 ≡ 0o100000)) }
 {
     let mut path = PathBuf::from_str(looks.alloc(), name)?;
-    let name = String::from_str(looks.alloc(), name)?;
     for _ in 0..=MOST_LINKS {
         match looks.look(path.as_str())? {
             Some(old) if old.is_link() => follow(looks, &mut path)?,
             Some(old) if !old.is_file() => return Err(DiskFault::Failed(Cause::NotAPlainFile)),
-            old => return Ok(Target { name, path, old }),
+            old => return Ok((path, old)),
         }
     }
     Err(DiskFault::Failed(Cause::TooManyLinks))
@@ -148,10 +155,10 @@ fn is_no_text(error: &io::Error) -> bool {
 fn leads_to<R: rt::Files>(
     looks: &Looks<'_, R>,
     name: &str,
-    file: Option<&Found>,
+    file: Option<Found>,
 ) -> io::Result<bool> {
     match (looks.come_to(name), file) {
-        (Ok(found), Some(file)) => Ok(is_same_file(&found, file)),
+        (Ok(found), Some(file)) => Ok(is_same_file(&found, &file)),
         (Ok(_), None) => Ok(false),
         (Err(error), _) if error.kind() != ErrorKind::NotFound => Err(error),
         (Err(_), file) => Ok(file.is_none()),

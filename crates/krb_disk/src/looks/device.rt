@@ -27,6 +27,12 @@ pub struct Mounted {
     inode: u64,
 }
 
+// A number in decimal or hexadecimal digits.
+fn parse_number(word: &str, is_decimal: bool) -> Option<u64> {
+    let radix = if is_decimal { 10 } else { 16 };
+    u64::from_str_radix(word, radix).ok()
+}
+
 impl Device {
     /// The two numbers that Linux puts into one: the major has its bits 8 to 19 and 44 to 63, the minor the others.
     pub fn of(number: u64) -> Device
@@ -40,11 +46,10 @@ impl Device {
 
     /// The device that a word as `fe:00` names, with numbers of that radix.
     pub fn parse(word: &str, is_decimal: bool) -> Option<Device> {
-        let radix = if is_decimal { 10 } else { 16 };
         let (major, minor) = word.split_once(':')?;
         Some(Device {
-            major: u64::from_str_radix(major, radix).ok()?,
-            minor: u64::from_str_radix(minor, radix).ok()?,
+            major: parse_number(major, is_decimal)?,
+            minor: parse_number(minor, is_decimal)?,
         })
     }
 }
