@@ -12,7 +12,7 @@ use krb_walk::FaultKind;
 use krb_wire::{KtFormat, split_u32, tail};
 
 /// What ends the cells of an image: nothing, a length 0, or a fault.
-#[derive(Clone, Copy, Debug, PartialEq, Eq)]
+#[derive(Clone, Copy)]
 pub enum Ending {
     Bare,
     Mark,
@@ -80,7 +80,7 @@ fn next_length(format: KtFormat, bytes: &[u8]) -> Result<Length, Ending>
 }
 
 /// Where the cells of an image end, and what ends them.
-#[derive(Clone, Copy, Debug, PartialEq, Eq)]
+#[derive(Clone, Copy)]
 pub struct CellsEnd {
     pub place: usize,
     pub ending: Ending,

@@ -84,7 +84,7 @@ impl<A: Allocator> From<KtOpenRefused<A>> for KtOpenFault {
 }
 
 /// What is known of an image that is a keytab.
-#[derive(Clone, Copy, Debug, PartialEq, Eq)]
+#[derive(Clone, Copy)]
 pub struct Head {
     pub format: KtFormat,
     pub limit: u32,
