@@ -10,7 +10,8 @@ from runs.harness import TOP, Report
 
 TABLE = os.path.join(TOP, "docs", "CALLS.md")
 LIBRARY = ("krb_wire", "krb_walk", "krb_cells", "krb_keytab", "krb_indexed", "krb_ccache",
-           "krb_files", "krb_text", "krb_json", "krb_audit", "krb_commands", "krb_disk", "wiping")
+           "krb_files", "krb_text", "krb_cache_text", "krb_json", "krb_audit", "krb_commands", "krb_disk",
+           "wiping")
 
 # The head of an item that may hold functions, a function, and the end of such an item.
 ITEM = re.compile(r"(?:pub )?(?:unsafe )?(impl|trait)\b(.*)")

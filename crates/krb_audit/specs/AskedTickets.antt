@@ -5,11 +5,10 @@ use Rattle.krb_wire.specs.declared.principal.Principal.{Principal}
 use Rattle.krb_ccache.specs.Credential.{CredParts}
 use Rattle.krb_ccache.specs.Config.{is_config}
 use Rattle.krb_ccache.specs.Store.{PlacedCredential}
-use Rattle.krb_text.specs.Found.{removed_ticket_line}
 use Rattle.krb_audit.specs.declared.tickets.SelectedTickets.{SelectedTickets}
 use Rattle.krb_audit.specs.TicketText.{TicketText}
 use Rattle.krb_audit.specs.Asked.{asked_text, has_text}
-use Rattle.krb_audit.specs.Tickets.{has_ended_by}
+use Rattle.krb_audit.specs.Tickets.{has_ended_by, removed_ticket_line}
 
 -- the text of a server's name, and the second
 abbrev pub ticket_text : {A : Type 0} → Option (Principal A) → Option ℕ → TicketText

@@ -1,11 +1,11 @@
 -- Which tickets of a cache are asked for.
-use Rattle.std.specs.Prelude.{◌≡◌, ℕ, List, Bool, true, not, ◌&&◌, nat_le, filter, map, Option, None, Some}
+use Rattle.std.specs.Prelude.{◌≡◌, ℕ, List, ◌++◌, decimal, codes, Bool, true, not, ◌&&◌, nat_le, filter, map, Option, None, Some}
 use Rattle.std.specs.List.{flat_map, list_any}
 use Rattle.krb_wire.specs.declared.principal.Principal.{Principal}
+use Rattle.krb_wire.specs.Names.{name_text}
 use Rattle.krb_ccache.specs.Credential.{CredParts}
 use Rattle.krb_ccache.specs.Config.{is_config}
 use Rattle.krb_ccache.specs.Store.{CacheState, PlacedCredential, placed_credentials}
-use Rattle.krb_text.specs.Found.{removed_ticket_line}
 use Rattle.krb_audit.specs.declared.tickets.SelectedTickets.{SelectedTickets}
 use Rattle.krb_audit.specs.Selection.{has_asked_name}
 
@@ -21,6 +21,10 @@ has_ended_by (Some now) c = nat_le c.times.endtime now
 -- the tickets of a cache that are asked for, in file order
 abbrev pub asked_tickets : {A : Type 0} → Option (Principal A) → Option ℕ → CacheState → List PlacedCredential
 asked_tickets server ended_by k = filter (λ x. names_ticket server x.1 && has_ended_by ended_by x.1) (placed_credentials k)
+
+-- the line of a ticket that was removed
+abbrev pub removed_ticket_line : PlacedCredential → List ℕ
+removed_ticket_line x = codes "removed " ++ (decimal x.0 ++ (codes " " ++ (name_text x.1.server ++ codes "\n")))
 
 -- they were selected
 pub record SelectsTickets {A B : Type 0} (server : Option (Principal A)) (ended_by : Option ℕ) (k : CacheState) (selected : SelectedTickets B) : Type 0 where

@@ -5,8 +5,8 @@ ghost use Rattle.krb_keytab.specs.Cells.{size};
 ghost use Rattle.krb_keytab.specs.Find.{placed_entries};
 ghost use Rattle.krb_audit.specs.Report.{count_line, holes};
 
-use crate::append::{append_bytes, append_labelled};
 use krb_keytab::{Keytab, KtCell};
+use krb_text::{append_byte, append_labelled};
 use krb_wire::NoMemory;
 use std::alloc::Allocator;
 
@@ -46,5 +46,5 @@ pub fn append_counts<A: Allocator, B: Allocator>(
     append_labelled(b"entries ", entries, out)?;
     append_labelled(b" free ", holes.size, out)?;
     append_labelled(b" holes ", holes.count, out)?;
-    append_bytes(b"\n", out)
+    append_byte(b'\n', out)
 }

@@ -2,7 +2,6 @@
 //! tickets of a cache are.
 #![tactic(auto)]
 
-mod append;
 mod asked;
 mod asked_name;
 mod asked_tickets;

@@ -3,9 +3,8 @@
 ghost use Rattle.std.specs.Prelude.{◌≡◌, ◌++◌, OnOk};
 ghost use Rattle.krb_audit.specs.Report.{alike_line, alike_word, line_if, mark_lines};
 
-use crate::append::append_labelled;
 use krb_keytab::EntryView;
-use krb_text::append_placed;
+use krb_text::{append_labelled, append_placed};
 use krb_wire::NoMemory;
 use std::alloc::Allocator;
 

@@ -3,7 +3,7 @@
 ghost use Rattle.std.specs.Prelude.{◌≡◌, ◌++◌, OnOk, ◌%◌};
 ghost use Rattle.krb_audit.specs.Report.{has_mode, is_open, is_open_to_all, mode_line, octal};
 
-use crate::append::append_bytes;
+use krb_text::{append, append_byte};
 use krb_wire::NoMemory;
 use std::alloc::Allocator;
 
@@ -46,7 +46,7 @@ fn append_octal<A: Allocator>(
         return Ok(());
     }
     append_octal(places - 1, number / 8, out)?;
-    append_bytes(&[b'0' + (number % 8) as u8], out)
+    append_byte(b'0' + (number % 8) as u8, out)
 }
 
 /// Appends the line of a mode, if it is told.
@@ -55,9 +55,9 @@ pub fn append_mode<A: Allocator>(mode: Option<u32>, out: &mut Vec<u8, A>) -> Res
 {
     match mode {
         Some(mode) if is_open(mode) => {
-            append_bytes(b"mode ", out)?;
+            append(b"mode ", out)?;
             append_octal(4, mode % 0o10000, out)?;
-            append_bytes(b"\n", out)
+            append_byte(b'\n', out)
         }
         _ => Ok(()),
     }

@@ -2,15 +2,28 @@
 
 ghost use Rattle.std.specs.Prelude.{◌≡◌, ◌++◌, ◌∷◌, [], List, IfOk, OnOk};
 ghost use Rattle.krb_ccache.specs.Store.{PlacedCredential};
-ghost use Rattle.krb_text.specs.Found.{removed_ticket_line};
 ghost use Rattle.krb_audit.specs.AskedTickets.{SelectsSoFar};
-ghost use Rattle.krb_audit.specs.Tickets.{SelectsTickets};
+ghost use Rattle.krb_audit.specs.Tickets.{SelectsTickets, removed_ticket_line};
 
 use crate::asked_tickets::AskedTickets;
 use krb_ccache::{Ccache, CredView};
-use krb_text::append_removed_ticket;
-use krb_wire::{NoMemory, Principal};
+use krb_text::{append_byte, append_labelled};
+use krb_wire::{NoMemory, Principal, write_name};
 use std::alloc::Allocator;
+
+// Appends the line of a ticket that was removed from a place.
+fn append_removed<A: Allocator>(
+    place: u32,
+    ticket: &CredView<'_>,
+    out: &mut Vec<u8, A>,
+) -> Result<(), NoMemory>
+    ensures { OnOk result (out.new.items ≡ out.old.items ++ removed_ticket_line (place, ticket.now)) }
+{
+    append_labelled(b"removed ", place, out)?;
+    append_byte(b' ', out)?;
+    write_name(ticket.server(), out)?;
+    append_byte(b'\n', out)
+}
 
 /// The tickets of a cache that are asked for.
 #[derive(Drop)]
@@ -32,7 +45,7 @@ impl<A: Allocator> SelectedTickets<A> {
         ensures named { self.new.is_named ≡ self.old.is_named }
     {
         self.places.push(place)?;
-        append_removed_ticket(place, ticket, &mut self.text)
+        append_removed(place, ticket, &mut self.text)
     }
 
     // Selects the next credential where it is a ticket that is asked for.

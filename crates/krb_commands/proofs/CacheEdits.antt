@@ -16,7 +16,7 @@ use Rattle.krb_ccache.specs.Credential.{CredParts}
 use Rattle.krb_ccache.specs.Placed.{cache_rules}
 use Rattle.krb_ccache.specs.SetConfig.{SettingParts, entry_of, match_places, setting_events}
 use Rattle.krb_ccache.specs.Store.{CacheState}
-use Rattle.krb_text.specs.CacheScript.{CacheLineParts}
+use Rattle.krb_cache_text.specs.Script.{CacheLineParts}
 use Rattle.krb_commands.specs.Ccedit.{is_refusal, line_events, lines_events}
 
 -- ---- runs one after the other

@@ -7,8 +7,8 @@ use Rattle.krb_ccache.specs.Store.{CacheState}
 use Rattle.krb_files.specs.Bytes.{Watch, AppendsPrefix, is_write_fault}
 use Rattle.krb_files.specs.declared.output.OutFault.{OutFault}
 use Rattle.krb_files.specs.declared.output.OutFault.TheVariants.{Write, NoMemory}
-use Rattle.krb_text.specs.declared.columns.CcColumns.{CcColumns}
 use Rattle.krb_text.specs.declared.columns.KtColumns.{KtColumns}
+use Rattle.krb_cache_text.specs.declared.columns.CcColumns.{CcColumns}
 use Rattle.krb_commands.specs.Klist.{cache_shown, keytab_shown}
 use Rattle.krb_commands.specs.Runs.{Prints, Run}
 use Rattle.krb_commands.specs.Troubles.{out_trouble}

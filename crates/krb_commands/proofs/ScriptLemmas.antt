@@ -21,8 +21,8 @@ use Rattle.krb_files.specs.Files.{loaded}
 use Rattle.krb_text.specs.declared.line_fault.LineFault.{LineFault}
 use Rattle.krb_text.specs.declared.script.ScriptRefusal.{ScriptRefusal}
 use Rattle.krb_text.specs.declared.script.ScriptRefusal.TheVariants as refusal
-use Rattle.krb_text.specs.CacheScript.{CacheLineParts}
 use Rattle.krb_text.specs.Script.{ScriptFault, RefusesScript, script_by}
+use Rattle.krb_cache_text.specs.Script.{CacheLineParts}
 use Rattle.krb_commands.specs.declared.edited.Edited.{Edited}
 use Rattle.krb_commands.specs.declared.telling.told.Told.{Told}
 use Rattle.krb_commands.specs.declared.trouble.FileKind.{FileKind}

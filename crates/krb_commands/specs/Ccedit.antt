@@ -13,9 +13,9 @@ use Rattle.krb_files.specs.declared.files.Files.{Ghosts}
 use Rattle.krb_files.specs.declared.files.LoadFault.{LoadFault}
 use Rattle.krb_files.specs.Bytes.{Watch}
 use Rattle.krb_files.specs.Reader.{Source}
-use Rattle.krb_text.specs.declared.script.asked.Asked.TheVariants as asked
-use Rattle.krb_text.specs.CacheReply.{cache_reply_text}
-use Rattle.krb_text.specs.CacheScript.{CacheLineParts, cache_line_in}
+use Rattle.krb_cache_text.specs.declared.asked.Asked.TheVariants as asked
+use Rattle.krb_cache_text.specs.Reply.{cache_reply_text}
+use Rattle.krb_cache_text.specs.Script.{CacheLineParts, cache_line_in}
 use Rattle.krb_commands.specs.declared.trouble.FileKind.TheVariants as kind
 use Rattle.krb_commands.specs.Changing.{Edit, edit_over, FairOver}
 use Rattle.krb_commands.specs.Edits.{may_change}

@@ -13,8 +13,7 @@ use Rattle.krb_ccache.specs.Store.{CacheState, PlacedCredential, image_of, place
 use Rattle.krb_files.specs.declared.files.Files.{Ghosts}
 use Rattle.krb_files.specs.declared.files.LoadFault.{LoadFault}
 use Rattle.krb_files.specs.Bytes.{Watch}
-use Rattle.krb_text.specs.Found.{removed_ticket_line}
-use Rattle.krb_audit.specs.Tickets.{asked_tickets, names_ticket}
+use Rattle.krb_audit.specs.Tickets.{asked_tickets, names_ticket, removed_ticket_line}
 use Rattle.krb_commands.specs.declared.action.TicketOptions.{TicketOptions}
 use Rattle.krb_commands.specs.declared.trouble.FileKind.TheVariants.{Cache}
 use Rattle.krb_commands.specs.declared.trouble.Trouble.{Trouble}

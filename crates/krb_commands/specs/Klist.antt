@@ -7,10 +7,10 @@ use Rattle.krb_ccache.specs.Store.{CacheState, store_of as cache_store}
 use Rattle.krb_files.specs.declared.files.LoadFault.{LoadFault}
 use Rattle.krb_json.specs.Cache.{cache_json_text}
 use Rattle.krb_json.specs.Keytab.{keytab_json_text}
-use Rattle.krb_text.specs.declared.columns.CcColumns.{CcColumns}
 use Rattle.krb_text.specs.declared.columns.KtColumns.{KtColumns}
-use Rattle.krb_text.specs.CacheListing.{cache_text}
 use Rattle.krb_text.specs.Listing.{list_text}
+use Rattle.krb_cache_text.specs.declared.columns.CcColumns.{CcColumns}
+use Rattle.krb_cache_text.specs.Listing.{cache_text}
 use Rattle.krb_commands.specs.declared.action.KlistOptions.{KlistOptions}
 use Rattle.krb_commands.specs.declared.action.ListKind.{ListKind}
 use Rattle.krb_commands.specs.declared.action.ListKind.TheVariants.{Keytab, Cache}

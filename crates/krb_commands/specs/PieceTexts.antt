@@ -2,7 +2,7 @@
 use Rattle.std.specs.Prelude.{ℕ, List, [], ◌∷◌, ◌++◌, codes, decimal, if◌then◌else◌}
 use Rattle.std.specs.List.{flat_map}
 use Rattle.hex.specs.Hex.{encode_lower}
-use Rattle.krb_text.specs.Escape.{is_printable}
+use Rattle.krb_cache_text.specs.Escape.{is_printable}
 use Rattle.krb_commands.specs.declared.telling.piece.Piece.{Piece}
 use Rattle.krb_commands.specs.declared.telling.piece.Piece.TheVariants.{Text, Name, Number, Word}
 

@@ -1,7 +1,8 @@
 //! What a command line asks for.
 
 use krb_audit::Selection;
-use krb_text::{CcColumns, KtColumns};
+use krb_cache_text::CcColumns;
+use krb_text::KtColumns;
 use krb_wire::{Order, Principal};
 use std::alloc::{Allocator, Global};
 

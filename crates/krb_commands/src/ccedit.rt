@@ -17,9 +17,9 @@ use crate::loading::load_cache;
 use crate::scripted::{Editor, run_script};
 use crate::telling::error_output::ErrorOutput;
 use crate::trouble::{FileKind, Trouble};
+use krb_cache_text::{Asked, CacheLine, CcFormat};
 use krb_ccache::{Ccache, Cred, Setting};
 use krb_files::{Files, Watched, WatchedReader};
-use krb_text::{Asked, CacheLine};
 use krb_walk::{Event, Reply, Session};
 use krb_wire::NoMemory;
 use std::alloc::Allocator;
@@ -119,16 +119,10 @@ fn edit<A: Allocator + Copy>(
 ) -> Result<Edited<A>, NoMemory>
     ensures { IfOk result (Makes (RunsFairly lines.now cache.state) (edit_in lines.now cache.state)) }
 {
-    let version = cache.version();
+    let format = CcFormat(cache.version());
     let mut replies = Vec::new(alloc);
     let cache = run_lines(alloc, cache, lines, &mut replies)?;
-    edited_of(
-        alloc,
-        FileKind::Cache,
-        version,
-        &replies,
-        cache.into_image(),
-    )
+    edited_of(alloc, FileKind::Cache, format, &replies, cache.into_image())
 }
 
 /// Caches.

@@ -11,11 +11,12 @@ use crate::loading::{load_cache, load_keytab};
 use crate::telling::error_output::ErrorOutput;
 use crate::telling::{cause_of, tell};
 use crate::trouble::{Trouble, listing_end};
+use krb_cache_text::{CcColumns, list_cache};
 use krb_ccache::Ccache;
 use krb_files::{Files, OutFault, Watched};
 use krb_json::{cache_json, keytab_json};
 use krb_keytab::Keytab;
-use krb_text::{CcColumns, KtColumns, list_cache, list_keytab};
+use krb_text::{KtColumns, list_keytab};
 use std::alloc::Allocator;
 use std::io::Write;
 

@@ -1,8 +1,6 @@
--- Lines of entries and of tickets with their places.
+-- Lines of entries with their places.
 use Rattle.std.specs.Prelude.{List, ℕ, ◌++◌, decimal, codes}
-use Rattle.krb_wire.specs.Names.{name_text}
 use Rattle.krb_keytab.specs.Find.{PlacedEntry}
-use Rattle.krb_ccache.specs.Store.{PlacedCredential}
 use Rattle.krb_text.specs.Line.{entry_tail}
 
 -- the line of an entry that stands at a place, behind a label
@@ -16,7 +14,3 @@ found_line x = placed_line (codes "found ") x
 -- the line of an entry that was removed
 abbrev pub removed_line : PlacedEntry → List ℕ
 removed_line x = placed_line (codes "removed ") x
-
--- the line of a ticket that was removed
-abbrev pub removed_ticket_line : PlacedCredential → List ℕ
-removed_ticket_line x = codes "removed " ++ (decimal x.0 ++ (codes " " ++ (name_text x.1.server ++ codes "\n")))

@@ -10,13 +10,8 @@ pub mod Calendar
 pub mod Line
 pub mod Listing
 pub mod Flags
-pub mod Escape
-pub mod Credential
-pub mod CacheListing
 pub mod Slots
 pub mod Found
 pub mod Reply
-pub mod CacheReply
 pub mod Pieces
 pub mod Script
-pub mod CacheScript

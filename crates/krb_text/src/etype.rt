@@ -6,7 +6,7 @@ ghost use Rattle.std.specs.List.{find};
 ghost use Rattle.krb_wire.specs.Text.{Appended};
 ghost use Rattle.krb_text.specs.Etype.{etype_numbered, etype_name_of, etype_text_of, etype_in, key_size_of, is_named, number_named, unnamed};
 
-use crate::append::append;
+use crate::bytes::append;
 use crate::numbers::parse_u16;
 use itoa::Buffer;
 use krb_wire::NoMemory;

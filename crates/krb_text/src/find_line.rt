@@ -1,14 +1,13 @@
-//! The line of an entry or of a ticket with its place.
+//! The line of an entry with its place.
 
 ghost use Rattle.std.specs.Prelude.{◌≡◌, IfOk};
 ghost use Rattle.krb_wire.specs.Text.{AppendedPart};
-ghost use Rattle.krb_text.specs.Found.{found_line, placed_line, removed_ticket_line};
+ghost use Rattle.krb_text.specs.Found.{found_line, placed_line};
 
-use crate::append::{append_byte, append_labelled};
+use crate::bytes::append_labelled;
 use crate::line::append_tail;
-use krb_ccache::CredView;
 use krb_keytab::EntryView;
-use krb_wire::{NoMemory, write_name};
+use krb_wire::NoMemory;
 use std::alloc::Allocator;
 
 /// Appends the line of an entry that stands at a place, behind a label.
@@ -35,18 +34,4 @@ pub fn found_text<A: Allocator>(
     let mut line = Vec::new(alloc);
     append_placed(b"found ", place, entry, &mut line)?;
     Ok(line)
-}
-
-/// Appends the line of a ticket that was removed from a place.
-pub fn append_removed_ticket<A: Allocator>(
-    place: u32,
-    ticket: &CredView<'_>,
-    out: &mut Vec<u8, A>,
-) -> Result<(), NoMemory>
-    ensures { AppendedPart (removed_ticket_line (place, ticket.now)) out.old out.new result }
-{
-    append_labelled(b"removed ", place, out)?;
-    append_byte(b' ', out)?;
-    write_name(ticket.server(), out)?;
-    append_byte(b'\n', out)
 }

@@ -3,7 +3,7 @@
 ghost use Rattle.krb_wire.specs.Text.{Appended, AppendedPart};
 ghost use Rattle.krb_text.specs.Flags.{letters_among, flag_letters_of};
 
-use crate::append::append_byte;
+use crate::bytes::append_byte;
 use krb_wire::{NoMemory, all_or_nothing};
 use std::alloc::Allocator;
 

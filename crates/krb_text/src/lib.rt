@@ -1,8 +1,7 @@
-//! Keytabs and credential caches as text.
+//! Keytabs as text, and what the texts of credential caches are made of.
 #![tactic(auto)]
 
-mod append;
-mod cache_listing;
+mod bytes;
 mod columns;
 mod etype;
 mod find_line;
@@ -20,23 +19,22 @@ mod slots;
 mod time;
 mod word;
 
-pub use cache_listing::list_cache;
-pub use columns::{CcColumns, KtColumns};
+pub use bytes::{append, append_byte, append_labelled};
+pub use columns::KtColumns;
 pub use etype::{etype_name, etype_of, etype_text, key_size};
-pub use find_line::{append_placed, append_removed_ticket, found_text};
+pub use find_line::{append_placed, found_text};
 pub use flags::flag_letters;
 pub use gather::{room_to_gather, send_if_full};
 pub use key::{key_text, parse_key};
 pub use line_fault::{LineFault, LineRefusal};
-pub use listing::{append_fault_line, list_keytab};
+pub use listing::{append_fault_line, list_keytab, send_last};
 pub use numbers::parse_u32;
+pub use pieces::Words;
 pub use reply::record::RecordFormat;
 pub use reply::{reply_line, reply_lines};
-pub use script::asked::Asked;
-pub use script::cache_line::CacheLine;
+pub use script::command::common_event;
 pub use script::line::ScriptLine;
-pub use script::setting::OwnedSetting;
 pub use script::{ScriptRefusal, parse_script};
 pub use slots::list_slots;
-pub use time::time_text;
+pub use time::{LastTime, time_text};
 pub use word::{etype_word, name_word, number_word};

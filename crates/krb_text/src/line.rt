@@ -3,7 +3,7 @@
 ghost use Rattle.krb_wire.specs.Text.{AppendedPart};
 ghost use Rattle.krb_text.specs.Line.{entry_line, time_column, etype_column, key_column, entry_tail, fault_text};
 
-use crate::append::{append, append_byte, append_labelled, append_right_in_4};
+use crate::bytes::{append, append_byte, append_labelled, append_right_in_4};
 use crate::columns::KtColumns;
 use crate::etype::etype_text;
 use crate::key::key_text;

@@ -6,7 +6,7 @@ ghost use Rattle.krb_files.specs.Bytes.{AppendsPrefix, is_write_fault};
 ghost use Rattle.krb_text.specs.Gathered.{Passed};
 ghost use Rattle.krb_text.specs.Listing.{titles, underlines, heading, entry_lines, fault_line, list_text};
 
-use crate::append::append;
+use crate::bytes::append;
 use crate::columns::KtColumns;
 use crate::gather::{room_to_gather, send_if_full};
 use crate::line::{append_entry, append_fault};

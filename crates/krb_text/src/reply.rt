@@ -6,10 +6,9 @@ ghost use Rattle.krb_walk.specs.Said.{said};
 ghost use Rattle.krb_text.specs.Line.{fault_text};
 ghost use Rattle.krb_text.specs.Reply.{walk_line, number_line, reply_text_by, reply_texts_by, format_after_by};
 
-mod credential;
 pub(crate) mod record;
 
-use crate::append::{append_byte, append_labelled};
+use crate::bytes::{append_byte, append_labelled};
 use crate::line::append_fault;
 use crate::reply::record::RecordFormat;
 use krb_walk::{Fault, Reply};

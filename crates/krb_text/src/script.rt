@@ -6,12 +6,9 @@ ghost use Rattle.krb_text.specs.Pieces.{pieces};
 ghost use Rattle.krb_text.specs.Script.{is_asked, asked_from, script_of, script_by, refusal_text, RefusesScript, TakesMemory};
 
 mod addition;
-pub(crate) mod asked;
-pub(crate) mod cache_line;
-mod command;
+pub(crate) mod command;
 mod event_line;
 pub(crate) mod line;
-pub(crate) mod setting;
 
 use crate::line_fault::{LineFault, LineRefusal};
 use crate::pieces::Lines;

@@ -4,7 +4,7 @@ ghost use Rattle.std.specs.Prelude.{◌≡◌, ◌≤◌, ◌++◌, OnOk, OnErr,
 ghost use Rattle.krb_wire.specs.Text.{AppendedPart};
 ghost use Rattle.krb_text.specs.Slots.{slot_heading, slot_line, slot_lines, slot_text};
 
-use crate::append::{append, append_right_in_4};
+use crate::bytes::{append, append_right_in_4};
 use crate::columns::KtColumns;
 use crate::line::append_entry;
 use crate::listing::{titles, underlines};

@@ -5,7 +5,7 @@ ghost use Rattle.krb_wire.specs.Text.{Appended};
 ghost use Rattle.krb_text.specs.Calendar.{Day, day_number, day_text, time_text_of};
 ghost use Rattle.krb_text.specs.Time.{digit};
 
-use crate::append::append;
+use crate::bytes::append;
 use jiff::civil::Date;
 use jiff_core::civil;
 use krb_wire::NoMemory;

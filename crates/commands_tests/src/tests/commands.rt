@@ -4,10 +4,11 @@ use super::images::{
     ADDED, CACHE, CACHE_EDITED, CACHE_REWRITTEN, EDITED, IMAGE, REMOVED, REWRITTEN,
 };
 use krb_audit::{AskedKvno, Selection};
+use krb_cache_text::CcColumns;
 use krb_commands::{
     Action, FindOptions, KlistOptions, ListKind, RemoveOptions, TicketOptions, WordFault,
 };
-use krb_text::{CcColumns, KtColumns};
+use krb_text::KtColumns;
 use krb_wire::{Order, Principal, parse_name};
 use std::alloc::Global;
 use std::test::Fail;

@@ -9,7 +9,8 @@ ghost use Rattle.krb_commands.specs.Options.{order_of, odd_option, odd_with_cach
 
 use crate::action::{Action, FindOptions, KlistOptions, ListKind};
 use crate::command_line::mistake::{Mistake, WordFault};
-use krb_text::{CcColumns, KtColumns, etype_of, parse_u32};
+use krb_cache_text::CcColumns;
+use krb_text::{KtColumns, etype_of, parse_u32};
 use krb_wire::{NameFault, Order, Principal, parse_name};
 use std::alloc::Global;
 

@@ -5,7 +5,7 @@ ghost use Rattle.krb_wire.specs.Text.{AppendedPart};
 ghost use Rattle.krb_wire.specs.declared.format.KtFormat.TheVariants.{V2};
 ghost use Rattle.krb_text.specs.Reply.{record_tail};
 
-use crate::append::append_byte;
+use crate::bytes::append_byte;
 use crate::line::append_tail;
 use krb_keytab::read_entry;
 use krb_wire::{KtFormat, NoMemory};

@@ -1,8 +1,9 @@
 //! Each allocation fails in turn, in scripts and replies of caches: what was there stays.
 
 use super::credentials::{KRBTGT, PA_TYPE, credential};
-use krb_ccache::{Version, read_credential};
-use krb_text::{CacheLine, ScriptRefusal, append_removed_ticket, parse_script, reply_lines};
+use krb_cache_text::{CacheLine, CcFormat};
+use krb_ccache::Version;
+use krb_text::{ScriptRefusal, parse_script, reply_lines};
 use krb_walk::Reply;
 use refusing::refuse_each;
 use std::test::Fail;
@@ -25,28 +26,10 @@ walk 0 gave 40 next 148 config pa_type(krbtgt/R@R)\n";
     let requests = refuse_each(rt.alloc(), 100, |heap, n| {
         let mut out = Vec::from_slice(heap, b"before ")?;
         heap.refuse(n);
-        let is_done = reply_lines(Version::V4, &replies, &mut out).is_ok();
+        let is_done = reply_lines(CcFormat(Version::V4), &replies, &mut out).is_ok();
         assert_eq!(rt; is_done, !heap.refused());
         let text = if is_done { text } else { "before " };
         assert!(rt; out.as_slice() == text.as_bytes(), "{text}");
-        Ok(())
-    })?;
-    assert!(rt; requests >= 1, "{requests}");
-    Ok(())
-}
-
-/// Of the line of a removed ticket a part may stand there.
-#[test]
-fn a_removed_ticket(rt: HostRuntime) -> Result<(), Fail> {
-    let bytes = credential(rt.alloc(), Version::V4, KRBTGT)?;
-    let ticket = read_credential(Version::V4, &bytes).ok_or("no ticket")?;
-    let line = b"removed 40 krbtgt/R@R\n".as_slice();
-    let requests = refuse_each(rt.alloc(), 100, |heap, n| {
-        let mut out = Vec::new(heap);
-        heap.refuse(n);
-        let is_done = append_removed_ticket(40, &ticket, &mut out).is_ok();
-        assert_eq!(rt; is_done, !heap.refused());
-        assert!(rt; line.starts_with(&out) && (!is_done || out.as_slice() == line));
         Ok(())
     })?;
     assert!(rt; requests >= 1, "{requests}");

@@ -1,8 +1,9 @@
 //! Replies over a cache: of tickets, of configuration entries, and over a rewrite.
 
 use super::credentials::{EMPTY, KRBTGT, ODD_KEY, PA_TYPE, credential};
-use krb_ccache::{Version, read_credential};
-use krb_text::{append_removed_ticket, reply_line, reply_lines};
+use krb_cache_text::CcFormat;
+use krb_ccache::Version;
+use krb_text::{reply_line, reply_lines};
 use krb_walk::Reply;
 use std::alloc::Global;
 use std::test::Fail;
@@ -20,7 +21,7 @@ fn gave(bytes: Vec<u8>) -> Reply<Global> {
 // Its line.
 fn line(alloc: Global, version: Version, bytes: Vec<u8>) -> Result<Vec<u8>, Fail> {
     let mut out = Vec::new(alloc);
-    match reply_line(version, &gave(bytes), &mut out) {
+    match reply_line(CcFormat(version), &gave(bytes), &mut out) {
         Ok(()) => Ok(out),
         Err(_) => Err(Fail::from("no memory")),
     }
@@ -67,22 +68,12 @@ fn lines_over_a_rewrite(rt: HostRuntime) -> Result<(), Fail> {
         Reply::Placed(200),
     ];
     let mut out = Vec::from_slice(rt.alloc(), b"before\n")?;
-    assert!(rt; reply_lines(Version::V3, &replies, &mut out).is_ok());
+    assert!(rt; reply_lines(CcFormat(Version::V3), &replies, &mut out).is_ok());
     let want = "before\n\
 walk 7 gave 40 next 148 etype 18 krbtgt/R@R\n\
 rewritten 200\n\
 walk 7 gave 40 next 148 config pa_type(krbtgt/R@R)\n\
 placed 200\n";
     assert!(rt; out.as_slice() == want.as_bytes());
-    Ok(())
-}
-
-#[test]
-fn a_removed_ticket(rt: HostRuntime) -> Result<(), Fail> {
-    let bytes = credential(rt.alloc(), Version::V4, KRBTGT)?;
-    let ticket = read_credential(Version::V4, &bytes).ok_or("no ticket")?;
-    let mut out = Vec::new(rt.alloc());
-    assert!(rt; append_removed_ticket(40, &ticket, &mut out).is_ok());
-    assert!(rt; out.as_slice() == b"removed 40 krbtgt/R@R\n".as_slice());
     Ok(())
 }

@@ -1,6 +1,7 @@
 //! The lines of ccedit's scripts.
 
-use krb_text::{Asked, CacheLine, LineFault, ScriptRefusal, parse_script};
+use krb_cache_text::{Asked, CacheLine};
+use krb_text::{LineFault, ScriptRefusal, parse_script};
 use krb_walk::Event;
 use std::alloc::Global;
 use std::test::Fail;

@@ -3,9 +3,10 @@
 use super::credentials::{CLIENT, KRBTGT, credential};
 use super::keytabs::{ALL, HEAD, HOST, opened};
 use super::measured::Measured;
+use krb_cache_text::{CcColumns, list_cache};
 use krb_ccache::{Ccache, Version};
 use krb_files::Watched;
-use krb_text::{CcColumns, list_cache, list_keytab};
+use krb_text::list_keytab;
 use krb_wire::Limits;
 use std::test::Fail;
 

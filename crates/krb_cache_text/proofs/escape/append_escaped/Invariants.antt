@@ -1,0 +1,7 @@
+use Rattle.std.proofs.Common.{drop}
+use Rattle.krb_wire.proofs.TextLemmas.{Left}
+use Rattle.krb_cache_text.specs.Escape.{escaped_text}
+use Rattle.krb_cache_text.proofs.escape.append_escaped.Given as goal
+
+abbrev pub invariant-bytes : goal.invariant-bytes
+invariant-bytes g l = Left (escaped_text l.bytes) (escaped_text (drop l.byte-index l.bytes)) l.fn.out l.out

@@ -1,0 +1,36 @@
+use Rattle.std.proofs.Common.{◌++◌, List, ℕ, sym, ap, ◌∙◌}
+use Rattle.std.proofs.lemmas.Result.{err_from_is_err_and}
+use Rattle.krb_text.proofs.Passing.{passed_none, passed_gather, passed_send, passed_prefix, passed_fail}
+use Rattle.krb_cache_text.specs.Credential.{credential_lines}
+use Rattle.krb_cache_text.specs.Listing.{lines_of_credentials}
+use Rattle.krb_cache_text.proofs.listing.list_credentials.Goals as goal
+
+pub credentials-init : goal.credentials-init
+credentials-init g c =
+    let all = sym (ap (lines_of_credentials c.args.columns) (c.into_iter-credential-iterator.ensures.into_iter_gives ∙ c.credentials-credential-items.ensures)) in
+    record {
+      well = c.requires;
+      passed = passed_none _ _ (lines_of_credentials c.args.columns c.into_iter-credential-iterator.result) c.args.gathered.now.items (ap (λ (t : List ℕ). c.args.gathered.now.items ++ t) all);
+    }
+
+pub returns-in_err-append_credential-clause-prefix : goal.returns-in_err-append_credential-clause-prefix
+returns-in_err-append_credential-clause-prefix g c =
+    let p = err_from_is_err_and c.from_residual.result c.from_residual.ensures.1 in
+    rw p.1 (passed_prefix _ _ _ _ _ c.credentials.invariant.passed)
+
+-- what was sent when a write fails
+pub returns-in_err-send_if_full-clause-prefix : goal.returns-in_err-send_if_full-clause-prefix
+returns-in_err-send_if_full-clause-prefix g c =
+    let p = err_from_is_err_and c.from_residual-in_err-send_if_full.result c.from_residual-in_err-send_if_full.ensures.1 in
+    let lines = rw (ap (lines_of_credentials c.args.columns) c.in-Some.ensures.steps) at c.credentials.invariant.passed in
+    let passed = passed_gather _ _ _ (credential_lines c.args.columns c.in-Some.credential) (lines_of_credentials c.args.columns c.next.new.self) c.credentials.gathered.items _ lines c.in_ok-append_credential.ensures in
+    rw p.1 (passed_fail _ _ _ _ _ _ passed c.in_err-send_if_full.ensures.prefix)
+
+pub credentials-preserved : goal.credentials-preserved
+credentials-preserved g c =
+    let lines = rw (ap (lines_of_credentials c.args.columns) c.in-Some.ensures.steps) at c.credentials.invariant.passed in
+    let passed = passed_gather _ _ _ (credential_lines c.args.columns c.in-Some.credential) (lines_of_credentials c.args.columns c.next.new.self) c.credentials.gathered.items _ lines c.in_ok-append_credential.ensures in
+    record {
+      well = c.in_ok-send_if_full.ensures.failed;
+      passed = passed_send _ _ _ _ _ _ _ passed c.in_ok-send_if_full.ensures.ok;
+    }

@@ -1,0 +1,41 @@
+-- The lines of replies over a cache.
+use Rattle.std.specs.Prelude.{ℕ, List, ◌++◌, decimal, codes, Option, None, Some}
+use Rattle.krb_wire.specs.Names.{name_text}
+use Rattle.krb_walk.specs.Said.{Said}
+use Rattle.krb_ccache.specs.declared.version.Version.{Version}
+use Rattle.krb_ccache.specs.declared.version.Version.TheVariants.{V4}
+use Rattle.krb_ccache.specs.Credential.{CredParts, credential_in}
+use Rattle.krb_ccache.specs.Config.{ConfigParts, config_name}
+use Rattle.krb_text.specs.Reply.{reply_text_by, reply_texts_by}
+use Rattle.krb_cache_text.specs.Escape.{escaped_text}
+use Rattle.krb_cache_text.specs.Credential.{about}
+
+-- the end of the line of a ticket: the number of its key's encryption type, and what it is for
+abbrev pub ticket_tail : CredParts → List ℕ
+ticket_tail c = codes " etype " ++ (decimal c.key.enctype ++ (codes " " ++ (name_text c.server ++ codes "\n")))
+
+-- the end of the line of a configuration entry: what its value is held under
+abbrev pub config_tail : ConfigParts → List ℕ
+config_tail name = codes " config " ++ (escaped_text name.key ++ (about name.principal ++ codes "\n"))
+
+-- the end of the line of a ticket or of a configuration entry
+abbrev pub tail_by : Option ConfigParts → CredParts → List ℕ
+tail_by None c = ticket_tail c
+tail_by (Some name) c = config_tail name
+
+-- the end of the line of a record that holds the credential; where it held none, the line would end there
+abbrev pub credential_tail : Option CredParts → List ℕ
+credential_tail None = codes "\n"
+credential_tail (Some c) = tail_by (config_name c.server) c
+
+-- the end of the line of a record with the bytes
+abbrev pub cache_record_tail : Version → List ℕ → List ℕ
+cache_record_tail version bytes = credential_tail (credential_in version bytes)
+
+-- the line of a reply, where a record's bytes are read in the version
+abbrev pub cache_reply_text : Version → Said → List ℕ
+cache_reply_text version reply = reply_text_by cache_record_tail version reply
+
+-- the lines of replies in order; a rewrite makes it version 4
+abbrev pub cache_reply_texts : Version → List Said → List ℕ
+cache_reply_texts version replies = reply_texts_by cache_record_tail V4 version replies

@@ -1,0 +1,55 @@
+-- Scripts of a cache: lines that ask for events, and for configuration values to be set.
+use Rattle.std.specs.Prelude.{ℕ, ◌==◌, ◌||◌, List, [], ◌∷◌, length, codes, if◌then◌else◌, bytes_eq, Option, None, Some, ok_or, Result, Ok, Err}
+use Rattle.std.specs.List.{join_with_byte}
+use Rattle.krb_ccache.specs.Credential.{CredParts}
+use Rattle.krb_ccache.specs.SetConfig.{SettingParts}
+use Rattle.krb_text.specs.declared.line_fault.LineFault.{LineFault}
+use Rattle.krb_text.specs.declared.line_fault.LineFault.TheVariants.{UnknownWord, WordCount}
+use Rattle.krb_text.specs.Pieces.{pieces}
+use Rattle.krb_text.specs.Word.{name_word}
+use Rattle.krb_text.specs.Script.{◌>>=◌, made, common_event, ScriptFault, script_by}
+use Rattle.krb_cache_text.specs.declared.asked.Asked.{Asked}
+use Rattle.krb_cache_text.specs.declared.asked.Asked.TheVariants as asked
+
+-- what a line asks for
+abbrev pub CacheLineParts : Type 0
+CacheLineParts = Asked CredParts SettingParts
+
+-- the principal of a word, where `-` stands for none
+abbrev pub principal_of : List ℕ → Option (List ℕ)
+principal_of word = if bytes_eq word (codes "-") then None else Some word
+
+-- two words, neither of them empty, and the rest of the line
+abbrev pub setting_of : List (List ℕ) → Option SettingParts
+setting_of [] = None
+setting_of (key ∷ []) = None
+setting_of (key ∷ principal ∷ []) = None
+setting_of (key ∷ principal ∷ value ∷ more) =
+    if (length key == 0) || (length principal == 0) then None
+    else Some (record { key = key; principal = principal_of principal; value = join_with_byte 32 (value ∷ more) })
+
+-- a principal is a name with its realm, or there is none
+abbrev pub checked : Option (List ℕ) → Result (Unit {0}) LineFault
+checked None = Ok tt
+checked (Some text) = made (λ name. tt) (name_word text)
+
+-- a setting once its principal is checked, which stays as it was written
+abbrev pub checked_setting : SettingParts → Result SettingParts LineFault
+checked_setting setting = made (λ done. setting) (checked setting.principal)
+
+-- the setting of the words after `config`
+abbrev pub setting_in : List (List ℕ) → Result SettingParts LineFault
+setting_in words = ok_or (setting_of words) WordCount >>= checked_setting
+
+-- what words ask for, or the first fault
+abbrev pub cache_line_of : List (List ℕ) → Result CacheLineParts LineFault
+cache_line_of [] = Err UnknownWord
+cache_line_of (word ∷ words) = if bytes_eq word (codes "config") then made asked.Setting (setting_in words) else made asked.Event (common_event word words)
+
+-- what a line asks for, or its first fault; words are separated by single spaces
+abbrev pub cache_line_in : List ℕ → Result CacheLineParts LineFault
+cache_line_in line = cache_line_of (pieces 32 line)
+
+-- what a script asks for in order, or its first faulty line with its first fault
+abbrev pub cache_script : List ℕ → Result (List CacheLineParts) ScriptFault
+cache_script text = script_by cache_line_in text

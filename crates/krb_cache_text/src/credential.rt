@@ -1,0 +1,193 @@
+//! The lines of a credential. Where an allocation failed, some of them may stand there.
+
+ghost use Rattle.std.specs.Prelude.{◌≡◌, ◌++◌, OnOk, option_copied};
+ghost use Rattle.krb_wire.specs.Text.{AppendedPart};
+ghost use Rattle.krb_ccache.specs.Config.{config_parts};
+ghost use Rattle.krb_cache_text.specs.Credential.{valid_from, instant, validity, ticket_line, renew_line, flags_line, etype_line, ticket_lines, about, config_line, credential_lines};
+
+use crate::columns::CcColumns;
+use crate::escape::append_escaped;
+use krb_ccache::{ConfigName, CredView, config_name};
+use krb_text::{LastTime, append, append_byte, etype_text, flag_letters};
+use krb_wire::{NoMemory, write_name};
+use std::alloc::Allocator;
+
+/// The last of each kind of time: among the tickets of a cache all end at the same time, as a rule.
+#[derive(Drop)]
+pub struct LastTimes {
+    start: LastTime,
+    end: LastTime,
+    renewal: LastTime,
+}
+
+impl LastTimes {
+    /// Before the first ticket.
+    pub fn new() -> LastTimes {
+        LastTimes {
+            start: LastTime::new(),
+            end: LastTime::new(),
+            renewal: LastTime::new(),
+        }
+    }
+}
+
+// When a ticket becomes valid: where that is not said, when the client was authenticated.
+fn valid_from(credential: &CredView<'_>) -> u32
+    ensures { result ≡ valid_from credential.now.times }
+{
+    match credential.starttime() {
+        0 => credential.authtime(),
+        starttime => starttime,
+    }
+}
+
+fn append_instant<A: Allocator>(
+    last: &mut LastTime,
+    seconds: u32,
+    out: &mut Vec<u8, A>,
+) -> Result<(), NoMemory>
+    ensures { OnOk result (out.new.items ≡ out.old.items ++ instant seconds) }
+{
+    last.append(seconds, out)?;
+    append_byte(b' ', out)
+}
+
+// From when to when a ticket is valid.
+fn append_validity<A: Allocator>(
+    last: &mut LastTimes,
+    credential: &CredView<'_>,
+    out: &mut Vec<u8, A>,
+) -> Result<(), NoMemory>
+    ensures { OnOk result (out.new.items ≡ out.old.items ++ validity credential.now.times) }
+{
+    append_instant(&mut last.start, valid_from(credential), out)?;
+    append_instant(&mut last.end, credential.endtime(), out)
+}
+
+// From when to when a ticket is valid, and what it is for.
+#[tactic(auto, unfolding(crate::specs::Credential::ticket_line))]
+fn append_ticket<A: Allocator>(
+    last: &mut LastTimes,
+    credential: &CredView<'_>,
+    out: &mut Vec<u8, A>,
+) -> Result<(), NoMemory>
+    ensures { OnOk result (out.new.items ≡ out.old.items ++ ticket_line credential.now) }
+{
+    append_validity(last, credential, out)?;
+    write_name(credential.server(), out)?;
+    append_byte(b'\n', out)
+}
+
+// Until when it can be renewed, if it can be.
+#[tactic(auto, unfolding(crate::specs::Credential::renew_line))]
+fn append_renewal<A: Allocator>(
+    last: &mut LastTime,
+    seconds: u32,
+    out: &mut Vec<u8, A>,
+) -> Result<(), NoMemory>
+    ensures { OnOk result (out.new.items ≡ out.old.items ++ renew_line seconds) }
+{
+    if seconds == 0 {
+        return Ok(());
+    }
+    append(b"    renew until ", out)?;
+    last.append(seconds, out)?;
+    append_byte(b'\n', out)
+}
+
+// Its flags, if they are shown.
+#[tactic(auto, unfolding(crate::specs::Credential::flags_line))]
+fn append_flags<A: Allocator>(
+    is_shown: bool,
+    flags: u32,
+    out: &mut Vec<u8, A>,
+) -> Result<(), NoMemory>
+    ensures { OnOk result (out.new.items ≡ out.old.items ++ flags_line is_shown flags) }
+{
+    if !is_shown {
+        return Ok(());
+    }
+    append(b"    Flags: ", out)?;
+    flag_letters(flags, out)?;
+    append_byte(b'\n', out)
+}
+
+// The encryption type of its key, if that is shown.
+#[tactic(auto, unfolding(crate::specs::Credential::etype_line))]
+fn append_etype<A: Allocator>(
+    is_shown: bool,
+    etype: u16,
+    out: &mut Vec<u8, A>,
+) -> Result<(), NoMemory>
+    ensures { OnOk result (out.new.items ≡ out.old.items ++ etype_line is_shown etype) }
+{
+    if !is_shown {
+        return Ok(());
+    }
+    append(b"    Etype: ", out)?;
+    etype_text(etype, out)?;
+    append_byte(b'\n', out)
+}
+
+fn append_ticket_lines<A: Allocator>(
+    columns: CcColumns,
+    last: &mut LastTimes,
+    credential: &CredView<'_>,
+    out: &mut Vec<u8, A>,
+) -> Result<(), NoMemory>
+    ensures { OnOk result (out.new.items ≡ out.old.items ++ ticket_lines columns credential.now) }
+{
+    append_ticket(last, credential, out)?;
+    append_renewal(&mut last.renewal, credential.renew_till(), out)?;
+    append_flags(columns.flags, credential.flags(), out)?;
+    append_etype(columns.etypes, credential.enctype(), out)
+}
+
+/// Appends the principal that a configuration entry is about, in parentheses, if there is one.
+pub fn append_about<A: Allocator>(
+    principal: Option<&[u8]>,
+    out: &mut Vec<u8, A>,
+) -> Result<(), NoMemory>
+    ensures { AppendedPart (about (option_copied principal.entry)) out.old out.new result }
+{
+    let Some(text) = principal else {
+        return Ok(());
+    };
+    append_byte(b'(', out)?;
+    append_escaped(text, out)?;
+    append_byte(b')', out)
+}
+
+#[tactic(auto, unfolding(crate::specs::Credential::config_line))]
+fn append_config<A: Allocator>(
+    name: ConfigName<'_>,
+    value: &[u8],
+    out: &mut Vec<u8, A>,
+) -> Result<(), NoMemory>
+    ensures { OnOk result
+        (out.new.items ≡ out.old.items ++ config_line (config_parts name.entry) value.now) }
+{
+    append(b"config: ", out)?;
+    append_escaped(name.key, out)?;
+    append_about(name.principal, out)?;
+    append(b" = ", out)?;
+    append_escaped(value, out)?;
+    append_byte(b'\n', out)
+}
+
+/// Appends the lines of a credential: those of a ticket, or that of a configuration entry, if those are shown.
+pub fn append_credential<A: Allocator>(
+    columns: CcColumns,
+    last: &mut LastTimes,
+    credential: &CredView<'_>,
+    out: &mut Vec<u8, A>,
+) -> Result<(), NoMemory>
+    ensures { OnOk result
+        (out.new.items ≡ out.old.items ++ credential_lines columns credential.now) }
+{
+    match config_name(credential) {
+        None => append_ticket_lines(columns, last, credential, out),
+        Some(name) if columns.configs => append_config(name, credential.ticket(), out),
+        Some(_) => Ok(()),
+    }
+}

@@ -1,0 +1,18 @@
+//! Credential caches as text.
+#![tactic(auto)]
+
+mod asked;
+mod columns;
+mod credential;
+mod escape;
+mod line;
+mod listing;
+mod record;
+mod setting;
+
+pub use asked::Asked;
+pub use columns::CcColumns;
+pub use line::CacheLine;
+pub use listing::list_cache;
+pub use record::CcFormat;
+pub use setting::OwnedSetting;

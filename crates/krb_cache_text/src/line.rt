@@ -1,0 +1,33 @@
+//! The lines that ask for events of a cache, and for its configuration values.
+
+ghost use Rattle.krb_text.specs.LineFault.{Reads};
+ghost use Rattle.krb_cache_text.specs.Script.{cache_line_in};
+
+use crate::asked::Asked;
+use crate::setting::{OwnedSetting, parse_setting};
+use krb_ccache::Cred;
+use krb_text::{LineFault, LineRefusal, ScriptLine, Words, common_event};
+use std::alloc::Allocator;
+
+/// What a line of a cache's script asks for.
+pub type CacheLine<A> = Asked<Cred<A>, OwnedSetting<A>>;
+
+// What a line asks for.
+fn parse_cache_line<A: Allocator + Copy>(alloc: A, line: &[u8]) -> Result<CacheLine<A>, LineRefusal>
+    ensures { Reads (λ asked. asked) (cache_line_in line.now) result }
+{
+    let mut words = Words::of(line);
+    let word = words.next().ok_or(LineFault::UnknownWord)?;
+    if word == b"config".as_slice() {
+        return Ok(Asked::Setting(parse_setting(alloc, words)?));
+    }
+    Ok(Asked::Event(common_event(word, words)?))
+}
+
+impl<A: Allocator + Copy> ScriptLine<A> for Asked<Cred<A>, OwnedSetting<A>> {
+    ghost line_in = { cache_line_in };
+
+    fn parse(alloc: A, line: &[u8]) -> Result<CacheLine<A>, LineRefusal> {
+        parse_cache_line(alloc, line)
+    }
+}

@@ -1,0 +1,135 @@
+//! The words of a configuration value.
+
+ghost use Rattle.std.specs.Prelude.{◌≡◌, IfOk, Some, option_copied};
+ghost use Rattle.krb_text.specs.LineFault.{Reads};
+ghost use Rattle.krb_cache_text.specs.Script.{principal_of, setting_of, checked, checked_setting, setting_in};
+
+use krb_ccache::Setting;
+use krb_text::{LineFault, LineRefusal, Words, name_word};
+use krb_wire::NoMemory;
+use std::alloc::Allocator;
+use std::marker::Model;
+
+/// A configuration value to be set, with memory of its own.
+#[derive(Drop)]
+pub struct OwnedSetting<A: Allocator> {
+    pub key: Vec<u8, A>,
+    pub principal: Option<Vec<u8, A>>,
+    pub value: Vec<u8, A>,
+}
+
+impl<A: Allocator> Model for OwnedSetting<A> {
+    ghost use Rattle.std.specs.Prelude.{option_map};
+    ghost use Rattle.krb_ccache.specs.SetConfig.{SettingParts};
+
+    ghost Value = { SettingParts };
+
+    ghost view = { λ s. record {
+      key = s.key.items;
+      principal = option_map (λ text. text.items) s.principal;
+      value = s.value.items;
+    } };
+}
+
+impl<A: Allocator> OwnedSetting<A> {
+    /// The same, as a cache takes it.
+    pub fn as_setting(&self) -> Setting<'_>
+        ensures { result ≡ self.now }
+    {
+        let principal = match &self.principal {
+            None => None,
+            Some(text) => Some(text.as_slice()),
+        };
+        Setting {
+            key: &self.key,
+            principal,
+            value: &self.value,
+        }
+    }
+}
+
+// The principal of a word, where `-` stands for none.
+fn principal_of(word: &[u8]) -> Option<&[u8]>
+    ensures { option_copied result ≡ principal_of word.now }
+{
+    if word == b"-".as_slice() {
+        None
+    } else {
+        Some(word)
+    }
+}
+
+// Two words, neither of them empty, and a rest.
+fn setting_of(mut words: Words<'_>) -> Option<Setting<'_>>
+    ensures { result ≡ setting_of words.entry }
+{
+    let key = words.next()?;
+    let principal = words.next()?;
+    let value = words.rest()?;
+    if key.is_empty() || principal.is_empty() {
+        return None;
+    }
+    Some(Setting {
+        key,
+        principal: principal_of(principal),
+        value,
+    })
+}
+
+// Refuses what is no name with its realm.
+fn check_name<A: Allocator + Copy>(alloc: A, text: &[u8]) -> Result<(), LineRefusal>
+    ensures { Reads (λ done. done) (checked (Some text.now)) result }
+{
+    let _name = name_word(alloc, text)?;
+    Ok(())
+}
+
+// Refuses a principal that is no name with its realm.
+fn check<A: Allocator + Copy>(alloc: A, principal: Option<&[u8]>) -> Result<(), LineRefusal>
+    ensures { Reads (λ done. done) (checked (option_copied principal.entry)) result }
+{
+    match principal {
+        None => Ok(()),
+        Some(text) => check_name(alloc, text),
+    }
+}
+
+fn copy_setting<A: Allocator + Copy>(
+    alloc: A,
+    setting: &Setting<'_>,
+) -> Result<OwnedSetting<A>, NoMemory>
+    ensures { IfOk result (λ copy. copy ≡ setting.now) }
+{
+    let key = Vec::from_slice(alloc, setting.key)?;
+    let principal = match setting.principal {
+        None => None,
+        Some(text) => Some(Vec::from_slice(alloc, text)?),
+    };
+    let value = Vec::from_slice(alloc, setting.value)?;
+    Ok(OwnedSetting {
+        key,
+        principal,
+        value,
+    })
+}
+
+// The same with memory of its own, if its principal is none or a name.
+fn owned_setting<A: Allocator + Copy>(
+    alloc: A,
+    setting: Setting<'_>,
+) -> Result<OwnedSetting<A>, LineRefusal>
+    ensures { Reads (λ s. s) (checked_setting setting.entry) result }
+{
+    check(alloc, setting.principal)?;
+    Ok(copy_setting(alloc, &setting)?)
+}
+
+/// The setting of the words after `config`.
+pub fn parse_setting<A: Allocator + Copy>(
+    alloc: A,
+    words: Words<'_>,
+) -> Result<OwnedSetting<A>, LineRefusal>
+    ensures { Reads (λ s. s) (setting_in words.entry) result }
+{
+    owned_setting(alloc, setting_of(words).ok_or(LineFault::WordCount)?)
+}

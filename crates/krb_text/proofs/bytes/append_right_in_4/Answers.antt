@@ -1,0 +1,26 @@
+use Rattle.std.proofs.Common.{List, ℕ, subst, arith}
+use Rattle.std.specs.Prelude.{decimal}
+use Rattle.std.proofs.lemmas.Fmt.{length-decimal-le}
+use Rattle.krb_wire.specs.Text.{Appended}
+use Rattle.krb_text.proofs.Aligned.{right_aligned}
+use Rattle.krb_text.proofs.bytes.append_right_in_4.Goals as goal
+
+pub write_digits-start-requires : goal.write_digits-start-requires
+write_digits-start-requires g c =
+    let fits = c.ranges.number in
+    (length-decimal-le 20 c.args.number (omega arith) (omega (arith, fits)) (omega (arith, fits)), omega arith)
+
+pub returns-then-start-lt16 : goal.returns-then-start-lt16
+returns-then-start-lt16 g c =
+    let said = c.write_digits-start.ensures in
+    let start = c.write_digits-start.result in
+    let text = right_aligned _ (decimal c.args.number) start start said.start said.written said.before (omega arith) in
+    let P : List ℕ → Type 0 = λ t. Appended t c.args.out.now c.append.new.out c.append.result in
+    subst P text c.append.ensures
+
+pub returns : goal.returns
+returns g c =
+    let said = c.write_digits-start.ensures in
+    let text = right_aligned _ (decimal c.args.number) c.write_digits-start.result 16 said.start said.written said.before (omega arith) in
+    let P : List ℕ → Type 0 = λ t. Appended t c.args.out.now c.append-2.new.out c.append-2.result in
+    subst P text c.append-2.ensures

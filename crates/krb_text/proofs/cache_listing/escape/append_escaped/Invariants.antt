@@ -1,7 +1,0 @@
-use Rattle.std.proofs.Common.{drop}
-use Rattle.krb_wire.proofs.TextLemmas.{Left}
-use Rattle.krb_text.specs.Escape.{escaped_text}
-use Rattle.krb_text.proofs.cache_listing.escape.append_escaped.Given as goal
-
-abbrev pub invariant-bytes : goal.invariant-bytes
-invariant-bytes g l = Left (escaped_text l.bytes) (escaped_text (drop l.byte-index l.bytes)) l.fn.out l.out
