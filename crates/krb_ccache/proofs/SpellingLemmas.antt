@@ -1,5 +1,5 @@
 -- What is written for a credential and for a configuration entry: whether it fits, and its parts.
-use Rattle.std.proofs.Common.{◌≡◌, ℕ, ◌+◌, ◌^◌, ◌<◌, ◌≤◌, true, List, [], ◌∷◌, ◌++◌, length, sym, ap, subst, ◌∙◌, append_assoc, length-append, arith, replicate, Option, Some, None, refl}
+use Rattle.std.proofs.Common.{◌≡◌, ℕ, ◌+◌, ◌-◌, ◌^◌, ◌<◌, ◌≤◌, true, List, [], ◌∷◌, ◌++◌, length, sym, ap, subst, ◌∙◌, append_assoc, length-append, arith, replicate, sum, Option, Some, None, IfSome, IfNone, refl}
 use Rattle.std.specs.List.{flat_map, AllByRecursion}
 use Rattle.std.specs.Int.{w16, w32}
 use Rattle.std.proofs.lemmas.List.Concat.{flat_map-cons}
@@ -8,9 +8,9 @@ use Rattle.krb_wire.specs.Spelling.{Parts, digits, data32, cc_principal, cc_name
 use Rattle.krb_wire.proofs.Fields.{wide16, wide32}
 use Rattle.krb_wire.proofs.NamesTold.{has_cc_len, and_both, long_lengths_of, long_lengths_fit}
 use Rattle.krb_ccache.specs.declared.version.Version.TheVariants.{V4}
-use Rattle.krb_ccache.specs.Credential.{TypedData, CredParts, number32, typed_data, typed_list, key, times, credential, FitsTypedData, FitsTypedList, FitsTimes, FitsCredential, plain_key, middle_text, lists_text}
+use Rattle.krb_ccache.specs.Credential.{TypedData, Key, CredParts, number32, typed_data, typed_list, key, times, credential, FitsTypedData, FitsTypedList, FitsTimes, FitsCredential, plain_key, middle_text, lists_text}
 use Rattle.krb_ccache.specs.declared.credential.times.Times.{Times}
-use Rattle.krb_ccache.specs.SetConfig.{text_component, config_components, config_server, config_entry, value_text}
+use Rattle.krb_ccache.specs.SetConfig.{SettingParts, text_component, config_components, config_server, config_entry, entry_of, value_text}
 
 -- ---- what fits
 
@@ -48,6 +48,81 @@ in_four c =
 pub four_is : (c d : CredParts) → d ≡ c → cc_principal d.client ++ (cc_principal d.server ++ (middle_text c ++ lists_text c)) ≡ credential V4 c
 four_is c d same = ap (λ (x : CredParts). cc_principal x.client ++ (cc_principal x.server ++ (middle_text c ++ lists_text c))) same ∙ in_four c
 
+-- ---- its length
+
+data_len : (bytes : List ℕ) → length (data32 Big bytes) ≡ 4 + length bytes
+data_len bytes = omega (arith, length-append (digits Big w32 (length bytes)) bytes, (wide32 Big).len (length bytes))
+
+list_len : (xs : List TypedData) → length (typed_list xs) ≡ 4 + length (flat_map typed_data xs)
+list_len xs = omega (arith, length-append (number32 (length xs)) (flat_map typed_data xs), (wide32 Big).len (length xs))
+
+key_len : (k : Key) → length (key V4 k) ≡ 6 + length k.bytes
+key_len k = omega (arith, length-append (digits Big w16 k.enctype) (data32 Big k.bytes), (wide16 Big).len k.enctype, data_len k.bytes)
+
+times_len : (t : Times) → length (times t) ≡ 16
+times_len t = refl
+
+middle_len : (c : CredParts) → length (middle_text c) ≡ 27 + length c.key.bytes
+middle_len c =
+    let flags : List ℕ = (c.is_skey ∷ []) ++ number32 c.flags in
+    omega (arith, length-append (key V4 c.key) (times c.times ++ flags), length-append (times c.times) flags, key_len c.key, times_len c.times, (wide32 Big).len c.flags)
+
+lists_len : (c : CredParts) → length (lists_text c) ≡ 16 + length (flat_map typed_data c.addresses) + length (flat_map typed_data c.authdata) + length c.ticket + length c.second_ticket
+lists_len c =
+    let tickets = data32 Big c.ticket ++ data32 Big c.second_ticket in
+    omega (arith, length-append (typed_list c.addresses) (typed_list c.authdata ++ tickets), length-append (typed_list c.authdata) tickets, length-append (data32 Big c.ticket) (data32 Big c.second_ticket), list_len c.addresses, list_len c.authdata, data_len c.ticket, data_len c.second_ticket)
+
+-- the lengths of its fields and of what is no item of a list
+abbrev pub lens_of : CredParts → List ℕ
+lens_of c = 43 ∷ length (cc_principal c.client) ∷ length (cc_principal c.server) ∷ length c.key.bytes ∷ length c.ticket ∷ length c.second_ticket ∷ []
+
+credential_len : (c : CredParts) → length (credential V4 c) ≡ sum (lens_of c) + length (flat_map typed_data c.addresses) + length (flat_map typed_data c.authdata)
+credential_len c =
+    let server = cc_principal c.server in
+    let rest = middle_text c ++ lists_text c in
+    omega (arith, ap length (in_four c), length-append (cc_principal c.client) (server ++ rest), length-append server rest, length-append (middle_text c) (lists_text c), middle_len c, lists_len c)
+
+-- ---- its length, told of the same credential, seen from inside
+
+-- a call that gives up has found it too long
+pub none_told : {r : Option ℕ} {P : Type 0} → r ≡ None → P → IfNone r P
+none_told {P = P} e p = subst (λ (o : Option ℕ). IfNone o P) (sym e) p
+
+pub client_too_long : (c d : CredParts) (most : ℕ) → d ≡ c → most ≤ 2 ^ 30 → 2 ^ 32 ≤ length (cc_principal d.client) → most < length (credential V4 c)
+client_too_long c d most same le long = omega (arith, le, long, ap (λ (x : CredParts). length (cc_principal x.client)) same, credential_len c)
+
+pub server_too_long : (c d : CredParts) (most : ℕ) → d ≡ c → most ≤ 2 ^ 30 → 2 ^ 32 ≤ length (cc_principal d.server) → most < length (credential V4 c)
+server_too_long c d most same le long = omega (arith, le, long, ap (λ (x : CredParts). length (cc_principal x.server)) same, credential_len c)
+
+-- the lengths that are told are its own
+pub lens_told : (c d : CredParts) (client server key ticket second : ℕ) → d ≡ c → client ≡ length (cc_principal d.client) → server ≡ length (cc_principal d.server) → key ≡ length d.key.bytes → ticket ≡ length d.ticket → second ≡ length d.second_ticket
+    → sum (43 ∷ client ∷ server ∷ key ∷ ticket ∷ second ∷ []) ≡ sum (lens_of d)
+lens_told c d client server key ticket second same is_client is_server is_key is_ticket is_second = rw (is_client, is_server, is_key, is_ticket, is_second) refl
+
+pub lens_too_long : (c d : CredParts) (most len : ℕ) → d ≡ c → len ≡ sum (lens_of d) → most < len → most < length (credential V4 c)
+lens_too_long c d most len same is long = omega (arith, long, is, ap (λ (x : CredParts). sum (lens_of x)) same, credential_len c)
+
+-- what stands outside its lists fits, and leaves room for them
+pub record LensTold (c d : CredParts) (most len : ℕ) : Type 0 where
+  pub same : d ≡ c
+  pub lens : len ≡ sum (lens_of d)
+  pub within : len ≤ most
+
+told_len : (c d : CredParts) (most len : ℕ) → LensTold c d most len → length (credential V4 c) ≡ len + length (flat_map typed_data d.addresses) + length (flat_map typed_data d.authdata)
+told_len c d most len t = sym (ap (λ (x : CredParts). length (credential V4 x)) t.same) ∙ credential_len d ∙ ap (λ (n : ℕ). n + length (flat_map typed_data d.addresses) + length (flat_map typed_data d.authdata)) (sym t.lens)
+
+pub addresses_too_long : (c d : CredParts) (most len : ℕ) (xs : List TypedData) → LensTold c d most len → xs ≡ d.addresses → most - len < length (flat_map typed_data xs) → most < length (credential V4 c)
+addresses_too_long c d most len xs t is long = omega (arith, long, t.within, ap (λ (x : List TypedData). length (flat_map typed_data x)) is, told_len c d most len t)
+
+pub authdata_too_long : (c d : CredParts) (most len room : ℕ) (xs ys : List TypedData) → LensTold c d most len → xs ≡ d.addresses → ys ≡ d.authdata → room + length (flat_map typed_data xs) ≡ most - len → room < length (flat_map typed_data ys) → most < length (credential V4 c)
+authdata_too_long c d most len room xs ys t is_xs is_ys left long =
+    omega (arith, left, long, t.within, ap (λ (x : List TypedData). length (flat_map typed_data x)) is_xs, ap (λ (x : List TypedData). length (flat_map typed_data x)) is_ys, told_len c d most len t)
+
+-- all of it fits
+pub room_told : (c d : CredParts) (most len room left : ℕ) (xs ys : List TypedData) → LensTold c d most len → xs ≡ d.addresses → ys ≡ d.authdata → room + length (flat_map typed_data xs) ≡ most - len → left + length (flat_map typed_data ys) ≡ room → most - left ≡ length (credential V4 c)
+room_told c d most len room left xs ys t is_xs is_ys first second =
+    omega (arith, first, second, t.within, ap (λ (x : List TypedData). length (flat_map typed_data x)) is_xs, ap (λ (x : List TypedData). length (flat_map typed_data x)) is_ys, told_len c d most len t)
+
 -- ---- what was written is told of the same credential, seen from inside
 
 pub middle_is : (c d : CredParts) (bytes : List ℕ) (t : Times) → d ≡ c → bytes ≡ d.key.bytes → t ≡ c.times → key V4 (plain_key d.key.enctype bytes) ++ (times t ++ ((d.is_skey ∷ []) ++ number32 d.flags)) ≡ middle_text c
@@ -72,6 +147,25 @@ pub record PartsFit (d : CredParts) : Type 0 where
   pub authdata : length (flat_map typed_data d.authdata) < 2 ^ 32
   pub ticket : IsLong d.ticket
   pub second_ticket : IsLong d.second_ticket
+
+-- so they do where it is told how long they are
+pub told_parts : (c d : CredParts) (most len room left : ℕ) (xs ys : List TypedData) → LensTold c d most len → most ≤ 2 ^ 30 → xs ≡ d.addresses → ys ≡ d.authdata → room + length (flat_map typed_data xs) ≡ most - len → left + length (flat_map typed_data ys) ≡ room
+    → true ≡ has_cc_len d.client → true ≡ has_cc_len d.server → d.key.second_enctype ≡ 0 → AllByRecursion FitsTypedData xs → AllByRecursion FitsTypedData ys → PartsFit d
+told_parts c d most len room left xs ys t small is_xs is_ys first second client server one_enctype address element =
+    let within = t.within in
+    let lens = t.lens in
+    record {
+      client = client;
+      server = server;
+      one_enctype = one_enctype;
+      key = omega (arith, small, within, lens);
+      address = subst (AllByRecursion FitsTypedData) is_xs address;
+      addresses = omega (arith, small, first, ap (λ (x : List TypedData). length (flat_map typed_data x)) is_xs);
+      element = subst (AllByRecursion FitsTypedData) is_ys element;
+      authdata = omega (arith, small, first, second, ap (λ (x : List TypedData). length (flat_map typed_data x)) is_ys);
+      ticket = omega (arith, small, within, lens);
+      second_ticket = omega (arith, small, within, lens);
+    }
 
 pub fits_by : (c d : CredParts) → d ≡ c → PartsFit d → c.client.name_type < 2 ^ 32 → c.server.name_type < 2 ^ 32 → c.key.enctype < 2 ^ 16 → c.is_skey < 256 → c.flags < 2 ^ 32 → FitsTimes c.times → FitsCredential V4 c
 fits_by c d same parts client server enctype is_skey flags times =
@@ -106,11 +200,6 @@ entry_parts owner key text value =
     ∙ ap (λ (b : List ℕ). cc_principal owner ++ (cc_principal (config_server key text) ++ (middle_text c ++ b))) (values_are owner key text value)
     ∙ in_four c
 
--- ---- its length
-
-data_len : (bytes : List ℕ) → length (data32 Big bytes) ≡ 4 + length bytes
-data_len bytes = omega (arith, length-append (digits Big w32 (length bytes)) bytes, (wide32 Big).len (length bytes))
-
 -- ---- whether it fits
 
 text_long : (text : Option (List ℕ)) → length (flat_map (data32 Big) (text_component text)) < 2 ^ 32 → AllByRecursion IsLong (text_component text)
@@ -121,7 +210,7 @@ few_components : (key : List ℕ) (text : Option (List ℕ)) → length (config_
 few_components key None = omega arith
 few_components key (Some t) = omega arith
 
-pub entry_fits : (owner : Parts) (key : List ℕ) (text : Option (List ℕ)) (value : List ℕ) → true ≡ has_cc_len owner → owner.name_type < 2 ^ 32 → IsLong key → length (flat_map (data32 Big) (text_component text)) < 2 ^ 32 → IsLong value
+entry_fits : (owner : Parts) (key : List ℕ) (text : Option (List ℕ)) (value : List ℕ) → true ≡ has_cc_len owner → owner.name_type < 2 ^ 32 → IsLong key → length (flat_map (data32 Big) (text_component text)) < 2 ^ 32 → IsLong value
     → FitsCredential V4 (config_entry owner key text value)
 entry_fits owner key text value told name_type key_long text_len value_long = record {
   client = told_fits owner told name_type;
@@ -135,3 +224,49 @@ entry_fits owner key text value told name_type key_long text_len value_long = re
   ticket = value_long;
   second_ticket = omega arith;
 }
+
+-- ---- its length, and whether it fits
+
+server_len : (key : List ℕ) (text : Option (List ℕ)) → length (cc_principal (config_server key text)) ≡ 53 + length key + length (flat_map (data32 Big) (text_component text))
+server_len key text = omega (arith, length-append key (flat_map (data32 Big) (text_component text)))
+
+entry_len : (owner : Parts) (key : List ℕ) (text : Option (List ℕ)) (value : List ℕ) → length (credential V4 (config_entry owner key text value)) ≡ 96 + length (cc_principal owner) + length key + length (flat_map (data32 Big) (text_component text)) + length value
+entry_len owner key text value = omega (arith, credential_len (config_entry owner key text value), server_len key text)
+
+-- the lengths that are told of a setting, seen from inside, and the owner's; their sum is that of its entry
+pub record EntryTold (owner : Parts) (s d : SettingParts) (a b e n : ℕ) : Type 0 where
+  pub same : d ≡ s
+  pub name : a ≡ length (cc_principal owner)
+  pub key : b ≡ length d.key
+  pub text : e ≡ length (flat_map (data32 Big) (text_component d.principal))
+  pub value : n ≡ length d.value
+
+entry_told : (owner : Parts) (s d : SettingParts) (name key text value : ℕ) → EntryTold owner s d name key text value → sum (96 ∷ name ∷ key ∷ text ∷ value ∷ []) ≡ length (credential V4 (entry_of owner s))
+entry_told owner s d name key text value t =
+    let names = t.name in
+    let keys = t.key in
+    let texts = t.text in
+    let values = t.value in
+    let sums : sum (96 ∷ name ∷ key ∷ text ∷ value ∷ []) ≡ length (credential V4 (entry_of owner d)) = omega (arith, names, keys, texts, values, entry_len owner d.key d.principal d.value) in
+    sums ∙ ap (λ (x : SettingParts). length (credential V4 (entry_of owner x))) t.same
+
+pub owner_too_long : (owner : Parts) (s : SettingParts) (most : ℕ) → most ≤ 2 ^ 30 → 2 ^ 32 ≤ length (cc_principal owner) → most < length (credential V4 (entry_of owner s))
+owner_too_long owner s most small long = omega (arith, small, long, entry_len owner s.key s.principal s.value)
+
+pub sum_told : (r : Option ℕ) (owner : Parts) (s d : SettingParts) (name key text value : ℕ) → EntryTold owner s d name key text value → IfSome r (λ n. n ≡ sum (96 ∷ name ∷ key ∷ text ∷ value ∷ [])) → IfSome r (λ n. n ≡ length (credential V4 (entry_of owner s)))
+sum_told (Some n) owner s d name key text value t is = is ∙ entry_told owner s d name key text value t
+sum_told None owner s d name key text value t is = tt
+
+pub none_summed : (r : Option ℕ) (owner : Parts) (s d : SettingParts) (most name key text value : ℕ) → EntryTold owner s d name key text value → IfNone r (most < sum (96 ∷ name ∷ key ∷ text ∷ value ∷ [])) → IfNone r (most < length (credential V4 (entry_of owner s)))
+none_summed (Some n) owner s d most name key text value t long = tt
+none_summed None owner s d most name key text value t long = subst (λ (n : ℕ). most < n) (entry_told owner s d name key text value t) long
+
+pub sum_fits : (r : Option ℕ) (owner : Parts) (s d : SettingParts) (most name key text value : ℕ) → EntryTold owner s d name key text value → most ≤ 2 ^ 30 → true ≡ has_cc_len owner → owner.name_type < 2 ^ 32 → IfSome r (λ n. n ≡ sum (96 ∷ name ∷ key ∷ text ∷ value ∷ [])) → IfSome r (λ n. n ≤ most)
+    → IfSome r (λ n. FitsCredential V4 (entry_of owner s))
+sum_fits None owner s d most name key text value t small told name_type is within = tt
+sum_fits (Some n) owner s d most name key text value t small told name_type is within =
+    let keys = t.key in
+    let texts = t.text in
+    let values = t.value in
+    subst (λ (x : SettingParts). FitsCredential V4 (entry_of owner x)) t.same
+    (entry_fits owner d.key d.principal d.value told name_type (omega (arith, small, is, within, keys)) (omega (arith, small, is, within, texts)) (omega (arith, small, is, within, values)))

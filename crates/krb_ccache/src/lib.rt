@@ -10,6 +10,7 @@ mod credential;
 mod credentials;
 mod edit;
 mod laws;
+mod lengths;
 mod mark;
 mod new_image;
 mod offset;

@@ -10,6 +10,7 @@ ghost use Rattle.krb_ccache.specs.Credential.{credential, FitsCredential};
 ghost use Rattle.krb_ccache.specs.SetConfig.{text_component, config_components, config_server, entry_of, value_text};
 
 use crate::config::{FIRST, REALM};
+use crate::lengths::sum_within;
 use krb_wire::{Name, Order, Pen, cc_principal_len};
 use std::marker::Model;
 
@@ -79,12 +80,15 @@ impl<'a> Setting<'a> {
         ensures none { IfNone result (most < length (credential V4 (entry_of (N.parts owner.now) self.now))) }
     {
         let _name_type = owner.name_type();
-        let room = most.checked_sub(FIXED_LEN)?;
-        let room = room.checked_sub(cc_principal_len(owner)? as usize)?;
-        let room = room.checked_sub(self.key.len())?;
-        let room = room.checked_sub(text_len(self.principal))?;
-        let room = room.checked_sub(self.value.len())?;
-        Some(most - room)
+        let owner_len = cc_principal_len(owner)?;
+        let lens = [
+            FIXED_LEN,
+            owner_len as usize,
+            self.key.len(),
+            text_len(self.principal),
+            self.value.len(),
+        ];
+        sum_within(&lens, most)
     }
 
     // How many components the server has.

@@ -9,8 +9,12 @@ ghost use Rattle.krb_ccache.specs.Credential.{typed_data, typed_list, key, times
 
 use crate::credential::Cred;
 use crate::credential::times::Times;
+use crate::lengths::sum_within;
 use krb_wire::{Order, Pen, cc_principal_len};
 use std::alloc::Allocator;
+
+// What a credential takes beside its names, the bytes of its key and tickets, and the items of its lists.
+const FIXED_LEN: usize = 43;
 
 // How much room items leave, if they fit it.
 fn room_after<A: Allocator>(room: usize, items: &[(u16, Vec<u8, A>)]) -> Option<usize>
@@ -22,8 +26,7 @@ fn room_after<A: Allocator>(room: usize, items: &[(u16, Vec<u8, A>)]) -> Option<
     let mut room = room;
     for (kind, bytes) in items {
         let _kind = *kind;
-        room = room.checked_sub(6)?;
-        room = room.checked_sub(bytes.len())?;
+        room = room.checked_sub(6 + bytes.len())?;
     }
     Some(room)
 }
@@ -121,14 +124,19 @@ impl<A: Allocator> Cred<A> {
         ensures none { IfNone result (most < length (credential V4 self.now)) }
     {
         self.numbers_fit();
-        let room = most.checked_sub(43)?;
-        let room = room.checked_sub(cc_principal_len(&self.client)? as usize)?;
-        let room = room.checked_sub(cc_principal_len(&self.server)? as usize)?;
-        let room = room.checked_sub(self.key.len())?;
-        let room = room_after(room, &self.addresses)?;
+        let client = cc_principal_len(&self.client)?;
+        let server = cc_principal_len(&self.server)?;
+        let lens = [
+            FIXED_LEN,
+            client as usize,
+            server as usize,
+            self.key.len(),
+            self.ticket.len(),
+            self.second_ticket.len(),
+        ];
+        let len = sum_within(&lens, most)?;
+        let room = room_after(most - len, &self.addresses)?;
         let room = room_after(room, &self.authdata)?;
-        let room = room.checked_sub(self.ticket.len())?;
-        let room = room.checked_sub(self.second_ticket.len())?;
         Some(most - room)
     }
 
