@@ -54,11 +54,11 @@ header_front V4 bytes x rest fits e =
     let P : List Field × List ℕ → Type 0 = λ y. header_at V4 (header V4 y.0 ++ rest) ≡ Some (y.0, rest) in
     subst P (some_is (b.0, a.0.1) x b.2) (subst (λ (text : List ℕ). header_at V4 (data16 Big text ++ rest) ≡ Some (b.0, rest)) same (header_by a.0.0 b.0 rest t.1 b.1))
 
-pub cell_by : (bytes : List ℕ) (o : Option (CredParts × List ℕ)) (c : CredParts) (rest : List ℕ) → next_by bytes o ≡ More c rest → o ≡ Some (c, rest)
+pub cell_by : {A : Type 0} (bytes : List ℕ) (o : Option (A × List ℕ)) (c : A) (rest : List ℕ) → next_by bytes o ≡ More c rest → o ≡ Some (c, rest)
 cell_by bytes (Some x) c rest e =
     let first : x.0 ≡ c = cc in
     let left : x.1 ≡ rest = cc in
-    ap (λ (y : CredParts). Some (y, x.1)) first ∙ ap (λ (r : List ℕ). Some (c, r)) left
+    ap (λ y. Some (y, x.1)) first ∙ ap (λ (r : List ℕ). Some (c, r)) left
 cell_by bytes None c rest e = absurd cc
 
 -- what is read where it is spelled fits

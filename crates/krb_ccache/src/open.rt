@@ -97,7 +97,7 @@ impl<A: Allocator> From<CcOpenRefused<A>> for CcOpenFault {
 }
 
 /// Where the default principal and the first credential of an image stand, and where the credentials end.
-#[derive(Clone, Copy, Debug, PartialEq, Eq)]
+#[derive(Clone, Copy)]
 pub struct Places {
     pub principal: usize,
     pub first: usize,
@@ -105,7 +105,7 @@ pub struct Places {
 }
 
 /// The version and the limit of an image, and where its parts stand.
-#[derive(Clone, Copy, Debug, PartialEq, Eq)]
+#[derive(Clone, Copy)]
 pub struct Layout {
     pub version: Version,
     pub limit: u32,
