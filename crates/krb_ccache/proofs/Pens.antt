@@ -1,4 +1,4 @@
--- Room for the parts of a text that a pen writes one after the other, and what is then written.
+-- Room for the parts of a text that a pen writes one after the other.
 use Rattle.std.proofs.Common.{◌≡◌, ℕ, ◌+◌, List, ◌++◌, length, ap, length-append, arith}
 use Rattle.std.specs.Borrow.{MutBor}
 use Rattle.krb_wire.specs.declared.pen.Pen.{Pen}

@@ -72,6 +72,11 @@ lists_len c =
     let tickets = data32 Big c.ticket ++ data32 Big c.second_ticket in
     omega (arith, length-append (typed_list c.addresses) (typed_list c.authdata ++ tickets), length-append (typed_list c.authdata) tickets, length-append (data32 Big c.ticket) (data32 Big c.second_ticket), list_len c.addresses, list_len c.authdata, data_len c.ticket, data_len c.second_ticket)
 
+-- what an item and those after it take
+pub items_len : (xs : List TypedData) (x : TypedData) (others : List TypedData) → xs ≡ x ∷ others → length (flat_map typed_data xs) ≡ 6 + length x.bytes + length (flat_map typed_data others)
+items_len xs x others is =
+    omega (arith, ap (λ (ys : List TypedData). length (flat_map typed_data ys)) is, length-append (typed_data x) (flat_map typed_data others), length-append (digits Big w16 x.kind) (data32 Big x.bytes), (wide16 Big).len x.kind, data_len x.bytes)
+
 -- the lengths of its fields and of what is no item of a list
 abbrev pub lens_of : CredParts → List ℕ
 lens_of c = 43 ∷ length (cc_principal c.client) ∷ length (cc_principal c.server) ∷ length c.key.bytes ∷ length c.ticket ∷ length c.second_ticket ∷ []

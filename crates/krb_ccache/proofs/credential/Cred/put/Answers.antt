@@ -1,16 +1,56 @@
-use Rattle.std.proofs.Common.{ap, subst, ◌∙◌}
+use Rattle.std.proofs.Common.{◌++◌, refl, sym, ap, subst, ◌∙◌}
 use Rattle.krb_wire.specs.Pen.{Puts}
-use Rattle.krb_wire.specs.Spelling.{cc_name_fits}
+use Rattle.krb_wire.specs.Reading.{principal_parts}
+use Rattle.krb_wire.specs.Spelling.{cc_name_fits, cc_principal}
 use Rattle.krb_wire.proofs.PenLemmas.{puts_then}
-use Rattle.krb_ccache.specs.Credential.{CredParts}
+use Rattle.krb_ccache.specs.declared.version.Version.TheVariants.{V4}
+use Rattle.krb_ccache.specs.Credential.{CredParts, credential, middle_text, lists_text}
+use Rattle.krb_ccache.proofs.Pens.{first_room, rest_room}
 use Rattle.krb_ccache.proofs.SpellingLemmas.{four_is, fits_told}
 use Rattle.krb_ccache.proofs.credential.Cred.put.Goals as goal
 
 pub put_cc_principal-requires-clause-spelled : goal.put_cc_principal-requires-clause-spelled
 put_cc_principal-requires-clause-spelled g c = ap (λ (x : CredParts). cc_name_fits x.client) c.self.view_is ∙ fits_told c.args.self.now.client c.requires.fits.client
 
+pub put_cc_principal-requires-clause-room : goal.put_cc_principal-requires-clause-room
+put_cc_principal-requires-clause-room g c =
+    let x = c.args.self.now in
+    let rest = middle_text x ++ lists_text x in
+    let client = cc_principal (principal_parts c.self.inside.client) in
+    let server = cc_principal (principal_parts c.self.inside.server) in
+    first_room c.args.pen.now (credential V4 x) client (server ++ rest) (sym (four_is x _ c.self.view_is)) c.requires.room
+
 pub put_cc_principal-requires-2-clause-spelled : goal.put_cc_principal-requires-2-clause-spelled
 put_cc_principal-requires-2-clause-spelled g c = ap (λ (x : CredParts). cc_name_fits x.server) c.self.view_is ∙ fits_told c.args.self.now.server c.requires.fits.server
+
+pub put_cc_principal-requires-2-clause-room : goal.put_cc_principal-requires-2-clause-room
+put_cc_principal-requires-2-clause-room g c =
+    let x = c.args.self.now in
+    let rest = middle_text x ++ lists_text x in
+    let client = cc_principal (principal_parts c.self.inside.client) in
+    let server = cc_principal (principal_parts c.self.inside.server) in
+    let one = rest_room c.args.pen.now c.put_cc_principal.new.self (credential V4 x) client (server ++ rest) (sym (four_is x _ c.self.view_is)) c.requires.room c.put_cc_principal.ensures in
+    first_room c.put_cc_principal.new.self (server ++ rest) server rest refl one
+
+pub put_middle-requires-clause-room : goal.put_middle-requires-clause-room
+put_middle-requires-clause-room g c =
+    let x = c.args.self.now in
+    let rest = middle_text x ++ lists_text x in
+    let client = cc_principal (principal_parts c.self.inside.client) in
+    let server = cc_principal (principal_parts c.self.inside.server) in
+    let one = rest_room c.args.pen.now c.put_cc_principal.new.self (credential V4 x) client (server ++ rest) (sym (four_is x _ c.self.view_is)) c.requires.room c.put_cc_principal.ensures in
+    let two = rest_room c.put_cc_principal.new.self c.put_cc_principal-2.new.self (server ++ rest) server rest refl one c.put_cc_principal-2.ensures in
+    first_room c.put_cc_principal-2.new.self rest (middle_text x) (lists_text x) refl two
+
+pub put_lists-requires-clause-room : goal.put_lists-requires-clause-room
+put_lists-requires-clause-room g c =
+    let x = c.args.self.now in
+    let rest = middle_text x ++ lists_text x in
+    let client = cc_principal (principal_parts c.self.inside.client) in
+    let server = cc_principal (principal_parts c.self.inside.server) in
+    let one = rest_room c.args.pen.now c.put_cc_principal.new.self (credential V4 x) client (server ++ rest) (sym (four_is x _ c.self.view_is)) c.requires.room c.put_cc_principal.ensures in
+    let two = rest_room c.put_cc_principal.new.self c.put_cc_principal-2.new.self (server ++ rest) server rest refl one c.put_cc_principal-2.ensures in
+    rest_room c.put_cc_principal-2.new.self c.put_middle.new.pen rest (middle_text x) (lists_text x) refl two c.put_middle.ensures
 
 pub returns : goal.returns
 returns g c =

@@ -1,7 +1,7 @@
-use Rattle.std.proofs.Common.{◌≡◌, List, ℕ, ◌++◌, length, refl, sym, ap, subst, ◌∙◌}
+use Rattle.std.proofs.Common.{◌++◌, refl, sym, ap, subst, ◌∙◌}
 use Rattle.krb_wire.specs.declared.format.Order.TheVariants.{Big}
 use Rattle.krb_wire.specs.Spelling.{data32, IsLong}
-use Rattle.krb_wire.specs.Pen.{HasRoom, Puts}
+use Rattle.krb_wire.specs.Pen.{Puts}
 use Rattle.krb_wire.proofs.PenLemmas.{puts_then}
 use Rattle.krb_ccache.specs.Credential.{CredParts, FitsTypedList, typed_list, lists_text, owned_list}
 use Rattle.krb_ccache.proofs.Pens.{first_room, rest_room}

@@ -1,5 +1,20 @@
+use Rattle.std.proofs.Common.{refl}
+use Rattle.std.specs.Int.{w16}
+use Rattle.krb_wire.specs.declared.format.Order.TheVariants.{Big}
+use Rattle.krb_wire.specs.Spelling.{digits, data32}
 use Rattle.krb_wire.proofs.PenLemmas.{puts_then}
+use Rattle.krb_ccache.specs.declared.version.Version.TheVariants.{V4}
+use Rattle.krb_ccache.specs.Credential.{key, plain_key}
+use Rattle.krb_ccache.proofs.Pens.{first_room, rest_room}
 use Rattle.krb_ccache.proofs.credential.spelling.put_key.Goals as goal
+
+pub put_u16-requires : goal.put_u16-requires
+put_u16-requires c =
+    first_room c.args.pen.now (key V4 (plain_key c.args.enctype c.args.bytes.now)) (digits Big w16 c.args.enctype) (data32 Big c.args.bytes.now) refl c.requires.room
+
+pub put_data32-requires-clause-room : goal.put_data32-requires-clause-room
+put_data32-requires-clause-room c =
+    rest_room c.args.pen.now c.put_u16.new.self (key V4 (plain_key c.args.enctype c.args.bytes.now)) (digits Big w16 c.args.enctype) (data32 Big c.args.bytes.now) refl c.requires.room c.put_u16.ensures
 
 pub returns : goal.returns
 returns c = puts_then c.put_u16.ensures c.put_data32.ensures
