@@ -1,7 +1,7 @@
 //! The time offset of a KDC.
 
 /// How far the clock of the KDC is ahead: the seconds, and then the microseconds.
-#[derive(Clone, Copy, PartialEq, Eq)]
+#[derive(Clone, Copy, Debug, PartialEq, Eq)]
 pub struct Offset {
     pub seconds: i32,
     pub micros: i32,

@@ -15,7 +15,7 @@ use krb_wire::{KtFormat, split_u32, tail};
 use std::marker::Model;
 
 /// A cell: the bytes of a record, or of a hole, after their length.
-#[derive(Clone, Copy)]
+#[derive(Clone, Copy, Debug)]
 pub enum KtCell<'a> {
     Live(&'a [u8]),
     Free(&'a [u8]),
@@ -136,7 +136,7 @@ impl<'a> CellViews<'a> {
 }
 
 /// A free cell: its place, and how many bytes it has after its length.
-#[derive(Clone, Copy)]
+#[derive(Clone, Copy, Debug, PartialEq, Eq)]
 pub struct Hole {
     pub place: usize,
     pub size: usize,

@@ -4,7 +4,7 @@ ghost use Rattle.std.specs.Prelude.{◌≡◌, ◌<◌, ◌^◌, ◌-◌};
 ghost use Rattle.krb_keytab.specs.Length.{length_of, field_of, size_of, HasField};
 
 /// What a length says (MIT krb5, "Keytab file format").
-#[derive(Clone, Copy)]
+#[derive(Clone, Copy, Debug, PartialEq, Eq)]
 pub enum Length {
     /// No cell begins here.
     End,

@@ -6,7 +6,7 @@ ghost use Rattle.krb_ccache.specs.Credential.{times_at};
 use krb_wire::{Order, split_u32};
 
 /// The four times of a credential, in seconds since 1970-01-01T00:00:00Z; 0 where there is none.
-#[derive(Clone, Copy)]
+#[derive(Clone, Copy, Debug, PartialEq, Eq)]
 pub struct Times {
     pub authtime: u32,
     pub starttime: u32,
