@@ -1,10 +1,9 @@
 //! Caches made and changed as MIT's library did, which come out the same byte for byte. The bytes are those of
 //! files that libkrb5 1.20.1 wrote.
 
-use super::changes::created;
-use super::{CONFIG_SERVER, KEY, OWNER, REMOVED, TICKET, TIMES, joined, opened};
+use super::{CACHE, KEY, OWNER, REMOVED, TICKET, TIMES, is, is_spelled, joined, opened, ticket_of};
 use krb_ccache::{Ccache, Cred};
-use krb_wire::{Principal, parse_name};
+use krb_wire::{Limits, Principal, parse_name};
 use std::alloc::Global;
 use std::test::Fail;
 
@@ -31,33 +30,19 @@ fn name(alloc: Global, text: &[u8]) -> Result<Principal<Global>, Fail> {
     }
 }
 
-fn ticket_for(alloc: Global, server: &[u8]) -> Result<Cred<Global>, Fail> {
-    Ok(Cred {
-        client: name(alloc, b"u@R")?,
-        server: name(alloc, server)?,
-        enctype: 17,
-        key: Vec::from_slice(
-            alloc,
-            &[0, 1, 2, 3, 4, 5, 6, 7, 8, 9, 10, 11, 12, 13, 14, 15],
-        )?,
-        authtime: 1_700_000_000,
-        starttime: 0,
-        endtime: 1_700_036_000,
-        renew_till: 0,
-        is_skey: 0,
-        flags: 0x40e0_0000,
-        addresses: Vec::new(alloc),
-        authdata: Vec::new(alloc),
-        ticket: Vec::from_slice(alloc, b"tkt")?,
-        second_ticket: Vec::new(alloc),
-    })
-}
-
 fn empty(alloc: Global) -> Result<Ccache<Global>, Fail> {
-    match created(alloc, alloc, None)? {
+    match Ccache::create(alloc, &name(alloc, b"u@R")?, None, Limits::usual()) {
         Ok(cache) => Ok(cache),
         Err(_) => Err(Fail::from("no cache")),
     }
+}
+
+// The ticket of `CACHE`, for that server.
+fn ticket_for(alloc: Global, server: &[u8]) -> Result<Cred<Global>, Fail> {
+    let cache = opened(joined(alloc, CACHE)?)?;
+    let mut ticket = ticket_of(alloc, &cache).ok_or("no ticket")?;
+    ticket.server = name(alloc, server)?;
+    Ok(ticket)
 }
 
 // Whether a ticket for that server is stored at that place.
@@ -78,30 +63,20 @@ fn is_removed(cache: &mut Ccache<Global>, place: u32) -> bool {
 fn tickets_are_stored_and_removed(rt: HostRuntime) -> Result<(), Fail> {
     let mut cache = empty(rt.alloc())?;
     for (server, place) in [(b"a@R", 22), (b"b@R", 120), (b"c@R", 218)] {
-        assert!(rt; is_stored(rt.alloc(), &mut cache, server, place)?);
+        is(
+            is_stored(rt.alloc(), &mut cache, server, place)?,
+            "no ticket stored",
+        )?;
     }
-    assert!(rt; cache.image() == joined(rt.alloc(), &tickets(TIMES))?.as_slice());
-    assert!(rt; is_removed(&mut cache, 120));
-    assert!(rt; cache.image() == joined(rt.alloc(), &tickets(REMOVED))?.as_slice());
-    Ok(())
-}
-
-// What stands behind the times of a configuration entry with the value 2.
-const VALUE: &[u8] = b"\0\0\0\0\0\0\0\0\0\0\0\0\0\0\0\0\x012\0\0\0\0";
-
-// MIT's library writes the realm X-RMED-CONF: too.
-#[test]
-fn a_removed_configuration_entry_keeps_its_realm(rt: HostRuntime) -> Result<(), Fail> {
-    let entry = [FRONT, OWNER, OWNER, CONFIG_SERVER, b"\0\0\0\0\0\0"];
-    let zeros = [0_u8; 16];
-    let mut before = joined(rt.alloc(), &entry)?;
-    before.extend_from_slice(&joined(rt.alloc(), &[&zeros, VALUE])?)?;
-    let mut after = joined(rt.alloc(), &entry)?;
-    after.extend_from_slice(&joined(rt.alloc(), &[REMOVED, VALUE])?)?;
-    let mut cache = opened(before)?;
-    assert!(rt; is_removed(&mut cache, 22));
-    assert!(rt; cache.image() == after.as_slice());
-    Ok(())
+    is(
+        is_spelled(rt.alloc(), cache.image(), &tickets(TIMES))?,
+        "other tickets",
+    )?;
+    is(is_removed(&mut cache, 120), "no ticket removed")?;
+    is(
+        is_spelled(rt.alloc(), cache.image(), &tickets(REMOVED))?,
+        "another mark",
+    )
 }
 
 // A value that is set, with the place of its entry; the count of its server's components, those after the first, and
@@ -194,9 +169,8 @@ fn configuration_values_are_set(rt: HostRuntime) -> Result<(), Fail> {
     let mut cache = empty(rt.alloc())?;
     let mut image = joined(rt.alloc(), &[FRONT, OWNER])?;
     for set in &SETS {
-        assert!(rt; is_set(&mut cache, set));
+        is(is_set(&mut cache, set), "no value set")?;
         image.extend_from_slice(&entry_of(rt.alloc(), set)?)?;
-        assert!(rt; cache.image() == image.as_slice());
     }
-    Ok(())
+    is(cache.image() == image.as_slice(), "other values")
 }

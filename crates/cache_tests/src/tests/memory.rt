@@ -1,0 +1,263 @@
+//! Each request for memory refused in turn: the cache is as it was, until the call is granted all that it asks for.
+
+use super::{
+    CACHE, CONFIG, HEADER, KEY, KRBTGT, NO_TIMES, OWNER, REMOVED, TICKET, TIMES, TWO, is,
+    is_spelled, joined, opened, ticket_of,
+};
+use krb_ccache::{Ccache, Cred, EditRefused, Setting, edit_cache};
+use krb_walk::{Event, Reply};
+use krb_wire::Limits;
+use refusing::{Refusing, refuse_each};
+use std::alloc::{Allocator, Global};
+use std::test::Fail;
+
+#[derive(Clone, Copy)]
+enum Call {
+    Create,
+    StoreCopy,
+    SetConfig,
+    SetByChanges,
+    RemoveAt,
+    Rewrite,
+}
+
+// A call over the cache of 392 bytes.
+struct Row {
+    name: &'static str,
+    call: Call,
+    // How many bytes there is room for.
+    room: usize,
+    // How many requests it makes: for a copy one for each part that is not empty.
+    requests: u64,
+    // The image that it leaves, and the value there.
+    image: &'static [&'static [u8]],
+    value: Option<&'static [u8]>,
+}
+
+const SETTING: Setting<'static> = Setting {
+    key: b"pa_type",
+    principal: Some(b"krbtgt/R@R"),
+    value: b"3",
+};
+
+// The header of a new cache with the offset of the old one.
+const FRONT: &[u8] = b"\x05\x04\0\x0c\0\x01\0\x08\0\0\0\x05\xff\xff\xff\xf6";
+
+const THREE: &[u8] = b"\0\0\0\0\0\0\0\0\0\0\0\0\0\0\0\0\x013\0\0\0\0";
+
+// The value 3 stands after the others, and the value 2 is removed.
+const SET: &[&[u8]] = &[
+    HEADER, OWNER, OWNER, KRBTGT, KEY, TIMES, TICKET, OWNER, CONFIG, REMOVED, TWO, OWNER, KRBTGT,
+    KEY, REMOVED, TICKET, OWNER, CONFIG, NO_TIMES, THREE,
+];
+
+const ROWS: [Row; 7] = [
+    Row {
+        name: "create",
+        call: Call::Create,
+        room: 392,
+        requests: 1,
+        image: &[FRONT, OWNER],
+        value: None,
+    },
+    Row {
+        name: "copy and store",
+        call: Call::StoreCopy,
+        room: 392,
+        requests: 10,
+        image: &[
+            HEADER, OWNER, OWNER, KRBTGT, KEY, TIMES, TICKET, OWNER, CONFIG, NO_TIMES, TWO, OWNER,
+            KRBTGT, KEY, REMOVED, TICKET, OWNER, KRBTGT, KEY, TIMES, TICKET,
+        ],
+        value: Some(b"2"),
+    },
+    Row {
+        name: "set_config",
+        call: Call::SetConfig,
+        room: 392,
+        requests: 1,
+        image: SET,
+        value: Some(b"3"),
+    },
+    Row {
+        name: "set_config where there is room",
+        call: Call::SetConfig,
+        room: 528,
+        requests: 0,
+        image: SET,
+        value: Some(b"3"),
+    },
+    Row {
+        name: "setting_entry, setting_places and store",
+        call: Call::SetByChanges,
+        room: 392,
+        requests: 11,
+        image: SET,
+        value: Some(b"3"),
+    },
+    Row {
+        name: "remove_at",
+        call: Call::RemoveAt,
+        room: 392,
+        requests: 0,
+        image: &[
+            HEADER, OWNER, OWNER, KRBTGT, KEY, REMOVED, TICKET, OWNER, CONFIG, NO_TIMES, TWO,
+            OWNER, KRBTGT, KEY, REMOVED, TICKET,
+        ],
+        value: Some(b"2"),
+    },
+    Row {
+        name: "rewrite",
+        call: Call::Rewrite,
+        room: 392,
+        requests: 1,
+        image: &[
+            FRONT, OWNER, OWNER, KRBTGT, KEY, TIMES, TICKET, OWNER, CONFIG, NO_TIMES, TWO,
+        ],
+        value: Some(b"2"),
+    },
+];
+
+fn create<A: Allocator + Copy>(alloc: A, cache: &mut Ccache<A>) -> bool {
+    let owner = cache.default_principal();
+    let Ok(made) = Ccache::create(alloc, &owner, cache.offset(), Limits::usual()) else {
+        return false;
+    };
+    *cache = made;
+    true
+}
+
+fn store_copy<A: Allocator + Copy>(alloc: A, cache: &mut Ccache<A>) -> bool {
+    let Some(ticket) = ticket_of(alloc, cache) else {
+        return false;
+    };
+    cache.store(&ticket) == Ok(392)
+}
+
+fn set_config<A: Allocator + Copy>(cache: &mut Ccache<A>) -> bool {
+    cache.set_config(SETTING.key, SETTING.principal, SETTING.value) == Ok(392)
+}
+
+fn set_by_changes<A: Allocator + Copy>(alloc: A, cache: &mut Ccache<A>) -> bool {
+    let Ok(places) = cache.setting_places(alloc, &SETTING) else {
+        return false;
+    };
+    let Ok(entry) = cache.setting_entry(alloc, &SETTING) else {
+        return false;
+    };
+    cache.store(&entry) == Ok(392) && places.as_slice() == [148].as_slice() && remove_at(cache, 148)
+}
+
+fn remove_at<A: Allocator>(cache: &mut Ccache<A>, place: u32) -> bool {
+    cache.remove_at(place) == Ok(())
+}
+
+// Whether the call answers what it is to.
+fn is_done<A: Allocator + Copy>(alloc: A, cache: &mut Ccache<A>, call: Call) -> bool {
+    match call {
+        Call::Create => create(alloc, cache),
+        Call::StoreCopy => store_copy(alloc, cache),
+        Call::SetConfig => set_config(cache),
+        Call::SetByChanges => set_by_changes(alloc, cache),
+        Call::RemoveAt => remove_at(cache, 40),
+        Call::Rewrite => cache.rewrite(&mut []) == Ok(()),
+    }
+}
+
+fn cache_in<A: Allocator>(alloc: A, room: usize) -> Result<Ccache<A>, Fail> {
+    let mut image = Vec::with_capacity(alloc, room)?;
+    for part in CACHE {
+        image.extend_from_slice(part)?;
+    }
+    opened(image)
+}
+
+fn looks<A: Allocator>(
+    cache: &Ccache<A>,
+    plain: Global,
+    image: &[&[u8]],
+    value: Option<&[u8]>,
+) -> Result<bool, Fail> {
+    let held = cache.config(SETTING.key, SETTING.principal);
+    Ok(held == value && is_spelled(plain, cache.image(), image)?)
+}
+
+fn refuse(heap: &Refusing<Global>, nth: u64, plain: Global, row: &Row) -> Result<(), Fail> {
+    let mut cache = cache_in(heap, row.room)?;
+    heap.refuse(nth);
+    let done = is_done(heap, &mut cache, row.call);
+    is(done != heap.refused(), row.name)?;
+    let looks_so = if done {
+        looks(&cache, plain, row.image, row.value)?
+    } else {
+        looks(&cache, plain, CACHE, Some(b"2"))?
+    };
+    is(looks_so, row.name)
+}
+
+#[test]
+fn each_request_of_each_call(rt: HostRuntime) -> Result<(), Fail> {
+    for row in &ROWS {
+        let requests = refuse_each(rt.alloc(), 100, |heap, nth| {
+            refuse(heap, nth, rt.alloc(), row)
+        })?;
+        is(requests == row.requests, row.name)?;
+    }
+    Ok(())
+}
+
+// The image after events, and whether memory ran out.
+fn edited<A: Allocator + Copy>(
+    alloc: A,
+    image: Vec<u8, A>,
+    events: &[Event<Cred<A>>],
+    replies: &mut Vec<Reply<A>, A>,
+) -> Result<(Vec<u8, A>, bool), Fail> {
+    match edit_cache(alloc, image, Limits::usual(), events, replies) {
+        Ok(image) => Ok((image, false)),
+        Err(EditRefused::NoMemory(image)) => Ok((image, true)),
+        Err(EditRefused::NotACache(_)) => Err(Fail::from("no cache")),
+    }
+}
+
+// A ticket is added, the first one removed, and all written anew.
+const EDITED: &[&[u8]] = &[
+    FRONT, OWNER, OWNER, CONFIG, NO_TIMES, TWO, OWNER, KRBTGT, KEY, TIMES, TICKET,
+];
+
+// A walk of one step, an addition, the removal of what the walk was given, and a rewrite.
+fn events<A: Allocator + Copy>(alloc: A, plain: Global) -> Result<[Event<Cred<A>>; 5], Fail> {
+    let cache = cache_in(plain, 392)?;
+    let ticket = ticket_of(alloc, &cache).ok_or("no ticket")?;
+    Ok([
+        Event::Start,
+        Event::Step(0),
+        Event::Put(ticket),
+        Event::Cut(40),
+        Event::Rewrite,
+    ])
+}
+
+// After a refusal the events that have no reply yet lead to the image that they lead to without one.
+fn run(heap: &Refusing<Global>, nth: u64, plain: Global) -> Result<(), Fail> {
+    let events = events(heap, plain)?;
+    let mut replies = Vec::new(heap);
+    let image = joined(heap, CACHE)?;
+    heap.refuse(nth);
+    let (image, ran_out) = edited(heap, image, &events, &mut replies)?;
+    is(ran_out == heap.refused(), "another end")?;
+    is(
+        replies.len() >= 3 || is_spelled(plain, &image, CACHE)?,
+        "a change without a reply",
+    )?;
+    let rest = events.get(replies.len()..).ok_or("too many replies")?;
+    let (image, _) = edited(heap, image, rest, &mut replies)?;
+    is(replies.len() == 5, "a reply is missing")?;
+    is(is_spelled(plain, &image, EDITED)?, "another image")
+}
+
+#[test]
+fn each_request_of_a_run(rt: HostRuntime) -> Result<(), Fail> {
+    let requests = refuse_each(rt.alloc(), 100, |heap, nth| run(heap, nth, rt.alloc()))?;
+    is(requests >= 4, "fewer requests")
+}
