@@ -9,8 +9,8 @@ from caches import greatest_caches
 from keytabs import greatest
 from runs.harness import SECONDS, Case, Outcome, Report, differences, folder_of
 
-# No write of short lines is longer, and no message.
-LONGEST, MESSAGE = 65_536, 1 << 20
+# A write of what was gathered has one line or element more at most, of which none has 300 bytes here. No message is longer.
+LONGEST, MESSAGE = 32_768 + 300, 1 << 20
 
 
 def pieces_of(program: str, case: Case) -> tuple[Outcome, list[int]]:

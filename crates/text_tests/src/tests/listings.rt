@@ -1,29 +1,54 @@
-use super::keytabs::{ALL, HEAD, HOST, opened};
-use krb_files::Watched;
-use krb_text::list_keytab;
-use std::test::Fail;
+//! Calls for whole listings. Each answers none where memory is refused.
 
-/// Lines of more than one large write, behind what was written before.
-#[test]
-fn many_records(rt: HostRuntime) -> Result<(), Fail> {
-    let mut pieces = Vec::from_slice(rt.alloc(), &[HEAD])?;
-    let mut want = String::from_str(
-        rt.alloc(),
-        "before\nKeytab name: FILE:k\n\
-KVNO Timestamp            Principal\n\
----- -------------------- ---------\n",
-    )?;
-    for _ in 0..1000 {
-        pieces.push(HOST)?;
-        want.push_str(
-            "   3 2023-11-14T22:13:20Z host/a@R (aes128-cts-hmac-sha1-96) \
-(0x000102030405060708090a0b0c0d0e0f)\n",
-        )?;
-    }
-    let keytab = opened(rt.alloc(), &pieces)?;
-    let mut out = Vec::from_slice(rt.alloc(), b"before\n")?;
-    let listed = list_keytab(rt.alloc(), "k", &keytab, ALL, &mut Watched::new(&mut out));
-    assert!(rt; listed == Ok(()));
-    assert!(rt; out.as_slice() == want.as_bytes());
-    Ok(())
+use super::images::{HOST, KEYTAB, cache_of, keytab_of};
+use krb_cache_text::{CcColumns, list_cache};
+use krb_files::Watched;
+use krb_json::{cache_json, keytab_json};
+use krb_keytab::read_entry;
+use krb_text::{KtColumns, list_keytab, list_slots};
+use krb_wire::KtFormat;
+use std::alloc::Allocator;
+
+const KEYTAB_COLUMNS: KtColumns = KtColumns {
+    times: true,
+    etypes: true,
+    keys: true,
+};
+
+const CACHE_COLUMNS: CcColumns = CcColumns {
+    flags: true,
+    etypes: true,
+    configs: true,
+};
+
+/// The listing of a keytab.
+pub fn keytab_list<A: Allocator + Copy>(alloc: A, out: &mut Vec<u8, A>) -> Option<()> {
+    let keytab = keytab_of(alloc, KEYTAB)?;
+    list_keytab(alloc, "k", &keytab, KEYTAB_COLUMNS, &mut Watched::new(out)).ok()
+}
+
+/// The listing of a cache.
+pub fn cache_list<A: Allocator + Copy>(alloc: A, out: &mut Vec<u8, A>) -> Option<()> {
+    let cache = cache_of(alloc)?;
+    list_cache(alloc, "c", &cache, CACHE_COLUMNS, &mut Watched::new(out)).ok()
+}
+
+/// The listing of slots.
+pub fn slots<A: Allocator + Copy>(alloc: A, out: &mut Vec<u8, A>) -> Option<()> {
+    let mut entries = Vec::new(alloc);
+    let entry = read_entry(KtFormat::V2, HOST)?.copy(alloc).ok()?;
+    entries.push(entry).ok()?;
+    list_slots(alloc, &entries, KEYTAB_COLUMNS, out).ok()
+}
+
+/// A keytab as JSON.
+pub fn keytab_object<A: Allocator + Copy>(alloc: A, out: &mut Vec<u8, A>) -> Option<()> {
+    let keytab = keytab_of(alloc, KEYTAB)?;
+    keytab_json(alloc, "k", &keytab, true, &mut Watched::new(out)).ok()
+}
+
+/// A cache as JSON.
+pub fn cache_object<A: Allocator + Copy>(alloc: A, out: &mut Vec<u8, A>) -> Option<()> {
+    let cache = cache_of(alloc)?;
+    cache_json(alloc, "c", &cache, &mut Watched::new(out)).ok()
 }

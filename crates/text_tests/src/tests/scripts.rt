@@ -1,98 +1,47 @@
-use super::keytabs::{HEAD, HOST, opened};
+//! Calls that read scripts: what each line asks for as a letter. Each answers none where memory is refused.
+
+use krb_cache_text::{Asked, CacheLine};
 use krb_keytab::NewEntry;
-use krb_text::{LineFault, ScriptRefusal, parse_script};
-use krb_walk::{Event, Session};
-use std::alloc::{Allocator, Global};
-use std::test::Fail;
+use krb_text::parse_script;
+use krb_walk::Event;
+use std::alloc::Allocator;
 
-/// What a line of ktedit's scripts asks for.
-type KeytabLine = Event<NewEntry<Global>>;
-
-/// The line that adds the entry of `HOST`.
-const ADD_HOST: &str = "add 3 17 1700000000 000102030405060708090a0b0c0d0e0f host/a@R";
-
-// Each event as a letter and a number, where it has one.
-fn shown<A: Allocator>(event: &Event<NewEntry<A>>) -> (char, u32) {
+// The letter of an event.
+fn letter<I>(event: &Event<I>) -> u8 {
     match event {
-        Event::Start => ('s', 0),
-        Event::Resume(place) => ('r', *place),
-        Event::Step(walk) => ('t', *walk),
-        Event::Put(entry) => ('p', entry.kvno),
-        Event::Cut(place) => ('c', *place),
-        Event::Rewrite => ('w', 0),
+        Event::Start => b's',
+        Event::Resume(_) => b'r',
+        Event::Step(_) => b't',
+        Event::Put(_) => b'p',
+        Event::Cut(_) => b'c',
+        Event::Rewrite => b'w',
     }
 }
 
-fn shown_all(alloc: Global, text: &str) -> Result<Vec<(char, u32)>, Fail> {
-    let Ok(events) = parse_script(alloc, text.as_bytes()) else {
-        return Err(Fail::from("refused"));
-    };
-    let mut all = Vec::new(alloc);
+// The letter of what a line of a cache's script asks for.
+fn cache_letter<A: Allocator>(asked: &CacheLine<A>) -> u8 {
+    match asked {
+        Asked::Event(event) => letter(event),
+        Asked::Setting(_) => b'v',
+    }
+}
+
+/// A script for a keytab.
+pub fn keytab_script<A: Allocator + Copy>(alloc: A, out: &mut Vec<u8, A>) -> Option<()> {
+    let text = b"start\nadd 3 17 0 000102030405060708090a0b0c0d0e0f host/a@R\ncut 2\n";
+    let events: Vec<Event<NewEntry<A>>, A> = parse_script(alloc, text).ok()?;
     for event in events.iter() {
-        all.push(shown(event))?;
+        out.push(letter(event)).ok()?;
     }
-    Ok(all)
+    Some(())
 }
 
-#[test]
-fn a_line_of_each_command(rt: HostRuntime) -> Result<(), Fail> {
-    let text = "start\n\n# step 1\nstep 0\nresume 4294967295\nadd 3 1 0 - b@R\ncut 2\n#\nrewrite";
-    let events = shown_all(rt.alloc(), text)?;
-    let want = [
-        ('s', 0),
-        ('t', 0),
-        ('r', u32::MAX),
-        ('p', 3),
-        ('c', 2),
-        ('w', 0),
-    ];
-    assert!(rt; events.as_slice() == want.as_slice());
-    for (text, count) in [("", 0), ("\n", 0), ("start\n", 1), ("start\n\n", 1)] {
-        assert_eq!(rt; shown_all(rt.alloc(), text)?.len(), count, "{text}");
+/// A script for a cache.
+pub fn cache_script<A: Allocator + Copy>(alloc: A, out: &mut Vec<u8, A>) -> Option<()> {
+    let text = b"start\nconfig k b@R v\nconfig k - v\ncut 40\n";
+    let lines: Vec<CacheLine<A>, A> = parse_script(alloc, text).ok()?;
+    for asked in lines.iter() {
+        out.push(cache_letter(asked)).ok()?;
     }
-    Ok(())
-}
-
-/// An added entry has the bytes of `HOST`.
-#[test]
-fn the_entry_of_an_addition(rt: HostRuntime) -> Result<(), Fail> {
-    let Ok(events) = parse_script(rt.alloc(), ADD_HOST.as_bytes()) else {
-        return Err(Fail::from("refused"));
-    };
-    let mut session = Session::new(rt.alloc(), opened(rt.alloc(), &[HEAD])?);
-    let mut replies = Vec::new(rt.alloc());
-    assert!(rt; session.run(&events, &mut replies).is_ok());
-    assert!(rt; session.store().image().strip_prefix(HEAD) == Some(HOST));
-    Ok(())
-}
-
-#[test]
-fn the_first_fault_of_the_first_faulty_line(rt: HostRuntime) {
-    for (text, line, kind) in [
-        ("start\nstop\ncut", 2, LineFault::UnknownWord),
-        (" start", 1, LineFault::UnknownWord),
-        ("Start", 1, LineFault::UnknownWord),
-        ("#\n\nstep\nstop", 3, LineFault::WordCount),
-        ("start ", 1, LineFault::WordCount),
-        ("step 1 2", 1, LineFault::WordCount),
-        ("step  1", 1, LineFault::WordCount),
-        ("add x 17 0 00", 1, LineFault::WordCount),
-        ("step 4294967296", 1, LineFault::BadNumber),
-        ("cut ", 1, LineFault::BadNumber),
-        ("add x y z 0 b", 1, LineFault::BadNumber),
-        ("add 3 y z 0 b", 1, LineFault::BadEtype),
-        ("add 3 17 z 0 b", 1, LineFault::BadNumber),
-        ("add 3 17 0 00 b@R", 1, LineFault::BadKey),
-        ("add 3 17 0 - b@R", 1, LineFault::BadKey),
-        ("add 3 1 0 0 b@R", 1, LineFault::BadKey),
-        ("add 3 1 0 0g b@R", 1, LineFault::BadKey),
-        ("add 3 1 0 - b", 1, LineFault::BadName),
-        ("add 3 1 0 -  b@R@R", 1, LineFault::BadName),
-    ] {
-        let refused = parse_script::<_, KeytabLine>(rt.alloc(), text.as_bytes()).err();
-        assert!(rt;
-            refused == Some(ScriptRefusal::Fault { line, kind }),
-            "{text}"
-        );
-    }
+    Some(())
 }

@@ -1,0 +1,31 @@
+//! Calls that look through a keytab or a cache: their lines. Each answers none where memory is refused.
+
+use super::images::{BAD_KEYTAB, KEYTAB, cache_of, keytab_of};
+use krb_audit::{AskedKvno, Selection, check_up, select, select_tickets};
+use krb_wire::parse_name;
+use std::alloc::Allocator;
+
+/// Entries of a name that are old, and have an enctype that is asked for.
+pub fn entries<A: Allocator + Copy>(alloc: A, out: &mut Vec<u8, A>) -> Option<()> {
+    let selection = Selection {
+        name: Some(parse_name(alloc, b"host/a@R", None).ok()?),
+        kvno: AskedKvno::Old,
+        enctypes: Vec::from_slice(alloc, &[17]).ok()?,
+    };
+    let selected = select(alloc, &keytab_of(alloc, KEYTAB)?, &selection).ok()?;
+    out.extend_from_slice(&selected.text).ok()
+}
+
+/// Tickets for a server that have ended at their last second.
+pub fn tickets<A: Allocator + Copy>(alloc: A, out: &mut Vec<u8, A>) -> Option<()> {
+    let server = Some(parse_name(alloc, b"krbtgt/R@R", None).ok()?);
+    let cache = cache_of(alloc)?;
+    let selected = select_tickets(alloc, &cache, &server, Some(1_700_036_000)).ok()?;
+    out.extend_from_slice(&selected.text).ok()
+}
+
+/// What is wrong with a keytab that others may read.
+pub fn findings<A: Allocator + Copy>(alloc: A, out: &mut Vec<u8, A>) -> Option<()> {
+    let found = check_up(alloc, Some(0o644), &keytab_of(alloc, BAD_KEYTAB)?).ok()?;
+    out.extend_from_slice(&found.text).ok()
+}
