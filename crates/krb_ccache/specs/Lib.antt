@@ -13,4 +13,3 @@ pub mod Mark
 pub mod Rewrite
 pub mod NewImage
 pub mod Placed
-pub mod Edit

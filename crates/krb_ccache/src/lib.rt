@@ -8,7 +8,6 @@ mod cells;
 mod config;
 mod credential;
 mod credentials;
-mod edit;
 mod laws;
 mod lengths;
 mod mark;
@@ -26,7 +25,6 @@ pub use credential::Cred;
 pub use credential::times::Times;
 pub use credential::view::{CredView, read_credential};
 pub use credentials::Credentials;
-pub use edit::{EditRefused, edit_cache};
 pub use laws::{
     caches_are_opened_again, credentials_are_read_back, one_reading, rewrites_keep_credentials,
     settings_are_events,

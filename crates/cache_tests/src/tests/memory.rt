@@ -2,10 +2,10 @@
 
 use super::{
     CACHE, CONFIG, HEADER, KEY, KRBTGT, NO_TIMES, OWNER, REMOVED, TICKET, TIMES, TWO, is,
-    is_spelled, joined, opened, ticket_of,
+    is_spelled, opened, ticket_of,
 };
-use krb_ccache::{Ccache, Cred, EditRefused, Setting, edit_cache};
-use krb_walk::{Event, Reply};
+use krb_ccache::{Ccache, Cred, Setting};
+use krb_walk::{Event, Session};
 use krb_wire::Limits;
 use refusing::{Refusing, refuse_each};
 use std::alloc::{Allocator, Global};
@@ -206,18 +206,19 @@ fn each_request_of_each_call(rt: HostRuntime) -> Result<(), Fail> {
     Ok(())
 }
 
-// The image after events, and whether memory ran out.
+// The cache after events, and whether memory ran out; after a refusal the events that have no reply yet are run.
 fn edited<A: Allocator + Copy>(
     alloc: A,
-    image: Vec<u8, A>,
+    cache: Ccache<A>,
     events: &[Event<Cred<A>>],
-    replies: &mut Vec<Reply<A>, A>,
-) -> Result<(Vec<u8, A>, bool), Fail> {
-    match edit_cache(alloc, image, Limits::usual(), events, replies) {
-        Ok(image) => Ok((image, false)),
-        Err(EditRefused::NoMemory(image)) => Ok((image, true)),
-        Err(EditRefused::NotACache(_)) => Err(Fail::from("no cache")),
-    }
+) -> Result<(Ccache<A>, bool), Fail> {
+    let mut session = Session::new(alloc, cache);
+    let mut replies = Vec::new(alloc);
+    let ran_out = session.run(events, &mut replies).is_err();
+    let rest = events.get(replies.len()..).ok_or("too many replies")?;
+    session.run(rest, &mut replies)?;
+    is(replies.len() == events.len(), "replies are missing")?;
+    Ok((session.into_store(), ran_out))
 }
 
 // A ticket is added, the first one removed, and all written anew.
@@ -238,21 +239,14 @@ fn events<A: Allocator + Copy>(alloc: A, plain: Global) -> Result<[Event<Cred<A>
     ])
 }
 
-// After a refusal the events that have no reply yet lead to the image that all lead to without one: none is left out,
-// and none is done twice.
+// No event is left out after a refusal, and none is done twice.
 fn run(heap: &Refusing<Global>, nth: u64, plain: Global) -> Result<(), Fail> {
     let events = events(heap, plain)?;
-    let image = joined(heap, CACHE)?;
-    let mut replies = Vec::new(heap);
+    let cache = cache_in(heap, 392)?;
     heap.refuse(nth);
-    let (image, ran_out) = edited(heap, image, &events, &mut replies)?;
+    let (cache, ran_out) = edited(heap, cache, &events)?;
     is(ran_out == heap.refused(), "another end")?;
-    let rest = events.get(replies.len()..).ok_or("too many replies")?;
-    let (image, _) = edited(heap, image, rest, &mut replies)?;
-    is(
-        replies.len() == 5 && is_spelled(plain, &image, EDITED)?,
-        "another image",
-    )
+    is(is_spelled(plain, cache.image(), EDITED)?, "another image")
 }
 
 #[test]
