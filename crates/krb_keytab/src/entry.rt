@@ -99,10 +99,13 @@ impl<'a> EntryView<'a> {
 fn version_of(order: Order, low: u8, tail: &[u8]) -> u32
     ensures { result ≡ version_by low (number_at order w32 tail.now) }
 {
-    match split_u32(order, tail) {
-        Some((version, _)) => { if version == 0 { low as u32 } else { version } }
-        None => low as u32,
+    let Some((version, _)) = split_u32(order, tail) else {
+        return low as u32;
+    };
+    if version == 0 {
+        return low as u32;
     }
+    version
 }
 
 /// The entry that the bytes begin with.
