@@ -25,5 +25,6 @@ pub mod Faults
 pub mod Joins
 pub mod Fair
 pub mod Steps
+pub mod Moves
 pub mod Damaged
 pub mod Runs

@@ -1,5 +1,5 @@
 use Rattle.std.proofs.Common.{◌≡◌, ◌+◌, List, [], ◌∷◌, ◌++◌, map, take, sym, ap, ◌∙◌, subst}
-use Rattle.std.proofs.lemmas.List.{take_more, map-append}
+use Rattle.std.proofs.lemmas.List.{take_all, take_more, map-append}
 use Rattle.krb_walk.specs.declared.event.Event.{Event}
 use Rattle.krb_walk.specs.Said.{Said, said}
 use Rattle.krb_walk.specs.History.{IsReady}
@@ -44,3 +44,22 @@ returns-in_err-reply-clause-err g c =
       fewer = c.loop-event-test.true;
       ran = subst (λ s. told s (map said c.reserve.new.self.items)) same (subst (told (now c.loop-event.self)) kept c.loop-event.invariant.ran);
     })
+
+pub returns-in_err-reserve-clause-err : goal.returns-in_err-reserve-clause-err
+returns-in_err-reserve-clause-err g c =
+    let now = λ (s : SessionState g.row.P.Denot). session_of g.P.Placed.state_of s in
+    let told = λ (told : List Said). Ran g.P.Placed.rules (now c.args.self.now) (now c.loop-event.self) (take c.loop-event.event-index c.args.events.now) (map said c.args.replies.now.items) told in
+    on_err c.from_residual.result (record {
+      done = c.loop-event.event-index;
+      fewer = c.loop-event-test.true;
+      ran = subst told (ap (map said) (sym c.reserve.ensures.items)) c.loop-event.invariant.ran;
+    })
+
+pub returns-clause-ok : goal.returns-clause-ok
+returns-clause-ok g c =
+    let now = λ (s : SessionState g.row.P.Denot). session_of g.P.Placed.state_of s in
+    let run = λ (es : List (Event g.row.P-Item.Denot)). Ran g.P.Placed.rules (now c.args.self.now) (now c.loop-event.self) es (map said c.args.replies.now.items) (map said c.loop-event.replies.items) in
+    subst run (take_all c.loop-event.event-index c.args.events.now c.loop-event-test.false) c.loop-event.invariant.ran
+
+pub returns-clause-err : goal.returns-clause-err
+returns-clause-err g c = tt
