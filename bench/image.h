@@ -1,8 +1,10 @@
 /* The bytes of a file, for the programs over libkrbfile that are measured here. */
 #include "krbfile.h"
 
+#include <fcntl.h>
 #include <stdio.h>
 #include <stdlib.h>
+#include <sys/stat.h>
 #include <unistd.h>
 
 static inline void must(int is_so, const char *what) {
@@ -14,21 +16,21 @@ static inline void must(int is_so, const char *what) {
 
 /* All of a file. The caller frees them. */
 static inline uint8_t *read_file(const char *file, size_t *len) {
-    FILE *from = fopen(file, "rb");
-    must(from && !fseek(from, 0, SEEK_END), "the file is not read");
-    *len = (size_t)ftell(from);
+    struct stat known;
+    int from = open(file, O_RDONLY);
+    must(from >= 0 && !fstat(from, &known), "the file is not read");
+    *len = (size_t)known.st_size;
     uint8_t *bytes = malloc(*len + 1);
-    rewind(from);
-    must(bytes && fread(bytes, 1, *len, from) == *len, "the file is not read");
-    fclose(from);
+    must(bytes && read(from, bytes, *len) == (ssize_t)*len, "the file is not read");
+    close(from);
     return bytes;
 }
 
 /* Writes a file over, and waits until the disk has it. */
 static inline void write_file(const char *file, krbf_bytes image) {
-    FILE *to = fopen(file, "wb");
-    must(to && fwrite(image.at, 1, image.len, to) == image.len, "the file is not written");
-    must(!fflush(to) && !fsync(fileno(to)) && !fclose(to), "the file is not written");
+    int to = open(file, O_WRONLY | O_TRUNC);
+    must(to >= 0 && write(to, image.at, image.len) == (ssize_t)image.len, "the file is not written");
+    must(!fsync(to) && !close(to), "the file is not written");
 }
 
 /* Room for one more place after that many. */
