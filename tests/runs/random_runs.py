@@ -26,6 +26,9 @@ FEWEST = 3
 # How many processes run for each processor: one waits for its program while another works.
 FOR_EACH = 3
 
+# A program of which nothing is proved is slow: it runs one number in so many.
+ONE_IN = 10
+
 # How many numbers a process takes at once, and how many wrong cases of a topic are kept.
 AT_ONCE = 10
 MOST_KEPT = 10
@@ -128,7 +131,8 @@ class Topic:
 
     def check(self, report: Report, program: str) -> None:
         """Runs as many numbers as usual, the same in each run."""
-        self.judge(report, program, self.try_numbers(program, range(self.usual)), self.usual)
+        count = self.usual if report.is_proved else self.usual // ONE_IN
+        self.judge(report, program, self.try_numbers(program, range(count)), count)
 
     def check_from(self, report: Report, program: str, seed: int, count: int) -> None:
         """Runs many numbers, from a seed on."""
