@@ -66,10 +66,12 @@ pub fn next_atom(text: &[u8]) -> Option<(Atom, &[u8])>
     ensures cut { MatchOption result (text.now ≡ []) (λ x. atoms text.now ≡ x.0 ∷ atoms x.1.now) }
     ensures shorter { MatchOption result (text.now ≡ []) (λ x. length x.1.now < length text.now) }
 {
-    match text {
-        [] => None,
-        [b'\\'] => Some((Atom::Lone, &text[1..])),
-        [b'\\', byte, rest @ ..] => Some((Atom::Byte(meant_by(*byte)), rest)),
-        [byte, rest @ ..] => Some((plain_atom(*byte), rest)),
+    let (first, rest) = text.split_first()?;
+    if *first != b'\\' {
+        return Some((plain_atom(*first), rest));
     }
+    let Some((byte, after)) = rest.split_first() else {
+        return Some((Atom::Lone, rest));
+    };
+    Some((Atom::Byte(meant_by(*byte)), after))
 }
