@@ -12,7 +12,7 @@ from runs.harness import TOP, Outcome, Report, folder_of
 
 SHOWN = os.path.join(TOP, "README.md")
 LIBRARY = os.path.join(TOP, "lib", "libkrbfile.so.1")
-PROVED = os.path.join(TOP, "crates", "indexed_tests", "src", "tests", "readme.rt")
+PROVED = os.path.join(TOP, "crates", "store_tests", "src", "tests", "readme.rt")
 
 
 def shown() -> str:

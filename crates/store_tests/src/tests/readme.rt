@@ -1,7 +1,8 @@
 //! What README shows, line by line: `tests/pages/readme.py` compares the two.
 
-use super::made::{USUAL, b, joined, keytab_of};
+use super::made::{b, joined, keytab_of};
 use super::records::{B, HEAD, HOST};
+use super::{are, is};
 use krb_keytab::{Keytab, NewEntry};
 use krb_walk::{Event, Session};
 use krb_wire::{Limits, Order, parse_name};
@@ -43,9 +44,7 @@ fn edit(alloc: Global, keytab: Keytab<Global>, entry: NewEntry<Global>) -> Resul
 fn does_what_it_says(rt: HostRuntime) -> Result<(), Fail> {
     let alloc = rt.alloc();
     let two: &[&[u8]] = &[HEAD, HOST, B];
-    assert!(rt; look_up(alloc, joined(alloc, two)?)? == (2, 3));
-    let keytab = keytab_of(joined(alloc, two)?, USUAL)?;
-    let image = edit(alloc, keytab, b(alloc)?)?;
-    assert!(rt; image.as_slice() == joined(alloc, &[HEAD, B, B])?.as_slice());
-    Ok(())
+    is(look_up(alloc, joined(alloc, two)?)? == (2, 3), "a look-up")?;
+    let image = edit(alloc, keytab_of(alloc, two)?, b(alloc)?)?;
+    is(are(&image, &[HEAD, B, B]), "an image")
 }

@@ -1,0 +1,27 @@
+mod calls;
+mod made;
+mod names;
+mod no_growth;
+mod readme;
+mod records;
+mod runs;
+mod turns;
+
+use std::test::Fail;
+
+/// Fails with these words where something does not hold.
+fn is(holds: bool, what: &str) -> Result<(), Fail> {
+    if holds { Ok(()) } else { Err(Fail::from(what)) }
+}
+
+/// Whether bytes are these pieces, one after the other.
+fn are(bytes: &[u8], pieces: &[&[u8]]) -> bool {
+    let mut rest = bytes;
+    for piece in pieces {
+        match rest.strip_prefix(*piece) {
+            Some(after) => rest = after,
+            None => return false,
+        }
+    }
+    rest.is_empty()
+}

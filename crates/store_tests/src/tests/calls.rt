@@ -1,0 +1,104 @@
+//! Calls of keytabs: each request for memory is refused in turn.
+
+use super::made::{b, indexed_of, is_host, keytab_of};
+use super::records::{B, HEAD, HOST, LOW_KEY};
+use super::{are, is};
+use krb_indexed::Indexed;
+use krb_keytab::{Keytab, NewEntry};
+use krb_walk::Refusal;
+use krb_wire::{KtFormat, Limits, Order};
+use refusing::{Refusing, refuse_each};
+use std::alloc::{Allocator, Global};
+use std::test::Fail;
+
+fn create(heap: &Refusing<Global>, n: u64) -> Result<(), Fail> {
+    heap.refuse(n);
+    match Keytab::create(heap, KtFormat::V1(Order::Little), Limits::usual()) {
+        Ok(keytab) => is(
+            !heap.refused() && keytab.image() == b"\x05\x01".as_slice(),
+            "another keytab",
+        ),
+        Err(_) => is(heap.refused(), "nothing was refused"),
+    }
+}
+
+/// A copy of the entry of `HOST`; none where memory was refused.
+fn copied<A: Allocator + Copy>(alloc: A, keytab: &Keytab<A>) -> Option<NewEntry<A>> {
+    let entry = keytab.entry_at(2)?;
+    entry.copy(alloc).ok()
+}
+
+/// Whether an entry is that of `HOST`.
+fn is_of_host<A: Allocator>(entry: &NewEntry<A>) -> bool {
+    let numbers = (entry.kvno, entry.enctype, entry.timestamp);
+    numbers == (3, 17, 1_700_000_000)
+        && entry.key.as_slice() == LOW_KEY
+        && is_host(&entry.principal)
+}
+
+fn copy(heap: &Refusing<Global>, n: u64) -> Result<(), Fail> {
+    let keytab = keytab_of(heap, &[HEAD, HOST])?;
+    heap.refuse(n);
+    match copied(heap, &keytab) {
+        Some(entry) => is(!heap.refused() && is_of_host(&entry), "another entry"),
+        None => is(heap.refused(), "nothing was refused"),
+    }
+}
+
+/// What an addition of `B` after `HOST` answers and leaves: where memory was refused nothing.
+fn check_added(added: Result<u32, Refusal>, image: &[u8], is_refused: bool) -> Result<(), Fail> {
+    if is_refused {
+        return is(
+            added == Err(Refusal::NoMemory) && are(image, &[HEAD, HOST]),
+            "a refused addition",
+        );
+    }
+    is(
+        added == Ok(53) && are(image, &[HEAD, HOST, B]),
+        "an addition",
+    )
+}
+
+fn add(heap: &Refusing<Global>, n: u64) -> Result<(), Fail> {
+    let mut keytab = keytab_of(heap, &[HEAD, HOST])?;
+    let entry = b(heap)?;
+    heap.refuse(n);
+    let added = keytab.add(&entry);
+    check_added(added, keytab.image(), heap.refused())
+}
+
+fn add_to_indexed(heap: &Refusing<Global>, n: u64) -> Result<(), Fail> {
+    let mut indexed = indexed_of(heap, &[HEAD, HOST])?;
+    let entry = b(heap)?;
+    heap.refuse(n);
+    let added = indexed.add(&entry);
+    check_added(added, indexed.image(), heap.refused())
+}
+
+/// Whether a table is made; the keytab is handed back where none is.
+fn is_indexed<A: Allocator + Copy>(alloc: A, keytab: Keytab<A>) -> (bool, Keytab<A>) {
+    match Indexed::of(alloc, keytab) {
+        Ok(indexed) => (true, indexed.into_keytab()),
+        Err((_, keytab)) => (false, keytab),
+    }
+}
+
+fn index(heap: &Refusing<Global>, n: u64) -> Result<(), Fail> {
+    let keytab = keytab_of(heap, &[HEAD, HOST, B])?;
+    heap.refuse(n);
+    let (is_made, keytab) = is_indexed(heap, keytab);
+    is(is_made != heap.refused(), "an answer without memory")?;
+    is(are(keytab.image(), &[HEAD, HOST, B]), "another keytab")
+}
+
+#[test]
+fn each_request_of_calls(rt: HostRuntime) -> Result<(), Fail> {
+    is(refuse_each(rt.alloc(), 100, create)? >= 1, "create")?;
+    is(refuse_each(rt.alloc(), 100, copy)? >= 5, "copy")?;
+    is(refuse_each(rt.alloc(), 100, add)? >= 1, "add")?;
+    is(
+        refuse_each(rt.alloc(), 100, add_to_indexed)? >= 1,
+        "add to a table",
+    )?;
+    is(refuse_each(rt.alloc(), 100, index)? >= 2, "a table")
+}

@@ -1,0 +1,106 @@
+//! Events with their replies, and the image afterwards.
+
+use super::made::entry_of;
+use super::records::{C_KEY, HIGH_KEY, LOW_KEY};
+use krb_keytab::NewEntry;
+use krb_walk::{Event, Reply};
+use std::alloc::Allocator;
+use std::test::Fail;
+
+/// An event. An entry is put by its name and its key.
+#[derive(Clone, Copy)]
+pub enum Turn {
+    Start,
+    Step(u32),
+    Put(&'static [u8], &'static [u8]),
+    Cut(u32),
+    Rewrite,
+}
+
+/// Puts the entry of the record `HOST`, of `B` and of `C_AND_ZEROS`.
+pub const PUT_HOST: Turn = Turn::Put(b"host/a@R", LOW_KEY);
+
+pub const PUT_B: Turn = Turn::Put(b"b@R", HIGH_KEY);
+
+pub const PUT_C: Turn = Turn::Put(b"c@R", C_KEY);
+
+/// A reply: the walk first, then places.
+#[derive(Clone, Copy, PartialEq, Eq)]
+pub enum Told<'a> {
+    Started(u32, u32),
+    Gave(u32, u32, u32, &'a [u8]),
+    Ended(u32, u32),
+    Placed(u32),
+    Gone(u32),
+    Rewritten(u32),
+    Other,
+}
+
+/// Events over an image, each beside its reply, the images before and after in pieces, and the least number of
+/// requests for memory.
+#[derive(Clone, Copy)]
+pub struct Row<'a> {
+    pub name: &'a str,
+    pub before: &'a [&'a [u8]],
+    pub turns: &'a [(Turn, Told<'a>)],
+    pub after: &'a [&'a [u8]],
+    pub least: u64,
+}
+
+fn addition<A: Allocator + Copy>(
+    alloc: A,
+    name: &[u8],
+    key: &[u8],
+) -> Result<Event<NewEntry<A>>, Fail> {
+    Ok(Event::Put(entry_of(alloc, name, key)?))
+}
+
+fn event_of<A: Allocator + Copy>(alloc: A, turn: Turn) -> Result<Event<NewEntry<A>>, Fail> {
+    match turn {
+        Turn::Start => Ok(Event::Start),
+        Turn::Step(walk) => Ok(Event::Step(walk)),
+        Turn::Put(name, key) => addition(alloc, name, key),
+        Turn::Cut(place) => Ok(Event::Cut(place)),
+        Turn::Rewrite => Ok(Event::Rewrite),
+    }
+}
+
+/// The events of the turns.
+pub fn events_of<A: Allocator + Copy>(
+    alloc: A,
+    row: &Row<'_>,
+) -> Result<Vec<Event<NewEntry<A>>, A>, Fail> {
+    let mut events = Vec::new(alloc);
+    for (turn, _) in row.turns {
+        events.push(event_of(alloc, *turn)?)?;
+    }
+    Ok(events)
+}
+
+/// What a reply tells.
+pub fn told_by<A: Allocator>(reply: &Reply<A>) -> Told<'_> {
+    match reply {
+        Reply::Started { walk, next } => Told::Started(*walk, *next),
+        Reply::Gave {
+            walk,
+            place,
+            next,
+            bytes,
+        } => Told::Gave(*walk, *place, *next, bytes.as_slice()),
+        Reply::Ended { walk, next } => Told::Ended(*walk, *next),
+        Reply::Placed(place) => Told::Placed(*place),
+        Reply::Gone(place) => Told::Gone(*place),
+        Reply::Rewritten(end) => Told::Rewritten(*end),
+        _ => Told::Other,
+    }
+}
+
+/// Whether the replies are those of a row.
+pub fn are_told<A: Allocator>(replies: &[Reply<A>], row: &Row<'_>) -> bool {
+    for (reply, (_, told)) in replies.iter().zip(row.turns) {
+        if told_by(reply) != *told {
+            return false;
+        }
+    }
+    replies.len() == row.turns.len()
+}
