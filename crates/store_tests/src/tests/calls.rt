@@ -5,7 +5,7 @@ use super::records::{B, HEAD, HOST, LOW_KEY};
 use super::{are, is};
 use krb_indexed::Indexed;
 use krb_keytab::{Keytab, NewEntry};
-use krb_walk::Refusal;
+use krb_walk::{Placed, Refusal};
 use krb_wire::{KtFormat, Limits, Order};
 use refusing::{Refusing, refuse_each};
 use std::alloc::{Allocator, Global};
@@ -45,7 +45,7 @@ fn copy(heap: &Refusing<Global>, n: u64) -> Result<(), Fail> {
     }
 }
 
-/// What an addition of `B` after `HOST` answers and leaves: where memory was refused nothing.
+/// Checks what an addition of `B` after `HOST` answers and leaves.
 fn check_added(added: Result<u32, Refusal>, image: &[u8], is_refused: bool) -> Result<(), Fail> {
     if is_refused {
         return is(
@@ -64,6 +64,19 @@ fn add(heap: &Refusing<Global>, n: u64) -> Result<(), Fail> {
     let entry = b(heap)?;
     heap.refuse(n);
     let added = keytab.add(&entry);
+    check_added(added, keytab.image(), heap.refused())
+}
+
+/// What sessions call.
+fn put<P: Placed>(store: &mut P, item: &P::Item) -> Result<u32, Refusal> {
+    store.put(item)
+}
+
+fn put_into_keytab(heap: &Refusing<Global>, n: u64) -> Result<(), Fail> {
+    let mut keytab = keytab_of(heap, &[HEAD, HOST])?;
+    let entry = b(heap)?;
+    heap.refuse(n);
+    let added = put(&mut keytab, &entry);
     check_added(added, keytab.image(), heap.refused())
 }
 
@@ -96,6 +109,7 @@ fn each_request_of_calls(rt: HostRuntime) -> Result<(), Fail> {
     is(refuse_each(rt.alloc(), 100, create)? >= 1, "create")?;
     is(refuse_each(rt.alloc(), 100, copy)? >= 5, "copy")?;
     is(refuse_each(rt.alloc(), 100, add)? >= 1, "add")?;
+    is(refuse_each(rt.alloc(), 100, put_into_keytab)? >= 1, "put")?;
     is(
         refuse_each(rt.alloc(), 100, add_to_indexed)? >= 1,
         "add to a table",

@@ -33,7 +33,7 @@ const ADDITIONS: &[Addition] = &[
     ),
 ];
 
-/// What an addition answers and leaves.
+/// Checks what an addition answers and leaves.
 fn check_added(
     added: Result<u32, Refusal>,
     image: &[u8],
@@ -85,8 +85,8 @@ fn gives_host<P: Placed + Drop, A: Allocator + Copy>(alloc: A, store: P) -> bool
     session.apply(&Event::Start).is_ok() && session.step(0) == Ok(Stop::Live { place: 2, next: 53 })
 }
 
-/// What a removal by name of the highest version of enctype 17, a look-up of the highest version after it, and the
-/// removal of what it found answer.
+/// Checks what the removal by name of the highest version of enctype 17, a look-up of the highest version after it, and
+/// the removal of what it found answer.
 fn check_answers(
     removed: Result<u32, Code>,
     found: Option<u32>,

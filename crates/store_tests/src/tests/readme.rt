@@ -9,7 +9,7 @@ use krb_wire::{Limits, Order, parse_name};
 use std::alloc::Global;
 use std::test::Fail;
 
-// The place and the version of the entry that is look_up up.
+// The place and the version of the entry that is looked up.
 fn look_up(alloc: Global, image: Vec<u8>) -> Result<(u32, u32), Fail> {
     let opened = Keytab::open(image, Order::Little, Limits::usual());
     let keytab = opened.map_err(|refused| refused.why)?;

@@ -27,7 +27,7 @@ const WALK: Row<'static> = Row {
         (Step(0), Ended(0, 98)),
     ],
     after: &[HEAD, b"\0\0\0\x2f", C_AND_ZEROS, B],
-    least: 3,
+    least: (3, 3),
 };
 
 const REWRITTEN: Row<'static> = Row {
@@ -44,7 +44,7 @@ const REWRITTEN: Row<'static> = Row {
         (Step(0), Ended(0, 92)),
     ],
     after: &[HEAD, B, B],
-    least: 6,
+    least: (6, 8),
 };
 
 const EDIT: Row<'static> = Row {
@@ -57,7 +57,7 @@ const EDIT: Row<'static> = Row {
         (PUT_B, PlacedAt(53)),
     ],
     after: &[HEAD, b"\0\0\0\x2f", UNTYPED_BYTES, B],
-    least: 3,
+    least: (3, 5),
 };
 
 const GROWTH: Row<'static> = Row {
@@ -70,11 +70,11 @@ const GROWTH: Row<'static> = Row {
         (Rewrite, Rewritten(188)),
     ],
     after: &[HEAD, HOST, B, B, B],
-    least: 4,
+    least: (4, 8),
 };
 
 /// A record of 131,108 bytes: 65,535 empty components of the realm `R`, and what `HOST` has after its name. To look up
-/// each component from the first on would take minutes.
+/// each component from the first on would pass 2,147,385,345 components.
 const LONG: &[&[u8]] = &[
     HEAD,
     b"\0\x02\0\x24\xff\xff\0\x01R",
@@ -89,7 +89,7 @@ const ONE_PASS: Row<'static> = Row {
     before: LONG,
     turns: &[(Rewrite, Rewritten(131_114))],
     after: LONG,
-    least: 2,
+    least: (2, 4),
 };
 
 const ROWS: &[Row<'static>] = &[WALK, REWRITTEN, EDIT, GROWTH, ONE_PASS];
@@ -157,7 +157,7 @@ fn each_request_of_a_run(rt: HostRuntime) -> Result<(), Fail> {
     for row in ROWS {
         let plain = refuse_each(rt.alloc(), 100, |heap, n| run_over_keytab(heap, n, row))?;
         let indexed = refuse_each(rt.alloc(), 100, |heap, n| run_over_indexed(heap, n, row))?;
-        is(plain >= row.least && indexed >= row.least, row.name)?;
+        is(plain >= row.least.0 && indexed >= row.least.1, row.name)?;
     }
     Ok(())
 }
@@ -261,5 +261,5 @@ fn edit(heap: &Refusing<Global>, n: u64) -> Result<(), Fail> {
 #[test]
 fn each_request_of_edit_image(rt: HostRuntime) -> Result<(), Fail> {
     let requests = refuse_each(rt.alloc(), 100, edit)?;
-    is(requests >= EDIT.least, "fewer requests")
+    is(requests >= EDIT.least.0, "fewer requests")
 }

@@ -24,7 +24,7 @@ pub const PUT_B: Turn = Turn::Put(b"b@R", HIGH_KEY);
 
 pub const PUT_C: Turn = Turn::Put(b"c@R", C_KEY);
 
-/// A reply: the walk first, then places.
+/// A reply: the walk first, then places. No row has a reply that is another.
 #[derive(Clone, Copy, PartialEq, Eq)]
 pub enum Told<'a> {
     Started(u32, u32),
@@ -37,14 +37,14 @@ pub enum Told<'a> {
 }
 
 /// Events over an image, each beside its reply, the images before and after in pieces, and the least number of
-/// requests for memory.
+/// requests for memory, over a keytab and over one with a table.
 #[derive(Clone, Copy)]
 pub struct Row<'a> {
     pub name: &'a str,
     pub before: &'a [&'a [u8]],
     pub turns: &'a [(Turn, Told<'a>)],
     pub after: &'a [&'a [u8]],
-    pub least: u64,
+    pub least: (u64, u64),
 }
 
 fn addition<A: Allocator + Copy>(
