@@ -116,3 +116,17 @@ fn each_request_of_calls(rt: HostRuntime) -> Result<(), Fail> {
     )?;
     is(refuse_each(rt.alloc(), 100, index)? >= 2, "a table")
 }
+
+/// What stands before and after the components in a record of 131,092 bytes, whose entry has 65,535 empty ones.
+const FRONT: &[u8] = b"\0\x02\0\x14\xff\xff\0\x01R";
+
+const BACK: &[u8] = b"\0\0\0\x01\x65\x53\xf1\0\x03\0\x11\0\0\0\0\0\x03";
+
+/// To look up each component from the first on would pass 2,147,385,345 components.
+#[test]
+fn the_most_components_are_written_anew_in_one_pass(rt: HostRuntime) -> Result<(), Fail> {
+    let components = Vec::from_elem(rt.alloc(), 0, 131_070)?;
+    let keytab = keytab_of(rt.alloc(), &[HEAD, FRONT, components.as_slice(), BACK])?;
+    let new = keytab.rewritten()?;
+    is(new.image() == keytab.image(), "another image")
+}

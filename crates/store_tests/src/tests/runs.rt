@@ -1,9 +1,7 @@
 //! Runs of events in which each request for memory is refused in turn: what has no reply yet is done the next time.
 
 use super::made::{indexed_of, joined, keytab_of};
-use super::records::{
-    B, B_BYTES, C_AND_ZEROS, HEAD, HOST, HOST_BYTES, LOW_KEY, UNTYPED_BYTES, VERSION_1,
-};
+use super::records::{B, B_BYTES, C_AND_ZEROS, HEAD, HOST, HOST_BYTES, UNTYPED_BYTES, VERSION_1};
 use super::turns::Told::{Ended, Gave, Gone, Placed as PlacedAt, Rewritten, Started};
 use super::turns::Turn::{Cut, Rewrite, Start, Step};
 use super::turns::{PUT_B, PUT_C, PUT_HOST, Row, Told, Turn, are_told, events_of, told_by};
@@ -73,26 +71,7 @@ const GROWTH: Row<'static> = Row {
     least: (4, 8),
 };
 
-/// A record of 131,108 bytes: 65,535 empty components of the realm `R`, and what `HOST` has after its name. To look up
-/// each component from the first on would pass 2,147,385,345 components.
-const LONG: &[&[u8]] = &[
-    HEAD,
-    b"\0\x02\0\x24\xff\xff\0\x01R",
-    &[0; 131_070],
-    b"\0\0\0\x01\x65\x53\xf1\0\x03\0\x11\0\x10",
-    LOW_KEY,
-    b"\0\0\0\x03",
-];
-
-const ONE_PASS: Row<'static> = Row {
-    name: "an entry of the most components is written anew in one pass",
-    before: LONG,
-    turns: &[(Rewrite, Rewritten(131_114))],
-    after: LONG,
-    least: (2, 4),
-};
-
-const ROWS: &[Row<'static>] = &[WALK, REWRITTEN, EDIT, GROWTH, ONE_PASS];
+const ROWS: &[Row<'static>] = &[WALK, REWRITTEN, EDIT, GROWTH];
 
 fn is_run<P: Placed + Drop, A: Allocator + Copy>(
     session: &mut Session<P, A>,
