@@ -1,14 +1,12 @@
 //! Runs of events in which each request for memory is refused in turn: what has no reply yet is done the next time.
 
-use super::made::{indexed_of, joined, keytab_of};
+use super::made::{indexed_of, keytab_of};
 use super::records::{B, B_BYTES, C_AND_ZEROS, HEAD, HOST, HOST_BYTES, UNTYPED_BYTES, VERSION_1};
 use super::turns::Told::{Ended, Gave, Gone, Placed as PlacedAt, Rewritten, Started};
 use super::turns::Turn::{Cut, Rewrite, Start, Step};
 use super::turns::{PUT_B, PUT_C, PUT_HOST, Row, Told, Turn, are_told, events_of, told_by};
 use super::{are, is};
-use krb_keytab::{EditRefused, NewEntry, edit_image};
 use krb_walk::{Event, Placed, Reply, Session};
-use krb_wire::{Limits, Order};
 use refusing::{Refusing, refuse_each};
 use std::alloc::{Allocator, Global};
 use std::test::Fail;
@@ -45,7 +43,7 @@ const REWRITTEN: Row<'static> = Row {
     least: (6, 8),
 };
 
-const EDIT: Row<'static> = Row {
+const TO_VERSION_2: Row<'static> = Row {
     name: "an addition, a removal and a rewrite to version 2, with name type 0",
     before: &[VERSION_1],
     turns: &[
@@ -71,7 +69,7 @@ const GROWTH: Row<'static> = Row {
     least: (4, 8),
 };
 
-const ROWS: &[Row<'static>] = &[WALK, REWRITTEN, EDIT, GROWTH];
+const ROWS: &[Row<'static>] = &[WALK, REWRITTEN, TO_VERSION_2, GROWTH];
 
 fn is_run<P: Placed + Drop, A: Allocator + Copy>(
     session: &mut Session<P, A>,
@@ -189,56 +187,4 @@ fn apply_to_keytab(heap: &Refusing<Global>, n: u64) -> Result<(), Fail> {
 fn each_request_of_events_one_by_one(rt: HostRuntime) -> Result<(), Fail> {
     let requests = refuse_each(rt.alloc(), 100, apply_to_keytab)?;
     is(requests >= 5, "fewer requests")
-}
-
-fn edited<A: Allocator + Copy>(
-    alloc: A,
-    image: Vec<u8, A>,
-    events: &[Event<NewEntry<A>>],
-    replies: &mut Vec<Reply<A>, A>,
-) -> Result<Vec<u8, A>, EditRefused<A>> {
-    edit_image(
-        alloc,
-        image,
-        Order::Little,
-        Limits::usual(),
-        events,
-        replies,
-    )
-}
-
-/// The image after an edit, and whether memory ran out.
-fn image_of<A: Allocator>(
-    edited: Result<Vec<u8, A>, EditRefused<A>>,
-) -> Result<(Vec<u8, A>, bool), Fail> {
-    match edited {
-        Ok(image) => Ok((image, false)),
-        Err(EditRefused::NoMemory(image)) => Ok((image, true)),
-        Err(EditRefused::NotAKeytab(_)) => Err(Fail::from("no keytab")),
-    }
-}
-
-/// The image handed back is the one after the events that have a reply: the rest leads to the same image.
-fn edit(heap: &Refusing<Global>, n: u64) -> Result<(), Fail> {
-    let events = events_of(heap, &EDIT)?;
-    let image = joined(heap, EDIT.before)?;
-    let mut replies = Vec::new(heap);
-    heap.refuse(n);
-    let (image, ran_out) = image_of(edited(heap, image, &events, &mut replies))?;
-    let rest = events.get(replies.len()..).ok_or("too many replies")?;
-    let (image, is_again) = image_of(edited(heap, image, rest, &mut replies))?;
-    is(
-        ran_out == heap.refused() && !is_again,
-        "an answer without memory",
-    )?;
-    is(
-        are_told(&replies, &EDIT) && are(&image, EDIT.after),
-        EDIT.name,
-    )
-}
-
-#[test]
-fn each_request_of_edit_image(rt: HostRuntime) -> Result<(), Fail> {
-    let requests = refuse_each(rt.alloc(), 100, edit)?;
-    is(requests >= EDIT.least.0, "fewer requests")
 }
