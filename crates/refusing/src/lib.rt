@@ -6,8 +6,6 @@ mod meter;
 mod plan;
 mod sweep;
 mod tally;
-#[cfg(test)]
-mod tests;
 
 pub use allocator::Refusing;
 pub use sweep::refuse_each;

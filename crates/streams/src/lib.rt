@@ -3,8 +3,6 @@
 
 mod failure;
 mod reader;
-#[cfg(test)]
-mod tests;
 mod writer;
 
 pub use reader::FailingReader;

@@ -1,5 +1,0 @@
-//! Files in memory, readers and writers, of which some fail.
-
-mod files;
-mod loads;
-mod outputs;

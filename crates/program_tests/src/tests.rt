@@ -1,0 +1,13 @@
+//! Memory that is refused, files in memory, commands over them, and a disk whose calls are noted.
+
+mod checks;
+mod commands;
+mod disk;
+mod files;
+mod holds;
+mod images;
+mod locks;
+mod memory;
+mod runs;
+mod saves;
+mod state;

@@ -1,0 +1,201 @@
+//! What is asked for, each with what it leaves where nothing fails.
+
+use super::images::{ADDED, CACHE, CACHE_EDITED, CACHE_REWRITTEN, EDITED, IMAGE, REMOVED};
+use krb_audit::{AskedKvno, Selection};
+use krb_cache_text::CcColumns;
+use krb_commands::{
+    Action, FindOptions, KlistOptions, ListKind, RemoveOptions, TicketOptions, WordFault,
+};
+use krb_text::KtColumns;
+use krb_wire::{Order, Principal, parse_name};
+use std::alloc::Global;
+use std::test::Fail;
+
+/// What is asked for, of the keytab `k` or the cache `c`.
+#[derive(Clone, Copy)]
+pub enum Asked {
+    Klist,
+    KlistCache,
+    Ktfind,
+    Ktcheck,
+    Ktedit,
+    /// A removal of the entry of `host/a@R`, or a dry run of it.
+    Ktremove(bool),
+    Ccedit,
+    /// A removal of the tickets for `krbtgt/R@R`, or a dry run of it.
+    Ccremove(bool),
+    Ktutil,
+}
+
+/// A run, the file that it saves, and what stands there afterwards; one that saves none leaves `k`.
+#[derive(Clone, Copy)]
+pub struct Command {
+    pub asked: Asked,
+    pub input: &'static str,
+    pub text: &'static str,
+    pub message: &'static str,
+    pub name: &'static str,
+    pub left: &'static [u8],
+}
+
+/// A run that saves nothing, and prints nothing.
+const COMMAND: Command = Command {
+    asked: Asked::Ktutil,
+    input: "",
+    text: "",
+    message: "",
+    name: "k",
+    left: IMAGE,
+};
+
+pub const COMMANDS: [Command; 8] = [
+    Command {
+        asked: Asked::Klist,
+        text: "Keytab name: FILE:k\nKVNO Principal\n---- ---------\n   3 host/a@R\n   3 b@R\n",
+        ..COMMAND
+    },
+    Command {
+        asked: Asked::KlistCache,
+        text: "Ticket cache: FILE:c\nDefault principal: u@R\n\n\
+Valid starting       Expires              Service principal\n\
+2023-11-14T22:13:20Z 2023-11-15T08:13:20Z krbtgt/R@R\n    \
+renew until 2023-11-21T22:13:20Z\n    Flags: FRIA\n    Etype: aes128-cts-hmac-sha1-96\n\
+config: pa_type(krbtgt/R@R) = \\\\\\x7f2\n",
+        ..COMMAND
+    },
+    Command {
+        asked: Asked::Ktfind,
+        text: "found 2 kvno 3 etype 17 host/a@R\n",
+        ..COMMAND
+    },
+    // Walks while an entry goes, another comes, and the keytab is written anew.
+    Command {
+        asked: Asked::Ktedit,
+        input: "start\nstep 0\ncut 2\n\
+add 3 17 1700000000 202122232425262728292a2b2c2d2e2f c@R\nrewrite\nstep 0\nstep 0\n",
+        text: "walk 0 at 2\nwalk 0 gave 2 next 53 kvno 3 etype 17 host/a@R\ngone 2\nplaced 2\n\
+rewritten 92\nwalk 0 gave 47 next 92 kvno 3 etype 17 b@R\nwalk 0 end 92\n",
+        left: EDITED,
+        ..COMMAND
+    },
+    Command {
+        asked: Asked::Ktremove(false),
+        text: "removed 2 kvno 3 etype 17 host/a@R\n",
+        left: REMOVED,
+        ..COMMAND
+    },
+    // Removes the ticket, and sets the value anew, while a walk stands before both.
+    Command {
+        asked: Asked::Ccedit,
+        input: "start\ncut 22\nconfig pa_type krbtgt/R@R 2\nstep 0\nstep 0\n",
+        text: "walk 0 at 22\ngone 22\nplaced 268\ngone 130\n\
+walk 0 gave 268 next 404 config pa_type(krbtgt/R@R)\nwalk 0 end 404\n",
+        name: "c",
+        left: CACHE_EDITED,
+        ..COMMAND
+    },
+    Command {
+        asked: Asked::Ccremove(false),
+        text: "removed 22 krbtgt/R@R\n",
+        name: "c",
+        left: CACHE_REWRITTEN,
+        ..COMMAND
+    },
+    // Saves a new entry in `n` in place of those that were read.
+    Command {
+        input: "rkt k\ndelent 1\ndelent 1\naddent -key -p host/a@R -k 3 -e aes128-cts-hmac-sha1-96\n\
+000102030405060708090a0b0c0d0e0f\nl -e\nwkt n\ndelent 2\nq\n",
+        text: "slot KVNO Principal\n---- ---- ---------\n\
+\x20  1    3 host/a@R (aes128-cts-hmac-sha1-96)\n",
+        message: "krbfile: line 8: fault 7\n",
+        name: "n",
+        left: ADDED,
+        ..COMMAND
+    },
+];
+
+/// What stands under a name before a run.
+pub fn file_before(name: &str) -> Option<&'static [u8]> {
+    match name {
+        "k" => Some(IMAGE),
+        "c" => Some(CACHE),
+        _ => None,
+    }
+}
+
+/// A listing of that kind of file.
+fn listing(kind: ListKind) -> KlistOptions {
+    KlistOptions {
+        kind,
+        v1_order: Order::Little,
+        json: false,
+    }
+}
+
+fn name(alloc: Global, text: &[u8]) -> Result<Principal<Global>, Fail> {
+    parse_name(alloc, text, None).map_err(|_| Fail::new("no name"))
+}
+
+/// A look-up of `host/a@R` of any version and enctype.
+fn look_up(alloc: Global) -> Result<FindOptions<Global>, Fail> {
+    Ok(FindOptions {
+        name: name(alloc, b"host/a@R")?,
+        kvno: 0,
+        enctype: 0,
+        v1_order: Order::Little,
+    })
+}
+
+/// A removal of `host/a@R` of version 3 and enctype 17.
+fn removal(alloc: Global, dry_run: bool) -> Result<RemoveOptions<Global>, Fail> {
+    Ok(RemoveOptions {
+        selection: Selection {
+            name: Some(name(alloc, b"host/a@R")?),
+            kvno: AskedKvno::Exactly(3),
+            enctypes: vec![in alloc; 17]?,
+        },
+        dry_run,
+        v1_order: Order::Little,
+    })
+}
+
+fn tickets(alloc: Global, dry_run: bool) -> Result<TicketOptions<Global>, Fail> {
+    Ok(TicketOptions {
+        server: Some(name(alloc, b"krbtgt/R@R")?),
+        expired: false,
+        dry_run,
+    })
+}
+
+/// All that is shown of a cache.
+const ALL: CcColumns = CcColumns {
+    flags: true,
+    etypes: true,
+    configs: true,
+};
+
+impl Asked {
+    /// The file that it is asked of.
+    pub fn file(self) -> &'static str {
+        match self {
+            Asked::KlistCache | Asked::Ccedit | Asked::Ccremove(_) => "c",
+            _ => "k",
+        }
+    }
+
+    /// As it is asked of that file.
+    pub fn of(self, alloc: Global, file: &str) -> Result<Result<Action, WordFault<'static>>, Fail> {
+        let file = String::from_str(alloc, file)?;
+        Ok(Ok(match self {
+            Asked::Klist => Action::Klist(listing(ListKind::Keytab(KtColumns::default())), file),
+            Asked::KlistCache => Action::Klist(listing(ListKind::Cache(ALL)), file),
+            Asked::Ktfind => Action::Ktfind(look_up(alloc)?, file),
+            Asked::Ktcheck => Action::Ktcheck(Order::Little, file),
+            Asked::Ktedit => Action::Ktedit(Order::Little, file),
+            Asked::Ktremove(dry_run) => Action::Ktremove(removal(alloc, dry_run)?, file),
+            Asked::Ccedit => Action::Ccedit(file),
+            Asked::Ccremove(dry_run) => Action::Ccremove(tickets(alloc, dry_run)?, file),
+            Asked::Ktutil => Action::Ktutil(Order::Little),
+        }))
+    }
+}

@@ -1,0 +1,248 @@
+//! A disk whose calls are noted, of which one fails.
+
+ghost use Rattle.std.specs.Prelude.{IsErr};
+
+use super::state::State;
+use krb_disk::{Numbered, SetOwner, TakeLock};
+use std::alloc::{Allocator, Global};
+use std::cell::{Cell, RefCell};
+use std::fs::{Metadata, OpenFile, OpenOptions, Permissions};
+use std::io::{self, Empty, ErrorKind, Read, Seek, SeekFrom, Write};
+use std::os::unix::fs::PermissionsExt;
+use std::rt;
+use std::time::Duration;
+
+/// A disk, and the calls that were made, one a line.
+#[derive(Drop)]
+pub struct Disk {
+    pub state: Cell<State>,
+    calls: RefCell<String>,
+}
+
+/// The disk as it is reached, and a file of it with what is still to be read.
+#[derive(Drop)]
+pub struct Reached<'a> {
+    disk: &'a Disk,
+    left: &'static [u8],
+}
+
+/// So many bytes of a list of locks have no end.
+const PAGE: usize = 4096;
+
+impl Disk {
+    pub fn new(alloc: Global, state: State) -> Disk {
+        Disk {
+            state: Cell::new(state),
+            calls: RefCell::new(String::new(alloc)),
+        }
+    }
+
+    pub fn reached(&self) -> Reached<'_> {
+        Reached {
+            disk: self,
+            left: b"",
+        }
+    }
+
+    /// Whether those were the calls, one after the other.
+    pub fn was_asked(&self, calls: &[&str]) -> bool {
+        let Ok(made) = self.calls.try_borrow() else {
+            return false;
+        };
+        let mut left = made.as_str();
+        for call in calls {
+            match left.strip_prefix(*call) {
+                Some(rest) => left = rest,
+                None => return false,
+            }
+        }
+        left.is_empty()
+    }
+
+    fn note(&self, what: &str, path: &str) -> io::Result<()> {
+        if let Ok(mut calls) = self.calls.try_borrow_mut() {
+            calls.push_str(what)?;
+            calls.push_str(path)?;
+            calls.push('\n')?;
+        }
+        let mut state = self.state.get();
+        state.calls = state.calls.saturating_add(1);
+        let is_failing = state.calls == state.failing.0;
+        if !is_failing {
+            state.done(what, path);
+        }
+        self.state.set(state);
+        if is_failing {
+            return Err(io::Error::from_raw_os_error(state.failing.1));
+        }
+        Ok(())
+    }
+}
+
+fn unsupported<T>() -> io::Result<T>
+    ensures { IsErr result }
+{
+    Err(io::Error::from(ErrorKind::Unsupported))
+}
+
+impl Read for Reached<'_> {
+    fn read(&mut self, buf: &mut [u8]) -> io::Result<usize> {
+        self.disk.note("read", "")?;
+        let count = self.left.len().min(buf.len());
+        let (given, rest) = self.left.split_at(count);
+        buf[..count].copy_from_slice(given);
+        if self.left.len() != PAGE {
+            self.left = rest;
+        }
+        Ok(count)
+    }
+}
+
+impl Write for Reached<'_> {
+    fn write(&mut self, buf: &[u8]) -> io::Result<usize> {
+        self.disk.note("write", "")?;
+        Ok(buf.len())
+    }
+
+    fn flush(&mut self) -> io::Result<()> {
+        unsupported()
+    }
+}
+
+impl Seek for Reached<'_> {
+    fn seek(&mut self, _pos: SeekFrom) -> io::Result<u64> {
+        unsupported()
+    }
+}
+
+impl OpenFile for Reached<'_> {
+    fn metadata(&self) -> io::Result<Metadata> {
+        self.disk.note("tell", "")?;
+        Ok(Metadata::of_file(0))
+    }
+
+    fn set_len(&self, _size: u64) -> io::Result<()> {
+        unsupported()
+    }
+
+    fn sync_all(&self) -> io::Result<()> {
+        self.disk.note("sync", "")
+    }
+
+    fn sync_data(&self) -> io::Result<()> {
+        unsupported()
+    }
+
+    // Each file of this disk has that mode.
+    fn set_permissions(&self, perm: Permissions) -> io::Result<()> {
+        let is_kept = perm.mode() == 0o644;
+        self.disk
+            .note(if is_kept { "keep mode" } else { "set mode" }, "")
+    }
+
+    fn try_clone(&self) -> io::Result<Self> {
+        self.disk.note("double", "")?;
+        Ok(self.disk.reached())
+    }
+}
+
+impl SetOwner for Reached<'_> {
+    fn set_owner(&self, owner: Option<u32>, _group: Option<u32>) -> io::Result<()> {
+        self.disk
+            .note("own", if owner.is_none() { " the group" } else { "" })
+    }
+}
+
+impl TakeLock for Reached<'_> {
+    fn take_lock(&self) -> io::Result<bool> {
+        self.disk.note("lock", "")?;
+        Ok(true)
+    }
+}
+
+impl Numbered for Reached<'_> {
+    fn number(&self) -> i32 {
+        7
+    }
+}
+
+impl rt::Clock for Reached<'_> {
+    fn monotonic(&self) -> io::Result<Duration> {
+        let state = self.disk.state.get();
+        let Some(step) = state.pace else {
+            return unsupported();
+        };
+        self.disk.state.set(state.after(step, 0));
+        Ok(Duration::from_millis(state.time))
+    }
+
+    fn since_1970(&self) -> io::Result<Duration> {
+        unsupported()
+    }
+
+    // Each sleep is of less than a second.
+    fn sleep(&self, time: Duration) {
+        let slept = u64::from(time.subsec_millis());
+        self.disk
+            .state
+            .set(self.disk.state.get().after(slept, slept));
+    }
+}
+
+impl<'a> rt::Files for Reached<'a> {
+    type File = Reached<'a>;
+
+    type Dir = Empty;
+
+    fn open_file(&self, how: &OpenOptions, path: &str) -> io::Result<Reached<'a>> {
+        let is_new = how.asks_create_new();
+        self.disk
+            .note(if is_new { "make " } else { "open " }, path)?;
+        Ok(Reached {
+            disk: self.disk,
+            left: self.disk.state.get().bytes_of(path),
+        })
+    }
+
+    fn symlink_metadata(&self, path: &str) -> io::Result<Metadata> {
+        self.disk.note("look ", path)?;
+        match path {
+            "k" | "k.krbfile" => Ok(Metadata::of_file(0)),
+            _ => Err(io::Error::from(ErrorKind::NotFound)),
+        }
+    }
+
+    fn rename(&self, from: &str, to: &str) -> io::Result<()> {
+        self.disk
+            .note(if to == "k" { "rename " } else { "move " }, from)
+    }
+
+    fn remove_file(&self, path: &str) -> io::Result<()> {
+        self.disk.note("remove ", path)
+    }
+
+    // No more is asked of it.
+    fn open_dir(&self, _path: &str) -> io::Result<Empty> {
+        unsupported()
+    }
+
+    fn metadata(&self, _path: &str) -> io::Result<Metadata> {
+        unsupported()
+    }
+
+    fn copy(&self, _from: &str, _to: &str) -> io::Result<u64> {
+        unsupported()
+    }
+
+    fn create_dir(&self, _path: &str) -> io::Result<()> {
+        unsupported()
+    }
+
+    fn remove_dir(&self, _path: &str) -> io::Result<()> {
+        unsupported()
+    }
+
+    fn remove_dir_all<B: Allocator>(&self, _alloc: B, _path: &str) -> io::Result<()> {
+        unsupported()
+    }
+}

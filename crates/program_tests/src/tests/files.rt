@@ -1,0 +1,70 @@
+//! Loads, and files in memory.
+
+ghost use Rattle.std.specs.Prelude.{◌<◌};
+
+use super::checks::is;
+use krb_files::{Files, LoadFault, MemFiles, SaveFault, WatchedReader, load};
+use refusing::refuse_each;
+use std::alloc::Allocator;
+use std::test::Fail;
+use streams::FailingReader;
+
+/// How many bytes are loaded of those, of which a read gives so many at most, and in how many reads.
+fn load_from<A: Allocator>(
+    alloc: A,
+    bytes: &[u8],
+    most: usize,
+    limit: u32,
+    expected: u64,
+) -> (Result<usize, LoadFault>, u64)
+    requires { 0 < most }
+{
+    let mut reader = WatchedReader::new(FailingReader::new(bytes, most));
+    let loaded = load(alloc, &mut reader, limit, expected);
+    (loaded.map(|all| all.len()), reader.into_reader().calls())
+}
+
+/// A load ends at one byte over the limit. What is expected changes neither that nor the bytes, and takes no more memory
+/// than the limit does.
+#[test]
+fn the_reads_of_a_load(rt: HostRuntime) {
+    for (limit, expected, wanted) in [
+        (8, 0, (Ok(8), 9)),
+        (8, u64::MAX, (Ok(8), 9)),
+        (7, 0, (Err(LoadFault::TooLarge), 8)),
+        (7, 8, (Err(LoadFault::TooLarge), 8)),
+    ] {
+        let got = load_from(rt.alloc(), b"8 bytes.", 1, limit, expected);
+        is(&rt, &got, &wanted, "load");
+    }
+}
+
+/// Saves under a name, again under that one, and loads what is there; and more bytes than were expected.
+fn save_and_load<A: Allocator + Copy>(alloc: A, bytes: &[u8]) -> Result<usize, LoadFault> {
+    let mut files = MemFiles::of(alloc, Vec::new(alloc));
+    for bytes in [b"older".as_slice(), b"newer", b"new"] {
+        match files.save("k", bytes) {
+            Ok(()) => {}
+            Err(SaveFault::NoMemory) => return Err(LoadFault::NoMemory),
+            Err(SaveFault::Failed) => return Err(LoadFault::Failed),
+        }
+    }
+    let loaded = files.load(alloc, "k", 3)?;
+    let (count, _) = load_from(alloc, bytes, 4096, 100_000, 50_000);
+    Ok(loaded.len().saturating_add(count?))
+}
+
+#[test]
+fn each_load_and_save(rt: HostRuntime) -> Result<(), Fail> {
+    let bytes = vec![in rt.alloc(); 7u8; 100_000]?;
+    let requests = refuse_each(rt.alloc(), 100, |heap, nth| {
+        heap.refuse(nth);
+        let loaded = save_and_load(heap, &bytes);
+        let no_memory = loaded == Err(LoadFault::NoMemory);
+        is(&rt, &no_memory, &heap.refused(), "refused");
+        is(&rt, &(no_memory || loaded == Ok(100_003)), &true, "loaded");
+        Ok(())
+    })?;
+    is(&rt, &(requests >= 6), &true, "requests");
+    Ok(())
+}

@@ -1,0 +1,117 @@
+//! What a command changes it holds, from the load to the save, and then leaves.
+
+use super::checks::is;
+use super::commands::Asked;
+use super::disk::Disk;
+use super::images::{CACHE, IMAGE};
+use super::locks::{LOCK, NONE};
+use super::runs::respond_over;
+use super::saves::{
+    HOLD, KEEPS, LEAVE, LOAD, LOCKS, LOOK, OWNS, RENAME, Saved, WRITES, hold, load, release, save,
+    saved,
+};
+use super::state::WHOLE;
+use krb_disk::DiskFiles;
+use krb_files::Cause;
+use std::alloc::Global;
+use std::test::Fail;
+
+/// Holds the file, which has the bytes `old`, loads and saves it, and leaves it. A minute passes before the save, when it
+/// has other bytes, and that is the list of locks in that reading.
+fn change(alloc: Global, disk: &Disk, bytes: &'static [u8], locks: &'static [u8]) -> Saved {
+    let reached = (disk.reached(), alloc);
+    let mut files = DiskFiles::new(&reached);
+    hold(&mut files);
+    load(&mut files, alloc);
+    let later = disk.state.get().after(60_000, 0);
+    disk.state.set(later.having(bytes).locked(locks, 6));
+    let saved = save(&mut files);
+    release(&mut files);
+    saved
+}
+
+/// A file that is held is saved only where it has the bytes that were loaded. The wait before a save has ten seconds of
+/// its own, however long it is after the load.
+#[test]
+fn a_file_that_changes(rt: HostRuntime) {
+    for (bytes, locks, cause, slept) in [
+        (b"".as_slice(), NONE, Some(Cause::Changed), 0),
+        (b"ol", NONE, Some(Cause::Changed), 0),
+        (b"odd", NONE, Some(Cause::Changed), 0),
+        (b"old or not", NONE, Some(Cause::Changed), 0),
+        (b"old", LOCK, None, 5),
+    ] {
+        let disk = Disk::new(rt.alloc(), WHOLE.having(b"old").paced(1));
+        let got = change(rt.alloc(), &disk, bytes, locks);
+        let got = (got, disk.state.get().is_made, disk.state.get().slept);
+        is(&rt, &got, &(saved(cause), false, slept), "save");
+    }
+}
+
+/// What was asked for is done over a disk where `k` has those bytes.
+fn run_on(alloc: Global, asked: Asked, bytes: &'static [u8], input: &str) -> Result<Disk, Fail> {
+    let disk = Disk::new(alloc, WHOLE.having(bytes));
+    let asked = asked.of(alloc, "k")?;
+    let reached = (disk.reached(), alloc);
+    let mut files = DiskFiles::new(&reached);
+    let mut out = Vec::new(alloc);
+    let mut err = Vec::new(alloc);
+    respond_over(alloc, &asked, &mut files, input, &mut out, &mut err);
+    drop(files);
+    drop(reached);
+    Ok(disk)
+}
+
+/// What is asked of the disk: a load alone, one of a file that is held and then left or saved, and one more before that.
+const LOOKS: &[&str] = &[LOAD];
+
+const LEAVES: &[&str] = &[HOLD, LOCKS, LOAD, LEAVE];
+
+const CHANGES: &[&str] = &[
+    HOLD, LOCKS, LOAD, WRITES, OWNS, KEEPS, LOOK, LOAD, LOCKS, RENAME,
+];
+
+const READS_AND_CHANGES: &[&str] = &[
+    LOAD, HOLD, LOCKS, LOAD, WRITES, OWNS, KEEPS, LOOK, LOAD, LOCKS, RENAME,
+];
+
+/// Dry runs, and scripts that only look, hold nothing. A run that finds nothing to change leaves what it held.
+#[test]
+fn what_is_changed_is_held(rt: HostRuntime) -> Result<(), Fail> {
+    for (asked, bytes, input, calls) in [
+        (Asked::Klist, IMAGE, "", LOOKS),
+        (Asked::KlistCache, CACHE, "", LOOKS),
+        (Asked::Ktfind, IMAGE, "", LOOKS),
+        (Asked::Ktcheck, IMAGE, "", LOOKS),
+        (Asked::Ktedit, IMAGE, "start\nstep 0\n", LOOKS),
+        (Asked::Ktedit, IMAGE, "cut 2\n", CHANGES),
+        (Asked::Ktedit, IMAGE, "cut 3\n", LEAVES),
+        (Asked::Ktremove(true), IMAGE, "", LOOKS),
+        (Asked::Ktremove(false), IMAGE, "", CHANGES),
+        (Asked::Ccedit, CACHE, "start\nstep 0\n", LOOKS),
+        (Asked::Ccedit, CACHE, "cut 22\n", CHANGES),
+        (Asked::Ccremove(true), CACHE, "", LOOKS),
+        (Asked::Ccremove(false), CACHE, "", CHANGES),
+        (Asked::Ktutil, IMAGE, "rkt k\nwkt k\n", READS_AND_CHANGES),
+    ] {
+        let disk = run_on(rt.alloc(), asked, bytes, input)?;
+        is(&rt, &disk.was_asked(calls), &true, input);
+    }
+    Ok(())
+}
+
+/// A file that is held and not saved is left, once. A hold that was refused keeps the file from being saved.
+#[test]
+fn a_file_that_is_left(rt: HostRuntime) {
+    let disk = Disk::new(rt.alloc(), WHOLE);
+    let reached = (disk.reached(), rt.alloc());
+    let mut files = DiskFiles::new(&reached);
+    hold(&mut files);
+    release(&mut files);
+    release(&mut files);
+    is(&rt, &disk.was_asked(&[HOLD, LOCKS, LEAVE]), &true, "left");
+    disk.state.set(WHOLE.failing(2, 13));
+    hold(&mut files);
+    let denied = saved(Some(Cause::PermissionDenied));
+    is(&rt, &save(&mut files), &denied, "refused");
+}

@@ -1,0 +1,72 @@
+//! Allocators of which requests are refused, and whose blocks are cleared.
+
+use super::checks::is;
+use refusing::{Refusing, refuse_each};
+use std::alloc::{AllocError, Allocator};
+use std::test::Fail;
+use wiping::Wiping;
+
+/// Whether a request is granted. The block is given back at once.
+fn is_granted<A: Allocator>(heap: &Refusing<A>) -> bool {
+    Box::new(heap, 7u8).is_ok()
+}
+
+/// Those that are refused are counted too, and do not come to the allocator below.
+#[test]
+fn requests_are_refused_as_told(rt: HostRuntime) {
+    let below = Refusing::new(rt.alloc());
+    let heap = Refusing::new(&below);
+    for (nth, on, wanted, passed) in [
+        (0, false, [true, true, true], 3),
+        (1, false, [false, true, true], 2),
+        (3, false, [true, true, false], 2),
+        (0, true, [false, false, false], 0),
+        (1, true, [false, false, false], 0),
+        (3, true, [true, true, false], 2),
+    ] {
+        below.refuse(0);
+        if on {
+            heap.refuse_from(nth);
+        } else {
+            heap.refuse(nth);
+        }
+        let granted = [is_granted(&heap), is_granted(&heap), is_granted(&heap)];
+        is(&rt, &granted, &wanted, "granted");
+        is(&rt, &heap.refused(), &(passed < 3), "refused");
+        heap.grant();
+        let requests = (heap.requests(), below.requests());
+        is(&rt, &requests, &(3, passed), "requests");
+    }
+    let held = Box::new(&heap, 7u8);
+    let blocks = (heap.live_blocks(), below.live_blocks());
+    is(&rt, &blocks, &(1, 1), "held");
+    drop(held);
+    let blocks = (heap.live_blocks(), below.live_blocks());
+    is(&rt, &blocks, &(0, 0), "given back");
+}
+
+/// A vector that grows, is cloned and shrinks, and a box of no bytes.
+fn several<A: Allocator + Copy>(alloc: A) -> Result<Vec<u8, A>, AllocError> {
+    let mut bytes = Vec::from_slice(alloc, b"a key")?;
+    bytes.push(b'!')?;
+    let _none = Box::new(alloc, ())?;
+    let copy: Result<Vec<u8, A>, AllocError> = bytes.clone();
+    bytes.shrink_to_fit();
+    copy
+}
+
+/// What a vector holds goes with it to another block, and the one that it leaves goes back, cleared, to the allocator
+/// below.
+#[test]
+fn a_vector_over_a_wiping_allocator(rt: HostRuntime) -> Result<(), Fail> {
+    let requests = refuse_each(rt.alloc(), 100, |heap, nth| {
+        heap.refuse(nth);
+        let made = several(Wiping::new(heap));
+        if let Ok(bytes) = made {
+            is(&rt, &bytes.as_slice(), &b"a key!".as_slice(), "bytes");
+        }
+        Ok(())
+    })?;
+    is(&rt, &requests, &5, "requests");
+    Ok(())
+}

@@ -1,0 +1,151 @@
+//! Runs over files in memory.
+
+use super::checks::is;
+use super::commands::{Asked, COMMANDS, Command, file_before};
+use super::images::{CACHE, IMAGE};
+use krb_commands::{Action, ErrorOutput, Ktutil, LineEnd, Streams, WordFault, respond};
+use krb_files::{Files, MemFiles, Watched, WatchedReader};
+use krb_wire::Order;
+use refusing::refuse_each;
+use std::alloc::{AllocError, Allocator, Global};
+use std::io::{self, Write};
+use std::process::Abort;
+use std::test::Fail;
+
+/// Does what was asked for over some files, with that input, and answers the status.
+pub fn respond_over<A: Allocator + Copy, F: Files, E: Write>(
+    alloc: A,
+    asked: &Result<Action, WordFault<'_>>,
+    files: &mut F,
+    input: &str,
+    out: &mut Vec<u8, Global>,
+    err: &mut E,
+) -> u8 {
+    let mut streams = Streams {
+        input: WatchedReader::new(input.as_bytes()),
+        out: Watched::new(out),
+        err: ErrorOutput {
+            to: Watched::new(err),
+            explains: false,
+        },
+    };
+    respond(alloc, asked, files, Some(1_700_000_000), &mut streams)
+}
+
+/// A file `k`, the keytab, and a file `c`, the cache.
+pub fn files_of<A: Allocator + Copy>(alloc: A) -> Result<MemFiles<A>, AllocError> {
+    let mut files = Vec::new(alloc);
+    for (name, image) in [("k", IMAGE), ("c", CACHE)] {
+        files.push((
+            String::from_str(alloc, name)?,
+            Vec::from_slice(alloc, image)?,
+        ))?;
+    }
+    Ok(MemFiles::of(alloc, files))
+}
+
+/// What a run told, and what it left under the name that it saves.
+type Ending<'a> = (u8, &'a [u8], &'a [u8], Option<&'a [u8]>);
+
+/// Whether a run ended as it has to. Out of memory has its own status, a prefix of the text is out, and the file is as
+/// before. Where a list that is collected asks again for less, the run is as one that has all its memory.
+fn is_due(command: &Command, (status, out, err, left): Ending<'_>, is_refused: bool) -> bool {
+    let text = command.text.as_bytes();
+    if is_refused && status == 4 {
+        return text.starts_with(out)
+            && err == b"krbfile: out of memory\n".as_slice()
+            && left == file_before(command.name);
+    }
+    status == u8::from(command.message != "")
+        && out == text
+        && err == command.message.as_bytes()
+        && left == Some(command.left)
+}
+
+/// Refuses each request of a run in turn, and answers how many it makes.
+fn requests_of<R: Abort + AllocGlobal>(rt: &R, command: &Command) -> Result<u64, Fail> {
+    let asked = command.asked.of(rt.alloc(), command.asked.file())?;
+    refuse_each(rt.alloc(), 200, |heap, nth| {
+        let mut files = files_of(heap)?;
+        let mut out = Vec::new(rt.alloc());
+        let mut err = Vec::new(rt.alloc());
+        heap.refuse(nth);
+        let status = respond_over(heap, &asked, &mut files, command.input, &mut out, &mut err);
+        let ending = (
+            status,
+            out.as_slice(),
+            err.as_slice(),
+            files.get(command.name),
+        );
+        let is_due = is_due(command, ending, heap.refused());
+        is(rt, &(nth, is_due), &(nth, true), command.text);
+        Ok(())
+    })
+}
+
+#[test]
+fn each_growth_refused(rt: HostRuntime) -> Result<(), Fail> {
+    for command in &COMMANDS {
+        let requests = requests_of(&rt, command)?;
+        is(&rt, &(requests >= 2), &true, command.text);
+    }
+    Ok(())
+}
+
+const KEY: &str = "000102030405060708090a0b0c0d0e0f";
+
+/// Handles a line of ktutil, and answers whether it is done.
+fn handle<A: Allocator + Copy>(alloc: A, ktutil: &mut Ktutil<A>, line: &str) -> bool {
+    let mut files = MemFiles::of(alloc, Vec::new(alloc));
+    let mut out = Vec::new(alloc);
+    ktutil.line(&mut files, line.as_bytes(), 0, &mut out) == LineEnd::Done
+}
+
+/// A key that memory is refused for is still awaited, and is taken the next time.
+#[test]
+fn the_key_line_of_ktutil(rt: HostRuntime) -> Result<(), Fail> {
+    let requests = refuse_each(rt.alloc(), 10, |heap, nth| {
+        let mut ktutil = Ktutil::new(heap, Order::Little);
+        let is_asked = handle(heap, &mut ktutil, "addent -key -p a@R -k 1 -e 17");
+        heap.refuse(nth);
+        let is_done = handle(heap, &mut ktutil, KEY);
+        let got = (is_asked, is_done, ktutil.pending());
+        is(&rt, &got, &(true, !heap.refused(), heap.refused()), "key");
+        let is_done = is_done || handle(heap, &mut ktutil, KEY);
+        let got = (is_done, ktutil.pending(), ktutil.entries().len());
+        is(&rt, &got, &(true, false, 1), "entries");
+        Ok(())
+    })?;
+    is(&rt, &(requests >= 2), &true, "requests");
+    Ok(())
+}
+
+/// Takes all bytes, and counts the writes.
+#[derive(Drop)]
+struct Writes(u64);
+
+impl Write for Writes {
+    fn write(&mut self, buf: &[u8]) -> io::Result<usize> {
+        self.0 = self.0.saturating_add(1);
+        Ok(buf.len())
+    }
+
+    fn flush(&mut self) -> io::Result<()> {
+        Ok(())
+    }
+}
+
+/// So the messages of runs that share an error output do not mix. A name for which there is no room goes out on its own.
+#[test]
+fn a_message_is_one_write(rt: HostRuntime) -> Result<(), Fail> {
+    for (length, wanted) in [(1, 1), (4096, 1), (5000, 3)] {
+        let name = vec![in rt.alloc(); b'n'; length]?;
+        let asked = Asked::Klist.of(rt.alloc(), str::from_utf8(&name)?)?;
+        let mut files = files_of(rt.alloc())?;
+        let mut out = Vec::new(rt.alloc());
+        let mut writes = Writes(0);
+        respond_over(rt.alloc(), &asked, &mut files, "", &mut out, &mut writes);
+        is(&rt, &writes.0, &wanted, "writes");
+    }
+    Ok(())
+}

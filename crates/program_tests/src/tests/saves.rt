@@ -1,0 +1,198 @@
+//! Loads and saves on a disk of which one call fails.
+
+use super::checks::is;
+use super::disk::{Disk, Reached};
+use super::state::WHOLE;
+use krb_disk::DiskFiles;
+use krb_files::{Cause, Files, LoadFault, SaveFault};
+use std::alloc::Global;
+use std::io;
+use std::os::fd::AsRawFd;
+use std::process::Abort;
+use std::test::Fail;
+
+/// The calls that hold `k`, a plain file, up to the readings of the list of locks.
+pub const HOLD: &str = "look k\nmake k.krbfile\nlock\ntell\nlook k.krbfile\ndouble\n\
+open /proc/self/fdinfo/7\ntell\nread\nlook k\n";
+
+/// Five readings, where the list is empty.
+pub const LOCKS: &str = "open /proc/locks\nread\nopen /proc/locks\nread\nopen /proc/locks\nread\n\
+open /proc/locks\nread\nopen /proc/locks\nread\n";
+
+/// The calls that fill the new file, between which it is given its owner, and the looks before it takes the name of the
+/// old one.
+pub const WRITES: &str = "write\n";
+
+pub const OWNS: &str = "own\n";
+
+pub const KEEPS: &str = "tell\nkeep mode\nsync\n";
+
+pub const LOOK: &str = "tell\nlook k.krbfile\nlook k\n";
+
+pub const RENAME: &str = "rename k.krbfile\nopen .\nsync\n";
+
+/// The calls that leave a file that is held.
+pub const LEAVE: &str = "tell\nlook k.krbfile\nremove k.krbfile\n";
+
+/// The calls that load `k`, if it has some bytes.
+pub const LOAD: &str = "open k\ntell\nread\nread\n";
+
+/// Files of such a disk. What their calls promise ends at the functions below, which keeps the proofs of tests short.
+pub type Noted<'a, 'd> = DiskFiles<'a, (Reached<'d>, Global)>;
+
+pub fn hold(files: &mut Noted<'_, '_>) {
+    files.hold("k");
+}
+
+pub fn release(files: &mut Noted<'_, '_>) {
+    files.release();
+}
+
+/// What a load answers, if it gives no bytes, the mode, and whether a call failed.
+pub fn load(files: &mut Noted<'_, '_>, alloc: Global) -> (Option<LoadFault>, Option<u32>, bool) {
+    let fault = files.load(alloc, "k", 10).err();
+    (fault, files.mode(), files.cause().is_some())
+}
+
+/// What a save failed with, if it did.
+pub type Saved = Result<(), (SaveFault, Option<Cause>)>;
+
+pub fn save(files: &mut Noted<'_, '_>) -> Saved {
+    match files.save("k", b"bytes") {
+        Ok(()) => Ok(()),
+        Err(fault) => Err((fault, files.cause())),
+    }
+}
+
+/// What a save answers that failed with that cause, or with none.
+pub fn saved(cause: Option<Cause>) -> Saved {
+    match cause {
+        Some(_) => Err((SaveFault::Failed, cause)),
+        None => Ok(()),
+    }
+}
+
+/// Saves `k` on that disk.
+pub fn save_on(alloc: Global, disk: &Disk) -> Saved {
+    let reached = (disk.reached(), alloc);
+    save(&mut DiskFiles::new(&reached))
+}
+
+/// Saves where the call of that number fails with that error, and leaves no new file.
+fn check_save<R: Abort + AllocGlobal>(rt: &R, failing: u64, error: i32, cause: Option<Cause>) {
+    let disk = Disk::new(rt.alloc(), WHOLE.failing(failing, error));
+    let got = (save_on(rt.alloc(), &disk), disk.state.get().is_made, error);
+    is(rt, &got, &(saved(cause), false, error), "save");
+}
+
+/// The cause of a save whose call of that number fails. It is made without what the system says of mounts and of locks,
+/// and once the new file is renamed.
+fn cause_of(failing: u64) -> Option<Cause> {
+    match failing {
+        7..=9 | 11..=20 | 29..=38 | 40..=41 => None,
+        22 => Some(Cause::OwnerNotKept),
+        _ => Some(Cause::InputOutput),
+    }
+}
+
+#[test]
+fn each_call_of_a_save_fails(rt: HostRuntime) {
+    for failing in 1..=41 {
+        check_save(&rt, failing, 5, cause_of(failing));
+    }
+}
+
+/// Of the calls the first looks, 2 makes the new file, 3 locks it, 21 writes to it, 25 syncs it, and 39 gives it its name.
+/// A file is made and locked where the file system has no locks; a mount point is not renamed over, which is told apart
+/// from another call's EBUSY; a system without memory for a call is no program without memory.
+#[test]
+fn what_a_save_fails_with(rt: HostRuntime) {
+    for (failing, error, cause) in [
+        (1, 13, Some(Cause::PermissionDenied)),
+        (1, 20, Some(Cause::NotADirectory)),
+        (1, 40, Some(Cause::TooManyLinks)),
+        (2, 2, Some(Cause::NoDirectory)),
+        (2, 21, Some(Cause::IsADirectory)),
+        (2, 30, Some(Cause::ReadOnly)),
+        (2, 36, Some(Cause::NameTooLong)),
+        (3, 37, Some(Cause::NoLock)),
+        (3, 95, None),
+        (21, 4, Some(Cause::Interrupted)),
+        (21, 27, Some(Cause::FileTooLarge)),
+        (21, 28, Some(Cause::NoSpace)),
+        (21, 32, Some(Cause::BrokenPipe)),
+        (21, 122, Some(Cause::QuotaExceeded)),
+        (21, 71, Some(Cause::System(71))),
+        (39, 16, Some(Cause::MountPoint)),
+        (25, 16, Some(Cause::System(16))),
+        (1, 12, Some(Cause::System(12))),
+        (21, 12, Some(Cause::System(12))),
+    ] {
+        check_save(&rt, failing, error, cause);
+    }
+}
+
+/// Where the owner is refused, by 1, EINVAL, ENOSYS or 95, the group is set alone, and what was set is
+/// looked at.
+#[test]
+fn the_calls_of_a_save(rt: HostRuntime) {
+    for (error, own) in [
+        (0, OWNS),
+        (1, "own\nown the group\n"),
+        (22, "own\nown the group\n"),
+        (38, "own\nown the group\n"),
+        (95, "own\nown the group\n"),
+    ] {
+        let failing = if error == 0 { 0 } else { 22 };
+        let disk = Disk::new(rt.alloc(), WHOLE.failing(failing, error));
+        is(&rt, &save_on(rt.alloc(), &disk), &saved(None), own);
+        let calls = [HOLD, LOCKS, WRITES, own, KEEPS, LOOK, LOCKS, RENAME];
+        is(&rt, &disk.was_asked(&calls), &true, own);
+    }
+}
+
+/// Loads where the call of that number fails with that error.
+fn check_load<R: Abort + AllocGlobal>(rt: &R, failing: u64, error: i32, fault: Option<LoadFault>) {
+    let disk = Disk::new(rt.alloc(), WHOLE.failing(failing, error));
+    let reached = (disk.reached(), rt.alloc());
+    let got = load(&mut DiskFiles::new(&reached), rt.alloc());
+    let mode = if fault.is_none() { Some(0o644) } else { None };
+    is(
+        rt,
+        &got,
+        &(fault, mode, fault == Some(LoadFault::Failed)),
+        "load",
+    );
+}
+
+/// A load opens the file, asks which one that is, and reads to its end. Only a file that is not there is missing, which
+/// is no failure: of the errors of an open 2 alone says so.
+#[test]
+fn each_call_of_a_load_fails(rt: HostRuntime) {
+    check_load(&rt, 0, 0, None);
+    check_load(&rt, 2, 5, Some(LoadFault::Failed));
+    check_load(&rt, 3, 5, Some(LoadFault::Failed));
+    for error in 1..134 {
+        let fault = if error == 2 {
+            LoadFault::Missing
+        } else {
+            LoadFault::Failed
+        };
+        check_load(&rt, 1, error, Some(fault));
+    }
+}
+
+/// A pipe that was to be held is not opened, so nothing waits until another program writes to it.
+#[test]
+fn a_pipe_is_not_opened(rt: HostRuntime) -> Result<(), Fail> {
+    let (reader, _writer) = io::pipe(&rt)?;
+    let name = format!(in rt.alloc(); "/dev/fd/{}", reader.as_raw_fd())?;
+    let mut files = DiskFiles::new(&rt);
+    files.hold(&name);
+    let loaded = files.load(rt.alloc(), &name, 10).err();
+    let saved = files.save(&name, b"new").err();
+    is(&rt, &loaded, &Some(LoadFault::Failed), "load");
+    is(&rt, &saved, &Some(SaveFault::Failed), "save");
+    is(&rt, &files.cause(), &Some(Cause::NotAPlainFile), "cause");
+    Ok(())
+}
