@@ -3,11 +3,9 @@
 mod checks;
 mod commands;
 mod disk;
-mod files;
 mod holds;
 mod images;
 mod locks;
-mod memory;
 mod runs;
 mod saves;
 mod state;

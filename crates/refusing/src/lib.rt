@@ -1,11 +1,13 @@
-//! An allocator that refuses chosen requests, and a sweep that refuses each request of a call in turn.
+//! An allocator that refuses chosen requests, a sweep that refuses each request of a call in turn, and a reader that counts its calls.
 #![tactic(auto)]
 
 mod allocator;
 mod meter;
 mod plan;
+mod reader;
 mod sweep;
 mod tally;
 
 pub use allocator::Refusing;
+pub use reader::CountedReader;
 pub use sweep::refuse_each;

@@ -1,5 +1,6 @@
 mod calls;
 mod made;
+mod memory;
 mod names;
 mod no_growth;
 mod readme;

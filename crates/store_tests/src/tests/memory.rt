@@ -1,6 +1,6 @@
 //! Allocators of which requests are refused, and whose blocks are cleared.
 
-use super::checks::is;
+use super::is;
 use refusing::{Refusing, refuse_each};
 use std::alloc::{AllocError, Allocator};
 use std::test::Fail;
@@ -13,7 +13,7 @@ fn is_granted<A: Allocator>(heap: &Refusing<A>) -> bool {
 
 /// Those that are refused are counted too, and do not come to the allocator below.
 #[test]
-fn requests_are_refused_as_told(rt: HostRuntime) {
+fn requests_are_refused_as_told(rt: HostRuntime) -> Result<(), Fail> {
     let below = Refusing::new(rt.alloc());
     let heap = Refusing::new(&below);
     for (nth, on, wanted, passed) in [
@@ -31,18 +31,24 @@ fn requests_are_refused_as_told(rt: HostRuntime) {
             heap.refuse(nth);
         }
         let granted = [is_granted(&heap), is_granted(&heap), is_granted(&heap)];
-        is(&rt, &granted, &wanted, "granted");
-        is(&rt, &heap.refused(), &(passed < 3), "refused");
+        is(granted == wanted, "granted")?;
+        is(heap.refused() == (passed < 3), "refused")?;
         heap.grant();
-        let requests = (heap.requests(), below.requests());
-        is(&rt, &requests, &(3, passed), "requests");
+        is(
+            (heap.requests(), below.requests()) == (3, passed),
+            "requests",
+        )?;
     }
     let held = Box::new(&heap, 7u8);
-    let blocks = (heap.live_blocks(), below.live_blocks());
-    is(&rt, &blocks, &(1, 1), "held");
+    is(
+        (heap.live_blocks(), below.live_blocks()) == (1, 1),
+        "held",
+    )?;
     drop(held);
-    let blocks = (heap.live_blocks(), below.live_blocks());
-    is(&rt, &blocks, &(0, 0), "given back");
+    is(
+        (heap.live_blocks(), below.live_blocks()) == (0, 0),
+        "given back",
+    )
 }
 
 /// A vector that grows, is cloned and shrinks, and a box of no bytes.
@@ -63,10 +69,9 @@ fn a_vector_over_a_wiping_allocator(rt: HostRuntime) -> Result<(), Fail> {
         heap.refuse(nth);
         let made = several(Wiping::new(heap));
         if let Ok(bytes) = made {
-            is(&rt, &bytes.as_slice(), &b"a key!".as_slice(), "bytes");
+            is(bytes.as_slice() == b"a key!", "bytes")?;
         }
         Ok(())
     })?;
-    is(&rt, &requests, &5, "requests");
-    Ok(())
+    is(requests == 5, "requests")
 }

@@ -2,12 +2,10 @@
 
 ghost use Rattle.std.specs.Prelude.{◌<◌};
 
-use super::checks::is;
 use krb_files::{Files, LoadFault, MemFiles, SaveFault, WatchedReader, load};
-use refusing::refuse_each;
+use refusing::{CountedReader, refuse_each};
 use std::alloc::Allocator;
 use std::test::Fail;
-use streams::FailingReader;
 
 /// How many bytes are loaded of those, of which a read gives so many at most, and in how many reads.
 fn load_from<A: Allocator>(
@@ -19,9 +17,9 @@ fn load_from<A: Allocator>(
 ) -> (Result<usize, LoadFault>, u64)
     requires { 0 < most }
 {
-    let mut reader = WatchedReader::new(FailingReader::new(bytes, most));
+    let mut reader = WatchedReader::new(CountedReader::new(bytes, most));
     let loaded = load(alloc, &mut reader, limit, expected);
-    (loaded.map(|all| all.len()), reader.into_reader().calls())
+    (loaded.map(|all| all.len()), reader.into_reader().calls)
 }
 
 /// A load ends at one byte over the limit. What is expected changes neither that nor the bytes, and takes no more memory
@@ -35,7 +33,7 @@ fn the_reads_of_a_load(rt: HostRuntime) {
         (7, 8, (Err(LoadFault::TooLarge), 8)),
     ] {
         let got = load_from(rt.alloc(), b"8 bytes.", 1, limit, expected);
-        is(&rt, &got, &wanted, "load");
+        assert!(rt; got == wanted);
     }
 }
 
@@ -61,10 +59,10 @@ fn each_load_and_save(rt: HostRuntime) -> Result<(), Fail> {
         heap.refuse(nth);
         let loaded = save_and_load(heap, &bytes);
         let no_memory = loaded == Err(LoadFault::NoMemory);
-        is(&rt, &no_memory, &heap.refused(), "refused");
-        is(&rt, &(no_memory || loaded == Ok(100_003)), &true, "loaded");
+        assert!(rt; no_memory == heap.refused());
+        assert!(rt; no_memory || loaded == Ok(100_003));
         Ok(())
     })?;
-    is(&rt, &(requests >= 6), &true, "requests");
+    assert!(rt; requests >= 6);
     Ok(())
 }

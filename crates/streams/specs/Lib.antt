@@ -1,4 +1,0 @@
--- What the contracts of this crate say.
-pub mod Failure
-pub mod Reader
-pub mod Writer
