@@ -40,10 +40,7 @@ fn requests_are_refused_as_told(rt: HostRuntime) -> Result<(), Fail> {
         )?;
     }
     let held = Box::new(&heap, 7u8);
-    is(
-        (heap.live_blocks(), below.live_blocks()) == (1, 1),
-        "held",
-    )?;
+    is((heap.live_blocks(), below.live_blocks()) == (1, 1), "held")?;
     drop(held);
     is(
         (heap.live_blocks(), below.live_blocks()) == (0, 0),
@@ -69,7 +66,7 @@ fn a_vector_over_a_wiping_allocator(rt: HostRuntime) -> Result<(), Fail> {
         heap.refuse(nth);
         let made = several(Wiping::new(heap));
         if let Ok(bytes) = made {
-            is(bytes.as_slice() == b"a key!", "bytes")?;
+            is(bytes.as_slice() == b"a key!".as_slice(), "bytes")?;
         }
         Ok(())
     })?;
