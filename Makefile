@@ -84,7 +84,8 @@ test:
 	rm -f $(BUILT) $(BUILT).o $(STATIC) $(LINKER_NAME) $(ARCHIVE)
 	rm -rf crates/*/out/rlib
 	rt ci
-	touch crates/*/out/rlib/*.rlib $(BUILT)
+	touch -c crates/*/out/rlib/*.rlib $(BUILT)
+	$(MAKE) --no-print-directory $(BUILT)
 	-test ! -f $(BUILT).o || $(MAKE) --no-print-directory static
 	$(MAKE) --no-print-directory lib
 	tests/run
