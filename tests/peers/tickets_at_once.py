@@ -15,14 +15,11 @@ from models.cache_model import Cache
 from models.cache_reading import read_cache
 from peers.caches_beside_mit import USER, Failed, Realm, are_there, differences_of, realm
 from runs.harness import SECONDS, Report, folder_of, run
+from runs.storms import Storms
 
-# How many runs of each command there are, within how many seconds they begin, and how many storms.
+# How many runs of each command there are, and within how many seconds they begin.
 EACH = 15
 WITHIN = 0.5
-ROUNDS = 3
-
-# A long run takes its count divided by this many rounds.
-SHARE = 1_000
 
 # Services whose tickets go, and those whose tickets come.
 GOING = tuple(f"svc/r{number}" for number in range(EACH))
@@ -130,13 +127,5 @@ def check_rounds(report: Report, program: str, seeds: range) -> None:
         report.check("MIT's kvno in a storm", [str(failed)])
 
 
-def check(report: Report, program: str) -> None:
-    """Runs a few storms."""
-    check_rounds(report, program, range(ROUNDS))
-
-
-def check_long(program: str, seed: int, count: int) -> Report:
-    """Runs storms from a seed on."""
-    report = Report()
-    check_rounds(report, program, range(seed, seed + max(1, count // SHARE)))
-    return report
+TOPIC = Storms(check_rounds, usual=3, share=1_000)
+check, check_long = TOPIC.check, TOPIC.check_long

@@ -17,12 +17,9 @@ from random import Random
 from makers.images import Entry, entries
 from peers.beside_mit import Mit, are_there
 from runs.harness import SECONDS, Report, folder_of, run
+from runs.storms import Storms
 from system.disk_saves import tree
 from system.storm_kinds import KINDS, MANY, Kind, change, removes
-
-# How many storms of each kind there are. A long run takes its count divided by the share.
-ROUNDS = 2
-SHARE = 2_000
 
 # A run that is refused has waited for another for this many seconds, or it says something else.
 LEAST_WAIT = 9
@@ -210,13 +207,5 @@ def check_rounds(report: Report, program: str, seeds: range) -> None:
                 report.check(f"{kind}, round {seed}", storm(program, kind, seed).found[:3])
 
 
-def check(report: Report, program: str) -> None:
-    """Runs a few storms of each kind."""
-    check_rounds(report, program, range(ROUNDS))
-
-
-def check_long(program: str, seed: int, count: int) -> Report:
-    """Runs storms from a seed on."""
-    report = Report()
-    check_rounds(report, program, range(seed, seed + max(1, count // SHARE)))
-    return report
+TOPIC = Storms(check_rounds, usual=2, share=2_000)
+check, check_long = TOPIC.check, TOPIC.check_long
