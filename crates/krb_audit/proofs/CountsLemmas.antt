@@ -35,6 +35,3 @@ hole_counted n total cells rest b is so_far = let count = ap (λ cs. length (hol
 
 pub hole_added : (n total : ℕ) (cells rest : List Cell) (b : List ℕ) → cells ≡ Free b ∷ rest → added n (holes cells) ≡ total → added (n + length b) (holes rest) ≡ total
 hole_added n total cells rest b is so_far = sym (ap (λ cs. added n (holes cs)) is) ∙ so_far
-
-pub live_passed : (cells rest : List Cell) (b : List ℕ) → cells ≡ Live b ∷ rest → holes cells ≡ holes rest
-live_passed cells rest b is = ap holes is

@@ -77,10 +77,6 @@ first_of_alike all x (y ∷ ys) one others = find_head _ _ y ys (key_alike all x
 abbrev first_of : PlacedEntry → ℕ × List ℕ
 first_of x = (x.0, x.1.key)
 
--- before any entry
-pub no_firsts : (all : List PlacedEntry) (look : Key → Option (ℕ × List ℕ)) → ((k : Key) → look k ≡ None) → AreFirsts all [] look
-no_firsts all look none k = none k
-
 last_of : (p : PlacedEntry → Bool) (x : PlacedEntry) (b : Bool) → p x ≡ b → find p (x ∷ []) ≡ cond b (Some x) None
 last_of p x b e = ap (λ (t : Bool). cond t (Some x) None) e
 

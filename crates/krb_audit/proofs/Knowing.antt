@@ -1,5 +1,5 @@
 -- What is known of the entries of a keytab, cell by cell.
-use Rattle.std.proofs.Common.{◌≡◌, ℕ, Bool, true, false, cond, List, [], ◌∷◌, ◌++◌, length, Option, Some, Result, Ok, Err, refl, sym, ap, subst, ◌∙◌, append_assoc}
+use Rattle.std.proofs.Common.{◌≡◌, ℕ, Bool, true, false, cond, List, [], ◌∷◌, ◌++◌, length, Option, Some, Result, Ok, Err, refl, sym, ap, ◌∙◌, append_assoc}
 use Rattle.std.specs.Prelude.{OnOk, unwrap_or}
 use Rattle.std.specs.BTreeMap.{BTreeMap, get, get_by, Updates}
 use Rattle.std.specs.Cmp.Lexicographic.{slice_cmp}
@@ -7,7 +7,6 @@ use Rattle.std.specs.declared.cmp.Ordering.{Ordering}
 use Rattle.std.specs.declared.cmp.Ordering.TheVariants.{Less, Equal, Greater}
 use Rattle.std.specs.Ordering.{nat_cmp, ordering_then, is_eq}
 use Rattle.std.specs.Str.{bytes_eq}
-use Rattle.std.proofs.lemmas.List.{append-nil}
 use Rattle.std.proofs.lemmas.Cmp.{nat_cmp_total, tied_itself}
 use Rattle.std.proofs.lemmas.Map.Text.{is_eq-slice_cmp}
 use Rattle.std.proofs.lemmas.Slice.Eq.{bytes_eq-Decides}
@@ -16,11 +15,11 @@ use Rattle.krb_wire.specs.declared.format.KtFormat.{KtFormat}
 use Rattle.krb_wire.specs.Spelling.{FitsKt}
 use Rattle.krb_wire.specs.SameName.{have_same_name}
 use Rattle.krb_wire.proofs.Fields.{is_some_has}
-use Rattle.krb_keytab.specs.Cells.{Cell, Live}
+use Rattle.krb_keytab.specs.Cells.{Live}
 use Rattle.krb_keytab.specs.CellViews.{CellsFrom, BeginsWith, cells_of}
 use Rattle.krb_keytab.specs.Entries.{entries_in}
 use Rattle.krb_keytab.specs.Entry.{EntryParts, entry_at}
-use Rattle.krb_keytab.specs.Find.{PlacedEntry, placed_entries}
+use Rattle.krb_keytab.specs.Find.{PlacedEntry}
 use Rattle.krb_keytab.specs.Store.{KeytabState}
 use Rattle.krb_keytab.proofs.EntryLists.{listed_live, entries_of_cells}
 use Rattle.krb_audit.specs.declared.newest.Names.{Names}
@@ -103,9 +102,3 @@ live_known f k old new at b names names' s format l considers =
       known = considers l.before at e.0 read l.known;
       all = append_assoc l.before ((at, e.0) ∷ []) (entries_in new.format new.place new.contents.cells) ∙ ap (λ (xs : List PlacedEntry). l.before ++ xs) (sym (listed_live old new at b e.0 s e.1)) ∙ l.all;
     }
-
--- after all cells it is known of all entries
-pub all_known : {A : Type 0} (f : KtFormat) (k : KeytabState) (cells : CellsFrom) (names : Names A) → IsKnownUpTo f k cells names → cells.contents.cells ≡ [] → AreKept (placed_entries k) names.versions.firsts.items names.versions.stamps.items
-all_known f k cells names l none =
-    let all : l.before ≡ placed_entries k = sym (append-nil l.before) ∙ ap (λ (cs : List Cell). l.before ++ entries_in cells.format cells.place cs) (sym none) ∙ l.all in
-    subst (λ (xs : List PlacedEntry). AreKept xs names.versions.firsts.items names.versions.stamps.items) all l.known.kept

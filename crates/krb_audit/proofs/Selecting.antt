@@ -17,7 +17,7 @@ use Rattle.krb_keytab.specs.Store.{KeytabState}
 use Rattle.krb_keytab.proofs.EntryLists.{entries_of_cells}
 use Rattle.krb_audit.specs.declared.selection.Selection.{Selection}
 use Rattle.krb_audit.specs.declared.asked.Selected.{Selected}
-use Rattle.krb_audit.specs.Selection.{is_named, has_asked_kvno, Selects}
+use Rattle.krb_audit.specs.Selection.{is_named, has_asked_kvno}
 use Rattle.krb_audit.specs.Asked.{asked_among, SelectsOf, SelectsUpTo}
 use Rattle.krb_audit.proofs.Keeping.{get_seam}
 
@@ -68,9 +68,6 @@ takes s xs ys x old new is places text named h =
 
 -- ---- all entries
 
-pub selects_none : {A B : Type 0} (s : Selection A) (xs rest : List PlacedEntry) (selected : Selected B) → selected.places.items ≡ [] → selected.text.items ≡ [] → selected.is_named ≡ false → rest ≡ xs → SelectsUpTo s xs rest 0 selected
-selects_none s xs rest selected places text named all = record { before = []; selects = record { places = places; text = text; is_named = named }; all = all; numbered = refl }
-
 -- the next entry stands at the number
 pub stands : {A B : Type 0} (s : Selection A) (xs old rest : List PlacedEntry) (number : ℕ) (x : PlacedEntry) (selected : Selected B) → SelectsUpTo s xs old number selected → old ≡ x ∷ rest → slice_get xs number ≡ Some x
 stands s xs old rest number x selected l is =
@@ -84,17 +81,6 @@ selects_next s xs old rest number next x selected new l is next_is selects = rec
   all = append_assoc l.before (x ∷ []) rest ∙ ap (λ (ys : List PlacedEntry). l.before ++ ys) (sym is) ∙ l.all;
   numbered = (let n = l.numbered in omega (arith, n, next_is, length-append l.before (x ∷ [])));
 }
-
-pub selects_all : {A B : Type 0} (s : Selection A) (k : KeytabState) (rest : List PlacedEntry) (number : ℕ) (selected : Selected B) → SelectsUpTo s (placed_entries k) rest number selected → rest ≡ [] → Selects s k selected
-selects_all s k rest number selected l none =
-    let all : l.before ≡ placed_entries k = sym (append-nil l.before) ∙ ap (λ (ys : List PlacedEntry). l.before ++ ys) (sym none) ∙ l.all in
-    record {
-      places = l.selects.places ∙ ap (λ (ys : List PlacedEntry). map (λ (y : PlacedEntry). y.0) (asked_among s (placed_entries k) ys)) all;
-      text = l.selects.text ∙ ap (λ (ys : List PlacedEntry). flat_map removed_line (asked_among s (placed_entries k) ys)) all;
-      is_named = l.selects.is_named ∙ ap (list_any (λ (y : PlacedEntry). is_named s y.1)) all;
-    }
-
--- ---- how many there are
 
 count_first : (at : ℕ) (o : Option EntryParts) (xs : List PlacedEntry) (n : ℕ) → length xs ≤ n → length (cons_option (option_map (λ (e : EntryParts). (at, e)) o) xs) ≤ suc n
 count_first at None xs n le = omega (arith, le)

@@ -3,10 +3,9 @@ use Rattle.std.specs.Prelude.{ℕ, List, ◌++◌, decimal, codes, Option, None,
 use Rattle.krb_wire.specs.Names.{name_text}
 use Rattle.krb_walk.specs.Said.{Said}
 use Rattle.krb_ccache.specs.declared.version.Version.{Version}
-use Rattle.krb_ccache.specs.declared.version.Version.TheVariants.{V4}
 use Rattle.krb_ccache.specs.Credential.{CredParts, credential_in}
 use Rattle.krb_ccache.specs.Config.{ConfigParts, config_name}
-use Rattle.krb_text.specs.Reply.{reply_text_by, reply_texts_by}
+use Rattle.krb_text.specs.Reply.{reply_text_by}
 use Rattle.krb_cache_text.specs.Escape.{escaped_text}
 use Rattle.krb_cache_text.specs.Credential.{about}
 
@@ -35,7 +34,3 @@ cache_record_tail version bytes = credential_tail (credential_in version bytes)
 -- the line of a reply, where a record's bytes are read in the version
 abbrev pub cache_reply_text : Version → Said → List ℕ
 cache_reply_text version reply = reply_text_by cache_record_tail version reply
-
--- the lines of replies in order; a rewrite makes it version 4
-abbrev pub cache_reply_texts : Version → List Said → List ℕ
-cache_reply_texts version replies = reply_texts_by cache_record_tail V4 version replies

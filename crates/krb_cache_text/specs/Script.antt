@@ -7,7 +7,7 @@ use Rattle.krb_text.specs.declared.line_fault.LineFault.{LineFault}
 use Rattle.krb_text.specs.declared.line_fault.LineFault.TheVariants.{UnknownWord, WordCount}
 use Rattle.krb_text.specs.Pieces.{pieces}
 use Rattle.krb_text.specs.Word.{name_word}
-use Rattle.krb_text.specs.Script.{◌>>=◌, made, common_event, ScriptFault, script_by}
+use Rattle.krb_text.specs.Script.{◌>>=◌, made, common_event}
 use Rattle.krb_cache_text.specs.declared.asked.Asked.{Asked}
 use Rattle.krb_cache_text.specs.declared.asked.Asked.TheVariants as asked
 
@@ -49,7 +49,3 @@ cache_line_of (word ∷ words) = if bytes_eq word (codes "config") then made ask
 -- what a line asks for, or its first fault; words are separated by single spaces
 abbrev pub cache_line_in : List ℕ → Result CacheLineParts LineFault
 cache_line_in line = cache_line_of (pieces 32 line)
-
--- what a script asks for in order, or its first faulty line with its first fault
-abbrev pub cache_script : List ℕ → Result (List CacheLineParts) ScriptFault
-cache_script text = script_by cache_line_in text

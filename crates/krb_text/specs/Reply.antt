@@ -1,7 +1,6 @@
 -- The lines of replies.
 use Rattle.std.specs.Prelude.{ℕ, List, [], ◌∷◌, ◌++◌, decimal, codes, Option, None, Some}
 use Rattle.krb_wire.specs.declared.format.KtFormat.{KtFormat}
-use Rattle.krb_wire.specs.declared.format.KtFormat.TheVariants.{V2}
 use Rattle.krb_walk.specs.Numbers.{code_number}
 use Rattle.krb_walk.specs.Said.{Said, Started, Gave, Ended, Faulted, Placed, Gone, Rewritten, Refused}
 use Rattle.krb_keytab.specs.Entry.{EntryParts, entry_at}
@@ -52,11 +51,3 @@ record_tail f bytes = given_tail (entry_at f bytes)
 -- the line of a reply, where a record's bytes are read in the format
 abbrev pub reply_text : KtFormat → Said → List ℕ
 reply_text f reply = reply_text_by record_tail f reply
-
--- the format after a reply: a rewrite makes it version 2
-abbrev pub format_after : KtFormat → Said → KtFormat
-format_after f reply = format_after_by V2 f reply
-
--- the lines of replies in order
-abbrev pub reply_texts : KtFormat → List Said → List ℕ
-reply_texts f replies = reply_texts_by record_tail V2 f replies

@@ -149,10 +149,6 @@ script_of line_in lines = asked_or_fault (faults_of line_in lines) (asked_of lin
 abbrev pub script_by : {L : Type 0} → (List ℕ → Result L LineFault) → List ℕ → Result (List L) ScriptFault
 script_by line_in text = script_of line_in (asked_from 1 (pieces 10 text))
 
--- the events of a keytab's script
-abbrev pub script : List ℕ → Result (List (Event EntryParts)) ScriptFault
-script text = script_by event_in text
-
 -- why a script is refused, in words
 abbrev pub refusal_text : ScriptRefusal → List ℕ
 refusal_text (Fault line kind) = codes "line " ++ decimal line ++ codes ": " ++ line_phrase kind

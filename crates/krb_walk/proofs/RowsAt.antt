@@ -10,11 +10,6 @@ use Rattle.krb_walk.specs.Records.{rows_at}
 use Rattle.krb_walk.proofs.Cells.{live_from, spots}
 use Rattle.krb_walk.proofs.Places.{widths}
 
--- a live cell stands at a place
-pub record Lives (s : Store) (p : ℕ) : Type 0 where
-  pub held : Record
-  pub is : live_at s p ≡ Some held
-
 -- a row of a turn has the turn's place
 with_place : (x : Standing) (live : Option (List ℕ)) (r : Record) → record_with x live ≡ Some r → r.place ≡ x.place
 with_place x None r h = cc

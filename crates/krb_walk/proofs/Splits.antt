@@ -1,12 +1,9 @@
--- Cells that are split at a place, and where a walk stops: what whoever implements Placed wants to prove.
+-- Cells that are split at a place: what whoever implements Placed wants to prove.
 use Rattle.std.proofs.Common.{◌≡◌, ℕ, ◌+◌, ◌<◌, ◌≤◌, Bool, true, false, List, [], ◌∷◌, ◌++◌, Option, Some, None, refl, sym, ap, ◌∙◌, arith}
 use Rattle.std.specs.Prelude.{◌&&◌, ◌==◌, nat_le, is_some}
 use Rattle.std.specs.List.{AllByRecursion}
 use Rattle.std.proofs.lemmas.Bool.Decides.{nat_tests}
-use Rattle.krb_walk.specs.declared.fault.FaultKind.{FaultKind}
-use Rattle.krb_walk.specs.declared.fault.Fault.{Fault}
-use Rattle.krb_walk.specs.declared.stop.Stop.TheVariants.{End, Fault as AtFault}
-use Rattle.krb_walk.specs.Store.{Cell, Store, end_from, end_of, is_place_from, bytes_of_some, next_live, fault_from, fault_of, end_stop, stop_of, stop_at}
+use Rattle.krb_walk.specs.Store.{Cell, end_from, is_place_from, bytes_of_some}
 use Rattle.krb_walk.proofs.Stops.{next_from, bytes_from, next_skips, end_from-ge, is_place_from-first, is_place_from-cons}
 use Rattle.krb_walk.proofs.Cells.{find_head, find_tail}
 
@@ -51,24 +48,6 @@ bytes_here at w live before after sound =
 
 -- ---- to a split
 
--- cells that are split at p
-pub record Splits (at : ℕ) (cells : List Cell) (p : ℕ) : Type 0 where
-  pub before : List Cell
-  pub after : List Cell
-  pub place : p ≡ end_from at before
-  pub is : cells ≡ before ++ after
-
-splits_cons : (at w p : ℕ) (live : Option (List ℕ)) (cells : List Cell) (b : Bool) → (at == p) ≡ b → (is_place_from (at + w) cells p ≡ true → Splits (at + w) cells p) → is_place_from at (record { width = w; live = live } ∷ cells) p ≡ true → Splits at (record { width = w; live = live } ∷ cells) p
-splits_cons at w p live cells true e ih is = record { before = []; after = record { width = w; live = live } ∷ cells; place = grind (arith, nat_tests); is = refl }
-splits_cons at w p live cells false e ih is =
-    let rest = ih (rw e at is) in
-    record { before = record { width = w; live = live } ∷ rest.before; after = rest.after; place = rest.place; is = ap (λ (cs : List Cell). record { width = w; live = live } ∷ cs) rest.is }
-
--- at each place they are
-pub place_splits : (at p : ℕ) (cells : List Cell) → is_place_from at cells p ≡ true → Splits at cells p
-place_splits at p [] is = record { before = []; after = []; place = grind (arith, nat_tests); is = refl }
-place_splits at p (c ∷ cells) is = splits_cons at c.width p c.live cells (at == p) refl (place_splits (at + c.width) p cells) is
-
 -- cells that are split before a live one at p
 pub record SplitsLive (at : ℕ) (cells : List Cell) (p : ℕ) (bytes : List ℕ) : Type 0 where
   pub before : List Cell
@@ -92,21 +71,3 @@ live_splits_cons at w p live cells bytes false e ih is =
 pub live_splits : (at p : ℕ) (cells : List Cell) (bytes : List ℕ) → bytes_from at cells p ≡ Some bytes → SplitsLive at cells p bytes
 live_splits at p [] bytes is = cc
 live_splits at p (c ∷ cells) bytes is = live_splits_cons at c.width p c.live cells bytes (at == p) refl (live_splits (at + c.width) p cells bytes) is
-
--- ---- where a walk stops that finds no record
-
-no_fault : (end : ℕ) (kind : Option FaultKind) → fault_from end kind ≡ None → End end ≡ end_stop end kind
-no_fault end None e = refl
-no_fault end (Some kind) e = cc
-
-some_fault : (end : ℕ) (kind : Option FaultKind) (fault : Fault) → fault_from end kind ≡ Some fault → AtFault fault ≡ end_stop end kind
-some_fault end None fault e = cc
-some_fault end (Some kind) fault e = ap AtFault cc
-
--- at the end place of a store without a fault
-pub stops_at_end : (s : Store) (p : ℕ) → next_live s p ≡ None → fault_of s ≡ None → End (end_of s) ≡ stop_at s p
-stops_at_end s p none whole = no_fault (end_of s) s.fault whole ∙ sym (ap (stop_of s) none)
-
--- or at its fault
-pub stops_at_fault : (s : Store) (p : ℕ) (fault : Fault) → next_live s p ≡ None → fault_of s ≡ Some fault → AtFault fault ≡ stop_at s p
-stops_at_fault s p fault none damaged = some_fault (end_of s) s.fault fault damaged ∙ sym (ap (stop_of s) none)

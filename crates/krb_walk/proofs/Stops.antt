@@ -4,10 +4,8 @@ use Rattle.std.specs.Prelude.{◌&&◌, ◌||◌, ◌==◌, nat_le, is_some, fil
 use Rattle.std.specs.List.{find, filter_map, AllByRecursion}
 use Rattle.std.proofs.lemmas.Bool.Decides.{nat_tests}
 use Rattle.std.proofs.lemmas.Bool.{leb-true, leb-false, le-leb, lt-leb}
-use Rattle.krb_walk.specs.declared.fault.FaultKind.{FaultKind}
-use Rattle.krb_walk.specs.declared.stop.Stop.TheVariants.{Live}
-use Rattle.krb_walk.specs.Store.{Cell, Store, Record, IsSound, IsPlace, standing, end_from, end_of, is_place_from, record_of, record_of_some, bytes_of_some, next_live, live_bytes, end_stop, stop_of, stop_at}
-use Rattle.krb_walk.specs.Stops.{StopsEnd, StopsGiveRecords, WalksBeginWithAll, records_from}
+use Rattle.krb_walk.specs.Store.{Cell, Record, standing, end_from, is_place_from, record_of, record_of_some, bytes_of_some}
+use Rattle.krb_walk.specs.Stops.{StopsEnd, StopsGiveRecords, WalksBeginWithAll}
 
 -- the first record at or after p, the records, and the cell at p, of cells from a place on
 abbrev pub next_from : ℕ → List Cell → ℕ → Option Record
@@ -156,43 +154,3 @@ stops_end s p is = none_left s.first p s.cells is
 
 pub walks_begin_with_all : WalksBeginWithAll
 walks_begin_with_all s = record { all = all_left s.first s.first s.cells (omega arith); place = is_place_from-first s.first s.cells }
-
--- ---- the laws, as a loop from stop to stop wants them
-
--- a stop at a place with the next one: the record there is the first that is left
-pub record Stopped (s : Store) (p at next : ℕ) : Type 0 where
-  pub bytes : List ℕ
-  pub first : records_from s p ≡ record { place = at; next = next; bytes = bytes } ∷ records_from s next
-  pub live : live_bytes s at ≡ Some bytes
-  pub place : IsPlace s next
-  pub ahead : p < next
-  pub within : next ≤ end_of s
-
-stopped_at : (s : Store) (p : ℕ) (r : Record) → IsSound s → next_live s p ≡ Some r → Stopped s p r.place r.next
-stopped_at s p r sound is =
-    let h = stops_give_records s p r sound is in
-    let at_or_after = h.at_or_after in
-    let ahead = h.ahead in
-    record { bytes = r.bytes; first = h.first; live = h.bytes; place = h.place; ahead = omega (arith, at_or_after, ahead); within = h.within }
-
-not_live : (end at next : ℕ) (fault : Option FaultKind) → end_stop end fault ≡ Live at next → ⊥
-not_live end at next None e = cc
-not_live end at next (Some kind) e = cc
-
-stopped_by : (s : Store) (p at next : ℕ) (found : Option Record) → IsSound s → next_live s p ≡ found → stop_of s found ≡ Live at next → Stopped s p at next
-stopped_by s p at next None sound is e = absurd (not_live (end_of s) at next s.fault e)
-stopped_by s p at next (Some r) sound is e =
-    let place : r.place ≡ at = cc in
-    let after : r.next ≡ next = cc in
-    subst (λ (n : ℕ). Stopped s p at n) after (subst (λ (n : ℕ). Stopped s p n r.next) place (stopped_at s p r sound is))
-
-pub stopped : (s : Store) (p at next : ℕ) → IsSound s → stop_at s p ≡ Live at next → Stopped s p at next
-stopped s p at next sound e = stopped_by s p at next (next_live s p) sound refl e
-
-ended_by : (s : Store) (p : ℕ) (found : Option Record) → next_live s p ≡ found → ((at next : ℕ) → stop_of s found ≡ Live at next → ⊥) → records_from s p ≡ []
-ended_by s p None is not = stops_end s p is
-ended_by s p (Some r) is not = absurd (not r.place r.next refl)
-
--- where there is no stop at a record, none is left
-pub ended : (s : Store) (p : ℕ) → ((at next : ℕ) → stop_at s p ≡ Live at next → ⊥) → records_from s p ≡ []
-ended s p not = ended_by s p (next_live s p) refl not

@@ -1,5 +1,5 @@
 -- What a session did in a run of events.
-use Rattle.std.specs.Prelude.{◌≡◌, ℕ, ◌<◌, List, [], ◌++◌, length, take, Some, Result, Ok}
+use Rattle.std.specs.Prelude.{◌≡◌, ℕ, ◌<◌, List, ◌++◌, length, take, Some}
 use Rattle.krb_walk.specs.declared.event.Event.{Event}
 use Rattle.krb_walk.specs.declared.fault.FaultKind.{FaultKind}
 use Rattle.krb_walk.specs.Said.{Said}
@@ -27,11 +27,3 @@ pub record RanSome {S I : Type 0} (r : Rules S I) (old new : SessionState S) (ev
   pub done : ℕ
   pub fewer : done < length events
   pub ran : Ran r old new (take done events) told_old told_new
-
--- a store that was opened was given to a new session, which ran, and so it is spelled afterwards
-pub record Edits {S E : Type 0} (opened : Result S E) (run : SessionState S → SessionState S → Type 0) (spell : S → List ℕ) (new : List ℕ) : Type 0 where
-  pub store : S
-  pub opens : opened ≡ Ok store
-  pub after : SessionState S
-  pub ran : run (record { store = store; cursors = [] }) after
-  pub image_is : new ≡ spell after.store
