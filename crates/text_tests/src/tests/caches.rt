@@ -1,3 +1,5 @@
+//! Caches and their changes. Images are spelled out by hand.
+
 mod as_mit;
 mod memory;
 

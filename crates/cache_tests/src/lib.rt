@@ -1,5 +1,0 @@
-//! Tests of `krb_ccache` by its public calls. They are a crate of their own, since a crate with tests is proved twice.
-#![tactic(auto)]
-
-#[cfg(test)]
-mod tests;
