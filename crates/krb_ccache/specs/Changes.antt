@@ -10,7 +10,7 @@ use Rattle.krb_walk.specs.Store.{end_of, fault_of, live_bytes}
 use Rattle.krb_ccache.specs.declared.version.Version.{Version}
 use Rattle.krb_ccache.specs.declared.version.Version.TheVariants.{V3, V4}
 use Rattle.krb_ccache.specs.declared.offset.Offset.{Offset}
-use Rattle.krb_ccache.specs.Credential.{CredParts, credential, is_marked, number32}
+use Rattle.krb_ccache.specs.Credential.{CredParts, credential, is_marked, marked_times, number32}
 use Rattle.krb_ccache.specs.Header.{Field, header}
 use Rattle.krb_ccache.specs.Store.{CacheState, first_place, placed_from, image_of, store_of}
 use Rattle.krb_ccache.specs.Open.{InMemory}
@@ -56,7 +56,7 @@ RefusesAs given NoMemory = IsOk given
 
 -- the credential with the removed mark
 abbrev pub add_mark : CredParts → CredParts
-add_mark c = record c { times = record { authtime = 4294967295; starttime = c.times.starttime; endtime = 0; renew_till = c.times.renew_till } }
+add_mark c = record c { times = marked_times c.times }
 
 -- the credentials, with the mark on the one at a place
 abbrev pub add_mark_at : Version → ℕ → ℕ → List CredParts → List CredParts

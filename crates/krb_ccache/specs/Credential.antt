@@ -36,8 +36,16 @@ pub record CredParts : Type 0 where
   pub second_ticket : List ℕ
 
 -- the removed mark, which is this project's own: endtime 0 and the greatest authtime
+abbrev pub are_marked : Times → Bool
+are_marked t = t.endtime == 0 && t.authtime == 4294967295
+
+-- the times with the mark
+abbrev pub marked_times : Times → Times
+marked_times t = record { authtime = 4294967295; starttime = t.starttime; endtime = 0; renew_till = t.renew_till }
+
+-- a credential that is removed
 abbrev pub is_marked : CredParts → Bool
-is_marked c = c.times.endtime == 0 && c.times.authtime == 4294967295
+is_marked c = are_marked c.times
 
 -- ---- spelling
 

@@ -79,7 +79,7 @@ impl<A: Allocator> Cred<A> {
     pub fn is_marked(&self) -> bool
         ensures { result ≡ is_marked self.now }
     {
-        self.endtime == 0 && self.authtime == u32::MAX
+        self.times().are_marked()
     }
 }
 

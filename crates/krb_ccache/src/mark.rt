@@ -11,6 +11,7 @@ ghost use Rattle.krb_ccache.specs.Store.{credential_at_place};
 
 use crate::cells::bytes_fit;
 use crate::credential::key::split_key;
+use crate::credential::times::{MARKED_AUTHTIME, MARKED_ENDTIME};
 use crate::open::Layout;
 use crate::version::Version;
 use krb_wire::{Order, Pen, split_cc_principal, tail};
@@ -47,8 +48,8 @@ pub fn mark(version: Version, image: &mut [u8], place: usize)
         unreachable!()
     };
     let authtime = image.len() - times.len();
-    put_time(u32::MAX, image, authtime);
-    put_time(0, image, authtime + 8);
+    put_time(MARKED_AUTHTIME, image, authtime);
+    put_time(MARKED_ENDTIME, image, authtime + 8);
 }
 
 /// Marks the live credential at a place of an image.

@@ -1,7 +1,8 @@
 //! The times of a credential.
 
+ghost use Rattle.std.specs.Prelude.{◌≡◌};
 ghost use Rattle.krb_wire.specs.Reading.{Gives};
-ghost use Rattle.krb_ccache.specs.Credential.{times_at};
+ghost use Rattle.krb_ccache.specs.Credential.{are_marked, times_at};
 
 use krb_wire::{Order, split_u32};
 
@@ -12,6 +13,21 @@ pub struct Times {
     pub starttime: u32,
     pub endtime: u32,
     pub renew_till: u32,
+}
+
+/// The authtime of the removed mark.
+pub const MARKED_AUTHTIME: u32 = u32::MAX;
+
+/// The endtime of the removed mark.
+pub const MARKED_ENDTIME: u32 = 0;
+
+impl Times {
+    /// Whether they have the removed mark.
+    pub fn are_marked(self) -> bool
+        ensures { result ≡ are_marked self }
+    {
+        self.endtime == MARKED_ENDTIME && self.authtime == MARKED_AUTHTIME
+    }
 }
 
 /// The times that the bytes begin with, and the bytes after them.

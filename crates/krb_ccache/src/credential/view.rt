@@ -214,6 +214,6 @@ impl<'a> CredView<'a> {
     pub fn is_marked(&self) -> bool
         ensures { result ≡ is_marked self.now }
     {
-        self.times.endtime == 0 && self.times.authtime == u32::MAX
+        self.times.are_marked()
     }
 }
