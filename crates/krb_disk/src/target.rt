@@ -68,10 +68,7 @@ impl<A: Allocator> Target<A> {
 
     /// The user who owns the file, if there is one.
     pub fn owner(&self) -> Option<u32> {
-        match self.old {
-            Some(old) => Some(old.owner),
-            None => None,
-        }
+        self.old.as_ref().map(|old| old.owner)
     }
 }
 

@@ -103,10 +103,7 @@ fn copy_within<A: Allocator>(
     if bytes.len() > limit as usize {
         return Err(LoadFault::TooLarge);
     }
-    match Vec::from_slice(alloc, bytes) {
-        Ok(copy) => Ok(copy),
-        Err(_) => Err(LoadFault::NoMemory),
-    }
+    Vec::from_slice(alloc, bytes).map_err(|_| LoadFault::NoMemory)
 }
 
 // Where the first file of that name stands.

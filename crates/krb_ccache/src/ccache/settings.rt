@@ -1,6 +1,6 @@
 //! What setting a configuration value adds to a cache, and what it removes.
 
-ghost use Rattle.std.specs.Prelude.{◌≡◌, ◌++◌, ◌∷◌, [], IfOk, OnOk, option_copied};
+ghost use Rattle.std.specs.Prelude.{◌≡◌, IfOk, option_copied};
 ghost use Rattle.krb_wire.specs.Reading.{items_of, principal_parts};
 ghost use Rattle.krb_ccache.specs.SetConfig.{config_components, config_server, entry_of, match_places};
 
@@ -12,18 +12,6 @@ use crate::credential::Cred;
 use krb_wire::{NoMemory, Principal, copy_name};
 use std::alloc::Allocator;
 
-// Puts a copy of a text after the others.
-fn push_copy<A: Allocator + Copy>(
-    alloc: A,
-    texts: &mut Vec<Vec<u8, A>, A>,
-    text: &[u8],
-) -> Result<(), NoMemory>
-    ensures { OnOk result (items_of texts.new.items ≡ items_of texts.old.items ++ (text.now ∷ [])) }
-{
-    texts.push(Vec::from_slice(alloc, text)?)?;
-    Ok(())
-}
-
 // The components of the server of an entry.
 fn server_components<A: Allocator + Copy>(
     alloc: A,
@@ -32,10 +20,10 @@ fn server_components<A: Allocator + Copy>(
     ensures { IfOk result (λ v. items_of v.items ≡ config_components setting.now.key setting.now.principal) }
 {
     let mut components = Vec::with_capacity(alloc, 3)?;
-    push_copy(alloc, &mut components, FIRST)?;
-    push_copy(alloc, &mut components, setting.key)?;
+    components.push(Vec::from_slice(alloc, FIRST)?)?;
+    components.push(Vec::from_slice(alloc, setting.key)?)?;
     if let Some(text) = setting.principal {
-        push_copy(alloc, &mut components, text)?;
+        components.push(Vec::from_slice(alloc, text)?)?;
     }
     Ok(components)
 }
