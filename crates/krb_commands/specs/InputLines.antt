@@ -2,6 +2,7 @@
 use Rattle.std.specs.Prelude.{◌≡◌, ℕ, ◌+◌, ◌<◌, ◌≤◌, ◌==◌, List, [], ◌∷◌, ◌++◌, drop, take, length, slice_range, Bool, true, false, Option, None, Some, IfSome}
 use Rattle.std.specs.List.{flat_map, slice_split, AllByRecursion}
 use Rattle.std.specs.Io.KnownBytes.{Consumes, IsAtEnd}
+use Rattle.krb_commands.specs.Loading.{most_bytes}
 
 -- a byte is a newline
 abbrev pub is_newline : ℕ → Bool
@@ -62,7 +63,7 @@ pub record CutsOff (lines : List (List ℕ)) (bytes : List ℕ) : Type 0 where
 
 -- the line that was read ended with a newline, within what an input may have
 pub record EndsInNewline (old new : InputParts) : Type 0 where
-  pub within : new.next ≤ 16777216
+  pub within : new.next ≤ most_bytes
   pub read : take new.next new.read ≡ take old.next old.read ++ (new.line ++ 10 ∷ [])
 
 -- the reader is at its end, and all that was read is in lines
@@ -73,7 +74,7 @@ pub record IsSpent (input : InputParts) (left : Option (List ℕ)) : Type 0 wher
 -- no further newline was read, within what an input may have
 pub record HasNoMore (old new : InputParts) : Type 0 where
   pub same : new.next ≡ old.next
-  pub none : HasNone (slice_range new.read new.next 16777216)
+  pub none : HasNone (slice_range new.read new.next most_bytes)
 
 -- a reader gave some bytes, by which those that were read have grown
 pub record Grows (old new : List ℕ) (left left' : Option (List ℕ)) : Type 0 where
@@ -84,7 +85,7 @@ pub record Grows (old new : List ℕ) (left left' : Option (List ℕ)) : Type 0 
 -- the next line begins within what was read, which is a byte more than an input may have at most
 pub record IsWithin (input : InputParts) : Type 0 where
   pub next : input.next ≤ length input.read
-  pub most : length input.read ≤ 16777217
+  pub most : length input.read ≤ most_bytes + 1
 
 -- ---- for private contracts
 

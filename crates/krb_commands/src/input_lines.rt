@@ -2,15 +2,14 @@
 
 ghost use Rattle.std.specs.Prelude.{◌≡◌, ◌≢◌, ◌⊎◌, ◌||◌, ◌<◌, ◌≤◌, [], length, slice_range, IfOk, IfErr, IfSome, IsTrue, OnErr, IsErrOf, vec_len};
 ghost use Rattle.krb_files.specs.Reader.{is_read_fault};
+ghost use Rattle.krb_commands.specs.Loading.{most_bytes};
 ghost use Rattle.krb_commands.specs.InputLines.{InputParts, ReadsLine, KeepsLines, Grows, IsWithin, FindsNewline, EndsLine, EndsInNewline, IsSpent, HasNoMore, HasNone};
 
 use krb_files::{LoadFault, WatchedReader, append_read, next_read};
+use krb_wire::USUAL_LIMIT;
 use std::alloc::Allocator;
 use std::io::Read;
 use std::marker::Model;
-
-/// The most bytes that are read from the standard input.
-pub const MOST_INPUT: u32 = 16_777_216;
 
 /// An input as far as it was read, and the line that was read last.
 #[derive(Drop)]
@@ -25,6 +24,7 @@ pub struct InputLines<A: Allocator> {
 impl<A: Allocator> Model for InputLines<A> {
     ghost use Rattle.std.specs.Prelude.{◌≤◌, slice_range, vec_len};
     ghost use Rattle.krb_commands.specs.InputLines.{InputParts};
+    ghost use Rattle.krb_commands.specs.Loading.{most_bytes};
 
     ghost Value = { InputParts };
 
@@ -35,7 +35,7 @@ impl<A: Allocator> Model for InputLines<A> {
     } };
 
     ghost invariant = { λ i. (i.from ≤ i.to) × (i.to ≤ i.next) × (i.next ≤ vec_len i.bytes)
-        × (vec_len i.bytes ≤ 16777217) };
+        × (vec_len i.bytes ≤ most_bytes + 1) };
 }
 
 // The first newline from a place on.
@@ -53,17 +53,17 @@ fn read_to_newline<A: Allocator, R: Read>(
     reader: &mut WatchedReader<R>,
     next: usize,
 ) -> Result<Option<usize>, LoadFault>
-    requires { (next ≤ vec_len bytes.old) × (vec_len bytes.old ≤ 16777217) }
+    requires { (next ≤ vec_len bytes.old) × (vec_len bytes.old ≤ most_bytes + 1) }
     ensures ok { IfOk result (EndsLine bytes.new.items next reader.new.left) }
-    ensures most { IfOk result (λ end. IfSome end (λ place. place < 16777216)) }
-    ensures none { OnErr result (HasNone (slice_range bytes.new.items next 16777216)) }
+    ensures most { IfOk result (λ end. IfSome end (λ place. place < most_bytes)) }
+    ensures none { OnErr result (HasNone (slice_range bytes.new.items next most_bytes)) }
     ensures failed { reader.new.failed ≡ (is_read_fault result || reader.old.failed) }
-    ensures too_large { IsErrOf result LoadFault.TooLarge → 16777216 < vec_len bytes.new }
+    ensures too_large { IsErrOf result LoadFault.TooLarge → most_bytes < vec_len bytes.new }
     ensures never { IfErr result (λ fault. fault ≢ LoadFault.Missing) }
     ensures grows { Grows bytes.old.items bytes.new.items reader.old.left reader.new.left }
-    ensures within { vec_len bytes.new ≤ 16777217 }
+    ensures within { vec_len bytes.new ≤ most_bytes + 1 }
 {
-    let most = MOST_INPUT as usize;
+    let most = USUAL_LIMIT as usize;
     let mut seen = next;
     let mut last = 0;
     'reads: loop {
@@ -106,7 +106,7 @@ impl<A: Allocator> InputLines<A> {
     }
 
     /// Reads the next line, and no further than its end is known; false where the input has ended. A last
-    /// line needs no newline. At most one byte more than `MOST_INPUT` is read, of all lines together.
+    /// line needs no newline. At most one byte more than `USUAL_LIMIT` is read, of all lines together.
     pub fn read_line<R: Read>(&mut self, reader: &mut WatchedReader<R>) -> Result<bool, LoadFault>
         ensures line { IfOk result (λ is_line. ReadsLine is_line self.old self.new
             reader.old.left reader.new.left) }
@@ -117,7 +117,7 @@ impl<A: Allocator> InputLines<A> {
         ensures failed { reader.new.failed ≡ (is_read_fault result || reader.old.failed) }
         ensures err { OnErr result (KeepsLines self.old self.new
             reader.old.left reader.new.left) }
-        ensures too_large { IsErrOf result LoadFault.TooLarge → 16777216 < length self.new.read }
+        ensures too_large { IsErrOf result LoadFault.TooLarge → most_bytes < length self.new.read }
         ensures never { IfErr result (λ fault. fault ≢ LoadFault.Missing) }
         ensures grows { Grows self.old.read self.new.read reader.old.left reader.new.left }
         ensures within { IsWithin self.new }

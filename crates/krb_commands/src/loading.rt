@@ -10,11 +10,8 @@ use crate::trouble::Trouble;
 use krb_ccache::{CcOpenFault, Ccache};
 use krb_files::{Files, LoadFault};
 use krb_keytab::{Keytab, KtOpenFault};
-use krb_wire::{KtFormat, Limits, Order};
+use krb_wire::{KtFormat, Limits, Order, USUAL_LIMIT};
 use std::alloc::Allocator;
-
-/// The most bytes that a file may have.
-pub const MOST_BYTES: u32 = 16_777_216;
 
 /// Why a file gave no keytab.
 #[derive(Clone, Copy)]
@@ -82,7 +79,7 @@ pub fn load_keytab<A: Allocator, F: Files>(
     ensures { Gives F.Files files.old name.now
         (keytab_of v1_order) (result_map (λ k. k.state) result) files.new }
 {
-    let image = files.load(alloc, name, MOST_BYTES)?;
+    let image = files.load(alloc, name, USUAL_LIMIT)?;
     open(v1_order, image)
 }
 
@@ -116,7 +113,7 @@ pub fn load_cache<A: Allocator, F: Files>(
     ensures { Gives F.Files files.old name.now
         cache_of (result_map (λ k. k.state) result) files.new }
 {
-    let image = files.load(alloc, name, MOST_BYTES)?;
+    let image = files.load(alloc, name, USUAL_LIMIT)?;
     match Ccache::open(image, Limits::usual()) {
         Ok(cache) => Ok(cache),
         Err(refused) => Err(Trouble::NotACache(NotCache {

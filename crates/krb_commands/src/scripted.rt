@@ -4,12 +4,12 @@ ghost use Rattle.std.specs.Prelude.{IsFalse};
 ghost use Rattle.krb_commands.specs.Scripted.{EditsByScript, RunsScript};
 
 use crate::edited::{Edited, hold_if, show_edited};
-use crate::input_lines::MOST_INPUT;
 use crate::telling::error_output::ErrorOutput;
 use crate::telling::{cause_of, tell};
 use crate::trouble::Trouble;
 use krb_files::{Files, Watched, WatchedReader, load};
 use krb_text::{ScriptLine, parse_script};
+use krb_wire::USUAL_LIMIT;
 use std::alloc::Allocator;
 use std::io::{Read, Write};
 
@@ -60,7 +60,7 @@ fn edit_file<A: Allocator + Copy, L: ScriptLine<A>, E: Editor<A, L>, F: Files, R
     ensures { EditsByScript F.Files file.now L.line_in (E.fairly editor.now) (E.due editor.now)
         script.old script.new files.old files.new out.old out.new result }
 {
-    let text = match load(alloc, script, MOST_INPUT, 0) {
+    let text = match load(alloc, script, USUAL_LIMIT, 0) {
         Ok(text) => text,
         Err(fault) => return Err(Trouble::of_input(fault)),
     };

@@ -25,7 +25,7 @@ pub use components::Components;
 pub use counted::{read_data16, read_data32, split_data16, split_data32, tail};
 pub use format::{KtFormat, Lengths, Order};
 pub use laws::texts_name_their_names;
-pub use limits::Limits;
+pub use limits::{Limits, USUAL_LIMIT};
 pub use memory::NoMemory;
 pub use name::Name;
 pub use name_fault::NameFault;

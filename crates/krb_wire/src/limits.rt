@@ -8,7 +8,8 @@ const LEAST: u32 = 2;
 
 const MOST: u32 = 1 << 30;
 
-const USUAL: u32 = 1 << 24;
+/// The usual limit of an image, and of all that is read of one input: 16 MiB.
+pub const USUAL_LIMIT: u32 = 1 << 24;
 
 /// The greatest length of an image, in bytes: at least 2 and at most 1,073,741,824.
 #[derive(Clone, Copy, Debug)]
@@ -42,7 +43,7 @@ impl Limits {
     pub fn usual() -> Limits
         ensures { result ≡ 16777216 }
     {
-        Limits { image: USUAL }
+        Limits { image: USUAL_LIMIT }
     }
 
     /// The greatest length.

@@ -5,6 +5,7 @@ use crate::looks::Looks;
 use crate::looks::device::{Mounted, Place};
 use crate::patience::Patience;
 use krb_files::{LoadFault, WatchedReader, append_read};
+use krb_wire::USUAL_LIMIT;
 use std::{rt, str};
 
 /// The system's list of locks, and of those that are waited for, each a line, as
@@ -12,7 +13,7 @@ use std::{rt, str};
 const LOCKS: &str = "/proc/locks";
 
 /// The most bytes that are read of it. Who has more locks than that may have this one.
-const MOST_BYTES: usize = 16_777_216;
+const MOST_BYTES: usize = USUAL_LIMIT as usize;
 
 /// How many bytes one read asks for: the system gives no more at once.
 const PIECE: usize = 4096;

@@ -4,6 +4,7 @@ use crate::fault::{DiskFault, ReadFault};
 use crate::looks::Looks;
 use crate::looks::device::Device;
 use crate::read::read_file;
+use krb_wire::USUAL_LIMIT;
 use std::{rt, str};
 
 /// Where the system says of an open file, by its number, on which mount it is: a line as `mnt_id: 25`.
@@ -13,15 +14,12 @@ const OPEN_FILES: &str = "/proc/self/fdinfo/";
 /// device, as `25 1 0:38 / /tmp`.
 const MOUNTS: &str = "/proc/self/mountinfo";
 
-/// The most bytes that are read of each.
-const MOST_BYTES: u32 = 16_777_216;
-
 // What the system says there, if it does.
 fn read_text<R: rt::Files + Alloc>(
     looks: &Looks<'_, R>,
     path: &str,
 ) -> Result<Option<Vec<u8, R::A>>, DiskFault> {
-    match read_file(looks, looks.alloc(), path, MOST_BYTES, 0) {
+    match read_file(looks, looks.alloc(), path, USUAL_LIMIT, 0) {
         Ok((_, text)) => Ok(Some(text)),
         Err(ReadFault::Disk(DiskFault::NoMemory)) => Err(DiskFault::NoMemory),
         Err(_) => Ok(None),
