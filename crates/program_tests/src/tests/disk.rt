@@ -26,7 +26,7 @@ pub struct Reached<'a> {
     left: &'static [u8],
 }
 
-/// So many bytes of a list of locks have no end.
+/// A list of locks of this many bytes has no end: each read gives it again.
 const PAGE: usize = 4096;
 
 impl Disk {
@@ -198,9 +198,13 @@ impl<'a> rt::Files for Reached<'a> {
         let is_new = how.asks_create_new();
         self.disk
             .note(if is_new { "make " } else { "open " }, path)?;
+        let state = self.disk.state.get();
+        if is_new && state.is_taken {
+            return Err(io::Error::from(ErrorKind::AlreadyExists));
+        }
         Ok(Reached {
             disk: self.disk,
-            left: self.disk.state.get().bytes_of(path),
+            left: state.bytes_of(path),
         })
     }
 

@@ -25,7 +25,7 @@ fn change(alloc: Global, disk: &Disk, bytes: &'static [u8], locks: &'static [u8]
     load(&mut files, alloc);
     let later = disk.state.get().after(60_000, 0);
     disk.state.set(later.having(bytes).locked(locks, 6));
-    let saved = save(&mut files);
+    let saved = save(&mut files, "k");
     release(&mut files);
     saved
 }
@@ -41,7 +41,9 @@ fn a_file_that_changes(rt: HostRuntime) {
         (b"old or not", NONE, Some(Cause::Changed), 0),
         (b"old", LOCK, None, 5),
     ] {
-        let disk = Disk::new(rt.alloc(), WHOLE.having(b"old").paced(1));
+        let mut state = WHOLE.having(b"old");
+        state.pace = Some(1);
+        let disk = Disk::new(rt.alloc(), state);
         let got = change(rt.alloc(), &disk, bytes, locks);
         let got = (got, disk.state.get().is_made, disk.state.get().slept);
         is(&rt, &got, &(saved(cause), false, slept), "save");
@@ -100,7 +102,8 @@ fn what_is_changed_is_held(rt: HostRuntime) -> Result<(), Fail> {
     Ok(())
 }
 
-/// A file that is held and not saved is left, once. A hold that was refused keeps the file from being saved.
+/// A file that is held and not saved is left, once, and so it is where another one is to be saved. A hold that was refused
+/// keeps the file from being saved.
 #[test]
 fn a_file_that_is_left(rt: HostRuntime) {
     let disk = Disk::new(rt.alloc(), WHOLE);
@@ -110,8 +113,13 @@ fn a_file_that_is_left(rt: HostRuntime) {
     release(&mut files);
     release(&mut files);
     is(&rt, &disk.was_asked(&[HOLD, LOCKS, LEAVE]), &true, "left");
+    hold(&mut files);
+    let another = save(&mut files, "d.krbfile");
+    is(&rt, &another, &saved(Some(Cause::NameOfSaves)), "another");
+    let calls = [HOLD, LOCKS, LEAVE, HOLD, LOCKS, LEAVE, "look d.krbfile\n"];
+    is(&rt, &disk.was_asked(&calls), &true, "left for another");
     disk.state.set(WHOLE.failing(2, 13));
     hold(&mut files);
     let denied = saved(Some(Cause::PermissionDenied));
-    is(&rt, &save(&mut files), &denied, "refused");
+    is(&rt, &save(&mut files, "k"), &denied, "refused");
 }

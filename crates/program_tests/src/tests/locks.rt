@@ -55,15 +55,24 @@ fn a_lock_that_most_readings_miss(rt: HostRuntime) {
 }
 
 /// A lock that stays and a list that is not read to its end end the wait after ten seconds by the clock, or by the number
-/// of tries where that fails.
+/// of tries where that fails. What is not ours and has the new file's name ends it after one, unless a whole file is locked.
 #[test]
 fn waits_that_end(rt: HostRuntime) {
-    for (state, slept, time) in [
-        (WHOLE.locked(LOCK, 0), 10_000, 10_000),
-        (WHOLE.locked(LOCK, 0).paced(10), 2_500, 11_000),
-        (WHOLE.locked(ENDLESS, 0).paced(100), 0, 11_000),
+    for (is_taken, locks, pace, cause, slept, time) in [
+        (false, LOCK, None, Cause::InUse, 10_000, 10_000),
+        (false, LOCK, Some(10), Cause::InUse, 2_500, 11_000),
+        (false, ENDLESS, Some(100), Cause::InUse, 0, 11_000),
+        (true, NONE, None, Cause::InTheWay, 1_000, 1_000),
+        (true, LOCK, None, Cause::InTheWay, 1_000, 1_000),
+        (true, FLOCK, None, Cause::InUse, 10_000, 10_000),
+        (true, NONE, Some(100), Cause::InTheWay, 10, 2_000),
     ] {
-        check_wait(&rt, state, Some(Cause::InUse), slept, time);
+        let state = State {
+            pace,
+            is_taken,
+            ..WHOLE.locked(locks, 0)
+        };
+        check_wait(&rt, state, Some(cause), slept, time);
     }
 }
 

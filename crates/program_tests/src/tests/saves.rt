@@ -6,10 +6,7 @@ use super::state::WHOLE;
 use krb_disk::DiskFiles;
 use krb_files::{Cause, Files, LoadFault, SaveFault};
 use std::alloc::Global;
-use std::io;
-use std::os::fd::AsRawFd;
 use std::process::Abort;
-use std::test::Fail;
 
 /// The calls that hold `k`, a plain file, up to the readings of the list of locks.
 pub const HOLD: &str = "look k\nmake k.krbfile\nlock\ntell\nlook k.krbfile\ndouble\n\
@@ -57,8 +54,8 @@ pub fn load(files: &mut Noted<'_, '_>, alloc: Global) -> (Option<LoadFault>, Opt
 /// What a save failed with, if it did.
 pub type Saved = Result<(), (SaveFault, Option<Cause>)>;
 
-pub fn save(files: &mut Noted<'_, '_>) -> Saved {
-    match files.save("k", b"bytes") {
+pub fn save(files: &mut Noted<'_, '_>, name: &str) -> Saved {
+    match files.save(name, b"bytes") {
         Ok(()) => Ok(()),
         Err(fault) => Err((fault, files.cause())),
     }
@@ -75,7 +72,7 @@ pub fn saved(cause: Option<Cause>) -> Saved {
 /// Saves `k` on that disk.
 pub fn save_on(alloc: Global, disk: &Disk) -> Saved {
     let reached = (disk.reached(), alloc);
-    save(&mut DiskFiles::new(&reached))
+    save(&mut DiskFiles::new(&reached), "k")
 }
 
 /// Saves where the call of that number fails with that error, and leaves no new file.
@@ -180,19 +177,4 @@ fn each_call_of_a_load_fails(rt: HostRuntime) {
         };
         check_load(&rt, 1, error, Some(fault));
     }
-}
-
-/// A pipe that was to be held is not opened, so nothing waits until another program writes to it.
-#[test]
-fn a_pipe_is_not_opened(rt: HostRuntime) -> Result<(), Fail> {
-    let (reader, _writer) = io::pipe(&rt)?;
-    let name = format!(in rt.alloc(); "/dev/fd/{}", reader.as_raw_fd())?;
-    let mut files = DiskFiles::new(&rt);
-    files.hold(&name);
-    let loaded = files.load(rt.alloc(), &name, 10).err();
-    let saved = files.save(&name, b"new").err();
-    is(&rt, &loaded, &Some(LoadFault::Failed), "load");
-    is(&rt, &saved, &Some(SaveFault::Failed), "save");
-    is(&rt, &files.cause(), &Some(Cause::NotAPlainFile), "cause");
-    Ok(())
 }

@@ -7,14 +7,16 @@ pub struct State {
     pub failing: (u64, i32),
     /// The bytes of `k`.
     pub bytes: &'static [u8],
-    /// The list of locks in the reading of that number, in each if it is 0. It is empty in the others. One that has a
-    /// page of bytes has no end.
+    /// The list of locks in the reading of that number, in each if it is 0. It is empty in the others. One of a page of
+    /// bytes has no end.
     pub locks: (&'static [u8], u64),
     /// What the system says of the new file, and of its mounts.
     pub file_info: &'static [u8],
     pub mounts: &'static [u8],
     /// By how many milliseconds each look at the clock moves it on; where there is none it fails.
     pub pace: Option<u64>,
+    /// Whether something that is not ours has the new file's name.
+    pub is_taken: bool,
     /// Whether the new file was made and is still there.
     pub is_made: bool,
     /// How many calls there were, and readings of the list of locks.
@@ -33,6 +35,7 @@ pub const WHOLE: State = State {
     file_info: b"",
     mounts: b"",
     pace: None,
+    is_taken: false,
     is_made: false,
     calls: 0,
     readings: 0,
@@ -51,11 +54,6 @@ impl State {
         self
     }
 
-    pub fn paced(mut self, step: u64) -> State {
-        self.pace = Some(step);
-        self
-    }
-
     pub fn having(self, bytes: &'static [u8]) -> State {
         State { bytes, ..self }
     }
@@ -70,7 +68,7 @@ impl State {
     /// What a call does that did not fail.
     pub fn done(&mut self, what: &str, path: &str) {
         match what {
-            "make " => self.is_made = true,
+            "make " => self.is_made = !self.is_taken,
             "rename " | "remove " => self.is_made = false,
             _ => {}
         }
