@@ -78,12 +78,21 @@ def below(crate: str) -> set[str]:
     return {*used, *(lower for it in used for lower in below(it))}
 
 
+def root_of(crate: str) -> str:
+    """The root file of a crate, from its folder on."""
+    is_program = os.path.exists(os.path.join(TOP, "crates", crate, "src", "main.rt"))
+    return "src/main.rt" if is_program else "src/lib.rt"
+
+
+def is_library(crate: str) -> bool:
+    """Whether a crate is one that others use, and nothing is linked of."""
+    return not crates()[crate][0] and root_of(crate) == "src/lib.rt"
+
+
 def command(verb: str, crate: str, jobs: int) -> list[str]:
     """The words that check or build a crate, in its folder or in a copy of that."""
     kind, uses = crates()[crate]
-    is_program = os.path.exists(os.path.join(TOP, "crates", crate, "src", "main.rt"))
-    words = [os.path.join(kit(), "bin", "rattle"), verb, "--crate-name", crate]
-    words.append("src/main.rt" if is_program else "src/lib.rt")
+    words = [os.path.join(kit(), "bin", "rattle"), verb, "--crate-name", crate, root_of(crate)]
     for it in dict.fromkeys(["std", *uses]):
         words += ["--extern", f"{it}={library(it)}"]
     for it in ["std", *sorted(below(crate))]:
@@ -125,9 +134,9 @@ def clauses_of(said: str) -> dict[str, list[str]]:
     return found
 
 
-def check_functions(crate: str, folder: str, only: Iterable[str]) -> Answer:
-    """Checks functions of the crate in a folder."""
-    words = command("check", crate, 1)
+def check_functions(crate: str, folder: str, only: Iterable[str], kept: str) -> Answer:
+    """Checks functions of the crate in a folder. What is proved there is kept in another, for later checks of the crate."""
+    words = [*command("check", crate, 1), "--incremental", kept]
     for function in only:
         words += ["--only", function]
     done = subprocess.run(words, cwd=folder, stdin=subprocess.DEVNULL, stdout=subprocess.PIPE,

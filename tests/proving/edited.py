@@ -5,8 +5,7 @@ text is in that file once, and further pairs apply to what the earlier ones made
 names a function to check, by its path below the crate. `refused: FUNCTION CLAUSE` says which clause is
 then not proved, as `wrong CRATE NAME` prints it: an `ensures` of the function, or a `requires` of a
 call in it. A loop's invariant is no clause: it serves the proof alone. A function that is proved by hand
-has no clause that is not proved: `refused: FUNCTION proof` says that its proof is refused. A line `alone:`
-says that the function stands above those of other edits, so that it cannot be tried beside them.
+has no clause that is not proved: `refused: FUNCTION proof` says that its proof is refused.
 """
 from __future__ import annotations
 
@@ -48,7 +47,6 @@ class Edit:
     pairs: tuple[Pair, ...]
     only: tuple[str, ...]
     refused: tuple[tuple[str, str], ...]
-    is_alone: bool = False
 
     def __str__(self) -> str:
         return f"{self.crate}/{self.name}"
@@ -91,7 +89,7 @@ def read(path: str) -> Edit:
     if not only or not refused or None in only or None in refused:
         raise BadEdit("it needs lines `only: FUNCTION` and `refused: FUNCTION CLAUSE`")
     return Edit(*crate_and_name(path), pairs_of(lines), tuple(it[0] for it in only),
-                tuple((it[1], it[2]) for it in refused), any(word == "alone" for word, _ in lines))
+                tuple((it[1], it[2]) for it in refused))
 
 
 def copy_crate(crate: str, folder: str) -> None:
