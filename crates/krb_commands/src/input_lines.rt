@@ -1,6 +1,6 @@
 //! Lines out of a reader, each as soon as its end is read.
 
-ghost use Rattle.std.specs.Prelude.{◌≡◌, ◌≢◌, ◌⊎◌, ◌||◌, ◌<◌, ◌≤◌, [], length, slice_range, IfOk, IfErr, IfSome, IsTrue, OnErr, IsErrOf, vec_len};
+ghost use Rattle.std.specs.Prelude.{◌≡◌, ◌≢◌, ◌⊎◌, ◌||◌, ◌<◌, ◌≤◌, ◌+◌, [], length, slice_range, IfOk, IfErr, IfSome, IsTrue, OnErr, IsErrOf, vec_len};
 ghost use Rattle.krb_files.specs.Reader.{is_read_fault};
 ghost use Rattle.krb_commands.specs.Loading.{most_bytes};
 ghost use Rattle.krb_commands.specs.InputLines.{InputParts, ReadsLine, KeepsLines, Grows, IsWithin, FindsNewline, EndsLine, EndsInNewline, IsSpent, HasNoMore, HasNone};
@@ -22,7 +22,7 @@ pub struct InputLines<A: Allocator> {
 }
 
 impl<A: Allocator> Model for InputLines<A> {
-    ghost use Rattle.std.specs.Prelude.{◌≤◌, slice_range, vec_len};
+    ghost use Rattle.std.specs.Prelude.{◌≤◌, ◌+◌, slice_range, vec_len};
     ghost use Rattle.krb_commands.specs.InputLines.{InputParts};
     ghost use Rattle.krb_commands.specs.Loading.{most_bytes};
 

@@ -1,5 +1,5 @@
 -- Devices, and the files on them.
-use Rattle.std.specs.Prelude.{◌≡◌, ℕ, ◌+◌, ◌*◌, ◌/◌, ◌%◌, ◌^◌, ◌==◌, ◌&&◌, ◌||◌, Bool, Option, None, Some}
+use Rattle.std.specs.Prelude.{ℕ, ◌+◌, ◌*◌, ◌/◌, ◌%◌, ◌^◌, ◌==◌, ◌&&◌, ◌||◌, Bool, Option, None, Some}
 use Rattle.krb_disk.specs.declared.looks.device.Device.{Device}
 use Rattle.krb_disk.specs.declared.looks.device.Place.{Place}
 use Rattle.krb_disk.specs.declared.looks.device.Mounted.{Mounted}
