@@ -53,9 +53,9 @@ def check_options(report: Report, program: str) -> None:
 
 
 def check_words(report: Report) -> None:
-    """The page has all words that messages are told in, each on a line of its own."""
+    """The page has all words that messages are told in, each on a line or in a column of its own."""
     lines = page().replace(".Ar NAME Ns .krbfile", "k.krbfile").splitlines()
-    lines += [line.removeprefix(".Dl ") for line in lines]
+    lines = [re.sub(r"^\.Dl |^\.It .* Ta |[:;]$", "", line) for line in lines]
     words = {re.sub(r"^line \d+: |^refused \d+: |^fault \d+: |^(?:weak|hidden|same|clash|old|mode): ", "", words)
              for case in [*explained.cases(), *explained_caches.cases()] for _, words in case.said}
     odd = {"", "no such file", "error 6"} | {word for word in words if word.startswith("k: fault")}
