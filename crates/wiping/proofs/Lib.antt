@@ -1,3 +1,3 @@
 -- Lemmas of the walks.
-mod Calls
 mod Clearing
+pub mod Walks

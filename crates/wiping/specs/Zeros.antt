@@ -4,17 +4,14 @@ use lib.ListN.{replicate}
 use mir.Syntax.{Ty}
 use base.Fraction.{full_share}
 use base.Fml.{Fml, fsep, fwand}
-use prog.Memory.{size, align, capped}
+use prog.Memory.{size, capped}
 use denote.Array.{Array}
 use denote.Builtin.{u8}
 use denote.RawPtr.{Ptr, lies_at, room_for}
 
--- n is `size_of` ty and a is `align_of` ty, where a size past `usize::MAX` counts as `usize::MAX`
+-- n is `size_of` ty, where a size past `usize::MAX` counts as `usize::MAX`
 abbrev pub HasSize : Ty → ℕ → Type 0
 HasSize ty n = capped (size ty) ≡ n
-
-abbrev pub HasAlign : Ty → ℕ → Type 0
-HasAlign ty a = capped (align ty) ≡ a
 
 -- n bytes lie at p, and each is 0
 abbrev pub zeros : ℕ → Ptr → Fml

@@ -1,7 +1,7 @@
 //! The allocator below: blocks come from it, and only cleared ones go back.
 ghost use Rattle.std.specs.Prelude.{◌≡◌};
 ghost use Rattle.std.specs.Allocator.{HasLayout, block_if_ok};
-ghost use Rattle.wiping.specs.Zeros.{HasSize, HasAlign, cleared_block};
+ghost use Rattle.wiping.specs.Zeros.{cleared_block};
 ghost use mir.Syntax.{Ty};
 ghost use types.Logic.{sem};
 
@@ -26,7 +26,7 @@ impl<B: Allocator> Below<B> {
     /// Takes a block from the allocator.
     pub fn allocate(&self, size: usize, align: usize) -> Result<*mut u8, AllocError>
         ghost ty: { Ty }
-        requires layout { HasSize ty size × HasAlign ty align }
+        requires layout { HasLayout ty size align }
         ensures* { sem 𝓛 (block_if_ok (B.dealloc_token (heap_of self.now)) ty result) }
     {
         self.heap.allocate(size, align)
@@ -35,7 +35,7 @@ impl<B: Allocator> Below<B> {
     /// Gives the block at `ptr` back to the allocator that it came from. Each of its bytes is 0.
     pub unsafe fn give_back(&self, ptr: *mut u8, size: usize, align: usize)
         ghost ty: { Ty }
-        requires layout { HasSize ty size × HasAlign ty align }
+        requires layout { HasLayout ty size align }
         requires* block { sem 𝓛 (cleared_block (B.dealloc_token (heap_of self.now)) ty size ptr) }
     {
         self.heap.deallocate(ptr, size, align);

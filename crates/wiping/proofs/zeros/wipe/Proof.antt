@@ -13,8 +13,7 @@ use prog.Wp.{Env, Out, Wp, WpFn, Tables, at_return, after_seq, after_block, afte
 use types.Logic.{Logic, sem}
 use contract.Monad.{Fun, fact}
 use contract.Running.{tables, tables_of}
-use sound.WpLaws.{WpFn-mono}
-use types.Kit.{Item, Sq, any_q, runs, ‵, raw, ◌⊛◌, at_ret, ◌$◌, ◌∵◌, !, qed, by, move, keep, use1, use2, join, split, rewrite, fjoin, feq_i, suffices, done}
+use types.Kit.{Item, Sq, any_q, runs, ‵, raw, ◌⊛◌, at_ret, ◌$◌, ◌∵◌, !, qed, by, move, keep, use1, use2, split, rewrite, fjoin, feq_i}
 use types.Run.{stop, lit, bin, unit_lit, of_opd, init, assigns_last, first, blocks, skips, jumps, branches, exec, returns, enter, loops, again, Below}
 use types.ByLocal.{alloc_all, pass_all, free_all, look_at, get, through, sets, sets_last, env, holding, forget_but}
 use denote.RattleType.{owns}
@@ -24,16 +23,14 @@ use denote.Plain.{uint_vals, uint_Tells}
 use denote.RawPtr.{Ptr, RawPtr, block_ptr, null_ptr, ptr_val, rawptr_vals, rawptr_Tells}
 use denote.Signature.{plain}
 use denote.Steps.{heard, nothing}
-use denote.Triple.Clauses.{Clauses}
-use denote.Triple.Spec.{triple_of}
-use denote.Triple.Table.{entered}
-use denote.Triple.Walked.{Stays, stay_dropped, walk_of, ends_at, walked, Goes-dropped, walk_Meets}
+use denote.Triple.Statement.{Contract}
+use denote.Triple.Walked.{Stays, stay_dropped, walk_of, Goes-dropped}
 use Rattle.std.proofs.VecSteps.Shapes.{after}
+use Rattle.std.proofs.raw_atomic.Walks.{proved, leaves}
 use Rattle.wiping.specs.Zeros.{HasSize, zeros}
 use Rattle.wiping.proofs.Clearing.{byte, Half, Left, starts, ends, opens_next, closes_next, spread}
 use Rattle.wiping.specs.contracts.zeros.wipe as F
-use Rattle.wiping.specs.contracts.zeros.wipe.Key.{name as #self}
-use Rattle.wiping.proofs.zeros.wipe.Statement as stated
+use Rattle.wiping.proofs.zeros.wipe.Statement.{statement}
 use Rattle.wiping.proofs.zeros.wipe.Code as code
 
 -- no parameter is kept at the end
@@ -43,22 +40,22 @@ stayed = (stay_dropped (plain (λ _. RawPtr)) yes, (stay_dropped (plain (λ _. u
 module _ {M : Type 1} {𝓤 : Ura M} (𝓛 : Logic 𝓤) (at_mem : Memory → SProp 𝓤) (run : Routine → Fun 𝓤) (𝓣 : Tables 𝓤 𝓛.H) (n : ℕ) (τ : Ty) where
   open 𝓛 use {H}
 
-  -- the contract's clauses
-  abbrev held : Clauses 𝓤 F.ended
-  held = F.clauses 𝓛 at_mem run
+  -- what a walk ends in
+  abbrev Walk : Contract 𝓤
+  Walk = walk_of 𝓛 F.ended stayed (F.clauses 𝓛 at_mem run)
 
   -- what a call binds: the arguments and their values, and the type of the block
-  abbrev bound : Ptr → (walk_of 𝓛 F.ended stayed held).Ghost
+  abbrev bound : Ptr → Walk.Ghost
   bound p = ((tt, tt, tt, (p, (n, tt)), (ptr_val p ∷ [], (vint w64 n ∷ [], tt))), τ)
 
   -- the body, from a pointer to the postcondition
   abbrev Goes : Ptr → SProp 𝓤
-  Goes p = WpFn 𝓤 H 𝓣.C 𝓣.Λ code.function (ptr_val p ∷ vint w64 n ∷ []) ((walk_of 𝓛 F.ended stayed held).post (bound p))
+  Goes p = WpFn 𝓤 H 𝓣.C 𝓣.Λ code.function (ptr_val p ∷ vint w64 n ∷ []) (Walk.post (bound p))
 
   module _ (b o : ℕ) (fn : n < 2 ^ 64) where
     -- the postcondition, at an answer
     abbrev Post : Val → SProp 𝓤
-    Post = (walk_of 𝓛 F.ended stayed held).post (bound (block_ptr b o))
+    Post = Walk.post (bound (block_ptr b o))
 
     -- what turns the zeros into the block's room again
     abbrev Way : Fml
@@ -67,8 +64,8 @@ module _ {M : Type 1} {𝓤 : Ura M} (𝓛 : Logic 𝓤) (at_mem : Memory → SP
     -- what the caller has at the end
     exits : ent 𝓤 (sep 𝓤 (sem 𝓛 (zeros n (block_ptr b o))) (sem 𝓛 Way)) (Post vunit)
     exits =
-        qed 𝓛 (‵ (zeros n (block_ptr b o)) ∷ ‵ Way ∷ []) ∵ fjoin ! $ suffices ! _ (ends_at 𝓛 F.ended stayed held (bound (block_ptr b o)) vunit tt (tt, (tt, tt)) (tt, (tt, tt))) $
-        feq_i ! (List Val) (vunit ∷ []) (vunit ∷ []) refl $ nothing ! $ nothing ! $ fjoin ! $ nothing ! $ fjoin ! $ join ! $ nothing ! $ join ! $ done !
+        qed 𝓛 (‵ (zeros n (block_ptr b o)) ∷ ‵ Way ∷ []) ∵ fjoin ! $ feq_i ! (List Val) (vunit ∷ []) (vunit ∷ []) refl $ nothing ! $ nothing ! $ fjoin ! $ nothing ! $ fjoin ! $ nothing ! $
+        by ! (leaves 𝓛 F.ended stayed (F.clauses 𝓛 at_mem run) (bound (block_ptr b o)) vunit tt (tt, (tt, tt)) (tt, (tt, tt)))
 
     -- how many bytes are 0
     abbrev Cleared : Type 0
@@ -110,7 +107,7 @@ module _ {M : Type 1} {𝓤 : Ura M} (𝓛 : Logic 𝓤) (at_mem : Memory → SP
           sets ! (of_opd ! (unit_lit !)) refl (tt, tt) $ returns ! (look_at ! 0 refl) $ free_all ! refl $ by ! exits)
 
   -- the body, from what a call is handed
-  walk : (p : Ptr) → n < 2 ^ 64 → ent 𝓤 ((walk_of 𝓛 F.ended stayed held).pre (bound p)) (Goes p)
+  walk : (p : Ptr) → n < 2 ^ 64 → ent 𝓤 (Walk.pre (bound p)) (Goes p)
   walk null_ptr fn = qed 𝓛 ((‵ ftrue ⊛ ‵ (owns (RawPtr ∷ usize ∷ []) (null_ptr, (n, tt)) (bound null_ptr).0.4)) ∷ (raw (fact 𝓤 (HasSize τ n)) ⊛ ‵ ffalse) ∷ []) ∵ move ! (1 ∷ []) $ split ! $ keep ! (1 ∷ []) $ by ! (never_e 𝓤 _)
   walk (block_ptr b o) fn =
       let p : Ptr = block_ptr b o in
@@ -123,12 +120,9 @@ module _ {M : Type 1} {𝓤 : Ura M} (𝓛 : Logic 𝓤) (at_mem : Memory → SP
       first ! $ blocks ! $ loops ! 𝓣 (Nearer b o fn) (InvImage.wf (λ (t : Cleared b o fn). n - t.0) lt-wf_rel.wf) (Now b o fn l) (turns b o fn l) (0, omega arith)))
 
 -- the body meets the contract
-pub wipe_spec : {M : Type 1} → stated.statement M
+pub wipe_spec : {M : Type 1} → statement M
 unfolding tables_of
 wipe_spec 𝓤 𝓛 𝓜 𝓡 wired =
-    let 𝓣 : Tables 𝓤 𝓛.H = tables_of 𝓤 𝓛.H 𝓜 (tables 𝓤 𝓛.H 𝓜 𝓡 𝓡.env) in
-    let c = F.clauses 𝓛 𝓜.mem 𝓡.returns in
-    entered 𝓤 𝓛.H (triple_of 𝓛 F.signature (F.spec 𝓛 𝓜.mem 𝓡.returns)) 𝓣.C 𝓣.Λ #self code.function (code.unfolded 𝓤 𝓛.H 𝓜 𝓡 wired)
-    (walk_Meets 𝓛 F.ended stayed (Goes-dropped 𝓛 0 (plain (λ _. RawPtr)) yes (λ κs x f. refl), (Goes-dropped 𝓛 0 (plain (λ _. usize)) yes (λ κs x f. refl), tt)) c (WpFn 𝓤 𝓛.H 𝓣.C 𝓣.Λ code.function) (WpFn-mono 𝓤 𝓛.H 𝓛.laws 𝓣 code.function)
-    (walked 𝓛 F.ended stayed c (WpFn 𝓤 𝓛.H 𝓣.C 𝓣.Λ code.function) (λ κs. (rawptr_vals, (uint_vals w64, tt))) (λ κs. (rawptr_Tells, (uint_Tells w64, tt)))
-    (λ κs qs bounds a τ are. walk 𝓛 𝓜.mem 𝓡.returns 𝓣 a.1.0 τ a.0 are.1.0.1)))
+    proved 𝓛 F.ended stayed (F.clauses 𝓛 𝓜.mem 𝓡.returns) 𝓜 𝓡 (Goes-dropped 𝓛 0 (plain (λ _. RawPtr)) yes (λ κs x f. refl), (Goes-dropped 𝓛 0 (plain (λ _. usize)) yes (λ κs x f. refl), tt))
+    F.Key.name code.function (code.unfolded 𝓤 𝓛.H 𝓜 𝓡 wired) (λ κs. (rawptr_vals, (uint_vals w64, tt))) (λ κs. (rawptr_Tells, (uint_Tells w64, tt)))
+    (λ κs qs bounds a τ are. walk 𝓛 𝓜.mem 𝓡.returns (tables_of 𝓤 𝓛.H 𝓜 (tables 𝓤 𝓛.H 𝓜 𝓡 𝓡.env)) a.1.0 τ a.0 are.1.0.1)

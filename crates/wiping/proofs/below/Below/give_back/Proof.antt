@@ -1,129 +1,43 @@
 -- `give_back` turns the zeros into room, and gives the block to the allocator. Assumes `Logic`.
-use Rattle.std.proofs.Common.{◌≡◌, ℕ, ◌+◌, ◌^◌, ◌<◌, List, [], ◌∷◌, w64, refl, Bor}
-use seplogic.Ra.Ura.{Ura}
-use mir.Syntax.{Ty, Args, Fn, a_type, dnil, dcons}
-use mir.Val.{Val, vint, vptr, vunit}
+use Rattle.std.proofs.Common.{◌≡◌, ℕ, ◌+◌, [], ◌∷◌, refl}
+use mir.Syntax.{Fn}
+use mir.Val.{vunit}
 use mir.MapTy.{inst_fn}
-use base.Logic.{SProp, ent, id⊢, apply∗, never_e}
-use base.Fml.{Lft, Share, ftrue, froom, flft}
-use prog.Memory.{Memory, align, up}
-use prog.Routine.{Routine}
-use prog.Wp.{WpFn, Tables}
-use types.Logic.{Logic, sem}
-use contract.BorrowLft.{◌⊑◌, ⊑_trans}
-use contract.Monad.{Fun, fact}
-use contract.Running.{tables, tables_of}
-use sound.WpLaws.{fm_of, WpFn-mono}
-use types.Kit.{Item, ‵, raw, ◌⊛◌, later, given, ◌$◌, ◌∵◌, !, qed, by, move, keep, use1, use2, split, split3, join, learn, fsplit, fjoin, feq_i, suffices, await, done}
+use base.Logic.{id⊢, apply∗}
+use base.Fml.{flft, froom}
+use prog.Memory.{align, up}
+use types.Logic.{sem}
+use types.Kit.{‵, raw, later, given, ◌$◌, !, by, move, keep, use1, use2, group, learn, fsplit, await}
 use types.Run.{stop, fld, addr, no_more, and_then, of_opd, unit_lit, returns, enter}
 use types.ByLocal.{alloc_all, pass_all, free_all, look_at, get, through, sets, lands_as}
-use denote.Exit.{yes}
 use denote.Opens.{unhide}
-use denote.Builtin.{usize, RawPtr, RefOf}
-use denote.Param.{bounded, param}
-use denote.Plain.{uint_vals, uint_Tells}
-use denote.RattleType.{owns}
-use denote.RawPtr.{Ptr, block_ptr, null_ptr, ptr_val, rawptr_vals, rawptr_Tells}
-use denote.Ref.{shr_vals}
-use denote.Signature.{Slot, plain, types_at}
-use denote.Steps.{heard, nothing}
+use denote.Param.{param}
+use denote.RawPtr.{block_ptr}
 use denote.Triple.Call.{calls_at}
-use denote.Triple.Clauses.{Ended, Clauses}
-use denote.Triple.Spec.{triple_of}
-use denote.Triple.Statement.{Triple}
-use denote.Triple.Table.{entered}
-use denote.Triple.Walked.{Stays, stay_dropped, walk_of, ends_at, walked, Goes-dropped, walk_Meets}
-use Rattle.std.proofs.alloc.Calls.{Al, α, seen, token, gives_key, Gives, at_gives, Gives-goes, Gives-Gives}
-use Rattle.wiping.specs.Zeros.{HasSize, HasAlign, zeros, cleared_block}
-use Rattle.wiping.specs.contracts.below.Below as wrapper
-use Rattle.wiping.specs.contracts.below.Below.give_back as F
+use Rattle.std.proofs.alloc.Calls.{Al, α, seen, token, Gives, at_gives, Gives-goes, Gives-Gives}
+use Rattle.wiping.specs.Zeros.{zeros}
+use Rattle.wiping.proofs.Walks.{Over, args, inside, clear, fm, given_back, gives_met}
+use Rattle.wiping.specs.contracts.below.Below.{the_row}
 use Rattle.wiping.specs.contracts.below.Below.give_back.Key as key
-use Rattle.wiping.proofs.below.Below.give_back.Statement as stated
+use Rattle.wiping.proofs.below.Below.give_back.Statement.{statement}
 use Rattle.wiping.proofs.below.Below.give_back.Code as code
 
-module _ (Z : Al) where
-  -- the allocator below, as the argument of the type
-  abbrev args : Args
-  args = bounded (a_type ∷ []) (Z.row, tt) (dcons Z.d (dcons Z.drops dnil))
-
-  -- the function at that allocator
-  abbrev here : Fn
-  here = inst_fn args code.function
-
-  -- the first parameter, a reference to a `Below`
-  abbrev self : Slot 2
-  self = RefOf (0 ∷ []) tt (plain (λ _. wrapper.the_row (param 0 Z.row))) (λ _. tt)
-
-  -- the contract's signature
-  abbrev ended : Ended
-  ended = F.ended Z.row Z.g Z.d Z.drops
-
-  -- no parameter is kept at the end
-  abbrev stayed : Stays ended.signature.params ended.kept
-  stayed = (stay_dropped self yes, (stay_dropped (plain (λ _. RawPtr)) yes, (stay_dropped (plain (λ _. usize)) yes, (stay_dropped (plain (λ _. usize)) yes, tt))))
-
-module _ (Z : Al) {M : Type 1} {𝓤 : Ura M} (𝓛 : Logic 𝓤) (at_mem : Memory → SProp 𝓤) (run : Routine → Fun 𝓤) (𝓣 : Tables 𝓤 𝓛.H) (de : Triple 𝓤 (𝓣.C (gives_key Z)) (Gives Z 𝓛 at_mem run)) where
-  open 𝓛 use {H}
-
-  -- the contract's clauses
-  abbrev held : Clauses 𝓤 (ended Z)
-  held = F.clauses Z.row Z.g Z.d Z.drops 𝓛 at_mem run
-
-  module _ (κ₁ κ₂ : Lft) (q₁ q₂ : Share) (inn : κ₁ ⊑ κ₂) (r : Bor (wrapper.the_row Z.row).Denot) (n a : ℕ) (τ : Ty) where
-    -- what a call binds: the lifetimes and their shares, the arguments and their values, and the type of the block
-    abbrev bound : Ptr → (walk_of 𝓛 (ended Z) (stayed Z) held).Ghost
-    bound x = (((κ₁, (κ₂, tt)), (q₁, (q₂, tt)), (inn, tt), (r, (x, (n, (a, tt)))), (shr_vals r, (rawptr_vals x, (vint w64 n ∷ [], (vint w64 a ∷ [], tt))))), τ)
-
-    -- the values of the arguments
-    abbrev vs : Ptr → List Val
-    vs x = vptr r.ref_ptr.0 r.ref_ptr.1 ∷ ptr_val x ∷ vint w64 n ∷ vint w64 a ∷ []
-
-    -- the postcondition, at an answer
-    abbrev Post : Ptr → Val → SProp 𝓤
-    Post x = (walk_of 𝓛 (ended Z) (stayed Z) held).post (bound x)
-
-    -- the tokens of the lifetimes, and the arguments
-    abbrev entry : Ptr → Item 𝓤
-    entry x = (‵ (flft κ₁ q₁) ⊛ ‵ (flft κ₂ q₂) ⊛ ‵ ftrue) ⊛ ‵ (owns (types_at (ended Z).signature.params (bound x).0.0) (bound x).0.3 (bound x).0.4)
-
-    -- the block has the size and the alignment that the call names
-    abbrev Said : Type 0
-    Said = HasSize τ n × HasAlign τ a
-
-    -- the body, from what a call is handed to what it answers
-    walk : n < 2 ^ 64 → a < 2 ^ 64 → (x : Ptr) → ent 𝓤 ((walk_of 𝓛 (ended Z) (stayed Z) held).pre (bound x)) (WpFn 𝓤 H 𝓣.C 𝓣.Λ (here Z) (vs x) (Post x))
-    walk fn fa null_ptr =
-        qed 𝓛 (entry null_ptr ∷ (raw (fact 𝓤 (κ₂ ⊑ Z.row.lives)) ⊛ raw (fact 𝓤 Said) ⊛ ‵ (cleared_block (token Z r.now.heap) τ n null_ptr)) ∷ []) ∵
-        move ! (1 ∷ []) $ split3 ! $ move ! (2 ∷ []) $ fsplit ! $ fsplit ! $ keep ! (0 ∷ []) $ by ! (never_e 𝓤 _)
-    walk fn fa (block_ptr b o) =
-        let h : Z.row.Denot = r.now.heap in
-        let p : ℕ × ℕ = (r.ref_ptr.0, r.ref_ptr.1 + up (align (α Z)) 0) in
-        let x : Ptr = block_ptr b o in
-        let y : (Gives Z 𝓛 at_mem run).Ghost = at_gives Z 𝓛 at_mem run κ₁ q₁ p h b o n a τ in
-        qed 𝓛 (entry x ∷ (raw (fact 𝓤 (κ₂ ⊑ Z.row.lives)) ⊛ raw (fact 𝓤 Said) ⊛ ‵ (cleared_block (token Z h) τ n x)) ∷ []) ∵
-        move ! (1 ∷ []) $ split3 ! $ heard ! (κ₂ ⊑ Z.row.lives) (λ le. heard ! Said (λ said. move ! (1 ∷ []) $
-        split ! $ split ! $ move ! (2 ∷ []) $ fsplit ! $ fsplit ! $ move ! (1 ∷ []) $ unhide ! $ fsplit ! $ fsplit ! $ use1 𝓛 (‵ (seen Z κ₁ p h)) (id⊢ 𝓤 _) $ keep ! (0 ∷ 5 ∷ 6 ∷ 7 ∷ []) $
-        enter ! 𝓣.C 𝓣.Λ (here Z) (vs x) _ $ alloc_all ! (λ l. pass_all ! refl ((tt, tt), ((tt, tt), ((tt, record { fits = fn }), ((tt, record { fits = fa }), tt)))) $
-        sets ! (addr ! (through ! refl (fld ! refl (stop !)))) refl (tt, tt) $
-        join ! $ move ! (2 ∷ []) $ fsplit ! $ fsplit ! $ use2 𝓛 (‵ (froom τ b o)) (apply∗ 𝓤 (sem 𝓛 (zeros n x)) (H.room τ b o)) $
-        move ! (1 ∷ 2 ∷ []) $ join ! $ move ! (1 ∷ 0 ∷ []) $ join ! $
-        use1 𝓛 (raw ((Gives Z 𝓛 at_mem run).pre y)) (Gives-goes Z 𝓛 at_mem run κ₁ q₁ p h (⊑_trans κ₁ κ₂ Z.row.lives inn le) b o n a τ said.0 said.1 fn fa) $
-        calls_at ! (fm_of 𝓤 H 𝓛.laws 𝓣) (Gives Z 𝓛 at_mem run) de y (and_then ! (get ! refl) (and_then ! (get ! refl) (and_then ! (get ! refl) (and_then ! (get ! refl) (no_more !))))) (λ v.
-        use1 𝓛 (later (given (v ≡ vunit) (‵ (flft κ₁ q₁)))) (Gives-Gives Z 𝓛 at_mem run κ₁ q₁ p h b o n a τ v) $ await ! tt $ learn ! (λ e.
-        lands_as ! e refl (tt, tt) $ sets ! (of_opd ! (unit_lit !)) refl (tt, tt) $ returns ! (look_at ! 0 refl) $ free_all ! refl $
-        suffices ! _ (ends_at 𝓛 (ended Z) (stayed Z) held (bound x) vunit tt (tt, (tt, (tt, (tt, tt)))) (tt, (tt, (tt, (tt, tt))))) $
-        nothing ! $ feq_i ! (List Val) (vunit ∷ []) (vunit ∷ []) refl $ nothing ! $ nothing ! $ fjoin ! $ nothing ! $ fjoin ! $ nothing ! $ fjoin ! $ nothing ! $ fjoin ! $ join ! $
-        move ! (2 ∷ 3 ∷ []) $ join ! $ join ! $ done !)))))
-
 -- the body meets the contract at each allocator
-pub give_back_spec : {M : Type 1} → stated.statement M
-unfolding tables_of
+pub give_back_spec : {M : Type 1} → statement M
 give_back_spec 𝓤 𝓛 𝓜 𝓡 wired Y L g d d' met _ =
     let Z : Al = record { row = Y; laws = L; g = g; d = d; drops = d' } in
-    let A = 𝓛.A in
-    let 𝓣 : Tables 𝓤 𝓛.H = tables_of 𝓤 𝓛.H 𝓜 (tables 𝓤 𝓛.H 𝓜 𝓡 𝓡.env) in
-    let c = F.clauses Y g d d' 𝓛 𝓜.mem 𝓡.returns in
-    entered 𝓤 𝓛.H (triple_of 𝓛 (F.signature Y) (F.spec Y g d d' 𝓛 𝓜.mem 𝓡.returns)) 𝓣.C 𝓣.Λ (key.name (args Z)) (here Z) (code.unfolded 𝓤 𝓛.H 𝓜 𝓡 wired (Y, tt) d d')
-    (walk_Meets 𝓛 (ended Z) (stayed Z) (Goes-dropped 𝓛 2 (self Z) yes (λ κs x f. refl), (Goes-dropped 𝓛 2 (plain (λ _. RawPtr)) yes (λ κs x f. refl), (Goes-dropped 𝓛 2 (plain (λ _. usize)) yes (λ κs x f. refl), (Goes-dropped 𝓛 2 (plain (λ _. usize)) yes (λ κs x f. refl), tt)))) c (WpFn 𝓤 𝓛.H 𝓣.C 𝓣.Λ (here Z)) (WpFn-mono 𝓤 𝓛.H 𝓛.laws 𝓣 (here Z))
-    (walked 𝓛 (ended Z) (stayed Z) c (WpFn 𝓤 𝓛.H 𝓣.C 𝓣.Λ (here Z)) (λ κs. (shr_vals, (rawptr_vals, (uint_vals w64, (uint_vals w64, tt))))) (λ κs. ((λ r vs s. s.0), (rawptr_Tells, (uint_Tells w64, (uint_Tells w64, tt)))))
-    (λ κs qs bounds a τ are. walk Z 𝓛 𝓜.mem 𝓡.returns 𝓣 (met.deallocate d') κs.0 κs.1.0 qs.0 qs.1.0 bounds.0 a.0 a.1.1.0 a.1.1.1.0 τ are.1.1.0.1 are.1.1.1.0.1 a.1.0)))
+    let e : Fn = inst_fn (args Z) code.function in
+    let O : Over = record { heap = Z; row = the_row (param 0 Y); right = λ below. token Z below.heap } in
+    gives_met O 𝓛 (clear 𝓛) 𝓜 𝓡 (key.name (args Z)) e (code.unfolded 𝓤 𝓛.H 𝓜 𝓡 wired (Y, tt) d d') (λ x r b o.
+    let h : Y.Denot = r.now.heap in
+    let κ = x.κs.0 in let q = x.qs.0 in let p : ℕ × ℕ = (r.ref_ptr.0, r.ref_ptr.1 + up (align (α Z)) 0) in
+    fsplit ! $ fsplit ! $ use2 𝓛 (‵ (froom x.ty b o)) (apply∗ 𝓤 (sem 𝓛 (zeros x.size (block_ptr b o))) (𝓛.H.room x.ty b o)) $
+    move ! (2 ∷ []) $ unhide ! $ fsplit ! $ fsplit ! $ use1 𝓛 (‵ (seen Z κ p h)) (id⊢ 𝓤 _) $ keep ! (3 ∷ 4 ∷ 0 ∷ 5 ∷ 6 ∷ []) $
+    enter ! _ _ _ _ _ $ alloc_all ! (λ l. pass_all ! refl ((tt, tt), ((tt, tt), ((tt, record { fits = x.size_fits }), ((tt, record { fits = x.align_fits }), tt)))) $
+    sets ! (addr ! (through ! refl (fld ! refl (stop !)))) refl (tt, tt) $
+    let y = at_gives Z 𝓛 𝓜.mem 𝓡.returns κ q p h b o x.size x.align x.ty in
+    group ! 4 $ use1 𝓛 (raw ((Gives Z 𝓛 𝓜.mem 𝓡.returns).pre y)) (Gives-goes Z 𝓛 𝓜.mem 𝓡.returns κ q p h (inside x).lives b o x.size x.align x.ty x.layout.0 x.layout.1 x.size_fits x.align_fits) $
+    calls_at ! (fm 𝓛 𝓜 𝓡) (Gives Z 𝓛 𝓜.mem 𝓡.returns) (met.deallocate d') y (and_then ! (get ! refl) (and_then ! (get ! refl) (and_then ! (get ! refl) (and_then ! (get ! refl) (no_more !))))) (λ v.
+    use1 𝓛 (later (given (v ≡ vunit) (‵ (flft κ q)))) (Gives-Gives Z 𝓛 𝓜.mem 𝓡.returns κ q p h b o x.size x.align x.ty v) $ await ! tt $ learn ! (λ is.
+    lands_as ! is refl (tt, tt) $ sets ! (of_opd ! (unit_lit !)) refl (tt, tt) $ returns ! (look_at ! 0 refl) $ free_all ! refl $
+    by ! (given_back O 𝓛 (clear 𝓛) x r (block_ptr b o))))))
