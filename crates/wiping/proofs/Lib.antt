@@ -1,3 +1,4 @@
--- Lemmas of the walks.
+-- Lemmas of the walks, and the names that they cite.
 mod Clearing
+pub mod Steps
 pub mod Walks

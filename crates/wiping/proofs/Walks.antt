@@ -2,42 +2,32 @@
 --     Over           such a struct.    Block     what goes back to it.    Call, inside      what a call binds, and what one that the body makes binds
 --     takes_met      `allocate` and its like meet their contract, by a walk.    taken          how the walk ends.    asks      a call of such a method
 --     gives_met      `deallocate` and its like meet theirs.                     given_back     how the walk ends.    hands     a call of such a method
-use Rattle.std.proofs.Common.{◌≡◌, ℕ, ◌^◌, ◌<◌, Bool, true, false, List, [], ◌∷◌, Ok, Err, refl, w64, Bor}
-use seplogic.Ra.Ura.{Ura}
-use mir.Syntax.{Ty, Args, Callee, Fn, named, a_type, dnil, dcons}
-use mir.Val.{Val, vunit, vint, vptr}
-use base.Logic.{SProp, ent, sep, emp, never, never_e, id⊢, fst∗}
-use base.Fml.{Lft, Fml, ftrue, fsep, fwand, flft}
+use Rattle.wiping.proofs.Steps.{◌≡◌, ℕ, ◌^◌, ◌<◌, Bool, true, false, List, [], ◌∷◌, refl, w64, Bor, Ura, Ty, Fn, Val, vunit, vint, vptr, SProp, ent, sep, emp, id⊢, Fml, ftrue, fsep, fwand, flft, WpFn, Logic, sem, Item, Sq, ‵, raw, ◌⊛◌, some, given, ◌$◌, ◌∵◌, !, qed, by, move, keep, use0, use1, split, join, fsplit, fjoin, feq_i, flt_i, done, fact, fact_i, tables, usize, unit, yes, hidden_shr, uint_vals, uint_Tells, owns, Ptr, block_ptr, null_ptr, ptr_val, rawptr_vals, rawptr_Tells, plain, heard, nothing, triple_of, Stays, stay_dropped, walk_of, Goes-dropped, Al, token, proved, leaves, zeros, cleared}
+use Rattle.std.proofs.Common.{Ok, Err}
+use mir.Syntax.{Args, Callee, named, a_type, dnil, dcons}
+use base.Logic.{never, fst∗, via}
+use base.Fml.{Lft}
 use base.Share
 use prog.Model.{Model}
-use prog.Wp.{WpFn, Closed}
-use types.Logic.{Logic, sem}
-use types.Kit.{Item, Sq, prop, ‵, raw, ◌⊛◌, some, given, ◌$◌, ◌∵◌, !, qed, by, move, keep, use0, use1, split, split3, join, fsplit, fjoin, feq_i, flt_i, done}
+use prog.Wp.{Closed}
+use types.Kit.{prop, split3, regoal}
 use contract.BorrowLft.{◌⊑◌, ⊑_refl, ⊑_trans}
 use contract.Lifetimes.{Lfts, Shares}
-use contract.Monad.{fact, fact_i}
-use contract.Running.{Running, MachineTables, tables}
+use contract.Running.{Running, MachineTables}
 use sound.WpLaws.{FmC}
-use denote.Builtin.{usize, unit, RawPtr}
-use denote.Exit.{yes}
-use denote.Memory.{hidden_shr}
+use denote.Builtin.{RawPtr}
 use denote.Param.{bounded}
-use denote.Plain.{uint_vals, uint_Tells}
-use denote.RattleType.{RattleType, owns}
-use denote.RawPtr.{Ptr, block_ptr, null_ptr, ptr_val, rawptr_vals, rawptr_Tells, room_for}
+use denote.RattleType.{RattleType}
+use denote.RawPtr.{room_for, in_a_block}
 use denote.Ref.{shr_vals}
-use denote.Signature.{Signature, Slot, plain, shr_ref_to, types_at}
-use denote.Steps.{heard, nothing}
+use denote.Signature.{Signature, Slot, shr_ref_to, types_at}
 use denote.Triple.Clauses.{Ended, Clauses, closing}
 use denote.Triple.Entry.{alive}
-use denote.Triple.Spec.{Meets, triple_of}
+use denote.Triple.Spec.{Meets}
 use denote.Triple.Statement.{Contract}
 use denote.Triple.Table.{framed}
-use denote.Triple.Walked.{Stays, stay_dropped, walk_of, Goes-dropped}
-use Rattle.std.proofs.alloc.Calls.{Al, token, Answer, answer_val, got, Answer-Ok, Answer-err}
-use Rattle.std.proofs.raw_atomic.Walks.{proved, leaves}
+use Rattle.std.proofs.alloc.Calls.{Answer, answer_val, got, Answer-Ok, Answer-err}
 use Rattle.std.specs.Allocator.{HasLayout, block_if_ok}
-use Rattle.wiping.specs.Zeros.{zeros, cleared}
 
 -- a struct over the allocator `heap`, by its row and by what lets a block go back
 pub record Over : Type 2 where
@@ -238,16 +228,12 @@ module _ (O : Over) where
           move ! (2 ∷ []) $ use1 𝓛 (raw (alive 𝓛 takes.signature (inside x).κs (inside x).qs)) (halves x) $ join ! $ join ! $ done !
 
       module _ (𝓜 : Model 𝓤 H) (𝓡 : Running 𝓤 H 𝓜) (k : Callee) (e : Fn) (closed : Closed 𝓤 H (T 𝓛 𝓜 𝓡).C (T 𝓛 𝓜 𝓡).Λ k e) where
-        -- the walk of the body, from what is given
-        abbrev Walked : Call O.heap → Bor O.row.Denot → Ptr → Type 1
-        Walked x r p = Sq 𝓛 (‵ (Back r.now x.ty x.size p) ∷ Given x r)
-            (prop (WpFn 𝓤 H (T 𝓛 𝓜 𝓡).C (T 𝓛 𝓜 𝓡).Λ e (vptr r.ref_ptr.0 r.ref_ptr.1 ∷ ptr_val p ∷ vint w64 x.size ∷ vint w64 x.align ∷ []) (Gone x r p)))
+        -- the body, from a pointer to the postcondition
+        abbrev Goes : Call O.heap → Bor O.row.Denot → Ptr → SProp 𝓤
+        Goes x r p = WpFn 𝓤 H (T 𝓛 𝓜 𝓡).C (T 𝓛 𝓜 𝓡).Λ e (vptr r.ref_ptr.0 r.ref_ptr.1 ∷ ptr_val p ∷ vint w64 x.size ∷ vint w64 x.align ∷ []) (Gone x r p)
 
-        at_null : ((x : Call O.heap) (r : Bor O.row.Denot) (b o : ℕ) → Walked x r (block_ptr b o)) → (x : Call O.heap) (r : Bor O.row.Denot) (p : Ptr) → Walked x r p
-        at_null walk x r (block_ptr b o) = walk x r b o
-        at_null walk x r null_ptr = fsplit ! $ use1 𝓛 (raw (never 𝓤)) (B.not_null x.ty x.size) $ keep ! (0 ∷ []) $ by ! (never_e 𝓤 _)
-
-        pub gives_met : ((x : Call O.heap) (r : Bor O.row.Denot) (b o : ℕ) → Walked x r (block_ptr b o)) → Meets 𝓛 gives.signature ((T 𝓛 𝓜 𝓡).C k) (closing 𝓛 gives giving)
+        pub gives_met : ((x : Call O.heap) (r : Bor O.row.Denot) (b o : ℕ) → Sq 𝓛 (‵ (Back r.now x.ty x.size (block_ptr b o)) ∷ Given x r) (prop (Goes x r (block_ptr b o))))
+            → Meets 𝓛 gives.signature ((T 𝓛 𝓜 𝓡).C k) (closing 𝓛 gives giving)
         gives_met walk =
             let Sized = Goes-dropped 𝓛 2 number yes (λ κs x f. refl) in
             proved 𝓛 gives give_stays giving 𝓜 𝓡 (Goes-dropped 𝓛 2 self yes (λ κs x f. refl), (Goes-dropped 𝓛 2 pointer yes (λ κs x f. refl), (Sized, (Sized, tt)))) k e closed
@@ -256,4 +242,6 @@ module _ (O : Over) where
             qed 𝓛 (((‵ (flft κs.0 qs.0) ⊛ ‵ (flft κs.1.0 qs.1.0) ⊛ ‵ ftrue) ⊛ ‵ (owns (types_at gives.signature.params κs) a (shr_vals a.0, (rawptr_vals a.1.0, (vint w64 a.1.1.0 ∷ [], (vint w64 a.1.1.1.0 ∷ [], tt))))))
             ∷ (raw (fact 𝓤 Lives) ⊛ raw (fact 𝓤 Laid) ⊛ ‵ (Back a.0.now τ a.1.1.0 a.1.0)) ∷ []) ∵
             move ! (1 ∷ []) $ split3 ! $ heard ! Lives (λ lives. heard ! Laid (λ layout. move ! (1 ∷ []) $ split ! $ split ! $ move ! (2 ∷ []) $ fsplit ! $ fsplit ! $ keep ! (5 ∷ 1 ∷ 3 ∷ 4 ∷ []) $
-            at_null walk (record { κs = κs; qs = qs; outlives = outlives.0; lives = lives; size = a.1.1.0; align = a.1.1.1.0; ty = τ; layout = layout; size_fits = are.1.1.0.1; align_fits = are.1.1.1.0.1 }) a.0 a.1.0)))
+            let x : Call O.heap = record { κs = κs; qs = qs; outlives = outlives.0; lives = lives; size = a.1.1.0; align = a.1.1.1.0; ty = τ; layout = layout; size_fits = are.1.1.0.1; align_fits = are.1.1.1.0.1 } in
+            in_a_block ! a.1.0 (Back a.0.now τ x.size) (via 𝓤 (sem 𝓛 (B.at τ x.size null_ptr)) (fst∗ 𝓤 _ (sem 𝓛 (O.right a.0.now τ null_ptr))) (B.not_null τ x.size)) (λ b o is.
+            regoal ! (λ (p : Ptr). prop (Goes x a.0 p)) is refl $ walk x a.0 b o))))

@@ -1,24 +1,5 @@
 -- `allocate` answers `Err` where the meter refuses, and else what the inner allocator answers. Assumes `Logic`.
-use Rattle.std.proofs.Common.{ℕ, ◌+◌, Bool, false, List, [], ◌∷◌, refl, ap}
-use mir.Syntax.{Fn}
-use mir.Val.{Val, vptr}
-use mir.MapTy.{inst_fn}
-use base.Logic.{id⊢}
-use base.Fml.{ftrue, fsep, flft}
-use prog.Memory.{size, align, up}
-use types.Kit.{‵, raw, at_ret, ◌⊛◌, some, later, ◌$◌, !, by, move, keep, use1, use2, split, join, pick, learn, fsplit, fjoin, feq_i, feq_l, await}
-use types.Part.{agg}
-use types.Run.{stop, fld, addr, lit, first, branches, skips, exec, no_more, and_then, returns, returns_within, enter}
-use types.ByLocal.{alloc_all, pass_all, free_all, look_at, get, through, sets, lands_as, env}
-use denote.Builtin.{bool}
-use denote.Memory.{hidden_shr}
-use denote.Opens.{unhide}
-use denote.Param.{param}
-use denote.Steps.{nothing, only}
-use denote.Triple.Call.{calls_at}
-use denote.Triple.Spec.{triple_of}
-use Rattle.std.proofs.VecSteps.Shapes.{after}
-use Rattle.std.proofs.alloc.Calls.{Al, α, seen, token, Answer-typed, Takes, at_takes, Takes-goes, Takes-gives}
+use Rattle.wiping.proofs.Steps.{ℕ, ◌+◌, Bool, false, List, [], ◌∷◌, refl, ap, Fn, Val, vptr, inst_fn, id⊢, ftrue, fsep, flft, size, align, up, ‵, raw, at_ret, ◌⊛◌, some, later, ◌$◌, !, by, move, keep, use1, use2, split, join, pick, learn, fsplit, fjoin, feq_i, feq_l, await, agg, stop, fld, addr, lit, first, branches, skips, exec, no_more, and_then, returns, returns_within, enter, alloc_all, pass_all, free_all, look_at, get, through, sets, lands_as, env, bool, hidden_shr, unhide, param, nothing, only, calls_at, triple_of, after, Al, α, seen, token, Answer-typed, Takes, at_takes, Takes-goes, Takes-gives}
 use Rattle.wiping.proofs.Walks.{Over, args, inside, Answered, T, fm, Taken, taken, takes_met}
 use Rattle.refusing.specs.contracts.meter.Meter as meter
 use Rattle.refusing.specs.contracts.meter.Meter.refuses as refuses

@@ -1,23 +1,5 @@
 -- `deallocate` counts the block, and gives it back to the inner allocator. Assumes `Logic`.
-use Rattle.std.proofs.Common.{◌≡◌, ℕ, ◌+◌, List, [], ◌∷◌, refl, ap}
-use mir.Syntax.{Fn}
-use mir.Val.{Val, vunit, vptr}
-use mir.MapTy.{inst_fn}
-use base.Logic.{id⊢}
-use base.Fml.{ftrue, fsep, flft}
-use prog.Memory.{size, align, up}
-use types.Kit.{‵, raw, ◌⊛◌, some, later, given, ◌$◌, !, by, move, keep, use1, use2, split, join, group, pick, learn, fsplit, fjoin, feq_i, feq_l, await}
-use types.Run.{stop, fld, addr, no_more, and_then, of_opd, unit_lit, returns, enter}
-use types.ByLocal.{alloc_all, pass_all, free_all, look_at, get, through, sets, lands_as}
-use denote.Builtin.{unit}
-use denote.Memory.{hidden_shr}
-use denote.Opens.{unhide}
-use denote.Param.{param}
-use denote.RawPtr.{block_ptr}
-use denote.Steps.{nothing, only}
-use denote.Triple.Call.{calls_at}
-use denote.Triple.Spec.{triple_of}
-use Rattle.std.proofs.alloc.Calls.{Al, α, seen, token, Gives, at_gives, Gives-goes, Gives-Gives}
+use Rattle.wiping.proofs.Steps.{◌≡◌, ℕ, ◌+◌, List, [], ◌∷◌, refl, ap, Fn, Val, vunit, vptr, inst_fn, id⊢, ftrue, fsep, flft, size, align, up, ‵, raw, ◌⊛◌, some, later, given, ◌$◌, !, by, move, keep, use1, use2, split, join, group, pick, learn, fsplit, fjoin, feq_i, feq_l, await, stop, fld, addr, no_more, and_then, of_opd, unit_lit, returns, enter, alloc_all, pass_all, free_all, look_at, get, through, sets, lands_as, unit, hidden_shr, unhide, param, block_ptr, nothing, only, calls_at, triple_of, Al, α, seen, token, Gives, at_gives, Gives-goes, Gives-Gives}
 use Rattle.wiping.proofs.Walks.{Over, args, inside, room, fm, given_back, gives_met}
 use Rattle.refusing.specs.contracts.meter.Meter as meter
 use Rattle.refusing.specs.contracts.meter.Meter.take_back as take_back

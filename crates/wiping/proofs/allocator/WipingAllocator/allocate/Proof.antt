@@ -1,17 +1,5 @@
 -- `allocate` answers what the allocator below answers. Assumes `Logic`.
-use Rattle.std.proofs.Common.{ℕ, ◌+◌, [], ◌∷◌, refl, Bor}
-use mir.Syntax.{Fn}
-use mir.MapTy.{inst_fn}
-use base.Logic.{id⊢}
-use base.Fml.{flft}
-use prog.Memory.{align, up}
-use types.Kit.{‵, raw, ◌⊛◌, later, ◌$◌, !, by, keep, use1, use2, split, pick, learn, fsplit, await}
-use types.Run.{stop, fld, addr, no_more, and_then, returns, enter}
-use types.ByLocal.{alloc_all, pass_all, free_all, look_at, get, through, sets, lands_as}
-use denote.Opens.{unhide}
-use denote.Param.{layout, param}
-use denote.Triple.Call.{calls_at}
-use Rattle.std.proofs.alloc.Calls.{Al, token, Answer-typed, Takes-gives}
+use Rattle.wiping.proofs.Steps.{ℕ, ◌+◌, [], ◌∷◌, refl, Bor, Fn, inst_fn, id⊢, flft, align, up, ‵, raw, ◌⊛◌, later, ◌$◌, !, by, keep, use1, use2, split, pick, learn, fsplit, await, stop, fld, addr, no_more, and_then, returns, enter, alloc_all, pass_all, free_all, look_at, get, through, sets, lands_as, unhide, layout, param, calls_at, Al, token, Answer-typed, Takes-gives}
 use Rattle.wiping.proofs.Walks.{Over, args, inside, Answered, fm, sees, Taking, at_take, taken, asks, takes_met}
 use Rattle.wiping.specs.contracts.below.Below as below
 use Rattle.wiping.proofs.below.Below.allocate.Met as takes

@@ -1,24 +1,5 @@
 -- `deallocate` clears the block, and gives it back to the allocator below. Assumes `Logic`.
-use Rattle.std.proofs.Common.{◌≡◌, ℕ, ◌+◌, ◌^◌, List, [], ◌∷◌, refl, ap, w64, Bor}
-use mir.Syntax.{Fn}
-use mir.Val.{Val, vunit, vint, vptr}
-use mir.MapTy.{inst_fn}
-use base.Logic.{emp, id⊢}
-use base.Fml.{ftrue, fsep, flft}
-use prog.Memory.{align, up}
-use contract.Monad.{fact, fact_i}
-use types.Kit.{‵, raw, ◌⊛◌, some, later, given, ◌$◌, !, by, drop, keep, move, use0, use1, split, join, group, learn, pick, fsplit, fjoin, feq_i, feq_l, flt_i, await}
-use types.Run.{stop, fld, addr, no_more, and_then, of_opd, unit_lit, returns, enter}
-use types.ByLocal.{alloc_all, pass_all, free_all, look_at, get, through, sets, lands_as}
-use denote.Builtin.{unit}
-use denote.Opens.{unhide}
-use denote.Param.{layout, param}
-use denote.RawPtr.{block_ptr}
-use denote.Steps.{nothing, only}
-use denote.Triple.Call.{calls_at}
-use denote.Triple.Spec.{triple_of}
-use Rattle.std.proofs.alloc.Calls.{Al, token, Gives-Gives}
-use Rattle.wiping.specs.Zeros.{HasSize, cleared}
+use Rattle.wiping.proofs.Steps.{◌≡◌, ℕ, ◌+◌, ◌^◌, List, [], ◌∷◌, refl, ap, w64, Bor, Fn, Val, vunit, vint, vptr, inst_fn, emp, id⊢, ftrue, fsep, flft, align, up, fact, fact_i, ‵, raw, ◌⊛◌, some, later, given, ◌$◌, !, by, drop, keep, move, use0, use1, split, join, group, learn, pick, fsplit, fjoin, feq_i, feq_l, flt_i, await, stop, fld, addr, no_more, and_then, of_opd, unit_lit, returns, enter, alloc_all, pass_all, free_all, look_at, get, through, sets, lands_as, unit, unhide, layout, param, block_ptr, nothing, only, calls_at, triple_of, Al, token, Gives-Gives, HasSize, cleared}
 use Rattle.wiping.proofs.Walks.{Over, args, inside, room, clear, fm, sees, Giving, at_give, given_back, hands, gives_met}
 use Rattle.wiping.specs.contracts.zeros.wipe as wipe
 use Rattle.wiping.proofs.zeros.wipe.Met as wipes

@@ -1,17 +1,5 @@
 -- `allocate` answers what the allocator below answers. Assumes `Logic`.
-use Rattle.std.proofs.Common.{ℕ, ◌+◌, [], ◌∷◌, refl}
-use mir.Syntax.{Fn}
-use mir.MapTy.{inst_fn}
-use base.Logic.{id⊢}
-use base.Fml.{flft}
-use prog.Memory.{align, up}
-use types.Kit.{‵, raw, ◌⊛◌, later, ◌$◌, !, by, keep, use1, use2, split, pick, learn, fsplit, await}
-use types.Run.{stop, fld, addr, no_more, and_then, returns, enter}
-use types.ByLocal.{alloc_all, pass_all, free_all, look_at, get, through, sets, lands_as}
-use denote.Opens.{unhide}
-use denote.Param.{param}
-use denote.Triple.Call.{calls_at}
-use Rattle.std.proofs.alloc.Calls.{Al, α, seen, token, Answer-typed, Takes, at_takes, Takes-goes, Takes-gives}
+use Rattle.wiping.proofs.Steps.{ℕ, ◌+◌, [], ◌∷◌, refl, Fn, inst_fn, id⊢, flft, align, up, ‵, raw, ◌⊛◌, later, ◌$◌, !, by, keep, use1, use2, split, pick, learn, fsplit, await, stop, fld, addr, no_more, and_then, returns, enter, alloc_all, pass_all, free_all, look_at, get, through, sets, lands_as, unhide, param, calls_at, Al, α, seen, token, Answer-typed, Takes, at_takes, Takes-goes, Takes-gives}
 use Rattle.wiping.proofs.Walks.{Over, args, inside, Answered, fm, taken, takes_met}
 use Rattle.wiping.specs.contracts.below.Below.{the_row}
 use Rattle.wiping.specs.contracts.below.Below.allocate.Key as key

@@ -1,21 +1,5 @@
 -- `give_back` turns the zeros into room, and gives the block to the allocator. Assumes `Logic`.
-use Rattle.std.proofs.Common.{◌≡◌, ℕ, ◌+◌, [], ◌∷◌, refl}
-use mir.Syntax.{Fn}
-use mir.Val.{vunit}
-use mir.MapTy.{inst_fn}
-use base.Logic.{id⊢, apply∗}
-use base.Fml.{flft, froom}
-use prog.Memory.{align, up}
-use types.Logic.{sem}
-use types.Kit.{‵, raw, later, given, ◌$◌, !, by, move, keep, use1, use2, group, learn, fsplit, await}
-use types.Run.{stop, fld, addr, no_more, and_then, of_opd, unit_lit, returns, enter}
-use types.ByLocal.{alloc_all, pass_all, free_all, look_at, get, through, sets, lands_as}
-use denote.Opens.{unhide}
-use denote.Param.{param}
-use denote.RawPtr.{block_ptr}
-use denote.Triple.Call.{calls_at}
-use Rattle.std.proofs.alloc.Calls.{Al, α, seen, token, Gives, at_gives, Gives-goes, Gives-Gives}
-use Rattle.wiping.specs.Zeros.{zeros}
+use Rattle.wiping.proofs.Steps.{◌≡◌, ℕ, ◌+◌, [], ◌∷◌, refl, Fn, vunit, inst_fn, id⊢, apply∗, flft, froom, align, up, sem, ‵, raw, later, given, ◌$◌, !, by, move, keep, use1, use2, group, learn, fsplit, await, stop, fld, addr, no_more, and_then, of_opd, unit_lit, returns, enter, alloc_all, pass_all, free_all, look_at, get, through, sets, lands_as, unhide, param, block_ptr, calls_at, Al, α, seen, token, Gives, at_gives, Gives-goes, Gives-Gives, zeros}
 use Rattle.wiping.proofs.Walks.{Over, args, inside, clear, fm, given_back, gives_met}
 use Rattle.wiping.specs.contracts.below.Below.{the_row}
 use Rattle.wiping.specs.contracts.below.Below.give_back.Key as key
