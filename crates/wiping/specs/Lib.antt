@@ -1,4 +1,3 @@
 -- What it means that a block is cleared.
-pub mod Below
 pub mod Wiping
 pub mod Zeros

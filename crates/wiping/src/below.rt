@@ -14,11 +14,9 @@ pub struct Below<B: Allocator> {
 }
 
 impl<B: Allocator> Below<B> {
-    ghost use Rattle.wiping.specs.Below.{heap_of};
-
     /// Keeps `heap`.
     pub const fn new(heap: B) -> Below<B>
-        ensures { heap_of result ≡ heap }
+        ensures { result.heap ≡ heap }
     {
         Below { heap }
     }
@@ -27,7 +25,7 @@ impl<B: Allocator> Below<B> {
     pub fn allocate(&self, size: usize, align: usize) -> Result<*mut u8, AllocError>
         ghost ty: { Ty }
         requires layout { HasLayout ty size align }
-        ensures* { sem 𝓛 (block_if_ok (B.dealloc_token (heap_of self.now)) ty result) }
+        ensures* { sem 𝓛 (block_if_ok (B.dealloc_token self.now.heap) ty result) }
     {
         self.heap.allocate(size, align)
     }
@@ -36,7 +34,7 @@ impl<B: Allocator> Below<B> {
     pub unsafe fn give_back(&self, ptr: *mut u8, size: usize, align: usize)
         ghost ty: { Ty }
         requires layout { HasLayout ty size align }
-        requires* block { sem 𝓛 (cleared_block (B.dealloc_token (heap_of self.now)) ty size ptr) }
+        requires* block { sem 𝓛 (cleared_block (B.dealloc_token self.now.heap) ty size ptr) }
     {
         self.heap.deallocate(ptr, size, align);
     }
