@@ -9,7 +9,7 @@ from collections import Counter
 from runs.harness import TOP, Report
 
 TABLE = os.path.join(TOP, "docs", "CALLS.md")
-LIBRARY = ("krb_wire", "krb_walk", "krb_cells", "krb_keytab", "krb_indexed", "krb_ccache",
+LIBRARY = ("krb_wire", "krb_walk", "krb_cells", "krb_keytab", "krb_ccache",
            "krb_files", "krb_text", "krb_cache_text", "krb_json", "krb_audit", "krb_commands", "krb_disk",
            "wiping")
 

@@ -2,8 +2,8 @@
 use denote.Param.Send.{IsSend, EachSend, Frees, sendable, recorded_send, enum_send}
 use denote.Enum.Declared.{shape}
 use Rattle.std.proofs.Crossing as heap
-use Rattle.krb_indexed.specs.contracts.indexed.Indexed as Indexed
-use Rattle.krb_indexed.proofs.indexed.Indexed.TheSendSync as indexed
+use Rattle.krb_keytab.specs.contracts.indexed.Indexed as Indexed
+use Rattle.krb_keytab.proofs.indexed.Indexed.TheSendSync as indexed
 use Rattle.krb_ccache.specs.contracts.ccache.Ccache as Ccache
 use Rattle.krb_ccache.proofs.ccache.Ccache.TheSendSync as ccache
 use Rattle.krb_c.specs.contracts.keytab.held.HeldKeytab as HeldKeytab

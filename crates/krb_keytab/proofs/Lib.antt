@@ -21,3 +21,15 @@ pub mod AfterChanges
 pub mod NewRecords
 pub mod Rewrites
 pub mod ImageStores
+pub mod NodeLemmas
+pub mod SizeLemmas
+pub mod SlotLemmas
+pub mod PlaceLemmas
+pub mod StopLemmas
+pub mod FitLemmas
+pub mod IndexLemmas
+pub mod LiveLemmas
+pub mod ChangeLemmas
+pub mod GrownLemmas
+pub mod BytesLemmas
+pub mod FindLemmas

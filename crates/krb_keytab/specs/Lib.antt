@@ -11,6 +11,9 @@ pub mod Rewrite
 pub mod Placed
 pub mod Open
 pub mod Laws
+pub mod Tree
+pub mod Slot
+pub mod Index
 -- For private contracts alone.
 pub mod Image
 pub mod CellViews
@@ -18,3 +21,4 @@ pub mod LookUp
 pub mod HasName
 pub mod Prefix
 pub mod Append
+pub mod Nodes

@@ -1,4 +1,4 @@
-//! Tests of `krb_wire`, `krb_walk`, `krb_keytab` and `krb_indexed` by their public calls. They are a crate of their own,
+//! Tests of `krb_wire`, `krb_walk` and `krb_keytab` by their public calls. They are a crate of their own,
 //! since a crate with tests is proved twice.
 #![tactic(auto)]
 

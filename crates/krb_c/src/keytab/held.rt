@@ -14,8 +14,7 @@ ghost use Rattle.krb_c.specs.KeytabLooks.{Steps, StepsTo};
 use crate::heap::Heap;
 use crate::keytab::entry::{KrbfEntry, shown};
 use crate::status::{AT_END, DONE, of_code};
-use krb_indexed::Indexed;
-use krb_keytab::{Keytab, NewEntry, read_entry};
+use krb_keytab::{Indexed, Keytab, NewEntry, read_entry};
 use krb_walk::{Code, Refusal, Stop};
 use std::marker::Model;
 

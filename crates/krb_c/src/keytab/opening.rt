@@ -14,8 +14,7 @@ use crate::held::Held;
 use crate::keytab::{HeldKeytab, KrbfKeytab};
 use crate::limit::limits_of;
 use crate::status::{DONE, NO_MEMORY, TOO_LARGE, of_kt_open};
-use krb_indexed::Indexed;
-use krb_keytab::{Keytab, KtOpenFault};
+use krb_keytab::{Indexed, Keytab, KtOpenFault};
 use krb_wire::{KtFormat, Limits, NoMemory, Order};
 use std::alloc::Global;
 

@@ -5,8 +5,7 @@ ghost use Rattle.krb_keytab.specs.Store.{entries};
 ghost use Rattle.krb_commands.specs.KtutilPlan.{with_added};
 ghost use Rattle.krb_commands.specs.KtutilFiles.{RefusesAdded};
 
-use krb_indexed::Indexed;
-use krb_keytab::{Keytab, NewEntry};
+use krb_keytab::{Indexed, Keytab, NewEntry};
 use krb_walk::Refusal;
 use krb_wire::NoMemory;
 use std::alloc::Allocator;

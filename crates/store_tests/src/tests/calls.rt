@@ -3,8 +3,7 @@
 use super::made::{b, indexed_of, is_host, keytab_of};
 use super::records::{B, HEAD, HOST, LOW_KEY};
 use super::{are, is};
-use krb_indexed::Indexed;
-use krb_keytab::{Keytab, NewEntry};
+use krb_keytab::{Indexed, Keytab, NewEntry};
 use krb_walk::{Placed, Refusal};
 use krb_wire::{KtFormat, Limits, Order};
 use refusing::{Refusing, refuse_each};

@@ -1,8 +1,7 @@
 //! Keytabs and entries that tests make.
 
 use super::records::HIGH_KEY;
-use krb_indexed::Indexed;
-use krb_keytab::{Keytab, NewEntry};
+use krb_keytab::{Indexed, Keytab, NewEntry};
 use krb_wire::{Limits, Name, Order, Principal, parse_name};
 use std::alloc::Allocator;
 use std::test::Fail;

@@ -10,8 +10,7 @@ use crate::ktutil::entries::{add_all, copy_entries};
 use crate::ktutil::line_end::{LineEnd, save_end};
 use crate::loading::{load_keytab, load_or_new};
 use krb_files::Files;
-use krb_indexed::Indexed;
-use krb_keytab::{Keytab, NewEntry};
+use krb_keytab::{Indexed, Keytab, NewEntry};
 use krb_walk::{Code, Refusal};
 use std::alloc::Allocator;
 

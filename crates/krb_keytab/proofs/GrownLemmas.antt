@@ -1,0 +1,191 @@
+-- A table and a tree where one cell more stands after the others.
+use Rattle.std.proofs.Common.{◌≡◌, ℕ, ◌+◌, ◌-◌, ◌*◌, ◌^◌, ◌<◌, ◌≤◌, true, false, List, [], ◌∷◌, ◌++◌, length, map, replicate, None, Ok, Err, refl, sym, ap, subst, ◌∙◌, arith, inl, inr, append_assoc, length-append, Bool, cond}
+use Rattle.std.specs.Prelude.{is_some, nat_le, nat_lt}
+use Rattle.std.specs.List.{AllByRecursion}
+use Rattle.std.proofs.Math.Nat.{pow-suc}
+use Rattle.std.proofs.Math.Pow.{pow_mono}
+use Rattle.std.proofs.lemmas.Nat.{pow_pos}
+use Rattle.std.proofs.lemmas.Bool.{cases_lt, lt-leb, lt-ltb, le-ltb, leb-true}
+use Rattle.std.proofs.lemmas.List.{append-nil, map-append, replicate-append-replicate}
+use Rattle.krb_wire.specs.declared.format.KtFormat.{KtFormat}
+use Rattle.std.specs.Int.{w32}
+use Rattle.std.proofs.lemmas.Bool.Decides.{eqb_tells}
+use Rattle.krb_keytab.specs.Length.{length_of}
+use Rattle.krb_wire.specs.declared.format.Order.{Order}
+use Rattle.krb_wire.specs.Spelling.{order_of, digits}
+use Rattle.krb_wire.proofs.Fields.{wide32}
+use Rattle.krb_walk.specs.declared.refusal.Code.TheVariants.{Full}
+use Rattle.krb_walk.specs.Rules.{PutGives}
+use Rattle.krb_walk.specs.Store.{end_of, fault_of}
+use Rattle.krb_keytab.specs.Entry.{EntryParts}
+use Rattle.krb_keytab.specs.Form.{fits, written_form}
+use Rattle.krb_keytab.specs.Changes.{hole_from, with_last, end_after, first_hole, put_result, takes_none, is_refused}
+use Rattle.krb_keytab.specs.Cells.{Cell, Live, Free, End, Bare, Mark, Damaged, IsCell, IsSound, end_bytes, kind_of}
+use Rattle.krb_keytab.specs.Cells as cells
+use Rattle.krb_keytab.specs.Store.{KeytabState, image_of, store_of, end_place}
+use Rattle.krb_keytab.specs.declared.indexed.slot.Slot.{Slot}
+use Rattle.krb_keytab.specs.Slot.{free_size, room_of, slots_from, slot_of}
+use Rattle.krb_keytab.specs.Tree.{SizeTree, IsHeightFor, HasRoomFor, IsGrown}
+use Rattle.krb_keytab.specs.Index.{IsIndex, HasSpare}
+use Rattle.krb_keytab.proofs.PlaceLemmas.{slots_len}
+use Rattle.krb_keytab.proofs.ChangeLemmas.{IsKept, image_len, ok_is}
+use Rattle.krb_keytab.proofs.Cuts.{end_place-append}
+use Rattle.krb_keytab.proofs.Stores.{whole_of}
+use Rattle.krb_keytab.proofs.Additions.{put_after_all, none_large}
+
+-- ---- the height of a tree with one leaf more
+
+-- where the leaves are all taken, the tree is one level higher
+pub grown_height : (n h : ℕ) → n ≡ 2 ^ h → IsHeightFor (n + 1) (h + 1)
+grown_height n h full =
+    let p : 2 ^ (h + 1) ≡ 2 ^ h * 2 = ap (λ (m : ℕ). 2 ^ m) (omega arith) ∙ pow-suc 2 h in
+    (omega (arith, p, pow_pos h), λ lower lt. omega (arith, pow_mono {i = lower} {j = h} (omega arith)))
+
+-- else it is as high
+pub same_height : (n h : ℕ) → IsHeightFor n h → n < 2 ^ h → IsHeightFor (n + 1) h
+same_height n h is lt = (omega (arith, lt), λ lower less. omega (arith, is.1 lower less))
+
+pub height_low : (n h : ℕ) → n ≡ 2 ^ h → n < 2 ^ 30 → h < 30
+height_low n h full small = elim (cases_lt h 30) [
+  | inl lt ↦ lt
+  | inr ge ↦ absurd (omega (arith, pow_mono {i = 30} {j = h} ge))
+]
+
+-- ---- the cells are few
+
+-- each takes up five places at least
+pub five_each : (f : KtFormat) (at : ℕ) (cs : List Cell) → AllByRecursion (IsCell f) cs → at + 5 * length cs ≤ end_place at cs
+five_each f at [] sound = omega arith
+five_each f at (Live b ∷ cs) sound =
+    let some = sound.0.0 in
+    omega (arith, some, five_each f (at + (4 + length b)) cs sound.1)
+five_each f at (Free b ∷ cs) sound =
+    let some = sound.0.0 in
+    omega (arith, some, five_each f (at + (4 + length b)) cs sound.1)
+
+pub few_slots : (k : KeytabState) (slots : List Slot) (t : SizeTree) (place : ℕ) → IsIndex k slots t → IsSound k.format k.contents → place ≡ end_of (store_of k) → place < 2 ^ 32 → length slots < 2 ^ 30
+few_slots k slots t place i sound at small =
+    let cs = k.contents.cells in
+    omega (arith, at, small, five_each k.format 2 cs sound.cells, ap length i.table, slots_len 2 cs)
+
+-- no hole has more bytes than a length can say
+pub none_so_large : (f : KtFormat) (at need : ℕ) (cs : List Cell) → AllByRecursion (IsCell f) cs → 2 ^ 31 < need → hole_from at need cs ≡ None
+none_so_large f at need [] sound lt = refl
+none_so_large f at need (Live b ∷ cs) sound lt = none_so_large f (at + (4 + length b)) need cs sound.1 lt
+none_so_large f at need (Free b ∷ cs) sound lt =
+    let small = sound.0.1 in
+    let large : nat_le need (length b) ≡ false = lt-leb need (length b) (omega (arith, small, lt)) in
+    rw large (none_so_large f (at + (4 + length b)) need cs sound.1 lt)
+
+-- ---- table and tree with a record more
+
+slots_last : (at : ℕ) (cs : List Cell) (c : Cell) → slots_from at (cs ++ (c ∷ [])) ≡ slots_from at cs ++ (slot_of (end_place at cs, c) ∷ [])
+slots_last at [] c = refl
+slots_last at (x ∷ cs) c = ap (λ (s : List Slot). slot_of (at, x) ∷ s) (slots_last (at + (4 + cells.size x)) cs c)
+
+no_room : (n : ℕ) → n < 2 ^ 31 → room_of (length_of n) ≡ 0
+no_room n small =
+    let is : nat_lt n (2 ^ 31) ≡ true = lt-ltb n (2 ^ 31) small in
+    elim (eqb_tells n 0) [ inl y ↦ rw (y.0) refl | inr more ↦ rw (more.0, is) refl ]
+
+pub appended_index : (k : KeytabState) (slots : List Slot) (t u : SizeTree) (bytes : List ℕ) → IsIndex k slots t → IsGrown (length slots) t u → length bytes < 2 ^ 31 → IsIndex (with_last k bytes) (slots ++ (slot_of (end_place 2 k.contents.cells, Live bytes) ∷ [])) u
+appended_index k slots t u bytes i grown small =
+    let s = slot_of (end_place 2 k.contents.cells, Live bytes) in
+    let n = length slots in
+    let live : free_size s ≡ 0 = no_room (length bytes) small in
+    let len : length (slots ++ (s ∷ [])) ≡ n + 1 = length-append slots (s ∷ []) in
+    let more : map free_size (slots ++ (s ∷ [])) ≡ map free_size slots ++ (0 ∷ []) = map-append free_size slots (s ∷ []) ∙ ap (λ (x : ℕ). map free_size slots ++ (x ∷ [])) live in
+    let zeros = replicate {A = ℕ} (2 ^ u.height - (n + 1)) 0 in
+    let one : (0 ∷ []) ++ zeros ≡ replicate {A = ℕ} (2 ^ u.height - n) 0 =
+    replicate-append-replicate 1 (2 ^ u.height - (n + 1)) 0 ∙ ap (λ (m : ℕ). replicate {A = ℕ} m 0) (omega (arith, grown.height.0)) in
+    let rising = pow_mono {i = t.height} {j = u.height} grown.higher in
+    let both : replicate {A = ℕ} (2 ^ t.height - n) 0 ++ replicate {A = ℕ} (2 ^ u.height - 2 ^ t.height) 0 ≡ replicate {A = ℕ} (2 ^ u.height - n) 0 =
+    replicate-append-replicate (2 ^ t.height - n) (2 ^ u.height - 2 ^ t.height) 0 ∙ ap (λ (m : ℕ). replicate {A = ℕ} m 0) (omega (arith, rising, i.height.0)) in
+    record {
+      table = ap (λ (y : List Slot). y ++ (s ∷ [])) i.table ∙ sym (slots_last 2 k.contents.cells (Live bytes));
+      sizes = grown.sizes ∙ ap (λ (y : List ℕ). y ++ replicate {A = ℕ} (2 ^ u.height - 2 ^ t.height) 0) i.sizes
+          ∙ append_assoc (map free_size slots) (replicate {A = ℕ} (2 ^ t.height - n) 0) (replicate {A = ℕ} (2 ^ u.height - 2 ^ t.height) 0) ∙ ap (λ (y : List ℕ). map free_size slots ++ y) both
+          ∙ sym (ap (λ (m : ℕ). map free_size (slots ++ (s ∷ [])) ++ replicate {A = ℕ} (2 ^ u.height - m) 0) len ∙ ap (λ (y : List ℕ). y ++ zeros) more ∙ append_assoc (map free_size slots) (0 ∷ []) zeros ∙ ap (λ (y : List ℕ). map free_size slots ++ y) one);
+      height = rw len grown.height;
+    }
+
+-- ---- room
+
+-- the image of a keytab that is whole has no more than an end mark after a record that was appended
+tail_short : (o : Order) (e : End) → kind_of e ≡ None → length (end_bytes o (end_after e)) ≤ 4
+tail_short o Bare h = omega arith
+tail_short o (Mark rest) h = omega (arith, length-append (digits o w32 0) [], (wide32 o).len 0)
+tail_short o (Damaged kind rest) h = absurd cc
+
+last_end : (k : KeytabState) (bytes : List ℕ) → end_place 2 (with_last k bytes).contents.cells ≡ end_place 2 k.contents.cells + (4 + length bytes)
+last_end k bytes = end_place-append 2 k.contents.cells (Live bytes ∷ [])
+
+pub appended_spare : (k : KeytabState) (bytes : List ℕ) (count room : ℕ) (t : SizeTree) → is_some (fault_of (store_of k)) ≡ false → HasSpare (with_last k bytes) count room t
+appended_spare k bytes count room t whole = λ longer.
+    absurd (omega (arith, longer, image_len (with_last k bytes), tail_short (order_of k.format) k.contents.end (whole_of (end_of (store_of k)) (kind_of k.contents.end) whole)))
+
+-- ---- what an addition after the cells gives
+
+pub no_first : (k : KeytabState) (need : ℕ) → hole_from 2 need k.contents.cells ≡ None → first_hole 2 need k.contents.cells ≡ None
+no_first k need none = none_large k need none
+
+fits_gives : (k : KeytabState) (e : EntryParts) → is_some (fault_of (store_of k)) ≡ false → fits k.format e ≡ true → hole_from 2 (length (written_form k.format e)) k.contents.cells ≡ None → nat_le (length (image_of (with_last k (written_form k.format e)))) k.limit ≡ true → put_result k e ≡ Ok (end_of (store_of k), with_last k (written_form k.format e))
+fits_gives k e whole fit none h =
+    let x = written_form k.format e in
+    let short : nat_lt k.limit (length (image_of (with_last k x))) ≡ false = le-ltb _ _ (leb-true _ _ h) in
+    put_after_all k e whole fit (no_first k (length x) none) ∙ ap (λ (b : Bool). cond b (Err Full) (Ok (end_of (store_of k), with_last k x))) short
+
+-- an addition that takes no memory finds room in table and tree
+pub spare_there : (k : KeytabState) (e : EntryParts) (count room : ℕ) (t : SizeTree) → is_some (fault_of (store_of k)) ≡ false → fits k.format e ≡ true → hole_from 2 (length (written_form k.format e)) k.contents.cells ≡ None → nat_le (length (image_of (with_last k (written_form k.format e)))) k.limit ≡ true
+    → 0 < length (written_form k.format e) → HasSpare k count room t → takes_none k e ≡ true → (count < room) × HasRoomFor (count + 1) t
+spare_there k e count room t whole fit none h some spare takes =
+    let x = written_form k.format e in
+    let given = ap is_refused (fits_gives k e whole fit none h) in
+    let nowhere = ap is_some (no_first k (length x) none) in
+    let no_longer : length (image_of (with_last k x)) ≤ length (image_of k) = leb-true _ _ (rw (given, nowhere) at takes) in
+    spare (omega (arith, no_longer, some, image_len (with_last k x), last_end k x))
+
+-- where it is done, the record stands at the end
+pub appended_state : (k new : KeytabState) (e : EntryParts) (place : ℕ) → is_some (fault_of (store_of k)) ≡ false → fits k.format e ≡ true → hole_from 2 (length (written_form k.format e)) k.contents.cells ≡ None → nat_le (length (image_of (with_last k (written_form k.format e)))) k.limit ≡ true → PutGives (put_result k e) k (Ok place) new
+    → new ≡ with_last k (written_form k.format e)
+appended_state k new e place whole fit none h gives =
+    ap (λ (x : ℕ × KeytabState). x.1) (ok_is (place, new) (end_of (store_of k), with_last k (written_form k.format e)) (sym gives ∙ fits_gives k e whole fit none h))
+
+-- ---- a leaf for one cell more
+
+pub stays_grown : (t : SizeTree) (n : ℕ) → IsHeightFor n t.height → n < 2 ^ t.height → IsGrown n t t
+stays_grown t n least lt = let none : 0 ≡ 2 ^ t.height - 2 ^ t.height = omega arith in record {
+  sizes = sym (append-nil t.sizes) ∙ ap (λ (m : ℕ). t.sizes ++ replicate {A = ℕ} m 0) none;
+  height = same_height n t.height least lt;
+  higher = omega arith;
+}
+
+pub doubles_grown : (t u : SizeTree) (n : ℕ) → n ≡ 2 ^ t.height → length t.sizes ≡ 2 ^ t.height → u.sizes ≡ t.sizes ++ replicate (length t.sizes) 0 → u.height ≡ t.height + 1 → IsGrown n t u
+doubles_grown t u n full len sizes height =
+    let p : 2 ^ u.height ≡ 2 ^ t.height * 2 = ap (λ (m : ℕ). 2 ^ m) (omega (arith, height)) ∙ pow-suc 2 t.height in
+    record {
+      sizes = sizes ∙ ap (λ (m : ℕ). t.sizes ++ replicate {A = ℕ} m 0) (omega (arith, len, p));
+      height = rw height (grown_height n t.height full);
+      higher = omega (arith, height);
+    }
+
+-- table and tree after an addition after the cells
+pub appended_kept : (k new : KeytabState) (e : EntryParts) (slots items : List Slot) (t mid u : SizeTree) (place need put count room last more n : ℕ) → IsKept k slots count room t → is_some (fault_of (store_of k)) ≡ false → fits k.format e ≡ true
+    → hole_from 2 need k.contents.cells ≡ None → need ≡ length (written_form k.format e) → nat_le (length (image_of (with_last k (written_form k.format e)))) k.limit ≡ true → need < 2 ^ 31 → PutGives (put_result k e) k (Ok put) new → place ≡ end_of (store_of k)
+    → items ≡ slots → mid.sizes ≡ t.sizes → mid.height ≡ t.height → n ≡ length slots → IsGrown n mid u → IsKept new (items ++ (record { place = place; field = need } ∷ [])) last more u
+appended_kept k new e slots items t mid u place need put count room last more n kept whole fit none is h small gives at same sizes height counts grown =
+    let x = written_form k.format e in
+    let state = appended_state k new e put whole fit (subst (λ (m : ℕ). hole_from 2 m k.contents.cells ≡ None) is none) h gives in
+    let index : IsIndex k items mid = record {
+      table = same ∙ kept.0.table;
+      sizes = sizes ∙ kept.0.sizes ∙ ap (λ (y : List Slot). map free_size y ++ replicate {A = ℕ} (2 ^ t.height - length y) 0) (sym same) ∙ ap (λ (m : ℕ). map free_size items ++ replicate {A = ℕ} (2 ^ m - length items) 0) (sym height);
+      height = rw (same, height) kept.0.height;
+    } in
+    let more_one = subst (λ (m : ℕ). IsGrown m mid u) (counts ∙ ap length (sym same)) grown in
+    let done = appended_index k items mid u x index more_one (omega (arith, small, is)) in
+    let slot : record { place = place; field = need } ≡ slot_of (end_place 2 k.contents.cells, Live x) =
+    ap (λ (m : ℕ). record { place = m; field = need }) at ∙ ap (λ (m : ℕ). record { place = end_place 2 k.contents.cells; field = m }) is in
+    let spare : HasSpare (with_last k x) last more u = appended_spare k x last more u whole in
+    let all : IsKept (with_last k x) (items ++ (slot_of (end_place 2 k.contents.cells, Live x) ∷ [])) last more u = (done, spare) in
+    subst (λ (y : KeytabState). IsKept y (items ++ (record { place = place; field = need } ∷ [])) last more u) (sym state)
+    (subst (λ (s : Slot). IsKept (with_last k x) (items ++ (s ∷ [])) last more u) (sym slot) all)

@@ -1,0 +1,152 @@
+-- The slot of one cell among others, and the live cell of a number.
+use Rattle.std.proofs.Common.{◌≡◌, ◌≢◌, ℕ, zero, suc, ◌+◌, ◌<◌, ◌≤◌, true, false, List, [], ◌∷◌, ◌++◌, length, map, take, drop, get_or, Option, Some, None, refl, sym, ap, subst, ◌∙◌, arith, inl, inr, length-append}
+use Rattle.std.specs.Prelude.{IsSome}
+use Rattle.std.specs.List.{AllByRecursion}
+use Rattle.std.proofs.Math.ListN.{set}
+use Rattle.std.proofs.Math.Seq.{set-append_seam, get_or-append_seam, drop-cons}
+use Rattle.std.proofs.lemmas.Bool.{cases_lt}
+use Rattle.std.proofs.lemmas.List.{take_at, take_all, append-nil}
+use Rattle.std.proofs.lemmas.List.Elements.{All-from_recursion}
+use Rattle.krb_wire.specs.declared.format.KtFormat.{KtFormat}
+use Rattle.krb_wire.proofs.Fields.{is_some_has}
+use Rattle.krb_walk.specs.Store.{Cell as StoreCell, live_bytes}
+use Rattle.krb_walk.proofs.Stops.{bytes_from}
+use Rattle.krb_walk.proofs.Splits.{bytes_ahead}
+use Rattle.krb_cells.proofs.Cuts.{live_is_place}
+use Rattle.krb_keytab.specs.Cells.{Cell, Live, Free, IsCell, IsSound}
+use Rattle.krb_keytab.specs.Cells as cells
+use Rattle.krb_keytab.specs.Store.{KeytabState, store_of, store_cell, end_place}
+use Rattle.krb_keytab.proofs.Cuts.{live_there, store_sound}
+use Rattle.krb_keytab.proofs.Replacements.{StandsAt, live_stands, stands_sound as sound_there}
+use Rattle.krb_keytab.specs.declared.indexed.slot.Slot.{Slot}
+use Rattle.krb_keytab.specs.Slot.{is_free, slots_from, slot_of, places, IsRank}
+use Rattle.krb_keytab.specs.Index.{slot_at, IsLiveNumber}
+use Rattle.krb_keytab.proofs.PlaceLemmas.{slots_len, cells_at_rank, end_rises}
+use Rattle.krb_keytab.proofs.StopLemmas.{live_slot, free_slot}
+use Rattle.krb_keytab.proofs.IndexLemmas.{slot_place, at_rank}
+
+-- ---- the slot of one cell among others
+
+slots_parts : (at : ℕ) (front back : List Cell) (c : Cell) → slots_from at (front ++ (c ∷ back)) ≡ slots_from at front ++ (slot_of (end_place at front, c) ∷ slots_from (end_place at front + (4 + cells.size c)) back)
+slots_parts at [] back c = refl
+slots_parts at (x ∷ front) back c = ap (λ (s : List Slot). slot_of (at, x) ∷ s) (slots_parts (at + (4 + cells.size x)) front back c)
+
+-- another cell of its size changes this slot alone
+pub set_slot : (at : ℕ) (front back : List Cell) (c d : Cell) → cells.size d ≡ cells.size c → slots_from at (front ++ (d ∷ back)) ≡ set (slots_from at (front ++ (c ∷ back))) (length front) (slot_of (end_place at front, d))
+set_slot at front back c d same =
+    let p = end_place at front in
+    let rest : slots_from (p + (4 + cells.size d)) back ≡ slots_from (p + (4 + cells.size c)) back = ap (λ (n : ℕ). slots_from (p + (4 + n)) back) same in
+    slots_parts at front back d ∙ ap (λ (s : List Slot). slots_from at front ++ (slot_of (p, d) ∷ s)) rest
+    ∙ sym (ap (λ (s : List Slot). set s (length front) (slot_of (p, d))) (slots_parts at front back c)
+    ∙ ap (λ (n : ℕ). set (slots_from at front ++ (slot_of (p, c) ∷ slots_from (p + (4 + cells.size c)) back)) n (slot_of (p, d))) (sym (slots_len at front))
+    ∙ set-append_seam (slots_from at front) (slot_of (p, c)) (slots_from (p + (4 + cells.size c)) back) (slot_of (p, d)))
+
+pub slot_seam : (k : KeytabState) (front back : List Cell) (c : Cell) → k.contents.cells ≡ front ++ (c ∷ back) → slot_at k (length front) ≡ slot_of (end_place 2 front, c)
+slot_seam k front back c parts =
+    let none : Slot = record { place = 0; field = 0 } in
+    let s = slots_from 2 front in
+    ap (λ (xs : List Cell). get_or (slots_from 2 xs) (length front) none) parts
+    ∙ ap (λ (t : List Slot). get_or t (length front) none) (slots_parts 2 front back c)
+    ∙ ap (λ (n : ℕ). get_or (s ++ (slot_of (end_place 2 front, c) ∷ slots_from (end_place 2 front + (4 + cells.size c)) back)) n none) (sym (slots_len 2 front))
+    ∙ get_or-append_seam s (slot_of (end_place 2 front, c)) (slots_from (end_place 2 front + (4 + cells.size c)) back) none
+
+-- cells that end at one place are as many
+pub number_is : (cs front rest : List Cell) (i : ℕ) → cs ≡ front ++ rest → i < length cs → end_place 2 front ≡ end_place 2 (take i cs) → length front ≡ i
+number_is cs front rest i parts lt same =
+    let n = length front in
+    let is : take n cs ≡ front = ap (take n) parts ∙ take_at front rest n refl in
+    let ends : end_place 2 (take n cs) ≡ end_place 2 (take i cs) = ap (end_place 2) is ∙ same in
+    let within : n ≤ length cs = omega (arith, ap length parts, length-append front rest) in
+    elim (cases_lt n i) [
+      | inl less ↦ absurd (omega (arith, ends, end_rises 2 cs n i less (omega arith)))
+      | inr ge ↦ elim (cases_lt i n) [
+        | inl more ↦ absurd (omega (arith, ends, end_rises 2 cs i n more within))
+        | inr le ↦ omega (arith, ge, le)
+      ]
+    ]
+
+-- ---- the live cell at a place
+
+pub none_of : (o : Option (List ℕ)) → (IsSome o → ⊥) → o ≡ None
+none_of None h = refl
+none_of (Some b) h = absurd (h refl)
+
+free_none : (f : KtFormat) (c : Cell) (p : ℕ) → IsCell f c → is_free (slot_of (p, c)) ≡ true → (store_cell c).live ≡ None
+free_none f (Free b) p sound h = refl
+free_none f (Live b) p sound h = let no = live_slot p b (sound.0, sound.1) in absurd (cc (no, h))
+
+live_some : (f : KtFormat) (c : Cell) (p : ℕ) → IsCell f c → is_free (slot_of (p, c)) ≡ false → IsSome (store_cell c).live
+live_some f (Live b) p sound h = refl
+live_some f (Free b) p sound h = let is = free_slot p b sound in absurd (cc (is, h))
+
+-- the cell of a number, and those after it
+slot_is : (at : ℕ) (cs : List Cell) (i : ℕ) (d : Cell) (e : Slot) → i < length cs → get_or (slots_from at cs) i e ≡ slot_of (end_place at (take i cs), get_or cs i d)
+slot_is at [] i d e lt = absurd (omega arith)
+slot_is at (c ∷ cs) zero d e lt = refl
+slot_is at (c ∷ cs) (suc i) d e lt = slot_is (at + (4 + cells.size c)) cs i d e (omega arith)
+
+sound_at : (f : KtFormat) (cs : List Cell) (i : ℕ) (d : Cell) → AllByRecursion (IsCell f) cs → i < length cs → IsCell f (get_or cs i d)
+sound_at f cs i d all lt = All-from_recursion (IsCell f) cs all i d lt
+
+-- a live cell stands at a place that is one
+live_here : (k : KeytabState) (p rank : ℕ) → IsRank (places (slots_from 2 k.contents.cells)) p rank → IsSome (live_bytes (store_of k) p) → p ≡ end_place 2 (take rank k.contents.cells)
+live_here k p rank r some = at_rank k p rank r (live_is_place (store_of k) p some)
+
+pub live_after_all : (k : KeytabState) (p rank : ℕ) → IsRank (places (slots_from 2 k.contents.cells)) p rank → length k.contents.cells ≤ rank → live_bytes (store_of k) p ≡ None
+live_after_all k p rank r le = none_of (live_bytes (store_of k) p) (λ some.
+    let cs = k.contents.cells in
+    let at_end : p ≡ end_place 2 cs = live_here k p rank r some ∙ ap (end_place 2) (take_all rank cs le) in
+    let none : live_bytes (store_of k) p ≡ None = ap (λ (xs : List StoreCell). bytes_from 2 xs p) (sym (append-nil (map store_cell cs))) ∙ bytes_ahead 2 p (map store_cell cs) [] (store_sound cs) (omega (arith, at_end)) in
+    absurd (cc (none, some)))
+
+pub live_elsewhere : (k : KeytabState) (p rank : ℕ) → IsRank (places (slots_from 2 k.contents.cells)) p rank → rank < length k.contents.cells → (slot_at k rank).place ≢ p → live_bytes (store_of k) p ≡ None
+live_elsewhere k p rank r lt ne = none_of (live_bytes (store_of k) p) (λ some. ne (slot_place k rank lt ∙ sym (live_here k p rank r some)))
+
+-- the bytes of the cell of a rank
+pub live_is : (k : KeytabState) (p rank : ℕ) (d : Cell) → rank < length k.contents.cells → (slot_at k rank).place ≡ p → live_bytes (store_of k) p ≡ (store_cell (get_or k.contents.cells rank d)).live
+live_is k p rank d lt is =
+    let cs = k.contents.cells in
+    let parts : cs ≡ take rank cs ++ (get_or cs rank d ∷ drop (suc rank) cs) = cells_at_rank cs rank ∙ ap (λ (xs : List Cell). take rank cs ++ xs) (drop-cons cs rank d lt) in
+    ap (λ (xs : List Cell). bytes_from 2 (map store_cell xs) p) parts ∙ live_there (take rank cs) (drop (suc rank) cs) (get_or cs rank d) p (sym is ∙ slot_place k rank lt)
+
+pub live_free : (k : KeytabState) (p rank : ℕ) → IsSound k.format k.contents → rank < length k.contents.cells → (slot_at k rank).place ≡ p → is_free (slot_at k rank) ≡ true → live_bytes (store_of k) p ≡ None
+live_free k p rank sound lt is free =
+    let cs = k.contents.cells in
+    let d = Free [] in
+    let slot = slot_is 2 cs rank d (record { place = 0; field = 0 }) lt in
+    live_is k p rank d lt is ∙ free_none k.format (get_or cs rank d) (end_place 2 (take rank cs)) (sound_at k.format cs rank d sound.cells lt) (sym (ap is_free slot) ∙ free)
+
+pub live_number : (k : KeytabState) (p rank : ℕ) → IsSound k.format k.contents → rank < length k.contents.cells → (slot_at k rank).place ≡ p → is_free (slot_at k rank) ≡ false → IsLiveNumber k p rank
+live_number k p rank sound lt is live =
+    let cs = k.contents.cells in
+    let d = Free [] in
+    let slot = slot_is 2 cs rank d (record { place = 0; field = 0 }) lt in
+    record {
+      inside = lt;
+      place = is;
+      live = subst (λ (o : Option (List ℕ)). IsSome o) (sym (live_is k p rank d lt is)) (live_some k.format (get_or cs rank d) (end_place 2 (take rank cs)) (sound_at k.format cs rank d sound.cells lt) (sym (ap is_free slot) ∙ live));
+    }
+
+-- the live cell of a number
+pub record LiveAt (k : KeytabState) (number place : ℕ) : Type 0 where
+  pub bytes : List ℕ
+  pub stands : StandsAt k.contents.cells 2 place (Live bytes)
+  pub count : length stands.front ≡ number
+  pub slot : slot_at k number ≡ slot_of (end_place 2 stands.front, Live bytes)
+  pub is : live_bytes (store_of k) place ≡ Some bytes
+
+pub live_at : (k : KeytabState) (number place : ℕ) → IsLiveNumber k place number → LiveAt k number place
+live_at k number place h =
+    let cs = k.contents.cells in
+    let b = is_some_has (live_bytes (store_of k) place) h.live in
+    let s = live_stands cs 2 place b.0 b.1 in
+    let count = number_is cs s.front (Live b.0 ∷ s.back) number s.parts h.inside (sym s.place ∙ sym h.place ∙ slot_place k number h.inside) in
+    record { bytes = b.0; stands = s; count = count; slot = ap (slot_at k) (sym count) ∙ slot_seam k s.front s.back (Live b.0) s.parts; is = b.1 }
+
+pub stands_sound : (k : KeytabState) (p : ℕ) (c : Cell) → IsSound k.format k.contents → StandsAt k.contents.cells 2 p c → IsCell k.format c
+stands_sound k p c sound s = sound_there k.format k.contents.cells 2 p c sound.cells s
+
+pub live_length : (k : KeytabState) (number place : ℕ) → IsSound k.format k.contents → IsLiveNumber k place number → 0 < (slot_at k number).field
+live_length k number place sound h =
+    let l = live_at k number place h in
+    omega (arith, ap (λ (s : Slot). s.field) l.slot, (stands_sound k place (Live l.bytes) sound l.stands).0)

@@ -1,0 +1,35 @@
+-- The table of cells.
+use Rattle.std.proofs.Common.{◌≡◌, ℕ, ◌<◌, ◌≤◌, true, false, List, length, get_or, sym, subst, arith, inl, inr}
+use Rattle.std.specs.Prelude.{nat_lt, slice_index}
+use Rattle.std.specs.List.Sorted.{IsPartitionedBy, IsPartitionPoint}
+use Rattle.std.proofs.lemmas.Bool.{cases_lt, lt-ltb, ltb-true, ltb-false}
+use Rattle.std.proofs.lemmas.List.{length-map, get_or-map}
+use Rattle.krb_keytab.specs.declared.indexed.slot.Slot.{Slot}
+use Rattle.krb_keytab.specs.Slot.{places, IsRising, IsRank}
+
+-- ---- the rank of a place
+
+pub place_at : (slots : List Slot) (i : ℕ) (d : Slot) → i < length slots → slice_index (places slots) i ≡ (get_or slots i d).place
+place_at slots i d lt = get_or-map (λ (s : Slot). s.place) slots i d 0 lt
+
+-- a smaller place stands before a greater one
+pub partitioned_by_place : (slots : List Slot) (p : ℕ) → IsRising (places slots) → IsPartitionedBy (λ (s : Slot). nat_lt s.place p) slots
+partitioned_by_place slots p rising i j d le lt h =
+    let below : (get_or slots j d).place < p = ltb-true _ _ h in
+    elim (cases_lt i j) [
+      | inl before ↦ lt-ltb _ _ (omega (arith, below, place_at slots i d (omega arith), place_at slots j d lt, rising i j before (omega (arith, length-map slots (λ (s : Slot). s.place)))))
+      | inr same ↦ let is : i ≡ j = omega arith in subst (λ (k : ℕ). nat_lt (get_or slots k d).place p ≡ true) (sym is) h
+    ]
+
+none : Slot
+none = record { place = 0; field = 0 }
+
+-- the partition point is the rank
+pub is_rank : (slots : List Slot) (p rank : ℕ) → rank ≤ length slots → IsPartitionPoint (λ (s : Slot). nat_lt s.place p ≡ true) (λ (s : Slot). nat_lt s.place p ≡ false) slots rank → IsRank (places slots) p rank
+is_rank slots p rank bound point =
+    let len = length-map slots (λ (s : Slot). s.place) in
+    record {
+      within = omega (arith, len);
+      below = λ i lt. let yes = ltb-true _ _ (point.0 i none (omega arith) lt) in omega (arith, yes, place_at slots i none (omega arith));
+      rest = λ i le lt. let no = ltb-false _ _ (point.1 i none le (omega (arith, len, lt))) in omega (arith, no, place_at slots i none (omega (arith, len, lt)));
+    }

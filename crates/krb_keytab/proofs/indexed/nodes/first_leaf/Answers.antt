@@ -1,0 +1,33 @@
+-- The descent from the root stands at the first leaf at its end.
+use Rattle.std.proofs.Common.{◌≡◌, ℕ, ◌-◌, ◌/◌, ◌^◌, length, ap, arith, subst, sym, ◌∙◌}
+use Rattle.std.specs.Prelude.{Some}
+use Rattle.krb_keytab.specs.Nodes.{Descends}
+use Rattle.krb_keytab.proofs.NodeLemmas.{has_children, descends_from_root, descends_on, descends_to, none_fits}
+use Rattle.krb_keytab.proofs.indexed.nodes.first_leaf.Goals as goal
+
+pub returns-then-look-need-clause-first : goal.returns-then-look-need-clause-first
+returns-then-look-need-clause-first c = sym (none_fits _ _ _ c.requires (omega (arith, c.look.ensures.value)))
+
+pub levels-init : goal.levels-init
+levels-init c = record {
+  stands = descends_from_root _ _ _ (omega (arith, c.look.ensures.value));
+  looks = omega arith;
+}
+
+pub child_with-node-requires-clause-there : goal.child_with-node-requires-clause-there
+child_with-node-requires-clause-there c =
+    let inside = has_children _ _ _ _ _ c.requires c.levels.invariant.stands c.levels-test.true in
+    omega (arith, inside.1, c.requires.len)
+
+pub levels-preserved : goal.levels-preserved
+levels-preserved c = record {
+  stands = descends_on _ _ _ _ _ _ c.requires c.levels.invariant.stands c.levels-test.true c.child_with-node.ensures.value;
+  looks = omega arith;
+}
+
+pub returns-clause-first : goal.returns-clause-first
+returns-clause-first c =
+    let at_end : c.levels._level ≡ c.args.height = omega arith in
+    let stands = subst (λ (n : ℕ). Descends c.args.height c.args.nodes.now c.args.need n c.levels.node) at_end c.levels.invariant.stands in
+    let half : length c.args.nodes.now / 2 ≡ 2 ^ c.args.height = omega (arith, c.requires.len) in
+    ap (λ (n : ℕ). Some (c.levels.node - n)) half ∙ sym (descends_to _ _ _ _ c.requires stands)

@@ -1,0 +1,10 @@
+-- A leaf under the node is large enough, and none before those under it is; each level took one look.
+use Rattle.std.proofs.Common.{◌≡◌, ◌+◌}
+use Rattle.krb_keytab.specs.Nodes.{Descends}
+use Rattle.krb_keytab.proofs.indexed.nodes.first_leaf.Given as goal
+
+abbrev pub invariant-levels : goal.invariant-levels
+invariant-levels l = record {
+  stands : Descends l.height l.nodes l.need l._level l.node;
+  looks : l.looks ≡ l._level + 1;
+}

@@ -1,0 +1,80 @@
+//! What a table knows of one cell.
+
+ghost use Rattle.std.specs.Prelude.{◌≡◌, ◌<◌, ◌^◌};
+ghost use Rattle.krb_keytab.specs.Slot.{free_size, is_free, size, slot_of, negated};
+ghost use Rattle.krb_keytab.specs.Length.{length_of, HasField};
+ghost use Rattle.krb_keytab.specs.Cells.{length_of_cell};
+ghost use Rattle.krb_keytab.specs.CellViews.{cell_of};
+
+use crate::cells::KtCell;
+use crate::length::Length;
+
+/// The place of a cell, and the field of its length.
+#[derive(Clone, Copy, Debug, PartialEq, Eq)]
+pub struct Slot {
+    pub place: u32,
+    pub field: u32,
+}
+
+impl Slot {
+    /// What is known of a cell at a place.
+    pub fn of(place: usize, cell: KtCell<'_>) -> Slot
+        requires place { place < 2 ^ 32 }
+        requires cell { HasField (length_of_cell (cell_of cell)) }
+        ensures { result ≡ slot_of (place, cell_of cell.entry) }
+    {
+        let length = match cell {
+            KtCell::Live(bytes) => Length::Live(bytes.len() as u32),
+            KtCell::Free(bytes) => Length::Free(bytes.len() as u32),
+        };
+        Slot {
+            place: place as u32,
+            field: length.field(),
+        }
+    }
+
+    // Its length.
+    fn length(self) -> Length
+        ensures { result ≡ length_of self.field }
+    {
+        Length::of_field(self.field)
+    }
+
+    /// Whether its cell is free.
+    pub fn is_free(self) -> bool
+        ensures { result ≡ is_free self }
+    {
+        match self.length() {
+            Length::Free(_) => true,
+            _ => false,
+        }
+    }
+
+    /// How many bytes its cell has after its length.
+    pub fn size(self) -> u32
+        ensures { result ≡ size self }
+    {
+        self.length().size()
+    }
+
+    /// How many bytes an entry may take in its cell: none where it is live.
+    pub fn free_size(self) -> u32
+        ensures { result ≡ free_size self }
+    {
+        match self.length() {
+            Length::Free(size) => size,
+            _ => 0,
+        }
+    }
+
+    /// The same, where its cell is live if it was free, and free if it was live.
+    pub fn negated(self) -> Slot
+        requires { 0 < self.field }
+        ensures { result ≡ negated self }
+    {
+        Slot {
+            place: self.place,
+            field: Length::negated(self.field),
+        }
+    }
+}

@@ -1,0 +1,67 @@
+//! A table of cells, in order.
+
+ghost use Rattle.std.specs.Prelude.{◌≡◌, ◌<◌, ◌≤◌, ◌+◌, ◌^◌, [], length, take, drop, IfOk, vec_len, vec_capacity};
+ghost use Rattle.krb_keytab.specs.Slot.{first_live, slots_from, places, IsRising, IsRank};
+
+use crate::indexed::slot::Slot;
+use crate::keytab::Keytab;
+use krb_wire::NoMemory;
+use std::alloc::Allocator;
+
+// Pushes a slot for each cell of a keytab into an empty table, for which there is room.
+fn push_slots<A: Allocator, B: Allocator>(slots: &mut Vec<Slot, A>, keytab: &Keytab<B>)
+    requires empty { slots.old.items ≡ [] }
+    requires room { length keytab.now.state.contents.cells ≤ vec_capacity slots.old }
+    ensures slots { slots.new.items ≡ slots_from 2 keytab.now.state.contents.cells }
+    ensures len { vec_len slots.new ≡ length keytab.now.state.contents.cells }
+    ensures room { vec_capacity slots.new ≡ vec_capacity slots.old }
+{
+    for (place, cell) in keytab.cells() {
+        slots.push_reserved(Slot::of(place, cell));
+    }
+}
+
+/// The table of a keytab's cells. There is room for one more, and no further.
+pub fn table_of<A: Allocator, B: Allocator>(
+    alloc: A,
+    keytab: &Keytab<B>,
+) -> Result<Vec<Slot, A>, NoMemory>
+    ensures slots { IfOk result (λ t. t.items ≡ slots_from 2 keytab.now.state.contents.cells) }
+    ensures room { IfOk result (λ t. vec_capacity t ≡ vec_len t + 1) }
+    ensures few { IfOk result (λ t. vec_len t < 2 ^ 30) }
+{
+    let count = keytab.cell_count() as usize;
+    let mut slots = Vec::with_capacity(alloc, count + 1)?;
+    push_slots(&mut slots, keytab);
+    Ok(slots)
+}
+
+/// How many cells stand before a place, found by halving.
+pub fn rank(slots: &[Slot], place: u32) -> usize
+    requires { IsRising (places slots.now) }
+    ensures { IsRank (places slots.now) place result }
+{
+    slots.partition_point(|slot| slot.place < place)
+}
+
+/// The first live cell.
+pub fn first_live(slots: &[Slot]) -> Option<Slot>
+    ensures { result ≡ first_live slots.now }
+{
+    for slot in slots {
+        if !slot.is_free() {
+            return Some(*slot);
+        }
+    }
+    None
+}
+
+/// The bytes of a record at a place of an image, after its length.
+pub fn record_bytes(image: &[u8], place: u32, size: u32) -> &[u8]
+    requires { place + 4 + size ≤ length image.now }
+    ensures { result.now ≡ take size (drop (place + 4) image.now) }
+{
+    let (_, rest) = image.split_at(place as usize + 4);
+    let (bytes, _) = rest.split_at(size as usize);
+    bytes
+}
