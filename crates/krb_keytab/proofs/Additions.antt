@@ -1,32 +1,21 @@
 -- What an addition gives, told by the image that is kept.
-use Rattle.std.proofs.Common.{◌≡◌, ℕ, ◌+◌, ◌<◌, ◌≤◌, Bool, true, false, cond, ltb, List, [], ◌∷◌, ◌++◌, length, drop, Option, Some, None, Result, Ok, Err, refl, sym, ap, ◌∙◌, length-append, arith}
-use Rattle.std.specs.Prelude.{is_some, option_map, nat_le}
+use Rattle.std.proofs.Common.{◌≡◌, ℕ, ◌+◌, ◌<◌, ◌≤◌, Bool, true, false, cond, ltb, List, [], ◌∷◌, ◌++◌, length, drop, None, Ok, Err, sym, ap, ◌∙◌, length-append, arith}
+use Rattle.std.specs.Prelude.{is_some}
 use Rattle.std.specs.List.{flat_map}
-use Rattle.std.proofs.lemmas.Bool.{lt-ltb, le-ltb, lt-leb, leb-true}
+use Rattle.std.proofs.lemmas.Bool.{lt-ltb, le-ltb}
 use Rattle.std.proofs.lemmas.List.{length-replicate}
 use Rattle.krb_wire.specs.declared.format.KtFormat.{KtFormat}
 use Rattle.krb_wire.specs.Spelling.{order_of}
-use Rattle.krb_wire.proofs.Fields.{some_is}
 use Rattle.krb_walk.specs.declared.refusal.Code.TheVariants as code
-use Rattle.krb_walk.specs.declared.refusal.Refusal.{Refusal}
-use Rattle.krb_walk.specs.declared.refusal.Refusal.TheVariants.{Code as ByCode, NoMemory}
-use Rattle.krb_walk.specs.Rules.{PutGives}
-use Rattle.krb_walk.specs.Memory.{HadMemory}
 use Rattle.krb_walk.specs.Store.{end_of, fault_of}
 use Rattle.krb_keytab.specs.declared.image.CellsEnd.{CellsEnd}
-use Rattle.krb_keytab.specs.declared.cells.Hole.{Hole}
-use Rattle.krb_keytab.specs.Entry.{EntryParts}
 use Rattle.krb_keytab.specs.Cells.{Live, Contents, cell, end_bytes, contents, image, kind_of}
 use Rattle.krb_keytab.specs.Image.{ends, IsKnownEnd, mark_len, len_with}
-use Rattle.krb_keytab.specs.Store.{KeytabState, InMemory, image_of, store_of, end_place}
-use Rattle.krb_keytab.specs.Form.{fits, written_form}
-use Rattle.krb_keytab.specs.Changes.{PlacedCell, first_hole, with_record_in, with_last, end_after, append_result, put_result_into, put_bytes_result, put_result, is_refused, takes_none, hole_of, hole_from}
-use Rattle.krb_keytab.specs.Append.{AnswersAppend, KeepsRoom}
+use Rattle.krb_keytab.specs.Store.{KeytabState, image_of, store_of, end_place}
+use Rattle.krb_keytab.specs.Changes.{with_last, end_after, append_result}
 use Rattle.krb_keytab.proofs.Cuts.{end_place_is, end_place-append}
 use Rattle.krb_keytab.proofs.Stores.{keytab_of, end_held, whole_of}
 use Rattle.krb_keytab.proofs.AppendLemmas.{zeros_after}
-
--- ---- after the cells
 
 -- how long the image is with one record more
 last_len : (f : KtFormat) (limit : ℕ) (bytes x : List ℕ) (e : CellsEnd) → IsKnownEnd f bytes e → kind_of (contents f (drop 2 bytes)).end ≡ None → length (image_of (with_last (keytab_of f limit bytes) x)) ≡ len_with e (length x)
@@ -94,63 +83,3 @@ pub append_no_longer : (f : KtFormat) (limit : ℕ) (bytes x : List ℕ) (k : Ke
 append_no_longer f limit bytes x k e n a spelled le =
     let was : length (image_of k) ≡ length bytes = ap (λ (y : KeytabState). length (image_of y)) (sym a.is) ∙ ap length (sym spelled) in
     omega (arith, was, le, same_len f limit bytes x k e n a)
-
--- ---- anywhere
-
--- what is put where nothing is wrong and the entry fits
-put_is : (k : KeytabState) (e : EntryParts) → is_some (fault_of (store_of k)) ≡ false → fits k.format e ≡ true → put_result k e ≡ put_bytes_result k (written_form k.format e)
-put_is k e whole fit =
-    ap (λ (b : Bool). cond b (Err code.Damaged) (cond (fits k.format e) (put_bytes_result k (written_form k.format e)) (Err code.TooLong))) whole
-    ∙ ap (λ (b : Bool). cond b (put_bytes_result k (written_form k.format e)) (Err code.TooLong)) fit
-
--- where no hole is large enough, it is put after the cells
-pub put_after_all : (k : KeytabState) (e : EntryParts) → is_some (fault_of (store_of k)) ≡ false → fits k.format e ≡ true → first_hole 2 (length (written_form k.format e)) k.contents.cells ≡ None → put_result k e ≡ append_result k (written_form k.format e)
-put_after_all k e whole fit none = put_is k e whole fit ∙ ap (put_result_into k (written_form k.format e)) none
-
-pub gives_put : (k : KeytabState) (e : EntryParts) (result : Result ℕ Refusal) (new : KeytabState) → put_result k e ≡ append_result k (written_form k.format e) → AnswersAppend k (written_form k.format e) result new → PutGives (put_result k e) k result new
-gives_put k e (Ok place) new is h = is ∙ h
-gives_put k e (Err (ByCode refused)) new is h = (is ∙ h.0, h.1)
-gives_put k e (Err NoMemory) new is h = h.2
-
--- memory is asked for only where none of these holds
-takes_some : (k : KeytabState) (e : EntryParts) → is_refused (put_result k e) ≡ false → is_some (first_hole 2 (length (written_form k.format e)) k.contents.cells) ≡ false → length (image_of k) < length (image_of (with_last k (written_form k.format e))) → takes_none k e ≡ false
-takes_some k e given none longer =
-    let no : nat_le (length (image_of (with_last k (written_form k.format e)))) (length (image_of k)) ≡ false = lt-leb _ _ longer in
-    rw (given, none, no) refl
-
-pub put_wants : (k : KeytabState) (e : EntryParts) (result : Result ℕ Refusal) (new : KeytabState) → put_result k e ≡ append_result k (written_form k.format e) → first_hole 2 (length (written_form k.format e)) k.contents.cells ≡ None
-    → AnswersAppend k (written_form k.format e) result new → takes_none k e ≡ true → HadMemory result
-put_wants k e (Ok place) new is none h takes = tt
-put_wants k e (Err (ByCode refused)) new is none h takes = tt
-put_wants k e (Err NoMemory) new is none h takes =
-    let no = takes_some k e (ap is_refused (is ∙ h.0)) (ap is_some none) h.1 in
-    absurd cc
-
--- where it takes no memory and is put after the cells, the image becomes no longer
-no_longer : (k : KeytabState) (e : EntryParts) (place : ℕ) (new : KeytabState) → put_result k e ≡ Ok (place, new) → first_hole 2 (length (written_form k.format e)) k.contents.cells ≡ None → takes_none k e ≡ true
-    → length (image_of (with_last k (written_form k.format e))) ≤ length (image_of k)
-no_longer k e place new is none takes = leb-true _ _ (rw (ap is_refused is, ap is_some none) at takes)
-
-pub put_keeps : (k : InMemory) (e : EntryParts) (result : Result ℕ Refusal) (new : InMemory) → put_result k.state e ≡ append_result k.state (written_form k.state.format e) → first_hole 2 (length (written_form k.state.format e)) k.state.contents.cells ≡ None
-    → AnswersAppend k.state (written_form k.state.format e) result new.state → KeepsRoom k (written_form k.state.format e) result new → takes_none k.state e ≡ true → new.room ≡ k.room
-put_keeps k e (Ok place) new is none h keeps takes = keeps (no_longer k.state e place new.state (is ∙ h) none takes)
-put_keeps k e (Err (ByCode refused)) new is none h keeps takes = keeps
-put_keeps k e (Err NoMemory) new is none h keeps takes = absurd (put_wants k.state e (Err NoMemory) new.state is none h takes)
-
--- a hole, by its place
-into_hole : (k : KeytabState) (x : List ℕ) (h : Hole) (o : Option PlacedCell) → option_map hole_of o ≡ Some h → put_result_into k x o ≡ Ok (h.place, with_record_in k x h.place)
-into_hole k x h None e = absurd cc
-into_hole k x h (Some c) e = ap (λ (p : ℕ). Ok (p, with_record_in k x p)) (ap (λ (y : Hole). y.place) (some_is (hole_of c) h e))
-
-no_hole : (o : Option PlacedCell) → option_map hole_of o ≡ None → o ≡ None
-no_hole None e = refl
-no_hole (Some c) e = absurd cc
-
-pub none_large : (k : KeytabState) (n : ℕ) → hole_from 2 n k.contents.cells ≡ None → first_hole 2 n k.contents.cells ≡ None
-none_large k n e = no_hole (first_hole 2 n k.contents.cells) e
-
--- the first hole that is large enough takes it
-pub put_in_hole : (k : KeytabState) (e : EntryParts) (h : Hole) → is_some (fault_of (store_of k)) ≡ false → fits k.format e ≡ true → hole_from 2 (length (written_form k.format e)) k.contents.cells ≡ Some h
-    → put_result k e ≡ Ok (h.place, with_record_in k (written_form k.format e) h.place)
-put_in_hole k e h whole fit hole =
-    put_is k e whole fit ∙ into_hole k (written_form k.format e) h (first_hole 2 (length (written_form k.format e)) k.contents.cells) hole

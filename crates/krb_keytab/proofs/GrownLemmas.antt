@@ -1,11 +1,11 @@
 -- A table and a tree where one cell more stands after the others.
-use Rattle.std.proofs.Common.{◌≡◌, ℕ, ◌+◌, ◌-◌, ◌*◌, ◌^◌, ◌<◌, ◌≤◌, true, false, List, [], ◌∷◌, ◌++◌, length, map, replicate, None, Ok, Err, refl, sym, ap, subst, ◌∙◌, arith, inl, inr, append_assoc, length-append, Bool, cond}
+use Rattle.std.proofs.Common.{◌≡◌, ℕ, ◌+◌, ◌-◌, ◌*◌, ◌^◌, ◌<◌, ◌≤◌, true, false, List, [], ◌∷◌, ◌++◌, length, map, replicate, None, Ok, refl, sym, ap, subst, ◌∙◌, arith, inl, inr, append_assoc, length-append}
 use Rattle.std.specs.Prelude.{is_some, nat_le, nat_lt}
 use Rattle.std.specs.List.{AllByRecursion}
 use Rattle.std.proofs.Math.Nat.{pow-suc}
 use Rattle.std.proofs.Math.Pow.{pow_mono}
 use Rattle.std.proofs.lemmas.Nat.{pow_pos}
-use Rattle.std.proofs.lemmas.Bool.{cases_lt, lt-leb, lt-ltb, le-ltb, leb-true}
+use Rattle.std.proofs.lemmas.Bool.{cases_lt, lt-leb, lt-ltb}
 use Rattle.std.proofs.lemmas.List.{append-nil, map-append, replicate-append-replicate}
 use Rattle.krb_wire.specs.declared.format.KtFormat.{KtFormat}
 use Rattle.std.specs.Int.{w32}
@@ -14,24 +14,19 @@ use Rattle.krb_keytab.specs.Length.{length_of}
 use Rattle.krb_wire.specs.declared.format.Order.{Order}
 use Rattle.krb_wire.specs.Spelling.{order_of, digits}
 use Rattle.krb_wire.proofs.Fields.{wide32}
-use Rattle.krb_walk.specs.declared.refusal.Code.TheVariants.{Full}
-use Rattle.krb_walk.specs.Rules.{PutGives}
 use Rattle.krb_walk.specs.Store.{end_of, fault_of}
-use Rattle.krb_keytab.specs.Entry.{EntryParts}
-use Rattle.krb_keytab.specs.Form.{fits, written_form}
-use Rattle.krb_keytab.specs.Changes.{hole_from, with_last, end_after, first_hole, put_result, takes_none, is_refused}
-use Rattle.krb_keytab.specs.Cells.{Cell, Live, Free, End, Bare, Mark, Damaged, IsCell, IsSound, end_bytes, kind_of}
+use Rattle.krb_keytab.specs.Form.{fits}
+use Rattle.krb_keytab.specs.Changes.{hole_from, with_last, end_after, append_result}
+use Rattle.krb_keytab.specs.Cells.{Cell, Live, Free, End, Bare, Mark, Damaged, IsCell, end_bytes, kind_of}
 use Rattle.krb_keytab.specs.Cells as cells
 use Rattle.krb_keytab.specs.Store.{KeytabState, image_of, store_of, end_place}
 use Rattle.krb_keytab.specs.declared.indexed.slot.Slot.{Slot}
 use Rattle.krb_keytab.specs.Slot.{free_size, room_of, slots_from, slot_of}
 use Rattle.krb_keytab.specs.Tree.{SizeTree, IsHeightFor, HasRoomFor, IsGrown}
 use Rattle.krb_keytab.specs.Index.{IsIndex, HasSpare}
-use Rattle.krb_keytab.proofs.PlaceLemmas.{slots_len}
 use Rattle.krb_keytab.proofs.ChangeLemmas.{IsKept, image_len, ok_is}
 use Rattle.krb_keytab.proofs.Cuts.{end_place-append}
 use Rattle.krb_keytab.proofs.Stores.{whole_of}
-use Rattle.krb_keytab.proofs.Additions.{put_after_all, none_large}
 
 -- ---- the height of a tree with one leaf more
 
@@ -50,23 +45,6 @@ height_low n h full small = elim (cases_lt h 30) [
   | inl lt ↦ lt
   | inr ge ↦ absurd (omega (arith, pow_mono {i = 30} {j = h} ge))
 ]
-
--- ---- the cells are few
-
--- each takes up five places at least
-pub five_each : (f : KtFormat) (at : ℕ) (cs : List Cell) → AllByRecursion (IsCell f) cs → at + 5 * length cs ≤ end_place at cs
-five_each f at [] sound = omega arith
-five_each f at (Live b ∷ cs) sound =
-    let some = sound.0.0 in
-    omega (arith, some, five_each f (at + (4 + length b)) cs sound.1)
-five_each f at (Free b ∷ cs) sound =
-    let some = sound.0.0 in
-    omega (arith, some, five_each f (at + (4 + length b)) cs sound.1)
-
-pub few_slots : (k : KeytabState) (slots : List Slot) (t : SizeTree) (place : ℕ) → IsIndex k slots t → IsSound k.format k.contents → place ≡ end_of (store_of k) → place < 2 ^ 32 → length slots < 2 ^ 30
-few_slots k slots t place i sound at small =
-    let cs = k.contents.cells in
-    omega (arith, at, small, five_each k.format 2 cs sound.cells, ap length i.table, slots_len 2 cs)
 
 -- no hole has more bytes than a length can say
 pub none_so_large : (f : KtFormat) (at need : ℕ) (cs : List Cell) → AllByRecursion (IsCell f) cs → 2 ^ 31 < need → hole_from at need cs ≡ None
@@ -124,32 +102,12 @@ pub appended_spare : (k : KeytabState) (bytes : List ℕ) (count room : ℕ) (t 
 appended_spare k bytes count room t whole = λ longer.
     absurd (omega (arith, longer, image_len (with_last k bytes), tail_short (order_of k.format) k.contents.end (whole_of (end_of (store_of k)) (kind_of k.contents.end) whole)))
 
--- ---- what an addition after the cells gives
-
-pub no_first : (k : KeytabState) (need : ℕ) → hole_from 2 need k.contents.cells ≡ None → first_hole 2 need k.contents.cells ≡ None
-no_first k need none = none_large k need none
-
-fits_gives : (k : KeytabState) (e : EntryParts) → is_some (fault_of (store_of k)) ≡ false → fits k.format e ≡ true → hole_from 2 (length (written_form k.format e)) k.contents.cells ≡ None → nat_le (length (image_of (with_last k (written_form k.format e)))) k.limit ≡ true → put_result k e ≡ Ok (end_of (store_of k), with_last k (written_form k.format e))
-fits_gives k e whole fit none h =
-    let x = written_form k.format e in
-    let short : nat_lt k.limit (length (image_of (with_last k x))) ≡ false = le-ltb _ _ (leb-true _ _ h) in
-    put_after_all k e whole fit (no_first k (length x) none) ∙ ap (λ (b : Bool). cond b (Err Full) (Ok (end_of (store_of k), with_last k x))) short
-
--- an addition that takes no memory finds room in table and tree
-pub spare_there : (k : KeytabState) (e : EntryParts) (count room : ℕ) (t : SizeTree) → is_some (fault_of (store_of k)) ≡ false → fits k.format e ≡ true → hole_from 2 (length (written_form k.format e)) k.contents.cells ≡ None → nat_le (length (image_of (with_last k (written_form k.format e)))) k.limit ≡ true
-    → 0 < length (written_form k.format e) → HasSpare k count room t → takes_none k e ≡ true → (count < room) × HasRoomFor (count + 1) t
-spare_there k e count room t whole fit none h some spare takes =
-    let x = written_form k.format e in
-    let given = ap is_refused (fits_gives k e whole fit none h) in
-    let nowhere = ap is_some (no_first k (length x) none) in
-    let no_longer : length (image_of (with_last k x)) ≤ length (image_of k) = leb-true _ _ (rw (given, nowhere) at takes) in
-    spare (omega (arith, no_longer, some, image_len (with_last k x), last_end k x))
-
--- where it is done, the record stands at the end
-pub appended_state : (k new : KeytabState) (e : EntryParts) (place : ℕ) → is_some (fault_of (store_of k)) ≡ false → fits k.format e ≡ true → hole_from 2 (length (written_form k.format e)) k.contents.cells ≡ None → nat_le (length (image_of (with_last k (written_form k.format e)))) k.limit ≡ true → PutGives (put_result k e) k (Ok place) new
-    → new ≡ with_last k (written_form k.format e)
-appended_state k new e place whole fit none h gives =
-    ap (λ (x : ℕ × KeytabState). x.1) (ok_is (place, new) (end_of (store_of k), with_last k (written_form k.format e)) (sym gives ∙ fits_gives k e whole fit none h))
+-- where room for one more is lacking, the image becomes longer
+pub longer_there : (k : KeytabState) (bytes : List ℕ) (count room : ℕ) (t : SizeTree) → 0 < length bytes → HasSpare k count room t → (count < room → HasRoomFor (count + 1) t → ⊥) → length (image_of k) < length (image_of (with_last k bytes))
+longer_there k bytes count room t some spare lacks = elim (cases_lt (length (image_of k)) (length (image_of (with_last k bytes)))) [
+  | inl lt ↦ lt
+  | inr le ↦ let had = spare (omega (arith, le, some, image_len (with_last k bytes), last_end k bytes)) in absurd (lacks had.0 had.1)
+]
 
 -- ---- a leaf for one cell more
 
@@ -170,22 +128,21 @@ doubles_grown t u n full len sizes height =
     }
 
 -- table and tree after an addition after the cells
-pub appended_kept : (k new : KeytabState) (e : EntryParts) (slots items : List Slot) (t mid u : SizeTree) (place need put count room last more n : ℕ) → IsKept k slots count room t → is_some (fault_of (store_of k)) ≡ false → fits k.format e ≡ true
-    → hole_from 2 need k.contents.cells ≡ None → need ≡ length (written_form k.format e) → nat_le (length (image_of (with_last k (written_form k.format e)))) k.limit ≡ true → need < 2 ^ 31 → PutGives (put_result k e) k (Ok put) new → place ≡ end_of (store_of k)
+pub appended_kept : (k new : KeytabState) (x : List ℕ) (slots items : List Slot) (t mid u : SizeTree) (place need count room last more n : ℕ) → IsKept k slots count room t → fault_of (store_of k) ≡ None
+    → append_result k x ≡ Ok (end_of (store_of k), with_last k x) → append_result k x ≡ Ok (place, new) → need ≡ length x → length x < 2 ^ 31
     → items ≡ slots → mid.sizes ≡ t.sizes → mid.height ≡ t.height → n ≡ length slots → IsGrown n mid u → IsKept new (items ++ (record { place = place; field = need } ∷ [])) last more u
-appended_kept k new e slots items t mid u place need put count room last more n kept whole fit none is h small gives at same sizes height counts grown =
-    let x = written_form k.format e in
-    let state = appended_state k new e put whole fit (subst (λ (m : ℕ). hole_from 2 m k.contents.cells ≡ None) is none) h gives in
+appended_kept k new x slots items t mid u place need count room last more n kept whole fits gives is small same sizes height counts grown =
+    let both = ok_is (place, new) (end_of (store_of k), with_last k x) (sym gives ∙ fits) in
     let index : IsIndex k items mid = record {
       table = same ∙ kept.0.table;
       sizes = sizes ∙ kept.0.sizes ∙ ap (λ (y : List Slot). map free_size y ++ replicate {A = ℕ} (2 ^ t.height - length y) 0) (sym same) ∙ ap (λ (m : ℕ). map free_size items ++ replicate {A = ℕ} (2 ^ m - length items) 0) (sym height);
       height = rw (same, height) kept.0.height;
     } in
     let more_one = subst (λ (m : ℕ). IsGrown m mid u) (counts ∙ ap length (sym same)) grown in
-    let done = appended_index k items mid u x index more_one (omega (arith, small, is)) in
+    let done = appended_index k items mid u x index more_one small in
     let slot : record { place = place; field = need } ≡ slot_of (end_place 2 k.contents.cells, Live x) =
-    ap (λ (m : ℕ). record { place = m; field = need }) at ∙ ap (λ (m : ℕ). record { place = end_place 2 k.contents.cells; field = m }) is in
-    let spare : HasSpare (with_last k x) last more u = appended_spare k x last more u whole in
+    ap (λ (y : ℕ × KeytabState). record { place = y.0; field = need }) both ∙ ap (λ (m : ℕ). record { place = end_place 2 k.contents.cells; field = m }) is in
+    let spare : HasSpare (with_last k x) last more u = appended_spare k x last more u (ap is_some whole) in
     let all : IsKept (with_last k x) (items ++ (slot_of (end_place 2 k.contents.cells, Live x) ∷ [])) last more u = (done, spare) in
-    subst (λ (y : KeytabState). IsKept y (items ++ (record { place = place; field = need } ∷ [])) last more u) (sym state)
+    subst (λ (y : KeytabState). IsKept y (items ++ (record { place = place; field = need } ∷ [])) last more u) (sym (ap (λ (y : ℕ × KeytabState). y.1) both))
     (subst (λ (s : Slot). IsKept (with_last k x) (items ++ (s ∷ [])) last more u) (sym slot) all)

@@ -25,11 +25,8 @@ pub mod NodeLemmas
 pub mod SizeLemmas
 pub mod SlotLemmas
 pub mod PlaceLemmas
-pub mod StopLemmas
 pub mod FitLemmas
 pub mod IndexLemmas
 pub mod LiveLemmas
 pub mod ChangeLemmas
 pub mod GrownLemmas
-pub mod BytesLemmas
-pub mod FindLemmas

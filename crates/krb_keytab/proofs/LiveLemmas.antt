@@ -22,7 +22,7 @@ use Rattle.krb_keytab.specs.declared.indexed.slot.Slot.{Slot}
 use Rattle.krb_keytab.specs.Slot.{is_free, slots_from, slot_of, places, IsRank}
 use Rattle.krb_keytab.specs.Index.{slot_at, IsLiveNumber}
 use Rattle.krb_keytab.proofs.PlaceLemmas.{slots_len, cells_at_rank, end_rises}
-use Rattle.krb_keytab.proofs.StopLemmas.{live_slot, free_slot}
+use Rattle.krb_keytab.proofs.SlotLemmas.{live_slot, free_slot}
 use Rattle.krb_keytab.proofs.IndexLemmas.{slot_place, at_rank}
 
 -- ---- the slot of one cell among others
@@ -127,26 +127,28 @@ live_number k p rank sound lt is live =
       live = subst (λ (o : Option (List ℕ)). IsSome o) (sym (live_is k p rank d lt is)) (live_some k.format (get_or cs rank d) (end_place 2 (take rank cs)) (sound_at k.format cs rank d sound.cells lt) (sym (ap is_free slot) ∙ live));
     }
 
--- the live cell of a number
-pub record LiveAt (k : KeytabState) (number place : ℕ) : Type 0 where
-  pub bytes : List ℕ
-  pub stands : StandsAt k.contents.cells 2 place (Live bytes)
+-- the cell of a number, at a place
+pub record CellOf (k : KeytabState) (number p : ℕ) (c : Cell) : Type 0 where
+  pub stands : StandsAt k.contents.cells 2 p c
   pub count : length stands.front ≡ number
-  pub slot : slot_at k number ≡ slot_of (end_place 2 stands.front, Live bytes)
-  pub is : live_bytes (store_of k) place ≡ Some bytes
+  pub slot : slot_at k number ≡ slot_of (end_place 2 stands.front, c)
 
-pub live_at : (k : KeytabState) (number place : ℕ) → IsLiveNumber k place number → LiveAt k number place
-live_at k number place h =
-    let cs = k.contents.cells in
-    let b = is_some_has (live_bytes (store_of k) place) h.live in
-    let s = live_stands cs 2 place b.0 b.1 in
-    let count = number_is cs s.front (Live b.0 ∷ s.back) number s.parts h.inside (sym s.place ∙ sym h.place ∙ slot_place k number h.inside) in
-    record { bytes = b.0; stands = s; count = count; slot = ap (slot_at k) (sym count) ∙ slot_seam k s.front s.back (Live b.0) s.parts; is = b.1 }
+pub cell_of : (k : KeytabState) (number p : ℕ) (c : Cell) → number < length k.contents.cells → (slot_at k number).place ≡ p → StandsAt k.contents.cells 2 p c → CellOf k number p c
+cell_of k number p c lt at s =
+    let count = number_is k.contents.cells s.front (c ∷ s.back) number s.parts lt (sym s.place ∙ sym at ∙ slot_place k number lt) in
+    record { stands = s; count = count; slot = ap (slot_at k) (sym count) ∙ slot_seam k s.front s.back c s.parts }
 
-pub stands_sound : (k : KeytabState) (p : ℕ) (c : Cell) → IsSound k.format k.contents → StandsAt k.contents.cells 2 p c → IsCell k.format c
-stands_sound k p c sound s = sound_there k.format k.contents.cells 2 p c sound.cells s
+-- its bytes are few enough for a length, and some
+pub cell_field : (k : KeytabState) (number p : ℕ) (c : Cell) → IsSound k.format k.contents → CellOf k number p c → 0 < (slot_at k number).field
+cell_field k number p (Live b) sound s = omega (arith, ap (λ (x : Slot). x.field) s.slot, (sound_there k.format k.contents.cells 2 p (Live b) sound.cells s.stands).0)
+cell_field k number p (Free b) sound s = omega (arith, ap (λ (x : Slot). x.field) s.slot, (sound_there k.format k.contents.cells 2 p (Free b) sound.cells s.stands).1)
 
-pub live_length : (k : KeytabState) (number place : ℕ) → IsSound k.format k.contents → IsLiveNumber k place number → 0 < (slot_at k number).field
-live_length k number place sound h =
-    let l = live_at k number place h in
-    omega (arith, ap (λ (s : Slot). s.field) l.slot, (stands_sound k place (Live l.bytes) sound l.stands).0)
+-- a live one
+pub record LiveAt (k : KeytabState) (number p : ℕ) : Type 0 where
+  pub bytes : List ℕ
+  pub cell : CellOf k number p (Live bytes)
+
+pub live_at : (k : KeytabState) (number p : ℕ) → IsLiveNumber k p number → LiveAt k number p
+live_at k number p h =
+    let b = is_some_has (live_bytes (store_of k) p) h.live in
+    record { bytes = b.0; cell = cell_of k number p (Live b.0) h.inside h.place (live_stands k.contents.cells 2 p b.0 b.1) }

@@ -73,9 +73,3 @@ place_by_rank at (c ∷ cs) p (suc rank) r =
 
 pub cells_at_rank : (cs : List Cell) (rank : ℕ) → cs ≡ take rank cs ++ drop rank cs
 cells_at_rank cs rank = sym (take-append-drop rank cs)
-
--- the cells from a rank on, in the table
-pub slots_drop : (at : ℕ) (cs : List Cell) (rank : ℕ) → drop rank (slots_from at cs) ≡ slots_from (end_place at (take rank cs)) (drop rank cs)
-slots_drop at cs zero = refl
-slots_drop at [] (suc rank) = refl
-slots_drop at (c ∷ cs) (suc rank) = slots_drop (at + (4 + size c)) cs rank

@@ -1,16 +1,13 @@
 -- Adding an entry to a keytab, and removing one. A keytab is a store for walks: `store_of` is how it is seen, `put_result` what an addition gives, and `cut_result` what a removal gives.
-use Rattle.std.specs.Prelude.{ℕ, ◌+◌, ◌-◌, List, [], ◌∷◌, ◌++◌, length, map, find, replicate, Option, Some, None, is_some, IfOk, Result, Ok, Err, Bool, true, false, ◌||◌, nat_lt, nat_le, ◌==◌, if◌then◌else◌, option_map, ◌≡◌}
+use Rattle.std.specs.Prelude.{ℕ, ◌+◌, ◌-◌, List, [], ◌∷◌, ◌++◌, length, map, find, replicate, Option, Some, None, is_some, Result, Ok, Err, Bool, true, false, ◌||◌, nat_lt, nat_le, ◌==◌, if◌then◌else◌, option_map, ◌≡◌}
 use Rattle.krb_wire.specs.Spelling.{Parts}
 use Rattle.krb_walk.specs.declared.refusal.Code.{Code}
-use Rattle.krb_walk.specs.declared.refusal.Refusal.{Refusal}
-use Rattle.krb_walk.specs.Rules.{PutGives}
-use Rattle.krb_walk.specs.Memory.{HadMemory}
 use Rattle.krb_walk.specs.Store.{end_of, fault_of, live_bytes}
 use Rattle.krb_keytab.specs.Entry.{EntryParts}
 use Rattle.krb_keytab.specs.Cells.{Cell, Live, Free, End, Bare, Mark, Damaged, size}
-use Rattle.krb_keytab.specs.Store.{KeytabState, InMemory, image_of, store_of, entry_at_place}
+use Rattle.krb_keytab.specs.Store.{KeytabState, image_of, store_of}
 use Rattle.krb_keytab.specs.Find.{PlacedEntry, find_result}
-use Rattle.krb_keytab.specs.Form.{fits, written_form, read_back}
+use Rattle.krb_keytab.specs.Form.{fits, written_form}
 use Rattle.krb_keytab.specs.declared.cells.Hole.{Hole}
 use Rattle.krb_walk.specs.declared.refusal.Code.TheVariants as code
 
@@ -130,10 +127,3 @@ takes_none k e =
     is_refused (put_result k e)
     || is_some (first_hole 2 (length (written_form k.format e)) k.contents.cells)
     || nat_le (length (image_of (with_last k (written_form k.format e)))) (length (image_of k))
-
--- an addition to a keytab in memory answered what it gives, took memory only where it has to, and left its entry where it says
-pub record Adds (old : InMemory) (e : EntryParts) (answer : Result ℕ Refusal) (new : InMemory) : Type 0 where
-  pub gives : PutGives (put_result old.state e) old.state answer new.state
-  pub memory : takes_none old.state e ≡ true → HadMemory answer
-  pub room : takes_none old.state e ≡ true → new.room ≡ old.room
-  pub read : IfOk answer (λ place. entry_at_place new.state place ≡ Some (read_back old.state.format e))

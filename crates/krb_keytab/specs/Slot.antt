@@ -1,9 +1,5 @@
 -- What a table knows of one cell.
-use Rattle.std.specs.Prelude.{◌+◌, Option, Some, None, find, not, ℕ, ◌-◌, ◌^◌, ◌<◌, ◌≤◌, Bool, true, false, List, length, map, slice_index}
-use Rattle.krb_walk.specs.declared.fault.FaultKind.{FaultKind}
-use Rattle.krb_walk.specs.declared.stop.Stop.{Stop}
-use Rattle.krb_walk.specs.declared.stop.Stop.TheVariants.{Live as Live_at}
-use Rattle.krb_walk.specs.Store.{end_stop}
+use Rattle.std.specs.Prelude.{ℕ, ◌-◌, ◌^◌, ◌<◌, ◌≤◌, Bool, true, false, List, length, map, slice_index}
 use Rattle.krb_keytab.specs.declared.cells.Hole.{Hole}
 use Rattle.krb_keytab.specs.declared.length.Length.{Length}
 use Rattle.krb_keytab.specs.declared.length.Length.TheVariants as says
@@ -61,15 +57,6 @@ pub record IsRank (xs : List ℕ) (p rank : ℕ) : Type 0 where
   pub within : rank ≤ length xs
   pub below : (i : ℕ) → i < rank → slice_index xs i < p
   pub rest : (i : ℕ) → rank ≤ i → i < length xs → p ≤ slice_index xs i
-
--- the first slot of a live cell
-abbrev pub first_live : List Slot → Option Slot
-first_live slots = find (λ s. not (is_free s)) slots
-
--- where a walk stops that finds this live cell, or none
-abbrev pub stop_of_slot : ℕ → Option FaultKind → Option Slot → Stop
-stop_of_slot end kind (Some s) = Live_at s.place (s.place + (4 + size s))
-stop_of_slot end kind None = end_stop end kind
 
 -- a hole by its slot
 abbrev pub hole_of_slot : Slot → Hole

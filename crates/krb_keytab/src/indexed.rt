@@ -1,7 +1,6 @@
 //! Keytabs with a table of their cells.
 
 mod changes;
-mod find;
 mod height;
 mod index;
 mod nodes;
@@ -11,24 +10,25 @@ mod slot;
 mod table;
 mod tree;
 
-ghost use Rattle.std.specs.Prelude.{◌≡◌, IsSome, IfOk, IfErr, IfSome, IfNone, ℕ, Some, None, ◌+◌, ◌<◌, ◌≤◌, length, take, vec_capacity};
+ghost use Rattle.std.specs.Prelude.{◌≡◌, IsSome, IfOk, IfErr, IfSome, IfNone, ℕ, Some, None, ◌<◌, ◌≤◌, ◌^◌, length, take, vec_capacity};
 ghost use Rattle.krb_wire.specs.Reading.{Gives};
 ghost use Rattle.krb_walk.specs.Store.{end_of, fault_of, is_place, stop_at, live_bytes, IsPlace, IsSound as IsSoundStore};
 ghost use Rattle.krb_keytab.specs.Entry.{entry_at, Spells};
-ghost use Rattle.krb_keytab.specs.Cells.{kind_of, IsSound};
+ghost use Rattle.krb_keytab.specs.Cells.{IsSound};
+ghost use Rattle.krb_keytab.specs.Find.{find_result};
 ghost use Rattle.krb_keytab.specs.Laws.{AreBytes};
 ghost use Rattle.krb_keytab.specs.Store.{image_of, store_of, end_place, entry_at_place, Reopens};
 ghost use Rattle.krb_keytab.specs.Index.{fit_of, slot_at, IsFit, IsLiveNumber};
-ghost use Rattle.krb_keytab.specs.Slot.{places, slots_from, size, stop_of_slot, IsRank};
+ghost use Rattle.krb_keytab.specs.Slot.{places, slots_from, IsRank};
 ghost use Rattle.krb_keytab.specs.Tree.{looks_for, IsHeightFor};
 
 use crate::entry::{EntryView, read_entry};
 use crate::indexed::slot::Slot;
-use crate::indexed::table::{first_live, rank, record_bytes, table_of};
+use crate::indexed::table::{rank, table_of};
 use crate::indexed::tree::Tree;
 use crate::keytab::Keytab;
-use krb_walk::{Fault, Stop};
-use krb_wire::{KtFormat, NoMemory};
+use krb_walk::{Code, Fault, Stop};
+use krb_wire::{KtFormat, Name, NoMemory};
 use std::alloc::Allocator;
 use std::marker::Model;
 
@@ -144,7 +144,8 @@ impl<A: Allocator> Indexed<A> {
 
     // How many cells it has.
     fn count(&self) -> usize
-        ensures { result ≡ length self.now.state.contents.cells }
+        ensures count { result ≡ length self.now.state.contents.cells }
+        ensures few { result < 2 ^ 30 }
     {
         self.keytab.cell_count() as usize
     }
@@ -185,34 +186,12 @@ impl<A: Allocator> Indexed<A> {
         rank(&self.slots, place)
     }
 
-    // The first live cell at or after a place.
-    fn live_from(&self, place: u32) -> Option<Slot>
-        requires { IsPlace (store_of self.now.state) place }
-        ensures stop { stop_at (store_of self.now.state) place
-            ≡ stop_of_slot (end_of (store_of self.now.state)) (kind_of self.now.state.contents.end) result }
-        ensures within { IfSome result (λ s. s.place + (4 + size s) ≤ end_of (store_of self.now.state)) }
-    {
-        let _ = self.image();
-        let rank = self.rank(place);
-        first_live(&self.slots[rank..])
-    }
-
     /// The first live cell at or after a place, or what ends the cells. It looks from that place on.
     pub fn stop_at(&self, place: u32) -> Stop
         requires { IsPlace (store_of self.now.state) place }
         ensures { result ≡ stop_at (store_of self.now.state) place }
     {
-        let end = self.end();
-        if let Some(slot) = self.live_from(place) {
-            return Stop::Live {
-                place: slot.place,
-                next: slot.place + (4 + slot.size()),
-            };
-        }
-        match self.fault() {
-            Some(fault) => Stop::Fault(fault),
-            None => Stop::End { next: end },
-        }
+        self.keytab.stop_at(place)
     }
 
     // The first hole of at least this many bytes, by its number among the cells, and the looks for it.
@@ -260,26 +239,13 @@ impl<A: Allocator> Indexed<A> {
         Some(number)
     }
 
-    // The bytes of the record of a number, at a place.
-    fn bytes_of(&self, number: usize, place: u32) -> &[u8]
-        requires { IsLiveNumber self.now.state place number }
-        ensures { live_bytes (store_of self.now.state) place ≡ Some result.now }
-    {
-        record_bytes(self.image(), place, self.slot(number).size())
-    }
-
     /// The bytes of the record at a place, after its length: an entry, and what is after it.
-    #[tactic(auto, using(crate::proofs::Stores::entry_held))]
     pub fn bytes_at(&self, place: u32) -> &[u8]
         requires { IsSome (live_bytes (store_of self.now.state) place) }
         ensures bytes { live_bytes (store_of self.now.state) place ≡ Some result.now }
         ensures entry { IsSome (entry_at self.now.state.format result.now) }
     {
-        let _ = self.image();
-        let Some(number) = self.live(place) else {
-            return &[];
-        };
-        self.bytes_of(number, place)
+        self.keytab.bytes_at(place)
     }
 
     /// The entry of the record at a place: none exactly where no live cell stands.
@@ -291,5 +257,19 @@ impl<A: Allocator> Indexed<A> {
     {
         let _ = self.live(place)?;
         read_entry(self.format(), self.bytes_at(place))
+    }
+
+    /// The entry of that name, version and enctype, with its place: version 0 asks for the highest,
+    /// enctype 0 for any, and the first in file order wins. A damaged keytab refuses. One pass, without
+    /// memory.
+    pub fn find<N: Name>(
+        &self,
+        name: &N,
+        kvno: u32,
+        enctype: u16,
+    ) -> Result<(u32, EntryView<'_>), Code>
+        ensures { result ≡ find_result self.now.state (N.parts name.now) kvno enctype }
+    {
+        self.keytab.find(name, kvno, enctype)
     }
 }

@@ -19,14 +19,12 @@ mod placed;
 mod put;
 mod replace;
 
-pub use cells::{CellViews, Hole, KtCell};
+pub use cells::{CellViews, KtCell};
 pub use entries::Entries;
 pub use entry::{EntryView, read_entry};
 pub use fields::Fields;
 pub use indexed::Indexed;
 pub use keytab::Keytab;
 pub use laws::{changes_are_seen, one_reading, rewrites_keep_entries, written_is_read_back};
-pub use length::Length;
-pub use look_up::{LookUp, Query};
 pub use new_entry::NewEntry;
 pub use open::{KtOpenFault, KtOpenRefused};

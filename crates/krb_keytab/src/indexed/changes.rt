@@ -1,22 +1,24 @@
 //! Changes of a keytab and of its table: each is one of one cell.
 
-ghost use Rattle.std.specs.Prelude.{◌≡◌, ◌<◌, ◌^◌, true, false, length, is_some, Some, None, IfOk, OnOk};
+ghost use Rattle.std.specs.Prelude.{◌≡◌, ◌<◌, true, length, is_some, Some, None, Err, IfOk, IfErr, OnOk};
 ghost use Rattle.krb_walk.specs.Rules.{PutGives, CutGives};
 ghost use Rattle.krb_walk.specs.Memory.{HadMemory};
 ghost use Rattle.krb_walk.specs.Store.{fault_of, live_bytes};
 ghost use Rattle.krb_keytab.specs.Store.{store_of, entry_at_place};
-ghost use Rattle.krb_keytab.specs.Form.{fits, read_back, written_form, IsEntry};
-ghost use Rattle.krb_keytab.specs.Changes.{Adds, hole_from, cut_result, put_result, remove_result, takes_none, with_hole, AnswersRemove};
-ghost use Rattle.krb_keytab.specs.Index.{IsFit, IsLiveNumber};
+ghost use Rattle.krb_keytab.specs.Form.{read_back, IsEntry};
+ghost use Rattle.krb_keytab.specs.Append.{AnswersAppend, KeepsRoom, IsFormOf};
+ghost use Rattle.krb_keytab.specs.Changes.{cut_result, put_result, remove_result, takes_none, with_hole, with_record_in, AnswersRemove};
+ghost use Rattle.krb_keytab.specs.Index.{slot_at, IsFit, IsLiveNumber};
 
 use super::Indexed;
 use crate::cells::Hole;
+use crate::form::Form;
 use crate::indexed::index::{push_live, put_slot, reserve_one};
 use crate::indexed::slot::Slot;
 use crate::length::Length;
 use crate::new_entry::NewEntry;
 use krb_walk::{Code, Refusal};
-use krb_wire::Name;
+use krb_wire::{Name, Principal};
 use std::alloc::Allocator;
 
 impl<A: Allocator> Indexed<A> {
@@ -27,19 +29,18 @@ impl<A: Allocator> Indexed<A> {
         ensures room { self.new.room ≡ self.old.room }
     {
         let _ = self.image();
-        let record = self.slot(number);
-        let hole = record.negated();
-        self.keytab.free_at(place, record.size() as usize);
+        let hole = self.slot(number).negated();
+        self.keytab.free(place);
         put_slot(&mut self.slots, &mut self.tree, number, hole);
     }
 
-    // Puts an entry into the first hole that takes it, which is the cell of a number.
-    fn fill<B: Allocator>(&mut self, number: usize, entry: &NewEntry<B>) -> Result<u32, Refusal>
-        requires whole { is_some (fault_of (store_of self.old.state)) ≡ false }
-        requires fits { fits self.old.state.format entry.now ≡ true }
-        requires hole { IsFit self.old.state (length (written_form self.old.state.format entry.now)) (Some number) }
-        ensures adds { Adds self.old entry.now result self.new }
-        ensures numbers { IsEntry entry.now }
+    // Puts a record into the first hole that takes it, which is the cell of a number.
+    fn fill<N: Name>(&mut self, number: usize, form: &Form<'_, N>) -> u32
+        requires hole { IsFit self.old.state (length form.now.bytes) (Some number) }
+        requires format { form.now.format ≡ self.old.state.format }
+        ensures place { result ≡ (slot_at self.old.state number).place }
+        ensures filled { self.new.state ≡ with_record_in self.old.state form.now.bytes result }
+        ensures room { self.new.room ≡ self.old.room }
     {
         let _ = self.image();
         let slot = self.slot(number);
@@ -47,34 +48,43 @@ impl<A: Allocator> Indexed<A> {
             place: slot.place as usize,
             size: slot.size() as usize,
         };
-        let place = self.keytab.add_at(entry, Some(hole))?;
+        self.keytab.fill(hole, form);
         put_slot(&mut self.slots, &mut self.tree, number, slot.negated());
-        Ok(place)
+        slot.place
     }
 
-    // Puts an entry, for whose record no hole is large enough, after the cells.
-    fn append<B: Allocator>(&mut self, need: usize, entry: &NewEntry<B>) -> Result<u32, Refusal>
-        requires whole { is_some (fault_of (store_of self.old.state)) ≡ false }
-        requires fits { fits self.old.state.format entry.now ≡ true }
-        requires need { need ≡ length (written_form self.old.state.format entry.now) }
-        requires some { (0 < need) × (need < 2 ^ 34) }
-        requires none { hole_from 2 need self.old.state.contents.cells ≡ None }
-        requires entry { IsEntry entry.now }
-        ensures { Adds self.old entry.now result self.new }
+    // Puts a record after the cells of a keytab that is whole. Room for its slot is taken first.
+    fn append<N: Name>(&mut self, form: &Form<'_, N>) -> Result<u32, Refusal>
+        requires whole { fault_of (store_of self.old.state) ≡ None }
+        requires format { form.now.format ≡ self.old.state.format }
+        ensures appended { AnswersAppend self.old.state form.now.bytes result self.new.state }
+        ensures room { KeepsRoom self.old form.now.bytes result self.new }
     {
-        let _ = self.image();
-        if !self.keytab.has_room(need) {
+        let _few = self.count();
+        let need = form.len();
+        if !self.keytab.has_room(form) {
             return Err(Refusal::Code(Code::Full));
         }
-        let place = self.end();
         reserve_one(&mut self.slots, &mut self.tree)?;
-        let put = self.keytab.add_at(entry, None)?;
+        let place = self.keytab.append(form)?;
         let slot = Slot {
             place,
             field: Length::Live(need as u32).field(),
         };
         push_live(&mut self.slots, &mut self.tree, slot);
-        Ok(put)
+        Ok(place)
+    }
+
+    // The written form of an entry that is to be added, or why none is.
+    fn form_of<'e, B: Allocator>(
+        &self,
+        entry: &'e NewEntry<B>,
+    ) -> Result<Form<'e, Principal<B>>, Code>
+        ensures numbers { IsEntry entry.now }
+        ensures ok { IfOk result (IsFormOf self.now.state entry.now) }
+        ensures err { IfErr result (λ code. put_result self.now.state entry.now ≡ Err code) }
+    {
+        self.keytab.form_of(entry)
     }
 
     // The first hole that takes a record of this many bytes, by its number among the cells.
@@ -103,17 +113,11 @@ impl<A: Allocator> Indexed<A> {
             ≡ Some (read_back self.old.state.format entry.now)) }
         ensures numbers { IsEntry entry.now }
     {
-        let need = self.keytab.record_len(entry);
-        if self.fault().is_some() {
-            return Err(Refusal::Code(Code::Damaged));
-        }
-        let Some(need) = need else {
-            return Err(Refusal::Code(Code::TooLong));
+        let form = self.form_of(entry)?;
+        let Some(number) = self.number_for(form.len()) else {
+            return self.append(&form);
         };
-        let Some(number) = self.number_for(need) else {
-            return self.append(need, entry);
-        };
-        self.fill(number, entry)
+        Ok(self.fill(number, &form))
     }
 
     /// Makes the record at a place a hole of its size, all zeros (MIT krb5, "Keytab file format"). A

@@ -1,6 +1,6 @@
 //! Writing a keytab anew, and its table and tree with it.
 
-ghost use Rattle.std.specs.Prelude.{◌≡◌, map, Ok, Err, IfOk, IfErr, OnOk, OnErr};
+ghost use Rattle.std.specs.Prelude.{◌≡◌, map, Ok, Err, OnOk, OnErr};
 ghost use Rattle.std.specs.List.{AllByRecursion};
 ghost use Rattle.krb_walk.specs.Rules.{RewriteGives};
 ghost use Rattle.krb_walk.specs.Store.{IsPlace};
@@ -13,37 +13,6 @@ use krb_walk::Refusal;
 use std::alloc::Allocator;
 
 impl<A: Allocator + Copy> Indexed<A> {
-    // What `rewrite` puts in its place.
-    fn rewritten(&self) -> Result<Indexed<A>, Refusal>
-        ensures ok { IfOk result (λ i. rewrite_result self.now.state ≡ Ok i.state) }
-        ensures err { IfErr result (λ e. RewriteGives (rewrite_result self.now.state) self.now.state (Err e) self.now.state) }
-        ensures rewrites { IfOk result (λ i. Rewrites (store_of self.now.state) (store_of i.state)) }
-        ensures entries { IfOk result (λ i. entries i.state ≡ entries self.now.state) }
-    {
-        let keytab = self.keytab.rewritten()?;
-        match Indexed::of(*self.slots.allocator(), keytab) {
-            Ok(new) => Ok(new),
-            Err(_) => Err(Refusal::NoMemory),
-        }
-    }
-
-    // Puts in its place what is a rewrite of it, and carries each cursor.
-    fn replace(&mut self, new: Indexed<A>, cursors: &mut [u32])
-        requires rewrites { Rewrites (store_of self.old.state) (store_of new.state) }
-        requires places { AllByRecursion (IsPlace (store_of self.old.state)) cursors.old }
-        ensures replaced { self.new ≡ new }
-        ensures carries { cursors.new ≡ map (carry (store_of self.old.state) (store_of self.new.state)) cursors.old }
-    {
-        let Indexed {
-            keytab,
-            slots,
-            tree,
-        } = new;
-        self.keytab.replace(keytab, cursors);
-        self.slots = slots;
-        self.tree = tree;
-    }
-
     /// Writes the records anew, in version 2: each entry in order in its written form, with its name type,
     /// which is 0 from version 1, without holes, and with nothing after them. Each cursor is carried to
     /// the new place of the first record at or after it, or to the new end. A damaged keytab refuses, and
@@ -58,8 +27,18 @@ impl<A: Allocator + Copy> Indexed<A> {
         ensures keeps { OnErr result (cursors.new ≡ cursors.old) }
         ensures room { OnErr result (self.new.room ≡ self.old.room) }
     {
-        let new = self.rewritten()?;
-        self.replace(new, cursors);
+        let keytab = self.keytab.rewritten()?;
+        let Ok(new) = Indexed::of(*self.slots.allocator(), keytab) else {
+            return Err(Refusal::NoMemory);
+        };
+        let Indexed {
+            keytab,
+            slots,
+            tree,
+        } = new;
+        self.keytab.replace(keytab, cursors);
+        self.slots = slots;
+        self.tree = tree;
         Ok(())
     }
 }

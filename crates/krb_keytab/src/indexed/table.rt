@@ -1,7 +1,7 @@
 //! A table of cells, in order.
 
-ghost use Rattle.std.specs.Prelude.{◌≡◌, ◌<◌, ◌≤◌, ◌+◌, ◌^◌, [], length, take, drop, IfOk, vec_len, vec_capacity};
-ghost use Rattle.krb_keytab.specs.Slot.{first_live, slots_from, places, IsRising, IsRank};
+ghost use Rattle.std.specs.Prelude.{◌≡◌, ◌<◌, ◌≤◌, ◌+◌, ◌^◌, [], length, IfOk, vec_len, vec_capacity};
+ghost use Rattle.krb_keytab.specs.Slot.{slots_from, places, IsRising, IsRank};
 
 use crate::indexed::slot::Slot;
 use crate::keytab::Keytab;
@@ -42,26 +42,4 @@ pub fn rank(slots: &[Slot], place: u32) -> usize
     ensures { IsRank (places slots.now) place result }
 {
     slots.partition_point(|slot| slot.place < place)
-}
-
-/// The first live cell.
-pub fn first_live(slots: &[Slot]) -> Option<Slot>
-    ensures { result ≡ first_live slots.now }
-{
-    for slot in slots {
-        if !slot.is_free() {
-            return Some(*slot);
-        }
-    }
-    None
-}
-
-/// The bytes of a record at a place of an image, after its length.
-pub fn record_bytes(image: &[u8], place: u32, size: u32) -> &[u8]
-    requires { place + 4 + size ≤ length image.now }
-    ensures { result.now ≡ take size (drop (place + 4) image.now) }
-{
-    let (_, rest) = image.split_at(place as usize + 4);
-    let (bytes, _) = rest.split_at(size as usize);
-    bytes
 }

@@ -1,13 +1,15 @@
 //! Changes of a keytab: each is one of its image, in place.
 
-ghost use Rattle.std.specs.Prelude.{◌≡◌, ◌<◌, ◌^◌, ℕ, List, true, nat_le, length, Some, None, is_some, IsSome, IfSome, IfOk, OnOk};
+ghost use Rattle.std.specs.Prelude.{◌≡◌, ◌<◌, ◌^◌, true, length, Some, None, is_some, IsSome, IfOk, IfErr, OnOk, Ok, Err};
+ghost use Rattle.std.specs.Bool.{OnTrue, OnFalse};
 ghost use Rattle.krb_walk.specs.Rules.{PutGives, CutGives};
 ghost use Rattle.krb_walk.specs.Memory.{HadMemory};
-ghost use Rattle.krb_walk.specs.Store.{fault_of, live_bytes};
-ghost use Rattle.krb_keytab.specs.Store.{image_of, store_of, entry_at_place};
-ghost use Rattle.krb_keytab.specs.Form.{fits, read_back, written_form, IsEntry};
-ghost use Rattle.krb_keytab.specs.Changes.{Adds, AnswersRemove, cut_result, put_result, remove_result, takes_none, with_last, with_record_in, with_hole, hole_from};
-ghost use Rattle.krb_keytab.specs.Append.{AnswersAppend, KeepsRoom};
+ghost use Rattle.krb_walk.specs.declared.refusal.Code.TheVariants.{Full};
+ghost use Rattle.krb_walk.specs.Store.{end_of, fault_of, live_bytes};
+ghost use Rattle.krb_keytab.specs.Store.{store_of, entry_at_place};
+ghost use Rattle.krb_keytab.specs.Form.{fits, read_back, IsEntry};
+ghost use Rattle.krb_keytab.specs.Changes.{AnswersRemove, append_result, cut_result, put_result, remove_result, takes_none, with_last, with_record_in, with_hole, hole_from};
+ghost use Rattle.krb_keytab.specs.Append.{AnswersAppend, KeepsRoom, IsFormOf};
 
 use super::Keytab;
 use crate::append::{append_record, len_with};
@@ -17,28 +19,18 @@ use crate::image::spelled_of;
 use crate::new_entry::NewEntry;
 use crate::replace::{fill_hole, free_cell};
 use krb_walk::{Code, Refusal};
-use krb_wire::Name;
+use krb_wire::{Name, Principal};
 use std::alloc::Allocator;
 
 impl<A: Allocator> Keytab<A> {
-    /// Makes the record of this many bytes that stands at a place a hole of its size, all zeros. Nothing is read.
-    pub fn free_at(&mut self, place: u32, size: usize)
-        requires live { IsSome (live_bytes (store_of self.old.state) place) }
-        requires size { IfSome (live_bytes (store_of self.old.state) place) (λ b. length b ≡ size) }
-        ensures freed { self.new.state ≡ with_hole self.old.state place }
-        ensures room { self.new.room ≡ self.old.room }
-    {
-        free_cell(self.format, &mut self.image, self.end, place as usize, size);
-    }
-
-    // Makes the record at a place a hole.
-    fn free(&mut self, place: u32)
+    /// Makes the record at a place a hole of its size, all zeros.
+    pub(crate) fn free(&mut self, place: u32)
         requires { IsSome (live_bytes (store_of self.old.state) place) }
         ensures freed { self.new.state ≡ with_hole self.old.state place }
         ensures room { self.new.room ≡ self.old.room }
     {
         let size = self.bytes_at(place).len();
-        self.free_at(place, size);
+        free_cell(self.format, &mut self.image, self.end, place as usize, size);
     }
 
     /// Makes the record at a place a hole of its size, all zeros (MIT krb5, "Keytab file format"). A
@@ -73,16 +65,8 @@ impl<A: Allocator> Keytab<A> {
         Ok(place)
     }
 
-    // The first hole of at least this many bytes.
-    fn hole(&self, need: usize) -> Option<Hole>
-        ensures first { result ≡ hole_from 2 need self.now.state.contents.cells }
-        ensures within { IfSome result (λ h. h.place < 2 ^ 32) }
-    {
-        first_hole(self.cells(), need)
-    }
-
-    // Puts a record into that hole.
-    fn fill<N: Name>(&mut self, hole: Hole, form: &Form<'_, N>)
+    /// Puts a record into the first hole that takes it.
+    pub(crate) fn fill<N: Name>(&mut self, hole: Hole, form: &Form<'_, N>)
         requires hole { hole_from 2 (length form.now.bytes) self.old.state.contents.cells ≡ Some hole }
         requires format { form.now.format ≡ self.old.state.format }
         ensures filled { self.new.state ≡ with_record_in self.old.state form.now.bytes hole.place }
@@ -91,8 +75,8 @@ impl<A: Allocator> Keytab<A> {
         fill_hole(&mut self.image, self.end, hole, form);
     }
 
-    // Puts a record after the cells of a keytab that is whole.
-    fn append<N: Name>(&mut self, form: &Form<'_, N>) -> Result<u32, Refusal>
+    /// Puts a record after the cells of a keytab that is whole.
+    pub(crate) fn append<N: Name>(&mut self, form: &Form<'_, N>) -> Result<u32, Refusal>
         requires whole { fault_of (store_of self.old.state) ≡ None }
         requires format { form.now.format ≡ self.old.state.format }
         ensures appended { AnswersAppend self.old.state form.now.bytes result self.new.state }
@@ -108,66 +92,35 @@ impl<A: Allocator> Keytab<A> {
         Ok(place)
     }
 
-    /// How many bytes the record of an entry takes after its length: none where a part of the entry is too long
-    /// for its length.
-    pub fn record_len<B: Allocator>(&self, entry: &NewEntry<B>) -> Option<usize>
-        ensures fits { is_some result ≡ fits self.now.state.format entry.now }
-        ensures len { IfSome result (λ n. n ≡ length (written_form self.now.state.format entry.now)) }
-        ensures some { IfSome result (λ n. (0 < n) × (n < 2 ^ 34)) }
-        ensures numbers { IsEntry entry.now }
+    /// Whether the limit allows a record after the cells of a keytab that is whole.
+    pub(crate) fn has_room<N: Name>(&self, form: &Form<'_, N>) -> bool
+        requires { fault_of (store_of self.now.state) ≡ None }
+        ensures fits { OnTrue result (append_result self.now.state form.now.bytes
+            ≡ Ok (end_of (store_of self.now.state), with_last self.now.state form.now.bytes)) }
+        ensures full { OnFalse result (append_result self.now.state form.now.bytes ≡ Err Full) }
+        ensures small { OnTrue result (length form.now.bytes < 2 ^ 30) }
     {
-        let fields = entry.fields();
-        fields.numbers_fit();
-        let form = Form::of(self.format(), fields)?;
-        Some(form.len())
+        len_with(self.end, form.len()) <= self.limit as usize
     }
 
-    /// Whether the limit allows a record of this many bytes after the cells of a keytab that is whole.
-    pub fn has_room(&self, need: usize) -> bool
-        requires whole { fault_of (store_of self.now.state) ≡ None }
-        requires small { need < 2 ^ 34 }
-        ensures small { result ≡ true → need < 2 ^ 30 }
-        ensures fits { (bytes : List ℕ) → length bytes ≡ need
-            → result ≡ nat_le (length (image_of (with_last self.now.state bytes))) self.now.state.limit }
-    {
-        len_with(self.end, need) <= self.limit as usize
-    }
-
-    /// Adds an entry as `add` does, where the first hole that is large enough is known.
-    pub fn add_at<B: Allocator>(
-        &mut self,
-        entry: &NewEntry<B>,
-        hole: Option<Hole>,
-    ) -> Result<u32, Refusal>
-        requires first { fits self.old.state.format entry.now ≡ true
-            → hole ≡ hole_from 2 (length (written_form self.old.state.format entry.now)) self.old.state.contents.cells }
-        requires within { IfSome hole (λ h. h.place < 2 ^ 32) }
-        ensures adds { Adds self.old entry.now result self.new }
+    /// The written form of an entry that is to be added, or why none is.
+    pub(crate) fn form_of<'e, B: Allocator>(
+        &self,
+        entry: &'e NewEntry<B>,
+    ) -> Result<Form<'e, Principal<B>>, Code>
         ensures numbers { IsEntry entry.now }
+        ensures ok { IfOk result (IsFormOf self.now.state entry.now) }
+        ensures err { IfErr result (λ code. put_result self.now.state entry.now ≡ Err code) }
     {
         let fields = entry.fields();
         fields.numbers_fit();
         if self.fault().is_some() {
-            return Err(Refusal::Code(Code::Damaged));
+            return Err(Code::Damaged);
         }
-        let Some(form) = Form::of(self.format(), fields) else {
-            return Err(Refusal::Code(Code::TooLong));
-        };
-        let Some(hole) = hole else {
-            return self.append(&form);
-        };
-        self.fill(hole, &form);
-        Ok(hole.place as u32)
-    }
-
-    // The first hole that takes an entry.
-    fn hole_for<B: Allocator>(&self, entry: &NewEntry<B>) -> Option<Hole>
-        ensures first { fits self.now.state.format entry.now ≡ true
-            → result ≡ hole_from 2 (length (written_form self.now.state.format entry.now)) self.now.state.contents.cells }
-        ensures within { IfSome result (λ h. h.place < 2 ^ 32) }
-    {
-        let need = self.record_len(entry)?;
-        self.hole(need)
+        match Form::of(self.format(), fields) {
+            Some(form) => Ok(form),
+            None => Err(Code::TooLong),
+        }
     }
 
     /// Puts an entry into the first hole that is large enough, or else after the cells, and answers
@@ -183,6 +136,11 @@ impl<A: Allocator> Keytab<A> {
             ≡ Some (read_back self.old.state.format entry.now)) }
         ensures numbers { IsEntry entry.now }
     {
-        self.add_at(entry, self.hole_for(entry))
+        let form = self.form_of(entry)?;
+        let Some(hole) = first_hole(self.cells(), form.len()) else {
+            return self.append(&form);
+        };
+        self.fill(hole, &form);
+        Ok(hole.place as u32)
     }
 }

@@ -126,7 +126,7 @@ fn rewritten_image<A: Allocator, B: Allocator>(
 
 impl<A: Allocator + Copy> Keytab<A> {
     /// The keytab that `rewrite` puts in its place, in memory of its own. It refuses as `rewrite` does.
-    pub fn rewritten(&self) -> Result<Keytab<A>, Refusal>
+    pub(crate) fn rewritten(&self) -> Result<Keytab<A>, Refusal>
         ensures ok { IfOk result (λ k. rewrite_result self.now.state ≡ Ok k.state) }
         ensures err { IfErr result (λ e. RewriteGives (rewrite_result self.now.state) self.now.state (Err e) self.now.state) }
         ensures rewrites { IfOk result (λ k. Rewrites (store_of self.now.state) (store_of k.state)) }
@@ -155,7 +155,7 @@ impl<A: Allocator + Copy> Keytab<A> {
 
     /// Puts a keytab in its place that is a rewrite of it, and carries each cursor to the new place of the
     /// first record at or after it, or to the new end. No memory is taken.
-    pub fn replace(&mut self, new: Keytab<A>, cursors: &mut [u32])
+    pub(crate) fn replace(&mut self, new: Keytab<A>, cursors: &mut [u32])
         requires rewrites { Rewrites (store_of self.old.state) (store_of new.state) }
         requires places { AllByRecursion (IsPlace (store_of self.old.state)) cursors.old }
         ensures replaced { self.new ≡ new }

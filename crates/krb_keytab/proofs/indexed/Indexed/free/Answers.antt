@@ -1,32 +1,24 @@
-use Rattle.std.proofs.Common.{◌≡◌, ◌∙◌, ℕ, length, ap, sym, subst, arith}
-use Rattle.std.specs.Prelude.{IsSome, IfSome, vec_len, vec_capacity}
+use Rattle.std.proofs.Common.{◌≡◌, ◌∙◌, ap, sym, subst, arith}
+use Rattle.std.specs.Prelude.{IsSome, vec_len, vec_capacity}
 use Rattle.std.proofs.Math.ListN.{set}
 use Rattle.krb_keytab.specs.Changes.{with_hole}
 use Rattle.krb_walk.specs.Store.{live_bytes}
 use Rattle.krb_keytab.specs.Store.{KeytabState, store_of}
-use Rattle.krb_keytab.proofs.BytesLemmas.{live_count}
 use Rattle.krb_keytab.proofs.Stores.{state_is}
 use Rattle.krb_keytab.specs.declared.indexed.slot.Slot.{Slot}
 use Rattle.krb_keytab.specs.Slot.{negated, free_size}
 use Rattle.krb_keytab.specs.Index.{slot_at}
-use Rattle.krb_keytab.proofs.LiveLemmas.{live_length}
+use Rattle.krb_keytab.proofs.LiveLemmas.{cell_field, live_at}
 use Rattle.krb_keytab.proofs.ChangeLemmas.{IsKept, freed_kept}
 use Rattle.krb_keytab.proofs.indexed.Indexed.free.Goals as goal
 
 pub negated-hole-requires : goal.negated-hole-requires
 negated-hole-requires g c =
-    let long = live_length c.args.self.now.state c.args.number c.args.place c.image.ensures.sound c.requires in
-    omega (arith, long, ap (λ (s : Slot). s.field) c.slot-record.ensures)
+    let long = cell_field c.args.self.now.state c.args.number c.args.place _ c.image.ensures.sound (live_at c.args.self.now.state c.args.number c.args.place c.requires).cell in
+    omega (arith, long, ap (λ (s : Slot). s.field) c.slot.ensures)
 
-pub free_at-requires-clause-live : goal.free_at-requires-clause-live
-free_at-requires-clause-live g c = subst (λ (y : KeytabState). IsSome (live_bytes (store_of y) c.args.place)) (sym (state_is c.self.view_is)) c.requires.live
-
-pub free_at-requires-clause-size : goal.free_at-requires-clause-size
-free_at-requires-clause-size g c =
-    let k = c.args.self.now.state in
-    let count = live_count k c.args.number c.args.place c.slot-record.result c.image.ensures.sound c.requires c.slot-record.ensures in
-    subst (λ (y : KeytabState). IfSome (live_bytes (store_of y) c.args.place) (λ b. length b ≡ c.size.result)) (sym (state_is c.self.view_is))
-    (subst (λ (n : ℕ). IfSome (live_bytes (store_of k) c.args.place) (λ b. length b ≡ n)) (sym c.size.ensures) count)
+pub free-requires : goal.free-requires
+free-requires g c = subst (λ (y : KeytabState). IsSome (live_bytes (store_of y) c.args.place)) (sym (state_is c.self.view_is)) c.requires.live
 
 pub invariant_of-self : goal.invariant_of-self
 invariant_of-self g c =
@@ -34,11 +26,11 @@ invariant_of-self g c =
     let k = c.args.self.now.state in
     let n = c.args.number in
     let kept = subst (λ (y : KeytabState). IsKept y i.slots.items (vec_len i.slots) (vec_capacity i.slots) i.tree) (state_is c.self.view_is) c.self.invariant in
-    let slot : c.negated-hole.result ≡ negated (slot_at k n) = c.negated-hole.ensures ∙ ap negated c.slot-record.ensures in
+    let slot : c.negated-hole.result ≡ negated (slot_at k n) = c.negated-hole.ensures ∙ ap negated c.slot.ensures in
     let new = c.put_slot.new in
     let sizes : new.tree.sizes ≡ set i.tree.sizes n (free_size (negated (slot_at k n))) = c.put_slot.ensures.sizes ∙ ap (λ (x : Slot). set i.tree.sizes n (free_size x)) slot in
     let slots : new.slots.items ≡ set i.slots.items n (negated (slot_at k n)) = c.put_slot.ensures.slots ∙ ap (set i.slots.items n) slot in
-    let state : with_hole k c.args.place ≡ c.free_at.new.self.state = sym (c.free_at.ensures.freed ∙ ap (λ (y : KeytabState). with_hole y c.args.place) (state_is c.self.view_is)) in
-    let after = freed_kept k i.slots.items i.tree new.tree (vec_len i.slots) (vec_capacity i.slots) n c.args.place kept c.requires sizes c.put_slot.ensures.height c.put_slot.ensures.node_room in
+    let state : with_hole k c.args.place ≡ c.free.new.self.state = sym (c.free.ensures.freed ∙ ap (λ (y : KeytabState). with_hole y c.args.place) (state_is c.self.view_is)) in
+    let after = freed_kept k i.slots.items i.tree new.tree (vec_len i.slots) (vec_capacity i.slots) n c.args.place c.requires kept sizes c.put_slot.ensures.height c.put_slot.ensures.node_room in
     let same = subst (λ (y : KeytabState). IsKept y (set i.slots.items n (negated (slot_at k n))) (vec_len i.slots) (vec_capacity i.slots) new.tree) state after in
     rw (slots, c.put_slot.ensures.len, c.put_slot.ensures.slot_room) same

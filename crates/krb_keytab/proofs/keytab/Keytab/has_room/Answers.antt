@@ -1,20 +1,27 @@
-use Rattle.std.proofs.Common.{ℕ, length, ap, sym, ◌∙◌, arith}
-use Rattle.std.proofs.lemmas.Bool.{leb-true}
-use Rattle.std.specs.Prelude.{nat_le}
-use Rattle.krb_keytab.specs.Store.{image_of}
-use Rattle.krb_keytab.specs.Changes.{with_last}
+use Rattle.std.proofs.Common.{◌≤◌, arith}
+use Rattle.std.proofs.lemmas.Bool.{OnTrue_from, OnFalse_from, leb-true, leb-false}
 use Rattle.krb_keytab.proofs.Stores.{state_is}
-use Rattle.krb_keytab.proofs.Additions.{appends, same_len, same_limit}
+use Rattle.krb_keytab.proofs.Additions.{appends, append_full, append_fits}
 use Rattle.krb_keytab.proofs.keytab.Keytab.has_room.Goals as goal
 
 pub returns-clause-fits : goal.returns-clause-fits
-returns-clause-fits g c = λ bytes is.
+returns-clause-fits g c =
     let i = c.self.inside in
+    let x = c.args.form.now.bytes in
     let k = c.args.self.now.state in
-    let a = appends i.format i.limit i.image.items bytes k i.end c.len_with.result c.args.need c.self.invariant.1 (state_is c.self.view_is) c.requires.whole c.len_with.ensures (sym is) in
-    let len = same_len i.format i.limit i.image.items bytes k i.end c.len_with.result a in
-    let limit = same_limit i.format i.limit i.image.items bytes k i.end c.len_with.result a in
-    ap (λ (n : ℕ). nat_le n i.limit) (sym len) ∙ ap (λ (n : ℕ). nat_le (length (image_of (with_last k bytes))) n) (sym limit)
+    let a = appends i.format i.limit i.image.items x k i.end c.len_with.result c.len.result c.self.invariant.1 (state_is c.self.view_is) c.requires c.len_with.ensures c.len.ensures.len in
+    OnTrue_from _ _ (λ yes. append_fits i.format i.limit i.image.items x k i.end c.len_with.result a (leb-true _ _ yes))
+
+pub returns-clause-full : goal.returns-clause-full
+returns-clause-full g c =
+    let i = c.self.inside in
+    let x = c.args.form.now.bytes in
+    let k = c.args.self.now.state in
+    let a = appends i.format i.limit i.image.items x k i.end c.len_with.result c.len.result c.self.invariant.1 (state_is c.self.view_is) c.requires c.len_with.ensures c.len.ensures.len in
+    OnFalse_from _ _ (λ no. append_full i.format i.limit i.image.items x k i.end c.len_with.result a (leb-false _ _ no))
 
 pub returns-clause-small : goal.returns-clause-small
-returns-clause-small g c = λ yes. omega (arith, leb-true _ _ yes, c.self.invariant.0.limit_fits, c.len_with.ensures)
+returns-clause-small g c = OnTrue_from _ _ (λ yes.
+    let within : c.len_with.result ≤ c.self.inside.limit = leb-true _ _ yes in
+    let limit = c.self.invariant.0.limit_fits in
+    omega (arith, within, limit, c.len_with.ensures, c.len.ensures.len))

@@ -1,0 +1,9 @@
+use Rattle.std.proofs.Common.{◌≡◌, Err, subst}
+use Rattle.std.specs.Prelude.{IfErr}
+use Rattle.krb_keytab.specs.Changes.{put_result}
+use Rattle.krb_keytab.specs.Store.{KeytabState}
+use Rattle.krb_keytab.proofs.Stores.{state_is}
+use Rattle.krb_keytab.proofs.indexed.Indexed.form_of.Goals as goal
+
+pub returns-clause-err : goal.returns-clause-err
+returns-clause-err g c = subst (λ (y : KeytabState). IfErr c.form_of.result (λ code. put_result y c.args.entry.now ≡ Err code)) (state_is c.self.view_is) c.form_of.ensures.err
