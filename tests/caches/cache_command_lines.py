@@ -5,7 +5,7 @@ from dataclasses import replace
 from itertools import permutations
 
 from caches.cache_listings import CONFIG_LINE, ETYPE_LINE, FLAGS_LINE, TICKET_LINE
-from makers.cache_images import credentials
+from makers.cache_images import cache
 from makers.images import TWO
 from makers.usual_caches import OFFSET, PA_TYPE, TICKET, USUAL
 from models.cache_reading import listed
@@ -154,7 +154,7 @@ def check_kinds(report: Report, program: str) -> None:
 
 def check_order(report: Report, program: str) -> None:
     """What stands under a ticket has one order, whatever that of the options is."""
-    image = credentials(replace(TICKET, renew_till=1))
+    image = cache(replace(TICKET, renew_till=1))
     under = [b"    renew until 1970-01-01T00:00:01Z", FLAGS_LINE, ETYPE_LINE]
     wanted = Outcome(0, listed(b"u@R", TICKET_LINE, *under))
     for options in permutations(("-e", "-f", "-C")):
@@ -165,7 +165,7 @@ def check_order(report: Report, program: str) -> None:
 def check_changing(report: Report, program: str) -> None:
     """Lines of ccedit and of ccremove that are taken."""
     gone = Outcome(0, b"removed 40 krbtgt/R@R\n")
-    left = {"c": credentials(PA_TYPE, fields=OFFSET)}
+    left = {"c": cache(PA_TYPE, fields=OFFSET)}
     wanted = [*((words, Outcome(0, b"walk 0 at 40\n"), None) for words in EDITING),
               *((words, gone, left) for words in REMOVING), *((words, gone, None) for words in TELLING)]
     for words, outcome, after in wanted:

@@ -6,7 +6,7 @@ from dataclasses import replace
 from caches.cache_files import sized
 from keytabs.edits import each_number, refused, scripted
 from keytabs.file_names import LIMIT
-from makers.cache_images import KRBTGT, Credential, Name, cache, config, credentials, offset
+from makers.cache_images import KRBTGT, Credential, Name, cache, config, offset
 from makers.usual_caches import FIELDS, OFFSET, PA_TYPE, TICKET, USUAL, VERSION_3, config_ticket
 from runs.harness import Case, Outcome, Report, check_case, message
 
@@ -17,7 +17,7 @@ SET_3 = "config pa_type krbtgt/R@R 3"
 THREE = config(b"pa_type", b"3", b"krbtgt/R@R")
 
 # The usual cache after `config pa_type krbtgt/R@R 3`.
-SET = credentials(TICKET, PA_TYPE.removed(), TICKET.removed(), THREE, fields=FIELDS)
+SET = cache(TICKET, PA_TYPE.removed(), TICKET.removed(), THREE, fields=FIELDS)
 
 
 def long_ticket(size: int) -> Credential:
@@ -67,7 +67,7 @@ def given() -> list[Case]:
     def of(name: str, cell: Credential, tail: bytes) -> Case:
         end = 22 + len(cell.spelled())
         line = b"walk 0 at 22\nwalk 0 gave 22 next %d " % end + tail + b"\n"
-        return edit(f"given, {name}", credentials(cell), ["start", "step 0"], Outcome(0, line))
+        return edit(f"given, {name}", cache(cell), ["start", "step 0"], Outcome(0, line))
 
     odd = Name((b"a/b", b"\n\0@"), b"\\R")
     key = bytes([0, 0x1F, 0x20, 0x5C, 0x7E, 0x7F, 0xFF])
@@ -95,7 +95,7 @@ def given() -> list[Case]:
 
 def cuts() -> list[Case]:
     """Removals: two times are those of a mark, and no other byte changes."""
-    gone = credentials(TICKET.removed(), PA_TYPE, TICKET.removed(), fields=FIELDS)
+    gone = cache(TICKET.removed(), PA_TYPE, TICKET.removed(), fields=FIELDS)
     lists = replace(TICKET, starttime=1, renew_till=2, addresses=((2, b"\x7f\0\0\1"),))
     return [
         edit("behind a walk", USUAL, ["start", "step 0", "step 0", "cut 40", "step 0"],
@@ -103,9 +103,9 @@ def cuts() -> list[Case]:
         edit("before a walk", USUAL, ["start", "cut 40", "step 0"],
              ["walk 0 at 40", "gone 40", GAVE_CONFIG], gone),
         edit("a configuration entry", USUAL, ["cut 148"], ["gone 148"],
-             credentials(TICKET, PA_TYPE.removed(), TICKET.removed(), fields=FIELDS)),
-        edit("of more fields", credentials(lists), ["cut 22"], ["gone 22"],
-             credentials(lists.removed())),
+             cache(TICKET, PA_TYPE.removed(), TICKET.removed(), fields=FIELDS)),
+        edit("of more fields", cache(lists), ["cut 22"], ["gone 22"],
+             cache(lists.removed())),
         edit("nothing stands there", USUAL, ["cut 3", "cut 284", "cut 392", "cut 4294967295"],
              refused(*["refused 5"] * 4)),
         edit("removed twice", USUAL, ["cut 40", "cut 40"], refused("gone 40", "refused 5"), gone),
@@ -116,13 +116,13 @@ def cuts() -> list[Case]:
 
 def settings() -> list[Case]:
     """Values that are set: the new one is added, and then each old one goes."""
-    before = credentials(config(b"k", b"1"), TICKET, config(b"k", b"2"))
+    before = cache(config(b"k", b"1"), TICKET, config(b"k", b"2"))
     # A value of one byte under `k` has 116 bytes: they stand at 22, at 246 and at 362.
-    after = credentials(config(b"k", b"1").removed(), TICKET, config(b"k", b"2").removed(),
+    after = cache(config(b"k", b"1").removed(), TICKET, config(b"k", b"2").removed(),
                         config(b"k", b"3"))
     others = [config(b"k", b"1", b"a@R"), config(b"l", b"1"), config(b"k", b"1", client=KRBTGT),
               config(b"k", b"1").removed(), config_ticket(b"k", realm=b"R")]
-    beside = credentials(*others)
+    beside = cache(*others)
     typed = Name((b"u",), b"R", 7)
     odd = config_ticket(b"k", name_type=9, client=typed)
     return [
@@ -133,15 +133,15 @@ def settings() -> list[Case]:
              USUAL + config(b"pa_type", b"3").spelled()),
         edit("beside others", beside, ["config k - 3"], [f"placed {len(beside)}"],
              beside + config(b"k", b"3").spelled()),
-        edit("of a default principal of another type", credentials(odd, default=typed),
+        edit("of a default principal of another type", cache(odd, default=typed),
              ["config k - 3"], [f"placed {22 + len(odd.spelled())}", "gone 22"],
-             credentials(odd.removed(), config(b"k", b"3", client=typed), default=typed)),
+             cache(odd.removed(), config(b"k", b"3", client=typed), default=typed)),
         edit("the same value again", SET, [SET_3], ["placed 528", "gone 392"],
-             credentials(TICKET, PA_TYPE.removed(), TICKET.removed(), THREE.removed(), THREE,
+             cache(TICKET, PA_TYPE.removed(), TICKET.removed(), THREE.removed(), THREE,
                          fields=FIELDS)),
         edit("two settings of one name", cache(), ["config k - 1", "config k - 2"],
              ["placed 22", "placed 138", "gone 22"],
-             credentials(config(b"k", b"1").removed(), config(b"k", b"2"))),
+             cache(config(b"k", b"1").removed(), config(b"k", b"2"))),
     ]
 
 
@@ -164,7 +164,7 @@ def set_walks() -> list[Case]:
 
 def rewrites() -> list[Case]:
     """All live credentials anew in version 4, and the walks carried along."""
-    anew = credentials(TICKET, PA_TYPE, fields=OFFSET)
+    anew = cache(TICKET, PA_TYPE, fields=OFFSET)
     two = offset(7, 8) + OFFSET
     full = Name((b"x" * (LIMIT - 19),)).spelled()
     return [
@@ -179,12 +179,12 @@ def rewrites() -> list[Case]:
              ["start", "step 0", "start", "rewrite", "step 0", "step 1", "cut 22"],
              ["walk 0 at 20", "walk 0 gave 20 next 130 etype 17 krbtgt/R@R", "walk 1 at 20",
               "rewritten 130", "walk 0 end 130", "walk 1 gave 22 next 130 etype 17 krbtgt/R@R",
-              "gone 22"], credentials(TICKET.removed())),
-        edit("the first offset alone is kept", credentials(TICKET, fields=two), ["rewrite"],
-             ["rewritten 142"], credentials(TICKET, fields=offset(7, 8))),
+              "gone 22"], cache(TICKET.removed())),
+        edit("the first offset alone is kept", cache(TICKET, fields=two), ["rewrite"],
+             ["rewritten 142"], cache(TICKET, fields=offset(7, 8))),
         edit("after it a place is no place", USUAL, ["rewrite", "resume 40", "resume 34"],
              refused("rewritten 278", "refused 4", "walk 0 at 34"), anew),
-        edit("nothing but removed ones", credentials(TICKET.removed(), fields=FIELDS),
+        edit("nothing but removed ones", cache(TICKET.removed(), fields=FIELDS),
              ["resume 148", "rewrite", "step 0"],
              ["walk 0 at 148", "rewritten 34", "walk 0 end 34"], cache(fields=OFFSET)),
         edit("too long in version 4", b"\x05\x03" + full, ["start", "rewrite", "resume 22"],
@@ -206,15 +206,15 @@ def refusals() -> list[Case]:
              refused(*["refused 8"] * 3, "refused 1", "walk 0 at 20", "walk 0 fault 4 at 20")),
         edit("damaged", damaged, ["cut 40", "cut 3", "config k - v", SET_3, "rewrite"],
              refused(*["refused 1"] * 5)),
-        edit("no room for a value", credentials(full), ["config k - v", "cut 22"],
-             refused("refused 3", "gone 22"), credentials(full.removed())),
-        edit("a byte too little room, and the old value stays", credentials(near, PA_TYPE),
+        edit("no room for a value", cache(full), ["config k - v", "cut 22"],
+             refused("refused 3", "gone 22"), cache(full.removed())),
+        edit("a byte too little room, and the old value stays", cache(near, PA_TYPE),
              [SET_3, f"resume {old_at + 1}", "step 0"],
              refused("refused 3", f"walk 0 at {old_at + 1}", f"walk 0 gave {old_at + 1} next "
                      f"{new_at + 1} config pa_type(krbtgt/R@R)")),
-        edit("just room", credentials(fitting, PA_TYPE), [SET_3],
+        edit("just room", cache(fitting, PA_TYPE), [SET_3],
              [f"placed {new_at}", f"gone {old_at}"],
-             credentials(fitting, PA_TYPE.removed(), THREE)),
+             cache(fitting, PA_TYPE.removed(), THREE)),
     ]
 
 

@@ -4,7 +4,7 @@ from __future__ import annotations
 from dataclasses import replace
 
 from caches.cache_listings import CONFIG_LINE, TICKET_LINE, case, damaged, of_host
-from makers.cache_images import KRBTGT, Name, cache, credentials, header_field, offset
+from makers.cache_images import KRBTGT, Name, cache, header_field, offset
 from makers.usual_caches import TICKET, USUAL
 from runs.harness import Case, Report, check_case, message
 
@@ -27,7 +27,7 @@ def headers() -> list[Case]:
         "300 fields": many,
         "a field of 65,531 bytes": header_field(3, bytes(65_531)),
     }
-    return [case(f"header, {name}", credentials(TICKET, fields=those[name]), TICKET_LINE)
+    return [case(f"header, {name}", cache(TICKET, fields=those[name]), TICKET_LINE)
             for name in those]
 
 
@@ -46,12 +46,12 @@ def faults() -> list[Case]:
                 cache(TICKET.client.spelled() + b"\0\0\0\0" + b"\xff" * 4 + bytes(1_000_000)),
                 b"fault 4 at 22"),
         damaged("a bad credential before a good one",
-                credentials(replace(TICKET, client=Name(count=2**31)), TICKET), b"fault 4 at 22"),
+                cache(replace(TICKET, client=Name(count=2**31)), TICKET), b"fault 4 at 22"),
         damaged("a credential whose last byte is the next one's first",
                 cache(TICKET.spelled()[:-1] + of_host().spelled()), TICKET_LINE,
                 b"fault 4 at 130"),
         damaged("a fault after one that was removed",
-                credentials(TICKET.removed()) + b"x", b"fault 4 at 130"),
+                cache(TICKET.removed()) + b"x", b"fault 4 at 130"),
     ]
 
 

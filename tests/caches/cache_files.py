@@ -6,7 +6,7 @@ from dataclasses import replace
 
 from caches.cache_listings import TICKET_LINE
 from keytabs.file_names import LIMIT, NAMES
-from makers.cache_images import Credential, Name, U, cache, config, credentials
+from makers.cache_images import U, Credential, Name, cache, config
 from makers.usual_caches import TICKET, USUAL
 from models.cache_reading import listed
 from runs.harness import Case, Outcome, Report, check_case, folder_of, message, run
@@ -32,8 +32,8 @@ def names() -> list[Case]:
 
 def sized(size: int) -> bytes:
     """A cache of that size, whose one ticket is long."""
-    rest = size - len(credentials(replace(TICKET, ticket=b"")))
-    return credentials(replace(TICKET, ticket=bytes(rest)))
+    rest = size - len(cache(replace(TICKET, ticket=b"")))
+    return cache(replace(TICKET, ticket=bytes(rest)))
 
 
 def sizes() -> list[Case]:

@@ -5,7 +5,7 @@ from dataclasses import replace
 from functools import partial
 
 from keytabs.columns import KNOWN_TIMES, NAMES, dates, month_edges
-from makers.cache_images import CONFIG_FIRST, CONFIG_REALM, Credential, Name, cache, config, credentials
+from makers.cache_images import CONFIG_FIRST, CONFIG_REALM, Credential, Name, cache, config
 from makers.usual_caches import PA_TYPE, TICKET, USUAL, VERSION_3, config_ticket
 from models.cache_reading import FLAGS, listed
 from runs.harness import Case, Outcome, Report, check_case
@@ -41,7 +41,7 @@ def whole() -> list[Case]:
     many = [replace(TICKET, server=Name((b"svc", b"%d" % number))) for number in numbers]
     until = replace(TICKET, renew_till=0x655D2B80)
     renewed = b"    renew until 2023-11-21T22:13:20Z"
-    two = credentials(TICKET, of_host())
+    two = cache(TICKET, of_host())
     return [
         case("the usual one", USUAL, TICKET_LINE),
         case("the usual one, -C", USUAL, TICKET_LINE, CONFIG_LINE, columns="C"),
@@ -50,14 +50,14 @@ def whole() -> list[Case]:
              columns="efC"),
         case("no credential", cache()),
         case("no credential, all columns", cache(), columns="efC"),
-        case("removed ones alone", credentials(TICKET.removed(), PA_TYPE.removed()), columns="C"),
+        case("removed ones alone", cache(TICKET.removed(), PA_TYPE.removed()), columns="C"),
         case("the order of the file", two, TICKET_LINE, HOST_LINE),
-        case("the same ticket twice", credentials(TICKET, TICKET), TICKET_LINE, TICKET_LINE),
-        case("2000 tickets", credentials(*many), *(TIMES + b"svc/%d@R" % n for n in numbers)),
-        case("a renewable ticket", credentials(until), TICKET_LINE, renewed),
-        case("a renewable ticket, -f", credentials(until), TICKET_LINE, renewed, FLAGS_LINE,
+        case("the same ticket twice", cache(TICKET, TICKET), TICKET_LINE, TICKET_LINE),
+        case("2000 tickets", cache(*many), *(TIMES + b"svc/%d@R" % n for n in numbers)),
+        case("a renewable ticket", cache(until), TICKET_LINE, renewed),
+        case("a renewable ticket, -f", cache(until), TICKET_LINE, renewed, FLAGS_LINE,
              columns="f"),
-        case("a renewable ticket, -f -e", credentials(until), TICKET_LINE, renewed, FLAGS_LINE,
+        case("a renewable ticket, -f -e", cache(until), TICKET_LINE, renewed, FLAGS_LINE,
              ETYPE_LINE, columns="fe"),
     ]
 
@@ -85,10 +85,10 @@ def fields() -> list[Case]:
     lists = {"addresses": ((2, b"\x7f\0\0\1"), (24, b"")), "authdata": ((1, b"abc"), (0xFFBF, b""))}
 
     def of(name: str, **changed) -> Case:
-        return case(name, credentials(replace(TICKET, **changed)), TICKET_LINE)
+        return case(name, cache(replace(TICKET, **changed)), TICKET_LINE)
 
     def with_flags(name: str, flags: int, letters: bytes) -> Case:
-        return case(f"flags, {name}", credentials(replace(TICKET, flags=flags)), TICKET_LINE,
+        return case(f"flags, {name}", cache(replace(TICKET, flags=flags)), TICKET_LINE,
                     b"    Flags: " + letters, columns="f")
 
     every = b"".join(FLAGS)
@@ -114,12 +114,12 @@ def marks() -> list[Case]:
     never = b"1970-01-01T00:00:00Z"
 
     def of(name: str, shown: bytes, **changed) -> Case:
-        return case(f"mark, {name}", credentials(replace(TICKET, **changed)),
+        return case(f"mark, {name}", cache(replace(TICKET, **changed)),
                     shown + b" krbtgt/R@R")
 
     return [
-        case("mark, both", credentials(TICKET.removed())),
-        case("mark, both and a starttime", credentials(replace(TICKET, starttime=1).removed())),
+        case("mark, both", cache(TICKET.removed())),
+        case("mark, both and a starttime", cache(replace(TICKET, starttime=1).removed())),
         of("endtime 0 alone", START + b" " + never, endtime=0),
         of("authtime 0 and endtime 0", never + b" " + never, authtime=0, endtime=0),
         of("the greatest authtime alone", greatest + b" " + END, authtime=2**32 - 1),
@@ -140,15 +140,15 @@ def times() -> list[Case]:
              for line in (text + b" " + text + b" krbtgt/R@R", b"    renew until " + text)]
     started = replace(TICKET, starttime=1_700_000_001)
     return [
-        case("a starttime", credentials(started), b"2023-11-14T22:13:21Z " + END + b" krbtgt/R@R"),
-        case("the times that date(1) has", credentials(*tickets), *lines),
+        case("a starttime", cache(started), b"2023-11-14T22:13:21Z " + END + b" krbtgt/R@R"),
+        case("the times that date(1) has", cache(*tickets), *lines),
     ]
 
 
 def etypes() -> list[Case]:
     """Each enctype that has a name, and some that have none."""
     numbers = [*NAMES, 0, 1, 15, 21, 22, 24, 27, 65_535]
-    image = credentials(*(replace(TICKET, enctype=number) for number in numbers))
+    image = cache(*(replace(TICKET, enctype=number) for number in numbers))
     texts = (NAMES.get(number, b"etype %d" % number) for number in numbers)
     lines = [line for text in texts for line in (TICKET_LINE, b"    Etype: " + text)]
     return [case("enctypes", image, *lines, columns="e")]
@@ -161,7 +161,7 @@ def names() -> list[Case]:
     unquoted = b"\r\x1b\x7f\"' "
 
     def of(name: str, those: Name, text: bytes) -> list[Case]:
-        image = credentials(replace(TICKET, server=those))
+        image = cache(replace(TICKET, server=those))
         return [case(f"server, {name}", image, TIMES + text),
                 case(f"default principal, {name}", cache(default=those), default=text)]
 
@@ -186,7 +186,7 @@ def configs() -> list[Case]:
              + b"".join(b"\\x%02x" % byte for byte in range(0x7F, 0x100)))
 
     def of(name: str, cell: Credential, *lines: bytes) -> Case:
-        image = credentials(cell, TICKET)
+        image = cache(cell, TICKET)
         return case(f"configuration, {name}", image, *lines, TICKET_LINE, columns="C")
 
     ticket = TIMES + CONFIG_FIRST
@@ -209,7 +209,7 @@ def configs() -> list[Case]:
            ticket + b"/k@X-CACHECONF"),
         of("the realm of MIT's removed ones", config_ticket(b"k", realm=b"X-RMED-CONF:"),
            ticket + b"/k@X-RMED-CONF:"),
-        case("configuration entries without -C", credentials(config(b"k", b"v"), TICKET, PA_TYPE),
+        case("configuration entries without -C", cache(config(b"k", b"v"), TICKET, PA_TYPE),
              TICKET_LINE, FLAGS_LINE, columns="f"),
     ]
 

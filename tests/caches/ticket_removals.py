@@ -8,7 +8,7 @@ from caches.cache_files import sized
 from caches.cache_listings import of_host
 from keytabs.file_names import LIMIT
 from keytabs.removals import check_left_alone, check_mode
-from makers.cache_images import Credential, Name, cache, config, credentials, header_field, offset
+from makers.cache_images import Credential, Name, cache, config, header_field, offset
 from makers.usual_caches import FIELDS, OFFSET, PA_TYPE, TICKET, USUAL, VERSION_3, config_ticket
 from runs.harness import Case, Outcome, Report, check_case, folder_of, message, run
 
@@ -29,7 +29,7 @@ TGT = replace(TICKET, key=OLD_KEY)
 LATER = replace(TICKET, endtime=FUTURE, key=NEW_KEY)
 HOST = of_host(key=OLD_KEY)
 LATER_HOST = of_host(endtime=FUTURE, key=NEW_KEY)
-MANY = credentials(TGT, PA_TYPE, LATER, HOST, TICKET.removed(), LATER_HOST, fields=FIELDS)
+MANY = cache(TGT, PA_TYPE, LATER, HOST, TICKET.removed(), LATER_HOST, fields=FIELDS)
 
 AT_40 = "removed 40 krbtgt/R@R"
 AT_284 = "removed 284 krbtgt/R@R"
@@ -39,7 +39,7 @@ AT_606 = "removed 606 host/a@R"
 
 def left(*those: Credential) -> bytes:
     """A cache that was written anew: its offset is all that its header has."""
-    return credentials(*those, fields=OFFSET)
+    return cache(*those, fields=OFFSET)
 
 
 def removal(name: str, image: bytes, words: str, lines: list[str], after: bytes | None) -> Case:
@@ -74,7 +74,7 @@ def selections() -> list[Case]:
         removal("nothing is over of a service", MANY.replace(HOST.spelled(), b""),
                 "--expired -p host/a@R", [], None),
         removal("nothing is over where there is nothing", cache(), "--expired", [], None),
-        removal("nothing is over where there are values", credentials(PA_TYPE), "--expired", [],
+        removal("nothing is over where there are values", cache(PA_TYPE), "--expired", [],
                 None),
         removal("a dry run with nothing to do", left(LATER), "-n --expired", [], None),
         removal("old and new words", MANY, "-phost/a@R -n", hosts, None),
@@ -83,10 +83,10 @@ def selections() -> list[Case]:
         refused("a dry run that finds nothing", MANY, "-n -p c@R", NONE),
         refused("an empty cache", cache(), "-p krbtgt/R@R", NONE),
         refused("a client is no service", MANY, "-p u@R", NONE),
-        refused("removed ones alone", credentials(TICKET.removed()), "-p krbtgt/R@R", NONE),
-        removal("nothing is over of removed ones", credentials(TICKET.removed()), "--expired", [],
+        refused("removed ones alone", cache(TICKET.removed()), "-p krbtgt/R@R", NONE),
+        removal("nothing is over of removed ones", cache(TICKET.removed()), "--expired", [],
                 None),
-        refused("expired ones of a removed service", credentials(TICKET.removed()),
+        refused("expired ones of a removed service", cache(TICKET.removed()),
                 "--expired -p krbtgt/R@R", NONE),
     ]
 
@@ -97,14 +97,14 @@ def values() -> list[Case]:
     timed = config_ticket(b"k", endtime=1)
     nearly = config_ticket(endtime=1)
     other = config(b"k", b"v", client=Name((b"v",)))
-    image = credentials(PA_TYPE, timed, other, nearly)
+    image = cache(PA_TYPE, timed, other, nearly)
     place = 22 + len(PA_TYPE.spelled()) + len(timed.spelled()) + len(other.spelled())
     gone = [f"removed {place} krb5_ccache_conf_data@X-CACHECONF:"]
     return [
         refused("a value by its name", USUAL, f"-p {text}", NONE),
         refused("expired values by their name", USUAL, f"--expired -p {text}", NONE),
         removal("values are not over", image, "--expired", gone,
-                credentials(PA_TYPE, timed, other)),
+                cache(PA_TYPE, timed, other)),
     ]
 
 
@@ -115,15 +115,15 @@ def names() -> list[Case]:
     typed = of_host(server=Name((b"host", b"a"), name_type=3))
     # A server without components takes 13 bytes, and one with an empty one 17: 28 are krbtgt/R@R's.
     return [
-        removal("no components and an empty one", credentials(bare, empty, TICKET), "-p @R",
-                ["removed 22 @R", "removed 115 @R"], credentials(TICKET)),
-        removal("a ticket of another client", credentials(replace(TICKET, client=Name((b"v",)))),
+        removal("no components and an empty one", cache(bare, empty, TICKET), "-p @R",
+                ["removed 22 @R", "removed 115 @R"], cache(TICKET)),
+        removal("a ticket of another client", cache(replace(TICKET, client=Name((b"v",)))),
                 "-p krbtgt/R@R", ["removed 22 krbtgt/R@R"], cache()),
-        removal("a name of another type", credentials(typed, TICKET), "-p host/a@R",
-                ["removed 22 host/a@R"], credentials(TICKET)),
+        removal("a name of another type", cache(typed, TICKET), "-p host/a@R",
+                ["removed 22 host/a@R"], cache(TICKET)),
         Case("ticket removal: a name that is no text", ("ccremove", "--expired", "c"),
-             Outcome(0, b"removed 22 a\\/b/\\n\xff\xfe@R\\@S\n"), {"c": credentials(odd, LATER)},
-             {"c": credentials(LATER)}),
+             Outcome(0, b"removed 22 a\\/b/\\n\xff\xfe@R\\@S\n"), {"c": cache(odd, LATER)},
+             {"c": cache(LATER)}),
     ]
 
 
@@ -134,21 +134,21 @@ def layouts() -> list[Case]:
     two = OFFSET + offset(7, 8) + header_field(1, b"")
     typed = Name((b"u", b""), b"\xff", 9)
     return [
-        removal("all fields of what is left", credentials(TICKET, lists, TICKET.removed()),
-                "--expired", ["removed 22 krbtgt/R@R"], credentials(lists)),
-        removal("a header of two offsets", credentials(TICKET, LATER, fields=two), "--expired",
+        removal("all fields of what is left", cache(TICKET, lists, TICKET.removed()),
+                "--expired", ["removed 22 krbtgt/R@R"], cache(lists)),
+        removal("a header of two offsets", cache(TICKET, LATER, fields=two), "--expired",
                 ["removed 50 krbtgt/R@R"], left(LATER)),
-        removal("a header without an offset", credentials(TICKET, fields=header_field(1, b"abc")),
+        removal("a header without an offset", cache(TICKET, fields=header_field(1, b"abc")),
                 "--expired", ["removed 29 krbtgt/R@R"], cache()),
-        removal("a default principal of another type", credentials(TICKET, default=typed),
+        removal("a default principal of another type", cache(TICKET, default=typed),
                 "--expired", ["removed 26 krbtgt/R@R"], cache(default=typed)),
         removal("the only ticket", USUAL, "-p krbtgt/R@R", [AT_40], left(PA_TYPE)),
-        removal("the same ticket twice", credentials(TICKET, TICKET), "-p krbtgt/R@R",
+        removal("the same ticket twice", cache(TICKET, TICKET), "-p krbtgt/R@R",
                 ["removed 22 krbtgt/R@R", "removed 130 krbtgt/R@R"], cache()),
         removal("a ticket that ends at 0 and is not marked",
-                credentials(replace(TICKET, endtime=0), replace(LATER, authtime=2**32 - 1)),
+                cache(replace(TICKET, endtime=0), replace(LATER, authtime=2**32 - 1)),
                 "--expired", ["removed 22 krbtgt/R@R"],
-                credentials(replace(LATER, authtime=2**32 - 1))),
+                cache(replace(LATER, authtime=2**32 - 1))),
     ]
 
 
@@ -194,7 +194,7 @@ def cases() -> list[Case]:
 def check_keys(report: Report, program: str) -> None:
     """Of the key of a ticket that was removed nothing is left, also of one removed before."""
     oldest = b"key from before."
-    before = credentials(replace(TGT, key=oldest).removed(), TGT, LATER)
+    before = cache(replace(TGT, key=oldest).removed(), TGT, LATER)
     for words, kept in (("-p krbtgt/R@R", []), ("--expired", [NEW_KEY])):
         with folder_of({"c": before}) as folder:
             got = run(program, ("ccremove", *words.split(), "c"), folder)

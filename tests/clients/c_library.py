@@ -7,7 +7,7 @@ import shutil
 import subprocess
 
 from clients.c_exports import prototypes
-from makers.cache_images import Credential, Name, config, credentials, header_field
+from makers.cache_images import Credential, Name, cache, config, header_field
 from makers.images import TWO
 from makers.sample_caches import caches
 from makers.sample_keytabs import keytabs
@@ -109,7 +109,7 @@ def check_caches(report: Report, program: str, folder: str) -> None:
     """What caches.c lists, stores and sets, beside `klist` and by hand, under gcc's sanitizers."""
     built = build(folder, "caches", *SANITIZED)
     field = header_field(9, b"\xab")
-    for image in (USUAL, credentials(TICKET, PA_TYPE), credentials(TICKET, fields=field)):
+    for image in (USUAL, cache(TICKET, PA_TYPE), cache(TICKET, fields=field)):
         check_image(report, program, built, "-c", image, stored(image))
     for image in (*caches(), *corpus.images("ccache"), b"", b"\5\4\0", TWO):
         check_image(report, program, built, "-c", image, None)

@@ -6,8 +6,8 @@ import subprocess
 import sys
 
 from clients import python_limits
-from makers.cache_images import Credential, Name, cache, config, credentials
-from makers.images import B, TWO, Entry, entries
+from makers.cache_images import Credential, Name, cache, config
+from makers.images import B, TWO, Entry, keytab
 from makers.usual_caches import PA_TYPE, TICKET
 from pages.readme import LIBRARY, surroundings
 from runs.harness import SECONDS, Outcome, Report
@@ -199,7 +199,7 @@ with Keytab.open(sys.stdin.buffer.read()) as keytab:
 def wanted_keytabs() -> bytes:
     """What the first script prints. HOST has 51 bytes, B 45: c@R is put where HOST stood."""
     c = Entry((b"c",), key=bytes(16), version8=7, version32=7, timestamp=5)
-    after = entries(c, B)
+    after = keytab(c, B)
     return b"\n".join((
         b"[(2, b'host/a@R', 3, 17), (53, b'b@R', 3, 17)]",
         b"b'R' (b'host', b'a') 1 1700000000 True",
@@ -219,7 +219,7 @@ def wanted_keytabs() -> bytes:
 def wanted_caches() -> bytes:
     """What the second script prints. The ticket stands at 22, the value at 130."""
     host = Credential(server=Name((b"host", b"a")), is_skey=1, second_ticket=b"2")
-    after = credentials(host, config(b"pa_type", b"3", b"krbtgt/R@R"))
+    after = cache(host, config(b"pa_type", b"3", b"krbtgt/R@R"))
     made = cache(default=Name((b"a",)))
     return b"\n".join((
         b"b'u@R' b'krbtgt/R@R' b'u@R' True 22 130",
@@ -262,11 +262,11 @@ def wanted_components() -> bytes:
 
 SCRIPTS = (
     ("keytabs", KEYTABS, TWO, wanted_keytabs),
-    ("caches", CACHES, credentials(TICKET, PA_TYPE), wanted_caches),
+    ("caches", CACHES, cache(TICKET, PA_TYPE), wanted_caches),
     ("what it refuses", REFUSED, TWO, wanted_refused),
     ("threads", THREADS, TWO, wanted_threads),
     *python_limits.SCRIPTS,
-    ("components", COMPONENTS, entries(*(Entry(name, b"R/@") for name in NAMES)), wanted_components),
+    ("components", COMPONENTS, keytab(*(Entry(name, b"R/@") for name in NAMES)), wanted_components),
 )
 
 

@@ -5,7 +5,7 @@ import os
 import stat
 
 from keytabs.removals import AES256, B3, FIVE, FOUR, versioned
-from makers.images import B, BIG, END, HOST, LITTLE, TWO, Entry, entries, hole, keytab, record
+from makers.images import B, BIG, END, HOST, LITTLE, TWO, Entry, hole, keytab, record
 from models.check_model import checked
 from runs.harness import Case, Outcome, Report, check_case, differences, folder_of, message, run
 
@@ -59,20 +59,20 @@ def findings() -> list[Case]:
         check_up("nothing", TWO, ["entries 2 free 0 holes 0"]),
         check_up("no entry", keytab(), ["entries 0 free 0 holes 0"]),
         check_up("old", FOUR, ["old 2 kvno 3 etype 17 host/a@R", "entries 4 free 0 holes 0"]),
-        check_up("versions that have wrapped", entries(versioned(255, 1), versioned(1, 2)),
+        check_up("versions that have wrapped", keytab(versioned(255, 1), versioned(1, 2)),
                  ["old 2 kvno 255 etype 17 a@R", "entries 2 free 0 holes 0"]),
-        check_up("weak", entries(*weak), [*of_weak, "entries 15 free 0 holes 0"], 1),
-        check_up("the same key three times", entries(HOST, B, HOST, HOST),
+        check_up("weak", keytab(*weak), [*of_weak, "entries 15 free 0 holes 0"], 1),
+        check_up("the same key three times", keytab(HOST, B, HOST, HOST),
                  ["same 98 2 kvno 3 etype 17 host/a@R", "same 149 2 kvno 3 etype 17 host/a@R",
                   "entries 4 free 0 holes 0"], 1),
-        check_up("another key", entries(HOST, other, HOST),
+        check_up("another key", keytab(HOST, other, HOST),
                  ["clash 53 2 kvno 3 etype 17 host/a@R", "same 104 2 kvno 3 etype 17 host/a@R",
                   "entries 3 free 0 holes 0"], 1),
-        check_up("another name type is no other name", entries(HOST, Entry(name_type=7)),
+        check_up("another name type is no other name", keytab(HOST, Entry(name_type=7)),
                  ["same 53 2 kvno 3 etype 17 host/a@R", "entries 2 free 0 holes 0"], 1),
-        check_up("other versions and enctypes are others", entries(AES256, FIVE, B3),
+        check_up("other versions and enctypes are others", keytab(AES256, FIVE, B3),
                  ["entries 3 free 0 holes 0"]),
-        check_up("all words of one entry", entries(Entry((b"",), enctype=23), Entry((b"",), enctype=23),
+        check_up("all words of one entry", keytab(Entry((b"",), enctype=23), Entry((b"",), enctype=23),
                                                    Entry((b"",), version8=4, version32=4)),
                  ["weak 2 kvno 3 etype 23 @R", "hidden 2 kvno 3 etype 23 @R", "old 2 kvno 3 etype 23 @R",
                   "weak 46 kvno 3 etype 23 @R", "same 46 2 kvno 3 etype 23 @R",
@@ -87,7 +87,7 @@ def hidden() -> list[Case]:
     for version, order in ((2, BIG), (1, LITTLE)):
         place = 2 + 4 + len(first.spelled(version, order))
         for name, entry in {**ODD, **EVEN}.items():
-            image = entries(first, entry, last, version=version, order=order)
+            image = keytab(first, entry, last, version=version, order=order)
             got = checked(image)
             where = place if name in ODD else place + 4 + len(entry.spelled(version, order))
             told = [line for line in got.out.split(b"\n") if line.startswith(b"hidden ")]
@@ -102,7 +102,7 @@ def layouts() -> list[Case]:
     """Holes, ends, damage, and version 1 in both orders."""
     holes = keytab(hole(bytes(3)), record(B.spelled()), hole(b"xyz12"), END, b"more")
     bad = keytab(record(HOST.spelled()), hole(bytes(9)), record(bytes(10)), record(B.spelled()))
-    big = entries(HOST, B, version=1, order=BIG)
+    big = keytab(HOST, B, version=1, order=BIG)
     return [
         check_up("holes", holes, ["entries 1 free 8 holes 2"]),
         check_up("a damaged keytab", bad, ["fault 3 at 66", "entries 1 free 9 holes 1"], 1),

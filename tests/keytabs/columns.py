@@ -5,7 +5,7 @@ import calendar
 import subprocess
 
 from keytabs.listings import B_LINE, HOST_LINE, listed
-from makers.images import B, BIG, HOST, LITTLE, TWO, Entry, entries, hole, keytab, record
+from makers.images import B, BIG, HOST, LITTLE, TWO, Entry, hole, keytab, record
 from runs.harness import Case, Outcome, Report, check_case
 
 # The names of the enctypes that have one.
@@ -86,13 +86,13 @@ def by_hand() -> list[Case]:
     zeros = keytab(record(bytes(17)))
     host = b"   3 " + TIME + b"host/a@R" + ETYPE + HOST_KEY
     b = b"   3 " + TIME + b"b@R" + ETYPE + B_KEY
-    little = entries(HOST, B, version=1, order=LITTLE)
-    big = entries(HOST, B, version=1, order=BIG)
+    little = keytab(HOST, B, version=1, order=LITTLE)
+    big = keytab(HOST, B, version=1, order=BIG)
     two = keytab(record(HOST.spelled()), hole(B.spelled()), record(B.spelled() + b"\xff" * 9))
     bad = keytab(record(HOST.spelled()), record(bytes(10)))
     return [
-        case("a wide version and a quoted name", "teK", entries(wide), wide_line),
-        case("the greatest numbers", "teK", entries(greatest), greatest_line),
+        case("a wide version and a quoted name", "teK", keytab(wide), wide_line),
+        case("the greatest numbers", "teK", keytab(greatest), greatest_line),
         case("an entry of zeros", "teK", zeros, b"   0 1970-01-01T00:00:00Z @ (etype 0) (0x)"),
         case("version 1, little-endian", "teK", little, host, b),
         case("version 1, big-endian", "teK", big, host, b, options=("--v1-big",)),
@@ -112,11 +112,11 @@ def etypes() -> list[Case]:
         return b"   3 a@R (" + NAMES.get(enctype, b"etype %d" % enctype) + b")"
 
     def listing(name: str, numbers) -> Case:
-        image = entries(*(Entry((b"a",), enctype=number, key=b"") for number in numbers))
+        image = keytab(*(Entry((b"a",), enctype=number, key=b"") for number in numbers))
         return case(name, "e", image, *(line(number) for number in numbers))
 
     rows = [listing(f"enctype {text.decode()}", [number]) for number, text in NAMES.items()]
-    few = [case(f"enctype {number}", "e", entries(Entry((b"a",), enctype=number)),
+    few = [case(f"enctype {number}", "e", keytab(Entry((b"a",), enctype=number)),
                 b"   3 a@R (etype %d)" % number) for number in (0, 1, 15, 21, 22, 24, 27, 65_535)]
     return [*rows, *few, listing("all enctypes", range(65_536))]
 
@@ -128,14 +128,14 @@ def keys() -> list[Case]:
         return b"   3 a@R (0x" + b"".join(b"%02x" % byte for byte in key) + b")"
 
     def listing(name: str, those: list[bytes]) -> Case:
-        image = entries(*(Entry((b"a",), key=key) for key in those))
+        image = keytab(*(Entry((b"a",), key=key) for key in those))
         return case(name, "K", image, *map(line, those))
 
     every = bytes(range(256))
     lengths = [*range(70), 255, 256, 4_095, 4_096, 32_767, 32_768, 65_535]
     return [
-        case("an empty key", "K", entries(Entry((b"a",), key=b"")), b"   3 a@R (0x)"),
-        case("a key of one byte", "K", entries(Entry((b"a",), key=b"\xa9")), b"   3 a@R (0xa9)"),
+        case("an empty key", "K", keytab(Entry((b"a",), key=b"")), b"   3 a@R (0x)"),
+        case("a key of one byte", "K", keytab(Entry((b"a",), key=b"\xa9")), b"   3 a@R (0xa9)"),
         listing("each byte", [every]),
         listing("each byte alone", [bytes([byte]) for byte in every]),
         listing("keys of many lengths", [(every * 256)[:length] for length in lengths]),
@@ -160,7 +160,7 @@ def dates(seconds: list[int]) -> list[bytes]:
 
 def times_of(name: str, texts: dict[int, bytes]) -> Case:
     """A listing of entries of those times."""
-    image = entries(*(Entry((b"a",), timestamp=second) for second in texts))
+    image = keytab(*(Entry((b"a",), timestamp=second) for second in texts))
     return case(name, "t", image, *(b"   3 " + text + b" a@R" for text in texts.values()))
 
 

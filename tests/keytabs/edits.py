@@ -5,7 +5,7 @@ from typing import Callable
 
 from keytabs.file_names import LIMIT, sized
 from keytabs.listings import B_RECORD, HOST_RECORD
-from makers.images import B, BIG, END, HOST, LITTLE, TWO, Entry, entries, hole, keytab, record
+from makers.images import B, BIG, END, HOST, LITTLE, TWO, Entry, hole, keytab, record
 from runs.harness import Case, Outcome, Report, check_case, message
 
 # Lines that add host/a@R, b@R and c@R, as HOST, B and C have them.
@@ -167,13 +167,13 @@ def changed_walks() -> list[Case]:
         edit("appended after a walk's end", TWO, ["start", *["step 0"] * 3, add_longer, "step 0"],
              ["walk 0 at 2", GAVE_HOST, GAVE_B, "walk 0 end 98", "placed 98",
               "walk 0 gave 98 next 150 kvno 3 etype 17 host/ab@R"],
-             entries(HOST, B, longer)),
+             keytab(HOST, B, longer)),
         edit("a removed record is passed over", TWO, ["start", "cut 2", "step 0"],
              ["walk 0 at 2", "gone 2", GAVE_B], keytab(hole(bytes(47)), B_RECORD)),
         edit("a second run: the walk goes on", TWO,
              ["cut 53", ADD_C, "resume 53", "step 0", "step 0"],
              ["gone 53", "placed 53", "walk 0 at 53", GAVE_B.replace("b@R", "c@R"),
-              "walk 0 end 98"], entries(HOST, C)),
+              "walk 0 end 98"], keytab(HOST, C)),
     ]
 
 
@@ -205,7 +205,7 @@ def changes() -> list[Case]:
              refused("walk 0 at 53", "refused 4", "walk 1 at 98", "walk 1 end 98", "gone 2"),
              removed),
         edit("a version of more than 8 bits", None, [wide], ["placed 2"],
-             entries(Entry((b"b",), key=B.key, version8=44, version32=300))),
+             keytab(Entry((b"b",), key=B.key, version8=44, version32=300))),
         edit("a damaged keytab is not changed", DAMAGED, ["cut 2", ADD_B, "rewrite"],
              refused(*["refused 1"] * 3)),
     ]
@@ -213,7 +213,7 @@ def changes() -> list[Case]:
 
 def full_of_version_one() -> bytes:
     """A keytab of version 1 as large as one may be, in which no entry has a 32-bit version."""
-    front = entries(*[Entry(key=bytes(65_535), version32=None)] * 255, version=1, order=LITTLE)
+    front = keytab(*[Entry(key=bytes(65_535), version32=None)] * 255, version=1, order=LITTLE)
     bare = len(Entry(key=b"", version32=None).spelled(1, LITTLE))
     last = Entry(key=bytes(LIMIT - len(front) - 4 - bare), version32=None)
     return front + record(last.spelled(1, LITTLE), LITTLE)
@@ -222,9 +222,9 @@ def full_of_version_one() -> bytes:
 def rewrites() -> list[Case]:
     """All records anew, and the walks carried along."""
     marked = keytab(HOST_RECORD, END, b"\xff" * 20)
-    old = entries(HOST, version=1, order=LITTLE)
-    old_big = entries(HOST, version=1, order=BIG)
-    untyped = entries(Entry(name_type=0))
+    old = keytab(HOST, version=1, order=LITTLE)
+    old_big = keytab(HOST, version=1, order=BIG)
+    untyped = keytab(Entry(name_type=0))
     padded = keytab(hole(bytes(9)), record(Entry(version32=None).spelled() + b"\0\0\0"))
     carried = ["walk 0 at 2", GAVE_HOST, "walk 1 at 2", "gone 2", "rewritten 47",
                *(f"walk {number} gave 2 next 47 kvno 3 etype 17 b@R" for number in (0, 1))]
@@ -233,15 +233,15 @@ def rewrites() -> list[Case]:
     return [
         edit("walks are carried", TWO,
              ["start", "step 0", "start", "cut 2", "rewrite", "step 0", "step 1"], carried,
-             entries(B)),
-        edit("an end mark goes", marked, ["rewrite"], ["rewritten 53"], entries(HOST)),
+             keytab(B)),
+        edit("an end mark goes", marked, ["rewrite"], ["rewritten 53"], keytab(HOST)),
         edit("version 1 becomes 2", old, ["start", "step 0", "rewrite", "step 0"], version_one,
              untyped),
         edit("big-endian version 1 becomes 2", old_big, ["rewrite"], ["rewritten 53"], untyped,
              ("--v1-big",)),
-        edit("holes and padding go", padded, ["rewrite"], ["rewritten 53"], entries(HOST)),
+        edit("holes and padding go", padded, ["rewrite"], ["rewritten 53"], keytab(HOST)),
         edit("after it a place is no place", TWO, ["cut 2", "rewrite", "resume 53", "resume 47"],
-             refused("gone 2", "rewritten 47", "refused 4", "walk 0 at 47"), entries(B)),
+             refused("gone 2", "rewritten 47", "refused 4", "walk 0 at 47"), keytab(B)),
         edit("nothing but holes", keytab(hole(bytes(9))), ["resume 15", "rewrite", "step 0"],
              ["walk 0 at 15", "rewritten 2", "walk 0 end 2"], keytab()),
         edit("no file", None, ["rewrite"], ["rewritten 2"], keytab()),
@@ -252,20 +252,20 @@ def rewrites() -> list[Case]:
 
 def files() -> list[Case]:
     """Files that are missing, damaged, too large or none that is a keytab."""
-    old = entries(HOST, version=1, order=LITTLE)
-    old_big = entries(HOST, version=1, order=BIG)
+    old = keytab(HOST, version=1, order=LITTLE)
+    old_big = keytab(HOST, version=1, order=BIG)
     padding = LIMIT - 2 - 4 - 47 - 4 - 41
     full = keytab(HOST_RECORD, record(B.spelled() + bytes(padding)))
     refilled = keytab(record(B.spelled() + bytes(6)), record(B.spelled() + bytes(padding)))
     no_folder = ("ktedit", "no/k")
     return [
-        edit("a new file", None, [ADD_B], ["placed 2"], entries(B)),
+        edit("a new file", None, [ADD_B], ["placed 2"], keytab(B)),
         edit("no file, and nothing to save", None, ["start"], ["walk 0 at 2"]),
         edit("an empty script", TWO, [], []),
         edit("an empty script and no file", None, [], []),
-        edit("version 1", old, [ADD_B], ["placed 49"], entries(HOST, B, version=1, order=LITTLE)),
+        edit("version 1", old, [ADD_B], ["placed 49"], keytab(HOST, B, version=1, order=LITTLE)),
         edit("version 1, big-endian", old_big, [ADD_B], ["placed 49"],
-             entries(HOST, B, version=1, order=BIG), ("--v1-big",)),
+             keytab(HOST, B, version=1, order=BIG), ("--v1-big",)),
         edit("one byte", b"\x05", [ADD_B], message(1, "k: not a keytab (1)")),
         edit("no keytab", b"\x05\x03", [ADD_B], message(1, "k: not a keytab (2)")),
         edit("a file over the limit", sized(LIMIT + 1), ["cut 2"], message(1, "k: file too large")),

@@ -1,7 +1,7 @@
 """Look-ups by `ktfind`. Places are counted by hand, or from the lengths of the records before."""
 from __future__ import annotations
 
-from makers.images import B, BIG, END, HOST, LITTLE, TWO, Entry, entries, hole, keytab, record
+from makers.images import B, BIG, END, HOST, LITTLE, TWO, Entry, hole, keytab, record
 from runs.harness import Case, Outcome, Report, check_case, folder_of, message, run
 
 NOT_FOUND = message(1, "k: refused 9")
@@ -11,7 +11,7 @@ DAMAGED = message(1, "k: refused 1")
 AES256 = Entry(version8=5, version32=5, enctype=18, key=bytes(32))
 
 # host/a@R at 2, 53 and 120: version 3 of enctype 17, version 5 of 18, version 5 of 17.
-THREE = entries(HOST, AES256, Entry(version8=5, version32=5))
+THREE = keytab(HOST, AES256, Entry(version8=5, version32=5))
 
 
 def find(name: str, image: bytes, asked: str, wanted: Outcome, options=()) -> Case:
@@ -32,9 +32,9 @@ def versions() -> list[Case]:
     def of(name: str, asked: str, wanted: Outcome, image: bytes = THREE) -> Case:
         return find(name, image, f"{asked} host/a@R", wanted)
 
-    same = entries(*[HOST] * 3)
+    same = keytab(*[HOST] * 3)
     # Each entry has 47 bytes and its length 4, so they stand at 2, 53 and 104.
-    falling = entries(*(Entry(version8=number, version32=number) for number in (9, 12, 4)))
+    falling = keytab(*(Entry(version8=number, version32=number) for number in (9, 12, 4)))
     return [
         of("the highest version, first of two", "0 0", shown(53, 5, 18, "host/a@R")),
         of("the highest version of an enctype", "0 17", shown(120, 5, 17, "host/a@R")),
@@ -62,10 +62,10 @@ def widths() -> list[Case]:
     def of(name: str, image: bytes, asked: str, wanted: Outcome) -> Case:
         return find(name, image, f"{asked} host/a@R", wanted)
 
-    wide = entries(Entry(version8=44, version32=300), Entry(version8=45, version32=None))
-    zero = entries(Entry(version8=0, version32=0), Entry(version8=7, version32=0))
-    only_zero = entries(Entry(version8=0, version32=None))
-    greatest = entries(HOST, Entry(version8=255, version32=2**32 - 1))
+    wide = keytab(Entry(version8=44, version32=300), Entry(version8=45, version32=None))
+    zero = keytab(Entry(version8=0, version32=0), Entry(version8=7, version32=0))
+    only_zero = keytab(Entry(version8=0, version32=None))
+    greatest = keytab(HOST, Entry(version8=255, version32=2**32 - 1))
     return [
         of("a version of 32 bits", wide, "300 0", shown(2, 300, 17, "host/a@R")),
         of("the low bits of a version", wide, "44 0", NO_SUCH_VERSION),
@@ -82,7 +82,7 @@ def enctypes() -> list[Case]:
     """By name and number, and numbers that have no name."""
     numbers = (0, 1, 16, 17, 18, 19, 20, 23, 25, 26, 65_535)
     # A record of a@R with a key of 16 bytes has 45 bytes, its length among them.
-    image = entries(*(Entry((b"a",), enctype=number) for number in numbers))
+    image = keytab(*(Entry((b"a",), enctype=number) for number in numbers))
     names = {
         "des3-cbc-sha1": 16,
         "aes128-cts-hmac-sha1-96": 17,
@@ -138,7 +138,7 @@ NAMED = [Entry(components, realm, version8=number, version32=None)
          for number, (components, realm, _) in enumerate(NAMES)]
 # No word means these: a name without components, and one that is no UTF-8.
 NAMELESS = [Entry(()), Entry((b"\xff",))]
-ALL_NAMES = entries(*NAMELESS, *NAMED)
+ALL_NAMES = keytab(*NAMELESS, *NAMED)
 
 
 def place_of(those: list[Entry], index: int) -> int:
@@ -162,8 +162,8 @@ def names_not_there() -> list[Case]:
     near = "host/b@R", "host/a@S", "host/a@", "hos/a@R", "host/aa@R", "host/a/@R", "/host/a@R"
     near += "host\\/a@R", "hosta@R", "a/host@R", "Host/a@R", "host/a@RR", "host/a @R", "host@a"
     near += "host/\\0@R", "host/a\\0@R"
-    no_parts = entries(Entry(()))
-    typed = entries(Entry(name_type=0), Entry(name_type=2**32 - 1, version8=4, version32=4))
+    no_parts = keytab(Entry(()))
+    typed = keytab(Entry(name_type=0), Entry(name_type=2**32 - 1, version8=4, version32=4))
     return [
         *(find(f"no name {text!r}", TWO, f"0 0 {text}", NOT_FOUND) for text in near),
         find("no components are not one empty one", no_parts, "0 0 @R", NOT_FOUND),
@@ -178,8 +178,8 @@ def layouts() -> list[Case]:
     host, b = record(HOST.spelled()), record(B.spelled())
     hidden = keytab(hole(B.spelled()), host, hole(bytes(3)), b)
     ended = keytab(host, END, b)
-    little = entries(HOST, B, version=1, order=LITTLE)
-    big = entries(HOST, B, version=1, order=BIG)
+    little = keytab(HOST, B, version=1, order=LITTLE)
+    big = keytab(HOST, B, version=1, order=BIG)
     option = ("--v1-big",)
     # In version 1 host/a@R has 43 bytes, for it has no name type.
     there = shown(49, 3, 17, "b@R")
@@ -222,7 +222,7 @@ def refused() -> list[Case]:
 
 def check_printed_names(report: Report, program: str) -> None:
     """The name that a listing prints finds the entry of its line."""
-    with folder_of({"k": entries(*NAMED)}) as folder:
+    with folder_of({"k": keytab(*NAMED)}) as folder:
         lines = run(program, ["klist", "-k", "k"], folder).out.split(b"\n")[3:-1]
         told = [] if len(lines) == len(NAMED) else [f"{len(lines)} lines of {len(NAMED)} names"]
         report.check("finding: a line for each name", told)

@@ -6,7 +6,7 @@ from __future__ import annotations
 
 from keytabs.edits import text
 from keytabs.file_names import LIMIT, sized
-from makers.images import HOST, Entry, entries, hole, keytab, record
+from makers.images import HOST, Entry, hole, keytab, record
 from models.check_model import mode_of_files
 from runs.harness import Case, Outcome, message
 
@@ -62,7 +62,7 @@ def listings() -> list[Case]:
     return [
         of("the most entries", filled(least()), b"   0 @\n" * LEAST_COUNT),
         of("the most holes", keytab(hole(b"x") * ((LIMIT - 2) // 5)), b""),
-        of("one entry of 65,535 components", filled(entries(many_components())),
+        of("one entry of 65,535 components", filled(keytab(many_components())),
            b"   3 " + quoted + b"@R\n"),
         of("the longest keys", filled(keys), line * 255, "-kK"),
     ]
@@ -83,7 +83,7 @@ def json() -> list[Case]:
 
     return [
         of("the most entries", filled(least()), least_entries),
-        of("one entry of 65,535 components", filled(entries(many_components())), long_entry),
+        of("one entry of 65,535 components", filled(keytab(many_components())), long_entry),
         Case("JSON, a file that is too large", ("klist", "-k", "--json", "k"), TOO_LARGE,
              {"k": sized(LIMIT + 1)}),
     ]
@@ -98,7 +98,7 @@ def checks() -> list[Case]:
                     for at in range(1, LEAST_COUNT))
     rest = LIMIT - 2 - size * LEAST_COUNT - 4
     quoted = b"/".join([b"\\/" * 253] * MANY)
-    long_rest = LIMIT - len(entries(many_components())) - 4
+    long_rest = LIMIT - len(keytab(many_components())) - 4
     holes = (LIMIT - 2) // 5
 
     def of(name: str, image: bytes, lines: bytes, status: int = 1) -> Case:
@@ -110,7 +110,7 @@ def checks() -> list[Case]:
            + b"entries %d free %d holes 1\n" % (LEAST_COUNT, rest)),
         of("the most holes", keytab(hole(b"x") * holes),
            b"entries 0 free %d holes %d\n" % (holes, holes), 1 if mode & 0o6 else 0),
-        of("one entry of 65,535 components", filled(entries(many_components())),
+        of("one entry of 65,535 components", filled(keytab(many_components())),
            b"hidden 2 kvno 3 etype 17 " + quoted
            + b"@R\nentries 1 free %d holes 1\n" % long_rest),
         Case("ktcheck, a file that is too large", ("ktcheck", "k"), TOO_LARGE,
@@ -144,7 +144,7 @@ def finds() -> list[Case]:
     image = keytab(LEAST_RECORD * (LEAST_COUNT - 2), record(HOST.spelled()))
     place = 2 + len(LEAST_RECORD) * (LEAST_COUNT - 2)
     long = "x" * LONGEST
-    named = entries(Entry((long.encode(),)))
+    named = keytab(Entry((long.encode(),)))
     host = b"found %d kvno 3 etype 17 host/a@R\n" % place
     found = f"found 2 kvno 3 etype 17 {long}@R\n".encode()
 
@@ -185,7 +185,7 @@ def edits() -> list[Case]:
     holes = keytab(hole(b"x") * ((LIMIT - 2) // 5))
     component = "x" * 253
     long_name = f"add 3 17 1700000000 {HOST.key.hex()} {'/'.join([component] * 65_534)}@R\n"
-    long_entry = entries(Entry((component.encode(),) * 65_534))
+    long_entry = keytab(Entry((component.encode(),) * 65_534))
     return [
         of_script("the most entries", most, script, Outcome(1, text(walked)), most[:-size]),
         of_script("one of the most entries goes", most, f"cut {last}".encode(),

@@ -4,8 +4,8 @@ from __future__ import annotations
 import json
 from dataclasses import replace
 
-from makers.cache_images import U, Name, cache, config, credentials
-from makers.images import BIG, HOST, LITTLE, TWO, Entry, entries, keytab, record
+from makers.cache_images import U, Name, cache, config
+from makers.images import BIG, HOST, LITTLE, TWO, Entry, keytab, record
 from makers.usual_caches import PA_TYPE, TICKET, USUAL, VERSION_3
 from runs.harness import Case, Outcome, Report, check_case, message, run_case
 
@@ -63,11 +63,11 @@ def keytabs() -> list[Case]:
         keytab_case("two entries, -t -e", TWO, two, ("-kte",)),
         keytab_case("two entries, -K", TWO, with_keys, ("-K", "-k")),
         keytab_case("no entry", keytab(), keytab_text()),
-        keytab_case("the greatest numbers", entries(wide), keytab_text(wide_text + b"}")),
-        keytab_case("an empty key", entries(wide), keytab_text(wide_text + b',"key_hex":""}'),
+        keytab_case("the greatest numbers", keytab(wide), keytab_text(wide_text + b"}")),
+        keytab_case("an empty key", keytab(wide), keytab_text(wide_text + b',"key_hex":""}'),
                     ("-kK",)),
-        keytab_case("version 1", entries(HOST, version=1, order=LITTLE), host),
-        keytab_case("version 1, big-endian", entries(HOST, version=1, order=BIG), host,
+        keytab_case("version 1", keytab(HOST, version=1, order=LITTLE), host),
+        keytab_case("version 1, big-endian", keytab(HOST, version=1, order=BIG), host,
                     ("-k", "--v1-big")),
         keytab_case("a bad entry", bad,
                     keytab_text(HOST_FRONT + b"}", fault=b'{"kind":3,"place":53}'), status=1),
@@ -92,8 +92,8 @@ def caches() -> list[Case]:
         cache_case("the usual cache, all columns", USUAL, usual, ("-c", "-efC")),
         cache_case("version 3", VERSION_3, cache_text(old, version=3)),
         cache_case("no credential", cache(), cache_text()),
-        cache_case("an entry of no principal", credentials(bare), cache_text(b"", bare_text)),
-        cache_case("a ticket of a user's own key", credentials(skey), cache_text(skey_text)),
+        cache_case("an entry of no principal", cache(bare), cache_text(b"", bare_text)),
+        cache_case("a ticket of a user's own key", cache(skey), cache_text(skey_text)),
         cache_case("a cut ticket", USUAL[:-1],
                    cache_text(TICKET_TEXT, PA_TYPE_TEXT, fault=b'{"kind":4,"place":284}'),
                    status=1),
@@ -105,7 +105,7 @@ def strings() -> list[Case]:
 
     def of_value(name: str, value: bytes, wanted: bytes) -> Case:
         member = b'{"place":22,"key":"k","principal":null,' + wanted + b"}"
-        return cache_case(name, credentials(config(b"k", value)), cache_text(b"", member))
+        return cache_case(name, cache(config(b"k", value)), cache_text(b"", member))
 
     low = "".join({8: r"\b", 9: r"\t", 10: r"\n", 12: r"\f", 13: r"\r"}.get(byte, rf"\u{byte:04x}")
                   for byte in range(32))
@@ -126,7 +126,7 @@ def strings() -> list[Case]:
         cache_case("a quoted name", cache(default=names), cache_text(default=default)),
         cache_case("a name that is no UTF-8", cache(default=replace(U, realm=b"\xfe")),
                    cache_text(default=b'"default_principal_hex":"7540fe"')),
-        cache_case("a key and a principal that are no UTF-8", credentials(wrong),
+        cache_case("a key and a principal that are no UTF-8", cache(wrong),
                    cache_text(b"", wrong_text)),
     ]
 
@@ -148,7 +148,7 @@ def refused() -> list[Case]:
 def check_pieces(report: Report, program: str) -> None:
     """Many entries are printed in writes of some 32 KiB, and are one object."""
     count = 3_000
-    image = entries(*(Entry((b"svc", b"%d" % number)) for number in range(count)))
+    image = keytab(*(Entry((b"svc", b"%d" % number)) for number in range(count)))
     got, _ = run_case(program, Case("", ("klist", "--json", "-k", "k"), Outcome(0), {"k": image}))
     names = [entry["principal"] for entry in json.loads(got.out)["entries"]]
     wanted = [f"svc/{number}@R" for number in range(count)]

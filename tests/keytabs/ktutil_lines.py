@@ -4,7 +4,7 @@ from __future__ import annotations
 from keytabs.edits import C, DAMAGED, text
 from keytabs.file_names import LIMIT, sized
 from keytabs.listings import B_RECORD, HOST_RECORD
-from makers.images import B, BIG, END, HOST, LITTLE, TWO, Entry, entries, hole, keytab, record
+from makers.images import B, BIG, END, HOST, LITTLE, TWO, Entry, hole, keytab, record
 from runs.harness import Case, Outcome, Report, check_case, faults_by_clock, message
 
 KEY = "000102030405060708090a0b0c0d0e0f"
@@ -48,18 +48,18 @@ def new_entries(now: int) -> list[Case]:
         lines("an entry is added, listed and written",
               [ADDENT, KEY, "l -e", "wkt k", "delent 2", "q"],
               [*HEADING, "   1    3 host/a@R (aes128-cts-hmac-sha1-96)"],
-              ("line 5: fault 7",), after={"k": entries(host)}),
+              ("line 5: fault 7",), after={"k": keytab(host)}),
         lines("options in another order",
               ["add_entry -e 17 -k 3 -p b@R -key", " \t" + B.key.hex().upper() + "\t ", "wkt k"],
-              [], after={"k": entries(b)}),
+              [], after={"k": keytab(b)}),
         lines("a quoted blank stays in a word",
               ["addent -key -p a\\ b\\\t@R -k 0 -e 1", "ab", "wkt k"], [],
-              after={"k": entries(odd)}),
+              after={"k": keytab(odd)}),
         lines("a word after an option is its value, whatever it is",
               ["addent -key -p -k@R -k 3 -e 17", KEY, "wkt k"], [],
-              after={"k": entries(Entry((b"-k",), timestamp=now))}),
+              after={"k": keytab(Entry((b"-k",), timestamp=now))}),
         lines("the key's line needs no end", (f"{ADDENT}\n{KEY}\nwkt k\nwkt j").encode(), [],
-              after={"k": entries(host), "j": entries(host)}),
+              after={"k": keytab(host), "j": keytab(host)}),
         lines("a name that is as long as a line may be",
               [f"addent -key -p {'x' * 65_536}@R -k 3 -e 17", KEY, "wkt k"], [],
               ("line 3: refused 2",)),
@@ -76,7 +76,7 @@ def lists() -> list[Case]:
     host_key, b_key = (f" (0x{entry.key.hex()})" for entry in (HOST, B))
     host, b = "   1    3 host/a@R", "   2    3 b@R"
     files = {"k": TWO}
-    wide = entries(*[Entry((b"a",), key=b"", version32=10_000)] * 10_000)
+    wide = keytab(*[Entry((b"a",), key=b"", version32=10_000)] * 10_000)
     numbered = [f"{slot:4} 10000 a@R" for slot in range(1, 10_001)]
     return [
         lines("the empty list", ["l", "list -t"], [*HEADING, *TIMES]),
@@ -181,8 +181,8 @@ def faults() -> list[Case]:
 
 def reads() -> list[Case]:
     """Files that are read, and those that give nothing."""
-    old = entries(HOST, version=1, order=LITTLE)
-    old_big = entries(HOST, version=1, order=BIG)
+    old = keytab(HOST, version=1, order=LITTLE)
+    old_big = keytab(HOST, version=1, order=BIG)
     listed = [*HEADING, "   1    3 host/a@R"]
     mixed = keytab(hole(bytes(5)), HOST_RECORD, END, B_RECORD)
     missing = "n: no such file"
@@ -208,12 +208,12 @@ def reads() -> list[Case]:
 
 def writes() -> list[Case]:
     """Files that are written, and those that are not."""
-    one, two = entries(HOST), {"j": TWO}
-    old = entries(C, version=1, order=LITTLE)
-    old_big = entries(C, version=1, order=BIG)
-    grown = entries(C, HOST, B, version=1, order=LITTLE)
-    grown_big = entries(C, HOST, B, version=1, order=BIG)
-    typed = entries(Entry(name_type=7, version8=3, version32=None))
+    one, two = keytab(HOST), {"j": TWO}
+    old = keytab(C, version=1, order=LITTLE)
+    old_big = keytab(C, version=1, order=BIG)
+    grown = keytab(C, HOST, B, version=1, order=LITTLE)
+    grown_big = keytab(C, HOST, B, version=1, order=BIG)
+    typed = keytab(Entry(name_type=7, version8=3, version32=None))
     holes = keytab(hole(b"\xff" * 60), HOST_RECORD, hole(bytes(41)))
     filled = keytab(record(HOST.spelled() + bytes(13)), HOST_RECORD, B_RECORD)
     full = keytab(record(B.spelled() + bytes(LIMIT - 47)))
@@ -221,17 +221,17 @@ def writes() -> list[Case]:
     return [
         lines("a new file", copy, [], files=two, after={"k": TWO}),
         lines("an old file", copy, [], files={"k": one, **two},
-              after={"k": entries(HOST, HOST, B)}),
+              after={"k": keytab(HOST, HOST, B)}),
         lines("holes that are filled", copy, [], files={"k": holes, **two}, after={"k": filled}),
         lines("the file that was read", ["write_kt k", "rkt k", "wkt k"], [],
-              files={"k": one}, after={"k": entries(HOST, HOST)}),
+              files={"k": one}, after={"k": keytab(HOST, HOST)}),
         lines("the empty list, a new file", ["wkt k"], [], after={"k": keytab()}),
         lines("the empty list, a damaged file", ["wkt k"], [], files={"k": DAMAGED}),
         lines("version 1", copy, [], files={"k": old, "j": TWO}, after={"k": grown}),
         lines("version 1, big-endian", copy, [], files={"k": old_big, "j": TWO},
               after={"k": grown_big}, options=("--v1-big",)),
         lines("types of names are kept", copy, [], files={"j": typed},
-              after={"k": entries(Entry(name_type=7))}),
+              after={"k": keytab(Entry(name_type=7))}),
         lines("a damaged file", copy, [], ("line 2: refused 1",), {"k": DAMAGED, **two}),
         lines("a full file", copy, [], ("line 2: refused 3",), {"k": full, **two}),
         lines("no keytab", copy, [], ("k: not a keytab (2)",), {"k": b"\x05\x03", **two}),

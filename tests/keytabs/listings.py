@@ -1,7 +1,7 @@
 """Listings of small keytabs by `klist -k`. Each wanted text is written by hand from the layout."""
 from __future__ import annotations
 
-from makers.images import B, BIG, END, HOST, LITTLE, TWO, Entry, entries, hole, keytab, record
+from makers.images import B, BIG, END, HOST, LITTLE, TWO, Entry, hole, keytab, record
 from runs.harness import Case, Outcome, Report, check_case, message
 
 HOST_RECORD = record(HOST.spelled())
@@ -34,11 +34,11 @@ def plain() -> list[Case]:
     padded = record(Entry(version32=None).spelled() + bytes(20))
     return [
         case("two entries", TWO, HOST_LINE, B_LINE),
-        case("two entries in the other order", entries(B, HOST), B_LINE, HOST_LINE),
-        case("the same entry twice", entries(B, B), B_LINE, B_LINE),
+        case("two entries in the other order", keytab(B, HOST), B_LINE, HOST_LINE),
+        case("the same entry twice", keytab(B, B), B_LINE, B_LINE),
         case("no entry", keytab()),
-        case("an empty key", entries(Entry(key=b"")), HOST_LINE),
-        case("2000 entries", entries(*many), *(b"%4d svc/%d@R" % (i, i) for i in numbers)),
+        case("an empty key", keytab(Entry(key=b"")), HOST_LINE),
+        case("2000 entries", keytab(*many), *(b"%4d svc/%d@R" % (i, i) for i in numbers)),
         case("zeros after an entry without a 32-bit version", keytab(padded), HOST_LINE),
         case("bytes after the 32-bit version", keytab(record(B.spelled() + b"\xff" * 7)), B_LINE),
     ]
@@ -71,7 +71,7 @@ def names() -> list[Case]:
     """Names with odd bytes and odd counts."""
 
     def of(name: str, components: tuple[bytes, ...], realm: bytes, text: bytes) -> Case:
-        return case(f"name {name}", entries(Entry(components, realm)), b"   3 " + text)
+        return case(f"name {name}", keytab(Entry(components, realm)), b"   3 " + text)
 
     quoted = b"/@\\\n\t\b\0"
     quotes = b"\\/\\@\\\\\\n\\t\\b\\0"
@@ -97,10 +97,10 @@ def large_counts() -> list[Case]:
     long = b"x" * 65_535
     realm = b"r" * 40_000
     return [
-        case("40,000 components", entries(parts), b"   3 " + b"/" * 39_999 + b"@R"),
-        case("a component of 65,535 bytes", entries(Entry((long,))), b"   3 " + long + b"@R"),
-        case("a realm of 40,000 bytes", entries(Entry(realm=realm)), b"   3 host/a@" + realm),
-        case("a key of 40,000 bytes", entries(Entry(key=bytes(40_000))), HOST_LINE),
+        case("40,000 components", keytab(parts), b"   3 " + b"/" * 39_999 + b"@R"),
+        case("a component of 65,535 bytes", keytab(Entry((long,))), b"   3 " + long + b"@R"),
+        case("a realm of 40,000 bytes", keytab(Entry(realm=realm)), b"   3 host/a@" + realm),
+        case("a key of 40,000 bytes", keytab(Entry(key=bytes(40_000))), HOST_LINE),
     ]
 
 
@@ -133,7 +133,7 @@ def bad_entries() -> list[Case]:
         damaged("a bad entry at once", keytab(zeros, B_RECORD), b"fault 3 at 2"),
         damaged("a bad entry after a hole", after_hole, HOST_LINE, b"fault 3 at 67"),
         damaged("a record that ends in its key", keytab(cut_in_key, END), b"fault 3 at 2"),
-        damaged("too many components counted", entries(Entry(count=65_535)), b"fault 3 at 2"),
+        damaged("too many components counted", keytab(Entry(count=65_535)), b"fault 3 at 2"),
     ]
 
 
@@ -160,12 +160,12 @@ def bad_lengths() -> list[Case]:
 def version_one() -> list[Case]:
     """Version 1 in both orders; it is read as little-endian but for `--v1-big`."""
     late = Entry(version8=0, version32=256)
-    little = entries(HOST, late, version=1, order=LITTLE)
-    big = entries(HOST, late, version=1, order=BIG)
+    little = keytab(HOST, late, version=1, order=LITTLE)
+    big = keytab(HOST, late, version=1, order=BIG)
     lines = (HOST_LINE, b" 256 host/a@R")
     option = ("--v1-big",)
     with_hole = keytab(hole(bytes(6), LITTLE), record(B.spelled(1, LITTLE), LITTLE), version=1)
-    no_parts = entries(Entry(components=()), version=1, order=LITTLE)
+    no_parts = keytab(Entry(components=()), version=1, order=LITTLE)
     no_count = keytab(record(bytes(17), LITTLE), version=1)
     return [
         case("version 1, little-endian", little, *lines),

@@ -4,7 +4,7 @@ from __future__ import annotations
 import os
 
 from keytabs import greatest
-from makers.images import BIG, END, HOST, LITTLE, TWO, Entry, entries, hole, keytab, record
+from makers.images import BIG, END, HOST, LITTLE, TWO, Entry, hole, keytab, record
 from runs.harness import Case, Outcome, Report, check_case, folder_of, message, run
 
 NONE = message(1, "k: refused 9")
@@ -16,7 +16,7 @@ FIVE = Entry(version8=5, version32=5)
 B3 = Entry((b"b",))
 
 # host/a@R at 2, 53 and 120, versions 3, 5 and 5 of enctypes 17, 18 and 17; b@R at 171.
-FOUR = entries(HOST, AES256, FIVE, B3)
+FOUR = keytab(HOST, AES256, FIVE, B3)
 
 X = "removed 2 kvno 3 etype 17 host/a@R"
 X18 = "removed 53 kvno 5 etype 18 host/a@R"
@@ -139,8 +139,8 @@ def layouts() -> list[Case]:
     """Holes, ends, and version 1 in both orders. No byte changes but those of the records."""
     tail = keytab(record(HOST.spelled() + b"\xff" * 9), hole(b"junk"), END, b"and more")
     after = keytab(hole(bytes(56)), hole(b"junk"), END, b"and more")
-    little = entries(HOST, B3, version=1, order=LITTLE)
-    big = entries(HOST, B3, version=1, order=BIG)
+    little = keytab(HOST, B3, version=1, order=LITTLE)
+    big = keytab(HOST, B3, version=1, order=BIG)
     # In version 1 host/a@R has 43 bytes, for it has no name type.
     removed = Outcome(0, b"removed 2 kvno 3 etype 17 host/a@R\n")
 

@@ -3,7 +3,7 @@ from __future__ import annotations
 
 from keytabs.edits import ADD_B, ADD_HOST, LINE_FAULTS, edit, faulty_lines, refused, text
 from keytabs.file_names import LIMIT
-from makers.images import B, HOST, TWO, Entry, entries
+from makers.images import B, HOST, TWO, Entry, keytab
 from runs.harness import Case, Report, check_case, message
 
 KEY = "101112131415161718191a1b1c1d1e1f"
@@ -47,22 +47,22 @@ def spellings() -> list[Case]:
     longest = b"x" * 65_535
     return [
         edit("comments, empty lines and no last line end", TWO, b"\n# cut 2\n#\n\n\ncut 53",
-             ["gone 53"], entries(HOST) + b"\xff\xff\xff\xd7" + bytes(41)),
+             ["gone 53"], keytab(HOST) + b"\xff\xff\xff\xd7" + bytes(41)),
         edit("numbers with zeros before them", TWO, ["resume 0000000053", "step 0000000000"],
              ["walk 0 at 53", "walk 0 gave 53 next 98 kvno 3 etype 17 b@R"]),
         edit("the greatest numbers", None, ["add 4294967295 65535 4294967295 - @"], ["placed 2"],
-             entries(Entry((b"",), b"", 1, 2**32 - 1, 255, 65_535, b"", 2**32 - 1))),
+             keytab(Entry((b"",), b"", 1, 2**32 - 1, 255, 65_535, b"", 2**32 - 1))),
         edit("a key in capitals", None, [ADD_HOST.replace("0a0b0c0d0e0f", "0A0b0C0d0E0F")],
-             ["placed 2"], entries(HOST)),
+             ["placed 2"], keytab(HOST)),
         edit("an enctype's name", None, [ADD_B.replace(" 17 ", " aes128-cts-hmac-sha1-96 ")],
-             ["placed 2"], entries(B)),
+             ["placed 2"], keytab(B)),
         edit("a name with spaces and odd bytes", None,
-             f"add 3 17 1700000000 {KEY} ".encode() + name, ["placed 2"], entries(odd)),
+             f"add 3 17 1700000000 {KEY} ".encode() + name, ["placed 2"], keytab(odd)),
         edit("the longest component", None,
              f"add 3 17 1700000000 {KEY} ".encode() + longest + b"@R", ["placed 2"],
-             entries(Entry((longest,), key=B.key))),
+             keytab(Entry((longest,), key=B.key))),
         edit("too long a component", TWO, [f"add 3 17 0 {KEY} {'x' * 65_536}@R", "cut 53"],
-             refused("refused 2", "gone 53"), entries(HOST) + b"\xff\xff\xff\xd7" + bytes(41)),
+             refused("refused 2", "gone 53"), keytab(HOST) + b"\xff\xff\xff\xd7" + bytes(41)),
         edit("too long a key", TWO, [f"add 3 1 0 {'00' * 65_536} host/a@R"], refused("refused 2")),
         edit("too many components", TWO, [f"add 3 1 0 - {'/' * 65_535}@R"], refused("refused 2")),
         edit("the greatest script", TWO, b"start\n#" + b"x" * (LIMIT - 7), ["walk 0 at 2"]),

@@ -111,12 +111,8 @@ def offset(seconds: int, micros: int) -> bytes:
     return header_field(1, b"".join(parts))
 
 
-def cache(*cells: bytes, default: Name = U, fields: bytes = b"", version: int = 4) -> bytes:
-    """A cache of those cells. Version 3 has no header."""
+def cache(*cells: Credential | bytes, default: Name = U, fields: bytes = b"", version: int = 4) -> bytes:
+    """A cache of credentials and of other bytes. Version 3 has no header."""
     header = counted(fields) if version == 4 else b""
-    return bytes([5, version]) + header + default.spelled() + b"".join(cells)
-
-
-def credentials(*those: Credential, version: int = 4, **more) -> bytes:
-    """A cache of those credentials."""
-    return cache(*(one.spelled(version) for one in those), version=version, **more)
+    spelled = (cell.spelled(version) if isinstance(cell, Credential) else cell for cell in cells)
+    return bytes([5, version]) + header + default.spelled() + b"".join(spelled)

@@ -71,19 +71,24 @@ def hole(data: bytes, order: str = BIG) -> bytes:
     return (-len(data)).to_bytes(4, order, signed=True) + data
 
 
-def keytab(*parts: bytes, version: int = 2) -> bytes:
-    """A keytab of those records, holes and other bytes."""
-    return bytes([5, version]) + b"".join(parts)
+def keytab(*parts: Entry | int | bytes, version: int = 2, order: str = BIG) -> bytes:
+    """A keytab of entries, of holes of zeros where a size stands, and of other bytes."""
+
+    def spelled(part: Entry | int | bytes) -> bytes:
+        if isinstance(part, Entry):
+            return record(part.spelled(version, order), order)
+        return hole(bytes(part), order) if isinstance(part, int) else part
+
+    return bytes([5, version]) + b"".join(map(spelled, parts))
 
 
-def entries(*those: Entry, version: int = 2, order: str = BIG) -> bytes:
-    """A keytab with a record for each of those entries."""
-    records = (record(entry.spelled(version, order), order) for entry in those)
-    return keytab(*records, version=version)
+def old(*parts: Entry | int | bytes, order: str = LITTLE) -> bytes:
+    """A keytab of version 1."""
+    return keytab(*parts, version=1, order=order)
 
 
 # The keytab of most cases: 98 bytes, with an entry at 2 and one at 53.
-TWO = entries(HOST, B)
+TWO = keytab(HOST, B)
 
 
 def misspelled() -> list[str]:
@@ -102,7 +107,7 @@ def misspelled() -> list[str]:
     )
     pairs = [
         ("two entries", TWO, two),
-        ("version 1", entries(HOST, version=1, order=LITTLE), version_one),
+        ("version 1", old(HOST), version_one),
         ("a hole", hole(b"abc"), bytes.fromhex("fffffffd 616263")),
         ("a hole in version 1", hole(b"abc", LITTLE), bytes.fromhex("fdffffff 616263")),
     ]

@@ -2,7 +2,7 @@
 from __future__ import annotations
 
 from keytabs.columns import NAMES
-from makers.images import HOST, TWO, Entry, entries
+from makers.images import HOST, TWO, Entry, keytab
 from makers.sample_keytabs import key
 from models.script_model import KEY_SIZES
 from peers import beside_mit
@@ -30,7 +30,7 @@ def mit_keytabs(report: Report) -> list[bytes]:
     """Keytabs that MIT's ktutil writes."""
     if not beside_mit.are_there(report, "damaged keytabs of MIT's ktutil"):
         return []
-    old = entries(HOST, Entry((b"b",), version32=None))
+    old = keytab(HOST, Entry((b"b",), version32=None))
     with folder_of({"two": TWO, "old": old}) as folder:
         Mit(folder).ktutil(*requests())
         return [data for data in files_in(folder).values() if data.startswith(b"\x05")]

@@ -4,7 +4,7 @@ from __future__ import annotations
 from dataclasses import replace
 from hashlib import sha256
 
-from makers.cache_images import Credential, Name, cache, config, credentials, header_field, offset
+from makers.cache_images import Credential, Name, cache, config, header_field, offset
 from makers.usual_caches import PA_TYPE, TICKET, USUAL, VERSION_3
 
 REALM = b"EXAMPLE.COM"
@@ -50,12 +50,12 @@ def of_kinit() -> list[bytes]:
     renewable = replace(TGT, flags=TGT.flags | RENEWABLE, renew_till=1_795_935_770)
     to_user = replace(HOST, is_skey=1, second_ticket=ciphered(391))
     return [
-        credentials(TGT, **header),
-        credentials(*settings(), TGT, **header),
-        credentials(forwardable, **header),
-        credentials(renewable, settings()[1], HOST, **header),
-        credentials(TGT, HOST, to_user, **header),
-        credentials(replace(HOST, authdata=((1, ciphered(60)), (512, b""))), **header),
+        cache(TGT, **header),
+        cache(*settings(), TGT, **header),
+        cache(forwardable, **header),
+        cache(renewable, settings()[1], HOST, **header),
+        cache(TGT, HOST, to_user, **header),
+        cache(replace(HOST, authdata=((1, ciphered(60)), (512, b""))), **header),
         cache(default=USER, fields=offset(0, 0)),
     ]
 
@@ -65,7 +65,7 @@ def of_version_3() -> list[bytes]:
     two_etypes = replace(HOST, second_enctype=23)
     return [
         VERSION_3,
-        credentials(TGT, HOST, two_etypes, settings()[1], default=USER, version=3),
+        cache(TGT, HOST, two_etypes, settings()[1], default=USER, version=3),
         cache(default=USER, version=3),
     ]
 
@@ -77,9 +77,9 @@ def odd() -> list[bytes]:
     removed = (TGT.removed(), HOST, settings()[0].removed())
     return [
         USUAL,
-        credentials(TICKET, PA_TYPE),
-        credentials(*removed, default=USER, fields=two_offsets),
-        credentials(replace(TICKET, server=name), default=name, fields=header_field(9, b"\xab")),
+        cache(TICKET, PA_TYPE),
+        cache(*removed, default=USER, fields=two_offsets),
+        cache(replace(TICKET, server=name), default=name, fields=header_field(9, b"\xab")),
         cache(default=Name((), b"", 0)),
     ]
 
@@ -88,7 +88,7 @@ def large() -> bytes:
     """Some 50 kB: its listing takes more than one write."""
     those = (replace(HOST, server=Name((b"host", b"n%d" % at), REALM), ticket=ciphered(20))
              for at in range(300))
-    return credentials(*those, default=USER, fields=offset(0, 0))
+    return cache(*those, default=USER, fields=offset(0, 0))
 
 
 def caches() -> list[bytes]:

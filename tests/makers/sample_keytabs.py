@@ -1,7 +1,7 @@
 """Keytabs as programs leave them, written out here: those of MIT, Heimdal, Java and older ones."""
 from __future__ import annotations
 
-from makers.images import B, BIG, END, HOST, LITTLE, TWO, Entry, entries, hole, keytab, record
+from makers.images import B, BIG, END, HOST, LITTLE, TWO, Entry, hole, keytab, old, record
 from models.script_model import KEY_SIZES
 
 REALM = b"EXAMPLE.COM"
@@ -26,16 +26,15 @@ def of_kadmin() -> list[bytes]:
     """After ktadd, after ktremove, and after a smaller entry came into a hole."""
     host = (b"host", b"a.example.com")
     rotated = [one for kvno in (2, 3, 300) for one in of_etypes(host, kvno, 18, 17)]
-    spelled = [entry.spelled() for entry in rotated]
-    holes = [hole(bytes(len(data))) for data in spelled[:4]]
+    holes = [len(entry.spelled()) for entry in rotated[:4]]
     small = of_etypes((b"b",), 2, 17)[0].spelled()
-    reused = record(small.ljust(len(spelled[0]), b"\0"))
+    reused = record(small.ljust(holes[0], b"\0"))
     return [
-        entries(*of_etypes(host, 2, *KEY_SIZES)),
-        entries(*rotated),
-        keytab(*holes, *map(record, spelled[4:])),
-        keytab(reused, *holes[1:], *map(record, spelled[4:])),
-        keytab(*map(record, spelled[:2]), hole(b"junk" * 9), record(spelled[5])),
+        keytab(*of_etypes(host, 2, *KEY_SIZES)),
+        keytab(*rotated),
+        keytab(*holes, *rotated[4:]),
+        keytab(reused, *holes[1:], *rotated[4:]),
+        keytab(*rotated[:2], hole(b"junk" * 9), rotated[5]),
     ]
 
 
@@ -43,14 +42,14 @@ def of_others() -> list[bytes]:
     """Heimdal's flags after an entry, entries without a wide version, and many versions of Java's.
     """
     flagged = [record(entry.spelled() + bytes(4)) for entry in (HOST, B, USER)]
-    old = [Entry(version32=None), Entry((b"b",), version32=None, key=B.key)]
+    narrow = [Entry(version32=None), Entry((b"b",), version32=None, key=B.key)]
     java = [one for kvno in (3, 4, 44) for one in of_etypes((b"user",), kvno, 18, 17, 20, 19, 16)]
     return [
         keytab(*flagged),
-        entries(*old),
-        entries(*old, USER),
-        keytab(record(HOST.spelled() + bytes(4)), record(old[0].spelled()), record(B.spelled())),
-        entries(*java),
+        keytab(*narrow),
+        keytab(*narrow, USER),
+        keytab(flagged[0], narrow[0], B),
+        keytab(*java),
     ]
 
 
@@ -58,10 +57,8 @@ def of_version_1() -> list[bytes]:
     """Version 1 in both orders, with a hole and with bytes after an entry."""
     found = []
     for order in (LITTLE, BIG):
-        host, b = (entry.spelled(1, order) for entry in (HOST, B))
-        found.append(entries(HOST, B, USER, version=1, order=order))
-        parts = record(host + bytes(4), order), hole(bytes(57), order), record(b, order)
-        found.append(keytab(*parts, version=1))
+        flagged = record(HOST.spelled(1, order) + bytes(4), order)
+        found += [old(HOST, B, USER, order=order), old(flagged, 57, B, order=order)]
     return found
 
 
@@ -72,19 +69,19 @@ def odd() -> list[bytes]:
     return [
         keytab(),
         TWO,
-        keytab(record(HOST.spelled()), END, b"\xff" * 50),
-        keytab(record(HOST.spelled()), END),
-        entries(*quoted),
-        keytab(hole(bytes(60)), record(HOST.spelled()), hole(bytes(41)), record(B.spelled())),
-        keytab(hole(bytes(3)), hole(bytes(5))),
-        entries(Entry((), b"", 0, 0, 0, 0, b"", None)),
+        keytab(HOST, END, b"\xff" * 50),
+        keytab(HOST, END),
+        keytab(*quoted),
+        keytab(60, HOST, 41, B),
+        keytab(3, 5),
+        keytab(Entry((), b"", 0, 0, 0, 0, b"", None)),
     ]
 
 
 def large() -> bytes:
     """Some 40 kB: its listing takes more than one write."""
-    return entries(*(Entry((b"host", b"n%d" % at), REALM, version8=at % 256, version32=at)
-                     for at in range(600)))
+    return keytab(*(Entry((b"host", b"n%d" % at), REALM, version8=at % 256, version32=at)
+                    for at in range(600)))
 
 
 def keytabs() -> list[bytes]:

@@ -5,8 +5,8 @@ import os
 from contextlib import contextmanager
 from dataclasses import replace
 
-from makers.cache_images import Name, credentials
-from makers.images import B, HOST, LITTLE, TWO, Entry, entries, hole, keytab, record
+from makers.cache_images import Name, cache
+from makers.images import B, HOST, TWO, Entry, keytab, old
 from makers.usual_caches import PA_TYPE, TICKET
 from runs.harness import folder_of
 
@@ -15,21 +15,16 @@ CUT = (47).to_bytes(4, "big") + HOST.spelled()[:20]
 
 SAMPLES = {
     "host.keytab": TWO,
-    "other.keytab": entries(
-        Entry((b"nfs", b"a"), version8=5, enctype=18, key=bytes(32), version32=5)
-    ),
-    "rotated.keytab": entries(HOST, Entry(version8=5, version32=5), B),
-    "twice.keytab": entries(HOST, HOST),
-    "mixed.keytab": entries(HOST, replace(B, enctype=23)),
-    "damaged.keytab": keytab(record(HOST.spelled()), CUT),
-    "old.keytab": keytab(
-        hole(bytes(41), LITTLE), record(HOST.spelled(1, LITTLE), LITTLE),
-        record(B.spelled(1, LITTLE), LITTLE), version=1,
-    ),
-    "krb5cc_0": credentials(replace(TICKET, renew_till=1_700_604_800), PA_TYPE),
+    "other.keytab": keytab(Entry((b"nfs", b"a"), version8=5, enctype=18, key=bytes(32), version32=5)),
+    "rotated.keytab": keytab(HOST, Entry(version8=5, version32=5), B),
+    "twice.keytab": keytab(HOST, HOST),
+    "mixed.keytab": keytab(HOST, replace(B, enctype=23)),
+    "damaged.keytab": keytab(HOST, CUT),
+    "old.keytab": old(41, HOST, B),
+    "krb5cc_0": cache(replace(TICKET, renew_till=1_700_604_800), PA_TYPE),
     # The ticket of host/a@R has expired, the other has not for long.
-    "krb5cc_1": credentials(replace(TICKET, endtime=2**32 - 1),
-                            replace(TICKET, server=Name((b"host", b"a"))), PA_TYPE),
+    "krb5cc_1": cache(replace(TICKET, endtime=2**32 - 1),
+                      replace(TICKET, server=Name((b"host", b"a"))), PA_TYPE),
 }
 
 

@@ -3,16 +3,7 @@ from __future__ import annotations
 
 from dataclasses import replace
 
-from makers.cache_images import (
-    CONFIG_FIRST,
-    CONFIG_REALM,
-    Credential,
-    Name,
-    config,
-    credentials,
-    header_field,
-    offset,
-)
+from makers.cache_images import CONFIG_FIRST, CONFIG_REALM, Credential, Name, cache, config, header_field, offset
 
 # The fields of its header: one of an unknown tag, and the offset, which alone a rewrite keeps.
 OFFSET = offset(5, -10)
@@ -22,10 +13,10 @@ FIELDS = header_field(9, b"\xab\xcd") + OFFSET
 # a ticket that was removed.
 TICKET = Credential()
 PA_TYPE = config(b"pa_type", b"2", b"krbtgt/R@R")
-USUAL = credentials(TICKET, PA_TYPE, TICKET.removed(), fields=FIELDS)
+USUAL = cache(TICKET, PA_TYPE, TICKET.removed(), fields=FIELDS)
 
 # A cache of version 3 whose ticket stands at 20: its two enctypes are not the same.
-VERSION_3 = credentials(replace(TICKET, second_enctype=23), version=3)
+VERSION_3 = cache(replace(TICKET, second_enctype=23), version=3)
 
 
 def config_ticket(*after: bytes, first: bytes = CONFIG_FIRST, realm: bytes = CONFIG_REALM,

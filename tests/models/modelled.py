@@ -5,8 +5,8 @@ from collections.abc import Iterator
 from dataclasses import dataclass, replace
 
 from keytabs.edits import DAMAGED
-from makers.cache_images import Name, config, credentials, header_field
-from makers.images import END, LITTLE, Entry, entries, hole, keytab, record
+from makers.cache_images import Name, cache, config, header_field
+from makers.images import END, LITTLE, Entry, hole, keytab, record
 from makers.usual_caches import PA_TYPE, TICKET, USUAL, VERSION_3
 from models import cache_reading
 from models import check_model
@@ -177,9 +177,9 @@ def mixed_keytab(count: int) -> bytes:
 
 def rotated_keytab(count: int) -> bytes:
     """A keytab of many names, each with two versions of two enctypes."""
-    return entries(*(Entry((b"x" * (number % 30), b"%d" % number), version8=kvno, version32=kvno,
-                           enctype=enctype)
-                     for kvno in (1, 2) for number in range(count) for enctype in (17, 18)))
+    return keytab(*(Entry((b"x" * (number % 30), b"%d" % number), version8=kvno, version32=kvno,
+                          enctype=enctype)
+                    for kvno in (1, 2) for number in range(count) for enctype in (17, 18)))
 
 
 def mixed_script(image: bytes, count: int) -> bytes:
@@ -202,7 +202,7 @@ def mixed_cache(count: int) -> bytes:
         ticket = replace(TICKET, server=Name((b"x" * (number % 90), b"%d" % number)),
                          enctype=number % 30, renew_till=number % 3, endtime=NOW + number % 3 - 1)
         parts += [ticket, config(b"key%d" % number, bytes(range(number % 256))), ticket.removed()]
-    return credentials(*parts, PA_TYPE, fields=header_field(9, b"xyz"))
+    return cache(*parts, PA_TYPE, fields=header_field(9, b"xyz"))
 
 
 def mixed_cache_script(image: bytes, count: int) -> bytes:
@@ -229,7 +229,7 @@ def talk(list_columns: str = "-t -k -e") -> list[str]:
 
 def talk_files(count: int) -> dict[str, bytes]:
     """The files of those lines: `b` has an end mark, `d` is damaged, `n` is not there."""
-    marked = entries(Entry((b"m",)), Entry((b"n",)), version=1, order=LITTLE) + END + b"xyz"
+    marked = keytab(Entry((b"m",)), Entry((b"n",)), version=1, order=LITTLE) + END + b"xyz"
     return {"a": mixed_keytab(count), "b": marked, "d": DAMAGED}
 
 

@@ -12,7 +12,7 @@ import time
 from keytabs.columns import NAMES
 from keytabs.edits import ADD_B, ADD_C, ADD_HOST, text
 from keytabs.listings import B_RECORD, HOST_RECORD
-from makers.images import HOST, LITTLE, TWO, Entry, entries, hole, keytab
+from makers.images import HOST, LITTLE, TWO, Entry, hole, keytab
 from models.keytab_model import Keytab
 from models.reading import KeytabEntry
 from models.script_model import KEY_SIZES, edited
@@ -30,7 +30,7 @@ EACH_ETYPE = [
     for number, size in KEY_SIZES.items()
 ]
 HOLES = keytab(hole(bytes(60)), HOST_RECORD, hole(bytes(41)), B_RECORD)
-OLD = entries(HOST, Entry((b"a",), b"R", version32=None), version=1, order=LITTLE)
+OLD = keytab(HOST, Entry((b"a",), b"R", version32=None), version=1, order=LITTLE)
 
 # Scripts over a keytab, or over none.
 SCRIPTS: list[tuple[str, bytes | None, list[str]]] = [

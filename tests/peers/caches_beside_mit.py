@@ -17,9 +17,9 @@ from random import Random
 
 from caches.cache_listings import HOST_LINE, of_host
 from chance.random_caches import random_credential, random_name
-from makers.cache_images import config, credentials, offset
+from makers.cache_images import cache, config, offset
 from makers.cache_peers import told_by_mit, told_by_us
-from makers.images import Entry, entries
+from makers.images import Entry, keytab
 from makers.usual_caches import PA_TYPE, TICKET
 from models.cache_reading import listed
 from models.reading import read_image
@@ -137,8 +137,8 @@ class Realm:
         with open(os.path.join(self.folder, "stash"), "rb") as file:
             (_, master), = read_image(file.read(), False)[0]
         names = (tuple(part.encode() for part in name.split("/")) for name in ("user", "svc/h"))
-        return entries(*(Entry(name, REALM, enctype=master.enctype, key=master.key, version8=1,
-                               version32=1) for name in names))
+        return keytab(*(Entry(name, REALM, enctype=master.enctype, key=master.key, version8=1,
+                              version32=1) for name in names))
 
     def klist(self, folder: str, *options: str) -> bytes:
         """What MIT's klist prints of the cache `c`."""
@@ -224,7 +224,7 @@ def random_sound(random: Random) -> bytes:
     names = (random_name(random, False) for _ in range(random.randrange(8)))
     those = [replace(random_credential(random), client=default, server=name) for name in names]
     version = random.choice([3, 4])
-    return credentials(*those, default=default, fields=offset(5, -10), version=version)
+    return cache(*those, default=default, fields=offset(5, -10), version=version)
 
 
 def check_random(report: Report, program: str, realm_of: Realm) -> None:
@@ -241,7 +241,7 @@ def check_random(report: Report, program: str, realm_of: Realm) -> None:
 
 def check_removed(report: Report, program: str, realm_of: Realm) -> None:
     """What MIT's library has removed is not listed; what it has left is."""
-    image = credentials(TICKET, of_host(), PA_TYPE, config(b"k", b"v"), config(b"l", b"w"))
+    image = cache(TICKET, of_host(), PA_TYPE, config(b"k", b"v"), config(b"l", b"w"))
     with folder_of({"c": image}) as folder:
         realm_of.call(sys.executable, REMOVER, "c", folder=folder)
         found = differences_of(program, realm_of, folder, "-f", "-C")

@@ -4,7 +4,7 @@ from __future__ import annotations
 import sys
 
 from keytabs.checks import EVEN, ODD
-from makers.images import BIG, LITTLE, Entry, entries
+from makers.images import BIG, LITTLE, Entry, keytab
 from models.keytab_model import Keytab
 from peers.beside_mit import Mit, are_there
 from runs.harness import Report, folder_of, run
@@ -42,6 +42,6 @@ def check(report: Report, program: str) -> None:
         return
     for version, order in KINDS:
         for name, entry in {**ODD, **EVEN}.items():
-            image = entries(FIRST, entry, LAST, version=version, order=order)
+            image = keytab(FIRST, entry, LAST, version=version, order=order)
             report.check(f"MIT's klist and ktcheck: {name}, version {version}",
                          faults_of(program, image, name in ODD))

@@ -5,7 +5,7 @@ import os
 from dataclasses import replace
 
 from keytabs.edits import text
-from makers.images import HOST, Entry, entries, keytab
+from makers.images import HOST, Entry, keytab
 from models.keytab_model import Keytab
 from models.reading import KeytabEntry
 from peers.beside_mit import HOLES, Mit, are_there
@@ -27,7 +27,7 @@ def check_same_lines(report: Report, program: str) -> None:
     key = bytes(range(32)).hex()
     addent = f"addent -key -p host/z@R -k 300 -e aes256-cts-hmac-sha1-96\n{key}"
     given = ["rkt j", "rkt k", "delent 1", addent, "wkt n", "wkt k", "clear", "wkt n"]
-    files = {"j": entries(HOST, Entry((b"a", b"b"), version32=None)), "k": HOLES}
+    files = {"j": keytab(HOST, Entry((b"a", b"b"), version32=None)), "k": HOLES}
     kept = {}
     with folder_of(files) as folder:
         Mit(folder).ktutil(*given)

@@ -4,7 +4,7 @@ from __future__ import annotations
 import os
 from random import Random
 
-from makers.images import Entry, entries
+from makers.images import Entry, keytab
 from models.removal_model import OLD, Asked, removal
 from peers.caches_beside_mit import Failed, Realm, are_there
 from runs.harness import Report, differences, folder_of, run
@@ -40,7 +40,7 @@ def removed_by_mit(realm: Realm, name: bytes, image: bytes) -> bytes:
 def faults_of(program: str, realm: Realm, random: Random) -> list[str]:
     """What is otherwise than MIT's and the model's in a removal from a random keytab."""
     those = [random_entry(random) for _ in range(random.randrange(1, 9))]
-    image, name = entries(*those), b"/".join(random.choice(those).components) + b"@R"
+    image, name = keytab(*those), b"/".join(random.choice(those).components) + b"@R"
     wanted, after = removal(image, False, Asked(name, OLD))
     theirs = removed_by_mit(realm, name, image)
     with folder_of({"k": image}) as folder:

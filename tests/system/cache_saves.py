@@ -8,7 +8,7 @@ import time
 from collections.abc import Callable
 from dataclasses import dataclass
 
-from makers.cache_images import credentials
+from makers.cache_images import cache
 from makers.usual_caches import FIELDS, OFFSET, PA_TYPE, TICKET, USUAL
 from runs.harness import Outcome, Report, differences, folder_of, message, run
 from system.disk_saves import (
@@ -51,9 +51,9 @@ class Change:
 # Runs that change the cache.
 CHANGES = (
     Change(("ccedit",), Outcome(0, b"gone 40\n"),
-           credentials(TICKET.removed(), PA_TYPE, TICKET.removed(), fields=FIELDS), b"cut 40\n"),
+           cache(TICKET.removed(), PA_TYPE, TICKET.removed(), fields=FIELDS), b"cut 40\n"),
     Change(("ccremove", "-p", "krbtgt/R@R"), Outcome(0, b"removed 40 krbtgt/R@R\n"),
-           credentials(PA_TYPE, fields=OFFSET)),
+           cache(PA_TYPE, fields=OFFSET)),
 )
 
 # Runs that take no hold, and those that take one and then have nothing to save.

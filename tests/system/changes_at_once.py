@@ -14,7 +14,7 @@ from collections.abc import Callable
 from dataclasses import dataclass
 from random import Random
 
-from makers.images import Entry, entries
+from makers.images import Entry, keytab
 from peers.beside_mit import Mit, are_there
 from runs.harness import SECONDS, Report, folder_of, run
 from runs.storms import Storms
@@ -96,7 +96,7 @@ class Storm:
             if is_mits:
                 source = os.path.join(sources, name)
                 with open(source, "wb") as file:
-                    file.write(entries(Entry((name.encode(),))))
+                    file.write(keytab(Entry((name.encode(),))))
                 text = f"rkt {source}\nwkt k\n"
             line = ["ktutil"] if is_mits else [self.program, *words]
             line = [*WAITS, *line] if removes(command) else line

@@ -5,7 +5,7 @@ from dataclasses import replace
 
 from keytabs.edits import text
 from keytabs.ktutil_lines import ADDENT, KEY, TIMES
-from makers.cache_images import credentials, offset
+from makers.cache_images import cache, offset
 from makers.usual_caches import TICKET, USUAL
 from runs.harness import Outcome, Report, differences, message
 from runs.preload import Line, Preloaded, preloaded
@@ -43,12 +43,12 @@ def check_expired(report: Report, under: Preloaded) -> None:
     line = Line(("ccremove", "--expired", "c"))
     for fields in (b"", offset(1_000_000_000, 0), offset(-1_000_000_000, 0)):
         first = 22 + len(fields)
-        over = under.over({"c": credentials(*tickets, fields=fields)})
+        over = under.over({"c": cache(*tickets, fields=fields)})
         for now, count in LEFT:
             lines = [f"removed {first + 108 * number} krbtgt/R@R" for number in range(count)]
             got = over.run(line, CLOCK=now)
             faults = differences(Outcome(0, text(lines)), got.outcome)
-            after = credentials(*tickets[count:], fields=fields)
+            after = cache(*tickets[count:], fields=fields)
             faults += [] if got.files["c"] == after else ["another file"]
             report.check(f"expired at {now}, with the header {fields.hex()}", faults)
 

@@ -7,7 +7,7 @@ from collections.abc import Callable
 from dataclasses import dataclass
 from functools import partial
 
-from makers.images import HOST, entries, keytab
+from makers.images import HOST, keytab
 from models.script_model import edited
 from runs.harness import Outcome, Report, differences, folder_of, message, run
 
@@ -15,7 +15,7 @@ from runs.harness import Outcome, Report, differences, folder_of, message, run
 SCRIPT = b"add 3 17 1700000000 000102030405060708090a0b0c0d0e0f host/a@R\n"
 WALK = b"start\nstep 0\n"
 OLD = keytab()
-NEW = entries(HOST)
+NEW = keytab(HOST)
 SAVED = Outcome(0, b"placed 2\n")
 UNSAVED = message(3, "k: cannot write")
 UNREAD = message(3, "k: cannot read")

@@ -9,7 +9,7 @@ import re
 import signal
 from dataclasses import dataclass
 
-from makers.images import TWO, B, entries
+from makers.images import B, TWO, keytab
 from makers.usual_caches import USUAL
 from models.modelled import (
     Modelled,
@@ -107,7 +107,7 @@ TALKED = [READ, *load("j"), PRINT, *hold("k"), *load("k", 2), *save("k"), *hold(
 def runs() -> list[tuple[Modelled, list[Step]]]:
     """Runs and their steps."""
     add = b"add 3 17 0 000102030405060708090a0b0c0d0e0f host/a@R\n"
-    files = {"j": TWO, "k": entries(B)}
+    files = {"j": TWO, "k": keytab(B)}
     return [
         (klist(TWO, "tKe"), [*load("k"), PRINT]),
         (klist_cache(USUAL, "efC"), [*load("c"), PRINT]),

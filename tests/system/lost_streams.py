@@ -7,8 +7,8 @@ import subprocess
 from caches.cache_listings import CONFIG_LINE, TICKET_LINE
 from keytabs.edits import GAVE_HOST, text
 from keytabs.listings import B_LINE, B_RECORD, HOST_LINE, listed
-from makers.cache_images import credentials
-from makers.images import B, HOST, TWO, entries, hole, keytab
+from makers.cache_images import cache
+from makers.images import B, HOST, TWO, hole, keytab
 from makers.usual_caches import OFFSET, PA_TYPE, USUAL
 from models.cache_reading import listed as cache_listed
 from runs.harness import Case, Outcome, Report, faults_of, folder_of, message, run_case
@@ -17,7 +17,7 @@ NO_OUTPUT = message(3, "cannot write output")
 NO_INPUT = message(3, "cannot read input")
 
 # `no` is missing. A script makes of `k` what stands in `CUT`.
-FILES = {"k": TWO, "j": entries(HOST), "c": USUAL, "damaged": TWO[:-1]}
+FILES = {"k": TWO, "j": keytab(HOST), "c": USUAL, "damaged": TWO[:-1]}
 CUT = {**FILES, "k": keytab(hole(bytes(47)), B_RECORD)}
 
 WALK = b"start\nstep 0\n"
@@ -28,7 +28,7 @@ REMOVE = ("ktremove", "-p", "host/a@R", "k")
 
 # What a removal of tickets, and what a rewrite, makes of the cache, and the replies of the latter.
 REMOVE_TICKET = ("ccremove", "-p", "krbtgt/R@R", "c")
-TICKETLESS = {**FILES, "c": credentials(PA_TYPE, fields=OFFSET)}
+TICKETLESS = {**FILES, "c": cache(PA_TYPE, fields=OFFSET)}
 CUT_TICKET = b"start\ncut 40\nrewrite\n"
 CUT_REPLIES = b"walk 0 at 40\ngone 40\nrewritten 170\n"
 KLIST, CACHE, KTFIND = ("klist", "-k", "k"), ("klist", "-C", "c"), ("ktfind", "k", "0", "0", "b@R")
@@ -76,7 +76,7 @@ WITHOUT_ERROR_OUTPUT = [
     case(("klist", "-k", "no"), Outcome(1)),
     case(("ktedit", "k"), Outcome(1), b"frob\n"),
     case(("ktutil",), Outcome(1), b"frob\nrkt k\nrkt j\nwkt j\n",
-         {**FILES, "j": entries(HOST, HOST, B, HOST)}),
+         {**FILES, "j": keytab(HOST, HOST, B, HOST)}),
     case(("frob",), Outcome(2)),
 ]
 

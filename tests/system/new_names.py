@@ -8,7 +8,7 @@ import os
 from collections.abc import Callable
 from concurrent.futures import ThreadPoolExecutor
 
-from makers.images import B, HOST, entries
+from makers.images import B, HOST, keytab
 from runs.harness import Outcome, Report, differences, folder_of, message, run
 from system.disk_saves import (
     NEW,
@@ -147,14 +147,14 @@ def check_strangers(report: Report, program: str) -> None:
     """A stranger's `k.new` is left as it is."""
     runs = [(("ktedit", "k"), b"cut 2\n"), (("ktutil",), b"rkt k.new\nwkt k\n")]
     makes: list[tuple[str, Make]] = [
-        ("a keytab", lambda path: write(path, entries(B))),
-        ("a keytab that may not be written", lambda path: write(path, entries(B), 0o400)),
+        ("a keytab", lambda path: write(path, keytab(B))),
+        ("a keytab that may not be written", lambda path: write(path, keytab(B), 0o400)),
         ("a link", lambda path: os.symlink("other", path)),
         ("another name", lambda path: os.link(beside(path, "other"), path)),
     ]
     for what, make in makes:
         for words, text in runs:
-            with folder_of({"k": entries(HOST), "other": entries(B)}) as folder:
+            with folder_of({"k": keytab(HOST), "other": keytab(B)}) as folder:
                 make(os.path.join(folder, "k.new"))
                 wanted = stands(folder)
                 got = run(program, words, folder, text)

@@ -11,8 +11,8 @@ from caches.cache_listings import CONFIG_LINE, ETYPE_LINE, FLAGS_LINE, TICKET_LI
 from caches.cache_listings import TIMES as CACHE_TIMES
 from keytabs.ktutil_lines import HEADING, lines
 from keytabs.listings import B_LINE, HOST_LINE, listed
-from makers.cache_images import Name, credentials
-from makers.images import TWO, Entry, entries
+from makers.cache_images import Name, cache
+from makers.images import TWO, Entry, keytab
 from makers.usual_caches import TICKET, USUAL
 from models.cache_reading import listed as cache_listed
 from runs.harness import SECONDS, Case, Outcome, Report, folder_of, message, run
@@ -43,7 +43,7 @@ FAULTY = lines("faults between lists", ["frob", "rkt k", "delent 9", "l", "rkt n
 
 # More than a pipe holds: 300 lines of 1000 bytes.
 LONG_NAME = b"x" * 992
-LONG = Listing(KLIST.words, entries(*[Entry((LONG_NAME,))] * 300),
+LONG = Listing(KLIST.words, keytab(*[Entry((LONG_NAME,))] * 300),
                listed(*[b"   3 " + LONG_NAME + b"@R"] * 300))
 
 # Messages with the words behind them.
@@ -61,7 +61,7 @@ CACHE = Listing(("klist", "-cefC", "c"), USUAL,
 
 LONG_SERVER = b"x" * 955
 LONG_CACHE = Listing(("klist", "c"),
-                     credentials(*[replace(TICKET, server=Name((LONG_SERVER,)))] * 300),
+                     cache(*[replace(TICKET, server=Name((LONG_SERVER,)))] * 300),
                      cache_listed(b"u@R", *[CACHE_TIMES + LONG_SERVER + b"@R"] * 300))
 
 

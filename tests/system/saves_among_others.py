@@ -7,7 +7,7 @@ import threading
 from collections.abc import Callable
 
 from keytabs.edits import ADD_B, text
-from makers.images import B, entries
+from makers.images import B, keytab
 from models.script_model import edited
 from runs.harness import Outcome, Report, differences, folder_of, run
 from runs.preload import Line
@@ -66,7 +66,7 @@ CHANGED: list[tuple[str, bool, Place]] = [
     ("another mode", True, at_name(lambda path: os.chmod(path, 0o640))),
     ("no bytes", True, at_name(lambda path: write(path, b""))),
     ("a byte less", True, at_name(lambda path: write(path, OLD[:-1]))),
-    ("an entry more", True, at_name(lambda path: write(path, entries(B)))),
+    ("an entry more", True, at_name(lambda path: write(path, keytab(B)))),
     ("another group", True, at_name(lambda path: os.chown(path, -1, USER))),
     ("another owner", True, at_name(lambda path: os.chown(path, USER, -1))),
 ]
@@ -141,7 +141,7 @@ def check_led(report: Report, program: str) -> None:
 
 def check_crossed(report: Report, program: str) -> None:
     """A run that is overtaken while it makes its new file, or looks at one that was left."""
-    wanted, image = edited(entries(B), SCRIPT)
+    wanted, image = edited(keytab(B), SCRIPT)
     for call, files in (("making", {}), ("making", {"k.krbfile": b"left"}),
                         ("finding", {"k.krbfile": b"left"})):
         with folder_of({"k": OLD, **files}) as folder:
@@ -167,12 +167,12 @@ def check_crossed_hold(report: Report, program: str) -> None:
             timer.start()
 
         def save() -> None:
-            write(os.path.join(folder, "k"), entries(B))
+            write(os.path.join(folder, "k"), keytab(B))
             os.remove(os.path.join(folder, "k.krbfile"))
             held[0].close()
 
         timer = threading.Timer(0.3, save)
-        wanted, image = edited(entries(B), SCRIPT)
+        wanted, image = edited(keytab(B), SCRIPT)
         faults = differences(wanted, edited_while(program, folder, "finding", hold))
         faults += tree_faults({"k": image}, folder)
         timer.join()

@@ -14,7 +14,7 @@ from contextlib import contextmanager
 from keytabs.conversations import LISTED, Talk, terminal
 from keytabs.edits import text
 from keytabs.ktutil_lines import HEADING, NO_SLOTS
-from makers.images import TWO, B, entries
+from makers.images import B, TWO, keytab
 from models.script_model import edited
 from runs.harness import SECONDS, Outcome, Report, differences, folder_of, message
 from system.disk_saves import NEW, OLD, SAVED, SCRIPT, edit, tree_faults, write
@@ -82,7 +82,7 @@ def check_unread(report: Report, program: str) -> None:
              (2, "ktutil", b"rkt j\nwkt k\n", TWO[:-1])]
     for number, words, text, data in cases:
         stream = {1: "stdout", 2: "stderr"}[number]
-        with full_pipe() as given, folder_of({"j": entries(B), "k": data}) as folder:
+        with full_pipe() as given, folder_of({"j": keytab(B), "k": data}) as folder:
             slow = subprocess.Popen([program, *words.split()], cwd=folder, stdin=subprocess.PIPE,
                                     **{stream: given})
             slow.stdin.write(text)
@@ -91,7 +91,7 @@ def check_unread(report: Report, program: str) -> None:
                 time.sleep(MOMENT)
             write(os.path.join(folder, "k"), OLD)
             faults = differences(SAVED, edit(program, folder))
-            faults += tree_faults({"j": entries(B), "k": NEW}, folder)
+            faults += tree_faults({"j": keytab(B), "k": NEW}, folder)
             faults += [] if slow.poll() is None else ["the first run has ended"]
             slow.kill()
             slow.wait(SECONDS)
@@ -100,8 +100,8 @@ def check_unread(report: Report, program: str) -> None:
 
 def check_idle(report: Report, program: str) -> None:
     """While ktutil waits for its next line, another run changes the file that it wrote."""
-    wanted, image = edited(entries(B), SCRIPT)
-    with folder_of({"j": entries(B), "k": OLD, "x": b"other"}) as folder:
+    wanted, image = edited(keytab(B), SCRIPT)
+    with folder_of({"j": keytab(B), "k": OLD, "x": b"other"}) as folder:
         talk = Talk(program, folder, *os.pipe())
         talk.send(b"rkt j\nwkt k\nwkt x\nl\n")
         talk.hear(text([*HEADING, "   1    3 b@R"]))
@@ -111,7 +111,7 @@ def check_idle(report: Report, program: str) -> None:
         talk.send(b"q\n")
         talk.end(message(1, "x: not a keytab (2)"))
         os.close(talk.input_end)
-        found += tree_faults({"j": entries(B), "k": image, "x": NEW}, folder)
+        found += tree_faults({"j": keytab(B), "k": image, "x": NEW}, folder)
     report.check("a file changes that ktutil wrote", found + talk.found)
 
 

@@ -3,8 +3,8 @@ from __future__ import annotations
 
 from dataclasses import dataclass, replace
 
-from makers.cache_images import Name, cache, credentials
-from makers.images import Entry, entries, keytab
+from makers.cache_images import Name, cache
+from makers.images import Entry, keytab
 from makers.usual_caches import TICKET
 from models.cache_model import Cache
 from models.cache_reading import read_cache
@@ -74,8 +74,8 @@ class Kind:
         components = [(name.encode(),) for name in names]
         if self.is_of_caches:
             tickets = (replace(TICKET, server=Name(name)) for name in components)
-            return credentials(*tickets) if names else cache()
-        return entries(*map(Entry, components)) if names else keytab()
+            return cache(*tickets) if names else cache()
+        return keytab(*map(Entry, components)) if names else keytab()
 
     def names(self, image: bytes) -> list[str] | None:
         """The names that the file has; none where it is not whole."""

@@ -5,7 +5,7 @@ import os
 import subprocess
 import sys
 
-from makers.images import Entry, entries, keytab
+from makers.images import Entry, keytab
 from runs.harness import Report, folder_of, run
 from system.disk_saves import SCRIPT, tree
 
@@ -22,7 +22,7 @@ def check(report: Report, program: str) -> None:
         report.skip("names that are swapped", "none but root has another do it")
         return
     secret = bytes(range(100, 116))
-    image = entries(*[Entry((b"%d" % number,), key=secret) for number in range(2_000)])
+    image = keytab(*[Entry((b"%d" % number,), key=secret) for number in range(2_000)])
     with folder_of({"secret": image}) as safe, folder_of({"k": keytab()}) as folder:
         os.chmod(os.path.join(safe, "secret"), 0o600)
         os.chown(folder, USER, USER)

@@ -7,7 +7,7 @@ from collections.abc import Callable
 from dataclasses import dataclass, field
 
 from keytabs.file_names import LIMIT
-from makers.images import HOST, TWO, Entry, entries, keytab, record
+from makers.images import HOST, TWO, Entry, keytab, record
 from runs.harness import Outcome, Report, folder_of, run
 from runs.terminal import EXPLAIN, run_on_terminal, runs_with_words
 
@@ -108,7 +108,7 @@ def findings() -> list[Told]:
               tail: bytes = b"", fault: tuple[str, ...] = ()) -> Told:
         lines = [f"{word}: {meanings[word]}" for word in words.split()] + [*fault]
         return Told(f"ktcheck: {name}", ("ktcheck", "k"), tuple(("", line) for line in lines),
-                    {"k": entries(*entries_of) + tail}, b"", status,
+                    {"k": keytab(*entries_of) + tail}, b"", status,
                     lambda folder: os.chmod(os.path.join(folder, "k"), mode))
 
     weak = Entry((b"",), enctype=23)

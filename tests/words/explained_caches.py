@@ -4,7 +4,7 @@ from __future__ import annotations
 
 from caches.cache_edits import long_ticket
 from keytabs.file_names import LIMIT
-from makers.cache_images import credentials
+from makers.cache_images import cache
 from makers.usual_caches import USUAL, VERSION_3
 from runs.harness import Report
 from words.explained import Told, check_told, in_the_way
@@ -51,7 +51,7 @@ def refusals() -> list[Told]:
         refused("from a damaged file", CUT, ("--expired",), 1, DAMAGED),
         refused("from version 3", VERSION_3, ("--expired",), 8, READ_ONLY),
         Told("ccremove: nothing to do", ("ccremove", "--expired", "c"), (),
-             {"c": credentials()}, status=0),
+             {"c": cache()}, status=0),
     ]
 
 
@@ -100,7 +100,7 @@ def replies() -> list[Told]:
               ("", "refused 5: no ticket or configuration entry stands at this place"),
               ("", "refused 6: no such walk"))
     fault = ("", "fault 4: no whole credential follows; cut off, or being written")
-    full = credentials(long_ticket(LIMIT - 22))
+    full = cache(long_ticket(LIMIT - 22))
 
     def of(name: str, said: tuple[tuple[str, str], ...], image: bytes, script: bytes) -> Told:
         return Told(f"replies of ccedit: {name}", ("ccedit", "c"), said, {"c": image}, script)
