@@ -1,4 +1,4 @@
-"""The topics of the tests: modules in the folders beside this file that have a certain function."""
+"""The topics of the tests: modules in the folders beside this file with a table or a function of a certain name."""
 from __future__ import annotations
 
 import os
@@ -20,6 +20,6 @@ def modules() -> dict[str, ModuleType]:
 
 
 @cache
-def topics(function: str) -> dict[str, ModuleType]:
-    """The modules that have a function of that name, by their own names."""
-    return {name: module for name, module in modules().items() if hasattr(module, function)}
+def topics(*those: str) -> dict[str, ModuleType]:
+    """The modules that have one of those, by their own names."""
+    return {name: module for name, module in modules().items() if any(hasattr(module, each) for each in those)}

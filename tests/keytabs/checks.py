@@ -4,10 +4,13 @@ from __future__ import annotations
 import os
 import stat
 
-from keytabs.removals import AES256, B3, FIVE, FOUR, versioned
-from makers.images import B, BIG, END, HOST, LITTLE, TWO, Entry, hole, keytab, record
+from keytabs.file_names import TOO_LARGE
+from keytabs.finds import AES256, FIVE
+from keytabs.removals import B3, FOUR, versioned
+from makers.images import B, BIG, END, HOST, LITTLE, TWO, Entry, hole, keytab, old, record
 from models.check_model import checked
-from runs.harness import Case, Outcome, Report, check_case, differences, folder_of, message, run
+from runs.harness import Case, Outcome, Report, folder_of, message, run
+from runs.rows import BAD_LINE, check_rows, over, printed
 
 # The smallest length that MIT's reader takes for the end.
 LONG = 32_768
@@ -39,45 +42,9 @@ EVEN = {
 }
 
 
-def check_up(name: str, image: bytes, lines: list[str], status: int = 0, options=()) -> Case:
+def check_up(name: str, image: bytes, *lines: str, status: int = 0, options: str = "") -> Case:
     """A check of that image, which is its owner's alone."""
-    out = "".join(f"{line}\n" for line in lines).encode()
-    return Case(f"check: {name}", ("ktcheck", *options, "k"), Outcome(status, out), {"k": image})
-
-
-def findings() -> list[Case]:
-    """Each word, and what is no finding."""
-    other = Entry(key=bytes(16))
-    weak = [Entry((b"a",), enctype=enctype, version8=enctype, version32=enctype) for enctype in
-            (1, 2, 3, 4, 5, 6, 7, 8, 9, 16, 17, 18, 23, 24, 25)]
-    # Each record of a@R has 45 bytes. The last version of a name is its newest, and all before are old.
-    of_weak = [f"{word} {2 + 45 * at} kvno {entry.enctype} etype {entry.enctype} a@R"
-               for at, entry in enumerate(weak)
-               for word in (["weak"] if entry.enctype in (1, 2, 3, 4, 6, 8, 16, 23, 24) else [])
-               + (["old"] if at < len(weak) - 1 else [])]
-    return [
-        check_up("nothing", TWO, ["entries 2 free 0 holes 0"]),
-        check_up("no entry", keytab(), ["entries 0 free 0 holes 0"]),
-        check_up("old", FOUR, ["old 2 kvno 3 etype 17 host/a@R", "entries 4 free 0 holes 0"]),
-        check_up("versions that have wrapped", keytab(versioned(255, 1), versioned(1, 2)),
-                 ["old 2 kvno 255 etype 17 a@R", "entries 2 free 0 holes 0"]),
-        check_up("weak", keytab(*weak), [*of_weak, "entries 15 free 0 holes 0"], 1),
-        check_up("the same key three times", keytab(HOST, B, HOST, HOST),
-                 ["same 98 2 kvno 3 etype 17 host/a@R", "same 149 2 kvno 3 etype 17 host/a@R",
-                  "entries 4 free 0 holes 0"], 1),
-        check_up("another key", keytab(HOST, other, HOST),
-                 ["clash 53 2 kvno 3 etype 17 host/a@R", "same 104 2 kvno 3 etype 17 host/a@R",
-                  "entries 3 free 0 holes 0"], 1),
-        check_up("another name type is no other name", keytab(HOST, Entry(name_type=7)),
-                 ["same 53 2 kvno 3 etype 17 host/a@R", "entries 2 free 0 holes 0"], 1),
-        check_up("other versions and enctypes are others", keytab(AES256, FIVE, B3),
-                 ["entries 3 free 0 holes 0"]),
-        check_up("all words of one entry", keytab(Entry((b"",), enctype=23), Entry((b"",), enctype=23),
-                                                   Entry((b"",), version8=4, version32=4)),
-                 ["weak 2 kvno 3 etype 23 @R", "hidden 2 kvno 3 etype 23 @R", "old 2 kvno 3 etype 23 @R",
-                  "weak 46 kvno 3 etype 23 @R", "same 46 2 kvno 3 etype 23 @R",
-                  "old 46 kvno 3 etype 23 @R", "entries 3 free 0 holes 0"], 1),
-    ]
+    return over(name, f"ktcheck {options} k", image, printed(*lines, status=status))
 
 
 def hidden() -> list[Case]:
@@ -93,39 +60,57 @@ def hidden() -> list[Case]:
             told = [line for line in got.out.split(b"\n") if line.startswith(b"hidden ")]
             # The last one has no key, and is told where none before it is.
             assert [line.split()[1] for line in told] == [b"%d" % where], (name, told)
-            cases.append(Case(f"check: hidden, {name}, version {version}", ("ktcheck", "k"), got,
-                              {"k": image}))
+            cases.append(over(f"hidden, {name}, version {version}", "ktcheck k", image, got))
     return cases
 
 
-def layouts() -> list[Case]:
-    """Holes, ends, damage, and version 1 in both orders."""
-    holes = keytab(hole(bytes(3)), record(B.spelled()), hole(b"xyz12"), END, b"more")
-    bad = keytab(record(HOST.spelled()), hole(bytes(9)), record(bytes(10)), record(B.spelled()))
-    big = keytab(HOST, B, version=1, order=BIG)
-    return [
-        check_up("holes", holes, ["entries 1 free 8 holes 2"]),
-        check_up("a damaged keytab", bad, ["fault 3 at 66", "entries 1 free 9 holes 1"], 1),
-        check_up("damage at once", keytab(b"\0"), ["fault 1 at 2", "entries 0 free 0 holes 0"], 1),
-        check_up("version 1, big-endian", big, ["entries 2 free 0 holes 0"], 0, ("--v1-big",)),
-        check_up("version 1, big-endian, read as little", big,
-                 ["fault 2 at 2", "entries 0 free 0 holes 0"], 1),
-    ]
+# Each record of a@R has 45 bytes. The last version of a name is its newest, and all before are old.
+WEAK = (1, 2, 3, 4, 6, 8, 16, 23, 24)
+ENCTYPES = (1, 2, 3, 4, 5, 6, 7, 8, 9, 16, 17, 18, 23, 24, 25)
+OF_WEAK = [f"{word} {2 + 45 * at} kvno {each} etype {each} a@R" for at,
+           each in enumerate(ENCTYPES) for word in ("weak", "old")
+           if (each in WEAK if word == "weak" else each != ENCTYPES[-1])]
 
+FILES = {"k": b"xy", "c": b"\x05\x04"}
 
-def refused() -> list[Case]:
-    """Files that are no keytabs, and command lines that are not read."""
-    files = {"k": b"xy", "c": b"\x05\x04"}
-    cases = [("k", message(1, "k: not a keytab (2)")), ("c", message(1, "c: not a keytab (2)")),
-             ("no", message(1, "no: no such file")), (".", message(3, ".: cannot read"))]
-    lines = [(), ("-k", "k"), ("-n", "k"), ("k", "c"), ("--mode", "k")]
-    return [
-        *(Case(f"check: {name}", ("ktcheck", name), wanted, files) for name, wanted in cases),
-        Case("check: a large file", ("ktcheck", "k"), message(1, "k: file too large"),
-             {"k": bytes(16_777_217)}),
-        *(Case(f"check: {words}", ("ktcheck", *words), message(2, "bad command line"), files)
-          for words in lines),
-    ]
+# They are run where a new file is its owner's alone.
+ROWS = [
+    # Each word, and what is no finding.
+    check_up("nothing", TWO, "entries 2 free 0 holes 0"),
+    check_up("no entry", keytab(), "entries 0 free 0 holes 0"),
+    check_up("old", FOUR, "old 2 kvno 3 etype 17 host/a@R", "entries 4 free 0 holes 0"),
+    check_up("versions that have wrapped", keytab(versioned(255, 1), versioned(1, 2)), "old 2 kvno 255 etype 17 a@R",
+             "entries 2 free 0 holes 0"),
+    check_up("weak", keytab(*(Entry((b"a",), enctype=each, version8=each, version32=each) for each in ENCTYPES)),
+             *OF_WEAK, "entries 15 free 0 holes 0", status=1),
+    check_up("the same key three times", keytab(HOST, B, HOST, HOST), "same 98 2 kvno 3 etype 17 host/a@R",
+             "same 149 2 kvno 3 etype 17 host/a@R", "entries 4 free 0 holes 0", status=1),
+    check_up("another key", keytab(HOST, Entry(key=bytes(16)), HOST), "clash 53 2 kvno 3 etype 17 host/a@R",
+             "same 104 2 kvno 3 etype 17 host/a@R", "entries 3 free 0 holes 0", status=1),
+    check_up("another name type is no other name", keytab(HOST, Entry(name_type=7)),
+             "same 53 2 kvno 3 etype 17 host/a@R", "entries 2 free 0 holes 0", status=1),
+    check_up("other versions and enctypes are others", keytab(AES256, FIVE, B3), "entries 3 free 0 holes 0"),
+    check_up("all words of one entry", keytab(Entry((b"",), enctype=23), Entry((b"",), enctype=23),
+                                              Entry((b"",), version8=4, version32=4)), "weak 2 kvno 3 etype 23 @R",
+             "hidden 2 kvno 3 etype 23 @R", "old 2 kvno 3 etype 23 @R", "weak 46 kvno 3 etype 23 @R",
+             "same 46 2 kvno 3 etype 23 @R", "old 46 kvno 3 etype 23 @R", "entries 3 free 0 holes 0", status=1),
+    # Holes, ends, damage, and version 1 in both orders.
+    check_up("holes", keytab(3, B, hole(b"xyz12"), END, b"more"), "entries 1 free 8 holes 2"),
+    check_up("a damaged keytab", keytab(HOST, 9, record(bytes(10)), B), "fault 3 at 66", "entries 1 free 9 holes 1",
+             status=1),
+    check_up("damage at once", keytab(b"\0"), "fault 1 at 2", "entries 0 free 0 holes 0", status=1),
+    check_up("version 1, big-endian", old(HOST, B, order=BIG), "entries 2 free 0 holes 0", options="--v1-big"),
+    check_up("version 1, big-endian, read as little", old(HOST, B, order=BIG), "fault 2 at 2",
+             "entries 0 free 0 holes 0", status=1),
+    # Files that are no keytabs, and command lines that are not read.
+    Case("k", ("ktcheck", "k"), message(1, "k: not a keytab (2)"), FILES),
+    Case("c", ("ktcheck", "c"), message(1, "c: not a keytab (2)"), FILES),
+    Case("no file", ("ktcheck", "no"), message(1, "no: no such file"), FILES),
+    Case("a folder", ("ktcheck", "."), message(3, ".: cannot read"), FILES),
+    lambda: over("a large file", "ktcheck k", bytes(16_777_217), TOO_LARGE),
+    *(Case(f"ktcheck {words}", ("ktcheck", *words.split()), BAD_LINE, FILES)
+      for words in ("", "-k k", "-n k", "k c", "--mode k")),
+]
 
 
 def check_modes(report: Report, program: str) -> None:
@@ -146,16 +131,14 @@ def check_modes(report: Report, program: str) -> None:
             for name in ("k", "link"):
                 got = run(program, ("ktcheck", name), folder)
                 if mode & 0o400 or os.geteuid() == 0:
-                    report.check(f"check: mode {mode:o} of {name}",
-                                 differences(Outcome(status, out.encode()), got))
+                    report.compare(f"mode {mode:o} of {name}", Outcome(status, out.encode()), got)
 
 
 def check(report: Report, program: str) -> None:
     """Runs all of this topic."""
     before = os.umask(0o077)
     try:
-        for one in [*findings(), *hidden(), *layouts(), *refused()]:
-            check_case(report, program, one)
+        check_rows(report, program, [*ROWS, *hidden()])
     finally:
         os.umask(before)
     check_modes(report, program)

@@ -5,8 +5,9 @@ import calendar
 import subprocess
 
 from keytabs.listings import B_LINE, HOST_LINE, listed
-from makers.images import B, BIG, HOST, LITTLE, TWO, Entry, hole, keytab, record
-from runs.harness import Case, Outcome, Report, check_case
+from makers.images import B, BIG, HOST, TWO, Entry, hole, keytab, old, record
+from runs.harness import Case, Outcome
+from runs.rows import over
 
 # The names of the enctypes that have one.
 NAMES = {
@@ -54,92 +55,22 @@ def sample(letters: str) -> bytes:
     return headed(letters, *(b"   3 " + time + name + etype + key for name, key in names))
 
 
-def case(name: str, letters: str, image: bytes, *lines: bytes, options=(), status=0) -> Case:
-    """A listing of that image with those columns."""
-    wanted = Outcome(status, headed(letters, *lines))
-    return Case(f"columns: {name}", ("klist", "-k" + letters, *options, "k"), wanted, {"k": image})
+def case(name: str, letters: str, image: bytes, *lines: bytes, options: str = "") -> Case:
+    """A listing with those columns. A fault, which its last line reports, makes the status 1."""
+    status = 1 if any(line.startswith(b"fault ") for line in lines) else 0
+    return over(name, f"klist -k{letters} {options} k", image, Outcome(status, headed(letters, *lines)))
 
 
-def damaged(name: str, letters: str, image: bytes, *lines: bytes, options=()) -> Case:
-    """A listing whose last line reports a fault, which makes the status 1."""
-    return case(name, letters, image, *lines, options=options, status=1)
+def of_enctypes(name: str, numbers) -> Case:
+    """Entries of those enctypes."""
+    lines = (b"   3 a@R (%s)" % NAMES.get(number, b"etype %d" % number) for number in numbers)
+    return case(name, "e", keytab(*(Entry((b"a",), enctype=number, key=b"") for number in numbers)), *lines)
 
 
-def samples() -> list[Case]:
-    """TWO with each set of columns, and no entry at all."""
-    sets = ["", "t", "e", "K", "te", "tK", "eK", "teK"]
-    two = [
-        Case(f"columns: TWO with {letters!r}", ("klist", "-k" + letters, "k"),
-             Outcome(0, sample(letters)), {"k": TWO})
-        for letters in sets
-    ]
-    none = [case(f"no entry with {letters!r}", letters, keytab()) for letters in sets]
-    return [*two, *none]
-
-
-def by_hand() -> list[Case]:
-    """Whole lines with all columns, beside what goes wrong in a file."""
-    wide = Entry((b"a/b@c\\\n\0",), b"x y", version8=16, version32=10_000, enctype=23, key=b"\xff")
-    wide_line = b"10000 " + TIME + b"a\\/b\\@c\\\\\\n\\0@x y (arcfour-hmac) (0xff)"
-    greatest = Entry((b"a",), timestamp=2**32 - 1, version32=2**32 - 1, enctype=65_535, key=b"\0a")
-    greatest_line = b"4294967295 2106-02-07T06:28:15Z a@R (etype 65535) (0x0061)"
-    zeros = keytab(record(bytes(17)))
-    host = b"   3 " + TIME + b"host/a@R" + ETYPE + HOST_KEY
-    b = b"   3 " + TIME + b"b@R" + ETYPE + B_KEY
-    little = keytab(HOST, B, version=1, order=LITTLE)
-    big = keytab(HOST, B, version=1, order=BIG)
-    two = keytab(record(HOST.spelled()), hole(B.spelled()), record(B.spelled() + b"\xff" * 9))
-    bad = keytab(record(HOST.spelled()), record(bytes(10)))
-    return [
-        case("a wide version and a quoted name", "teK", keytab(wide), wide_line),
-        case("the greatest numbers", "teK", keytab(greatest), greatest_line),
-        case("an entry of zeros", "teK", zeros, b"   0 1970-01-01T00:00:00Z @ (etype 0) (0x)"),
-        case("version 1, little-endian", "teK", little, host, b),
-        case("version 1, big-endian", "teK", big, host, b, options=("--v1-big",)),
-        case("a hole and bytes after an entry", "teK", two, host, b),
-        damaged("a bad entry", "teK", bad, host, b"fault 3 at 53"),
-        damaged("a cut record", "t", TWO[:-1], b"   3 " + TIME + b"host/a@R", b"fault 2 at 53"),
-        damaged("a cut length", "K", TWO + b"\0", HOST_LINE + HOST_KEY, B_LINE + B_KEY,
-                b"fault 1 at 98"),
-        damaged("version 1 in the other order", "e", big, b"fault 2 at 2"),
-    ]
-
-
-def etypes() -> list[Case]:
-    """Each row of the table, and all other numbers."""
-
-    def line(enctype: int) -> bytes:
-        return b"   3 a@R (" + NAMES.get(enctype, b"etype %d" % enctype) + b")"
-
-    def listing(name: str, numbers) -> Case:
-        image = keytab(*(Entry((b"a",), enctype=number, key=b"") for number in numbers))
-        return case(name, "e", image, *(line(number) for number in numbers))
-
-    rows = [listing(f"enctype {text.decode()}", [number]) for number, text in NAMES.items()]
-    few = [case(f"enctype {number}", "e", keytab(Entry((b"a",), enctype=number)),
-                b"   3 a@R (etype %d)" % number) for number in (0, 1, 15, 21, 22, 24, 27, 65_535)]
-    return [*rows, *few, listing("all enctypes", range(65_536))]
-
-
-def keys() -> list[Case]:
-    """Keys of several lengths."""
-
-    def line(key: bytes) -> bytes:
-        return b"   3 a@R (0x" + b"".join(b"%02x" % byte for byte in key) + b")"
-
-    def listing(name: str, those: list[bytes]) -> Case:
-        image = keytab(*(Entry((b"a",), key=key) for key in those))
-        return case(name, "K", image, *map(line, those))
-
-    every = bytes(range(256))
-    lengths = [*range(70), 255, 256, 4_095, 4_096, 32_767, 32_768, 65_535]
-    return [
-        case("an empty key", "K", keytab(Entry((b"a",), key=b"")), b"   3 a@R (0x)"),
-        case("a key of one byte", "K", keytab(Entry((b"a",), key=b"\xa9")), b"   3 a@R (0xa9)"),
-        listing("each byte", [every]),
-        listing("each byte alone", [bytes([byte]) for byte in every]),
-        listing("keys of many lengths", [(every * 256)[:length] for length in lengths]),
-    ]
+def of_keys(name: str, *keys: bytes) -> Case:
+    """Entries of those keys."""
+    lines = (b"   3 a@R (0x%s)" % key.hex().encode() for key in keys)
+    return case(name, "K", keytab(*(Entry((b"a",), key=key) for key in keys)), *lines)
 
 
 def month_edges() -> list[int]:
@@ -160,19 +91,54 @@ def dates(seconds: list[int]) -> list[bytes]:
 
 def times_of(name: str, texts: dict[int, bytes]) -> Case:
     """A listing of entries of those times."""
-    image = keytab(*(Entry((b"a",), timestamp=second) for second in texts))
-    return case(name, "t", image, *(b"   3 " + text + b" a@R" for text in texts.values()))
+    return case(name, "t", keytab(*(Entry((b"a",), timestamp=second) for second in texts)),
+                *(b"   3 " + text + b" a@R" for text in texts.values()))
 
 
-def times() -> list[Case]:
-    """Times that are known, and edges of months as date(1) has them."""
+def times() -> Case:
+    """Edges of months, and the known times, as date(1) has them."""
     seconds = [*month_edges(), *KNOWN_TIMES]
-    known = [times_of(f"time {second}", {second: text}) for second, text in KNOWN_TIMES.items()]
-    texts = dict(zip(seconds, dates(seconds), strict=True))
-    return [*known, times_of("times as date(1) has them", texts)]
+    return times_of("times as date(1) has them", dict(zip(seconds, dates(seconds), strict=True)))
 
 
-def check(report: Report, program: str) -> None:
-    """Runs all of this topic."""
-    for one in [*samples(), *by_hand(), *etypes(), *keys(), *times()]:
-        check_case(report, program, one)
+SETS = ["", "t", "e", "K", "te", "tK", "eK", "teK"]
+HOST_ALL = b"   3 " + TIME + b"host/a@R" + ETYPE + HOST_KEY
+B_ALL = b"   3 " + TIME + b"b@R" + ETYPE + B_KEY
+BYTES = bytes(range(256))
+
+CASES = [
+    # TWO with each set of columns, and no entry at all.
+    *(over(f"TWO with {letters!r}", f"klist -k{letters} k", TWO, Outcome(0, sample(letters))) for letters in SETS),
+    *(case(f"no entry with {letters!r}", letters, keytab()) for letters in SETS),
+    # Whole lines with all columns, beside what goes wrong in a file.
+    case("a wide version and a quoted name", "teK",
+         keytab(Entry((b"a/b@c\\\n\0",), b"x y", version8=16, version32=10_000, enctype=23, key=b"\xff")),
+         b"10000 " + TIME + b"a\\/b\\@c\\\\\\n\\0@x y (arcfour-hmac) (0xff)"),
+    case("the greatest numbers", "teK",
+         keytab(Entry((b"a",), timestamp=2**32 - 1, version32=2**32 - 1, enctype=65_535, key=b"\0a")),
+         b"4294967295 2106-02-07T06:28:15Z a@R (etype 65535) (0x0061)"),
+    case("an entry of zeros", "teK", keytab(record(bytes(17))), b"   0 1970-01-01T00:00:00Z @ (etype 0) (0x)"),
+    case("version 1, little-endian", "teK", old(HOST, B), HOST_ALL, B_ALL),
+    case("version 1, big-endian", "teK", old(HOST, B, order=BIG), HOST_ALL, B_ALL, options="--v1-big"),
+    case("a hole and bytes after an entry", "teK",
+         keytab(HOST, hole(B.spelled()), record(B.spelled() + b"\xff" * 9)), HOST_ALL, B_ALL),
+    case("a bad entry", "teK", keytab(HOST, record(bytes(10))), HOST_ALL, b"fault 3 at 53"),
+    case("a cut record", "t", TWO[:-1], b"   3 " + TIME + b"host/a@R", b"fault 2 at 53"),
+    case("a cut length", "K", TWO + b"\0", HOST_LINE + HOST_KEY, B_LINE + B_KEY, b"fault 1 at 98"),
+    case("version 1 in the other order", "e", old(HOST, B, order=BIG), b"fault 2 at 2"),
+    # Each enctype that has a name, and all other numbers.
+    *(of_enctypes(f"enctype {text.decode()}", [number]) for number, text in NAMES.items()),
+    *(case(f"enctype {number}", "e", keytab(Entry((b"a",), enctype=number)), b"   3 a@R (etype %d)" % number)
+      for number in (0, 1, 15, 21, 22, 24, 27, 65_535)),
+    lambda: of_enctypes("all enctypes", range(65_536)),
+    # Keys of several lengths.
+    of_keys("an empty key", b""),
+    of_keys("a key of one byte", b"\xa9"),
+    of_keys("each byte", BYTES),
+    of_keys("each byte alone", *(bytes([byte]) for byte in BYTES)),
+    of_keys("keys of many lengths", *((BYTES * 256)[:length] for length in (
+        *range(70), 255, 256, 4_095, 4_096, 32_767, 32_768, 65_535))),
+    # Times that are known, and edges of months as date(1) has them.
+    *(times_of(f"time {second}", {second: text}) for second, text in KNOWN_TIMES.items()),
+    times,
+]

@@ -8,13 +8,13 @@ import subprocess
 import termios
 import time
 
-from keytabs.edits import text
-from keytabs.ktutil_lines import ADDENT, HEADING, KEY, NO_SLOTS, TIMES
+from keytabs.ktutil_lines import ADDENT, KEY, NO_SLOTS, TIMES, TWO_LISTED
 from makers.images import TWO
 from models.reading import time_text
 from runs.harness import SECONDS, Outcome, Report, differences, folder_of, message, short
+from runs.rows import text
 
-LISTED = text([*HEADING, "   1    3 host/a@R", "   2    3 b@R"])
+LISTED = text(TWO_LISTED)
 
 
 class Talk:

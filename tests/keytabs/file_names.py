@@ -4,9 +4,9 @@ from __future__ import annotations
 import os
 import subprocess
 
-from keytabs.listings import B_LINE, HOST_LINE, HOST_RECORD, listed
-from makers.images import BIG, TWO, keytab
-from runs.harness import Case, Outcome, Report, check_case, folder_of, message, run
+from keytabs.listings import B_LINE, HOST_LINE, listed
+from makers.images import HOST, TWO, keytab
+from runs.harness import Case, Outcome, Report, folder_of, message, run
 
 # The greatest size of a file that is read.
 LIMIT = 16_777_216
@@ -15,18 +15,12 @@ LIMIT = 16_777_216
 NOBODY = 65_534
 
 # Each is taken and printed as it is given.
-NAMES = [
-    "k",
-    "two words",
-    "schlüssel-ключ-鍵",
-    "-k",
-    "--v1-big",
-    "-",
-    "a:b",
-    "FILE:k",
-    "new\nline",
-    "x" * 255,
-]
+NAMES = ["k", "two words", "schlüssel-ключ-鍵", "-k", "--v1-big", "-", "a:b", "FILE:k", "new\nline", "x" * 255]
+
+
+def sized(size: int) -> bytes:
+    """A keytab of that size: an entry, and a hole up to the end."""
+    return keytab(HOST, size - len(keytab(HOST)) - 4)
 
 
 def klist(name: str, file: str, wanted: Outcome, files: dict[str, bytes]) -> Case:
@@ -34,41 +28,23 @@ def klist(name: str, file: str, wanted: Outcome, files: dict[str, bytes]) -> Cas
     return Case(name, ("klist", "-k", "--", file), wanted, files)
 
 
-def names() -> list[Case]:
-    """Files that are there."""
-
-    def text(name: str) -> Outcome:
-        return Outcome(0, listed(HOST_LINE, B_LINE, name=name.encode()))
-
-    in_this_folder = klist("file name with a path", "./k", text("./k"), {"k": TWO})
-    named = [klist(f"file name {name!r}", name, text(name), {name: TWO}) for name in NAMES]
-    return [in_this_folder, *named]
+def there(name: str, file: str, kept: str) -> Case:
+    """A listing of a file that is there."""
+    return klist(name, file, Outcome(0, listed(HOST_LINE, B_LINE, name=file.encode())), {kept: TWO})
 
 
-def missing() -> list[Case]:
-    """Files that are not there."""
-    return [
-        klist(f"missing file {name!r}", name, message(1, f"{name}: no such file"), {"j": TWO})
-        for name in ("k", "a k", "no/k", "")
-    ]
+TOO_LARGE = message(1, "k: file too large")
 
-
-def sized(size: int) -> bytes:
-    """A keytab of that size: an entry, and a hole up to the end."""
-    front = keytab(HOST_RECORD)
-    rest = size - len(front) - 4
-    return front + (-rest).to_bytes(4, BIG, signed=True) + bytes(rest)
-
-
-def sizes() -> list[Case]:
-    """The greatest file that is read, and those that are a byte longer."""
-    greatest, longer, no_keytab = sized(LIMIT), sized(LIMIT + 1), bytes(LIMIT + 1)
-    too_large = message(1, "k: file too large")
-    return [
-        klist("a file of 16777216 bytes", "k", Outcome(0, listed(HOST_LINE)), {"k": greatest}),
-        klist("a file of 16777217 bytes", "k", too_large, {"k": longer}),
-        klist("a large file that is no keytab", "k", too_large, {"k": no_keytab}),
-    ]
+CASES = [
+    there("file name with a path", "./k", "k"),
+    *(there(f"file name {name!r}", name, name) for name in NAMES),
+    *(klist(f"missing file {name!r}", name, message(1, f"{name}: no such file"), {"j": TWO})
+      for name in ("k", "a k", "no/k", "")),
+    # The greatest file that is read, one that is a byte longer, and one that is no keytab anyway.
+    lambda: klist("a file of 16777216 bytes", "k", Outcome(0, listed(HOST_LINE)), {"k": sized(LIMIT)}),
+    lambda: klist("a file of 16777217 bytes", "k", TOO_LARGE, {"k": sized(LIMIT + 1)}),
+    lambda: klist("a large file that is no keytab", "k", TOO_LARGE, {"k": bytes(LIMIT + 1)}),
+]
 
 
 def check_odd_files(report: Report, program: str) -> None:
@@ -116,9 +92,7 @@ def check_unreadable(report: Report, program: str) -> None:
 
 
 def check(report: Report, program: str) -> None:
-    """Runs all of this topic."""
-    for case in (*names(), *missing(), *sizes()):
-        check_case(report, program, case)
+    """Files that no table makes."""
     check_odd_files(report, program)
     check_pipe(report, program)
     check_unreadable(report, program)

@@ -8,6 +8,7 @@ import subprocess
 
 from makers.samples import folder_of_samples
 from runs.harness import TOP, Outcome, Report, folder_of
+from runs.rows import made
 from words import explained
 from words import explained_caches
 from words.completions import told
@@ -57,7 +58,7 @@ def check_words(report: Report) -> None:
     lines = page().replace(".Ar NAME Ns .krbfile", "k.krbfile").splitlines()
     lines = [re.sub(r"^\.Dl |^\.It .* Ta |[:;]$", "", line) for line in lines]
     words = {re.sub(r"^line \d+: |^refused \d+: |^fault \d+: |^(?:weak|hidden|same|clash|old|mode): ", "", words)
-             for case in [*explained.cases(), *explained_caches.cases()] for _, words in case.said}
+             for case in made([*explained.CASES, *explained_caches.CASES]) for _, words in case.said}
     odd = {"", "no such file", "error 6"} | {word for word in words if word.startswith("k: fault")}
     report.check("the words of messages in the manual page", sorted(words - odd - set(lines)))
 

@@ -10,13 +10,14 @@ import sys
 import time
 
 from keytabs.columns import NAMES
-from keytabs.edits import ADD_B, ADD_C, ADD_HOST, text
+from keytabs.edits import ADD_B, ADD_C, ADD_HOST
 from keytabs.listings import B_RECORD, HOST_RECORD
 from makers.images import HOST, LITTLE, TWO, Entry, hole, keytab
 from models.keytab_model import Keytab
 from models.reading import KeytabEntry
 from models.script_model import KEY_SIZES, edited
 from runs.harness import SECONDS, Report, folder_of, run
+from runs.rows import text
 
 # A line that MIT's klist or ktutil lists an entry by, after its slot if there is one.
 LINE = re.compile(

@@ -12,7 +12,7 @@ from __future__ import annotations
 import json
 import os
 
-from runs.harness import TOP, Case, Outcome, Report, check_case
+from runs.harness import TOP, Case, Outcome, Report
 
 # The folder of the files and cases.
 FOLDER = os.path.join(TOP, "tests", "corpus")
@@ -65,4 +65,4 @@ def check(report: Report, program: str) -> None:
     """Runs each case."""
     with open(os.path.join(FOLDER, "cases.jsonl"), encoding="utf-8") as file:
         for line in file:
-            check_case(report, program, case_of(json.loads(line)))
+            case_of(json.loads(line)).check(report, program)

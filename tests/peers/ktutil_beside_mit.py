@@ -4,12 +4,12 @@ from __future__ import annotations
 import os
 from dataclasses import replace
 
-from keytabs.edits import text
 from makers.images import HOST, Entry, keytab
 from models.keytab_model import Keytab
 from models.reading import KeytabEntry
 from peers.beside_mit import HOLES, Mit, are_there
 from runs.harness import Outcome, Report, folder_of, run
+from runs.rows import text
 
 
 def untimed(image: bytes) -> list[tuple[bool, int, KeytabEntry | None]]:

@@ -45,12 +45,28 @@ class Case:
     files_after: dict[str, bytes] | None = None
     stdin: bytes = b""
 
+    def size(self) -> int:
+        """The bytes that it gives the program."""
+        return len(self.stdin) + sum(map(len, self.files.values()))
+
+    def check(self, report: Report, program: str) -> None:
+        """Runs it and reports it."""
+        if not report.is_proved and self.size() > LARGE:
+            report.large += 1
+            return
+        try:
+            found = faults_of(self, *run_case(program, self))
+        except subprocess.TimeoutExpired:
+            found = [f"no end in {SECONDS} seconds"]
+        report.check(self.name, found)
+
 
 class Report:
-    """Counts what passed and failed, and prints a line for each failure."""
+    """Counts what passed and failed, and prints a line for each failure, behind the topic's name."""
 
-    def __init__(self, is_proved: bool = True) -> None:
+    def __init__(self, is_proved: bool = True, topic: str = "") -> None:
         self.is_proved = is_proved
+        self.front = f"{topic}: " if topic else ""
         self.passed = 0
         self.failed = 0
         self.large = 0
@@ -60,7 +76,7 @@ class Report:
         """Counts one case, which failed where there are faults."""
         if faults:
             self.failed += 1
-            print(f"{name}: {'; '.join(faults)}", flush=True)
+            print(f"{self.front}{name}: {'; '.join(faults)}", flush=True)
         else:
             self.passed += 1
 
@@ -82,7 +98,8 @@ class Report:
     def summary(self) -> str:
         """What was left out, a line each, and the counts."""
         if self.large:
-            self.skip(f"cases of over {LARGE:,} bytes, {self.large} in all", "the program is not proved, and takes long")
+            self.skip(f"cases of over {LARGE:,} bytes, {self.large} in all",
+                      "the program is not proved, and takes long")
         return "\n".join([*self.left_out, f"{self.passed} passed, {self.failed} failed"])
 
 
@@ -147,23 +164,6 @@ def faults_of(case: Case, got: Outcome, after: dict[str, bytes]) -> list[str]:
         if after.get(name) != wanted.get(name):
             found.append(f"file {name} is not as it should be")
     return found
-
-
-def size_of(case: Case) -> int:
-    """The bytes that a case gives the program."""
-    return len(case.stdin) + sum(map(len, case.files.values()))
-
-
-def check_case(report: Report, program: str, case: Case) -> None:
-    """Runs a case and reports it."""
-    if not report.is_proved and size_of(case) > LARGE:
-        report.large += 1
-        return
-    try:
-        found = faults_of(case, *run_case(program, case))
-    except subprocess.TimeoutExpired:
-        found = [f"no end in {SECONDS} seconds"]
-    report.check(case.name, found)
 
 
 def faults_by_clock(program: str, case_at: Callable[[int], Case]) -> list[str]:

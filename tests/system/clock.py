@@ -3,12 +3,12 @@ from __future__ import annotations
 
 from dataclasses import replace
 
-from keytabs.edits import text
 from keytabs.ktutil_lines import ADDENT, KEY, TIMES
 from makers.cache_images import cache, offset
 from makers.usual_caches import TICKET, USUAL
 from runs.harness import Outcome, Report, differences, message
 from runs.preload import Line, Preloaded, preloaded
+from runs.rows import text
 from runs.terminal import EXPLAIN
 
 LINE = Line(("ktutil",), text([ADDENT, KEY, "l -t"]))

@@ -5,13 +5,14 @@ import os
 import subprocess
 
 from caches.cache_listings import CONFIG_LINE, TICKET_LINE
-from keytabs.edits import GAVE_HOST, text
+from keytabs.edits import GAVE_HOST
 from keytabs.listings import B_LINE, B_RECORD, HOST_LINE, listed
 from makers.cache_images import cache
 from makers.images import B, HOST, TWO, hole, keytab
 from makers.usual_caches import OFFSET, PA_TYPE, USUAL
 from models.cache_reading import listed as cache_listed
 from runs.harness import Case, Outcome, Report, faults_of, folder_of, message, run_case
+from runs.rows import text
 
 NO_OUTPUT = message(3, "cannot write output")
 NO_INPUT = message(3, "cannot read input")

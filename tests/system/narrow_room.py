@@ -16,7 +16,7 @@ from caches import greatest_caches
 from keytabs.file_names import LIMIT, sized
 from keytabs.greatest import cases
 from models.modelled import NO_MEMORY
-from runs.harness import SECONDS, Case, Outcome, Report, check_case, faults_of, run_case
+from runs.harness import SECONDS, Case, Outcome, Report, faults_of, run_case
 
 STACK = 256 * 1024
 SPACE = 64 * 1024 * 1024
@@ -79,7 +79,7 @@ def without_room() -> list[Case]:
 def check(report: Report, program: str) -> None:
     """Runs all of this topic."""
     for case in [*cases(), *greatest_caches.cases()]:
-        check_case(report, program, case)
+        case.check(report, program)
     for case in without_room():
         got = run_case(program, case, preexec_fn=limit(resource.RLIMIT_AS, LIMIT))
         report.check(case.name, faults_of(case, *got))

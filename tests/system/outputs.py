@@ -39,7 +39,7 @@ KLIST = Listing(("klist", "-k", "k"), TWO, listed(HOST_LINE, B_LINE))
 # Three lines at fault with others between, and an answer of 1.
 FAULTY = lines("faults between lists", ["frob", "rkt k", "delent 9", "l", "rkt n", "l"],
                [*HEADING, "   1    3 host/a@R", "   2    3 b@R"] * 2,
-               ("line 1: fault 1", "line 3: fault 7", "n: no such file"), {"k": TWO})
+               "line 1: fault 1", "line 3: fault 7", "n: no such file", files={"k": TWO})
 
 # More than a pipe holds: 300 lines of 1000 bytes.
 LONG_NAME = b"x" * 992

@@ -6,11 +6,12 @@ import os
 import threading
 from collections.abc import Callable
 
-from keytabs.edits import ADD_B, text
+from keytabs.edits import ADD_B
 from makers.images import B, keytab
 from models.script_model import edited
 from runs.harness import Outcome, Report, differences, folder_of, run
 from runs.preload import Line
+from runs.rows import text
 from runs.system_calls import Halt, check_traced, halted
 from system.disk_saves import NEW, OLD, SAVED, SCRIPT, UNSAVED, Place, tree, tree_faults, write
 

@@ -12,11 +12,11 @@ from collections.abc import Iterator
 from contextlib import contextmanager
 
 from keytabs.conversations import LISTED, Talk, terminal
-from keytabs.edits import text
 from keytabs.ktutil_lines import HEADING, NO_SLOTS
 from makers.images import B, TWO, keytab
 from models.script_model import edited
 from runs.harness import SECONDS, Outcome, Report, differences, folder_of, message
+from runs.rows import text
 from system.disk_saves import NEW, OLD, SAVED, SCRIPT, edit, tree_faults, write
 from system.outputs import KLIST, LONG, piped
 
