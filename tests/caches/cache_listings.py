@@ -5,6 +5,7 @@ from dataclasses import replace
 from functools import partial
 
 from keytabs.columns import KNOWN_TIMES, NAMES, dates, month_edges
+from keytabs.listings import QUOTED, QUOTES
 from makers.cache_images import CONFIG_FIRST, CONFIG_REALM, Credential, Name, cache, config
 from makers.usual_caches import PA_TYPE, TICKET, USUAL, VERSION_3, config_ticket
 from models.cache_reading import FLAGS, listed
@@ -66,7 +67,6 @@ BARE = cache(version=3)
 NEVER, GREATEST = b"1970-01-01T00:00:00Z", b"2106-02-07T06:28:15Z"
 NUMBERS = range(1, 2001)
 ETYPES = [*NAMES, 0, 1, 15, 21, 22, 24, 27, 65_535]
-QUOTED, QUOTES = b"/@\\\n\t\b\0", b"\\/\\@\\\\\\n\\t\\b\\0"
 UNQUOTED = b"\r\x1b\x7f\"' "
 BYTES = bytes(range(256))
 ESCAPED = (b"".join(b"\\x%02x" % byte for byte in range(0x20)) + bytes(range(0x20, 0x5C)) + b"\\\\"
@@ -125,8 +125,8 @@ CASES = [
     of_date,
     # Each enctype that has a name, and some that have none.
     case("enctypes", cache(*(replace(TICKET, enctype=number) for number in ETYPES)),
-         *(line for number in ETYPES for line in (TICKET_LINE,
-                                                  b"    Etype: " + NAMES.get(number, b"etype %d" % number))),
+         *(line
+           for number in ETYPES for line in (TICKET_LINE, b"    Etype: " + NAMES.get(number, b"etype %d" % number))),
          columns="e"),
     # Names with odd bytes and odd counts, of the default principal and of a server.
     *named("each quoted byte", Name((b"a", QUOTED), QUOTED), b"a/" + QUOTES + b"@" + QUOTES),

@@ -33,8 +33,7 @@ def removals() -> list[Case]:
     gone = b"removed %d @\n"
     return [
         over("ccremove, all of the most tickets go", "ccremove --expired c", least(),
-             Outcome(0, at_each(gone, PLACES)),
-             cache()),
+             Outcome(0, at_each(gone, PLACES)), cache()),
         over("ccremove, none of the most tickets goes", "ccremove -p b@R c", least(), message(1, "c: refused 9")),
         over("ccremove, every second of the most goes", "ccremove -p @ c", every_second,
              Outcome(0, at_each(gone, PLACES[: COUNT // 2 * 2 : 2])), cache()),

@@ -67,9 +67,8 @@ def hidden() -> list[Case]:
 # Each record of a@R has 45 bytes. The last version of a name is its newest, and all before are old.
 WEAK = (1, 2, 3, 4, 6, 8, 16, 23, 24)
 ENCTYPES = (1, 2, 3, 4, 5, 6, 7, 8, 9, 16, 17, 18, 23, 24, 25)
-OF_WEAK = [f"{word} {2 + 45 * at} kvno {each} etype {each} a@R" for at,
-           each in enumerate(ENCTYPES) for word in ("weak", "old")
-           if (each in WEAK if word == "weak" else each != ENCTYPES[-1])]
+OF_WEAK = [f"{word} {2 + 45 * at} kvno {each} etype {each} a@R" for at, each in enumerate(ENCTYPES)
+           for word in ["weak"] * (each in WEAK) + ["old"] * (each != ENCTYPES[-1])]
 
 FILES = {"k": b"xy", "c": b"\x05\x04"}
 
@@ -90,10 +89,11 @@ ROWS = [
     check_up("another name type is no other name", keytab(HOST, Entry(name_type=7)),
              "same 53 2 kvno 3 etype 17 host/a@R", "entries 2 free 0 holes 0", status=1),
     check_up("other versions and enctypes are others", keytab(AES256, FIVE, B3), "entries 3 free 0 holes 0"),
-    check_up("all words of one entry", keytab(Entry((b"",), enctype=23), Entry((b"",), enctype=23),
-                                              Entry((b"",), version8=4, version32=4)), "weak 2 kvno 3 etype 23 @R",
-             "hidden 2 kvno 3 etype 23 @R", "old 2 kvno 3 etype 23 @R", "weak 46 kvno 3 etype 23 @R",
-             "same 46 2 kvno 3 etype 23 @R", "old 46 kvno 3 etype 23 @R", "entries 3 free 0 holes 0", status=1),
+    check_up("all words of one entry",
+             keytab(Entry((b"",), enctype=23), Entry((b"",), enctype=23), Entry((b"",), version8=4, version32=4)),
+             "weak 2 kvno 3 etype 23 @R", "hidden 2 kvno 3 etype 23 @R", "old 2 kvno 3 etype 23 @R",
+             "weak 46 kvno 3 etype 23 @R", "same 46 2 kvno 3 etype 23 @R", "old 46 kvno 3 etype 23 @R",
+             "entries 3 free 0 holes 0", status=1),
     # Holes, ends, damage, and version 1 in both orders.
     check_up("holes", keytab(3, B, hole(b"xyz12"), END, b"more"), "entries 1 free 8 holes 2"),
     check_up("a damaged keytab", keytab(HOST, 9, record(bytes(10)), B), "fault 3 at 66", "entries 1 free 9 holes 1",

@@ -4,7 +4,7 @@ from __future__ import annotations
 import calendar
 import subprocess
 
-from keytabs.listings import B_LINE, HOST_LINE, listed
+from keytabs.listings import B_LINE, HOST_LINE, case, listed
 from makers.images import B, BIG, HOST, TWO, Entry, hole, keytab, old, record
 from runs.harness import Case, Outcome
 from runs.rows import over
@@ -37,40 +37,25 @@ KNOWN_TIMES = {
 }
 
 
-def headed(letters: str, *lines: bytes) -> bytes:
-    """The text of a listing of `k` with those columns: times alone change the heading."""
-    if "t" not in letters:
-        return listed(*lines)
-    heading = b"KVNO Timestamp            Principal"
-    first = (b"Keytab name: FILE:k", heading, b"---- -------------------- ---------")
-    return b"".join(line + b"\n" for line in (*first, *lines))
-
-
 def sample(letters: str) -> bytes:
     """The listing of TWO with those columns."""
     time = TIME if "t" in letters else b""
     etype = ETYPE if "e" in letters else b""
     host, b = (HOST_KEY, B_KEY) if "K" in letters else (b"", b"")
     names = ((b"host/a@R", host), (b"b@R", b))
-    return headed(letters, *(b"   3 " + time + name + etype + key for name, key in names))
-
-
-def case(name: str, letters: str, image: bytes, *lines: bytes, options: str = "") -> Case:
-    """A listing with those columns. A fault, which its last line reports, makes the status 1."""
-    status = 1 if any(line.startswith(b"fault ") for line in lines) else 0
-    return over(name, f"klist -k{letters} {options} k", image, Outcome(status, headed(letters, *lines)))
+    return listed(*(b"   3 " + time + name + etype + key for name, key in names), letters=letters)
 
 
 def of_enctypes(name: str, numbers) -> Case:
     """Entries of those enctypes."""
     lines = (b"   3 a@R (%s)" % NAMES.get(number, b"etype %d" % number) for number in numbers)
-    return case(name, "e", keytab(*(Entry((b"a",), enctype=number, key=b"") for number in numbers)), *lines)
+    return case(name, keytab(*(Entry((b"a",), enctype=number, key=b"") for number in numbers)), *lines, letters="e")
 
 
 def of_keys(name: str, *keys: bytes) -> Case:
     """Entries of those keys."""
     lines = (b"   3 a@R (0x%s)" % key.hex().encode() for key in keys)
-    return case(name, "K", keytab(*(Entry((b"a",), key=key) for key in keys)), *lines)
+    return case(name, keytab(*(Entry((b"a",), key=key) for key in keys)), *lines, letters="K")
 
 
 def month_edges() -> list[int]:
@@ -91,8 +76,8 @@ def dates(seconds: list[int]) -> list[bytes]:
 
 def times_of(name: str, texts: dict[int, bytes]) -> Case:
     """A listing of entries of those times."""
-    return case(name, "t", keytab(*(Entry((b"a",), timestamp=second) for second in texts)),
-                *(b"   3 " + text + b" a@R" for text in texts.values()))
+    return case(name, keytab(*(Entry((b"a",), timestamp=second) for second in texts)),
+                *(b"   3 " + text + b" a@R" for text in texts.values()), letters="t")
 
 
 def times() -> Case:
@@ -109,26 +94,26 @@ BYTES = bytes(range(256))
 CASES = [
     # TWO with each set of columns, and no entry at all.
     *(over(f"TWO with {letters!r}", f"klist -k{letters} k", TWO, Outcome(0, sample(letters))) for letters in SETS),
-    *(case(f"no entry with {letters!r}", letters, keytab()) for letters in SETS),
+    *(case(f"no entry with {letters!r}", keytab(), letters=letters) for letters in SETS),
     # Whole lines with all columns, beside what goes wrong in a file.
-    case("a wide version and a quoted name", "teK",
+    case("a wide version and a quoted name",
          keytab(Entry((b"a/b@c\\\n\0",), b"x y", version8=16, version32=10_000, enctype=23, key=b"\xff")),
-         b"10000 " + TIME + b"a\\/b\\@c\\\\\\n\\0@x y (arcfour-hmac) (0xff)"),
-    case("the greatest numbers", "teK",
+         b"10000 " + TIME + b"a\\/b\\@c\\\\\\n\\0@x y (arcfour-hmac) (0xff)", letters="teK"),
+    case("the greatest numbers",
          keytab(Entry((b"a",), timestamp=2**32 - 1, version32=2**32 - 1, enctype=65_535, key=b"\0a")),
-         b"4294967295 2106-02-07T06:28:15Z a@R (etype 65535) (0x0061)"),
-    case("an entry of zeros", "teK", keytab(record(bytes(17))), b"   0 1970-01-01T00:00:00Z @ (etype 0) (0x)"),
-    case("version 1, little-endian", "teK", old(HOST, B), HOST_ALL, B_ALL),
-    case("version 1, big-endian", "teK", old(HOST, B, order=BIG), HOST_ALL, B_ALL, options="--v1-big"),
-    case("a hole and bytes after an entry", "teK",
-         keytab(HOST, hole(B.spelled()), record(B.spelled() + b"\xff" * 9)), HOST_ALL, B_ALL),
-    case("a bad entry", "teK", keytab(HOST, record(bytes(10))), HOST_ALL, b"fault 3 at 53"),
-    case("a cut record", "t", TWO[:-1], b"   3 " + TIME + b"host/a@R", b"fault 2 at 53"),
-    case("a cut length", "K", TWO + b"\0", HOST_LINE + HOST_KEY, B_LINE + B_KEY, b"fault 1 at 98"),
-    case("version 1 in the other order", "e", old(HOST, B, order=BIG), b"fault 2 at 2"),
+         b"4294967295 2106-02-07T06:28:15Z a@R (etype 65535) (0x0061)", letters="teK"),
+    case("an entry of zeros", keytab(record(bytes(17))), b"   0 1970-01-01T00:00:00Z @ (etype 0) (0x)", letters="teK"),
+    case("version 1, little-endian", old(HOST, B), HOST_ALL, B_ALL, letters="teK"),
+    case("version 1, big-endian", old(HOST, B, order=BIG), HOST_ALL, B_ALL, letters="teK", options="--v1-big"),
+    case("a hole and bytes after an entry", keytab(HOST, hole(B.spelled()), record(B.spelled() + b"\xff" * 9)),
+         HOST_ALL, B_ALL, letters="teK"),
+    case("a bad entry", keytab(HOST, record(bytes(10))), HOST_ALL, b"fault 3 at 53", letters="teK"),
+    case("a cut record", TWO[:-1], b"   3 " + TIME + b"host/a@R", b"fault 2 at 53", letters="t"),
+    case("a cut length", TWO + b"\0", HOST_LINE + HOST_KEY, B_LINE + B_KEY, b"fault 1 at 98", letters="K"),
+    case("version 1 in the other order", old(HOST, B, order=BIG), b"fault 2 at 2", letters="e"),
     # Each enctype that has a name, and all other numbers.
     *(of_enctypes(f"enctype {text.decode()}", [number]) for number, text in NAMES.items()),
-    *(case(f"enctype {number}", "e", keytab(Entry((b"a",), enctype=number)), b"   3 a@R (etype %d)" % number)
+    *(case(f"enctype {number}", keytab(Entry((b"a",), enctype=number)), b"   3 a@R (etype %d)" % number, letters="e")
       for number in (0, 1, 15, 21, 22, 24, 27, 65_535)),
     lambda: of_enctypes("all enctypes", range(65_536)),
     # Keys of several lengths.
@@ -136,8 +121,8 @@ CASES = [
     of_keys("a key of one byte", b"\xa9"),
     of_keys("each byte", BYTES),
     of_keys("each byte alone", *(bytes([byte]) for byte in BYTES)),
-    of_keys("keys of many lengths", *((BYTES * 256)[:length] for length in (
-        *range(70), 255, 256, 4_095, 4_096, 32_767, 32_768, 65_535))),
+    of_keys("keys of many lengths",
+            *((BYTES * 256)[:length] for length in (*range(70), 255, 256, 4_095, 4_096, 32_767, 32_768, 65_535))),
     # Times that are known, and edges of months as date(1) has them.
     *(times_of(f"time {second}", {second: text}) for second, text in KNOWN_TIMES.items()),
     times,

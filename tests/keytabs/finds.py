@@ -145,26 +145,25 @@ CASES = [
     find("an entry between holes", HOLES, "0 0 host/a@R", (47, 3, 17)),
     find("an entry after the end", keytab(HOST, END, B), "0 0 b@R", NOT_FOUND),
     find("an entry before the end", keytab(HOST, END, B), "0 0 host/a@R", (2, 3, 17)),
-    find("an entry after unused bytes", keytab(record(HOST.spelled() + b"\xff" * 9), B), "0 0 b@R",
-         (62, 3, 17)),
+    find("an entry after unused bytes", keytab(record(HOST.spelled() + b"\xff" * 9), B), "0 0 b@R", (62, 3, 17)),
     find("version 1, little-endian", old(HOST, B), "0 0 b@R", (49, 3, 17)),
     find("version 1, big-endian", old(HOST, B, order=BIG), "0 0 b@R", (49, 3, 17), "--v1-big"),
     find("version 1, big-endian, read as little", old(HOST, B, order=BIG), "0 0 b@R", DAMAGED),
     find("version 1, little-endian, read as big", old(HOST, B), "0 0 b@R", DAMAGED, "--v1-big"),
     find("version 2 under --v1-big", TWO, "0 0 b@R", (53, 3, 17), "--v1-big"),
     # Damaged files give nothing, even what stands before the fault.
-    *(find(f"damaged, {asked}", image, asked, DAMAGED)
-      for image in (TWO + b"\0", TWO[:-1], keytab(HOST, record(bytes(10)), B))
-      for asked in ("0 0 host/a@R", "0 0 x@R", "9 0 host/a@R")),
-    *(find(f"no keytab {image[:3]!r}", image, "0 0 b@R", message(1, f"k: not a keytab ({why})")) for image,
-      why in ((b"", 1), (b"\x05", 1), (b"\x05\x03" + TWO[2:], 2), (b"\x04\x02" + TWO[2:], 2), (b"xy", 2))),
+    *(find(f"{kind}, {asked}", image, asked, DAMAGED) for asked in ("0 0 host/a@R", "0 0 x@R", "9 0 host/a@R")
+      for kind, image in (("a cut length", TWO + b"\0"), ("a cut record", TWO[:-1]),
+                          ("a bad entry", keytab(HOST, record(bytes(10)), B)))),
+    *(find(f"no keytab {image[:3]!r}", image, "0 0 b@R", message(1, f"k: not a keytab ({why})")) for image, why in (
+        (b"", 1), (b"\x05", 1), (b"\x05\x03" + TWO[2:], 2), (b"\x04\x02" + TWO[2:], 2), (b"xy", 2))),
     lambda: find("a large file", bytes(16_777_217), "0 0 b@R", TOO_LARGE),
     Case("no file", ("ktfind", "no", "0", "0", "b@R"), message(1, "no: no such file"), {"k": TWO}),
     Case("a folder", ("ktfind", ".", "0", "0", "b@R"), message(3, ".: cannot read"), {"k": TWO}),
 ]
 
 
-def check_printed_names(report: Report, program: str) -> None:
+def check(report: Report, program: str) -> None:
     """The name that a listing prints finds the entry of its line."""
     with folder_of({"k": keytab(*NAMED)}) as folder:
         lines = run(program, ["klist", "-k", "k"], folder).out.split(b"\n")[3:-1]
@@ -176,8 +175,3 @@ def check_printed_names(report: Report, program: str) -> None:
             wanted = Outcome(0, b"found %d kvno %d etype 17 " % (place, number) + text + b"\n")
             got = run(program, ["ktfind", "k", "0", "0", "--", text], folder)
             report.compare(f"the printed name {text[:50]!r}", wanted, got)
-
-
-def check(report: Report, program: str) -> None:
-    """What a listing prints is found."""
-    check_printed_names(report, program)

@@ -111,7 +111,7 @@ CASES = [
 ]
 
 
-def check_pieces(report: Report, program: str) -> None:
+def check(report: Report, program: str) -> None:
     """Many entries are printed in writes of some 32 KiB, and are one object."""
     count = 3_000
     image = keytab(*(Entry((b"svc", b"%d" % number)) for number in range(count)))
@@ -119,8 +119,3 @@ def check_pieces(report: Report, program: str) -> None:
     names = [entry["principal"] for entry in json.loads(got.out)["entries"]]
     wanted = [f"svc/{number}@R" for number in range(count)]
     report.check("many entries", [] if names == wanted else ["other names"])
-
-
-def check(report: Report, program: str) -> None:
-    """What is read back."""
-    check_pieces(report, program)

@@ -11,16 +11,17 @@ HOST_LINE = b"   3 host/a@R"
 B_LINE = b"   3 b@R"
 
 
-def listed(*lines: bytes, name: bytes = b"k") -> bytes:
-    """The text of a listing: three first lines, and one line for each entry or fault."""
-    first = (b"Keytab name: FILE:" + name, b"KVNO Principal", b"---- ---------")
+def listed(*lines: bytes, name: bytes = b"k", letters: str = "") -> bytes:
+    """The text of a listing with those columns: a line for each entry or fault. Times alone change the heading."""
+    heads, rule = (b"Timestamp            ", b"-------------------- ") if "t" in letters else (b"", b"")
+    first = (b"Keytab name: FILE:" + name, b"KVNO " + heads + b"Principal", b"---- " + rule + b"---------")
     return b"".join(line + b"\n" for line in (*first, *lines))
 
 
-def case(name: str, image: bytes, *lines: bytes, options: str = "") -> Case:
-    """A listing. A fault, which its last line reports, makes the status 1."""
+def case(name: str, image: bytes, *lines: bytes, letters: str = "", options: str = "") -> Case:
+    """A listing with those columns. A fault, which its last line reports, makes the status 1."""
     status = 1 if any(line.startswith(b"fault ") for line in lines) else 0
-    return over(name, f"klist -k {options} k", image, Outcome(status, listed(*lines)))
+    return over(name, f"klist -k{letters} {options} k", image, Outcome(status, listed(*lines, letters=letters)))
 
 
 def version(name: str, version8: int, after: str, told: bytes) -> Case:

@@ -4,7 +4,8 @@ from __future__ import annotations
 from dataclasses import dataclass
 from datetime import datetime, timedelta
 
-from keytabs.columns import NAMES, headed
+from keytabs.columns import NAMES
+from keytabs.listings import listed
 from makers.images import BIG, LITTLE
 from runs.harness import Outcome, message
 
@@ -196,8 +197,8 @@ def answer(image: bytes, v1_big: bool, columns: str = "") -> Outcome:
     those, fault = read_image(image, v1_big)
     lines = [entry.line(columns) for _, entry in those]
     if fault:
-        return Outcome(1, headed(columns, *lines, b"fault %d at %d" % fault))
-    return Outcome(0, headed(columns, *lines))
+        return Outcome(1, listed(*lines, b"fault %d at %d" % fault, letters=columns))
+    return Outcome(0, listed(*lines, letters=columns))
 
 
 def found(image: bytes, v1_big: bool, kvno: int, enctype: int, name: tuple[bytes, ...]) -> Outcome:

@@ -6,14 +6,15 @@ import socket
 from collections.abc import Callable
 from dataclasses import dataclass
 
+from keytabs.edits import ADD_HOST
 from keytabs.file_names import LIMIT
+from keytabs.ktutil_lines import KEY
 from makers.images import HOST, TWO, Entry, keytab, record
 from runs.harness import Outcome, Report, folder_of, message, run
 from runs.rows import Line, words_of
 from runs.terminal import EXPLAIN, run_on_terminal, runs_with_words
 
-KEY = "000102030405060708090a0b0c0d0e0f"
-ADD = f"add 3 17 1700000000 {KEY} host/a@R\n".encode()
+ADD = f"{ADD_HOST}\n".encode()
 ADDENT = "addent -key -p host/a@R -k 3 -e 17\n"
 WRITE = f"{ADDENT}{KEY}\nwkt k\n".encode()
 CUT = TWO + b"\0\0\0"
@@ -206,7 +207,7 @@ CASES = [
 ]
 
 
-def check_streams(report: Report, program: str) -> None:
+def check(report: Report, program: str) -> None:
     """An input and an output that fail."""
     rows = [
         (("klist", "-k", "k"), "> /dev/full", "cannot write output", "no space left"),
@@ -223,8 +224,3 @@ def check_streams(report: Report, program: str) -> None:
             report.compare(f"{name}, on a pipe", alone, run("sh", (*shell, *words), folder))
             report.compare(f"{name}, {EXPLAIN}", explained, run("sh", (*shell, EXPLAIN, *words), folder))
             report.compare(f"{name}, on a terminal", explained, run_on_terminal("sh", (*shell, *words), folder))
-
-
-def check(report: Report, program: str) -> None:
-    """Streams that no table breaks."""
-    check_streams(report, program)
