@@ -1,7 +1,7 @@
 """Keytabs that are cut, damaged or at their limit, by Python's module: scripts, and what they print."""
 from __future__ import annotations
 
-from makers.images import HOST, LITTLE, TWO, keytab
+from makers.images import HOST, TWO, old
 
 # Cut, damaged and limited keytabs: the places and versions of the entries before the fault, the status
 # that ends the walk there, and the fault.
@@ -80,5 +80,5 @@ def wanted_too_long() -> bytes:
 
 SCRIPTS = (
     ("damaged keytabs", DAMAGED, TWO, wanted_damaged),
-    ("a rewrite that does not fit", TOO_LONG, keytab(HOST, version=1, order=LITTLE), wanted_too_long),
+    ("a rewrite that does not fit", TOO_LONG, old(HOST), wanted_too_long),
 )

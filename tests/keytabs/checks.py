@@ -4,7 +4,7 @@ from __future__ import annotations
 import os
 import stat
 
-from keytabs.file_names import TOO_LARGE
+from keytabs.file_names import LIMIT, TOO_LARGE
 from keytabs.finds import AES256, FIVE
 from keytabs.removals import B3, FOUR, versioned
 from makers.images import B, BIG, END, HOST, LITTLE, TWO, Entry, hole, keytab, old, record
@@ -107,7 +107,7 @@ ROWS = [
     Case("c", ("ktcheck", "c"), message(1, "c: not a keytab (2)"), FILES),
     Case("no file", ("ktcheck", "no"), message(1, "no: no such file"), FILES),
     Case("a folder", ("ktcheck", "."), message(3, ".: cannot read"), FILES),
-    lambda: over("a large file", "ktcheck k", bytes(16_777_217), TOO_LARGE),
+    lambda: over("a large file", "ktcheck k", bytes(LIMIT + 1), TOO_LARGE),
     *(Case(f"ktcheck {words}", ("ktcheck", *words.split()), BAD_LINE, FILES)
       for words in ("", "-k k", "-n k", "k c", "--mode k")),
 ]

@@ -2,7 +2,7 @@
 from __future__ import annotations
 
 from keytabs import columns
-from keytabs.file_names import TOO_LARGE
+from keytabs.file_names import LIMIT, TOO_LARGE
 from makers.images import B, BIG, END, HOST, TWO, Entry, hole, keytab, old, record
 from runs.harness import Case, Outcome, Report, folder_of, message, run
 
@@ -157,7 +157,7 @@ CASES = [
                           ("a bad entry", keytab(HOST, record(bytes(10)), B)))),
     *(find(f"no keytab {image[:3]!r}", image, "0 0 b@R", message(1, f"k: not a keytab ({why})")) for image, why in (
         (b"", 1), (b"\x05", 1), (b"\x05\x03" + TWO[2:], 2), (b"\x04\x02" + TWO[2:], 2), (b"xy", 2))),
-    lambda: find("a large file", bytes(16_777_217), "0 0 b@R", TOO_LARGE),
+    lambda: find("a large file", bytes(LIMIT + 1), "0 0 b@R", TOO_LARGE),
     Case("no file", ("ktfind", "no", "0", "0", "b@R"), message(1, "no: no such file"), {"k": TWO}),
     Case("a folder", ("ktfind", ".", "0", "0", "b@R"), message(3, ".: cannot read"), {"k": TWO}),
 ]

@@ -5,7 +5,6 @@ from makers.images import B, BIG, END, HOST, LITTLE, TWO, Entry, hole, keytab, o
 from runs.harness import Case, Outcome, message
 from runs.rows import over
 
-HOST_RECORD = record(HOST.spelled())
 B_RECORD = record(B.spelled())
 HOST_LINE = b"   3 host/a@R"
 B_LINE = b"   3 b@R"

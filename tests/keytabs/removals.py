@@ -4,7 +4,7 @@ from __future__ import annotations
 import os
 
 from keytabs import greatest
-from keytabs.file_names import TOO_LARGE
+from keytabs.file_names import LIMIT, TOO_LARGE
 from keytabs.finds import AES256, DAMAGED, FIVE, NOT_FOUND
 from makers.images import BIG, END, HOST, LITTLE, TWO, Entry, hole, keytab, old, record
 from runs.harness import Case, Outcome, Report, folder_of, message, run
@@ -110,7 +110,7 @@ CASES = [
     remove("a damaged keytab, nothing old", TWO[:-1], "-k old", DAMAGED),
     remove("a damaged keytab, a dry run", TWO[:-1], "-n -e 17", DAMAGED),
     remove("no keytab", b"xy", "-e 17", message(1, "k: not a keytab (2)")),
-    lambda: remove("a large file", bytes(16_777_217), "-e 17", TOO_LARGE),
+    lambda: remove("a large file", bytes(LIMIT + 1), "-e 17", TOO_LARGE),
     Case("no file", ("ktremove", "-k", "old", "no"), message(1, "no: no such file"), {"k": TWO}),
     Case("no file, a dry run", ("ktremove", "-n", "-k", "old", "no"), message(1, "no: no such file"), {"k": TWO}),
     Case("a folder", ("ktremove", "-k", "old", "."), message(3, ".: cannot read"), {"k": TWO}),

@@ -6,7 +6,7 @@ from dataclasses import dataclass, replace
 
 from keytabs.edits import DAMAGED
 from makers.cache_images import Name, cache, config, header_field
-from makers.images import END, LITTLE, Entry, hole, keytab, record
+from makers.images import END, Entry, keytab, old
 from makers.usual_caches import PA_TYPE, TICKET, USUAL, VERSION_3
 from models import cache_reading
 from models import check_model
@@ -168,10 +168,9 @@ def mixed_keytab(count: int) -> bytes:
     parts = []
     for number in range(count):
         name = (b"x" * (number % 30), b"%d" % number)
-        entry = Entry(name, timestamp=number, version32=number, version8=number % 256)
-        parts.append(record(entry.spelled()))
+        parts.append(Entry(name, timestamp=number, version32=number, version8=number % 256))
         if number % 5 == 0:
-            parts.append(hole(bytes(20 + number % 60)))
+            parts.append(20 + number % 60)
     return keytab(*parts)
 
 
@@ -229,7 +228,7 @@ def talk(list_columns: str = "-t -k -e") -> list[str]:
 
 def talk_files(count: int) -> dict[str, bytes]:
     """The files of those lines: `b` has an end mark, `d` is damaged, `n` is not there."""
-    marked = keytab(Entry((b"m",)), Entry((b"n",)), version=1, order=LITTLE) + END + b"xyz"
+    marked = old(Entry((b"m",)), Entry((b"n",))) + END + b"xyz"
     return {"a": mixed_keytab(count), "b": marked, "d": DAMAGED}
 
 

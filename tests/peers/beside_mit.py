@@ -11,8 +11,7 @@ import time
 
 from keytabs.columns import NAMES
 from keytabs.edits import ADD_B, ADD_C, ADD_HOST
-from keytabs.listings import B_RECORD, HOST_RECORD
-from makers.images import HOST, LITTLE, TWO, Entry, hole, keytab
+from makers.images import B, END, HOST, LITTLE, TWO, Entry, keytab, old
 from models.keytab_model import Keytab
 from models.reading import KeytabEntry
 from models.script_model import KEY_SIZES, edited
@@ -30,8 +29,8 @@ EACH_ETYPE = [
     f"add {300 * number} {number} {number} {bytes(range(size)).hex()} a\\/b\\@/c d\\n\\\\/e@R\\/S"
     for number, size in KEY_SIZES.items()
 ]
-HOLES = keytab(hole(bytes(60)), HOST_RECORD, hole(bytes(41)), B_RECORD)
-OLD = keytab(HOST, Entry((b"a",), b"R", version32=None), version=1, order=LITTLE)
+HOLES = keytab(60, HOST, 41, B)
+OLD = old(HOST, Entry((b"a",), b"R", version32=None))
 
 # Scripts over a keytab, or over none.
 SCRIPTS: list[tuple[str, bytes | None, list[str]]] = [
@@ -40,7 +39,7 @@ SCRIPTS: list[tuple[str, bytes | None, list[str]]] = [
     ("removals and additions", TWO, ["cut 2", ADD_C, *EACH_ETYPE, "cut 53", "cut 98", ADD_B]),
     ("a rewrite", HOLES, [ADD_C, *EACH_ETYPE, "cut 66", "rewrite", ADD_HOST]),
     ("all removed", TWO, ["cut 2", "cut 53"]),
-    ("an end mark", keytab(HOST_RECORD, bytes(4), b"\xff" * 50), [ADD_B, ADD_C]),
+    ("an end mark", keytab(HOST, END, b"\xff" * 50), [ADD_B, ADD_C]),
     ("a version 1 file", OLD, ["cut 2", ADD_B, ADD_HOST]),
     ("a version 1 file that is rewritten", OLD, ["cut 2", "rewrite", ADD_B]),
 ]

@@ -6,9 +6,9 @@ import subprocess
 
 from caches.cache_listings import CONFIG_LINE, TICKET_LINE
 from keytabs.edits import GAVE_HOST
-from keytabs.listings import B_LINE, B_RECORD, HOST_LINE, listed
+from keytabs.listings import B_LINE, HOST_LINE, listed
 from makers.cache_images import cache
-from makers.images import B, HOST, TWO, hole, keytab
+from makers.images import B, HOST, TWO, keytab
 from makers.usual_caches import OFFSET, PA_TYPE, USUAL
 from models.cache_reading import listed as cache_listed
 from runs.harness import Case, Outcome, Report, faults_of, folder_of, message, run_case
@@ -19,7 +19,7 @@ NO_INPUT = message(3, "cannot read input")
 
 # `no` is missing. A script makes of `k` what stands in `CUT`.
 FILES = {"k": TWO, "j": keytab(HOST), "c": USUAL, "damaged": TWO[:-1]}
-CUT = {**FILES, "k": keytab(hole(bytes(47)), B_RECORD)}
+CUT = {**FILES, "k": keytab(47, B)}
 
 WALK = b"start\nstep 0\n"
 SCRIPT = WALK + b"cut 2\n"
