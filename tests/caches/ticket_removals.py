@@ -47,6 +47,15 @@ def remove(name: str, image: bytes, words: str, wanted: Outcome | list[str], aft
     return over(name, f"ccremove {words} c", image, wanted, after)
 
 
+# What may be asked of any cache.
+ASKED = ("-p krbtgt/R@R", "--expired", "-n -p c@R")
+
+
+def unchanged(name: str, image: bytes, wanted: Outcome) -> list[Case]:
+    """A file that is left as it is, whatever is asked for."""
+    return [remove(f"{name}, {words}", image, words, wanted) for words in ASKED]
+
+
 REMOVED = cache(TICKET.removed())
 
 # Configuration entries, one of which has expired, and one that nearly is one.
@@ -118,19 +127,18 @@ CASES = [
            cache(replace(TICKET, endtime=0), replace(LATER, authtime=2**32 - 1)), "--expired",
            ["removed 22 krbtgt/R@R"], cache(replace(LATER, authtime=2**32 - 1))),
     # Caches of version 3, damaged ones, and files that are no caches: the version comes first.
-    *(remove(f"{name}, {words}", image, words, wanted) for words in ("-p krbtgt/R@R", "--expired", "-n -p c@R")
-      for name, image, wanted in (
-        ("version 3", VERSION_3, READ_ONLY), ("version 3, damaged", VERSION_3[:-1], READ_ONLY),
-        ("version 3 without a ticket", cache(version=3), READ_ONLY), ("a damaged cache", USUAL[:-1], DAMAGED),
-        ("an empty file", b"", message(1, "c: not a cache (1)")),
-        ("a keytab", b"\x05\x02", message(1, "c: not a cache (2)")),
-        ("a bad header", b"\x05\x04\0", message(1, "c: not a cache (4)")),
-        ("no default principal", b"\x05\x04\0\0", message(1, "c: not a cache (5)")))),
-    *(lambda words=words: remove(f"a large file, {words}", sized(LIMIT + 1), words, TOO_LARGE)
-      for words in ("-p krbtgt/R@R", "--expired", "-n -p c@R")),
-    *(Case(f"{name}, {words}", ("ccremove", *words.split(), file), wanted, {"c": USUAL})
-      for words in ("--expired", "-p c@R", "-n --expired") for name, file,
-      wanted in (("no file", "no", message(1, "no: no such file")), ("a folder", ".", message(3, ".: cannot read")))),
+    *unchanged("version 3", VERSION_3, READ_ONLY),
+    *unchanged("version 3, damaged", VERSION_3[:-1], READ_ONLY),
+    *unchanged("version 3 without a ticket", cache(version=3), READ_ONLY),
+    *unchanged("a damaged cache", USUAL[:-1], DAMAGED),
+    *unchanged("an empty file", b"", message(1, "c: not a cache (1)")),
+    *unchanged("a keytab", b"\x05\x02", message(1, "c: not a cache (2)")),
+    *unchanged("a bad header", b"\x05\x04\0", message(1, "c: not a cache (4)")),
+    *unchanged("no default principal", b"\x05\x04\0\0", message(1, "c: not a cache (5)")),
+    *(lambda words=words: remove(f"a large file, {words}", sized(LIMIT + 1), words, TOO_LARGE) for words in ASKED),
+    *(Case(f"{file}, {words}", ("ccremove", *words.split(), file), wanted, {"c": USUAL})
+      for file, wanted in (("no", message(1, "no: no such file")), (".", message(3, ".: cannot read")))
+      for words in ("--expired", "-p c@R", "-n --expired")),
     # Lines that are not read.
     *(Case(line, ("ccremove", *line.split()), BAD_LINE, {"c": MANY}) for line in (
         "c", "-n c", "-p", "-p b@R", "--expired", "-n --expired", "-p b@R -p b@R c", "-p b@R -p c@R c",

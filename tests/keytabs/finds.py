@@ -155,8 +155,10 @@ CASES = [
     *(find(f"{kind}, {asked}", image, asked, DAMAGED) for asked in ("0 0 host/a@R", "0 0 x@R", "9 0 host/a@R")
       for kind, image in (("a cut length", TWO + b"\0"), ("a cut record", TWO[:-1]),
                           ("a bad entry", keytab(HOST, record(bytes(10)), B)))),
-    *(find(f"no keytab {image[:3]!r}", image, "0 0 b@R", message(1, f"k: not a keytab ({why})")) for image, why in (
-        (b"", 1), (b"\x05", 1), (b"\x05\x03" + TWO[2:], 2), (b"\x04\x02" + TWO[2:], 2), (b"xy", 2))),
+    *(find(f"no keytab {image[:3]!r}", image, "0 0 b@R", message(1, "k: not a keytab (1)"))
+      for image in (b"", b"\x05")),
+    *(find(f"no keytab {image[:3]!r}", image, "0 0 b@R", message(1, "k: not a keytab (2)"))
+      for image in (b"\x05\x03" + TWO[2:], b"\x04\x02" + TWO[2:], b"xy")),
     lambda: find("a large file", bytes(LIMIT + 1), "0 0 b@R", TOO_LARGE),
     Case("no file", ("ktfind", "no", "0", "0", "b@R"), message(1, "no: no such file"), {"k": TWO}),
     Case("a folder", ("ktfind", ".", "0", "0", "b@R"), message(3, ".: cannot read"), {"k": TWO}),

@@ -105,8 +105,8 @@ CASES = [
     lines("the last line needs no end", b"l\nl", [*HEADING, *HEADING]),
     lines("an end in the midst of a word", b"l\nquit\0", HEADING, "line 2: fault 1"),
     # Each faulty line between two others, which are handled.
-    *(lines(f"faulty line {line!r}", ["rkt k", line, "l"], TWO_LISTED, f"line 2: fault {fault}", files=FILES) for line,
-      fault in FAULTS.items()),
+    *(lines(f"faulty line {line!r}", ["rkt k", line, "l"], TWO_LISTED, f"line 2: fault {fault}", files=FILES)
+      for line, fault in FAULTS.items()),
     *(lines(f"key line {line[:40]!r}", ["rkt k", ADDENT, line, "l"], TWO_LISTED, "line 3: fault 5", files=FILES)
       for line in NO_KEYS),
     *(lines(f"file name {name!r}", b"rkt k\n" + name + b"\nl\n", TWO_LISTED, "line 2: fault 8", files=FILES)
