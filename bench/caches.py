@@ -4,9 +4,6 @@ import struct
 
 from keytabs import key_of
 
-COLUMNS = "tickets, flags and enctypes"  # the group that is listed with these
-REMOVALS = "tickets, the expired ones removed"  # by ccremove -n --expired
-JSON = "tickets, as JSON"  # by klist --json
 OFFSET = struct.pack(">HHHii", 12, 1, 8, 0, 0)  # a header with a time offset alone
 INTEGER, OCTETS, SEQUENCE, STRING, TICKET = 0x02, 0x04, 0x30, 0x1B, 0x61  # tags of ASN.1
 
@@ -59,12 +56,3 @@ def tickets(count):
         server = [b"host", b"server%05d.ad.test" % number]
         made.append(credential(realm, client, server, number))
     return b"".join(made)
-
-
-GROUPS = [
-    # name, unit, maker, sizes, sizes of a quick run
-    ("tickets", "tickets", tickets, (1_000, 10_000, 50_000), (100, 1_000)),
-    (COLUMNS, "tickets", tickets, (1_000, 10_000, 50_000), (100, 1_000)),
-    (REMOVALS, "tickets", tickets, (1_000, 10_000, 50_000), (100, 1_000)),
-    (JSON, "tickets", tickets, (1_000, 10_000, 50_000), (100, 1_000)),
-]

@@ -1,14 +1,12 @@
 /*
- * Stores credentials in a cache file by libkrbfile, removes its last ones and sets configuration values:
- * credentials FILE STORES REMOVALS SETTINGS KEYS. Each value has a key of its own as long as there are that
- * many, and the others the last. It does what mit_credentials.c does, for bench/credentials, and writes the
- * file at the end. REMOVALS "-" removes none, and then it does not go through all credentials first.
+ * Stores credentials in a cache file by libkrbfile, removes its last ones and sets configuration values: credentials
+ * FILE STORES REMOVALS SETTINGS KEYS. Each value has a key of its own as long as there are that many, and the others
+ * the last. It does what mit_credentials.c does, and writes the file at the end.
  */
-#include "image.h"
-
-#include <string.h>
+#include "bench.h"
 
 static krbf_ccache cache = KRBF_NONE;
+static uint32_t *places;
 
 /* Stores the ticket of that number; the numbers make names of one length. */
 static void store(unsigned number) {
@@ -34,47 +32,37 @@ static void set(unsigned number) {
     must(status == KRBF_DONE, "krbf_cc_set_config");
 }
 
-/* The places of all credentials, in file order. */
-static uint32_t *all_places(size_t *count) {
-    uint32_t cursor, status, *places = NULL;
+static size_t all_places(void) {
+    uint32_t cursor, status;
     krbf_ticket ticket;
+    size_t count = 0;
     must(krbf_cc_first(&cache, &cursor) == KRBF_DONE, "krbf_cc_first");
-    for (*count = 0; (status = krbf_cc_next(&cache, &cursor, &ticket)) == KRBF_DONE; ++*count) {
-        places = with_room(places, *count);
-        places[*count] = ticket.place;
+    for (; (status = krbf_cc_next(&cache, &cursor, &ticket)) == KRBF_DONE; count++) {
+        places = with_room(places, count, sizeof *places);
+        places[count] = ticket.place;
     }
     must(status == KRBF_END, "krbf_cc_next");
-    return places;
+    return count;
 }
 
-/* The credentials to remove are those that stood last before the stores. */
-static void change(unsigned stores, const char *removals, unsigned settings, unsigned keys) {
-    size_t count = 0, removed = strtoul(removals, NULL, 10);
-    uint32_t *places = strcmp(removals, "-") ? all_places(&count) : NULL;
-    must(removed <= count, "fewer credentials than removals");
-    for (unsigned number = 0; number < stores; number++)
-        store(number);
-    for (size_t at = 1; at <= removed; at++)
-        must(krbf_cc_remove_at(&cache, places[count - at]) == KRBF_DONE, "krbf_cc_remove_at");
-    for (unsigned number = 0; number < settings; number++)
-        set(number < keys ? number : keys - 1);
-    free(places);
-}
-
-static unsigned number(const char *word) {
-    return (unsigned)strtoul(word, NULL, 10);
+static void remove_nth(size_t at) {
+    must(krbf_cc_remove_at(&cache, places[at]) == KRBF_DONE, "krbf_cc_remove_at");
 }
 
 int main(int argc, char **argv) {
     must(argc == 6, "usage: credentials FILE STORES REMOVALS SETTINGS KEYS");
     size_t len;
     uint8_t *read = read_file(argv[1], &len);
+    unsigned keys = number_in(argv[5]);
     krbf_bytes image;
     must(krbf_cc_open(read, len, 0, &cache) == KRBF_DONE, "krbf_cc_open");
     free(read);
-    change(number(argv[2]), argv[3], number(argv[4]), number(argv[5]));
+    change(argv[2], argv[3], store, all_places, remove_nth);
+    for (unsigned number = 0; number < number_in(argv[4]); number++)
+        set(number < keys ? number : keys - 1);
     must(krbf_cc_image(&cache, &image) == KRBF_DONE, "krbf_cc_image");
     write_file(argv[1], image);
     krbf_cc_close(&cache);
+    free(places);
     return 0;
 }

@@ -1,25 +1,10 @@
 """Makes the keytabs of the benchmark. All are version 2 and hold at most LIMIT bytes."""
 
 import struct
-from typing import NamedTuple
 
 LIMIT = 16_777_216  # what krbfile reads at most
 HEAD = b"\x05\x02"
-COLUMNS = "services, all columns"  # the group that is listed with times, keys and enctypes
-FINDS = "services, the last one"  # the group in which an entry is looked up
-CHECKS = "services, checked"  # the group that ktcheck goes through
-REMOVALS = "services of two versions, the old ones removed"  # by ktremove -n -k old
-JSON = "services, as JSON"  # by klist -k --json
 QUOTED = b"/@\\\n\t\b\0"  # the bytes that a printed name quotes
-
-
-class Case(NamedTuple):
-    """A file to make: its group, its size in the group's own unit, and its bytes."""
-
-    group: str
-    size: int
-    unit: str
-    image: bytes
 
 
 def data(value):
@@ -77,8 +62,8 @@ def mixed(cells, fitting, size):
 
 
 def last_service(entries):
-    """The enctype and the name of the last entry of that many services, an even number."""
-    return ["18", f"host/server{entries // 2 - 1:05d}.ad.test@AD.TEST"]
+    """Any version, the enctype and the name of the last entry of that many services, an even number."""
+    return ["0", "18", f"host/server{entries // 2 - 1:05d}.ad.test@AD.TEST"]
 
 
 def components(count):
@@ -108,25 +93,20 @@ def empty(entries):
     return HEAD + (struct.pack(">i", 17) + bytes(17)) * entries
 
 
-GROUPS = [
-    # name, unit, maker, sizes, sizes of a quick run
-    ("services", "entries", services, (1_000, 100_000, 200_000), (1_000, 10_000)),
-    (COLUMNS, "entries", services, (1_000, 100_000, 200_000), (1_000, 10_000)),
-    ("many components", "components", components, (32_767, 3_276_750), (4_095, 65_535)),
-    ("one-byte holes", "holes", holes, (250_000, 3_000_000), (10_000, 100_000)),
-    ("quoted names", "entries", quoted, (33, 550), (5, 33)),
-    ("empty entries", "entries", empty, (50_000, 798_000), (1_000, 10_000)),
-    (FINDS, "entries", services, (1_000, 100_000, 200_000), (1_000, 10_000)),
-    (CHECKS, "entries", services, (1_000, 100_000, 200_000), (1_000, 10_000)),
-    (REMOVALS, "entries", of_two_versions, (1_000, 100_000, 180_000), (1_000, 10_000)),
-    (JSON, "entries", services, (1_000, 100_000, 200_000), (1_000, 10_000)),
-]
+def holed(entries, roomy):
+    """Services with a hole after each ten. From the entry ROOMY on one of ten holes has room for
+    what is added; the others are too small."""
+    made = [HEAD]
+    for number in range(entries):
+        made.append(service(number))
+        if number % 10 == 9:
+            made.append(hole(100 if number >= roomy and number % 100 == 99 else 60))
+    return b"".join(made)
 
 
-def cases_of(groups, quick):
-    """The cases one by one, so that one image at a time is in memory."""
-    for group, unit, make, sizes, quick_sizes in groups:
-        for size in quick_sizes if quick else sizes:
-            image = make(size)
-            assert len(image) <= LIMIT, (group, size, len(image))
-            yield Case(group, size, unit, image)
+def places(image):
+    """The place of each cell."""
+    at = len(HEAD)
+    while at < len(image):
+        yield at
+        at += 4 + abs(struct.unpack_from(">i", image, at)[0])

@@ -3,10 +3,9 @@
  * The answer is a line for each: what was done, by which library, and nanoseconds of the processor. Needs
  * krb5.h (Debian: libkrb5-dev).
  */
-#include "image.h"
+#include "bench.h"
 
 #include <krb5.h>
-#include <string.h>
 #include <time.h>
 
 #define ETYPE 18

@@ -12,6 +12,7 @@ from pathlib import Path
 from typing import NamedTuple
 
 HERE = Path(__file__).resolve().parent
+ROOT = HERE.parent
 
 
 class Used(NamedTuple):
@@ -21,11 +22,19 @@ class Used(NamedTuple):
     cpu: float  # that a processor worked for it, the kernel's part included
 
 
-def surroundings(folder):
-    """The environment of a run: MIT's programs find an empty krb5.conf."""
-    conf = Path(folder) / "krb5.conf"
-    conf.write_text("")
-    return {**os.environ, "KRB5_CONFIG": str(conf), "LC_ALL": "C"}
+class Setting:
+    """A temporary folder, the krbfile that is measured, and whether little is wanted."""
+
+    def __init__(self, folder, krbfile, quick):
+        self.folder, self.krbfile, self.quick = folder, krbfile, quick
+        conf = folder / "krb5.conf"  # MIT's programs find an empty one
+        conf.write_text("")
+        self.env = {**os.environ, "KRB5_CONFIG": str(conf), "LC_ALL": "C"}
+
+    def listed(self, file):
+        """What krbfile lists of a keytab, but for the times and the file's name."""
+        words = [self.krbfile, "klist", "-k", "-K", "-e", str(file)]
+        return subprocess.run(words, capture_output=True, check=True).stdout.split(b"\n")[1:]
 
 
 def run(words, env, longest, stdin=subprocess.DEVNULL, stdout=subprocess.DEVNULL, cwd=None):
@@ -80,19 +89,14 @@ def mit(program):
 def built(folder, name, *more):
     """The program of NAME.c, built with what else the linker is given."""
     program = str(Path(folder) / name)
-    words = ["cc", "-O2", "-Wall", f"-I{HERE.parent / 'c'}", "-o", program, HERE / f"{name}.c", *more]
+    words = ["cc", "-O2", "-Wall", f"-I{ROOT / 'c'}", "-o", program, HERE / f"{name}.c", *more]
     subprocess.run(words, check=True)
     return program
 
 
-def built_edits(folder):
-    """mit_edits, built. It takes the library by its file, so that its headers need not be there."""
-    return built(folder, "mit_edits", "-l:libkrb5.so.3")
-
-
 def built_over_library(folder, name, *more):
     """The program of NAME.c over libkrbfile."""
-    library = HERE.parent / "lib" / "libkrbfile.a"
+    library = ROOT / "lib" / "libkrbfile.a"
     if not library.exists():
         sys.exit(f"bench: {library} is not there: make lib builds it")
     return built(folder, name, library, *more)
@@ -105,11 +109,11 @@ def processor():
     return platform.machine()
 
 
-def machine(before):
-    """The lines that tell of the machine, given its load before the runs."""
+def machine(version, before):
+    """The lines that tell of the machine and of MIT's version, given the load before the runs."""
     loads = [" ".join(f"{value:.1f}" for value in load) for load in (before, os.getloadavg())]
     return [
         f"- {time.strftime('%Y-%m-%d')}, {processor()}, {os.cpu_count()} processors, "
-        f"Linux {platform.release()}",
+        f"Linux {platform.release()}; beside {version}",
         f"- load before {loads[0]}, after {loads[1]} (over 1, 5 and 15 minutes)",
     ]
