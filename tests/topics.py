@@ -1,4 +1,5 @@
-"""The topics of the tests: modules in the folders beside this file with a table or a function of a certain name."""
+"""The topics of the tests: what has a table or a function of a certain name, of the modules in the folders beside
+this file and of their TOPICS."""
 from __future__ import annotations
 
 import os
@@ -6,6 +7,8 @@ from functools import cache
 from importlib import import_module
 from pkgutil import iter_modules
 from types import ModuleType
+
+from runs.random_runs import Topic
 
 FOLDER = os.path.dirname(os.path.abspath(__file__))
 
@@ -20,6 +23,9 @@ def modules() -> dict[str, ModuleType]:
 
 
 @cache
-def topics(*those: str) -> dict[str, ModuleType]:
-    """The modules that have one of those, by their own names."""
-    return {name: module for name, module in modules().items() if any(hasattr(module, each) for each in those)}
+def topics(*those: str) -> dict[str, ModuleType | Topic]:
+    """What has one of those, by its own name."""
+    found = modules()
+    for module in list(found.values()):
+        found |= {topic.name: topic for topic in getattr(module, "TOPICS", ())}
+    return {name: topic for name, topic in found.items() if any(hasattr(topic, each) for each in those)}

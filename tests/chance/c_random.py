@@ -5,27 +5,25 @@ from clients.c_library import SANITIZED, build, is_built
 from makers.sample_caches import caches
 from makers.sample_keytabs import keytabs
 from runs.harness import Outcome, Report, folder_of, run
+from runs.random_runs import Rounds
 
-# How many calls there are by default, and for each random case of a long test.
-CALLS = 100_000
-CALLS_EACH = 50
+# How many calls there are for each number.
+CALLS = 50
 
 
-def check(report: Report, _program: str, seed: int = 1, calls: int = CALLS) -> None:
-    """Runs all of this topic, where the library was built."""
+def check_rounds(report: Report, _program: str, seeds: range) -> None:
+    """Makes the calls of all numbers in one run, where the library was built."""
     if not is_built(report, "random calls of C"):
         return
     made = {"k": keytabs(), "c": caches()[:20]}
     files = {f"{kind}{at}": image for kind, those in made.items() for at, image in enumerate(those)}
     names = {kind: [name for name in files if name[0] == kind] for kind in made}
+    seed, calls = seeds.start + 1, len(seeds) * CALLS
     words = (str(seed), str(calls), *names["k"], "--", *names["c"])
     with folder_of({}) as folder, folder_of(files) as at:
         got = run(build(folder, "random_calls", *SANITIZED), words, at)
     report.compare(f"{calls} random calls of C, seed {seed}", Outcome(0), got)
 
 
-def check_long(_program: str, seed: int, count: int) -> Report:
-    """Runs that many times some calls."""
-    report = Report()
-    check(report, "", seed, count * CALLS_EACH)
-    return report
+TOPIC = Rounds(check_rounds, share=1, usual=2_000)
+check, check_long = TOPIC.check, TOPIC.check_long

@@ -1,30 +1,24 @@
-"""Listings of random caches and of caches with random damage, beside what the format says of them.
-"""
+"""Random caches: of any credentials, or of values under few names, and with damage."""
 from __future__ import annotations
 
-import re
-from collections.abc import Iterator
+from collections.abc import Callable
 from dataclasses import replace
 from random import Random
 
-from chance.random_images import random_bytes
+from chance.random_keytabs import random_bytes
 from keytabs.columns import NAMES
-from makers.cache_images import CONFIG_FIRST, CONFIG_REALM, Credential, Name, cache, header_field, offset
+from makers.cache_images import CONFIG_FIRST, CONFIG_REALM, Credential, Name, cache, config, header_field, offset
 from makers.images import number
-from makers.mutations import damaged
-from models.cache_reading import FLAGS, answer
-from runs.harness import Case
-from runs.random_runs import CaseAt, Topic, always
+from makers.mutations import damaged, mutated
+from makers.sample_caches import caches
+from models.cache_reading import FLAGS
 
-# The kinds of answers and lines, each of which has to come up.
-KINDS = (
-    "whole", "fault 4", *(f"not a cache ({why})" for why in (1, 2, 4, 5)),
-    "a config line", "a config line with a principal", "a ticket", "renew until", "Flags", "Etype",
-)
+# Caches as programs leave them.
+SAMPLES = caches()
 
-# The lines that each image is listed by: two of these, of which the second has all columns.
-LINES = [("c",), ("-c", "c"), ("-e", "c"), ("-f", "c"), ("-C", "c"), ("-cf", "c"), ("c", "-eC")]
-ALL_COLUMNS = ("-c", "-e", "-f", "-C", "c")
+# Few keys and principals, so that many values are set in place of others.
+KEYS = [b"k", b"l", b"pa_type", b"\\x00", b"\x00", b"-"]
+PRINCIPALS = [b"-", b"-", b"krbtgt/R@R", b"a@R", b"\\a@R", b"\xff@"]
 
 
 def random_number(random: Random, bits: int) -> int:
@@ -99,45 +93,34 @@ def random_cache(random: Random) -> bytes:
     return cache(*cells, default=random_name(random), fields=random_header(random), version=version)
 
 
-def random_image(random: Random) -> bytes:
-    """A cache, of which half are damaged."""
-    image = random_cache(random)
-    if random.random() < 0.08:
-        image = random.choice([image[: random.randrange(5)], b"\x05" + random.randbytes(30)])
-    return damaged(random, image, random_cache(random)) if random.random() < 0.5 else image
+def random_value(random: Random) -> bytes:
+    """A value: any bytes of a line."""
+    return random.randbytes(random.choice([0, 1, 2, 30])).replace(b"\n", b" ")
 
 
-def listings(random: Random, image: bytes) -> Iterator[CaseAt]:
-    """The listings of an image."""
-    for words in (random.choice(LINES), ALL_COLUMNS):
-        columns = "".join(word[1:] for word in words if word.startswith("-"))
-        yield always(Case("", ("klist", *words), answer(image, columns), {"c": image}))
+def random_setting(random: Random, default: Name) -> Credential:
+    """A value that is set, now and then by another client, removed, or with more fields."""
+    client = replace(default, name_type=random.choice([default.name_type, 1, 7]))
+    client = random_name(random) if random.random() < 0.1 else client
+    principal = random.choice(PRINCIPALS)
+    made = config(random.choice(KEYS), random_value(random),
+                  None if principal == b"-" else principal, client)
+    if random.random() < 0.2:
+        made = replace(random_credential(random), client=client, server=made.server)
+    return made.removed() if random.random() < 0.2 else made
 
 
-def random_listings(random: Random) -> Iterator[CaseAt]:
-    """The listings of a random cache."""
-    yield from listings(random, random_image(random))
+def filled_cache(random: Random, version: int, makers: list[Callable[[Random], Credential]], most: int) -> bytes:
+    """A sound cache of fewer than that many tickets, and of values under few names."""
+    default = random_name(random, False)
+    makers = [*makers, lambda random: random_setting(random, default)]
+    cells = [random.choice(makers)(random).spelled(version) for _ in range(random.randrange(most))]
+    fields = b"" if version == 3 else random_header(random)
+    return cache(*cells, default=default, fields=fields, version=version)
 
 
-def kinds_of(case: Case) -> Iterator[str]:
-    """The kinds of an answer and of its lines."""
-    wanted = case.wanted
-    if wanted.err:
-        yield wanted.err.decode().split(": ")[-1].strip()
-        return
-    for line in wanted.out.splitlines()[4:]:
-        front = line.partition(b" = ")[0]
-        if line.startswith(b"    "):
-            yield re.match("    (renew until|Flags|Etype)", line.decode())[1]
-        elif front.startswith(b"config: "):
-            yield "a config line with a principal" if front.endswith(b")") else "a config line"
-        elif line.startswith(b"fault "):
-            yield "fault 4"
-        else:
-            yield "a ticket"
-    if wanted.status == 0:
-        yield "whole"
-
-
-TOPIC = Topic("random caches", random_listings, kinds_of, KINDS, usual=400)
-check, check_long = TOPIC.check, TOPIC.check_long
+def with_damage(random: Random, image: bytes, chance: float) -> bytes:
+    """The cache, damaged by that chance, or now and then a damaged sample."""
+    if random.random() < 0.1:
+        return mutated(random, SAMPLES)
+    return damaged(random, image, random_cache(random)) if random.random() < chance else image

@@ -1,18 +1,71 @@
-"""Random keytabs to be changed: sound and damaged, of both versions, with holes and end marks."""
+"""Random keytabs: any images, those that are to be changed, and those of few names, of which many entries agree."""
 from __future__ import annotations
 
-from dataclasses import replace
+from dataclasses import dataclass, replace
 from random import Random
 
-from chance.random_images import random_bytes, random_entry, random_image
-from makers.images import BIG, END, LITTLE, hole, keytab, record
+from makers.images import BIG, END, LITTLE, Entry, hole, keytab, record
 from makers.mutations import mutated
 from makers.sample_keytabs import keytabs
 
 SAMPLES = keytabs()
 
+# Lengths that run past the end, end the file, or are cut.
+LENGTHS = [END, b"\0", b"\0\0\0\1", b"\x7f\xff\xff\xff", b"\x80\0\0\0", b"\xff\xff\xff\xff"]
 
-def random_part(random: Random, version: int, order: str) -> bytes:
+
+def random_bytes(random: Random, most: int) -> bytes:
+    """Bytes of which many are quoted in names."""
+    alphabet = b"/@\\\n\t\b\0abcxyz\xff\xc3\xa9 "
+    return bytes(random.choices(alphabet, k=random.randrange(most + 1)))
+
+
+def random_entry(random: Random) -> Entry:
+    """An entry with any fields. Its count of components is mostly the true one."""
+    return Entry(
+        components=tuple(random_bytes(random, 5) for _ in range(random.choice([0, 1, 2, 2, 3]))),
+        realm=random_bytes(random, 4),
+        name_type=random.randrange(2**32),
+        timestamp=random.randrange(2**32),
+        version8=random.randrange(2**8),
+        enctype=random.randrange(2**16),
+        key=random_bytes(random, 20),
+        version32=random.choice([None, 0, random.randrange(300), random.randrange(2**32)]),
+        count=random.randrange(5) if random.random() < 0.1 else None,
+    )
+
+
+def any_part(random: Random, version: int, order: str) -> bytes:
+    """A record, a hole or an odd length."""
+    kind = random.random()
+    if kind < 0.7:
+        entry = random_entry(random).spelled(version, order)
+        if random.random() < 0.3:
+            entry += random_bytes(random, 12)
+        if random.random() < 0.05:
+            entry = entry[: random.randrange(1, len(entry))]
+        return record(entry, order)
+    if kind < 0.9:
+        return hole(b"x" + random_bytes(random, 12), order)
+    return random.choice(LENGTHS)
+
+
+def random_image(random: Random) -> bytes:
+    """A keytab of up to five parts, of which a third is damaged in one byte or cut."""
+    version = random.choice([1, 2, 2])
+    order = random.choice([BIG, LITTLE]) if version == 1 else BIG
+    parts = (any_part(random, version, order) for _ in range(random.randrange(6)))
+    image = bytearray(keytab(*parts, version=version))
+    damage = random.random()
+    at = random.randrange(len(image))
+    if damage < 0.2:
+        image[at] = random.choice([0, 1, 2, 5, 0xFF])
+    elif damage < 0.35:
+        del image[at:]
+    return bytes(image)
+
+
+def sound_part(random: Random, version: int, order: str) -> bytes:
     """A record, perhaps with bytes after its entry, or a hole that may have room for an entry."""
     if random.random() < 0.3:
         return hole(random.randbytes(random.randrange(1, 130)), order)
@@ -34,7 +87,47 @@ def random_keytab(random: Random, most: int = 7) -> tuple[bytes, bool]:
         return mutated(random, SAMPLES), v1_big
     version = random.choice([1, 2, 2, 2])
     order = BIG if version == 2 or v1_big else LITTLE
-    parts = [random_part(random, version, order) for _ in range(random.randrange(most + 1))]
+    parts = [sound_part(random, version, order) for _ in range(random.randrange(most + 1))]
     if random.random() < 0.2:
         parts += [END, random_bytes(random, 120)]
     return keytab(*parts, version=version), v1_big
+
+
+@dataclass(frozen=True)
+class Choices:
+    """What the fields of entries are chosen from. A name is its components and then a realm."""
+
+    names: tuple[tuple[bytes, ...], ...]
+    versions: tuple[int, ...]
+    enctypes: tuple[int, ...]
+    timestamps: tuple[int, ...] = (Entry.timestamp,)
+    keys: tuple[bytes, ...] = (b"", b"\0", b"\0\0")
+
+    def random_part(self, random: Random, version: int, order: str) -> bytes:
+        """A record, a hole, or now and then an odd part."""
+        *components, realm = random.choice(self.names)
+        kvno = random.choice(self.versions)
+        wide = kvno > 255 or random.random() < 0.5
+        data = Entry(
+            tuple(components),
+            realm,
+            name_type=random.randrange(3),
+            timestamp=random.choice(self.timestamps),
+            version8=kvno % 256,
+            enctype=random.choice(self.enctypes),
+            key=random.choice(self.keys),
+            version32=kvno if wide else None,
+        ).spelled(version, order)
+        kind = random.random()
+        if kind < 0.86:
+            return record(data + bytes(random.randrange(4)) * wide, order)
+        if kind < 0.98:
+            return hole(data, order)
+        return random.choice([END, b"\0", record(b"\0", order), b"\x7f\xff\xff\xff"])
+
+    def random_keytab(self, random: Random) -> tuple[bytes, bool]:
+        """A keytab of some parts, and whether it is big-endian where it is of version 1."""
+        version, is_big = random.choice([1, 2, 2]), random.random() < 0.5
+        order = BIG if version == 2 or is_big else LITTLE
+        parts = [self.random_part(random, version, order) for _ in range(random.randrange(12))]
+        return keytab(*parts, version=version), is_big

@@ -1,13 +1,45 @@
 """Random lines of scripts over a store of either format, made beside the store that they change."""
 from __future__ import annotations
 
-import re
 from collections.abc import Callable, Iterable, Iterator
 from dataclasses import dataclass
+from functools import partial
 from random import Random
 
+from chance.random_keytabs import random_bytes
+from keytabs.columns import NAMES
+from models.reading import KeytabEntry
+from models.script_model import KEY_SIZES
 from models.walks import Event, Session, Store
 from runs.harness import Case
+from runs.random_runs import CaseAt, said
+
+
+def random_number(random: Random) -> str:
+    """A number, now and then with zeros before it."""
+    number = random.choice([0, 1, 3, 255, 256, 300, 1_700_000_000, 2**32 - 1])
+    return f"{number:010}" if random.random() < 0.1 else str(number)
+
+
+def random_name(random: Random) -> bytes:
+    """The text of a name, rarely one that is too long."""
+    parts = [random_bytes(random, 12) for _ in range(random.choice([1, 1, 2, 3]))]
+    if random.random() < 0.01:
+        parts[0] = b"x" * random.choice([300, 65_535, 65_536])
+    if random.random() < 0.001:
+        parts = [b""] * 65_536
+    text = KeytabEntry((*parts, random_bytes(random, 4)), 1, 0, 0, 0, b"").text()
+    return text.replace(b"x", b"\\x") if random.random() < 0.1 else text
+
+
+def random_etype_and_key(random: Random) -> tuple[str, str]:
+    """An enctype by number or name, and a key that it takes, in hexadecimal."""
+    number = random.choice([*KEY_SIZES, 0, 1, 999, 65_535])
+    size = KEY_SIZES.get(number, random.randrange(40))
+    named = number in NAMES and random.random() < 0.4
+    key = random.randbytes(size).hex() or "-"
+    word = NAMES[number].decode() if named else str(number)
+    return word, key.upper() if random.random() < 0.2 else key
 
 
 def random_place(random: Random, store: Store, of_records: bool) -> int:
@@ -57,6 +89,14 @@ class Scripts:
             lines.insert(at, random.choice(list(self.faults)).encode())
         return b"\n".join(lines) + random.choice([b"", b"\n", b"\n\n"])
 
+    def in_turn(self, random: Random, image: bytes | None, session_over: Callable[[bytes | None], Session],
+                run: Callable[..., Case]) -> Iterator[CaseAt]:
+        """Up to three scripts in turn over one file, which may be missing at first."""
+        for _ in range(random.randrange(1, 4)):
+            case_at = partial(run, image, self.random_script(random, session_over(image)))
+            yield case_at
+            image = next(iter(case_at(0).files_after.values()), None)
+
 
 def reply_kind(line: bytes) -> str:
     """The kind of a reply."""
@@ -68,6 +108,4 @@ def reply_kind(line: bytes) -> str:
 def kinds_of(case: Case) -> Iterator[str]:
     """The kinds of a run's lines."""
     yield from map(reply_kind, case.wanted.out.splitlines())
-    said = re.sub(r" \(\d\)", "", case.wanted.err.decode())
-    if said:
-        yield said.split(": ")[-1].strip()
+    yield from filter(None, [said(case).split(" (")[0]])

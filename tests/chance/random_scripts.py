@@ -1,66 +1,83 @@
-"""Random scripts of `ktedit` over random keytabs, up to three in turn over one file.
+"""Random scripts over random keytabs and caches, up to three in turn over one file, and long ones.
 
-Each is made beside the keytab that it changes, so that its places and walks are mostly there.
+Each is made beside the file that it changes, so that its places and walks are mostly there. A long one has
+thousands of events over one keytab, whose cells `ktedit` keeps a table of, by which it finds holes; `klist`
+and `ktfind` read the saved file from its front.
 """
 from __future__ import annotations
 
 from collections.abc import Iterator
+from functools import partial
 from random import Random
 
-from chance.random_images import random_bytes
-from chance.random_keytabs import random_keytab
-from chance.random_lines import Scripts, kinds_of, walk_line
-from keytabs.columns import NAMES
+from caches.cache_scripts import FAULTS as CACHE_FAULTS
+from chance.random_caches import (
+    KEYS,
+    PRINCIPALS,
+    filled_cache,
+    random_cache,
+    random_credential,
+    random_value,
+    with_damage,
+)
+from chance.random_keytabs import random_keytab, sound_part
+from chance.random_lines import (
+    Scripts,
+    kinds_of,
+    random_etype_and_key,
+    random_name,
+    random_number,
+    random_place,
+    reply_kind,
+    walk_line,
+)
 from keytabs.scripts import FAULTS
+from makers.cache_images import cache
+from makers.images import BIG, LITTLE, keytab
+from models import cache_script_model, script_model
+from models.cache_model import Cache
+from models.cache_reading import read_cache
+from models.cache_script_model import CacheSession
+from models.cases import ccedit, klist, ktedit, ktfind
 from models.keytab_model import Keytab
-from models.reading import KeytabEntry, no_keytab
-from models.script_model import KEY_SIZES, KeytabSession, edited, event_in
+from models.reading import name_text, no_keytab
+from models.script_model import KeytabSession
 from models.walks import Session
 from runs.harness import Case
-from runs.random_runs import CaseAt, Topic, always
+from runs.random_runs import CaseAt, Topic
 
-# What each of them may be, by how often.
+# What a line may be, by how often.
 LINES = {"start": 3, "resume": 3, "step": 12, "add": 6, "cut": 5, "rewrite": 1, "#": 1, "": 1}
+CACHE_LINES = {"start": 3, "resume": 3, "step": 12, "config": 6, "cut": 4, "rewrite": 1, "#": 1, "": 1}
 
 # The kinds of lines that have to come up.
-KINDS = (
-    "walk at", "walk gave", "walk end", "walk fault", "placed", "gone", "rewritten",
-    *(f"refused {code}" for code in (1, 2, 4, 5, 6, 7)),
-    *(f"fault {number}" for number in range(1, 7)),
-    "not a keytab",
-)
+REPLIES = ("walk at", "walk gave", "walk end", "walk fault", "placed", "gone", "rewritten")
+OF_KEYTABS = (*REPLIES, *(f"refused {code}" for code in (1, 2, 4, 5, 6, 7)),
+              *(f"fault {number}" for number in range(1, 7)), "not a keytab")
+OF_CACHES = (*REPLIES, *(f"refused {code}" for code in (1, 4, 5, 6, 7, 8)),
+             *(f"fault {number}" for number in (1, 2, 3, 6)), "not a cache", "no such file")
+OF_LONG = ("placed", "gone", "walk gave", "walk end", "walk at", "rewritten", "refused 5", "klist", "ktfind")
+
+# How many events a long script has, and how many cells there are at first: none, few, about a power of two, or many.
+EVENTS = 3_000
+CELLS = [0, 1, 2, 15, 63, 64, 65, 255, 256, 511, 700]
+
+# What one of its events may be, by how often, where the keytab grows and where it shrinks.
+MIXES = [
+    {"add": 400, "cut": 100, "step": 100, "resume": 10, "start": 2, "rewrite": 0},
+    {"add": 200, "cut": 250, "step": 200, "resume": 20, "start": 5, "rewrite": 1},
+    {"add": 50, "cut": 350, "step": 100, "resume": 10, "start": 2, "rewrite": 1},
+]
 
 
-def random_number(random: Random) -> str:
-    """A number, now and then with zeros before it."""
-    number = random.choice([0, 1, 3, 255, 256, 300, 1_700_000_000, 2**32 - 1])
-    return f"{number:010}" if random.random() < 0.1 else str(number)
-
-
-def random_name(random: Random) -> bytes:
-    """The text of a name, rarely one that is too long."""
-    parts = [random_bytes(random, 12) for _ in range(random.choice([1, 1, 2, 3]))]
-    if random.random() < 0.01:
-        parts[0] = b"x" * random.choice([300, 65_535, 65_536])
-    if random.random() < 0.001:
-        parts = [b""] * 65_536
-    text = KeytabEntry((*parts, random_bytes(random, 4)), 1, 0, 0, 0, b"").text()
-    return text.replace(b"x", b"\\x") if random.random() < 0.1 else text
-
-
-def random_etype_and_key(random: Random) -> tuple[str, str]:
-    """An enctype by number or name, and a key that it takes, in hexadecimal."""
-    number = random.choice([*KEY_SIZES, 0, 1, 999, 65_535])
-    size = KEY_SIZES.get(number, random.randrange(40))
-    named = number in NAMES and random.random() < 0.4
-    key = random.randbytes(size).hex() or "-"
-    word = NAMES[number].decode() if named else str(number)
-    return word, key.upper() if random.random() < 0.2 else key
+def chosen(random: Random, weights: dict[str, int]) -> str:
+    """One of them, by how often it comes."""
+    return random.choices(list(weights), weights.values())[0]
 
 
 def random_line(random: Random, session: Session) -> bytes:
     """A line that goes on from there."""
-    kind = random.choices(list(LINES), LINES.values())[0]
+    kind = chosen(random, LINES)
     if kind == "add":
         etype, key = random_etype_and_key(random)
         words = [kind, random_number(random), etype, random_number(random), key, ""]
@@ -68,23 +85,120 @@ def random_line(random: Random, session: Session) -> bytes:
     return walk_line(random, session, kind)
 
 
-SCRIPTS = Scripts(random_line, event_in, FAULTS)
+def session_over(v1_big: bool, image: bytes | None) -> KeytabSession:
+    """A session over a keytab, or an empty one where it is none."""
+    opened = b"\x05\x02" if image is None or no_keytab(image) else image
+    return KeytabSession(Keytab(opened, v1_big))
 
 
 def random_runs(random: Random) -> Iterator[CaseAt]:
-    """Some scripts in turn over one file, which may be missing at first."""
+    """Scripts over a keytab."""
     image, v1_big = random_keytab(random)
-    if random.random() < 0.1:
-        image = None
-    words = ("ktedit", "--v1-big", "k") if v1_big else ("ktedit", "k")
-    for _ in range(random.randrange(1, 4)):
-        opened = b"\x05\x02" if image is None or no_keytab(image) else image
-        session = KeytabSession(Keytab(opened, v1_big))
-        script = SCRIPTS.random_script(random, session)
-        wanted, after = edited(image, script, v1_big)
-        files, files_after = ({} if one is None else {"k": one} for one in (image, after))
-        yield always(Case("", words, wanted, files, files_after, script))
-        image = after
+    image = None if random.random() < 0.1 else image
+    scripts = Scripts(random_line, script_model.event_in, FAULTS)
+    yield from scripts.in_turn(random, image, partial(session_over, v1_big), partial(ktedit, v1_big=v1_big))
 
-TOPIC = Topic("random scripts", random_runs, kinds_of, KINDS, usual=500)
-check, check_long = TOPIC.check, TOPIC.check_long
+
+def random_cache_line(random: Random, session: Session) -> bytes:
+    """A line that goes on from there."""
+    kind = chosen(random, CACHE_LINES)
+    if kind == "config":
+        words = [b"config", random.choice(KEYS), random.choice(PRINCIPALS), random_value(random)]
+        return b" ".join(words)
+    return walk_line(random, session, kind)
+
+
+def cache_image(random: Random) -> bytes:
+    """A cache, of which some are damaged, and few are none."""
+    is_filled = random.random() < 0.8
+    image = (filled_cache(random, random.choice([3, 4, 4, 4]), [random_credential], 8) if is_filled
+             else random_cache(random))
+    if random.random() < 0.02:
+        return random.choice([b"", b"\x05", b"\x05\x02", image[:10]])
+    return with_damage(random, image, 0.2)
+
+
+def cache_session_over(image: bytes | None) -> CacheSession:
+    """A session over a cache, or an empty one where it is none."""
+    is_cache = image is not None and not isinstance(read_cache(image), int)
+    return CacheSession(Cache(image if is_cache else cache()))
+
+
+def random_cache_runs(random: Random) -> Iterator[CaseAt]:
+    """Scripts over a cache, which now and then is missing."""
+    image = None if random.random() < 0.02 else cache_image(random)
+    scripts = Scripts(random_cache_line, cache_script_model.event_in, CACHE_FAULTS)
+    yield from scripts.in_turn(random, image, cache_session_over, ccedit)
+
+
+def many_cells(random: Random) -> tuple[bytes, bool]:
+    """A sound keytab, and whether it is read as big-endian."""
+    version, v1_big = random.choice([1, 2, 2, 2]), random.random() < 0.5
+    order = BIG if version == 2 or v1_big else LITTLE
+    parts = [sound_part(random, version, order) for _ in range(random.choice(CELLS))]
+    return keytab(*parts, version=version), v1_big
+
+
+def addition(random: Random) -> bytes:
+    """A line that adds an entry, of one of many sizes."""
+    name = "x" * random.choice([1, 2, random.randrange(1, 30), random.randrange(1, 150)])
+    key = random.randbytes(random.randrange(1, 20)).hex()
+    kvno, etype = random.randrange(400), random.choice([1, 3])
+    return f"add {kvno} {etype} 1700000000 {key} {name}@R".encode()
+
+
+def long_line(random: Random, session: KeytabSession, mix: dict[str, int]) -> bytes:
+    """A line that goes on from there."""
+    kind = chosen(random, mix)
+    if kind == "add":
+        return addition(random)
+    if kind in ("cut", "resume"):
+        return f"{kind} {random_place(random, session.store, kind == 'cut')}".encode()
+    return f"step {random.randrange(len(session.cursors))}".encode() if kind == "step" else kind.encode()
+
+
+def long_script(random: Random, session: KeytabSession) -> bytes:
+    """A script over that session: the keytab grows for a while, or shrinks."""
+    lines = [b"start"]
+    session.apply(script_model.event_in(lines[0]))
+    while len(lines) < EVENTS:
+        mix = random.choice(MIXES)
+        for _ in range(random.randrange(600)):
+            line = long_line(random, session, mix)
+            session.apply(script_model.event_in(line))
+            lines.append(line)
+    return b"\n".join(lines)
+
+
+def is_word(name: tuple[bytes, ...]) -> bool:
+    """Whether the text of a name is UTF-8, as a word of a command line has to be."""
+    try:
+        name_text(name).decode()
+    except UnicodeDecodeError:
+        return False
+    return True
+
+
+def long_runs(random: Random) -> Iterator[CaseAt]:
+    """A script over a keytab, its listing afterwards, and look-ups of entries that it has."""
+    image, v1_big = many_cells(random)
+    case_at = partial(ktedit, image, long_script(random, session_over(v1_big, image)), v1_big=v1_big)
+    yield case_at
+    after = case_at(0).files_after["k"]
+    yield partial(klist, after, columns="tKe", v1_big=v1_big)
+    entries = [one for one in Keytab(after, v1_big).entries() if is_word(one.name)]
+    for entry in random.sample(entries, min(4, len(entries))):
+        kvno = random.choice([0, entry.kvno])
+        yield partial(ktfind, after, kvno=kvno, enctype=entry.enctype, name=entry.name, v1_big=v1_big)
+
+
+def kinds_of_long(case: Case) -> Iterator[str]:
+    """The kinds of a script's replies, or the command that reads."""
+    yield from map(reply_kind, case.wanted.out.splitlines()) if case.words[0] == "ktedit" else [str(case.words[0])]
+
+
+TOPICS = (
+    Topic("random scripts", random_runs, kinds_of, OF_KEYTABS, usual=500),
+    Topic("random scripts over caches", random_cache_runs, kinds_of, OF_CACHES, usual=500),
+    Topic("long scripts", long_runs, kinds_of_long, OF_LONG, usual=4, share=200),
+)

@@ -14,7 +14,7 @@ from makers.sample_keytabs import keytabs
 from makers.samples import SAMPLES
 from makers.usual_caches import PA_TYPE, TICKET, USUAL
 from peers import corpus
-from runs.harness import SECONDS, TOP, Outcome, Report, differences, folder_of, run
+from runs.harness import SECONDS, TOP, Outcome, Report, differences, files_in, folder_of, run
 
 LIBRARY = os.path.join(TOP, "lib", "libkrbfile.a")
 SHARED = os.path.join(TOP, "lib", "libkrbfile.so.1")
@@ -67,8 +67,7 @@ def edited(program: str, image: bytes) -> bytes:
     """A keytab after an addition by `ktedit`."""
     with folder_of({"f": image}) as folder:
         run(program, ("ktedit", "f"), folder, ADDED.encode())
-        with open(os.path.join(folder, "f"), "rb") as file:
-            return file.read()
+        return files_in(folder)["f"]
 
 
 def stored(image: bytes) -> bytes:
@@ -138,8 +137,7 @@ def check_example(report: Report, program: str) -> None:
         built = build(folder, "filter", sources=folder)
         got = run(built, (), folder, keytab)
         run(program, ("ktremove", "-e", "23", "k"), folder)
-        with open(os.path.join(folder, "k"), "rb") as file:
-            report.compare("the example of krbfile(3)", Outcome(0, file.read()), got)
+        report.compare("the example of krbfile(3)", Outcome(0, files_in(folder)["k"]), got)
         hole = (-(1 << 24)).to_bytes(4, "big", signed=True) + bytes(1 << 24)
         for what, image in (("damaged", keytab + b"\x7f"), ("large", TWO + hole)):
             got = run(built, (), folder, image)

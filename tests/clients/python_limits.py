@@ -1,7 +1,7 @@
 """Keytabs that are cut, damaged or at their limit, by Python's module: scripts, and what they print."""
 from __future__ import annotations
 
-from makers.images import HOST, TWO, old
+from makers.images import HOST, TWO, keytab, old
 
 # Cut, damaged and limited keytabs: the places and versions of the entries before the fault, the status
 # that ends the walk there, and the fault.
@@ -53,32 +53,23 @@ with Keytab.open(image, limit=len(image)) as keytab:
 """
 
 
-def wanted_damaged() -> bytes:
-    """What the script of damaged keytabs prints: HOST stands at 2, B at 53, and 98 bytes are all."""
-    return b"".join(line + b"\n" for line in (
-        b"0 11",
-        b"2 ([], None)",
-        b"3 ([31], (1, 2))",
-        b"6 ([31], (2, 2))",
-        b"53 ([(2, 3)], None)",
-        b"54 ([(2, 3), 31], (1, 53))",
-        b"57 ([(2, 3), 31], (2, 53))",
-        b"98 ([(2, 3), (53, 3)], None)",
-        b"1 ([31], (3, 2))",
-        b"43 ([(2, 3)], None)",
-        b"6 ([31], (3, 2))",
-        b"8 ([31], (3, 2))",
-        b"31 ([31], (3, 2))",
-        b"11 12 12 13",
-    ))
-
-
-def wanted_too_long() -> bytes:
-    """What the script of a rewrite that does not fit prints."""
-    return b"2\n33 True []\n"
-
-
+# HOST stands at 2, B at 53, and 98 bytes are all.
 SCRIPTS = (
-    ("damaged keytabs", DAMAGED, TWO, wanted_damaged),
-    ("a rewrite that does not fit", TOO_LONG, old(HOST), wanted_too_long),
+    ("damaged keytabs", DAMAGED, TWO, [
+        "0 11",
+        "2 ([], None)",
+        "3 ([31], (1, 2))",
+        "6 ([31], (2, 2))",
+        "53 ([(2, 3)], None)",
+        "54 ([(2, 3), 31], (1, 53))",
+        "57 ([(2, 3), 31], (2, 53))",
+        "98 ([(2, 3), (53, 3)], None)",
+        "1 ([31], (3, 2))",
+        "43 ([(2, 3)], None)",
+        "6 ([31], (3, 2))",
+        "8 ([31], (3, 2))",
+        "31 ([31], (3, 2))",
+        "11 12 12 13",
+    ]),
+    ("a rewrite that does not fit", TOO_LONG, old(HOST), ["2", "33 True []"]),
 )

@@ -11,6 +11,7 @@ from makers.images import B, TWO, Entry, keytab
 from makers.usual_caches import PA_TYPE, TICKET
 from pages.readme import LIBRARY, surroundings
 from runs.harness import SECONDS, Outcome, Report
+from runs.rows import text
 
 KEYTABS = """
 from krbfile import Keytab, KrbfileError
@@ -196,77 +197,52 @@ with Keytab.open(sys.stdin.buffer.read()) as keytab:
 """
 
 
-def wanted_keytabs() -> bytes:
-    """What the first script prints. HOST has 51 bytes, B 45: c@R is put where HOST stood."""
-    c = Entry((b"c",), key=bytes(16), version8=7, version32=7, timestamp=5)
-    after = keytab(c, B)
-    return b"\n".join((
-        b"[(2, b'host/a@R', 3, 17), (53, b'b@R', 3, 17)]",
-        b"b'R' (b'host', b'a') 1 1700000000 True",
-        b"2 [b'b@R']",
-        b"[2, 47] None",
-        b"21 no realm",
-        b"39 no entry of this name and encryption type",
-        b"35 nothing to remove stands at this place",
-        b"it is closed",
-        b"11 it has fewer than two bytes",
-        b"(2, 53) True",
-        b"2 " + after.hex().encode(),
-        b"",
-    ))
-
-
-def wanted_caches() -> bytes:
-    """What the second script prints. The ticket stands at 22, the value at 130."""
-    host = Credential(server=Name((b"host", b"a")), is_skey=1, second_ticket=b"2")
-    after = cache(host, config(b"pa_type", b"3", b"krbtgt/R@R"))
-    made = cache(default=Name((b"a",)))
-    return b"\n".join((
-        b"b'u@R' b'krbtgt/R@R' b'u@R' True 22 130",
-        b"17 1700000000 0 1700036000 0",
-        b"0x40e00000",
-        b"True b'tkt' b'' False",
-        b"b'2' None",
-        b"True",
-        b"266 True",
-        b"[22, 22] None",
-        b"[b'host/a@R'] " + after.hex().encode(),
-        b"33 the file would be longer than its limit " + made.hex().encode(),
-        b"",
-    ))
-
-
-def wanted_refused() -> bytes:
-    """What the third script prints: how many calls there are, and what they raise."""
-    return b"\n".join((
-        *3 * (b"20 OverflowError",), *3 * (b"20 TypeError",), *4 * (b"7 TypeError",),
-        *3 * (b"10 TypeError",), b"6 TypeError", b"True", b"True True b'k' True", b"",
-    ))
-
-
-def wanted_threads() -> bytes:
-    """What the fourth script prints: nothing is wrong."""
-    return b"[] True\n"
-
+# What the first two scripts leave. HOST has 51 bytes, B 45: c@R is put where HOST stood. The ticket stands at 22, the
+# value at 130.
+KEYTAB_AFTER = keytab(Entry((b"c",), key=bytes(16), version8=7, version32=7, timestamp=5), B)
+CACHE_AFTER = cache(Credential(server=Name((b"host", b"a")), is_skey=1, second_ticket=b"2"),
+                          config(b"pa_type", b"3", b"krbtgt/R@R"))
 
 # Names with each byte, slashes, empty components and none, and as many as a name can have.
 NAMES = ((bytes(range(256)),), (b"a/b@c\\", b"", b"\0\b\n\t0bnt"), (b"",), (), (b"", b""),
          (b"",) * 65_535)
 
-
-def wanted_components() -> bytes:
-    """What the last script prints."""
-    parts = ((len(name), b"|".join(name[:8]).hex()) for name in NAMES)
-    return b"".join(b"%d %s b'R/@'\n" % (count, text.encode()) for count, text in parts)
-
-
+# Each script, its input, and the lines that it prints.
 SCRIPTS = (
-    ("keytabs", KEYTABS, TWO, wanted_keytabs),
-    ("caches", CACHES, cache(TICKET, PA_TYPE), wanted_caches),
-    ("what it refuses", REFUSED, TWO, wanted_refused),
-    ("threads", THREADS, TWO, wanted_threads),
+    ("keytabs", KEYTABS, TWO, [
+        "[(2, b'host/a@R', 3, 17), (53, b'b@R', 3, 17)]",
+        "b'R' (b'host', b'a') 1 1700000000 True",
+        "2 [b'b@R']",
+        "[2, 47] None",
+        "21 no realm",
+        "39 no entry of this name and encryption type",
+        "35 nothing to remove stands at this place",
+        "it is closed",
+        "11 it has fewer than two bytes",
+        "(2, 53) True",
+        f"2 {KEYTAB_AFTER.hex()}",
+    ]),
+    ("caches", CACHES, cache(TICKET, PA_TYPE), [
+        "b'u@R' b'krbtgt/R@R' b'u@R' True 22 130",
+        "17 1700000000 0 1700036000 0",
+        "0x40e00000",
+        "True b'tkt' b'' False",
+        "b'2' None",
+        "True",
+        "266 True",
+        "[22, 22] None",
+        f"[b'host/a@R'] {CACHE_AFTER.hex()}",
+        f"33 the file would be longer than its limit {cache(default=Name((b'a',))).hex()}",
+    ]),
+    # How many calls there are, and what they raise.
+    ("what it refuses", REFUSED, TWO, [
+        *3 * ["20 OverflowError"], *3 * ["20 TypeError"], *4 * ["7 TypeError"], *3 * ["10 TypeError"], "6 TypeError",
+        "True", "True True b'k' True",
+    ]),
+    ("threads", THREADS, TWO, ["[] True"]),
     *python_limits.SCRIPTS,
-    ("components", COMPONENTS, keytab(*(Entry(name, b"R/@") for name in NAMES)), wanted_components),
+    ("components", COMPONENTS, keytab(*(Entry(name, b"R/@") for name in NAMES)),
+     [f"{len(name)} {b'|'.join(name[:8]).hex()} b'R/@'" for name in NAMES]),
 )
 
 
@@ -279,4 +255,4 @@ def check(report: Report, _program: str) -> None:
         done = subprocess.run([sys.executable, "-c", script], input=image, capture_output=True,
                               env=surroundings("/bin"), timeout=SECONDS, check=False)
         got = Outcome(done.returncode, done.stdout, done.stderr)
-        report.compare(f"Python's module: {name}", Outcome(0, wanted()), got)
+        report.compare(f"Python's module: {name}", Outcome(0, text(wanted)), got)

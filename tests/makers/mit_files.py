@@ -5,10 +5,8 @@ from keytabs.columns import NAMES
 from makers.images import HOST, TWO, Entry, keytab
 from makers.sample_keytabs import key
 from models.script_model import KEY_SIZES
-from peers import beside_mit
-from peers import caches_beside_mit
-from peers.beside_mit import Mit
-from peers.caches_beside_mit import FILLED, Failed, Realm, realm
+from peers.beside_mit import Mit, are_there
+from peers.caches_beside_mit import FILLED, Realm, check_in_realm
 from runs.harness import Report, files_in, folder_of
 
 
@@ -28,7 +26,7 @@ def requests() -> list[str]:
 
 def mit_keytabs(report: Report) -> list[bytes]:
     """Keytabs that MIT's ktutil writes."""
-    if not beside_mit.are_there(report, "damaged keytabs of MIT's ktutil"):
+    if not are_there(report, "damaged keytabs of MIT's ktutil"):
         return []
     old = keytab(HOST, Entry((b"b",), version32=None))
     with folder_of({"two": TWO, "old": old}) as folder:
@@ -46,11 +44,10 @@ def filled(made: Realm, version: int, commands: list[tuple[str, ...]]) -> bytes:
 
 def mit_caches(report: Report) -> list[bytes]:
     """Caches that MIT's kinit and kvno fill in a realm made here."""
-    if not caches_beside_mit.are_there(report, "damaged caches of MIT's kinit"):
-        return []
-    try:
-        with realm() as made:
-            return [filled(made, version, commands) for version, commands in FILLED.values()]
-    except Failed as failed:
-        report.check("MIT's programs in a realm made here", [str(failed)])
-        return []
+    found: list[bytes] = []
+
+    def fill(made: Realm) -> None:
+        found.extend(filled(made, version, commands) for version, commands in FILLED.values())
+
+    check_in_realm(report, "damaged caches of MIT's kinit", fill)
+    return found

@@ -2,12 +2,9 @@
 from __future__ import annotations
 
 from collections.abc import Callable
-from dataclasses import dataclass
 from random import Random
 
 from makers.images import BIG, LITTLE, number
-from runs.harness import Report
-from runs.random_runs import Topic
 
 # A change of a file; the second file is one from which bytes may come.
 Change = Callable[[Random, bytes, bytes], bytes]
@@ -111,24 +108,3 @@ def mutated(random: Random, samples: list[bytes]) -> bytes:
     """One of those files, with changes; now and then without."""
     image = random.choice(samples)
     return image if random.random() < 0.02 else damaged(random, image, random.choice(samples))
-
-
-@dataclass(frozen=True)
-class DamagedFiles:
-    """A topic of files with damage, which are made from samples."""
-
-    topic_over: Callable[[list[bytes]], Topic]
-    samples: list[bytes]
-    # What MIT's programs write here, where they are there.
-    mit_samples: Callable[[Report], list[bytes]]
-
-    def check(self, report: Report, program: str) -> None:
-        """Runs as many numbers as usual, the same in each run."""
-        self.topic_over(self.samples).check(report, program)
-
-    def check_long(self, program: str, seed: int, count: int) -> Report:
-        """Runs many, also made from what MIT's programs write here."""
-        report = Report()
-        samples = [*self.samples, *self.mit_samples(report)]
-        self.topic_over(samples).check_from(report, program, seed, count)
-        return report

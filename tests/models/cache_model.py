@@ -11,7 +11,7 @@ from makers.cache_images import CONFIG_FIRST, Name, config, header_field
 from makers.images import counted
 from models.cache_reading import CacheFields, Credential, read_cache
 from models.reading import name_text
-from models.walks import DAMAGED, FULL, LIMIT, NOT_LIVE, READ_ONLY, Refused, carried
+from models.walks import FULL, LIMIT, READ_ONLY, Refused, Store
 
 # The only kind of fault that a cache has.
 BAD_CREDENTIAL = 4
@@ -29,6 +29,7 @@ class Cell:
         """What they say."""
         return CacheFields(self.data).credential(self.version)
 
+    @property
     def is_live(self) -> bool:
         """Whether it was not removed."""
         return not self.said.is_removed()
@@ -44,7 +45,7 @@ class Cell:
         """The session key."""
         return CacheFields(self.in_version_4().data[self.front():]).counted32()
 
-    def marked(self) -> Cell:
+    def freed(self) -> Cell:
         """The same with the two times of one that was removed; in version 4 alone."""
         at = self.front()
         rest = CacheFields(self.data[at:])
@@ -60,19 +61,18 @@ class Cell:
         return Cell(self.data[:at] + self.data[at + skipped:], 4)
 
 
-class Cache:
-    """A cache as what stands before its cells, the cells, and the bytes after them, if damaged."""
+class Cache(Store):
+    """A cache. Bytes after its cells are damage."""
 
     def __init__(self, image: bytes) -> None:
         read = read_cache(image)
         places = [at for at, _ in read.cells] + [read.end]
-        self.version = image[1]
         rest = CacheFields(image[2 : places[0]])
-        fields = rest.header() if self.version == 4 else []
+        fields = rest.header() if image[1] == 4 else []
         self.offsets = [value for tag, value in fields if tag == 1 and len(value) == 8]
         self.default, self.default_data = read.default, rest.data
         self.front = image[: places[0]]
-        self.cells = [Cell(image[at:to], self.version) for at, to in zip(places, places[1:])]
+        self.cells = [Cell(image[at:to], image[1]) for at, to in zip(places, places[1:])]
         self.rest = image[read.end:]
         self.fault = (BAD_CREDENTIAL, read.end) if read.is_damaged else None
 
@@ -80,45 +80,20 @@ class Cache:
         """The bytes of the file."""
         return b"".join([self.front, *(cell.data for cell in self.cells), self.rest])
 
-    def places(self) -> list[int]:
-        """The place of each cell, and where they end."""
-        found = [len(self.front)]
-        for cell in self.cells:
-            found.append(found[-1] + len(cell.data))
-        return found
-
-    def live(self) -> list[tuple[int, Credential]]:
-        """Each credential that was not removed, with its place."""
-        placed = zip(self.places(), self.cells)
-        return [(place, cell.said) for place, cell in placed if cell.is_live()]
+    def said(self, cell: Cell) -> Credential:
+        """What a credential says."""
+        return cell.said
 
     def keys_of(self, server: bytes) -> list[bytes]:
         """The session key of each live ticket for a server, by the text of its name."""
-        live = (cell for cell in self.cells if cell.is_live())
+        live = (cell for cell in self.cells if cell.is_live)
         return [cell.key() for cell in live if name_text(cell.said.server) == server]
-
-    def live_places(self) -> list[int]:
-        """The place of each of them."""
-        return [place for place, _ in self.live()]
-
-    def next_record(self, place: int) -> tuple[int, int, Credential] | None:
-        """The place of the first live credential from a place on, the place after it, and itself."""
-        places = self.places()
-        for at, after, cell in zip(places, places[1:], self.cells):
-            if at >= place and cell.is_live():
-                return at, after, cell.said
-        return None
 
     def check_writable(self) -> None:
         """Version 3 refuses each change but a rewrite, and damage refuses that too."""
         if self.version == 3:
             raise Refused(READ_ONLY)
         self.check_sound()
-
-    def check_sound(self) -> None:
-        """A damaged cache refuses each change."""
-        if self.fault:
-            raise Refused(DAMAGED)
 
     def add(self, data: bytes) -> int:
         """Puts a credential behind all others; its place."""
@@ -128,15 +103,6 @@ class Cache:
             raise Refused(FULL)
         self.cells.append(Cell(data, 4))
         return end
-
-    def cut(self, place: int) -> int:
-        """Marks the live credential at a place as removed."""
-        self.check_writable()
-        for at, (here, cell) in enumerate(zip(self.places(), self.cells)):
-            if here == place and cell.is_live():
-                self.cells[at] = cell.marked()
-                return place
-        raise Refused(NOT_LIVE)
 
     def settings(self, key: bytes, principal: bytes | None) -> list[int]:
         """The places of the values under a key that the default principal has."""
@@ -156,12 +122,4 @@ class Cache:
         self.check_sound()
         kept = b"".join(header_field(1, value) for value in self.offsets[:1])
         front = b"\x05\x04" + counted(kept) + self.default_data
-        cells = [cell.in_version_4() for cell in self.cells if cell.is_live()]
-        places = [len(front)]
-        for cell in cells:
-            places.append(places[-1] + len(cell.data))
-        if places[-1] > LIMIT:
-            raise Refused(FULL)
-        cursors[:] = carried(cursors, self.live_places(), places)
-        self.version, self.front, self.cells = 4, front, cells
-        return places[-1]
+        return self.renew(front, [cell.in_version_4() for cell in self.cells if cell.is_live], cursors)

@@ -3,7 +3,8 @@ from __future__ import annotations
 
 import os
 
-from models.reading import KeytabEntry, order_of, read_cells, read_entry
+from models.keytab_model import Keytab
+from models.reading import KeytabEntry, no_keytab
 from models.removal_model import newest_versions
 from runs.harness import Outcome
 
@@ -48,15 +49,13 @@ def lines_of(those: list[tuple[int, KeytabEntry]]) -> list[bytes]:
 
 
 def checked(image: bytes, v1_big: bool = False, mode: int = 0o600) -> Outcome:
-    """What a run over a plain file of that mode answers; the image is a keytab's."""
-    cells, fault, _ = read_cells(image, v1_big)
-    those, holes, at = [], [], 2
-    for cell in cells:
-        if cell.is_record:
-            those.append((at, read_entry(cell.data, image[1], order_of(image, v1_big))))
-        else:
-            holes.append(len(cell.data))
-        at += 4 + len(cell.data)
+    """What a run over a plain file of that mode answers."""
+    refused = no_keytab(image)
+    if refused:
+        return refused
+    keytab = Keytab(image, v1_big)
+    those, fault = keytab.live(), keytab.fault
+    holes = [len(cell.data) for cell in keytab.cells if not cell.is_live]
     lines = [b"mode %o" % (mode & 0o7777)] if mode & 0o66 else []
     lines += lines_of(those)
     if fault:

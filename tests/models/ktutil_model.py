@@ -191,23 +191,16 @@ class Ktutil:
 
 
 # What each command's words do.
-COMMANDS: dict[bytes, Callable[[Ktutil, list[bytes]], None]] = {
-    b"list": Ktutil.list_slots,
-    b"l": Ktutil.list_slots,
-    b"read_kt": Ktutil.read_kt,
-    b"rkt": Ktutil.read_kt,
-    b"write_kt": Ktutil.write_kt,
-    b"wkt": Ktutil.write_kt,
-    b"add_entry": Ktutil.add_entry,
-    b"addent": Ktutil.add_entry,
-    b"delete_entry": Ktutil.delete_entry,
-    b"delent": Ktutil.delete_entry,
-    b"clear_list": Ktutil.clear_list,
-    b"clear": Ktutil.clear_list,
-    b"quit": Ktutil.quit,
-    b"q": Ktutil.quit,
-    b"exit": Ktutil.quit,
+SPELLINGS: dict[Callable[[Ktutil, list[bytes]], None], tuple[bytes, ...]] = {
+    Ktutil.list_slots: (b"list", b"l"),
+    Ktutil.read_kt: (b"read_kt", b"rkt"),
+    Ktutil.write_kt: (b"write_kt", b"wkt"),
+    Ktutil.add_entry: (b"add_entry", b"addent"),
+    Ktutil.delete_entry: (b"delete_entry", b"delent"),
+    Ktutil.clear_list: (b"clear_list", b"clear"),
+    Ktutil.quit: (b"quit", b"q", b"exit"),
 }
+COMMANDS = {word: command for command, words in SPELLINGS.items() for word in words}
 
 
 def handled(

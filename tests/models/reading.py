@@ -58,12 +58,16 @@ class KeytabEntry:
         return b"kvno %d etype %d " % (self.kvno, self.enctype) + self.text()
 
 
-@dataclass
+@dataclass(frozen=True)
 class Cell:
     """A record or a hole, without its length."""
 
     data: bytes
-    is_record: bool
+    is_live: bool
+
+    def freed(self) -> Cell:
+        """A hole of zeros in its place."""
+        return Cell(bytes(len(self.data)), False)
 
 
 class Fields:
@@ -164,7 +168,7 @@ def read_cells(image: bytes, v1_big: bool) -> tuple[list[Cell], tuple[int, int] 
             break
         after = at + 4 + abs(size)
         cell = Cell(image[at + 4 : after], size > 0)
-        if fault == 0 and cell.is_record:
+        if fault == 0 and cell.is_live:
             try:
                 read_entry(cell.data, image[1], order)
             except NoEntry:
@@ -183,7 +187,7 @@ def read_image(
     cells, fault, _ = read_cells(image, v1_big)
     those, at = [], 2
     for cell in cells:
-        if cell.is_record:
+        if cell.is_live:
             those.append((at, read_entry(cell.data, image[1], order_of(image, v1_big))))
         at += 4 + len(cell.data)
     return those, fault

@@ -4,7 +4,7 @@ from __future__ import annotations
 from dataclasses import dataclass
 
 from models.keytab_model import Keytab
-from models.reading import KeytabEntry
+from models.reading import KeytabEntry, no_keytab
 from models.walks import DAMAGED
 from runs.harness import Outcome, message
 
@@ -56,10 +56,7 @@ def removed_by(keytab: Keytab, asked: Asked) -> list[tuple[int, KeytabEntry]]:
     """The entries that are asked for, with their places."""
     newest = newest_versions(keytab.entries())
     found = []
-    for place, cell in zip(keytab.places(), keytab.cells):
-        if not cell.is_record:
-            continue
-        entry = keytab.entry(cell)
+    for place, entry in keytab.live():
         if asked.kvno == OLD:
             has_version = entry.kvno != newest[entry.name]
         else:
@@ -70,7 +67,10 @@ def removed_by(keytab: Keytab, asked: Asked) -> list[tuple[int, KeytabEntry]]:
 
 
 def removal(image: bytes, v1_big: bool, asked: Asked) -> tuple[Outcome, bytes]:
-    """What a run over the file k answers, and the file afterwards; the image is a keytab's."""
+    """What a run over the file k answers, and the file afterwards."""
+    refused = no_keytab(image)
+    if refused:
+        return refused, image
     keytab = Keytab(image, v1_big)
     if keytab.fault:
         return message(1, f"k: refused {DAMAGED}"), image

@@ -4,6 +4,7 @@ It is written from the rules of a session. What the records are and how they cha
 """
 from __future__ import annotations
 
+from itertools import accumulate
 from typing import Protocol
 
 from runs.harness import Outcome
@@ -35,34 +36,93 @@ class Record(Protocol):
         """What a reply has behind the places."""
 
 
-class Store(Protocol):
-    """Records that touch one another, some of them gone, and perhaps a fault behind them."""
+class Cell(Protocol):
+    """The bytes of a record, which may be gone."""
 
-    # Its kind and its place.
-    fault: tuple[int, int] | None
+    data: bytes
+    is_live: bool
 
-    def image(self) -> bytes:
-        """The bytes of the file."""
-
-    def places(self) -> list[int]:
-        """The place of each record, those that are gone too, and where they end."""
-
-    def live_places(self) -> list[int]:
-        """The place of each record that is there."""
-
-    def next_record(self, place: int) -> tuple[int, int, Record] | None:
-        """The place of the first record from a place on, the place after it, and the record."""
-
-    def cut(self, place: int) -> int:
-        """Removes the record at a place."""
-
-    def rewrite(self, cursors: list[int]) -> int:
-        """Writes all anew, carries the cursors along, and answers the new end."""
+    def freed(self) -> Cell:
+        """The same, gone."""
 
 
 def carried(cursors: list[int], old: list[int], new: list[int]) -> list[int]:
     """Where cursors stand after a rewrite: old places of records, and new ones with the end."""
     return [new[sum(at < cursor for at in old)] for cursor in cursors]
+
+
+class Store:
+    """What stands before the cells, the cells, which touch one another, and the bytes after them."""
+
+    front: bytes
+    cells: list[Cell]
+    rest: bytes
+    # The kind and the place of the fault behind the cells, if there is one.
+    fault: tuple[int, int] | None
+
+    @property
+    def version(self) -> int:
+        """Which of its formats it has."""
+        return self.front[1]
+
+    def said(self, cell: Cell) -> Record:
+        """What a record says."""
+        raise NotImplementedError
+
+    def size(self, cell: Cell) -> int:
+        """How many bytes a cell takes."""
+        return len(cell.data)
+
+    def places_of(self, front: bytes, cells: list[Cell]) -> list[int]:
+        """The place of each of those cells, and where they end."""
+        return [*accumulate(map(self.size, cells), initial=len(front))]
+
+    def places(self) -> list[int]:
+        """The place of each cell, and where they end."""
+        return self.places_of(self.front, self.cells)
+
+    def live(self) -> list[tuple[int, Record]]:
+        """Each record that is there, with its place."""
+        return [(place, self.said(cell)) for place, cell in zip(self.places(), self.cells) if cell.is_live]
+
+    def live_places(self) -> list[int]:
+        """The place of each of them."""
+        return [place for place, cell in zip(self.places(), self.cells) if cell.is_live]
+
+    def next_record(self, place: int) -> tuple[int, int, Record] | None:
+        """The place of the first record from a place on, the place after it, and the record."""
+        places = self.places()
+        for at, after, cell in zip(places, places[1:], self.cells):
+            if at >= place and cell.is_live:
+                return at, after, self.said(cell)
+        return None
+
+    def check_sound(self) -> None:
+        """A damaged store refuses each change."""
+        if self.fault:
+            raise Refused(DAMAGED)
+
+    def check_writable(self) -> None:
+        """Whether a change but a rewrite is refused."""
+        self.check_sound()
+
+    def cut(self, place: int) -> int:
+        """Removes the record at a place."""
+        self.check_writable()
+        for at, (here, cell) in enumerate(zip(self.places(), self.cells)):
+            if here == place and cell.is_live:
+                self.cells[at] = cell.freed()
+                return place
+        raise Refused(NOT_LIVE)
+
+    def renew(self, front: bytes, cells: list[Cell], cursors: list[int]) -> int:
+        """Takes the records written anew, carries the cursors along, and answers the new end."""
+        places = self.places_of(front, cells)
+        if places[-1] > LIMIT:
+            raise Refused(FULL)
+        cursors[:] = carried(cursors, self.live_places(), places)
+        self.front, self.cells = front, cells
+        return places[-1]
 
 
 class Session:

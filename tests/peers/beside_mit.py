@@ -47,6 +47,19 @@ SCRIPTS: list[tuple[str, bytes | None, list[str]]] = [
 # What MIT's ktutil prints where it waits for a request, also into a pipe.
 PROMPT = b"ktutil:  "
 
+# Where they are: those of the KDC may be where the path of a plain user does not lead.
+PATHS = os.pathsep.join([os.environ.get("PATH", ""), "/usr/sbin", "/usr/local/sbin"])
+
+# The environment of MIT's programs, which need no configuration but where there is a realm.
+SURROUNDINGS = {name: value for name, value in os.environ.items() if not name.startswith("KRB5")}
+SURROUNDINGS |= {"KRB5_CONFIG": os.devnull, "PATH": PATHS, "LC_ALL": "C", "TZ": "UTC"}
+
+
+def mit_klist(folder: str, *words: str) -> bytes:
+    """What MIT's klist prints."""
+    return subprocess.run(["klist", *words], cwd=folder, env=SURROUNDINGS, capture_output=True, timeout=SECONDS,
+                          check=False).stdout
+
 
 def told(entry: KeytabEntry) -> tuple[bytes, ...]:
     """What a listing with all columns has of an entry."""
@@ -61,16 +74,10 @@ class Mit:
 
     def __init__(self, folder: str) -> None:
         self.folder = folder
-        conf = os.path.join(folder, "krb5.conf")
-        with open(conf, "w", encoding="ascii"):
-            pass
-        self.env = {**os.environ, "KRB5_CONFIG": conf, "LC_ALL": "C", "TZ": "UTC"}
 
     def klist(self, name: str) -> list[tuple[bytes, ...]]:
         """The entries of a file, as klist lists them."""
-        done = subprocess.run(["klist", "-k", "-t", "-K", "-e", name], cwd=self.folder,
-                              env=self.env, capture_output=True, check=False)
-        return self.entries_in(done.stdout, rb"")
+        return self.entries_in(mit_klist(self.folder, "-k", "-t", "-K", "-e", name), rb"")
 
     def ktutil(self, *requests: str) -> list[bytes]:
         """What ktutil prints after each request. What a request asks for is a line behind it.
@@ -78,7 +85,7 @@ class Mit:
         The next request is given where the prompt asks for it. Until then nothing else may lie in
         the pipe: a request that asks for a line takes all that is there.
         """
-        with subprocess.Popen(["ktutil"], cwd=self.folder, env=self.env, bufsize=0,
+        with subprocess.Popen(["ktutil"], cwd=self.folder, env=SURROUNDINGS, bufsize=0,
                               stdin=subprocess.PIPE, stdout=subprocess.PIPE,
                               stderr=subprocess.STDOUT) as started:
             answers = [self.answer(started)]
@@ -134,16 +141,14 @@ def check_scripts(report: Report, program: str) -> None:
                 report.check(f"MIT's {peer} after ktedit: {name}", found)
 
 
-def are_there(report: Report, what: str) -> bool:
+def are_there(report: Report, what: str, tools: tuple[str, ...] = ("klist", "ktutil")) -> bool:
     """Whether MIT's programs are there; where they are not, that part is left out."""
-    try:
-        said = subprocess.run(["klist", "-V"], capture_output=True, check=False).stdout
-    except FileNotFoundError:
-        said = b""
-    found = said.startswith(b"Kerberos 5 version") and shutil.which("ktutil") is not None
-    if not found:
-        report.skip(what, "MIT's klist and ktutil (krb5-user) are not there")
-    return found
+    missing = [name for name in tools if shutil.which(name, path=PATHS) is None]
+    if not missing and "klist" in tools and not mit_klist("/", "-V").startswith(b"Kerberos 5 version"):
+        missing = ["MIT's klist"]
+    if missing:
+        report.skip(what, f"{missing[0]} is not there (Debian: krb5-user, krb5-kdc, krb5-admin-server)")
+    return not missing
 
 
 def check(report: Report, program: str) -> None:

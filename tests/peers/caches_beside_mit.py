@@ -5,12 +5,11 @@ The KDC listens at an address of this machine alone, for as long as the test run
 from __future__ import annotations
 
 import os
-import shutil
 import socket
 import subprocess
 import sys
 import time
-from collections.abc import Iterator
+from collections.abc import Callable, Iterator
 from contextlib import contextmanager
 from dataclasses import replace
 from random import Random
@@ -23,13 +22,13 @@ from makers.images import Entry, keytab
 from makers.usual_caches import PA_TYPE, TICKET
 from models.cache_reading import listed
 from models.reading import read_image
-from runs.harness import SECONDS, Outcome, Report, differences, folder_of, run
+from peers.beside_mit import SURROUNDINGS, are_there, mit_klist
+from runs.harness import SECONDS, Outcome, Report, differences, files_in, folder_of, run
 
 REMOVER = os.path.join(os.path.dirname(os.path.abspath(__file__)), "remove_credentials.py")
 
-# MIT's programs; those of the KDC may be where the path of a plain user does not lead.
+# MIT's programs.
 TOOLS = ("klist", "kinit", "kvno", "kdb5_util", "krb5kdc")
-PATHS = os.pathsep.join([os.environ.get("PATH", ""), "/usr/sbin", "/usr/local/sbin"])
 
 CLIENT_CONF = """[libdefaults]
  default_realm = CACHE.TEST
@@ -97,10 +96,7 @@ class Realm:
         for version in (3, 4):
             self.write(f"krb5-{version}.conf", CLIENT_CONF.format(version=version, port=port))
         self.write("kdc.conf", KDC_CONF.format(folder=folder, port=port))
-        self.env = {name: value for name, value in os.environ.items()
-                    if not name.startswith("KRB5")}
-        self.env |= {"KRB5_KDC_PROFILE": os.path.join(folder, "kdc.conf"), "PATH": PATHS,
-                     "KRB5CCNAME": "FILE:c", "LC_ALL": "C", "TZ": "UTC"}
+        self.env = SURROUNDINGS | {"KRB5_KDC_PROFILE": os.path.join(folder, "kdc.conf"), "KRB5CCNAME": "FILE:c"}
 
     def write(self, name: str, text: str) -> None:
         """Makes a file of the folder."""
@@ -134,17 +130,10 @@ class Realm:
 
     def keytab(self) -> bytes:
         """A keytab with the key of each principal, which is that of the database."""
-        with open(os.path.join(self.folder, "stash"), "rb") as file:
-            (_, master), = read_image(file.read(), False)[0]
+        (_, master), = read_image(files_in(self.folder)["stash"], False)[0]
         names = (tuple(part.encode() for part in name.split("/")) for name in ("user", "svc/h"))
         return keytab(*(Entry(name, REALM, enctype=master.enctype, key=master.key, version8=1,
                               version32=1) for name in names))
-
-    def klist(self, folder: str, *options: str) -> bytes:
-        """What MIT's klist prints of the cache `c`."""
-        done = subprocess.run(["klist", *options, "c"], cwd=folder, env=self.surroundings(),
-                              check=False, capture_output=True, timeout=SECONDS)
-        return done.stdout
 
 
 def principal_line(master: str, name: str) -> str:
@@ -193,10 +182,10 @@ def realm(more: tuple[str, ...] = ()) -> Iterator[Realm]:
                 started.terminate()
 
 
-def differences_of(program: str, realm_of: Realm, folder: str, *options: str) -> list[str]:
+def differences_of(program: str, folder: str, *options: str) -> list[str]:
     """What MIT's klist and ours tell differently of the cache `c`."""
     ours = run(program, ("klist", *options, "c"), folder)
-    theirs = realm_of.klist(folder, *options)
+    theirs = mit_klist(folder, *options, "c")
     heads = [out.splitlines()[:2] for out in (ours.out, theirs)]
     wanted, got = told_by_mit(theirs), told_by_us(ours.out)
     found = [] if got == wanted else [f"{got}, not {wanted}"]
@@ -211,10 +200,9 @@ def check_filled(report: Report, program: str, realm_of: Realm) -> None:
         with folder_of({"k": keytab}) as folder:
             for words in commands:
                 realm_of.call(*words, folder=folder, version=version)
-            found = differences_of(program, realm_of, folder, "-f", "-e", "-C")
-            found += [] if b"CACHE.TEST" in realm_of.klist(folder) else ["MIT's lists nothing"]
-            with open(os.path.join(folder, "c"), "rb") as file:
-                found += [] if file.read(2)[1] == version else ["it has another version"]
+            found = differences_of(program, folder, "-f", "-e", "-C")
+            found += [] if b"CACHE.TEST" in mit_klist(folder, "c") else ["MIT's lists nothing"]
+            found += [] if files_in(folder)["c"][1] == version else ["it has another version"]
         report.check(f"MIT's klist and ours: {name}", found)
 
 
@@ -227,14 +215,14 @@ def random_sound(random: Random) -> bytes:
     return cache(*those, default=default, fields=offset(5, -10), version=version)
 
 
-def check_random(report: Report, program: str, realm_of: Realm) -> None:
+def check_random(report: Report, program: str, _: Realm) -> None:
     """Random caches tell the same but for enctypes, which MIT's klist tells of real tickets alone.
     """
     wrong = []
     for seed in range(RANDOM_CACHES):
         image = random_sound(Random(seed))
         with folder_of({"c": image}) as folder:
-            found = differences_of(program, realm_of, folder, "-f")
+            found = differences_of(program, folder, "-f")
         wrong += [f"{image.hex()}: {fault}" for fault in found]
     report.check("MIT's klist and ours: random caches", wrong[:3])
 
@@ -244,28 +232,28 @@ def check_removed(report: Report, program: str, realm_of: Realm) -> None:
     image = cache(TICKET, of_host(), PA_TYPE, config(b"k", b"v"), config(b"l", b"w"))
     with folder_of({"c": image}) as folder:
         realm_of.call(sys.executable, REMOVER, "c", folder=folder)
-        found = differences_of(program, realm_of, folder, "-f", "-C")
+        found = differences_of(program, folder, "-f", "-C")
         got = run(program, ("klist", "-C", "c"), folder)
     wanted = Outcome(0, listed(b"u@R", HOST_LINE, b"config: l = w"))
     report.check("what MIT's library has removed", found + differences(wanted, got))
 
 
-def are_there(report: Report, what: str, tools: tuple[str, ...] = TOOLS) -> bool:
-    """Whether MIT's programs are there; where they are not, that part is left out."""
-    missing = [name for name in tools if shutil.which(name, path=PATHS) is None]
-    if missing:
-        report.skip(what, f"{missing[0]} is not there (Debian: krb5-user, krb5-kdc, krb5-admin-server)")
-    return not missing
+def check_in_realm(report: Report, what: str, checks: Callable[[Realm], None], more: tuple[str, ...] = ()) -> None:
+    """Makes checks in a realm with its principals and more of them, where MIT's programs are there."""
+    if not are_there(report, what, TOOLS):
+        return
+    try:
+        with realm(more) as made:
+            checks(made)
+    except Failed as failed:
+        report.check(f"MIT's programs in a realm made here: {what}", [str(failed)])
 
 
 def check(report: Report, program: str) -> None:
     """Runs all of this topic where MIT's programs are there."""
-    if not are_there(report, "caches beside MIT's programs"):
-        return
-    try:
-        with realm() as made:
-            check_filled(report, program, made)
-            check_random(report, program, made)
-            check_removed(report, program, made)
-    except Failed as failed:
-        report.check("MIT's programs in a realm made here", [str(failed)])
+
+    def checks(made: Realm) -> None:
+        for each in (check_filled, check_random, check_removed):
+            each(report, program, made)
+
+    check_in_realm(report, "caches beside MIT's programs", checks)

@@ -2,13 +2,12 @@
 from __future__ import annotations
 
 import os
-import shutil
-import subprocess
 import sys
 
 from makers.cache_peers import Shown, Told, told_by_mit, told_by_us
 from pages.readme import LIBRARY, surroundings
-from runs.harness import SECONDS, Report, folder_of, run
+from peers.beside_mit import are_there, mit_klist
+from runs.harness import Report, folder_of, run
 
 MAKES = """
 from krbfile import Cache, Ticket
@@ -35,14 +34,6 @@ TICKETS: list[Told] = [
 VALUES: list[Told] = [b"config: bench%05d = 1" % number for number in range(2)]
 
 
-def told_by(words: tuple[str, ...], folder: str) -> bytes:
-    """What MIT's klist prints."""
-    environment = {**os.environ, "KRB5_CONFIG": os.devnull, "LC_ALL": "C", "TZ": "UTC"}
-    done = subprocess.run(["klist", *words], cwd=folder, env=environment, check=False,
-                          capture_output=True, timeout=SECONDS)
-    return done.stdout
-
-
 def check(report: Report, program: str) -> None:
     """Makes a cache of five tickets and two values, and lists it."""
     if not os.path.exists(LIBRARY):
@@ -53,9 +44,6 @@ def check(report: Report, program: str) -> None:
         ours = told_by_us(run(program, ("klist", "-f", "-C", "c"), folder).out)
         report.check("a cache is made", [] if made.status == 0 else [f"{made}"])
         report.check("a made cache is listed", [] if ours == TICKETS + VALUES else [f"{ours}"])
-        if shutil.which("klist") is None:
-            report.skip("a made cache beside MIT's klist", "it is not there (Debian: krb5-user)")
-            return
-        theirs = told_by_mit(told_by(("-f", "-C", "c"), folder))
-    report.check("MIT's klist lists a made cache",
-                 [] if theirs == TICKETS + VALUES else [f"{theirs}"])
+        if are_there(report, "a made cache beside MIT's klist", ("klist",)):
+            theirs = told_by_mit(mit_klist(folder, "-f", "-C", "c"))
+            report.check("MIT's klist lists a made cache", [] if theirs == TICKETS + VALUES else [f"{theirs}"])

@@ -4,34 +4,21 @@ What the change makes of them is what the models say.
 """
 from __future__ import annotations
 
-import shutil
 import time
 from collections.abc import Iterator
 
 from makers.cache_peers import Shown, Told, told_by_mit, told_by_us
 from models.cache_model import Cache
 from models.cache_reading import read_cache
-from models.cache_script_model import cache_edited
+from models.cases import ccedit, ccremove
 from models.reading import name_text
-from models.ticket_removal_model import Asked, ticket_removal, tickets_of
-from peers.caches_made import told_by
+from models.ticket_removal_model import Asked, tickets_of
+from peers.beside_mit import are_there, mit_klist
 from peers.corpus import files
-from runs.harness import Case, Report, faults_of, files_in, folder_of, message, run
+from runs.harness import Case, Report, faults_of, files_in, folder_of, run
 
 # What a value is set by in each of them.
 SETTING = b"config fast_avail krbtgt/R@R no\nconfig mine - 1\n"
-
-
-def edit(name: str, image: bytes, script: bytes) -> Case:
-    """A script over a cache."""
-    wanted, after = cache_edited(image, script)
-    return Case(name, ("ccedit", "c"), wanted, {"c": image}, {"c": after}, script)
-
-
-def removal(name: str, image: bytes, asked: Asked) -> Case:
-    """A removal of tickets. None of these caches expires while this runs."""
-    wanted, after = ticket_removal(image, asked, int(time.time()))
-    return Case(name, ("ccremove", *asked.words(), "c"), wanted, {"c": image}, {"c": after})
 
 
 def is_text(name: bytes) -> bool:
@@ -45,15 +32,17 @@ def is_text(name: bytes) -> bool:
 
 def changes(image: bytes) -> Iterator[Case]:
     """Changes of a cache: each of its places goes, values are set, and each service's tickets go."""
-    yield edit("rewrite", image, b"rewrite\n")
-    yield edit("values", image, SETTING)
-    yield edit("values anew", image, b"rewrite\n" + SETTING + SETTING)
+    yield ccedit(image, b"rewrite\n", name="rewrite")
+    yield ccedit(image, SETTING, name="values")
+    yield ccedit(image, b"rewrite\n" + SETTING + SETTING, name="values anew")
     for place in Cache(image).live_places():
-        yield edit(f"cut {place}", image, b"start\nstep 0\ncut %d\nstep 0\n" % place)
-    yield removal("--expired", image, Asked(is_expired=True))
+        yield ccedit(image, b"start\nstep 0\ncut %d\nstep 0\n" % place, name=f"cut {place}")
+    # None of these caches expires while this runs.
+    now = int(time.time())
+    yield ccremove(image, now, asked=Asked(is_expired=True), name="--expired")
     services = {name_text(said.server) for _, said in tickets_of(Cache(image))}
     for service in sorted(filter(is_text, services)):
-        yield removal(f"-p {service.decode()}", image, Asked(service))
+        yield ccremove(image, now, asked=Asked(service), name=f"-p {service.decode()}")
 
 
 def tickets(told: list[Told]) -> list[Shown]:
@@ -64,7 +53,7 @@ def tickets(told: list[Told]) -> list[Shown]:
 def faults_beside_mit(program: str, folder: str) -> list[str]:
     """What MIT's klist shows otherwise than ours of the tickets of `c`."""
     ours = tickets(told_by_us(run(program, ("klist", "-f", "c"), folder).out))
-    theirs = tickets(told_by_mit(told_by(("-f", "c"), folder)))
+    theirs = tickets(told_by_mit(mit_klist(folder, "-f", "c")))
     return [] if ours == theirs else [f"MIT's klist shows {theirs}, not {ours}"]
 
 
@@ -79,15 +68,9 @@ def check_change(report: Report, program: str, name: str, case: Case, has_mit: b
 
 def check(report: Report, program: str) -> None:
     """Changes each cache."""
-    has_mit = shutil.which("klist") is not None
-    if not has_mit:
-        report.skip("changed caches beside MIT's klist", "it is not there (Debian: krb5-user)")
+    has_mit = are_there(report, "changed caches beside MIT's klist", ("klist",))
     for name, image in files("ccache"):
-        refused = read_cache(image)
-        if isinstance(refused, int):
-            no_cache = message(1, f"c: not a cache ({refused})")
-            cases = [Case("no cache", ("ccedit", "c"), no_cache, {"c": image}, stdin=b"rewrite\n")]
-        else:
-            cases = [*changes(image)]
+        is_cache = not isinstance(read_cache(image), int)
+        cases = changes(image) if is_cache else [ccedit(image, b"rewrite\n", name="no cache")]
         for case in cases:
             check_change(report, program, name, case, has_mit)

@@ -1,14 +1,13 @@
 """`ktutil` beside MIT's: the same lines for both, and a keytab that MIT's wrote."""
 from __future__ import annotations
 
-import os
 from dataclasses import replace
 
 from makers.images import HOST, Entry, keytab
 from models.keytab_model import Keytab
 from models.reading import KeytabEntry
 from peers.beside_mit import HOLES, Mit, are_there
-from runs.harness import Outcome, Report, folder_of, run
+from runs.harness import Outcome, Report, files_in, folder_of, run
 from runs.rows import text
 
 
@@ -16,8 +15,7 @@ def untimed(image: bytes) -> list[tuple[bool, int, KeytabEntry | None]]:
     """The cells of a keytab, and their entries without times."""
     opened = Keytab(image)
     return [
-        (cell.is_record, len(cell.data),
-         replace(opened.entry(cell), timestamp=0) if cell.is_record else None)
+        (cell.is_live, len(cell.data), replace(opened.said(cell), timestamp=0) if cell.is_live else None)
         for cell in opened.cells
     ]
 
@@ -31,26 +29,14 @@ def check_same_lines(report: Report, program: str) -> None:
     kept = {}
     with folder_of(files) as folder:
         Mit(folder).ktutil(*given)
-        kept["MIT"] = read_all(folder, "nk")
+        kept["MIT"] = files_in(folder)
     with folder_of(files) as folder:
         run(program, ("ktutil",), folder, text(given))
-        kept["krbfile"] = read_all(folder, "nk")
+        kept["krbfile"] = files_in(folder)
     for name in "nk":
-        theirs, ours = (untimed(kept[side][name]) for side in ("MIT", "krbfile"))
+        theirs, ours = (untimed(kept[side].get(name, keytab())) for side in ("MIT", "krbfile"))
         found = [] if theirs == ours else [f"MIT's has {theirs}, krbfile's {ours}"]
         report.check(f"the same lines for both ktutils: file {name}", found)
-
-
-def read_all(folder: str, names: str) -> dict[str, bytes]:
-    """Some files of a folder; one that is not there is an empty keytab."""
-    found = {}
-    for name in names:
-        path = os.path.join(folder, name)
-        found[name] = keytab()
-        if os.path.exists(path):
-            with open(path, "rb") as file:
-                found[name] = file.read()
-    return found
 
 
 def check_reads(report: Report, program: str) -> None:

@@ -1,13 +1,13 @@
 """Old entries removed by `kadmin.local ktremove NAME old` and by ours: the files are the same."""
 from __future__ import annotations
 
-import os
 from random import Random
 
 from makers.images import Entry, keytab
 from models.removal_model import OLD, Asked, removal
-from peers.caches_beside_mit import Failed, Realm, are_there
-from runs.harness import Report, differences, folder_of, run
+from peers.beside_mit import are_there
+from peers.caches_beside_mit import Failed, Realm
+from runs.harness import Report, differences, files_in, folder_of, run
 
 # The tools of MIT's that this needs.
 TOOLS = ("kdb5_util", "kadmin.local")
@@ -33,8 +33,7 @@ def removed_by_mit(realm: Realm, name: bytes, image: bytes) -> bytes:
     with folder_of({"k": image}) as folder:
         words = ("-r", "CACHE.TEST", "ktremove", "-k", "FILE:k", name.decode(), "old")
         realm.call("kadmin.local", *words, folder=folder)
-        with open(os.path.join(folder, "k"), "rb") as file:
-            return file.read()
+        return files_in(folder)["k"]
 
 
 def faults_of(program: str, realm: Realm, random: Random) -> list[str]:
@@ -45,8 +44,7 @@ def faults_of(program: str, realm: Realm, random: Random) -> list[str]:
     theirs = removed_by_mit(realm, name, image)
     with folder_of({"k": image}) as folder:
         got = run(program, ("ktremove", "-p", name, "-k", OLD, "k"), folder)
-        with open(os.path.join(folder, "k"), "rb") as file:
-            ours = file.read()
+        ours = files_in(folder)["k"]
     found = differences(wanted, got)
     found += [] if ours == after else [f"{ours.hex()} of {image.hex()}, not {after.hex()}"]
     found += [] if theirs == ours else [f"MIT's is {theirs.hex()} of {image.hex()}, not {ours.hex()}"]

@@ -4,25 +4,15 @@ The realm and its KDC are those of caches_beside_mit.
 """
 from __future__ import annotations
 
-import os
 import time
 from collections.abc import Iterator
 from contextlib import contextmanager
 
 from models.cache_model import Cache
 from models.cache_script_model import cache_edited
-from peers.caches_beside_mit import (
-    FILLED,
-    HOST,
-    KINIT,
-    USER,
-    Failed,
-    Realm,
-    are_there,
-    differences_of,
-    realm,
-)
-from runs.harness import Outcome, Report, differences, folder_of, run
+from peers.beside_mit import mit_klist
+from peers.caches_beside_mit import FILLED, HOST, KINIT, USER, Realm, check_in_realm, differences_of
+from runs.harness import Outcome, Report, differences, files_in, folder_of, run
 
 TGT = b"krbtgt/CACHE.TEST@CACHE.TEST"
 HOST_TEXT = HOST.encode() + b"@CACHE.TEST"
@@ -38,8 +28,7 @@ class Filled:
 
     def image(self) -> bytes:
         """The file."""
-        with open(os.path.join(self.folder, "c"), "rb") as file:
-            return file.read()
+        return files_in(self.folder)["c"]
 
     def cache(self) -> Cache:
         """What it says."""
@@ -53,7 +42,7 @@ class Filled:
         """A run of ours over the cache, after which MIT's klist and ours list the same."""
         got = run(self.program, (*words, "c"), self.folder, script)
         self.found += differences(wanted, got)
-        self.found += differences_of(self.program, self.made, self.folder, "-f", "-e", "-C")
+        self.found += differences_of(self.program, self.folder, "-f", "-e", "-C")
 
     def use(self, *words: str, version: int = 4) -> None:
         """A run of MIT's over the cache, which has to succeed."""
@@ -146,7 +135,7 @@ def check_values(report: Report, program: str, made: Realm) -> None:
         script = b"config %s no\nconfig mine - 1\n" % key
         wanted, after = cache_edited(one.image(), script)
         one.change(("ccedit",), wanted, script)
-        shown = made.klist(one.folder, "-C")
+        shown = mit_klist(one.folder, "-C", "c")
         one.want("another file", one.image() == after)
         one.want(f"MIT's klist shows {shown!r}", b"config: mine = 1\n" in shown
                  and shown.count(b"fast_avail") == 1 and b" = no\n" in shown)
@@ -187,12 +176,9 @@ def check_each_place(report: Report, program: str, made: Realm) -> None:
 
 def check(report: Report, program: str) -> None:
     """Runs all of this topic where MIT's programs are there."""
-    if not are_there(report, "changes of caches beside MIT's programs"):
-        return
-    try:
-        with realm() as made:
-            for topic in (check_removed, check_cut, check_expired, check_values, check_version_3,
-                          check_each_place):
-                topic(report, program, made)
-    except Failed as failed:
-        report.check("MIT's programs over caches that were changed", [str(failed)])
+
+    def checks(made: Realm) -> None:
+        for each in (check_removed, check_cut, check_expired, check_values, check_version_3, check_each_place):
+            each(report, program, made)
+
+    check_in_realm(report, "changes of caches beside MIT's programs", checks)

@@ -56,15 +56,18 @@ class Preloaded:
 
     def run(self, line: Line, **settings: int) -> Counted | None:
         """One run with the settings that preload.c tells of; None where it was not loaded."""
-        with tempfile.TemporaryDirectory() as top, folder_of(self.files) as folder:
-            counts = os.path.join(top, "counts")
-            env = {"LD_PRELOAD": self.library, "PRELOAD_COUNTS": counts}
+        with folder_of(self.files) as folder:
+            return self.run_in(folder, line, **settings)
+
+    def run_in(self, folder: str, line: Line, **settings: int) -> Counted | None:
+        """The same in a folder."""
+        with tempfile.NamedTemporaryFile() as counts:
+            env = {"LD_PRELOAD": self.library, "PRELOAD_COUNTS": counts.name}
             env.update((name, str(value)) for name, value in settings.items())
             outcome = run(self.program, line.words, folder, line.stdin, env=env)
-            if not os.path.exists(counts):
+            if not (counted := counts.read(32)):
                 return None
-            with open(counts, "rb") as file:
-                requests, _, _, failures = struct.unpack("=4Q", file.read(32))
+            requests, _, _, failures = struct.unpack("=4Q", counted)
             return Counted(outcome, files_in(folder), requests, failures)
 
 

@@ -1,15 +1,16 @@
 """Random cases beside what a model says of them, each made from a number.
 
 The cases of one number run in turn. In a long run several processes share the numbers of a topic. A
-case that goes wrong is kept.
+case that goes wrong is made smaller, and kept.
 """
 from __future__ import annotations
 
 import os
 import subprocess
+import time
 from collections import Counter
 from collections.abc import Callable, Iterator
-from dataclasses import dataclass, field
+from dataclasses import dataclass, field, replace
 from functools import partial
 from multiprocessing import get_context
 from random import Random
@@ -17,8 +18,9 @@ from random import Random
 from runs.harness import SECONDS, Case, Report, faults_by_clock
 from runs.kept import keep
 
-# A case as it is at a time.
-CaseAt = Callable[[int], Case]
+# A case as it is at a time: what makes it of bytes, and these, of which a part may be left out.
+CaseAt = partial
+Cases = Callable[[Random], Iterator[CaseAt]]
 
 # How often each kind of answer has to come up.
 FEWEST = 3
@@ -33,10 +35,24 @@ ONE_IN = 10
 AT_ONCE = 10
 MOST_KEPT = 10
 
+# For how many seconds a smaller case that goes wrong is looked for.
+SEARCH = 20
 
-def always(case: Case) -> CaseAt:
-    """A case that does not hang on the clock."""
-    return lambda _: case
+
+def said(case: Case) -> str:
+    """The last words of what a run has to say."""
+    return case.wanted.err.decode().split(": ")[-1].strip()
+
+
+def smaller(case_at: CaseAt) -> Iterator[CaseAt]:
+    """The case with a part of its bytes left out, larger parts first."""
+    for nth, data in enumerate(case_at.args):
+        size = len(data or b"") // 2
+        while size:
+            for at in range(0, len(data), size):
+                left = data[:at] + data[at + size :]
+                yield partial(case_at.func, *case_at.args[:nth], left, *case_at.args[nth + 1 :], **case_at.keywords)
+            size //= 2
 
 
 @dataclass(frozen=True)
@@ -45,7 +61,7 @@ class Wrong:
 
     number: int
     nth: int
-    case: Case
+    case_at: CaseAt
     faults: list[str]
 
 
@@ -68,9 +84,9 @@ class Tried:
 class Topic:
     """Random cases of one topic."""
 
-    name: str
+    title: str
     # The cases that a random source makes, in turn.
-    cases: Callable[[Random], Iterator[CaseAt]]
+    cases: Cases
     # The kinds of a case's answers, and those that have to come up.
     kinds_of: Callable[[Case], Iterator[str]]
     kinds: tuple[str, ...]
@@ -80,6 +96,13 @@ class Topic:
     share: int = 1
     # What is wrong with a run of a case.
     run: Callable[[str, CaseAt], list[str]] = faults_by_clock
+    # The cases of a long run, where they are made from more.
+    of_long: Callable[[Report], Cases] | None = None
+
+    @property
+    def name(self) -> str:
+        """The word for it on a command line."""
+        return self.title.replace(" ", "_")
 
     def try_numbers(self, program: str, numbers: range) -> Tried:
         """Runs the cases of some numbers."""
@@ -89,18 +112,30 @@ class Topic:
                 self.try_case(tried, program, number, nth, case_at)
         return tried
 
-    def try_case(
-        self, tried: Tried, program: str, number: int, nth: int, case_at: CaseAt
-    ) -> None:
+    def try_case(self, tried: Tried, program: str, number: int, nth: int, case_at: CaseAt) -> None:
         """Runs one case."""
-        try:
-            faults = self.run(program, case_at)
-        except subprocess.TimeoutExpired:
-            faults = [f"no end in {SECONDS} seconds"]
+        faults = self.faults_of(program, case_at)
         tried.runs += 1
         tried.seen.update(self.kinds_of(case_at(0)))
         if faults:
-            tried.wrong.append(Wrong(number, nth, case_at(0), faults))
+            tried.wrong.append(Wrong(number, nth, case_at, faults))
+
+    def faults_of(self, program: str, case_at: CaseAt) -> list[str]:
+        """What is wrong with a run of a case, which has to end."""
+        try:
+            return self.run(program, case_at)
+        except subprocess.TimeoutExpired:
+            return [f"no end in {SECONDS} seconds"]
+
+    def smallest(self, program: str, wrong: Wrong) -> Wrong:
+        """A wrong case of which no part can be left out, as far as was looked."""
+        end = time.monotonic() + SEARCH
+        tries = smaller(wrong.case_at)
+        while time.monotonic() < end and (case_at := next(tries, None)):
+            if faults := self.faults_of(program, case_at):
+                wrong = replace(wrong, case_at=case_at, faults=faults)
+                tries = smaller(case_at)
+        return wrong
 
     def try_on_all_processors(self, program: str, numbers: range) -> Tried:
         """Runs the cases of some numbers, in several processes."""
@@ -118,29 +153,47 @@ class Topic:
         self.tell_wrong(report, program, sorted(tried.wrong, key=lambda one: (one.number, one.nth)))
         if count >= self.usual:
             missing = [f"no {kind}" for kind in self.kinds if tried.seen[kind] < FEWEST]
-            report.check(f"{self.name}: each kind", missing)
+            report.check(f"{self.title}: each kind", missing)
 
     def tell_wrong(self, report: Report, program: str, wrong: list[Wrong]) -> None:
-        """Keeps the first wrong cases, and says how each is run again."""
-        for one in wrong[:MOST_KEPT]:
-            again = keep(f"{self.name} {one.number} {one.nth}", one.case, program)
-            report.check(f"{self.name}, number {one.number}", [again, *one.faults])
+        """Keeps the first wrong cases, made smaller, and says how each is run again."""
+        for one in (self.smallest(program, each) for each in wrong[:MOST_KEPT]):
+            again = keep(f"{self.title} {one.number} {one.nth}", one.case_at(0), program)
+            report.check(f"{self.title}, number {one.number}", [again, *one.faults])
         if len(wrong) > MOST_KEPT:
             report.failed += len(wrong) - MOST_KEPT
-            print(f"{self.name}: and {len(wrong) - MOST_KEPT} cases more")
+            print(f"{self.title}: and {len(wrong) - MOST_KEPT} cases more")
 
     def check(self, report: Report, program: str) -> None:
         """Runs as many numbers as usual, the same in each run."""
         count = self.usual if report.is_proved else self.usual // ONE_IN
         self.judge(report, program, self.try_numbers(program, range(count)), count)
 
-    def check_from(self, report: Report, program: str, seed: int, count: int) -> None:
-        """Runs many numbers, from a seed on."""
-        numbers = range(seed, seed + max(1, count // self.share))
-        self.judge(report, program, self.try_on_all_processors(program, numbers), len(numbers))
-
     def check_long(self, program: str, seed: int, count: int) -> Report:
         """Runs many numbers, from a seed on, and answers what came of them."""
         report = Report()
-        self.check_from(report, program, seed, count)
+        topic = replace(self, cases=self.of_long(report), of_long=None) if self.of_long else self
+        numbers = range(seed, seed + max(1, count // self.share))
+        self.judge(report, program, topic.try_on_all_processors(program, numbers), len(numbers))
+        return report
+
+
+@dataclass(frozen=True)
+class Rounds:
+    """What is checked in rounds, each made from a number, which take long and report by themselves."""
+
+    check_rounds: Callable[[Report, str, range], None]
+    # A long run takes its count divided by this many numbers.
+    share: int
+    # How many numbers a short run takes.
+    usual: int = 0
+
+    def check(self, report: Report, program: str) -> None:
+        """Runs a few, the same in each run."""
+        self.check_rounds(report, program, range(self.usual))
+
+    def check_long(self, program: str, seed: int, count: int) -> Report:
+        """Runs many, from a seed on."""
+        report = Report()
+        self.check_rounds(report, program, range(seed, seed + max(1, count // self.share)))
         return report

@@ -1,29 +1,96 @@
-"""Topics of storms: each is made from a number, and takes long."""
+"""Programs that change one file at the same time."""
 from __future__ import annotations
 
-from collections.abc import Callable
-from dataclasses import dataclass
+import signal
+import subprocess
+import time
+from collections.abc import Callable, Collection
+from dataclasses import dataclass, field
+from random import Random
 
-from runs.harness import Report
+from runs.harness import SECONDS
+
+# A run that is refused has waited for another for this many seconds, or it says something else.
+LEAST_WAIT = 9
+
+# A run that reads no input begins where its shell has read a line.
+WAITS = ("sh", "-c", 'read -r line; exec "$0" "$@"')
 
 
-@dataclass(frozen=True)
-class Storms:
-    """A topic of storms."""
+@dataclass
+class Run:
+    """A run of a storm, of what has a name. It waits for its input, so all of them begin when they are told."""
 
-    # Runs the storms of some numbers.
-    check_rounds: Callable[[Report, str, range], None]
-    # How many numbers a short run takes.
-    usual: int
-    # A long run takes its count divided by this many.
-    share: int
+    name: str
+    line: tuple[str, ...]
+    text: str = ""
+    removes: bool = False
+    is_mits: bool = False
+    is_killed: bool = False
+    seconds: float = 0
+    said: bytes = b""
+    started: subprocess.Popen[bytes] = field(init=False)
 
-    def check(self, report: Report, program: str) -> None:
-        """Runs a few, the same in each run."""
-        self.check_rounds(report, program, range(self.usual))
+    def start(self, folder: str, env: dict[str, str]) -> None:
+        """Starts it, where it then waits."""
+        line = self.line if self.text else (*WAITS, *self.line)
+        self.started = subprocess.Popen(line, cwd=folder, env=env, stdin=subprocess.PIPE, stdout=subprocess.PIPE,
+                                        stderr=subprocess.STDOUT)
 
-    def check_long(self, program: str, seed: int, count: int) -> Report:
-        """Runs many, from a seed on."""
-        report = Report()
-        self.check_rounds(report, program, range(seed, seed + max(1, count // self.share)))
-        return report
+    def begin(self) -> None:
+        """Gives it all of its input."""
+        self.seconds = -time.monotonic()
+        self.started.stdin.write(self.text.encode() or b"\n")
+        self.started.stdin.close()
+        self.started.stdin = None
+
+    def end(self) -> None:
+        """Waits for its end."""
+        self.said = self.started.communicate(timeout=SECONDS)[0]
+        self.seconds += time.monotonic()
+
+    def saves(self) -> bool:
+        """Whether it says that it saved. MIT's ktutil ends with status 0 also where it failed."""
+        return self.started.returncode == 0 and not (self.is_mits and b" while " in self.said)
+
+    def end_is_told(self, beside_mit: bool) -> bool:
+        """Whether it ended as it may: it saves, was killed, or was refused for good reason."""
+        status = self.started.returncode
+        was_killed = self.is_killed and status == -signal.SIGKILL
+        has_waited = self.seconds > LEAST_WAIT and status == 3
+        return status == 0 or was_killed or has_waited or (beside_mit and status in (1, 3))
+
+    def faults(self, names: Collection[str], beside_mit: bool) -> list[str]:
+        """What is wrong with it, where the file has those names after all runs."""
+        # MIT's may write into a file that has lost its name, and is not judged.
+        if self.is_mits:
+            return []
+        is_done = (self.name in names) != self.removes
+        found = [f"{self.name} is lost"] if self.saves() and not is_done else []
+        if is_done and not (self.saves() or self.is_killed):
+            found.append(f"{self.name} was refused, and is done")
+        if not self.end_is_told(beside_mit):
+            found.append(f"{self.name}: status {self.started.returncode}, {self.said}")
+        return found
+
+
+def deeds(runs: list[Run], random: Random, within: float) -> list[tuple[float, Callable[[], None]]]:
+    """When each run begins, within so many seconds, and when some are killed, in seconds from now on."""
+    found = []
+    for each in runs:
+        at = random.random() * within
+        found.append((at, each.begin))
+        if each.is_killed:
+            longest = 0.05 if random.random() < 0.7 else 0.6
+            found.append((at + random.random() * longest, each.started.kill))
+    return sorted(found, key=lambda deed: deed[0])
+
+
+def rage(runs: list[Run], random: Random, within: float) -> None:
+    """Lets runs that wait begin, and waits for their ends."""
+    started = time.monotonic()
+    for at, do in deeds(runs, random, within):
+        time.sleep(max(0, started + at - time.monotonic()))
+        do()
+    for each in runs:
+        each.end()

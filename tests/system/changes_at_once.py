@@ -5,73 +5,21 @@ What each says that it saved is there afterwards, and who looks meanwhile sees a
 from __future__ import annotations
 
 import os
-import signal
-import subprocess
 import tempfile
 import threading
-import time
-from collections.abc import Callable
-from dataclasses import dataclass
 from random import Random
 
 from makers.images import Entry, keytab
-from peers.beside_mit import Mit, are_there
-from runs.harness import SECONDS, Report, folder_of, run
-from runs.storms import Storms
-from system.disk_saves import tree
+from peers.beside_mit import SURROUNDINGS, are_there
+from runs.harness import Report, folder_of, run
+from runs.random_runs import Rounds
+from runs.storms import Run, rage
+from system.saving import tree, write
 from system.storm_kinds import KINDS, MANY, Kind, change, removes
-
-# A run that is refused has waited for another for this many seconds, or it says something else.
-LEAST_WAIT = 9
 
 # The names by which the runs call the file, and what lies in the folder at the end.
 PATHS = ("k", "./k", "link")
 LEFT = {"k", "link"}
-
-# A run that reads no input begins where its shell has read a line.
-WAITS = ("sh", "-c", 'read -r line; exec "$0" "$@"')
-
-
-@dataclass
-class Run:
-    """A run of a storm. It waits for its input, so all of them begin when they are told."""
-
-    name: str
-    started: subprocess.Popen[bytes]
-    text: str
-    removes: bool = False
-    is_mits: bool = False
-    is_killed: bool = False
-    begun: float = 0
-    seconds: float = 0
-    said: bytes = b""
-
-    def begin(self) -> None:
-        """Gives it all of its input."""
-        self.begun = time.monotonic()
-        self.started.stdin.write(self.text.encode())
-        self.started.stdin.close()
-        self.started.stdin = None
-
-    def end(self) -> None:
-        """Waits for its end."""
-        self.said = self.started.communicate(timeout=SECONDS)[0]
-        self.seconds = time.monotonic() - self.begun
-
-    def saves(self) -> bool:
-        """Whether it says that it saved. MIT's ktutil ends with status 0 also where it failed."""
-        return self.started.returncode == 0 and not (self.is_mits and b" while " in self.said)
-
-    def is_done(self, names: list[str]) -> bool:
-        """Whether a file of those names is as after it."""
-        return (self.name in names) != self.removes
-
-    def end_is_told(self, beside_mit: bool) -> bool:
-        """Whether it ended as it may: it saves, was killed, or was refused for good reason."""
-        status = self.started.returncode
-        was_killed = self.is_killed and status == -signal.SIGKILL
-        has_waited = self.seconds > LEAST_WAIT and status == 3
-        return status == 0 or was_killed or has_waited or (beside_mit and status in (1, 3))
 
 
 class Storm:
@@ -86,34 +34,20 @@ class Storm:
 
     def start(self, folder: str, sources: str) -> None:
         """Starts all programs, which then wait for their input."""
-        mit = Mit(sources)
-        piped = {"stdin": subprocess.PIPE, "stdout": subprocess.PIPE, "stderr": subprocess.STDOUT}
         for number in range(MANY):
-            is_mits = self.kind.with_mit and number % 2 == 1
+            is_odd = number % 2 == 1
+            is_mits, is_killed = self.kind.with_mit and is_odd, self.kind.kills and is_odd
             command = self.kind.command(number)
             name = f"{'m' if is_mits else 'h' if removes(command) else 'a'}{number}"
             words, text = change(command, name, self.random.choice(PATHS))
+            line = (self.program, *words)
             if is_mits:
                 source = os.path.join(sources, name)
-                with open(source, "wb") as file:
-                    file.write(keytab(Entry((name.encode(),))))
-                text = f"rkt {source}\nwkt k\n"
-            line = ["ktutil"] if is_mits else [self.program, *words]
-            line = [*WAITS, *line] if removes(command) else line
-            started = subprocess.Popen(line, cwd=folder, env=mit.env, **piped)
-            is_killed = self.kind.kills and number % 2 == 1
-            self.runs.append(Run(name, started, text, removes(command), is_mits, is_killed))
-
-    def deeds(self) -> list[tuple[float, Callable[[], None]]]:
-        """When each run begins and when some are killed, in seconds from now on."""
-        found = []
+                write(source, keytab(Entry((name.encode(),))))
+                line, text = ("ktutil",), f"rkt {source}\nwkt k\n"
+            self.runs.append(Run(name, line, text, removes(command), is_mits, is_killed))
         for each in self.runs:
-            at = self.random.random() * self.kind.with_mit
-            found.append((at, each.begin))
-            if each.is_killed:
-                longest = 0.05 if self.random.random() < 0.7 else 0.6
-                found.append((at + self.random.random() * longest, each.started.kill))
-        return sorted(found, key=lambda deed: deed[0])
+            each.start(folder, SURROUNDINGS)
 
     def look(self, path: str, is_over: threading.Event) -> None:
         """Looks at the file until all is over."""
@@ -130,12 +64,7 @@ class Storm:
         looks = threading.Thread(target=self.look, args=(os.path.join(folder, "k"), is_over),
                                  daemon=True)
         looks.start()
-        started = time.monotonic()
-        for at, do in self.deeds():
-            time.sleep(max(0, started + at - time.monotonic()))
-            do()
-        for each in self.runs:
-            each.end()
+        rage(self.runs, self.random, self.kind.with_mit)
         is_over.set()
         looks.join()
 
@@ -147,15 +76,7 @@ class Storm:
             self.found.append(f"the file is not whole at the end: {found.get('k')}")
         names = names or []
         for each in self.runs:
-            is_done = each.is_done(names)
-            is_lost = each.saves() and not is_done
-            # MIT's may write into a file that has lost its name.
-            if is_lost and not each.is_mits:
-                self.found.append(f"{each.name} is lost")
-            if is_done and not (each.saves() or each.is_mits or each.is_killed):
-                self.found.append(f"{each.name} was refused, and is done")
-            if not each.is_mits and not each.end_is_told(self.kind.with_mit):
-                self.found.append(f"{each.name}: status {each.started.returncode}, {each.said}")
+            self.found += each.faults(names, self.kind.with_mit)
         if len(names) != len({*names}):
             self.found.append(f"{names} are there")
         if not self.kind.kills and found.keys() != LEFT:
@@ -207,5 +128,5 @@ def check_rounds(report: Report, program: str, seeds: range) -> None:
                 report.check(f"{kind}, round {seed}", storm(program, kind, seed).found[:3])
 
 
-TOPIC = Storms(check_rounds, usual=2, share=2_000)
+TOPIC = Rounds(check_rounds, usual=2, share=2_000)
 check, check_long = TOPIC.check, TOPIC.check_long

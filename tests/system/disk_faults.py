@@ -4,16 +4,15 @@ from __future__ import annotations
 import os
 import resource
 import signal
-import struct
 import subprocess
-import tempfile
 from collections.abc import Iterator
 from contextlib import contextmanager
 
 from runs.harness import Outcome, Report, differences, folder_of, message, run
-from runs.preload import MOST_CALLS, Line, built_library
+from runs.limits import limit
+from runs.preload import MOST_CALLS, Line, Preloaded, preloaded
 from runs.system_calls import Call, calls_of, check_traced, traced
-from system.disk_saves import (
+from system.saving import (
     GROUP,
     NEW,
     OLD,
@@ -106,57 +105,39 @@ def check_calls(report: Report, program: str) -> None:
         report.check(f"killed at {call}", faults)
 
 
-def preloaded(program: str, folder: str, library: str, **settings: int) -> tuple[Outcome, int]:
-    """A run with the settings that preload.c tells of, and how many calls were not granted."""
-    with tempfile.NamedTemporaryFile() as counts:
-        env = {"LD_PRELOAD": library, "PRELOAD_COUNTS": counts.name}
-        env.update((name, str(value)) for name, value in settings.items())
-        outcome = edit(program, folder, env=env)
-        return outcome, struct.unpack("=4Q", counts.read(32) or bytes(32))[3]
-
-
-def memory_faults(program: str, library: str, **settings: int) -> list[str]:
+def memory_faults(under: Preloaded, **settings: int) -> list[str]:
     """What is wrong where each request for memory is refused in turn, until one is not made."""
     for nth in range(1, MOST_CALLS):
         with folder_of({}) as folder:
             place(folder)
-            outcome, refused = preloaded(program, folder, library, REFUSE=nth, **settings)
-            faults = faults_of_failure(folder, outcome)
-        if refused == 0:
-            return faults + differences(SAVED, outcome)
-        if faults or outcome == UNSAVED:
-            return [f"at {nth} {outcome} {faults}"]
+            got = under.run_in(folder, LINE, REFUSE=nth, **settings)
+            faults = faults_of_failure(folder, got.outcome)
+        if got.failures == 0:
+            return faults + differences(SAVED, got.outcome)
+        if faults or got.outcome == UNSAVED:
+            return [f"at {nth} {got.outcome} {faults}"]
     return [f"there is no end at {MOST_CALLS}"]
 
 
 def check_preloaded(report: Report, program: str) -> None:
     """Requests for memory that are refused, and writes that take few bytes."""
-    with tempfile.TemporaryDirectory() as top:
-        library = built_library(top)
-        if library is None:
-            report.skip("saves without memory", "no C compiler built preload.c")
+    with preloaded(report, program, "saves without memory", {"k": OLD}) as under:
+        if under is None:
             return
-        report.check("memory refused once", memory_faults(program, library))
-        lasting = memory_faults(program, library, REFUSE_LASTS=1)
-        report.check("memory refused from a request on", lasting)
+        report.check("memory refused once", memory_faults(under))
+        report.check("memory refused from a request on", memory_faults(under, REFUSE_LASTS=1))
         for most in (1, 7, len(NEW) - 1):
-            with folder_of({"k": OLD}) as folder:
-                outcome, _ = preloaded(program, folder, library, MOST=most)
-                faults = differences(SAVED, outcome) + tree_faults({"k": NEW}, folder)
+            got = under.run(LINE, MOST=most)
+            faults = differences(SAVED, got.outcome) + ([] if got.files == {"k": NEW} else ["another file"])
             report.check(f"{most} bytes at a time", faults)
 
 
 def check_sizes(report: Report, program: str) -> None:
     """Files are limited in size: the write that would pass the limit is cut."""
     for most in range(len(NEW) + 1):
-
-        def limit(most: int = most) -> None:
-            signal.signal(signal.SIGXFSZ, signal.SIG_IGN)
-            resource.setrlimit(resource.RLIMIT_FSIZE, (most, most))
-
         whole = most == len(NEW)
         with folder_of({"k": OLD}) as folder:
-            got = edit(program, folder, preexec_fn=limit)
+            got = edit(program, folder, preexec_fn=limit(resource.RLIMIT_FSIZE, most))
             faults = differences(SAVED if whole else UNSAVED, got)
             faults += tree_faults({"k": NEW if whole else OLD}, folder)
         report.check(f"a file of at most {most} bytes", faults)

@@ -2,117 +2,52 @@
 from __future__ import annotations
 
 import os
-import stat
-from collections.abc import Callable
-from dataclasses import dataclass
-from functools import partial
 
-from makers.images import HOST, keytab
-from models.script_model import edited
-from runs.harness import Outcome, Report, differences, folder_of, message, run
-
-# The script of each run, and the file before and after it.
-SCRIPT = b"add 3 17 1700000000 000102030405060708090a0b0c0d0e0f host/a@R\n"
-WALK = b"start\nstep 0\n"
-OLD = keytab()
-NEW = keytab(HOST)
-SAVED = Outcome(0, b"placed 2\n")
-UNSAVED = message(3, "k: cannot write")
-UNREAD = message(3, "k: cannot read")
-
-# A user who is not root, and a group that user may be in.
-USER = 65_534
-GROUP = 54_321
+from models.cases import ktedit
+from runs.harness import Case, Report, differences, folder_of, message, run
+from system.saving import (
+    ADD,
+    CHANGES,
+    GROUP,
+    HOLDING_NOTHING,
+    NEW,
+    OLD,
+    SAVED,
+    SAVING_NOTHING,
+    SCRIPT,
+    UNREAD,
+    UNSAVED,
+    USER,
+    WALK,
+    Owned,
+    Place,
+    as_another,
+    as_user,
+    edit,
+    owned,
+    run_over,
+    tree,
+    tree_faults,
+    unsaved,
+    write,
+)
 
 # Modes of files that are replaced by their owner.
 MODES = (0o400, 0o600, 0o640, 0o664, 0o604, 0o6755)
 
-Place = Callable[[str], None]
 
-
-def edit(
-    program: str, folder: str, name: str = "k", script: bytes = SCRIPT, **options: object
-) -> Outcome:
-    """One run of a script, by itself one that adds an entry, over the file of that name."""
-    return run(program, ("ktedit", name), folder, script, **options)
-
-
-def as_user(groups: tuple[int, ...] = ()) -> dict[str, object]:
-    """The options of a run by a user who is not root, in these groups beside the user's own."""
-    return {"user": USER, "group": USER, "extra_groups": list(groups)}
-
-
-def as_another(program: str) -> dict[str, object] | None:
-    """The options of a run by who is not root; None where that user may not start the program."""
-    if os.geteuid() != 0:
-        return {}
-    try:
-        run(program, ("--help",), "/", **as_user())
-    except PermissionError:
-        return None
-    return as_user()
-
-
-def write(path: str, data: bytes, mode: int = 0o600) -> None:
-    """Makes a file of that mode."""
-    with open(path, "wb") as file:
-        file.write(data)
-    os.chmod(path, mode)
-
-
-def tree(folder: str) -> dict[str, object]:
-    """What is below a folder, by path: bytes of files, texts of links, and the kind of all else."""
-    found: dict[str, object] = {}
-    for at, folders, files in os.walk(folder):
-        for name in (*folders, *files):
-            path = os.path.join(at, name)
-            mode = os.lstat(path).st_mode
-            where = os.path.relpath(path, folder)
-            if stat.S_ISLNK(mode):
-                found[where] = os.readlink(path)
-            elif stat.S_ISREG(mode):
-                with open(path, "rb") as file:
-                    found[where] = file.read()
-            else:
-                found[where] = stat.filemode(mode)[0]
-    return found
-
-
-def tree_faults(wanted: dict[str, object], folder: str) -> list[str]:
-    """What below a folder is not as wanted."""
-    got = tree(folder)
-    names = sorted(set(wanted) | set(got))
-    return [f"{name} is {got.get(name)!r}" for name in names if got.get(name) != wanted.get(name)]
-
-
-@dataclass(frozen=True)
-class Owned:
-    """A file's mode, owner and group."""
-
-    mode: int
-    owner: int
-    group: int
-
-
-def owned(path: str) -> Owned:
-    """Those of a file."""
-    found = os.stat(path)
-    return Owned(stat.S_IMODE(found.st_mode), found.st_uid, found.st_gid)
-
-
-def check_owned(report: Report, name: str, program: str, old: Owned, new: Owned, **options) -> None:
+def check_owned(report: Report, name: str, program: str, old: Owned, new: Owned, case: Case = ADD, **options) -> None:
     """A save over a file of that mode, owner and group, in a folder of whoever makes the run."""
-    with folder_of({}) as folder:
-        path = os.path.join(folder, "k")
-        write(path, OLD)
+    with folder_of(case.files) as folder:
+        path = os.path.join(folder, case.words[-1])
         os.chown(folder, options.get("user", -1), options.get("group", -1))
         os.chown(path, old.owner, old.group)
         os.chmod(path, old.mode)
-        faults = differences(SAVED, edit(program, folder, **options))
+        faults = differences(case.wanted, run_over(program, case, folder, **options))
         if owned(path) != new:
             faults.append(f"{owned(path)}, not {new}")
-        faults += tree_faults({"k": NEW}, folder)
-    report.check(f"{name}, mode {old.mode:o}", faults)
+        faults += tree_faults(case.files_after, folder)
+    report.check(f"{name}, mode {old.mode:o}: {case.name}", faults)
 
 
 def check_new_files(report: Report, program: str) -> None:
@@ -129,9 +64,10 @@ def check_new_files(report: Report, program: str) -> None:
 
 def check_own_files(report: Report, program: str) -> None:
     """Who owns a file, and is in its group, saves it with its mode."""
-    for mode in MODES:
-        here = Owned(mode, os.geteuid(), os.getegid())
-        check_owned(report, "an own file", program, here, here, umask=0o077)
+    for case in CHANGES:
+        for mode in MODES:
+            here = Owned(mode, os.geteuid(), os.getegid())
+            check_owned(report, "an own file", program, here, here, case, umask=0o077)
 
 
 def check_others_files(report: Report, program: str) -> None:
@@ -141,7 +77,8 @@ def check_others_files(report: Report, program: str) -> None:
         return
     for mode in MODES:
         theirs = Owned(mode, USER, GROUP)
-        check_owned(report, "a user's file saved by root", program, theirs, theirs)
+        for case in CHANGES:
+            check_owned(report, "a user's file saved by root", program, theirs, theirs, case)
         inside = as_user((GROUP,))
         check_owned(report, "a user's file in one of its groups", program, theirs, theirs, **inside)
     # What stays where the owner is lost, the group, or both.
@@ -198,6 +135,19 @@ def check_links(report: Report, program: str) -> None:
             report.check(f"save over {name}", faults + tree_faults(wanted, folder))
 
 
+def check_hard_links(report: Report, program: str) -> None:
+    """A link is followed, a hard link is broken, what a killed run left goes, and all else stays."""
+    for case in CHANGES:
+        (name, before), (after,) = *case.files.items(), case.files_after.values()
+        with folder_of({"file": before, "file.krbfile": b"left", "file.new": b"strange"}) as folder:
+            os.symlink("file", os.path.join(folder, name))
+            os.link(os.path.join(folder, "file"), os.path.join(folder, "other"))
+            faults = differences(case.wanted, run_over(program, case, folder))
+            wanted = {name: "file", "file": after, "other": before, "file.new": b"strange"}
+            faults += tree_faults(wanted, folder)
+        report.check(f"a file of two names behind a link: {case.name}", faults)
+
+
 def check_broken_links(report: Report, program: str) -> None:
     """Links that lead to no place for a file."""
     cases = [
@@ -233,54 +183,27 @@ def check_removed(report: Report, program: str) -> None:
                 report.check(f"save over {name} after {deed}", faults + tree_faults(files, folder))
 
 
-def check_unchanging(report: Report, program: str) -> None:
-    """A script that can change nothing makes no file, also none that it takes away again."""
-    for script in (b"", b"# none\n", WALK, b"resume 2\n", b"start\nfrob\n"):
-        with folder_of({"k": OLD}) as folder:
-            os.utime(folder, (1, 1))
-            faults = differences(edited(OLD, script)[0], edit(program, folder, script=script))
-            if os.stat(folder).st_mtime != 1:
-                faults.append("the folder was changed")
-        report.check(f"a script that can change nothing: {script}", faults)
+def check_locked_folder(report: Report, program: str) -> None:
+    """A folder in which no file may be made. What saves nothing needs no right to make one.
 
-
-@dataclass(frozen=True)
-class Locked:
-    """A folder in which no file may be made: its files, and runs there with what each answers."""
-
-    name: str
-    files: dict[str, bytes]
-    runs: list[tuple[Outcome, Callable[..., Outcome]]]
-
-
-def check_locked(report: Report, program: str, what: str, those: list[Locked]) -> None:
-    """Such folders, whose files stay. Root may make files in each, so another runs the program."""
+    Root may make files in each, so another runs the program.
+    """
     options = as_another(program)
     if options is None:
-        report.skip(what, "none but root may start the program")
+        report.skip("a locked folder", "none but root may start the program")
         return
-    for one in those:
-        with folder_of(one.files) as folder:
-            for name in one.files:
+    scripts = [ktedit(before, script, name=f"{script[-6:-1]!r} over {before}")
+               for before in (OLD, None) for script in (SCRIPT, WALK, b"cut 3\n", WALK + b"cut 2\n")]
+    for case in (*CHANGES[1:], *scripts, *HOLDING_NOTHING, *SAVING_NOTHING):
+        with folder_of(case.files) as folder:
+            for name in case.files:
                 os.chmod(os.path.join(folder, name), 0o666)
             os.chmod(folder, 0o555)
-            faults = []
-            for wanted, run_there in one.runs:
-                faults += differences(wanted, run_there(program, folder, **options))
-            faults += tree_faults(dict(one.files), folder)
+            wanted = case.wanted if case.files == case.files_after else unsaved(case)
+            faults = differences(wanted, run_over(program, case, folder, **options))
+            faults += tree_faults(dict(case.files), folder)
             os.chmod(folder, 0o755)
-        report.check(one.name, faults)
-
-
-def check_locked_folder(report: Report, program: str) -> None:
-    """A folder in which no file may be made. What saves nothing needs no right to make one."""
-    those = []
-    for files in ({"k": OLD}, {}):
-        runs = [(edited(files.get("k"), script)[0], partial(edit, script=script))
-                for script in (WALK, b"cut 3\n", WALK + b"cut 2\n")]
-        name = f"a folder that is locked, with {len(files)} files"
-        those.append(Locked(name, files, [(UNSAVED, edit), *runs]))
-    check_locked(report, program, "a locked folder", those)
+        report.check(f"a locked folder: {case.name}", faults)
 
 
 def check(report: Report, program: str) -> None:
@@ -289,7 +212,7 @@ def check(report: Report, program: str) -> None:
     check_own_files(report, program)
     check_others_files(report, program)
     check_links(report, program)
+    check_hard_links(report, program)
     check_broken_links(report, program)
     check_removed(report, program)
-    check_unchanging(report, program)
     check_locked_folder(report, program)

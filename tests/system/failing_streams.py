@@ -13,14 +13,12 @@ from models.ktutil_model import Failure, Ktutil, handled
 from models.modelled import NOW, Modelled, Stage, large, small
 from runs.harness import Outcome, Report, differences, message
 from runs.preload import MOST_CALLS, WHOLE, Counted, Line, Preloaded, preloaded
+from runs.random_runs import Rounds
 
 ERRORS = (EINTR, EAGAIN, ENOSPC, ENOMEM, EACCES)
 
 # How few bytes one read or write moves.
 FEW = 60
-
-# A long test has its count divided by this many runs.
-SHARE = 4
 
 NO_OUTPUT = message(3, "cannot write output")
 
@@ -186,21 +184,18 @@ def check(report: Report, program: str) -> None:
                 check_few_bytes(report, under.over(run.case.files), run, most)
 
 
-def check_long(program: str, seed: int, count: int) -> Report:
-    """Lets calls fail that a seed chooses, of runs over larger files too."""
-    report = Report()
-    random = Random(seed)
+def check_rounds(report: Report, program: str, seeds: range) -> None:
+    """Lets calls fail that numbers choose, of runs over larger files too."""
     with preloaded(report, program, "failing streams", {}) as under:
-        if under is None:
-            return report
         those = [Ends(run) for run in [*small(), *large()]]
-        for number in range(count // SHARE):
+        for seed in seeds if under else ():
+            random = Random(seed)
             ends = random.choice(those)
-            setting = random.choice(settings_of(ends.run))
+            setting, error = random.choice(settings_of(ends.run)), random.choice(ERRORS)
             nth, most = int(2 ** random.uniform(0, 7)), int(2 ** random.uniform(0, 17))
-            error = random.choice(ERRORS)
-            faults, _ = faults_of_call(under.over(ends.run.case.files), ends, setting, nth, most,
-                                       error)
-            name = f"{setting} {errorcode[error]}, at most {most} bytes, seed {seed}, {number}"
+            faults, _ = faults_of_call(under.over(ends.run.case.files), ends, setting, nth, most, error)
+            name = f"{setting} {errorcode[error]}, at most {most} bytes, number {seed}"
             report.check(f"{name}: {ends.run.case.name}", faults)
-    return report
+
+
+check_long = Rounds(check_rounds, share=4).check_long

@@ -11,19 +11,10 @@ from dataclasses import dataclass
 
 from makers.images import B, TWO, keytab
 from makers.usual_caches import USUAL
-from models.modelled import (
-    Modelled,
-    ccedit,
-    ccremove,
-    klist,
-    klist_cache,
-    ktcheck,
-    ktedit,
-    ktfind,
-    ktremove,
-    ktutil,
-)
+from models import cases
+from models.modelled import NOW, Modelled, modelled
 from models.removal_model import Asked
+from models.ticket_removal_model import Asked as AskedTickets
 from runs.harness import Outcome, Report, differences, files_in, folder_of
 from runs.preload import Counted, Line
 from runs.system_calls import Call, calls_of, check_traced, traced
@@ -99,7 +90,7 @@ def save(name: str, nth: int = 1, is_new: bool = False) -> list[Step]:
 READ = Step(r"read\(0", "input")
 PRINT = Step(r"write\(1", "output")
 
-TALK = ["rkt j", "l", "wkt k", "wkt n", "l -e", "rkt n", "l"]
+TALK = b"rkt j\nl\nwkt k\nwkt n\nl -e\nrkt n\nl\n"
 TALKED = [READ, *load("j"), PRINT, *hold("k"), *load("k", 2), *save("k"), *hold("n", 2),
           *load("n", 3), *save("n", 2, is_new=True), PRINT, *load("n", 4), PRINT, READ]
 
@@ -107,24 +98,20 @@ TALKED = [READ, *load("j"), PRINT, *hold("k"), *load("k", 2), *save("k"), *hold(
 def runs() -> list[tuple[Modelled, list[Step]]]:
     """Runs and their steps."""
     add = b"add 3 17 0 000102030405060708090a0b0c0d0e0f host/a@R\n"
-    files = {"j": TWO, "k": keytab(B)}
-    return [
-        (klist(TWO, "tKe"), [*load("k"), PRINT]),
-        (klist_cache(USUAL, "efC"), [*load("c"), PRINT]),
-        (ktfind(TWO, 0, 0, "b@R"), [*load("k"), PRINT]),
-        (ktcheck(TWO), [*load("k"), PRINT]),
-        (ktedit("a keytab", TWO, b"start\ncut 2\n" + add),
-         [READ, *hold("k"), *load("k"), *save("k"), PRINT]),
-        (ktedit("no file", None, add),
-         [READ, *hold("k"), *load("k"), *save("k", is_new=True), PRINT]),
-        (ktremove("a keytab", TWO, Asked(b"host/a@R")),
-         [*hold("k"), *load("k"), *save("k"), PRINT]),
-        (ccedit("a cache", USUAL, b"start\ncut 40\nconfig pa_type krbtgt/R@R 3\n"),
-         [READ, *hold("c"), *load("c"), *save("c"), PRINT]),
-        (ccremove("a cache", USUAL, b"krbtgt/R@R"),
-         [*hold("c"), *load("c"), *save("c"), PRINT]),
-        (ktutil("three files", files, TALK), TALKED),
-    ]
+    config = b"start\ncut 40\nconfig pa_type krbtgt/R@R 3\n"
+    change_k, change_c = ([*hold(name), *load(name), *save(name), PRINT] for name in "kc")
+    return [(modelled(case), steps) for case, steps in (
+        (cases.klist(TWO, columns="tKe"), [*load("k"), PRINT]),
+        (cases.klist_cache(USUAL, words=("-cefC", "c")), [*load("c"), PRINT]),
+        (cases.ktfind(TWO, name=(b"b", b"R")), [*load("k"), PRINT]),
+        (cases.ktcheck(TWO), [*load("k"), PRINT]),
+        (cases.ktedit(TWO, b"start\ncut 2\n" + add, name="a keytab"), [READ, *change_k]),
+        (cases.ktedit(None, add, name="no file"), [READ, *hold("k"), *load("k"), *save("k", is_new=True), PRINT]),
+        (cases.ktremove(TWO, asked=Asked(b"host/a@R"), name="a keytab"), change_k),
+        (cases.ccedit(USUAL, config, name="a cache"), [READ, *change_c]),
+        (cases.ccremove(USUAL, NOW, asked=AskedTickets(b"krbtgt/R@R"), name="a cache"), change_c),
+        (cases.ktutil(TALK, NOW, files={"j": TWO, "k": keytab(B)}, name="three files"), TALKED),
+    )]
 
 
 def steps_of(calls: list[Call], steps: list[Step]) -> list[tuple[Call, Step]] | None:

@@ -8,7 +8,6 @@ from __future__ import annotations
 
 import resource
 import subprocess
-from collections.abc import Callable
 from random import Random
 
 from caches import cache_files
@@ -17,6 +16,8 @@ from keytabs.file_names import LIMIT, sized
 from keytabs.greatest import cases
 from models.modelled import NO_MEMORY
 from runs.harness import SECONDS, Case, Outcome, Report, faults_of, run_case
+from runs.limits import limit
+from runs.random_runs import Rounds
 
 STACK = 256 * 1024
 SPACE = 64 * 1024 * 1024
@@ -27,14 +28,6 @@ LEAST_POWER, MOST_POWER = 22, 30
 
 # The commands that print nothing before all is ready.
 GATHERING = ("ktcheck", "ktedit", "ktremove", "ccedit", "ccremove")
-
-# A long test has its count divided by this many runs.
-SHARE = 200
-
-
-def limit(kind: int, most: int) -> Callable[[], None]:
-    """What lets a run have so much of a kind at most."""
-    return lambda: resource.setrlimit(kind, (most, most))
 
 
 def is_early(case: Case, got: Outcome, after: dict[str, bytes]) -> bool:
@@ -90,13 +83,13 @@ def check(report: Report, program: str) -> None:
         report.check(f"{case.name}, in 64 MB of memory", faults)
 
 
-def check_long(program: str, seed: int, count: int) -> Report:
-    """Runs cases in amounts of memory that a seed chooses."""
-    report = Report()
-    random = Random(seed)
+def check_rounds(report: Report, program: str, seeds: range) -> None:
+    """Runs cases in amounts of memory that numbers choose."""
     those = all_cases()
-    for _ in range(count // SHARE):
+    for random in map(Random, seeds):
         case, most = random.choice(those), int(2 ** random.uniform(LEAST_POWER, MOST_POWER))
         faults = faults_in(program, case, resource.RLIMIT_AS, most)
         report.check(f"{case.name}, in {most} bytes of memory", faults)
-    return report
+
+
+check_long = Rounds(check_rounds, share=200).check_long

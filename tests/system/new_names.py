@@ -9,18 +9,21 @@ from collections.abc import Callable
 from concurrent.futures import ThreadPoolExecutor
 
 from makers.images import B, HOST, keytab
-from runs.harness import Outcome, Report, differences, folder_of, message, run
-from system.disk_saves import (
+from runs.harness import Case, Outcome, Report, differences, folder_of, message, run
+from system.saving import (
+    ADD,
+    CHANGES,
     NEW,
     OLD,
     SAVED,
-    UNSAVED,
     USER,
     WALK,
     as_another,
     edit,
+    run_over,
     tree,
     tree_faults,
+    unsaved,
     write,
 )
 
@@ -39,6 +42,11 @@ WALKED = Outcome(0, b"walk 0 at 2\nwalk 0 end 2\n")
 def beside(path: str, name: str) -> str:
     """Another path in the same folder."""
     return os.path.join(os.path.dirname(path), name)
+
+
+def own(path: str) -> str:
+    """The file whose new file has that path."""
+    return path.removesuffix(".krbfile")
 
 
 def filled(path: str) -> None:
@@ -62,12 +70,12 @@ STRANGE: list[tuple[str, Make]] = [
     ("an empty folder", os.mkdir),
     ("a folder", filled),
     ("a link to a file", lambda path: os.symlink("other", path)),
-    ("a link to the file", lambda path: os.symlink("k", path)),
+    ("a link to the file", lambda path: os.symlink(os.path.basename(own(path)), path)),
     ("a link that dangles", lambda path: os.symlink("no", path)),
-    ("a link to itself", lambda path: os.symlink(NEW_FILE, path)),
+    ("a link to itself", lambda path: os.symlink(os.path.basename(path), path)),
     ("a pipe", os.mkfifo),
     ("another name of a file", lambda path: os.link(beside(path, "other"), path)),
-    ("another name of the file", lambda path: os.link(beside(path, "k"), path)),
+    ("another name of the file", lambda path: os.link(own(path), path)),
 ]
 
 
@@ -81,17 +89,18 @@ def stands(folder: str) -> dict[str, tuple[object, ...]]:
 
 
 def faults_in_the_way(
-    program: str, make: Make, mode: int, owner: int | None, **options: object
+    program: str, make: Make, mode: int, owner: int | None, case: Case = ADD, **options: object
 ) -> list[str]:
     """What is wrong with a run while something stands in the way, in a folder of that mode."""
     with folder_of({"other": b"other"}) as folder:
+        path = os.path.join(folder, case.words[-1])
         if owner is not None:
-            write(os.path.join(folder, "k"), OLD)
-            os.chown(os.path.join(folder, "k"), owner, -1)
-        make(os.path.join(folder, NEW_FILE))
+            write(path, *case.files.values())
+            os.chown(path, owner, -1)
+        make(f"{path}.krbfile")
         os.chmod(folder, mode)
         wanted = stands(folder)
-        faults = differences(UNSAVED, edit(program, folder, **options))
+        faults = differences(unsaved(case), run_over(program, case, folder, **options))
         if stands(folder) != wanted:
             faults.append(f"{tree(folder)} are there, or are not as they were")
         return faults
@@ -100,7 +109,8 @@ def faults_in_the_way(
 def check_strange(report: Report, program: str) -> None:
     """What no killed run of this user, or of the file's owner, left: it is not touched."""
     root, user = os.geteuid() == 0, as_another(program)
-    cases = [(name, make, 0o700, os.geteuid(), {}) for name, make in STRANGE]
+    cases = [(f"{name}: {case.name}", make, 0o700, os.geteuid(), {"case": case})
+             for name, make in STRANGE for case in CHANGES]
     cases += [("a folder where no file is", os.mkdir, 0o700, None, {})]
     if root:
         cases += [("a user's file beside root's", owned_by(STRANGER), 0o700, 0, {}),
@@ -109,7 +119,8 @@ def check_strange(report: Report, program: str) -> None:
     if root and user:
         cases += [("another's that is open to all", owned_by(STRANGER, 0o666), 0o777, USER, user),
                   ("another's, in a sticky folder", owned_by(STRANGER, 0o666), 0o1777, USER, user),
-                  ("another's that is closed", owned_by(STRANGER), 0o1777, USER, user),
+                  *((f"another's that is closed: {case.name}", owned_by(STRANGER), 0o1777, USER,
+                     {"case": case, **user}) for case in CHANGES),
                   ("an own file that may not be opened", owned_by(USER, 0), 0o777, USER, user),
                   ("an own file that may not be read", owned_by(USER, 0o200), 0o777, USER, user)]
     with ThreadPoolExecutor(len(cases)) as pool:
@@ -207,6 +218,17 @@ def check_places(report: Report, program: str) -> None:
             report.check(f"save as {name[:20]!r}", faults + tree_faults(wanted, folder))
 
 
+def check_no_names(report: Report, program: str) -> None:
+    """Files with the name of a new one, and with one that is too long for a new one, are not changed."""
+    for case in CHANGES:
+        for name in (f"{case.words[-1]}.krbfile", "x" * 248):
+            with folder_of({name: data for data in case.files.values()}) as folder:
+                wanted = tree(folder)
+                faults = differences(unsaved(case, name), run_over(program, case, folder, name))
+                faults += tree_faults(wanted, folder)
+            report.check(f"{name[:9]} has no new file: {case.name}", faults)
+
+
 def check(report: Report, program: str) -> None:
     """Runs all of this topic."""
     if os.geteuid() != 0 or as_another(program) is None:
@@ -216,3 +238,4 @@ def check(report: Report, program: str) -> None:
     check_strangers(report, program)
     check_own_names(report, program)
     check_places(report, program)
+    check_no_names(report, program)

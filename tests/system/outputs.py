@@ -16,6 +16,7 @@ from makers.images import TWO, Entry, keytab
 from makers.usual_caches import TICKET, USUAL
 from models.cache_reading import listed as cache_listed
 from runs.harness import SECONDS, Case, Outcome, Report, folder_of, message, run
+from runs.limits import limit
 from runs.terminal import EXPLAIN
 
 FAILED = message(3, "cannot write output")
@@ -73,13 +74,9 @@ def limited(
     The write that passes them is cut.
     """
 
-    def limit() -> None:
-        signal.signal(signal.SIGXFSZ, signal.SIG_IGN)
-        resource.setrlimit(resource.RLIMIT_FSIZE, (most, most))
-
     path = os.path.join(folder, stream)
     with open(path, "wb") as file:
-        got = run(program, words, folder, stdin, preexec_fn=limit, **{stream: file})
+        got = run(program, words, folder, stdin, preexec_fn=limit(resource.RLIMIT_FSIZE, most), **{stream: file})
     with open(path, "rb") as file:
         return got, file.read()
 

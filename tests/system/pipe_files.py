@@ -8,7 +8,7 @@ from contextlib import contextmanager, suppress
 
 from runs.harness import Outcome, Report, differences, folder_of, run
 from runs.terminal import EXPLAIN
-from system.disk_saves import OLD, SCRIPT, tree_faults
+from system.saving import OLD, SCRIPT, tree_faults
 
 ADDENT = b"addent -key -p a@R -k 1 -e 17\n000102030405060708090a0b0c0d0e0f\n"
 

@@ -8,15 +8,15 @@ from __future__ import annotations
 
 from random import Random
 
-from models.modelled import NO_MEMORY, NOW, Modelled, large, listing, small
-from runs.harness import Report, differences, message
+from models.modelled import NO_MEMORY, NOW, Modelled, Stage, large, small
+from runs.harness import Case, Report, differences, message
 from runs.preload import Counted, Line, Preloaded, preloaded
+from runs.random_runs import Rounds
 
 # How many requests of a run are refused: over small files all that there are, and over larger ones
-# some. Of the latter a long test runs its count divided by SHARE.
+# some.
 FEW = 5_000
 SOME = 45
-SHARE = 100
 
 # The settings that refuse one request, and those that refuse all from it on.
 WAYS = {"once": {}, "from it on": {"REFUSE_LASTS": 1}}
@@ -70,7 +70,8 @@ def command_lines(under: Preloaded) -> list[Modelled]:
     wanted = [(words, under.run(Line(words)).outcome) for words in asked]
     unread = message(2, "bad command line")
     wanted += [(words, unread) for words in (("frob",), ("klist", "-k", "k", "--nosuch"))]
-    return [listing(" ".join(words), words, b"", outcome) for words, outcome in wanted]
+    return [Modelled(Case(" ".join(words), words, outcome), (Stage(b"", b"", {}),), may_print=True)
+            for words, outcome in wanted]
 
 
 def check(report: Report, program: str) -> None:
@@ -86,16 +87,13 @@ def check(report: Report, program: str) -> None:
             check_run(report, under, run, lambda requests: spread(requests, SOME))
 
 
-def check_long(program: str, seed: int, count: int) -> Report:
-    """Refuses requests over larger files that a seed chooses."""
-    report = Report()
-    random = Random(seed)
-
-    def chosen(requests: int) -> list[int]:
-        return random.sample(range(1, requests + 1), min(requests, count // SHARE))
-
+def check_rounds(report: Report, program: str, seeds: range) -> None:
+    """Refuses requests over larger files, as many of each run as there are numbers, which the first chooses."""
+    random = Random(seeds.start)
     with preloaded(report, program, "memory that is refused", {}) as under:
-        if under is not None:
-            for run in large():
-                check_run(report, under, run, chosen)
-    return report
+        for run in large() if under else ():
+            check_run(report, under, run, lambda requests: random.sample(range(1, requests + 1),
+                                                                         min(requests, len(seeds))))
+
+
+check_long = Rounds(check_rounds, share=100).check_long

@@ -13,7 +13,7 @@ from runs.harness import Outcome, Report, differences, folder_of, run
 from runs.preload import Line
 from runs.rows import text
 from runs.system_calls import Halt, check_traced, halted
-from system.disk_saves import NEW, OLD, SAVED, SCRIPT, UNSAVED, Place, tree, tree_faults, write
+from system.saving import NEW, OLD, SAVED, SCRIPT, UNSAVED, Place, tree, tree_faults, write
 
 # A user who is not root.
 USER = 1234

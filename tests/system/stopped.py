@@ -17,7 +17,7 @@ from makers.images import B, TWO, keytab
 from models.script_model import edited
 from runs.harness import SECONDS, Outcome, Report, differences, folder_of, message
 from runs.rows import text
-from system.disk_saves import NEW, OLD, SAVED, SCRIPT, edit, tree_faults, write
+from system.saving import NEW, OLD, SAVED, SCRIPT, edit, tree_faults, write
 from system.outputs import KLIST, LONG, piped
 
 # How long a run has to come to where it waits.

@@ -24,7 +24,7 @@ def removes(command: str) -> bool:
 def change(command: str, name: str, path: str = "k") -> tuple[tuple[str, ...], str]:
     """The words of a run that adds or removes what has that name, and its input."""
     if removes(command):
-        return (command, "-p", f"{name}@R", path), "\n"
+        return (command, "-p", f"{name}@R", path), ""
     if command == "ccedit":
         return ("ccedit", path), f"config {name} - v\n"
     if command == "ktedit":

@@ -7,7 +7,7 @@ import sys
 
 from makers.images import Entry, keytab
 from runs.harness import Report, folder_of, run
-from system.disk_saves import SCRIPT, tree
+from system.saving import SCRIPT, tree
 
 USER = 1234
 SWAPPER = os.path.join(os.path.dirname(os.path.abspath(__file__)), "swap_names.py")

@@ -13,9 +13,24 @@ from collections.abc import Callable, Iterator
 from concurrent.futures import ThreadPoolExecutor
 from contextlib import ExitStack, contextmanager
 
-from runs.harness import Report, differences, folder_of
+from runs.harness import Case, Report, differences, folder_of
 from system.disk_faults import mounted
-from system.disk_saves import NEW, OLD, SAVED, UNSAVED, edit, tree, tree_faults, write
+from system.saving import (
+    ADD,
+    CHANGES,
+    HOLDING_NOTHING,
+    NEW,
+    OLD,
+    SAVED,
+    SAVING_NOTHING,
+    UNSAVED,
+    edit,
+    run_over,
+    tree,
+    tree_faults,
+    unsaved,
+    write,
+)
 
 # More locks than the system lists at a time, and so many that it lists them slowly.
 MANY = 300
@@ -23,6 +38,9 @@ MOST = 10_000
 
 # A run that gives up ends between these many seconds, however busy the machine is.
 LEAST_WAIT, LONGEST_WAIT = 9, 20
+
+# What needs no hold ends within so many seconds.
+AT_ONCE = 3
 
 # Runs that wait at the same time, and for how many seconds.
 RUNS, WHILE = 8, 3
@@ -47,7 +65,7 @@ def ofd_lock(file, kind: int) -> None:
     fcntl.fcntl(file, fcntl.F_OFD_SETLK, struct.pack("hhqqixxxx", kind, os.SEEK_SET, 0, 0, 0))
 
 
-def faults_of_waiting(program: str, folder: str, end: Callable[[], None]) -> list[str]:
+def faults_of_waiting(program: str, folder: str, end: Callable[[], None], case: Case = ADD) -> list[str]:
     """What is wrong with a run that has to wait until something ends, which it does in a moment."""
     has_ended = threading.Event()
 
@@ -57,26 +75,28 @@ def faults_of_waiting(program: str, folder: str, end: Callable[[], None]) -> lis
 
     timer = threading.Timer(0.3, end_it)
     timer.start()
-    faults = differences(SAVED, edit(program, folder))
+    faults = differences(case.wanted, run_over(program, case, folder))
     faults += [] if has_ended.is_set() else ["it did not wait"]
     timer.join()
-    return faults + tree_faults({"k": NEW}, folder)
+    return faults + tree_faults(case.files_after, folder)
 
 
 def check_locks(report: Report, program: str) -> None:
     """A run waits for another's new file, and for who has locked the file to write in it."""
     locks = [
-        ("k.krbfile", "another run's lock", lambda file: fcntl.flock(file, fcntl.LOCK_EX)),
-        ("k", "a lock of a program", lambda file: fcntl.lockf(file, fcntl.LOCK_EX)),
-        ("k", "a lock of a part", lambda file: fcntl.lockf(file, fcntl.LOCK_EX, 1, 9)),
-        ("k", "a lock of an open file", lambda file: ofd_lock(file, fcntl.F_WRLCK)),
+        (".krbfile", "another run's lock", lambda file: fcntl.flock(file, fcntl.LOCK_EX)),
+        ("", "a lock of a program", lambda file: fcntl.lockf(file, fcntl.LOCK_EX)),
+        ("", "a lock of a part", lambda file: fcntl.lockf(file, fcntl.LOCK_EX, 1, 9)),
+        ("", "a lock of an open file", lambda file: ofd_lock(file, fcntl.F_WRLCK)),
     ]
-    for name, what, lock in locks:
-        with folder_of({"k": OLD, name: OLD}) as folder:
-            with open(os.path.join(folder, name), "r+b") as file:
-                lock(file)
-                faults = faults_of_waiting(program, folder, file.close)
-        report.check(f"{what} is waited for", faults)
+    for case in CHANGES:
+        for ending, what, lock in locks:
+            name = case.words[-1] + ending
+            with folder_of({**case.files, name: OLD} if ending else case.files) as folder:
+                with open(os.path.join(folder, name), "r+b") as file:
+                    lock(file)
+                    faults = faults_of_waiting(program, folder, file.close, case)
+            report.check(f"{what} is waited for: {case.name}", faults)
     with folder_of({"k": OLD}) as folder, open(os.path.join(folder, "k"), "rb") as file:
         ofd_lock(file, fcntl.F_RDLCK)
         faults = differences(SAVED, edit(program, folder)) + tree_faults({"k": NEW}, folder)
@@ -124,6 +144,27 @@ def faults_of_giving_up(program: str, folder: str) -> list[str]:
     if not LEAST_WAIT <= waited <= LONGEST_WAIT:
         faults.append(f"it waited for {waited:.1f} seconds")
     return faults
+
+
+def faults_while_held(program: str, case: Case) -> list[str]:
+    """What is wrong with a run while another holds the cache."""
+    files = {**case.files, "c.krbfile": b"other"}
+    with folder_of(files) as folder, open(os.path.join(folder, "c.krbfile"), "rb") as file:
+        fcntl.flock(file, fcntl.LOCK_EX)
+        begun = time.monotonic()
+        got = run_over(program, case, folder)
+        waited = time.monotonic() - begun
+        faults = differences(unsaved(case) if case in CHANGES else case.wanted, got) + tree_faults(files, folder)
+    is_in_time = (waited <= AT_ONCE) == (case in HOLDING_NOTHING)
+    return faults + ([] if is_in_time else [f"it took {waited:.1f} seconds"])
+
+
+def check_held(report: Report, program: str) -> None:
+    """While another run holds the cache: what needs no hold does not wait, and no save is made."""
+    cases = (*HOLDING_NOTHING, *SAVING_NOTHING, CHANGES[2])
+    with ThreadPoolExecutor(len(cases)) as pool:
+        for case, faults in zip(cases, pool.map(faults_while_held, [program] * len(cases), cases)):
+            report.check(f"held by another: {case.name}", faults)
 
 
 def check_lasting_locks(report: Report, program: str) -> None:
@@ -214,6 +255,7 @@ def check(report: Report, program: str) -> None:
         check_locks(report, program)
         check_many_locks(report, program)
         check_waiting_locks(report, program)
+        check_held(report, program)
         check_lasting_locks(report, program)
         check_changing_locks(report, program)
         check_other_disk(report, program)

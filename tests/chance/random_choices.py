@@ -1,0 +1,123 @@
+"""Look-ups, check-ups and removals, beside models of them. Names, versions and times are few, so that many agree."""
+from __future__ import annotations
+
+from collections.abc import Iterator
+from dataclasses import replace
+from functools import partial
+from random import Random
+
+from chance.random_caches import filled_cache, random_credential, with_damage
+from chance.random_keytabs import Choices
+from makers.cache_images import CONFIG_FIRST, CONFIG_REALM, Credential, Name
+from models.cases import ccremove, ktcheck, ktfind, ktremove
+from models.reading import name_text
+from models.removal_model import OLD, Asked
+from models.ticket_removal_model import Asked as AskedTickets
+from runs.harness import Case, Outcome
+from runs.random_runs import CaseAt, Topic, said
+
+FOUND = Choices(names=((b"a", b"R"), (b"a", b"b", b"R"), (b"a/b", b"R"), (b"", b"\n", b"@")),
+                versions=(0, 1, 2, 255, 256, 257, 2**32 - 1), enctypes=(0, 17, 18, 273))
+REMOVED = Choices(names=((b"a", b"R"), (b"a", b"b", b"R"), (b"a/b", b"R"), (b"", b"R"), (b"R",)),
+                  versions=(0, 1, 127, 128, 240, 241, 255, 256, 2**32 - 1), enctypes=(0, 17, 18, 23),
+                  timestamps=(0, 1, 2, 2**32 - 1))
+CHECKED = Choices(REMOVED.names, REMOVED.versions[:5], enctypes=(17, 18, 23), timestamps=(0, 1, 2**32 - 1),
+                  keys=(b"", b"x", b"y", b"y"))
+
+# The names of servers, some of which print the same.
+SERVERS = [Name((b"krbtgt", b"R")), Name((b"host", b"a")), Name((b"host", b"a"), name_type=3),
+           Name((b"host/a",)), Name(()), Name((b"",)), Name((b"a\n@",), b"R@S"),
+           Name((CONFIG_FIRST, b"k"), CONFIG_REALM), Name((CONFIG_FIRST,), CONFIG_REALM)]
+
+# Times that are over, and that do not come within a test, and one between.
+TIMES = [0, 1, 1_700_000_000, 2**31 - 1, 2**31, 2**32 - 1]
+BETWEEN = 1_800_000_000
+
+
+def random_look_up(random: Random) -> Iterator[CaseAt]:
+    """A look-up in a keytab, which is mostly read in its own order."""
+    image, is_big = FOUND.random_keytab(random)
+    v1_big = is_big != (random.random() < 0.1)
+    kvno, enctype = random.choice([0, *FOUND.versions]), random.choice([0, *FOUND.enctypes])
+    yield partial(ktfind, image, kvno=kvno, enctype=enctype, name=random.choice(FOUND.names), v1_big=v1_big)
+
+
+def kinds_of_look_up(case: Case) -> Iterator[str]:
+    """What kind of answer it is."""
+    yield said(case) or "found"
+
+
+def random_check(random: Random) -> Iterator[CaseAt]:
+    """A check of a keytab of some parts."""
+    image, is_big = CHECKED.random_keytab(random)
+    yield partial(ktcheck, image, v1_big=is_big)
+
+
+def kinds_of_check(case: Case) -> Iterator[str]:
+    """The words that its lines begin with."""
+    yield from {line.split()[0].decode() for line in case.wanted.out.splitlines()}
+
+
+def random_asked(random: Random) -> Asked:
+    """What is asked for, at least something."""
+    while True:
+        name = name_text(random.choice(REMOVED.names)) if random.random() < 0.4 else None
+        kvno = random.choice([None, OLD, OLD, random.choice(REMOVED.versions)])
+        count = random.choice([0, 0, 1, 2])
+        asked = Asked(name, kvno, tuple(random.choice(REMOVED.enctypes) for _ in range(count)))
+        if asked.words():
+            return asked
+
+
+def random_removal(random: Random) -> Iterator[CaseAt]:
+    """A removal from a keytab of some parts, and the same once more over what it left."""
+    image, is_big = REMOVED.random_keytab(random)
+    asked, is_dry = random_asked(random), random.random() < 0.2
+    for _ in range(2):
+        case_at = partial(ktremove, image, asked=asked, v1_big=is_big, is_dry=is_dry)
+        yield case_at
+        image = case_at(0).files_after["k"]
+
+
+def random_ticket(random: Random) -> Credential:
+    """A ticket for one of the servers."""
+    ticket = replace(random_credential(random), server=random.choice(SERVERS),
+                     endtime=random.choice(TIMES))
+    return ticket.removed() if random.random() < 0.2 else ticket
+
+
+def random_tickets_asked(random: Random) -> AskedTickets:
+    """What is asked for, at least something."""
+    server = random.choice(SERVERS)
+    service = name_text((*server.components, server.realm)) if random.random() < 0.6 else None
+    return AskedTickets(service, service is None or random.random() < 0.4)
+
+
+def random_ticket_removal(random: Random) -> Iterator[CaseAt]:
+    """A removal from a cache, and the same once more over what it left."""
+    image = with_damage(random, filled_cache(random, random.choice([3, *[4] * 9]), [random_ticket] * 3, 9), 0.1)
+    asked, is_dry = random_tickets_asked(random), random.random() < 0.2
+    for _ in range(2):
+        case_at = partial(ccremove, image, asked=asked, is_dry=is_dry)
+        yield case_at
+        image = case_at(BETWEEN).files_after["c"]
+
+
+def kinds_of_removal(case: Case) -> Iterator[str]:
+    """What kind of answer it is."""
+    if case.wanted.status:
+        yield said(case).split(" (")[0]
+    else:
+        yield "nothing to do" if case.wanted == Outcome(0) else "dry" if "-n" in case.words else "removed"
+
+
+TOPICS = (
+    Topic("random look-ups", random_look_up, kinds_of_look_up, ("found", "refused 1", "refused 9", "refused 10"),
+          usual=300),
+    Topic("random check-ups", random_check, kinds_of_check,
+          ("mode", "weak", "hidden", "same", "clash", "old", "fault", "entries"), usual=300),
+    Topic("random removals", random_removal, kinds_of_removal,
+          ("removed", "nothing to do", "refused 1", "refused 9", "dry"), usual=300),
+    Topic("random removals of tickets", random_ticket_removal, kinds_of_removal,
+          ("removed", "nothing to do", "refused 1", "refused 8", "refused 9", "dry", "not a cache"), usual=300),
+)

@@ -1,0 +1,120 @@
+"""Runs that save a file, and what they leave in its folder."""
+from __future__ import annotations
+
+import os
+import stat
+from collections.abc import Callable
+from dataclasses import dataclass
+
+from makers.images import HOST, keytab
+from makers.usual_caches import USUAL
+from models.cases import ccedit, ccremove, ktedit
+from models.ticket_removal_model import Asked
+from runs.harness import Case, Outcome, message, run
+
+# The script of each run, and the file before and after it.
+SCRIPT = b"add 3 17 1700000000 000102030405060708090a0b0c0d0e0f host/a@R\n"
+WALK = b"start\nstep 0\n"
+OLD = keytab()
+NEW = keytab(HOST)
+SAVED = Outcome(0, b"placed 2\n")
+UNSAVED = message(3, "k: cannot write")
+UNREAD = message(3, "k: cannot read")
+
+# A user who is not root, and a group that user may be in.
+USER = 65_534
+GROUP = 54_321
+
+Place = Callable[[str], None]
+
+# Runs that change a file, those that take no hold, and those that take one and then have nothing to save. None hangs
+# on the clock.
+ADD = ktedit(OLD, SCRIPT, name="adds")
+TGT, NONE = Asked(b"krbtgt/R@R"), Asked(b"b@R")
+CHANGES = (ADD, ccedit(USUAL, b"cut 40\n", name="cuts"), ccremove(USUAL, 0, asked=TGT, name="takes"))
+HOLDING_NOTHING = (
+    ccedit(USUAL, b"start\n", name="walks"), ccedit(USUAL, b"frob\n", name="is at fault"),
+    ccremove(USUAL, 0, asked=TGT, is_dry=True, name="tells"),
+    ccremove(USUAL, 0, asked=NONE, is_dry=True, name="tells of none"),
+)
+SAVING_NOTHING = (ccedit(USUAL, b"cut 3\n", name="is refused"), ccremove(USUAL, 0, asked=NONE, name="finds none"))
+
+
+def run_over(program: str, case: Case, folder: str, name: str = "", **options: object) -> Outcome:
+    """A run of a case over the file of that name, by itself the case's."""
+    return run(program, (*case.words[:-1], name or case.words[-1]), folder, case.stdin, **options)
+
+
+def unsaved(case: Case, name: str = "") -> Outcome:
+    """What is said where that file is not saved."""
+    return message(3, f"{name or case.words[-1]}: cannot write")
+
+
+def edit(
+    program: str, folder: str, name: str = "k", script: bytes = SCRIPT, **options: object
+) -> Outcome:
+    """One run of a script, by itself one that adds an entry, over the file of that name."""
+    return run(program, ("ktedit", name), folder, script, **options)
+
+
+def as_user(groups: tuple[int, ...] = ()) -> dict[str, object]:
+    """The options of a run by a user who is not root, in these groups beside the user's own."""
+    return {"user": USER, "group": USER, "extra_groups": list(groups)}
+
+
+def as_another(program: str) -> dict[str, object] | None:
+    """The options of a run by who is not root; None where that user may not start the program."""
+    if os.geteuid() != 0:
+        return {}
+    try:
+        run(program, ("--help",), "/", **as_user())
+    except PermissionError:
+        return None
+    return as_user()
+
+
+def write(path: str, data: bytes, mode: int = 0o600) -> None:
+    """Makes a file of that mode."""
+    with open(path, "wb") as file:
+        file.write(data)
+    os.chmod(path, mode)
+
+
+def tree(folder: str) -> dict[str, object]:
+    """What is below a folder, by path: bytes of files, texts of links, and the kind of all else."""
+    found: dict[str, object] = {}
+    for at, folders, files in os.walk(folder):
+        for name in (*folders, *files):
+            path = os.path.join(at, name)
+            mode = os.lstat(path).st_mode
+            where = os.path.relpath(path, folder)
+            if stat.S_ISLNK(mode):
+                found[where] = os.readlink(path)
+            elif stat.S_ISREG(mode):
+                with open(path, "rb") as file:
+                    found[where] = file.read()
+            else:
+                found[where] = stat.filemode(mode)[0]
+    return found
+
+
+def tree_faults(wanted: dict[str, object], folder: str) -> list[str]:
+    """What below a folder is not as wanted."""
+    got = tree(folder)
+    names = sorted(set(wanted) | set(got))
+    return [f"{name} is {got.get(name)!r}" for name in names if got.get(name) != wanted.get(name)]
+
+
+@dataclass(frozen=True)
+class Owned:
+    """A file's mode, owner and group."""
+
+    mode: int
+    owner: int
+    group: int
+
+
+def owned(path: str) -> Owned:
+    """Those of a file."""
+    found = os.stat(path)
+    return Owned(stat.S_IMODE(found.st_mode), found.st_uid, found.st_gid)
