@@ -14,7 +14,7 @@ use Rattle.krb_walk.proofs.Splits.{bytes_here, end_from-append}
 use Rattle.krb_ccache.specs.declared.credential.times.Times.{Times}
 use Rattle.krb_ccache.specs.declared.version.Version.{Version}
 use Rattle.krb_ccache.specs.declared.version.Version.TheVariants.{V3, V4}
-use Rattle.krb_ccache.specs.Credential.{CredParts, credential, are_marked, is_marked, marked_times}
+use Rattle.krb_ccache.specs.Credential.{CredParts, credential, is_mark, is_marked, marked_times}
 use Rattle.krb_ccache.specs.Store.{CacheState, fault_kind, store_of, store_cell, first_place, placed_from, is_live, image_of}
 use Rattle.krb_ccache.specs.Config.{QueryParts, is_match, query_of}
 use Rattle.krb_ccache.specs.Changes.{add_mark, with_mark, cut_result, put_result, with_last, is_refused, is_read_only}
@@ -27,7 +27,7 @@ use Rattle.krb_ccache.proofs.StoreChanges.{live_cell, cells_wide, whole_of}
 
 -- ---- one credential
 
-times_again : (t : Times) → are_marked t ≡ true → marked_times t ≡ t
+times_again : (t : Times) → is_mark t ≡ true → marked_times t ≡ t
 times_again t e =
     let end : 0 ≡ t.endtime = grind (arith, nat_tests) in
     let auth : 4294967295 ≡ t.authtime = grind (arith, nat_tests) in

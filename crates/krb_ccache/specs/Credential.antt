@@ -36,8 +36,8 @@ pub record CredParts : Type 0 where
   pub second_ticket : List ℕ
 
 -- the removed mark, which is this project's own: endtime 0 and the greatest authtime
-abbrev pub are_marked : Times → Bool
-are_marked t = t.endtime == 0 && t.authtime == 4294967295
+abbrev pub is_mark : Times → Bool
+is_mark t = t.endtime == 0 && t.authtime == 4294967295
 
 -- the times with the mark
 abbrev pub marked_times : Times → Times
@@ -45,7 +45,7 @@ marked_times t = record { authtime = 4294967295; starttime = t.starttime; endtim
 
 -- a credential that is removed
 abbrev pub is_marked : CredParts → Bool
-is_marked c = are_marked c.times
+is_marked c = is_mark c.times
 
 -- ---- spelling
 

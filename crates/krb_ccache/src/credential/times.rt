@@ -2,7 +2,7 @@
 
 ghost use Rattle.std.specs.Prelude.{◌≡◌};
 ghost use Rattle.krb_wire.specs.Reading.{Gives};
-ghost use Rattle.krb_ccache.specs.Credential.{are_marked, times_at};
+ghost use Rattle.krb_ccache.specs.Credential.{is_mark, times_at};
 
 use krb_wire::{Order, split_u32};
 
@@ -24,7 +24,7 @@ pub const MARKED_ENDTIME: u32 = 0;
 impl Times {
     /// Whether they have the removed mark.
     pub fn are_marked(self) -> bool
-        ensures { result ≡ are_marked self }
+        ensures { result ≡ is_mark self }
     {
         self.endtime == MARKED_ENDTIME && self.authtime == MARKED_AUTHTIME
     }
