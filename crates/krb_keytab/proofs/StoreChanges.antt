@@ -102,6 +102,9 @@ addition_puts k new e (Err refusal) a = tt
 
 -- ---- what stands afterwards
 
+pub placed_read : (k new : KeytabState) (e : EntryParts) (p : ℕ) → IsEntry e → put_result k e ≡ Ok (p, new) → entry_at_place new p ≡ Some (read_back k.format e)
+placed_read k new e p is put = added_reads k e (p, new) is put
+
 pub addition_read : (k new : KeytabState) (e : EntryParts) (result : Result ℕ Refusal) → IsEntry e → PutGives (put_result k e) k result new → IfOk result (λ p. entry_at_place new p ≡ Some (read_back k.format e))
-addition_read k new e (Ok p) is a = added_reads k e (p, new) is a
+addition_read k new e (Ok p) is a = placed_read k new e p is a
 addition_read k new e (Err refusal) is a = tt

@@ -104,6 +104,7 @@ impl<A: Allocator> Indexed<A> {
     /// its place. A damaged keytab refuses it, and then so does an entry with a part too long for its
     /// length, and then a limit that the image would pass. The hole is found by the tree. Memory is taken
     /// only where the image becomes longer than it was, and all of it before anything is changed.
+    #[tactic(auto, using(crate::proofs::StoreChanges::placed_read, crate::proofs::StoreChanges::addition_read))]
     pub fn add<B: Allocator>(&mut self, entry: &NewEntry<B>) -> Result<u32, Refusal>
         ensures gives { PutGives (put_result self.old.state entry.now) self.old.state result self.new.state }
         ensures memory { takes_none self.old.state entry.now ≡ true → HadMemory result }

@@ -127,6 +127,7 @@ impl<A: Allocator> Keytab<A> {
     /// its place. A damaged keytab refuses it, and then so does an entry with a part too long for its
     /// length, and then a limit that the image would pass. Memory is taken only where the image
     /// becomes longer than it was. What is our choice here and what is MIT's is in docs/FORMATS.md.
+    #[tactic(auto, using(crate::proofs::StoreChanges::placed_read, crate::proofs::StoreChanges::addition_read))]
     pub fn add<B: Allocator>(&mut self, entry: &NewEntry<B>) -> Result<u32, Refusal>
         ensures gives { PutGives (put_result self.old.state entry.now) self.old.state result self.new.state }
         ensures memory { takes_none self.old.state entry.now ≡ true → HadMemory result }
