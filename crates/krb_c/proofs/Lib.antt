@@ -2,7 +2,8 @@ mod AsBox
 pub mod CursorLemmas
 pub mod CacheCells
 pub mod CacheAsked
-pub mod CacheKnown
+pub mod Known
+pub mod Done
 pub mod NameLemmas
 pub mod CacheUnread
 pub mod Deeper

@@ -3,8 +3,7 @@ use Rattle.std.specs.Prelude.{Option, Some, None}
 use Rattle.krb_keytab.specs.Store.{KeytabState}
 use Rattle.krb_ccache.specs.Store.{CacheState}
 use Rattle.krb_c.specs.declared.held.Held.{Held}
-use Rattle.krb_c.specs.declared.keytab.handle.KrbfKeytab.{KrbfKeytab}
-use Rattle.krb_c.specs.declared.cache.handle.KrbfCcache.{KrbfCcache}
+use Rattle.krb_c.specs.declared.handle.Handle.{Handle}
 use Rattle.krb_c.specs.Held.{keytab_in, cache_in}
 
 -- the keytab behind a handle
@@ -18,12 +17,12 @@ cache_behind None = None
 cache_behind (Some held) = cache_in held
 
 -- the keytab that C holds
-abbrev pub keytab_of : KrbfKeytab → Option KeytabState
-keytab_of kt = keytab_behind kt.handle.held
+abbrev pub keytab_of : Handle → Option KeytabState
+keytab_of kt = keytab_behind kt.held
 
 -- the cache that C holds
-abbrev pub cache_of : KrbfCcache → Option CacheState
-cache_of cc = cache_behind cc.handle.held
+abbrev pub cache_of : Handle → Option CacheState
+cache_of cc = cache_behind cc.held
 
 -- something stands behind it before and after the call, and P holds of both
 abbrev pub Over : {S : Type 0} → Option S → Option S → (S → S → Type 0) → Type 0

@@ -6,7 +6,7 @@ use Rattle.krb_ccache.specs.declared.open.CcOpenFault.{CcOpenFault}
 use Rattle.krb_ccache.specs.declared.open.CcOpenFault.TheVariants.{TooLarge, BadHeader, BadDefault}
 use Rattle.krb_ccache.specs.Store.{CacheState, open_result}
 use Rattle.krb_ccache.specs.Changes.{create_result}
-use Rattle.krb_c.specs.declared.cache.handle.KrbfCcache.{KrbfCcache}
+use Rattle.krb_c.specs.declared.handle.Handle.{Handle}
 use Rattle.krb_c.specs.Behind.{cache_of}
 use Rattle.krb_c.specs.Opens.{OpensNone, Opens}
 use Rattle.krb_c.specs.Limit.{limit_of}
@@ -22,15 +22,15 @@ abbrev pub IsDeeper : CcOpenFault → Type 0
 IsDeeper why = (why ≡ BadHeader) ⊎ (why ≡ BadDefault)
 
 -- the cache of an image, with the limit that C gives, is opened
-abbrev pub OpensImage : List ℕ → ℕ → ℕ → KrbfCcache → Type 0
-OpensImage image limit status cc = Opens cc_open_status (opened_within image (limit_of limit)) status (cache_of cc) cc.handle
+abbrev pub OpensImage : List ℕ → ℕ → ℕ → Handle → Type 0
+OpensImage image limit status cc = Opens cc_open_status (opened_within image (limit_of limit)) status (cache_of cc) cc
 
 -- a cache of a default principal is made within a limit: what is no name is refused
-abbrev pub MakesWithin : ℕ → Result Parts NameFault → ℕ → KrbfCcache → Type 0
-MakesWithin limit (Ok principal) status cc = Opens code_status (create_result principal None limit) status (cache_of cc) cc.handle
-MakesWithin limit (Err fault) status cc = OpensNone (name_status fault) status cc.handle
+abbrev pub MakesWithin : ℕ → Result Parts NameFault → ℕ → Handle → Type 0
+MakesWithin limit (Ok principal) status cc = Opens code_status (create_result principal None limit) status (cache_of cc) cc
+MakesWithin limit (Err fault) status cc = OpensNone (name_status fault) status cc
 
 -- the same with the limit, if it is one: else 13
-abbrev pub Makes : Option ℕ → Result Parts NameFault → ℕ → KrbfCcache → Type 0
+abbrev pub Makes : Option ℕ → Result Parts NameFault → ℕ → Handle → Type 0
 Makes (Some limit) named status cc = MakesWithin limit named status cc
-Makes None named status cc = OpensNone 13 status cc.handle
+Makes None named status cc = OpensNone 13 status cc

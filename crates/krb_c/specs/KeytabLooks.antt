@@ -3,7 +3,6 @@ use Rattle.std.specs.Prelude.{◌≡◌, ◌⊎◌, ℕ, Result, Ok, Err, Option
 use Rattle.krb_wire.specs.Spelling.{Parts}
 use Rattle.krb_wire.specs.declared.name_fault.NameFault.{NameFault}
 use Rattle.krb_walk.specs.declared.refusal.Code.{Code}
-use Rattle.krb_walk.specs.declared.stop.Stop.{Stop}
 use Rattle.krb_keytab.specs.Entry.{EntryParts}
 use Rattle.krb_keytab.specs.Store.{KeytabState, store_of, entry_at_place}
 use Rattle.krb_keytab.specs.Find.{find_result}
@@ -12,15 +11,11 @@ use Rattle.krb_c.specs.declared.keytab.entry.KrbfEntry.{KrbfEntry}
 use Rattle.krb_c.specs.KeytabEntry.{Shows}
 use Rattle.krb_c.specs.Shown.{ShowsBytes}
 use Rattle.krb_c.specs.Status.{name_status, code_status}
-use Rattle.krb_c.specs.Walks as walks
-
--- a step of a walk stopped there
-abbrev pub StepsTo : KeytabState → Stop → ℕ → ℕ → ℕ → KrbfEntry → KrbfEntry → Type 0
-StepsTo k = walks.StepsTo (entry_at_place k) Shows
+use Rattle.krb_c.specs.Walks.{StepsOver}
 
 -- a step of a walk from a cursor
 abbrev pub Steps : KeytabState → ℕ → ℕ → ℕ → KrbfEntry → KrbfEntry → Type 0
-Steps k = walks.StepsOver (entry_at_place k) Shows (store_of k)
+Steps k = StepsOver (entry_at_place k) Shows (store_of k)
 
 -- a look-up of a name shows what it finds, or tells why it finds nothing; memory may run out
 abbrev pub FindsOne : Result (ℕ × EntryParts) Code → ℕ → KrbfEntry → KrbfEntry → Type 0

@@ -4,7 +4,7 @@ use Rattle.krb_wire.specs.declared.format.Order.{Order}
 use Rattle.krb_wire.specs.declared.format.Order.TheVariants.{Big, Little}
 use Rattle.krb_wire.specs.declared.format.KtFormat.TheVariants.{V2}
 use Rattle.krb_keytab.specs.Store.{open_result, empty}
-use Rattle.krb_c.specs.declared.keytab.handle.KrbfKeytab.{KrbfKeytab}
+use Rattle.krb_c.specs.declared.handle.Handle.{Handle}
 use Rattle.krb_c.specs.Behind.{keytab_of}
 use Rattle.krb_c.specs.Opens.{OpensNone, Opens}
 use Rattle.krb_c.specs.Status.{kt_open_status}
@@ -15,9 +15,9 @@ order_of_flag zero = Little
 order_of_flag (suc n) = Big
 
 -- the keytab of an image is opened with a limit, if it is one: else 13
-abbrev pub OpensImage : ℕ → List ℕ → Option ℕ → ℕ → KrbfKeytab → Type 0
-OpensImage v1_big image (Some limit) status kt = Opens kt_open_status (open_result (order_of_flag v1_big) limit image) status (keytab_of kt) kt.handle
-OpensImage v1_big image None status kt = OpensNone 13 status kt.handle
+abbrev pub OpensImage : ℕ → List ℕ → Option ℕ → ℕ → Handle → Type 0
+OpensImage v1_big image (Some limit) status kt = Opens kt_open_status (open_result (order_of_flag v1_big) limit image) status (keytab_of kt) kt
+OpensImage v1_big image None status kt = OpensNone 13 status kt
 
 -- an image is a keytab that the limit allows
 abbrev pub IsKeytab : ℕ → List ℕ → Option ℕ → Type 0
@@ -25,6 +25,6 @@ IsKeytab v1_big image (Some limit) = IsOk (open_result (order_of_flag v1_big) li
 IsKeytab v1_big image None = ⊥
 
 -- a keytab of version 2 without entries is made with a limit, if it is one: else 13
-abbrev pub Makes : Option ℕ → ℕ → KrbfKeytab → Type 0
-Makes (Some limit) status kt = ((status ≡ 0) × (keytab_of kt ≡ Some (empty V2 limit))) ⊎ OpensNone 1 status kt.handle
-Makes None status kt = OpensNone 13 status kt.handle
+abbrev pub Makes : Option ℕ → ℕ → Handle → Type 0
+Makes (Some limit) status kt = ((status ≡ 0) × (keytab_of kt ≡ Some (empty V2 limit))) ⊎ OpensNone 1 status kt
+Makes None status kt = OpensNone 13 status kt

@@ -11,7 +11,6 @@ pub mod Cursors
 pub mod Walks
 pub mod Shown
 pub mod CacheTicket
-pub mod CacheWalk
 pub mod CacheLooks
 pub mod CacheStore
 pub mod CacheOpens

@@ -1,8 +1,13 @@
 -- Steps of walks, over keytabs and caches alike.
-use Rattle.std.specs.Prelude.{◌≡◌, ℕ, Bool, true, false, Option, IsSomeAnd}
+use Rattle.std.specs.Prelude.{◌≡◌, ℕ, Bool, true, false, Option, IsSome, IfSome, IsSomeAnd}
 use Rattle.krb_walk.specs.declared.stop.Stop.{Stop}
 use Rattle.krb_walk.specs.declared.stop.Stop.TheVariants.{Live, End, Fault}
-use Rattle.krb_walk.specs.Store.{Store, is_place, stop_at}
+use Rattle.krb_walk.specs.Store.{Store, IsPlace, is_place, live_bytes, stop_at}
+
+-- what is remembered of a store: where a live cell stands, and a place
+pub record AreKnown (s : Store) (given next : Option ℕ) : Type 0 where
+  pub stands : IfSome given (λ p. IsSome (live_bytes s p))
+  pub place : IfSome next (IsPlace s)
 
 module _ {Record Shown : Type 0} (at_place : ℕ → Option Record) (Shows : Shown → ℕ → Record → Type 0) where
   -- a step of a walk stopped there: 0 with the record and the cursor after it, 2 at the end, 31 at a fault

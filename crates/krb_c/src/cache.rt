@@ -3,7 +3,6 @@
 mod asked;
 mod change_calls;
 mod changes;
-mod handle;
 mod held;
 mod look_calls;
 mod looks;
@@ -12,5 +11,4 @@ mod numbers;
 mod opening;
 mod ticket;
 
-pub use handle::KrbfCcache;
 pub use held::HeldCache;

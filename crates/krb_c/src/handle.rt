@@ -1,12 +1,13 @@
 //! The handle that C holds: a struct of one pointer.
 
-ghost use Rattle.std.specs.Prelude.{◌≡◌, Option, Some, None, IsSome, option_map};
+ghost use Rattle.std.specs.Prelude.{◌≡◌, ◌⊎◌, Option, Some, None, IsSome, option_map};
 ghost use Rattle.std.specs.Ptr.{null_ptr};
 ghost use Rattle.krb_c.specs.declared.held.Held.{Held};
 ghost use Rattle.krb_c.specs.Handle.{handle_owns, held_coded};
 
 use crate::held::Held;
 use crate::parts::Parts;
+use crate::status::{DONE, NO_MEMORY};
 use std::alloc::Global;
 use std::marker::Model;
 use std::{mem, ptr};
@@ -99,6 +100,28 @@ impl Handle {
         }
     }
 
+    /// Puts a box into it, where it is empty.
+    pub fn put(&mut self, held: Box<Held, Global>)
+        requires { self.old.held ≡ None }
+        ensures { self.new.held ≡ Some held.value }
+    {
+        *self = Handle::of(held);
+    }
+
+    /// Puts what it is to hold into it, where it is empty.
+    pub fn fill(&mut self, alloc: Global, held: Held) -> u32
+        requires { self.old.held ≡ None }
+        ensures { ((result ≡ 0) × (self.new.held ≡ Some held)) ⊎ ((result ≡ 1) × (self.new.held ≡ None)) }
+    {
+        match Box::new(alloc, held) {
+            Ok(held) => {
+                self.put(held);
+                DONE
+            }
+            Err(_) => NO_MEMORY,
+        }
+    }
+
     /// Frees what it is a handle of, which leaves it empty. Of an empty one there is nothing to free.
     pub fn free(&mut self, alloc: Global)
         ensures { self.new.held ≡ None }
@@ -108,6 +131,24 @@ impl Handle {
         }
     }
 }
+
+/// A handle of a keytab.
+pub type KrbfKeytab = Handle;
+
+/// A handle of a cache.
+pub type KrbfCcache = Handle;
+
+/// Takes the box out of a handle for a call, and puts it back.
+macro_rules! with_held {
+    ($handle:ident, $alloc:ident, $held:ident => $call:expr) => {{
+        let mut $held = $handle.take($alloc);
+        let answer = $call;
+        $handle.put($held);
+        answer
+    }};
+}
+
+pub(crate) use with_held;
 
 // What it owns is in the heap, which any thread may give back.
 unsafe impl Send for Handle {}

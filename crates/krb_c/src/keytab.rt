@@ -3,11 +3,13 @@
 mod change_calls;
 mod changes;
 mod entry;
-mod handle;
-mod held;
 mod look_calls;
 mod looks;
 mod opening;
 
-pub use handle::KrbfKeytab;
-pub use held::HeldKeytab;
+use crate::heap::Heap;
+use crate::walked::Walked;
+use krb_indexed::Indexed;
+
+/// A keytab in memory, with a table of its cells: an addition and a removal take no pass.
+pub type HeldKeytab = Walked<Indexed<Heap>>;

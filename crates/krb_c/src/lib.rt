@@ -12,5 +12,7 @@ mod keytab;
 mod limit;
 mod parts;
 mod phrase;
+mod records;
 mod status;
 mod text;
+mod walked;

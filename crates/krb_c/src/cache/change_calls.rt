@@ -12,10 +12,10 @@ ghost use Rattle.krb_c.specs.Status.{Adds, Changes, Rewrites};
 ghost use Rattle.krb_c.specs.CacheLooks.{text_or_none};
 ghost use Rattle.krb_c.specs.CacheStore.{Stores, asked_of};
 
-use crate::cache::KrbfCcache;
 use crate::cache::asked::Asked;
-use crate::cache::changes::{remove, rewrite, set_config, store};
+use crate::cache::changes::store;
 use crate::cache::numbers::KrbfNumbers;
+use crate::handle::{KrbfCcache, with_held};
 use std::alloc::Global;
 
 /// Puts a credential between two names after the last, without addresses and authorization data, and tells its place.
@@ -37,7 +37,6 @@ pub extern "C" fn krbf_cc_store(
         (λ old new. Stores (asked_of client.now server.now key.now ticket.now second_ticket.now numbers.now)
         old result place.old place.new new) }
 {
-    let mut held = cc.take(alloc);
     let asked = Asked {
         client,
         server,
@@ -46,9 +45,7 @@ pub extern "C" fn krbf_cc_store(
         second_ticket,
         numbers: *numbers,
     };
-    let status = store(alloc, held.cache_mut(), &asked, place);
-    cc.put(held);
-    status
+    with_held!(cc, alloc, held => store(alloc, held.cache_mut(), &asked, place))
 }
 
 /// Marks the credential at a place as removed.
@@ -57,10 +54,7 @@ pub extern "C" fn krbf_cc_remove_at(alloc: Global, cc: &mut KrbfCcache, place: u
     requires { IsSome (cache_of cc.old) }
     ensures { Over (cache_of cc.old) (cache_of cc.new) (λ old new. Changes (cut_result old place) old result new) }
 {
-    let mut held = cc.take(alloc);
-    let status = remove(held.cache_mut(), place);
-    cc.put(held);
-    status
+    with_held!(cc, alloc, held => held.cache_mut().remove(place))
 }
 
 /// Sets the value of the default principal for a key and a principal's text, or for the key alone where that text has
@@ -79,10 +73,7 @@ pub extern "C" fn krbf_cc_set_config(
         (λ old new. Adds (set_config_result old key.now (text_or_none principal.now) value.now)
         old result place.old place.new new) }
 {
-    let mut held = cc.take(alloc);
-    let status = set_config(alloc, held.cache_mut(), key, principal, value, place);
-    cc.put(held);
-    status
+    with_held!(cc, alloc, held => held.cache_mut().set_config(alloc, key, principal, value, place))
 }
 
 /// Writes the live credentials anew, in version 4 and in order, and carries each cursor along. Each has to be a place.
@@ -95,8 +86,5 @@ pub extern "C" fn krbf_cc_rewrite(alloc: Global, cc: &mut KrbfCcache, cursors: &
         (λ old new. cursors.new ≡ map (carry (store_of old) (store_of new)) cursors.old) }
     ensures keeps { 0 < result → cursors.new ≡ cursors.old }
 {
-    let mut held = cc.take(alloc);
-    let status = rewrite(held.cache_mut(), cursors);
-    cc.put(held);
-    status
+    with_held!(cc, alloc, held => held.cache_mut().rewrite(cursors))
 }

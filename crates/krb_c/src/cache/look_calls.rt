@@ -8,17 +8,16 @@ ghost use Rattle.krb_ccache.specs.Config.{config_of};
 ghost use Rattle.krb_ccache.specs.Store.{credential_at_place, image_of, store_of};
 ghost use Rattle.krb_c.specs.Behind.{cache_of};
 ghost use Rattle.krb_c.specs.Text.{Tells, TellsAt};
-ghost use Rattle.krb_c.specs.CacheLooks.{Finds, text_or_none};
+ghost use Rattle.krb_c.specs.CacheLooks.{Finds, Steps, text_or_none};
 ghost use Rattle.krb_c.specs.CacheTicket.{Shows};
 ghost use Rattle.krb_c.specs.Shown.{AreShown, LooksAt, ShowsBytes};
-ghost use Rattle.krb_c.specs.CacheWalk.{Steps};
 ghost use Rattle.krb_c.specs.Status.{kind_number};
 
 use crate::bytes::{KrbfBytes, bytes_of};
-use crate::cache::KrbfCcache;
 use crate::cache::looks::{config, find, look_at};
 use crate::cache::names::{tell_client, tell_server};
 use crate::cache::ticket::KrbfTicket;
+use crate::handle::{KrbfCcache, with_held};
 use crate::status::{DONE, kind_of};
 use crate::text::tell_name;
 use std::alloc::Global;
@@ -35,10 +34,7 @@ pub extern "C" fn krbf_cc_principal(
     ensures same { cache_of cc.new ≡ cache_of cc.old }
     ensures tells { IsSomeAnd (cache_of cc.old) (λ k. Tells (name_text k.principal) result room.old room.new len.old len.new) }
 {
-    let held = cc.take(alloc);
-    let status = tell_name(alloc, &held.cache().cache().default_principal(), room, len);
-    cc.put(held);
-    status
+    with_held!(cc, alloc, held => tell_name(alloc, &held.cache().store().default_principal(), room, len))
 }
 
 /// Tells the place of the first credential, where a walk begins.
@@ -49,10 +45,10 @@ pub extern "C" fn krbf_cc_first(alloc: Global, cc: &mut KrbfCcache, cursor: &mut
     ensures same { cache_of cc.new ≡ cache_of cc.old }
     ensures first { IsSomeAnd (cache_of cc.old) (λ k. cursor.new ≡ (store_of k).first) }
 {
-    let held = cc.take(alloc);
-    *cursor = held.cache().cache().first();
-    cc.put(held);
-    DONE
+    with_held!(cc, alloc, held => {
+        *cursor = held.cache().store().first();
+        DONE
+    })
 }
 
 /// Shows the first live credential at or after a cursor, and moves the cursor after it.
@@ -67,10 +63,7 @@ pub extern "C" fn krbf_cc_next(
     ensures same { cache_of cc.new ≡ cache_of cc.old }
     ensures steps { IsSomeAnd (cache_of cc.old) (λ k. Steps k result cursor.old cursor.new ticket.old ticket.new) }
 {
-    let mut held = cc.take(alloc);
-    let status = held.cache_mut().step(cursor, ticket);
-    cc.put(held);
-    status
+    with_held!(cc, alloc, held => held.cache_mut().step(cursor, ticket))
 }
 
 /// Shows the live credential at a place.
@@ -85,10 +78,7 @@ pub extern "C" fn krbf_cc_ticket(
     ensures same { cache_of cc.new ≡ cache_of cc.old }
     ensures looks { IsSomeAnd (cache_of cc.old) (λ k. LooksAt Shows (credential_at_place k place) place result ticket.old ticket.new) }
 {
-    let held = cc.take(alloc);
-    let status = look_at(held.cache(), place, ticket);
-    cc.put(held);
-    status
+    with_held!(cc, alloc, held => look_at(held.cache(), place, ticket))
 }
 
 /// Puts the text of the client of the credential at a place into a room, as much as it takes, and tells its length.
@@ -105,10 +95,7 @@ pub extern "C" fn krbf_cc_client(
     ensures tells { IsSomeAnd (cache_of cc.old) (λ k. TellsAt (option_map (λ c. name_text c.client) (credential_at_place k place))
         result room.old room.new len.old len.new) }
 {
-    let held = cc.take(alloc);
-    let status = tell_client(alloc, held.cache(), place, room, len);
-    cc.put(held);
-    status
+    with_held!(cc, alloc, held => tell_client(alloc, held.cache(), place, room, len))
 }
 
 /// Puts the text of the server of the credential at a place into a room, as much as it takes, and tells its length.
@@ -125,10 +112,7 @@ pub extern "C" fn krbf_cc_server(
     ensures tells { IsSomeAnd (cache_of cc.old) (λ k. TellsAt (option_map (λ c. name_text c.server) (credential_at_place k place))
         result room.old room.new len.old len.new) }
 {
-    let held = cc.take(alloc);
-    let status = tell_server(alloc, held.cache(), place, room, len);
-    cc.put(held);
-    status
+    with_held!(cc, alloc, held => tell_server(alloc, held.cache(), place, room, len))
 }
 
 /// Shows the first live ticket for the server that a text names. Configuration entries are passed, and of a damaged
@@ -144,10 +128,7 @@ pub extern "C" fn krbf_cc_find(
     ensures same { cache_of cc.new ≡ cache_of cc.old }
     ensures finds { IsSomeAnd (cache_of cc.old) (λ k. Finds k (name_of server.now None) result ticket.old ticket.new) }
 {
-    let held = cc.take(alloc);
-    let status = find(alloc, held.cache().cache(), server, ticket);
-    cc.put(held);
-    status
+    with_held!(cc, alloc, held => find(alloc, held.cache().store(), server, ticket))
 }
 
 /// Tells the number of what is wrong where the sound credentials end, 0 where nothing is, and where they end.
@@ -164,11 +145,11 @@ pub extern "C" fn krbf_cc_fault(
     ensures kind { IsSomeAnd (cache_of cc.old) (λ k. kind.new ≡ kind_number (fault_of (store_of k))) }
     ensures place { IsSomeAnd (cache_of cc.old) (λ k. place.new ≡ end_of (store_of k)) }
 {
-    let held = cc.take(alloc);
-    *kind = kind_of(held.cache().cache().fault());
-    *place = held.cache().cache().end();
-    cc.put(held);
-    DONE
+    with_held!(cc, alloc, held => {
+        *kind = kind_of(held.cache().store().fault());
+        *place = held.cache().store().end();
+        DONE
+    })
 }
 
 /// Shows the value of the configuration entry of the default principal for a key and a principal's text, or for the
@@ -185,10 +166,7 @@ pub extern "C" fn krbf_cc_config(
     ensures same { cache_of cc.new ≡ cache_of cc.old }
     ensures value { IsSomeAnd (cache_of cc.old) (λ k. ShowsBytes (config_of k key.now (text_or_none principal.now)) result value.old value.new) }
 {
-    let held = cc.take(alloc);
-    let status = config(held.cache().cache(), key, principal, value);
-    cc.put(held);
-    status
+    with_held!(cc, alloc, held => config(held.cache().store(), key, principal, value))
 }
 
 /// Shows the image, which lies there until the cache is changed or closed.
@@ -199,8 +177,8 @@ pub extern "C" fn krbf_cc_image(alloc: Global, cc: &mut KrbfCcache, image: &mut 
     ensures same { cache_of cc.new ≡ cache_of cc.old }
     ensures image { IsSomeAnd (cache_of cc.old) (λ k. AreShown image.new (image_of k)) }
 {
-    let held = cc.take(alloc);
-    *image = bytes_of(held.cache().cache().image());
-    cc.put(held);
-    DONE
+    with_held!(cc, alloc, held => {
+        *image = bytes_of(held.cache().store().image());
+        DONE
+    })
 }

@@ -1,16 +1,16 @@
 //! Opening caches, making them, and closing them.
 
-ghost use Rattle.std.specs.Prelude.{◌≡◌, ◌≤◌, ◌⊎◌, length, Ok, Err, Some, None, IfOk, IfErr};
+ghost use Rattle.std.specs.Prelude.{◌≡◌, ◌≤◌, length, Ok, Err, Some, None, IfOk, IfErr};
 ghost use Rattle.krb_wire.specs.NameOf.{name_of};
 ghost use Rattle.krb_ccache.specs.Store.{open_result, version_in};
 ghost use Rattle.krb_c.specs.Behind.{cache_of};
 ghost use Rattle.krb_c.specs.CacheOpens.{IsDeeper, OpensImage, Makes, MakesWithin, opened_within};
 ghost use Rattle.krb_c.specs.Limit.{limit_of};
-ghost use Rattle.krb_c.specs.Opens.{Opens, OpensNone};
+ghost use Rattle.krb_c.specs.Opens.{Opens};
 ghost use Rattle.krb_c.specs.Status.{cc_open_status};
 
-use crate::cache::KrbfCcache;
 use crate::cache::held::HeldCache;
+use crate::handle::KrbfCcache;
 use crate::heap::heap;
 use crate::held::Held;
 use crate::limit::limits_of;
@@ -53,53 +53,37 @@ fn look_at_front(image: &[u8], limits: Limits) -> Result<(), CcOpenFault>
     Ok(())
 }
 
-impl KrbfCcache {
-    // Puts a cache into an empty handle.
-    fn fill(&mut self, alloc: Global, held: HeldCache) -> u32
-        requires { self.old.handle.held ≡ None }
-        ensures { ((result ≡ 0) × (cache_of self.new ≡ Some held.state)) ⊎ OpensNone 1 result self.new.handle }
-    {
-        match Box::new(alloc, Held::Cache(held)) {
-            Ok(held) => {
-                self.put(held);
-                DONE
-            }
-            Err(_) => NO_MEMORY,
-        }
+// Opens the cache of a copy of an image.
+fn open(alloc: Global, image: &[u8], limits: Limits, cc: &mut KrbfCcache) -> u32
+    requires { cc.old.held ≡ None }
+    ensures opens { Opens cc_open_status (open_result limits image.now) result (cache_of cc.new) cc.new }
+    ensures memory { result ≡ 1 → IfErr (open_result limits image.now) IsDeeper }
+{
+    if let Err(why) = look_at_front(image, limits) {
+        return of_cc_open(why);
     }
-
-    // Opens the cache of a copy of an image.
-    fn open(&mut self, alloc: Global, image: &[u8], limits: Limits) -> u32
-        requires { self.old.handle.held ≡ None }
-        ensures opens { Opens cc_open_status (open_result limits image.now) result (cache_of self.new) self.new.handle }
-        ensures memory { result ≡ 1 → IfErr (open_result limits image.now) IsDeeper }
-    {
-        if let Err(why) = look_at_front(image, limits) {
-            return of_cc_open(why);
-        }
-        let Ok(image) = Vec::from_slice(heap(alloc), image) else {
-            return NO_MEMORY;
-        };
-        match Ccache::open(image, limits) {
-            Ok(cache) => self.fill(alloc, HeldCache::of(cache)),
-            Err(refused) => of_cc_open(refused.why),
-        }
+    let Ok(image) = Vec::from_slice(heap(alloc), image) else {
+        return NO_MEMORY;
+    };
+    match Ccache::open(image, limits) {
+        Ok(cache) => cc.fill(alloc, Held::Cache(HeldCache::of(cache))),
+        Err(refused) => of_cc_open(refused.why),
     }
+}
 
-    // Makes a cache of a default principal.
-    #[tactic(auto, using(crate::proofs::CacheUnread::makes_unread))]
-    fn make(&mut self, alloc: Global, principal: &[u8], limits: Limits) -> u32
-        requires { self.old.handle.held ≡ None }
-        ensures { MakesWithin limits (name_of principal.now None) result self.new }
-    {
-        let name = match read_name(alloc, principal) {
-            Ok(name) => name,
-            Err(status) => return status,
-        };
-        match Ccache::create(heap(alloc), &name, None, limits) {
-            Ok(cache) => self.fill(alloc, HeldCache::of(cache)),
-            Err(refusal) => of_refusal(refusal),
-        }
+// Makes a cache of a default principal.
+#[tactic(auto, using(crate::proofs::CacheUnread::makes_unread))]
+fn make(alloc: Global, principal: &[u8], limits: Limits, cc: &mut KrbfCcache) -> u32
+    requires { cc.old.held ≡ None }
+    ensures { MakesWithin limits (name_of principal.now None) result cc.new }
+{
+    let name = match read_name(alloc, principal) {
+        Ok(name) => name,
+        Err(status) => return status,
+    };
+    match Ccache::create(heap(alloc), &name, None, limits) {
+        Ok(cache) => cc.fill(alloc, Held::Cache(HeldCache::of(cache))),
+        Err(refusal) => of_refusal(refusal),
     }
 }
 
@@ -107,12 +91,12 @@ impl KrbfCcache {
 /// its length and its version refuse is refused before it is copied.
 #[unsafe(no_mangle)]
 pub extern "C" fn krbf_cc_open(alloc: Global, image: &[u8], limit: u32, cc: &mut KrbfCcache) -> u32
-    requires { cc.old.handle.held ≡ None }
+    requires { cc.old.held ≡ None }
     ensures opens { OpensImage image.now limit result cc.new }
     ensures memory { result ≡ 1 → IfErr (opened_within image.now (limit_of limit)) IsDeeper }
 {
     match limits_of(limit) {
-        Some(limits) => cc.open(alloc, image, limits),
+        Some(limits) => open(alloc, image, limits, cc),
         None => TOO_LARGE,
     }
 }
@@ -125,11 +109,11 @@ pub extern "C" fn krbf_cc_create(
     limit: u32,
     cc: &mut KrbfCcache,
 ) -> u32
-    requires { cc.old.handle.held ≡ None }
+    requires { cc.old.held ≡ None }
     ensures { Makes (limit_of limit) (name_of principal.now None) result cc.new }
 {
     match limits_of(limit) {
-        Some(limits) => cc.make(alloc, principal, limits),
+        Some(limits) => make(alloc, principal, limits, cc),
         None => TOO_LARGE,
     }
 }
@@ -138,8 +122,8 @@ pub extern "C" fn krbf_cc_create(
 #[unsafe(no_mangle)]
 pub extern "C" fn krbf_cc_close(alloc: Global, cc: &mut KrbfCcache) -> u32
     ensures done { result ≡ 0 }
-    ensures closed { cc.new.handle.held ≡ None }
+    ensures closed { cc.new.held ≡ None }
 {
-    cc.handle.free(alloc);
+    cc.free(alloc);
     DONE
 }

@@ -1,9 +1,15 @@
 //! Credentials as C sees them.
 
+ghost use Rattle.std.specs.Prelude.{◌≡◌, Some, IsSome};
+ghost use Rattle.krb_walk.specs.Store.{live_bytes};
+ghost use Rattle.krb_ccache.specs.Store.{credential_at_place, store_of};
 ghost use Rattle.krb_c.specs.CacheTicket.{Shows};
 
 use crate::bytes::{KrbfBytes, bytes_of};
-use krb_ccache::{CredView, is_config};
+use crate::heap::Heap;
+use crate::records::Records;
+use krb_ccache::{Ccache, CredView, is_config, read_credential};
+use krb_walk::Stop;
 
 /// A credential: its place, its numbers, and where its key and tickets lie.
 #[repr(C)]
@@ -40,5 +46,39 @@ pub fn shown(place: u32, credential: &CredView<'_>) -> KrbfTicket
         key: bytes_of(credential.key()),
         ticket: bytes_of(credential.ticket()),
         second_ticket: bytes_of(credential.second_ticket()),
+    }
+}
+
+/// The live credential at a place. It reads that one.
+pub fn read_at(cache: &Ccache<Heap>, place: u32) -> CredView<'_>
+    requires { IsSome (live_bytes (store_of cache.now.state) place) }
+    ensures { credential_at_place cache.now.state place ≡ Some result }
+{
+    let _spelled = cache.image();
+    let Some(credential) = read_credential(cache.version(), cache.bytes_at(place)) else {
+        unreachable!()
+    };
+    credential
+}
+
+impl Records for Ccache<Heap> {
+    ghost use Rattle.krb_ccache.specs.Credential.{CredParts};
+    ghost use Rattle.krb_ccache.specs.Store.{credential_at_place};
+    ghost use Rattle.krb_c.specs.CacheTicket.{Shows};
+
+    type Shown = KrbfTicket;
+
+    ghost Record = { CredParts };
+
+    ghost record_at = { λ k. credential_at_place k.state };
+
+    ghost Shows = { Shows };
+
+    fn stop_from(&self, place: u32) -> Stop {
+        self.stop_at(place)
+    }
+
+    fn shown_at(&self, place: u32) -> KrbfTicket {
+        shown(place, &read_at(self, place))
     }
 }

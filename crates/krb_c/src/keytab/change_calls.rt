@@ -11,8 +11,8 @@ ghost use Rattle.krb_c.specs.Cursors.{with_cursors};
 ghost use Rattle.krb_c.specs.KeytabChanges.{AddsNamed, ReadsBack, entry_with};
 ghost use Rattle.krb_c.specs.Status.{Changes, Rewrites};
 
-use crate::keytab::KrbfKeytab;
-use crate::keytab::changes::{Numbers, add, remove, rewrite};
+use crate::handle::{KrbfKeytab, with_held};
+use crate::keytab::changes::{Numbers, add};
 use std::alloc::Global;
 
 /// Adds an entry of a name of type 1, and tells the place of its record.
@@ -33,15 +33,12 @@ pub extern "C" fn krbf_kt_add(
     ensures reads { result ≡ 0 → Over (keytab_of kt.old) (keytab_of kt.new) (λ old new. ReadsBack old (name_of name.now None)
         (entry_with timestamp kvno enctype key.now) place.new new) }
 {
-    let mut held = kt.take(alloc);
     let numbers = Numbers {
         timestamp,
         kvno,
         enctype,
     };
-    let status = add(alloc, held.keytab_mut(), name, numbers, key, place);
-    kt.put(held);
-    status
+    with_held!(kt, alloc, held => add(alloc, held.keytab_mut(), name, numbers, key, place))
 }
 
 /// Makes the record at a place a hole of zeros.
@@ -50,10 +47,7 @@ pub extern "C" fn krbf_kt_remove_at(alloc: Global, kt: &mut KrbfKeytab, place: u
     requires { IsSome (keytab_of kt.old) }
     ensures { Over (keytab_of kt.old) (keytab_of kt.new) (λ old new. Changes (cut_result old place) old result new) }
 {
-    let mut held = kt.take(alloc);
-    let status = remove(held.keytab_mut(), place);
-    kt.put(held);
-    status
+    with_held!(kt, alloc, held => held.keytab_mut().remove(place))
 }
 
 /// Writes the records anew in version 2, without holes, and carries each cursor to its record's new place.
@@ -67,8 +61,9 @@ pub extern "C" fn krbf_kt_rewrite(alloc: Global, kt: &mut KrbfKeytab, cursors: &
         cursors.new ≡ map (carry (store_of old) (store_of new)) cursors.old) }
     ensures left { (result ≡ 0) ⊎ (cursors.new ≡ cursors.old) }
 {
-    let mut held = kt.take(alloc);
-    let status = rewrite(held.keytab_mut(), cursors);
-    kt.put(held);
-    status
+    with_held!(kt, alloc, held => {
+        let keytab = held.keytab_mut();
+        let _bytes = keytab.store().image();
+        keytab.rewrite(cursors)
+    })
 }

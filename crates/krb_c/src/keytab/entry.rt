@@ -3,7 +3,11 @@
 ghost use Rattle.krb_c.specs.KeytabEntry.{Shows};
 
 use crate::bytes::{KrbfBytes, bytes_of};
-use krb_keytab::EntryView;
+use crate::heap::Heap;
+use crate::records::Records;
+use krb_indexed::Indexed;
+use krb_keytab::{EntryView, read_entry};
+use krb_walk::Stop;
 use krb_wire::Name;
 
 /// An entry: the place of its record, its numbers, and where its realm and its key lie.
@@ -34,5 +38,30 @@ pub fn shown(place: u32, entry: &EntryView<'_>) -> KrbfEntry
         components: name.count(),
         realm: bytes_of(name.realm()),
         key: bytes_of(entry.key()),
+    }
+}
+
+impl Records for Indexed<Heap> {
+    ghost use Rattle.krb_keytab.specs.Entry.{EntryParts};
+    ghost use Rattle.krb_keytab.specs.Store.{entry_at_place};
+    ghost use Rattle.krb_c.specs.KeytabEntry.{Shows};
+
+    type Shown = KrbfEntry;
+
+    ghost Record = { EntryParts };
+
+    ghost record_at = { λ k. entry_at_place k.state };
+
+    ghost Shows = { Shows };
+
+    fn stop_from(&self, place: u32) -> Stop {
+        self.keytab().stop_at(place)
+    }
+
+    fn shown_at(&self, place: u32) -> KrbfEntry {
+        let Some(entry) = read_entry(self.format(), self.keytab().bytes_at(place)) else {
+            unreachable!()
+        };
+        shown(place, &entry)
     }
 }

@@ -13,7 +13,7 @@ ghost use Rattle.krb_c.specs.Text.{TellsAt};
 ghost use Rattle.krb_c.specs.Status.{kind_number};
 
 use crate::bytes::{KrbfBytes, bytes_of};
-use crate::keytab::KrbfKeytab;
+use crate::handle::{KrbfKeytab, with_held};
 use crate::keytab::entry::KrbfEntry;
 use crate::keytab::looks::{find, look_at, show_component, tell_name_at};
 use crate::status::{DONE, kind_of};
@@ -31,10 +31,7 @@ pub extern "C" fn krbf_kt_next(
     ensures same { keytab_of kt.new ≡ keytab_of kt.old }
     ensures steps { IsSomeAnd (keytab_of kt.old) (λ k. Steps k result cursor.old cursor.new entry.old entry.new) }
 {
-    let mut held = kt.take(alloc);
-    let status = held.keytab_mut().step(cursor, entry);
-    kt.put(held);
-    status
+    with_held!(kt, alloc, held => held.keytab_mut().step(cursor, entry))
 }
 
 /// Shows the entry at a place.
@@ -49,10 +46,7 @@ pub extern "C" fn krbf_kt_entry(
     ensures same { keytab_of kt.new ≡ keytab_of kt.old }
     ensures looks { IsSomeAnd (keytab_of kt.old) (λ k. LooksAt Shows (entry_at_place k place) place result entry.old entry.new) }
 {
-    let held = kt.take(alloc);
-    let status = look_at(held.keytab(), place, entry);
-    kt.put(held);
-    status
+    with_held!(kt, alloc, held => look_at(held.keytab(), place, entry))
 }
 
 /// Tells the number of what is wrong where the sound cells end, 0 where nothing is, and where they end.
@@ -69,11 +63,11 @@ pub extern "C" fn krbf_kt_fault(
     ensures kind { IsSomeAnd (keytab_of kt.old) (λ k. kind.new ≡ kind_number (fault_of (store_of k))) }
     ensures place { IsSomeAnd (keytab_of kt.old) (λ k. place.new ≡ end_of (store_of k)) }
 {
-    let held = kt.take(alloc);
-    *kind = kind_of(held.keytab().keytab().fault());
-    *place = held.keytab().keytab().end();
-    kt.put(held);
-    DONE
+    with_held!(kt, alloc, held => {
+        *kind = kind_of(held.keytab().store().fault());
+        *place = held.keytab().store().end();
+        DONE
+    })
 }
 
 /// Shows the entry of a name, version (0: the highest) and enctype (0: any).
@@ -90,10 +84,7 @@ pub extern "C" fn krbf_kt_find(
     ensures same { keytab_of kt.new ≡ keytab_of kt.old }
     ensures finds { IsSomeAnd (keytab_of kt.old) (λ k. Finds k (name_of name.now None) kvno enctype result entry.old entry.new) }
 {
-    let held = kt.take(alloc);
-    let status = find(alloc, held.keytab(), name, kvno, enctype, entry);
-    kt.put(held);
-    status
+    with_held!(kt, alloc, held => find(alloc, held.keytab(), name, kvno, enctype, entry))
 }
 
 /// Puts the text of the name of the entry at a place into a room, as much as it takes, and tells its length.
@@ -109,10 +100,7 @@ pub extern "C" fn krbf_kt_name(
     ensures same { keytab_of kt.new ≡ keytab_of kt.old }
     ensures tells { IsSomeAnd (keytab_of kt.old) (λ k. TellsAt (option_map (λ e. name_text e.principal) (entry_at_place k place)) result room.old room.new len.old len.new) }
 {
-    let held = kt.take(alloc);
-    let status = tell_name_at(alloc, held.keytab(), place, room, len);
-    kt.put(held);
-    status
+    with_held!(kt, alloc, held => tell_name_at(alloc, held.keytab(), place, room, len))
 }
 
 /// Shows a component, from 0 on, of the name of the entry at a place.
@@ -128,10 +116,7 @@ pub extern "C" fn krbf_kt_component(
     ensures same { keytab_of kt.new ≡ keytab_of kt.old }
     ensures shows { IsSomeAnd (keytab_of kt.old) (λ k. ShowsPart (entry_at_place k place) number result component.old component.new) }
 {
-    let held = kt.take(alloc);
-    let status = show_component(held.keytab(), place, number, component);
-    kt.put(held);
-    status
+    with_held!(kt, alloc, held => show_component(held.keytab(), place, number, component))
 }
 
 /// Shows the image, which lies there until the keytab is changed or closed.
@@ -142,8 +127,8 @@ pub extern "C" fn krbf_kt_image(alloc: Global, kt: &mut KrbfKeytab, image: &mut 
     ensures same { keytab_of kt.new ≡ keytab_of kt.old }
     ensures image { IsSomeAnd (keytab_of kt.old) (λ k. AreShown image.new (image_of k)) }
 {
-    let held = kt.take(alloc);
-    *image = bytes_of(held.keytab().keytab().image());
-    kt.put(held);
-    DONE
+    with_held!(kt, alloc, held => {
+        *image = bytes_of(held.keytab().store().image());
+        DONE
+    })
 }

@@ -22,7 +22,7 @@ use std::alloc::Global;
 pub fn look_at(held: &HeldKeytab, place: u32, entry: &mut KrbfEntry) -> u32
     ensures { LooksAt Shows (entry_at_place held.now.state place) place result entry.old entry.new }
 {
-    match held.keytab().entry_at(place) {
+    match held.store().entry_at(place) {
         Some(seen) => {
             *entry = shown(place, &seen);
             DONE
@@ -47,7 +47,7 @@ pub fn find(
         Ok(name) => name,
         Err(status) => return status,
     };
-    match held.keytab().find(&name, kvno, enctype) {
+    match held.store().find(&name, kvno, enctype) {
         Ok((place, seen)) => {
             *entry = shown(place, &seen);
             DONE
@@ -66,7 +66,7 @@ pub fn tell_name_at(
 ) -> u32
     ensures { TellsAt (option_map (λ e. name_text e.principal) (entry_at_place held.now.state place)) result room.old room.new len.old len.new }
 {
-    match held.keytab().entry_at(place) {
+    match held.store().entry_at(place) {
         Some(entry) => tell_name(alloc, entry.principal(), room, len),
         None => of_code(Code::NotLive),
     }
@@ -81,7 +81,7 @@ pub fn show_component(
 ) -> u32
     ensures { ShowsPart (entry_at_place held.now.state place) number result component.old component.new }
 {
-    let Some(entry) = held.keytab().entry_at(place) else {
+    let Some(entry) = held.store().entry_at(place) else {
         return of_code(Code::NotLive);
     };
     match entry.principal().component(number) {

@@ -9,9 +9,10 @@ ghost use Rattle.krb_c.specs.Limit.{limit_of};
 ghost use Rattle.krb_c.specs.Opens.{Opens, OpensNone};
 ghost use Rattle.krb_c.specs.Status.{kt_open_status};
 
+use crate::handle::KrbfKeytab;
 use crate::heap::{Heap, heap};
 use crate::held::Held;
-use crate::keytab::{HeldKeytab, KrbfKeytab};
+use crate::keytab::HeldKeytab;
 use crate::limit::limits_of;
 use crate::status::{DONE, NO_MEMORY, TOO_LARGE, of_kt_open};
 use krb_keytab::{Indexed, Keytab, KtOpenFault};
@@ -61,62 +62,54 @@ fn look_at_front(image: &[u8], v1_order: Order, limits: Limits) -> Result<(), Kt
     Ok(())
 }
 
-impl KrbfKeytab {
-    // Puts a keytab with a table of its cells into an empty handle.
-    fn fill(&mut self, alloc: Global, keytab: Keytab<Heap>) -> u32
-        requires { self.old.handle.held ≡ None }
-        ensures { ((result ≡ 0) × (keytab_of self.new ≡ Some keytab.state)) ⊎ OpensNone 1 result self.new.handle }
-    {
-        let Ok(keytab) = Indexed::of(heap(alloc), keytab) else {
-            return NO_MEMORY;
-        };
-        match Box::new(alloc, Held::Keytab(HeldKeytab::of(keytab))) {
-            Ok(held) => {
-                self.put(held);
-                DONE
-            }
-            Err(_) => NO_MEMORY,
-        }
+// Puts a keytab with a table of its cells behind an empty handle.
+fn fill(alloc: Global, keytab: Keytab<Heap>, kt: &mut KrbfKeytab) -> u32
+    requires { kt.old.held ≡ None }
+    ensures { ((result ≡ 0) × (keytab_of kt.new ≡ Some keytab.state)) ⊎ OpensNone 1 result kt.new }
+{
+    match Indexed::of(heap(alloc), keytab) {
+        Ok(keytab) => kt.fill(alloc, Held::Keytab(HeldKeytab::of(keytab))),
+        Err(_) => NO_MEMORY,
     }
+}
 
-    // Opens the keytab of a copy of an image.
-    fn open(&mut self, alloc: Global, image: &[u8], v1_order: Order, limits: Limits) -> u32
-        requires { self.old.handle.held ≡ None }
-        ensures opens { Opens kt_open_status (open_result v1_order limits image.now) result (keytab_of self.new) self.new.handle }
-        ensures memory { result ≡ 1 → IsOk (open_result v1_order limits image.now) }
-    {
-        if let Err(why) = look_at_front(image, v1_order, limits) {
-            return of_kt_open(why);
-        }
-        let Ok(image) = Vec::from_slice(heap(alloc), image) else {
-            return NO_MEMORY;
-        };
-        match Keytab::open(image, v1_order, limits) {
-            Ok(keytab) => self.fill(alloc, keytab),
-            Err(refused) => of_kt_open(refused.why),
-        }
+// Opens the keytab of a copy of an image.
+fn open(alloc: Global, image: &[u8], v1_order: Order, limits: Limits, kt: &mut KrbfKeytab) -> u32
+    requires { kt.old.held ≡ None }
+    ensures opens { Opens kt_open_status (open_result v1_order limits image.now) result (keytab_of kt.new) kt.new }
+    ensures memory { result ≡ 1 → IsOk (open_result v1_order limits image.now) }
+{
+    if let Err(why) = look_at_front(image, v1_order, limits) {
+        return of_kt_open(why);
     }
+    let Ok(image) = Vec::from_slice(heap(alloc), image) else {
+        return NO_MEMORY;
+    };
+    match Keytab::open(image, v1_order, limits) {
+        Ok(keytab) => fill(alloc, keytab, kt),
+        Err(refused) => of_kt_open(refused.why),
+    }
+}
 
-    // Makes a keytab without entries.
-    fn make(&mut self, alloc: Global, limits: Limits) -> u32
-        requires { self.old.handle.held ≡ None }
-        ensures { ((result ≡ 0) × (keytab_of self.new ≡ Some (empty V2 limits))) ⊎ OpensNone 1 result self.new.handle }
-    {
-        match Keytab::create(heap(alloc), KtFormat::V2, limits) {
-            Ok(keytab) => self.fill(alloc, keytab),
-            Err(NoMemory) => NO_MEMORY,
-        }
+// Makes a keytab without entries.
+fn make(alloc: Global, limits: Limits, kt: &mut KrbfKeytab) -> u32
+    requires { kt.old.held ≡ None }
+    ensures { ((result ≡ 0) × (keytab_of kt.new ≡ Some (empty V2 limits))) ⊎ OpensNone 1 result kt.new }
+{
+    match Keytab::create(heap(alloc), KtFormat::V2, limits) {
+        Ok(keytab) => fill(alloc, keytab, kt),
+        Err(NoMemory) => NO_MEMORY,
     }
 }
 
 /// Makes a keytab of version 2 without entries. The limit is the greatest length of its image: 0 stands for 16,777,216.
 #[unsafe(no_mangle)]
 pub extern "C" fn krbf_kt_create(alloc: Global, limit: u32, kt: &mut KrbfKeytab) -> u32
-    requires { kt.old.handle.held ≡ None }
+    requires { kt.old.held ≡ None }
     ensures { Makes (limit_of limit) result kt.new }
 {
     match limits_of(limit) {
-        Some(limits) => kt.make(alloc, limits),
+        Some(limits) => make(alloc, limits, kt),
         None => TOO_LARGE,
     }
 }
@@ -131,12 +124,12 @@ pub extern "C" fn krbf_kt_open(
     limit: u32,
     kt: &mut KrbfKeytab,
 ) -> u32
-    requires { kt.old.handle.held ≡ None }
+    requires { kt.old.held ≡ None }
     ensures opens { OpensImage v1_big image.now (limit_of limit) result kt.new }
     ensures memory { result ≡ 1 → IsKeytab v1_big image.now (limit_of limit) }
 {
     match limits_of(limit) {
-        Some(limits) => kt.open(alloc, image, order_of(v1_big), limits),
+        Some(limits) => open(alloc, image, order_of(v1_big), limits, kt),
         None => TOO_LARGE,
     }
 }
@@ -145,8 +138,8 @@ pub extern "C" fn krbf_kt_open(
 #[unsafe(no_mangle)]
 pub extern "C" fn krbf_kt_close(alloc: Global, kt: &mut KrbfKeytab) -> u32
     ensures done { result ≡ 0 }
-    ensures closed { kt.new.handle.held ≡ None }
+    ensures closed { kt.new.held ≡ None }
 {
-    kt.handle.free(alloc);
+    kt.free(alloc);
     DONE
 }

@@ -1,5 +1,5 @@
 use Rattle.krb_c.proofs.CacheCells.{read_there}
-use Rattle.krb_c.proofs.cache.held.read_at.Goals as goal
+use Rattle.krb_c.proofs.cache.ticket.read_at.Goals as goal
 
 pub unreachable-requires : goal.unreachable-requires
 unreachable-requires c =

@@ -1,0 +1,42 @@
+-- What is known of a store for its walks.
+use Rattle.std.proofs.Common.{◌≡◌, ℕ, Option, Some, None, Result, Ok, Err, sym, ap, subst, ◌∙◌}
+use Rattle.std.specs.Prelude.{IfSome, IfOk, OnOk}
+use Rattle.krb_walk.specs.declared.refusal.Code.{Code}
+use Rattle.krb_walk.specs.declared.refusal.Refusal.{Refusal}
+use Rattle.krb_walk.specs.declared.refusal.Refusal.TheVariants.{Code as ByCode, NoMemory}
+use Rattle.krb_walk.specs.Rules.{PutGives, CutGives}
+use Rattle.krb_walk.specs.Changes.{Puts, Cuts}
+use Rattle.krb_walk.specs.Events.{stop_cursor}
+use Rattle.krb_walk.specs.declared.stop.Stop.TheVariants.{Live}
+use Rattle.krb_walk.specs.Store.{Store, IsPlace, IsSound, is_place, end_of, stop_at}
+use Rattle.krb_walk.proofs.Cells.{stops_live}
+use Rattle.krb_walk.proofs.Lists.{some_is}
+use Rattle.krb_walk.proofs.Places.{Extends, puts-extends, cuts-extends, place_kept, stop_place}
+use Rattle.krb_c.specs.Walks.{AreKnown}
+
+-- the cell that a walk stops at, and the place after it
+pub known_after : (s : Store) (c p n : ℕ) → IsSound s → Live p n ≡ stop_at s c → AreKnown s (Some p) (Some n)
+known_after s c p n sound is =
+    let live = stops_live s c p n sound is in
+    record {
+      stands = some_is _ live.bytes live.stands;
+      place = ap (λ r. is_place s (stop_cursor (end_of s) r)) (sym live.next) ∙ stop_place s c;
+    }
+
+-- a place stays one where cells stay where they are
+kept_by : (s new : Store) (next : Option ℕ) → Extends s new → IfSome next (IsPlace s) → AreKnown new None next
+kept_by s new None more h = record { stands = tt; place = tt }
+kept_by s new (Some p) more h = record { stands = tt; place = place_kept s new p more h }
+
+module _ {S : Type 0} (seen : S → Store) where
+  kept_same : (k new : S) (next : Option ℕ) → new ≡ k → IfSome next (IsPlace (seen k)) → AreKnown (seen new) None next
+  kept_same k new next same h = subst (λ (x : S). AreKnown (seen x) None next) (sym same) (record { stands = tt; place = h })
+
+  pub kept_by_put : (k new : S) (given : Result (ℕ × S) Code) (r : Result ℕ Refusal) (next : Option ℕ) → PutGives given k r new → IfOk r (Puts (seen k) (seen new)) → IfSome next (IsPlace (seen k)) → AreKnown (seen new) None next
+  kept_by_put k new given (Ok p) next gives puts h = kept_by (seen k) (seen new) next (puts-extends (seen k) (seen new) p puts) h
+  kept_by_put k new given (Err (ByCode code)) next gives puts h = kept_same k new next gives.1 h
+  kept_by_put k new given (Err NoMemory) next gives puts h = kept_same k new next gives h
+
+  pub kept_by_cut : (k new : S) (given : Result S Code) (r : Result (Unit {0}) Code) (p : ℕ) (next : Option ℕ) → CutGives given k r new → OnOk r (Cuts (seen k) (seen new) p) → IfSome next (IsPlace (seen k)) → AreKnown (seen new) None next
+  kept_by_cut k new given (Ok done) p next gives cuts h = kept_by (seen k) (seen new) next (cuts-extends (seen k) (seen new) p cuts) h
+  kept_by_cut k new given (Err code) p next gives cuts h = kept_same k new next gives.1 h

@@ -1,0 +1,133 @@
+//! What stands behind a handle: a store, and where a walk stands in it.
+
+ghost use Rattle.std.specs.Prelude.{◌≡◌, ◌⊎◌, map};
+ghost use Rattle.krb_walk.specs.Ranks.{carry};
+ghost use Rattle.krb_walk.specs.Store.{is_place};
+ghost use Rattle.krb_c.specs.Cursors.{with_cursors};
+ghost use Rattle.krb_c.specs.Status.{Adds, Changes, Rewrites};
+ghost use Rattle.krb_c.specs.Walks.{StepsOver};
+
+use crate::cursors::are_places;
+use crate::records::Records;
+use crate::status::{AT_END, DONE, of_code, of_refusal};
+use krb_walk::{Code, Stop};
+use std::marker::Model;
+
+/// A store in memory, and where a walk stands in it, which then goes on without a look for its place. Contracts see
+/// the store.
+#[derive(Drop)]
+pub struct Walked<S: Records> {
+    pub(crate) store: S,
+    // The place of the record that a walk was given last.
+    pub(crate) given: Option<u32>,
+    // A place, that after it or one that was after it.
+    pub(crate) next: Option<u32>,
+}
+
+impl<S: Records> Model for Walked<S> {
+    ghost use Rattle.krb_c.specs.Walks.{AreKnown};
+
+    ghost Value = { S };
+
+    ghost view = { λ w. w.store };
+
+    ghost invariant = { λ w. AreKnown (S.rules.seen (S.state_of w.store)) w.given w.next };
+}
+
+impl<S: Records> Walked<S> {
+    /// A store, of which no place is known.
+    pub fn of(store: S) -> Walked<S>
+        ensures { result ≡ store }
+    {
+        Walked {
+            store,
+            given: None,
+            next: None,
+        }
+    }
+
+    /// The store.
+    pub fn store(&self) -> &S
+        ensures { result.now ≡ self.now }
+    {
+        &self.store
+    }
+
+    // Whether a number is a place, which is known of that after the record that was given last.
+    fn is_place(&self, place: u32) -> bool
+        ensures { result ≡ is_place (S.rules.seen (S.state_of self.now)) place }
+    {
+        self.next == Some(place) || self.store.is_place(place)
+    }
+
+    /// Shows the first record at or after a cursor, and moves the cursor after it.
+    pub fn step(&mut self, cursor: &mut u32, shown: &mut S::Shown) -> u32
+        ensures same { self.new ≡ self.old }
+        ensures steps { StepsOver (S.record_at self.old) S.Shows (S.rules.seen (S.state_of self.old))
+            result cursor.old cursor.new shown.old shown.new }
+    {
+        if !self.is_place(*cursor) {
+            return of_code(Code::NotAPlace);
+        }
+        let _sound = self.store.first();
+        match self.store.stop_from(*cursor) {
+            Stop::Live { place, next } => {
+                *shown = self.store.shown_at(place);
+                *cursor = next;
+                self.given = Some(place);
+                self.next = Some(next);
+                DONE
+            }
+            Stop::End { next: _ } => AT_END,
+            Stop::Fault(_) => of_code(Code::Damaged),
+        }
+    }
+
+    /// Adds a record, and tells its place. Places stay what they are.
+    #[tactic(auto, using(crate::proofs::Known::kept_by_put, crate::proofs::Refused::refused))]
+    pub fn put(&mut self, item: &S::Item, place: &mut u32) -> u32
+        ensures { Adds (S.rules.put (S.state_of self.old) item.now) (S.state_of self.old)
+            result place.old place.new (S.state_of self.new) }
+    {
+        self.given = None;
+        match self.store.put(item) {
+            Ok(put) => {
+                *place = put;
+                DONE
+            }
+            Err(refusal) => of_refusal(refusal),
+        }
+    }
+
+    /// Removes the record at a place. Places stay what they are.
+    #[tactic(auto, using(crate::proofs::Known::kept_by_cut))]
+    pub fn remove(&mut self, place: u32) -> u32
+        ensures { Changes (S.rules.cut (S.state_of self.old) place) (S.state_of self.old) result (S.state_of self.new) }
+    {
+        self.given = None;
+        match self.store.cut(place) {
+            Ok(()) => DONE,
+            Err(code) => of_code(code),
+        }
+    }
+
+    /// Writes the records anew, and carries the cursors, each of which has to be a place.
+    #[tactic(auto, using(crate::proofs::CursorLemmas::places_all))]
+    pub fn rewrite(&mut self, cursors: &mut [u32]) -> u32
+        ensures rewrites { Rewrites (with_cursors (S.rules.seen (S.state_of self.old)) cursors.old
+            (S.rules.rewrite (S.state_of self.old))) (S.state_of self.old) result (S.state_of self.new) }
+        ensures carries { result ≡ 0 → cursors.new
+            ≡ map (carry (S.rules.seen (S.state_of self.old)) (S.rules.seen (S.state_of self.new))) cursors.old }
+        ensures left { (result ≡ 0) ⊎ (cursors.new ≡ cursors.old) }
+    {
+        if !are_places(&self.store, cursors) {
+            return of_code(Code::NotAPlace);
+        }
+        self.given = None;
+        self.next = None;
+        match self.store.rewrite(cursors) {
+            Ok(()) => DONE,
+            Err(refusal) => of_refusal(refusal),
+        }
+    }
+}
