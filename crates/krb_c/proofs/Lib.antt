@@ -5,7 +5,6 @@ pub mod CacheAsked
 pub mod Known
 pub mod Done
 pub mod NameLemmas
-pub mod CacheUnread
 pub mod Deeper
 pub mod Refused
 mod Sent

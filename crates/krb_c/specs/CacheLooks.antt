@@ -1,5 +1,5 @@
 -- What the calls that look at a cache answer.
-use Rattle.std.specs.Prelude.{◌≡◌, ◌⊎◌, ℕ, List, [], ◌∷◌, Bool, not, ◌&&◌, Option, Some, None, find, Result, Ok, Err}
+use Rattle.std.specs.Prelude.{◌≡◌, ℕ, List, [], ◌∷◌, Bool, not, ◌&&◌, Option, Some, None, find, Result}
 use Rattle.krb_wire.specs.Spelling.{Parts}
 use Rattle.krb_wire.specs.SameName.{have_same_name}
 use Rattle.krb_wire.specs.declared.name_fault.NameFault.{NameFault}
@@ -7,7 +7,7 @@ use Rattle.krb_ccache.specs.Credential.{CredParts}
 use Rattle.krb_ccache.specs.Store.{CacheState, PlacedCredential, placed_credentials, store_of, credential_at_place}
 use Rattle.krb_ccache.specs.Config.{is_config}
 use Rattle.krb_c.specs.declared.cache.ticket.KrbfTicket.{KrbfTicket}
-use Rattle.krb_c.specs.Status.{name_status}
+use Rattle.krb_c.specs.Text.{ByName}
 use Rattle.krb_c.specs.CacheTicket.{Shows}
 use Rattle.krb_c.specs.Walks.{StepsOver}
 
@@ -28,10 +28,10 @@ abbrev pub FindsOne : Option PlacedCredential → ℕ → KrbfTicket → KrbfTic
 FindsOne (Some x) status seen new_seen = (status ≡ 0) × Shows new_seen x.0 x.1
 FindsOne None status seen new_seen = (status ≡ 39) × (new_seen ≡ seen)
 
--- a look-up of the server that a text names; memory may run out, and a text that is no name is told
+-- a look-up of the server that a text names
 abbrev pub Finds : CacheState → Result Parts NameFault → ℕ → KrbfTicket → KrbfTicket → Type 0
-Finds k (Ok server) status seen new_seen = FindsOne (ticket_for k server) status seen new_seen ⊎ ((status ≡ 1) × (new_seen ≡ seen))
-Finds k (Err fault) status seen new_seen = (status ≡ name_status fault) × (new_seen ≡ seen)
+Finds k named status seen new_seen =
+    ByName (λ server. FindsOne (ticket_for k server) status seen new_seen) (λ why. (status ≡ why) × (new_seen ≡ seen)) named
 
 -- a text, or none where it has no bytes
 abbrev pub text_or_none : List ℕ → Option (List ℕ)

@@ -1,5 +1,5 @@
 -- Which cache is opened for C, and which is made.
-use Rattle.std.specs.Prelude.{◌≡◌, ◌⊎◌, ℕ, List, Option, Some, None, Result, Ok, Err}
+use Rattle.std.specs.Prelude.{◌≡◌, ◌⊎◌, ℕ, List, Option, Some, None, Result, Err}
 use Rattle.krb_wire.specs.Spelling.{Parts}
 use Rattle.krb_wire.specs.declared.name_fault.NameFault.{NameFault}
 use Rattle.krb_ccache.specs.declared.open.CcOpenFault.{CcOpenFault}
@@ -8,9 +8,10 @@ use Rattle.krb_ccache.specs.Store.{CacheState, open_result}
 use Rattle.krb_ccache.specs.Changes.{create_result}
 use Rattle.krb_c.specs.declared.handle.Handle.{Handle}
 use Rattle.krb_c.specs.Behind.{cache_of}
-use Rattle.krb_c.specs.Opens.{OpensNone, Opens}
+use Rattle.krb_c.specs.Opens.{OpensNone, OpensOr, Opens}
 use Rattle.krb_c.specs.Limit.{limit_of}
-use Rattle.krb_c.specs.Status.{cc_open_status, name_status, code_status}
+use Rattle.krb_c.specs.Status.{cc_open_status, code_status}
+use Rattle.krb_c.specs.Text.{ByName}
 
 -- what opening an image gives with a limit, if it is one
 abbrev pub opened_within : List ℕ → Option ℕ → Result CacheState CcOpenFault
@@ -25,12 +26,8 @@ IsDeeper why = (why ≡ BadHeader) ⊎ (why ≡ BadDefault)
 abbrev pub OpensImage : List ℕ → ℕ → ℕ → Handle → Type 0
 OpensImage image limit status cc = Opens cc_open_status (opened_within image (limit_of limit)) status (cache_of cc) cc
 
--- a cache of a default principal is made within a limit: what is no name is refused
-abbrev pub MakesWithin : ℕ → Result Parts NameFault → ℕ → Handle → Type 0
-MakesWithin limit (Ok principal) status cc = Opens code_status (create_result principal None limit) status (cache_of cc) cc
-MakesWithin limit (Err fault) status cc = OpensNone (name_status fault) status cc
-
--- the same with the limit, if it is one: else 13
+-- a cache of a default principal is made within a limit, if it is one: else 13
 abbrev pub Makes : Option ℕ → Result Parts NameFault → ℕ → Handle → Type 0
-Makes (Some limit) named status cc = MakesWithin limit named status cc
+Makes (Some limit) named status cc =
+    ByName (λ principal. OpensOr code_status (create_result principal None limit) status (cache_of cc) cc) (λ why. OpensNone why status cc) named
 Makes None named status cc = OpensNone 13 status cc

@@ -1,5 +1,5 @@
 -- What the calls that look at a keytab answer.
-use Rattle.std.specs.Prelude.{◌≡◌, ◌⊎◌, ℕ, Result, Ok, Err, Option, Some, None, slice_get}
+use Rattle.std.specs.Prelude.{◌≡◌, ℕ, Result, Ok, Err, Option, Some, None, slice_get}
 use Rattle.krb_wire.specs.Spelling.{Parts}
 use Rattle.krb_wire.specs.declared.name_fault.NameFault.{NameFault}
 use Rattle.krb_walk.specs.declared.refusal.Code.{Code}
@@ -10,22 +10,23 @@ use Rattle.krb_c.specs.declared.bytes.KrbfBytes.{KrbfBytes}
 use Rattle.krb_c.specs.declared.keytab.entry.KrbfEntry.{KrbfEntry}
 use Rattle.krb_c.specs.KeytabEntry.{Shows}
 use Rattle.krb_c.specs.Shown.{ShowsBytes}
-use Rattle.krb_c.specs.Status.{name_status, code_status}
+use Rattle.krb_c.specs.Status.{code_status}
+use Rattle.krb_c.specs.Text.{ByName}
 use Rattle.krb_c.specs.Walks.{StepsOver}
 
 -- a step of a walk from a cursor
 abbrev pub Steps : KeytabState → ℕ → ℕ → ℕ → KrbfEntry → KrbfEntry → Type 0
 Steps k = StepsOver (entry_at_place k) Shows (store_of k)
 
--- a look-up of a name shows what it finds, or tells why it finds nothing; memory may run out
+-- a look-up of a name shows what it finds, or tells why it finds nothing
 abbrev pub FindsOne : Result (ℕ × EntryParts) Code → ℕ → KrbfEntry → KrbfEntry → Type 0
-FindsOne (Ok found) status seen new_seen = ((status ≡ 0) × Shows new_seen found.0 found.1) ⊎ ((status ≡ 1) × (new_seen ≡ seen))
-FindsOne (Err why) status seen new_seen = ((status ≡ 1) ⊎ (status ≡ code_status why)) × (new_seen ≡ seen)
+FindsOne (Ok found) status seen new_seen = (status ≡ 0) × Shows new_seen found.0 found.1
+FindsOne (Err why) status seen new_seen = (status ≡ code_status why) × (new_seen ≡ seen)
 
--- a look-up of what a text names: a text that is no name is told first
+-- a look-up of what a text names
 abbrev pub Finds : KeytabState → Result Parts NameFault → ℕ → ℕ → ℕ → KrbfEntry → KrbfEntry → Type 0
-Finds k (Ok name) kvno enctype status seen new_seen = FindsOne (find_result k name kvno enctype) status seen new_seen
-Finds k (Err fault) kvno enctype status seen new_seen = (status ≡ name_status fault) × (new_seen ≡ seen)
+Finds k named kvno enctype status seen new_seen =
+    ByName (λ name. FindsOne (find_result k name kvno enctype) status seen new_seen) (λ why. (status ≡ why) × (new_seen ≡ seen)) named
 
 -- a component of the name of an entry is shown; 35 where there is no entry
 abbrev pub ShowsPart : Option EntryParts → ℕ → ℕ → KrbfBytes → KrbfBytes → Type 0

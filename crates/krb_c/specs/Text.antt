@@ -9,6 +9,11 @@ abbrev pub IsUnread : Result Parts NameFault → ℕ → Type 0
 IsUnread (Ok name) status = status ≡ 1
 IsUnread (Err fault) status = status ≡ name_status fault
 
+-- what is asked of the name of a text: it is done, or memory runs out; a text that is no name is told
+abbrev pub ByName : (Parts → Type 0) → (ℕ → Type 0) → Result Parts NameFault → Type 0
+ByName Does Refuses (Ok name) = Does name ⊎ Refuses 1
+ByName Does Refuses (Err fault) = Refuses (name_status fault)
+
 -- a room with as much of a text at its front as it takes
 abbrev pub in_room : List ℕ → List ℕ → List ℕ
 in_room room text = take (length room) text ++ drop (length text) room

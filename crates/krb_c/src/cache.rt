@@ -3,12 +3,31 @@
 mod asked;
 mod change_calls;
 mod changes;
-mod held;
 mod look_calls;
 mod looks;
-mod names;
 mod numbers;
 mod opening;
 mod ticket;
 
-pub use held::HeldCache;
+ghost use Rattle.std.specs.Prelude.{◌≡◌};
+ghost use Rattle.krb_ccache.specs.Store.{credential_at_place};
+
+use crate::cache::ticket::read_at;
+use crate::heap::Heap;
+use crate::walked::Walked;
+use krb_ccache::{Ccache, CredView};
+
+/// A cache in memory.
+pub type HeldCache = Walked<Ccache<Heap>>;
+
+impl Walked<Ccache<Heap>> {
+    /// The live credential at a place. It reads from the front, but not for the credential that was given last.
+    pub fn cred_at(&self, place: u32) -> Option<CredView<'_>>
+        ensures { result ≡ credential_at_place self.now.state place }
+    {
+        if self.given == Some(place) {
+            return Some(read_at(&self.store, place));
+        }
+        self.store.cred_at(place)
+    }
+}

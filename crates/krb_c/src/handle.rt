@@ -73,13 +73,6 @@ impl Handle {
         Handle::none_at(Handle::nowhere(), alloc)
     }
 
-    /// A handle of what a box has.
-    pub fn of(held: Box<Held, Global>) -> Handle
-        ensures { result.held ≡ Some held.value }
-    {
-        Handle::of_parts(Parts::of(held))
-    }
-
     // Takes the parts out of it, if it is not empty.
     fn take_parts(&mut self, alloc: Global) -> Option<Parts<Held, Global>>
         ensures taken { self.old.held ≡ option_map (λ p. p.value) result }
@@ -105,7 +98,7 @@ impl Handle {
         requires { self.old.held ≡ None }
         ensures { self.new.held ≡ Some held.value }
     {
-        *self = Handle::of(held);
+        *self = Handle::of_parts(Parts::of(held));
     }
 
     /// Puts what it is to hold into it, where it is empty.

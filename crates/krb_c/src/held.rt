@@ -17,18 +17,7 @@ pub enum Held {
 
 impl Held {
     /// The keytab that it is.
-    pub fn keytab(&self) -> &HeldKeytab
-        requires { IsSome (keytab_in self.now) }
-        ensures { keytab_in self.now ≡ Some result.now.state }
-    {
-        match self {
-            Held::Keytab(keytab) => keytab,
-            Held::Cache(_) => unreachable!(),
-        }
-    }
-
-    /// The keytab that it is, to be changed.
-    pub fn keytab_mut(&mut self) -> &mut HeldKeytab
+    pub fn keytab(&mut self) -> &mut HeldKeytab
         requires { IsSome (keytab_in self.old) }
         ensures* writes_back { sem 𝓛 (LendsKeytab self.entry result) }
         ensures value { keytab_in self.old ≡ Some result.now.state }
@@ -40,18 +29,7 @@ impl Held {
     }
 
     /// The cache that it is.
-    pub fn cache(&self) -> &HeldCache
-        requires { IsSome (cache_in self.now) }
-        ensures { cache_in self.now ≡ Some result.now.state }
-    {
-        match self {
-            Held::Keytab(_) => unreachable!(),
-            Held::Cache(cache) => cache,
-        }
-    }
-
-    /// The cache that it is, to be changed.
-    pub fn cache_mut(&mut self) -> &mut HeldCache
+    pub fn cache(&mut self) -> &mut HeldCache
         requires { IsSome (cache_in self.old) }
         ensures* writes_back { sem 𝓛 (LendsCache self.entry result) }
         ensures value { cache_in self.old ≡ Some result.now.state }

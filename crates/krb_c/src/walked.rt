@@ -2,7 +2,6 @@
 
 ghost use Rattle.std.specs.Prelude.{◌≡◌, ◌⊎◌, map};
 ghost use Rattle.krb_walk.specs.Ranks.{carry};
-ghost use Rattle.krb_walk.specs.Store.{is_place};
 ghost use Rattle.krb_c.specs.Cursors.{with_cursors};
 ghost use Rattle.krb_c.specs.Status.{Adds, Changes, Rewrites};
 ghost use Rattle.krb_c.specs.Walks.{StepsOver};
@@ -53,20 +52,13 @@ impl<S: Records> Walked<S> {
         &self.store
     }
 
-    // Whether a number is a place, which is known of that after the record that was given last.
-    fn is_place(&self, place: u32) -> bool
-        ensures { result ≡ is_place (S.rules.seen (S.state_of self.now)) place }
-    {
-        self.next == Some(place) || self.store.is_place(place)
-    }
-
     /// Shows the first record at or after a cursor, and moves the cursor after it.
     pub fn step(&mut self, cursor: &mut u32, shown: &mut S::Shown) -> u32
         ensures same { self.new ≡ self.old }
         ensures steps { StepsOver (S.record_at self.old) S.Shows (S.rules.seen (S.state_of self.old))
             result cursor.old cursor.new shown.old shown.new }
     {
-        if !self.is_place(*cursor) {
+        if self.next != Some(*cursor) && !self.store.is_place(*cursor) {
             return of_code(Code::NotAPlace);
         }
         let _sound = self.store.first();

@@ -45,7 +45,7 @@ pub extern "C" fn krbf_cc_store(
         second_ticket,
         numbers: *numbers,
     };
-    with_held!(cc, alloc, held => store(alloc, held.cache_mut(), &asked, place))
+    with_held!(cc, alloc, held => store(alloc, held.cache(), &asked, place))
 }
 
 /// Marks the credential at a place as removed.
@@ -54,7 +54,7 @@ pub extern "C" fn krbf_cc_remove_at(alloc: Global, cc: &mut KrbfCcache, place: u
     requires { IsSome (cache_of cc.old) }
     ensures { Over (cache_of cc.old) (cache_of cc.new) (λ old new. Changes (cut_result old place) old result new) }
 {
-    with_held!(cc, alloc, held => held.cache_mut().remove(place))
+    with_held!(cc, alloc, held => held.cache().remove(place))
 }
 
 /// Sets the value of the default principal for a key and a principal's text, or for the key alone where that text has
@@ -73,7 +73,7 @@ pub extern "C" fn krbf_cc_set_config(
         (λ old new. Adds (set_config_result old key.now (text_or_none principal.now) value.now)
         old result place.old place.new new) }
 {
-    with_held!(cc, alloc, held => held.cache_mut().set_config(alloc, key, principal, value, place))
+    with_held!(cc, alloc, held => held.cache().set_config(alloc, key, principal, value, place))
 }
 
 /// Writes the live credentials anew, in version 4 and in order, and carries each cursor along. Each has to be a place.
@@ -86,5 +86,5 @@ pub extern "C" fn krbf_cc_rewrite(alloc: Global, cc: &mut KrbfCcache, cursors: &
         (λ old new. cursors.new ≡ map (carry (store_of old) (store_of new)) cursors.old) }
     ensures keeps { 0 < result → cursors.new ≡ cursors.old }
 {
-    with_held!(cc, alloc, held => held.cache_mut().rewrite(cursors))
+    with_held!(cc, alloc, held => held.cache().rewrite(cursors))
 }

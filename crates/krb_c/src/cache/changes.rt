@@ -5,8 +5,8 @@ ghost use Rattle.krb_c.specs.CacheLooks.{text_or_none};
 ghost use Rattle.krb_c.specs.CacheStore.{Stores};
 ghost use Rattle.krb_c.specs.Status.{Adds};
 
+use crate::cache::HeldCache;
 use crate::cache::asked::Asked;
-use crate::cache::held::HeldCache;
 use crate::cache::looks::some_text;
 use crate::heap::{Heap, copied};
 use crate::status::{DONE, NO_MEMORY, of_refusal};

@@ -1,12 +1,12 @@
 //! The calls of the static library that look at a cache.
 
-ghost use Rattle.std.specs.Prelude.{◌≡◌, None, IsSome, IsSomeAnd, option_map};
+ghost use Rattle.std.specs.Prelude.{◌≡◌, None, IsSome, option_map};
 ghost use Rattle.krb_wire.specs.Names.{name_text};
 ghost use Rattle.krb_wire.specs.NameOf.{name_of};
 ghost use Rattle.krb_walk.specs.Store.{end_of, fault_of};
 ghost use Rattle.krb_ccache.specs.Config.{config_of};
 ghost use Rattle.krb_ccache.specs.Store.{credential_at_place, image_of, store_of};
-ghost use Rattle.krb_c.specs.Behind.{cache_of};
+ghost use Rattle.krb_c.specs.Behind.{cache_of, Looks};
 ghost use Rattle.krb_c.specs.Text.{Tells, TellsAt};
 ghost use Rattle.krb_c.specs.CacheLooks.{Finds, Steps, text_or_none};
 ghost use Rattle.krb_c.specs.CacheTicket.{Shows};
@@ -14,8 +14,7 @@ ghost use Rattle.krb_c.specs.Shown.{AreShown, LooksAt, ShowsBytes};
 ghost use Rattle.krb_c.specs.Status.{kind_number};
 
 use crate::bytes::{KrbfBytes, bytes_of};
-use crate::cache::looks::{config, find, look_at};
-use crate::cache::names::{tell_client, tell_server};
+use crate::cache::looks::{config, find, look_at, tell_client, tell_server};
 use crate::cache::ticket::KrbfTicket;
 use crate::handle::{KrbfCcache, with_held};
 use crate::status::{DONE, kind_of};
@@ -31,8 +30,7 @@ pub extern "C" fn krbf_cc_principal(
     len: &mut usize,
 ) -> u32
     requires { IsSome (cache_of cc.old) }
-    ensures same { cache_of cc.new ≡ cache_of cc.old }
-    ensures tells { IsSomeAnd (cache_of cc.old) (λ k. Tells (name_text k.principal) result room.old room.new len.old len.new) }
+    ensures tells { Looks (cache_of cc.old) (cache_of cc.new) (λ k. Tells (name_text k.principal) result room.old room.new len.old len.new) }
 {
     with_held!(cc, alloc, held => tell_name(alloc, &held.cache().store().default_principal(), room, len))
 }
@@ -42,8 +40,7 @@ pub extern "C" fn krbf_cc_principal(
 pub extern "C" fn krbf_cc_first(alloc: Global, cc: &mut KrbfCcache, cursor: &mut u32) -> u32
     requires { IsSome (cache_of cc.old) }
     ensures done { result ≡ 0 }
-    ensures same { cache_of cc.new ≡ cache_of cc.old }
-    ensures first { IsSomeAnd (cache_of cc.old) (λ k. cursor.new ≡ (store_of k).first) }
+    ensures first { Looks (cache_of cc.old) (cache_of cc.new) (λ k. cursor.new ≡ (store_of k).first) }
 {
     with_held!(cc, alloc, held => {
         *cursor = held.cache().store().first();
@@ -60,10 +57,9 @@ pub extern "C" fn krbf_cc_next(
     ticket: &mut KrbfTicket,
 ) -> u32
     requires { IsSome (cache_of cc.old) }
-    ensures same { cache_of cc.new ≡ cache_of cc.old }
-    ensures steps { IsSomeAnd (cache_of cc.old) (λ k. Steps k result cursor.old cursor.new ticket.old ticket.new) }
+    ensures steps { Looks (cache_of cc.old) (cache_of cc.new) (λ k. Steps k result cursor.old cursor.new ticket.old ticket.new) }
 {
-    with_held!(cc, alloc, held => held.cache_mut().step(cursor, ticket))
+    with_held!(cc, alloc, held => held.cache().step(cursor, ticket))
 }
 
 /// Shows the live credential at a place.
@@ -75,8 +71,7 @@ pub extern "C" fn krbf_cc_ticket(
     ticket: &mut KrbfTicket,
 ) -> u32
     requires { IsSome (cache_of cc.old) }
-    ensures same { cache_of cc.new ≡ cache_of cc.old }
-    ensures looks { IsSomeAnd (cache_of cc.old) (λ k. LooksAt Shows (credential_at_place k place) place result ticket.old ticket.new) }
+    ensures looks { Looks (cache_of cc.old) (cache_of cc.new) (λ k. LooksAt Shows (credential_at_place k place) place result ticket.old ticket.new) }
 {
     with_held!(cc, alloc, held => look_at(held.cache(), place, ticket))
 }
@@ -91,8 +86,7 @@ pub extern "C" fn krbf_cc_client(
     len: &mut usize,
 ) -> u32
     requires { IsSome (cache_of cc.old) }
-    ensures same { cache_of cc.new ≡ cache_of cc.old }
-    ensures tells { IsSomeAnd (cache_of cc.old) (λ k. TellsAt (option_map (λ c. name_text c.client) (credential_at_place k place))
+    ensures tells { Looks (cache_of cc.old) (cache_of cc.new) (λ k. TellsAt (option_map (λ c. name_text c.client) (credential_at_place k place))
         result room.old room.new len.old len.new) }
 {
     with_held!(cc, alloc, held => tell_client(alloc, held.cache(), place, room, len))
@@ -108,8 +102,7 @@ pub extern "C" fn krbf_cc_server(
     len: &mut usize,
 ) -> u32
     requires { IsSome (cache_of cc.old) }
-    ensures same { cache_of cc.new ≡ cache_of cc.old }
-    ensures tells { IsSomeAnd (cache_of cc.old) (λ k. TellsAt (option_map (λ c. name_text c.server) (credential_at_place k place))
+    ensures tells { Looks (cache_of cc.old) (cache_of cc.new) (λ k. TellsAt (option_map (λ c. name_text c.server) (credential_at_place k place))
         result room.old room.new len.old len.new) }
 {
     with_held!(cc, alloc, held => tell_server(alloc, held.cache(), place, room, len))
@@ -125,8 +118,7 @@ pub extern "C" fn krbf_cc_find(
     ticket: &mut KrbfTicket,
 ) -> u32
     requires { IsSome (cache_of cc.old) }
-    ensures same { cache_of cc.new ≡ cache_of cc.old }
-    ensures finds { IsSomeAnd (cache_of cc.old) (λ k. Finds k (name_of server.now None) result ticket.old ticket.new) }
+    ensures finds { Looks (cache_of cc.old) (cache_of cc.new) (λ k. Finds k (name_of server.now None) result ticket.old ticket.new) }
 {
     with_held!(cc, alloc, held => find(alloc, held.cache().store(), server, ticket))
 }
@@ -141,9 +133,8 @@ pub extern "C" fn krbf_cc_fault(
 ) -> u32
     requires { IsSome (cache_of cc.old) }
     ensures done { result ≡ 0 }
-    ensures same { cache_of cc.new ≡ cache_of cc.old }
-    ensures kind { IsSomeAnd (cache_of cc.old) (λ k. kind.new ≡ kind_number (fault_of (store_of k))) }
-    ensures place { IsSomeAnd (cache_of cc.old) (λ k. place.new ≡ end_of (store_of k)) }
+    ensures tells { Looks (cache_of cc.old) (cache_of cc.new)
+        (λ k. (kind.new ≡ kind_number (fault_of (store_of k))) × (place.new ≡ end_of (store_of k))) }
 {
     with_held!(cc, alloc, held => {
         *kind = kind_of(held.cache().store().fault());
@@ -163,8 +154,7 @@ pub extern "C" fn krbf_cc_config(
     value: &mut KrbfBytes,
 ) -> u32
     requires { IsSome (cache_of cc.old) }
-    ensures same { cache_of cc.new ≡ cache_of cc.old }
-    ensures value { IsSomeAnd (cache_of cc.old) (λ k. ShowsBytes (config_of k key.now (text_or_none principal.now)) result value.old value.new) }
+    ensures value { Looks (cache_of cc.old) (cache_of cc.new) (λ k. ShowsBytes (config_of k key.now (text_or_none principal.now)) result value.old value.new) }
 {
     with_held!(cc, alloc, held => config(held.cache().store(), key, principal, value))
 }
@@ -174,8 +164,7 @@ pub extern "C" fn krbf_cc_config(
 pub extern "C" fn krbf_cc_image(alloc: Global, cc: &mut KrbfCcache, image: &mut KrbfBytes) -> u32
     requires { IsSome (cache_of cc.old) }
     ensures done { result ≡ 0 }
-    ensures same { cache_of cc.new ≡ cache_of cc.old }
-    ensures image { IsSomeAnd (cache_of cc.old) (λ k. AreShown image.new (image_of k)) }
+    ensures image { Looks (cache_of cc.old) (cache_of cc.new) (λ k. AreShown image.new (image_of k)) }
 {
     with_held!(cc, alloc, held => {
         *image = bytes_of(held.cache().store().image());

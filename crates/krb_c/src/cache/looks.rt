@@ -1,20 +1,22 @@
 //! What calls ask of a cache.
 
-ghost use Rattle.std.specs.Prelude.{◌≡◌, None, option_copied};
+ghost use Rattle.std.specs.Prelude.{◌≡◌, None, option_copied, option_map};
 ghost use Rattle.krb_wire.specs.Reading.{principal_parts};
 ghost use Rattle.krb_wire.specs.NameOf.{name_of};
+ghost use Rattle.krb_wire.specs.Names.{name_text};
 ghost use Rattle.krb_ccache.specs.Store.{credential_at_place};
 ghost use Rattle.krb_ccache.specs.Config.{config_of};
 ghost use Rattle.krb_c.specs.CacheLooks.{FindsOne, Finds, ticket_for, is_ticket_for, text_or_none};
 ghost use Rattle.krb_c.specs.CacheTicket.{Shows};
 ghost use Rattle.krb_c.specs.Shown.{LooksAt, ShowsBytes};
+ghost use Rattle.krb_c.specs.Text.{TellsAt};
 
 use crate::bytes::{KrbfBytes, bytes_of};
-use crate::cache::held::HeldCache;
+use crate::cache::HeldCache;
 use crate::cache::ticket::{KrbfTicket, shown};
 use crate::heap::Heap;
 use crate::status::{DONE, of_code};
-use crate::text::read_name;
+use crate::text::{read_name, tell_name};
 use krb_ccache::{Ccache, CredView, is_config};
 use krb_walk::Code;
 use krb_wire::{Principal, same_name};
@@ -66,7 +68,7 @@ fn show_first(cache: &Ccache<Heap>, server: &Principal<Heap>, ticket: &mut KrbfT
 }
 
 /// Shows the first live ticket for the server that a text names.
-#[tactic(auto, using(crate::proofs::CacheUnread::finds_unread))]
+#[tactic(auto, using(crate::proofs::NameLemmas::unread))]
 pub fn find(alloc: Global, cache: &Ccache<Heap>, server: &[u8], ticket: &mut KrbfTicket) -> u32
     ensures { Finds cache.now.state (name_of server.now None) result ticket.old ticket.new }
 {
@@ -96,5 +98,39 @@ pub fn config(cache: &Ccache<Heap>, key: &[u8], principal: &[u8], value: &mut Kr
             DONE
         }
         None => of_code(Code::NotFound),
+    }
+}
+
+/// Tells the client of the credential at a place.
+pub fn tell_client(
+    alloc: Global,
+    held: &HeldCache,
+    place: u32,
+    room: &mut [u8],
+    len: &mut usize,
+) -> u32
+    ensures { TellsAt (option_map (λ c. name_text c.client) (credential_at_place held.now.state place))
+        result room.old room.new len.old len.new }
+{
+    match held.cred_at(place) {
+        Some(credential) => tell_name(alloc, credential.client(), room, len),
+        None => of_code(Code::NotLive),
+    }
+}
+
+/// Tells the server of the credential at a place.
+pub fn tell_server(
+    alloc: Global,
+    held: &HeldCache,
+    place: u32,
+    room: &mut [u8],
+    len: &mut usize,
+) -> u32
+    ensures { TellsAt (option_map (λ c. name_text c.server) (credential_at_place held.now.state place))
+        result room.old room.new len.old len.new }
+{
+    match held.cred_at(place) {
+        Some(credential) => tell_name(alloc, credential.server(), room, len),
+        None => of_code(Code::NotLive),
     }
 }

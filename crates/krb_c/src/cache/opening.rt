@@ -1,15 +1,12 @@
 //! Opening caches, making them, and closing them.
 
-ghost use Rattle.std.specs.Prelude.{◌≡◌, ◌≤◌, length, Ok, Err, Some, None, IfOk, IfErr};
+ghost use Rattle.std.specs.Prelude.{◌≡◌, ◌≤◌, length, Err, None, IfOk, IfErr};
 ghost use Rattle.krb_wire.specs.NameOf.{name_of};
 ghost use Rattle.krb_ccache.specs.Store.{open_result, version_in};
-ghost use Rattle.krb_c.specs.Behind.{cache_of};
-ghost use Rattle.krb_c.specs.CacheOpens.{IsDeeper, OpensImage, Makes, MakesWithin, opened_within};
+ghost use Rattle.krb_c.specs.CacheOpens.{IsDeeper, OpensImage, Makes, opened_within};
 ghost use Rattle.krb_c.specs.Limit.{limit_of};
-ghost use Rattle.krb_c.specs.Opens.{Opens};
-ghost use Rattle.krb_c.specs.Status.{cc_open_status};
 
-use crate::cache::held::HeldCache;
+use crate::cache::HeldCache;
 use crate::handle::KrbfCcache;
 use crate::heap::heap;
 use crate::held::Held;
@@ -53,12 +50,17 @@ fn look_at_front(image: &[u8], limits: Limits) -> Result<(), CcOpenFault>
     Ok(())
 }
 
-// Opens the cache of a copy of an image.
-fn open(alloc: Global, image: &[u8], limits: Limits, cc: &mut KrbfCcache) -> u32
+/// Opens the cache of a copy of an image. The limit is the greatest length of its image: 0 stands for 16,777,216. What
+/// its length and its version refuse is refused before it is copied.
+#[unsafe(no_mangle)]
+pub extern "C" fn krbf_cc_open(alloc: Global, image: &[u8], limit: u32, cc: &mut KrbfCcache) -> u32
     requires { cc.old.held ≡ None }
-    ensures opens { Opens cc_open_status (open_result limits image.now) result (cache_of cc.new) cc.new }
-    ensures memory { result ≡ 1 → IfErr (open_result limits image.now) IsDeeper }
+    ensures opens { OpensImage image.now limit result cc.new }
+    ensures memory { result ≡ 1 → IfErr (opened_within image.now (limit_of limit)) IsDeeper }
 {
+    let Some(limits) = limits_of(limit) else {
+        return TOO_LARGE;
+    };
     if let Err(why) = look_at_front(image, limits) {
         return of_cc_open(why);
     }
@@ -71,38 +73,9 @@ fn open(alloc: Global, image: &[u8], limits: Limits, cc: &mut KrbfCcache) -> u32
     }
 }
 
-// Makes a cache of a default principal.
-#[tactic(auto, using(crate::proofs::CacheUnread::makes_unread))]
-fn make(alloc: Global, principal: &[u8], limits: Limits, cc: &mut KrbfCcache) -> u32
-    requires { cc.old.held ≡ None }
-    ensures { MakesWithin limits (name_of principal.now None) result cc.new }
-{
-    let name = match read_name(alloc, principal) {
-        Ok(name) => name,
-        Err(status) => return status,
-    };
-    match Ccache::create(heap(alloc), &name, None, limits) {
-        Ok(cache) => cc.fill(alloc, Held::Cache(HeldCache::of(cache))),
-        Err(refusal) => of_refusal(refusal),
-    }
-}
-
-/// Opens the cache of a copy of an image. The limit is the greatest length of its image: 0 stands for 16,777,216. What
-/// its length and its version refuse is refused before it is copied.
-#[unsafe(no_mangle)]
-pub extern "C" fn krbf_cc_open(alloc: Global, image: &[u8], limit: u32, cc: &mut KrbfCcache) -> u32
-    requires { cc.old.held ≡ None }
-    ensures opens { OpensImage image.now limit result cc.new }
-    ensures memory { result ≡ 1 → IfErr (opened_within image.now (limit_of limit)) IsDeeper }
-{
-    match limits_of(limit) {
-        Some(limits) => open(alloc, image, limits, cc),
-        None => TOO_LARGE,
-    }
-}
-
 /// Makes a cache of version 4 without credentials, of the default principal that a text names.
 #[unsafe(no_mangle)]
+#[tactic(auto, using(crate::proofs::NameLemmas::unread))]
 pub extern "C" fn krbf_cc_create(
     alloc: Global,
     principal: &[u8],
@@ -112,9 +85,16 @@ pub extern "C" fn krbf_cc_create(
     requires { cc.old.held ≡ None }
     ensures { Makes (limit_of limit) (name_of principal.now None) result cc.new }
 {
-    match limits_of(limit) {
-        Some(limits) => make(alloc, principal, limits, cc),
-        None => TOO_LARGE,
+    let Some(limits) = limits_of(limit) else {
+        return TOO_LARGE;
+    };
+    let name = match read_name(alloc, principal) {
+        Ok(name) => name,
+        Err(status) => return status,
+    };
+    match Ccache::create(heap(alloc), &name, None, limits) {
+        Ok(cache) => cc.fill(alloc, Held::Cache(HeldCache::of(cache))),
+        Err(refusal) => of_refusal(refusal),
     }
 }
 

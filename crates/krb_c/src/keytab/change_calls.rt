@@ -38,7 +38,7 @@ pub extern "C" fn krbf_kt_add(
         kvno,
         enctype,
     };
-    with_held!(kt, alloc, held => add(alloc, held.keytab_mut(), name, numbers, key, place))
+    with_held!(kt, alloc, held => add(alloc, held.keytab(), name, numbers, key, place))
 }
 
 /// Makes the record at a place a hole of zeros.
@@ -47,7 +47,7 @@ pub extern "C" fn krbf_kt_remove_at(alloc: Global, kt: &mut KrbfKeytab, place: u
     requires { IsSome (keytab_of kt.old) }
     ensures { Over (keytab_of kt.old) (keytab_of kt.new) (λ old new. Changes (cut_result old place) old result new) }
 {
-    with_held!(kt, alloc, held => held.keytab_mut().remove(place))
+    with_held!(kt, alloc, held => held.keytab().remove(place))
 }
 
 /// Writes the records anew in version 2, without holes, and carries each cursor to its record's new place.
@@ -62,7 +62,7 @@ pub extern "C" fn krbf_kt_rewrite(alloc: Global, kt: &mut KrbfKeytab, cursors: &
     ensures left { (result ≡ 0) ⊎ (cursors.new ≡ cursors.old) }
 {
     with_held!(kt, alloc, held => {
-        let keytab = held.keytab_mut();
+        let keytab = held.keytab();
         let _bytes = keytab.store().image();
         keytab.rewrite(cursors)
     })

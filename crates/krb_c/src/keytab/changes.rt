@@ -20,7 +20,7 @@ pub struct Numbers {
 }
 
 /// Adds the entry of what a text names, and tells its place.
-#[tactic(auto, using(crate::proofs::NameLemmas::adds_unread))]
+#[tactic(auto, using(crate::proofs::NameLemmas::unread))]
 pub fn add(
     alloc: Global,
     held: &mut HeldKeytab,

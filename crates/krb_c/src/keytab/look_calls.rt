@@ -1,11 +1,11 @@
 //! The calls of the static library that look at a keytab.
 
-ghost use Rattle.std.specs.Prelude.{◌≡◌, None, IsSome, IsSomeAnd, option_map};
+ghost use Rattle.std.specs.Prelude.{◌≡◌, None, IsSome, option_map};
 ghost use Rattle.krb_wire.specs.NameOf.{name_of};
 ghost use Rattle.krb_wire.specs.Names.{name_text};
 ghost use Rattle.krb_walk.specs.Store.{end_of, fault_of};
 ghost use Rattle.krb_keytab.specs.Store.{entry_at_place, image_of, store_of};
-ghost use Rattle.krb_c.specs.Behind.{keytab_of};
+ghost use Rattle.krb_c.specs.Behind.{keytab_of, Looks};
 ghost use Rattle.krb_c.specs.KeytabEntry.{Shows};
 ghost use Rattle.krb_c.specs.KeytabLooks.{Steps, Finds, ShowsPart};
 ghost use Rattle.krb_c.specs.Shown.{AreShown, LooksAt};
@@ -28,10 +28,9 @@ pub extern "C" fn krbf_kt_next(
     entry: &mut KrbfEntry,
 ) -> u32
     requires { IsSome (keytab_of kt.old) }
-    ensures same { keytab_of kt.new ≡ keytab_of kt.old }
-    ensures steps { IsSomeAnd (keytab_of kt.old) (λ k. Steps k result cursor.old cursor.new entry.old entry.new) }
+    ensures steps { Looks (keytab_of kt.old) (keytab_of kt.new) (λ k. Steps k result cursor.old cursor.new entry.old entry.new) }
 {
-    with_held!(kt, alloc, held => held.keytab_mut().step(cursor, entry))
+    with_held!(kt, alloc, held => held.keytab().step(cursor, entry))
 }
 
 /// Shows the entry at a place.
@@ -43,8 +42,7 @@ pub extern "C" fn krbf_kt_entry(
     entry: &mut KrbfEntry,
 ) -> u32
     requires { IsSome (keytab_of kt.old) }
-    ensures same { keytab_of kt.new ≡ keytab_of kt.old }
-    ensures looks { IsSomeAnd (keytab_of kt.old) (λ k. LooksAt Shows (entry_at_place k place) place result entry.old entry.new) }
+    ensures looks { Looks (keytab_of kt.old) (keytab_of kt.new) (λ k. LooksAt Shows (entry_at_place k place) place result entry.old entry.new) }
 {
     with_held!(kt, alloc, held => look_at(held.keytab(), place, entry))
 }
@@ -59,9 +57,8 @@ pub extern "C" fn krbf_kt_fault(
 ) -> u32
     requires { IsSome (keytab_of kt.old) }
     ensures done { result ≡ 0 }
-    ensures same { keytab_of kt.new ≡ keytab_of kt.old }
-    ensures kind { IsSomeAnd (keytab_of kt.old) (λ k. kind.new ≡ kind_number (fault_of (store_of k))) }
-    ensures place { IsSomeAnd (keytab_of kt.old) (λ k. place.new ≡ end_of (store_of k)) }
+    ensures tells { Looks (keytab_of kt.old) (keytab_of kt.new)
+        (λ k. (kind.new ≡ kind_number (fault_of (store_of k))) × (place.new ≡ end_of (store_of k))) }
 {
     with_held!(kt, alloc, held => {
         *kind = kind_of(held.keytab().store().fault());
@@ -81,8 +78,7 @@ pub extern "C" fn krbf_kt_find(
     entry: &mut KrbfEntry,
 ) -> u32
     requires { IsSome (keytab_of kt.old) }
-    ensures same { keytab_of kt.new ≡ keytab_of kt.old }
-    ensures finds { IsSomeAnd (keytab_of kt.old) (λ k. Finds k (name_of name.now None) kvno enctype result entry.old entry.new) }
+    ensures finds { Looks (keytab_of kt.old) (keytab_of kt.new) (λ k. Finds k (name_of name.now None) kvno enctype result entry.old entry.new) }
 {
     with_held!(kt, alloc, held => find(alloc, held.keytab(), name, kvno, enctype, entry))
 }
@@ -97,8 +93,7 @@ pub extern "C" fn krbf_kt_name(
     len: &mut usize,
 ) -> u32
     requires { IsSome (keytab_of kt.old) }
-    ensures same { keytab_of kt.new ≡ keytab_of kt.old }
-    ensures tells { IsSomeAnd (keytab_of kt.old) (λ k. TellsAt (option_map (λ e. name_text e.principal) (entry_at_place k place)) result room.old room.new len.old len.new) }
+    ensures tells { Looks (keytab_of kt.old) (keytab_of kt.new) (λ k. TellsAt (option_map (λ e. name_text e.principal) (entry_at_place k place)) result room.old room.new len.old len.new) }
 {
     with_held!(kt, alloc, held => tell_name_at(alloc, held.keytab(), place, room, len))
 }
@@ -113,8 +108,7 @@ pub extern "C" fn krbf_kt_component(
     component: &mut KrbfBytes,
 ) -> u32
     requires { IsSome (keytab_of kt.old) }
-    ensures same { keytab_of kt.new ≡ keytab_of kt.old }
-    ensures shows { IsSomeAnd (keytab_of kt.old) (λ k. ShowsPart (entry_at_place k place) number result component.old component.new) }
+    ensures shows { Looks (keytab_of kt.old) (keytab_of kt.new) (λ k. ShowsPart (entry_at_place k place) number result component.old component.new) }
 {
     with_held!(kt, alloc, held => show_component(held.keytab(), place, number, component))
 }
@@ -124,8 +118,7 @@ pub extern "C" fn krbf_kt_component(
 pub extern "C" fn krbf_kt_image(alloc: Global, kt: &mut KrbfKeytab, image: &mut KrbfBytes) -> u32
     requires { IsSome (keytab_of kt.old) }
     ensures done { result ≡ 0 }
-    ensures same { keytab_of kt.new ≡ keytab_of kt.old }
-    ensures image { IsSomeAnd (keytab_of kt.old) (λ k. AreShown image.new (image_of k)) }
+    ensures image { Looks (keytab_of kt.old) (keytab_of kt.new) (λ k. AreShown image.new (image_of k)) }
 {
     with_held!(kt, alloc, held => {
         *image = bytes_of(held.keytab().store().image());

@@ -32,7 +32,7 @@ pub fn look_at(held: &HeldKeytab, place: u32, entry: &mut KrbfEntry) -> u32
 }
 
 /// Shows the entry of what a text names, of that version and enctype.
-#[tactic(auto, using(crate::proofs::NameLemmas::finds_unread))]
+#[tactic(auto, using(crate::proofs::NameLemmas::unread))]
 pub fn find(
     alloc: Global,
     held: &HeldKeytab,

@@ -1,13 +1,11 @@
 //! Opening keytabs, making them, and closing them.
 
 ghost use Rattle.std.specs.Prelude.{◌≡◌, ◌≤◌, ◌⊎◌, length, Some, None, Err, IsOk, IfOk, IfErr};
-ghost use Rattle.krb_wire.specs.declared.format.KtFormat.TheVariants.{V2};
-ghost use Rattle.krb_keytab.specs.Store.{format_of, open_result, empty};
+ghost use Rattle.krb_keytab.specs.Store.{format_of, open_result};
 ghost use Rattle.krb_c.specs.Behind.{keytab_of};
 ghost use Rattle.krb_c.specs.KeytabOpens.{IsKeytab, Makes, OpensImage, order_of_flag};
 ghost use Rattle.krb_c.specs.Limit.{limit_of};
-ghost use Rattle.krb_c.specs.Opens.{Opens, OpensNone};
-ghost use Rattle.krb_c.specs.Status.{kt_open_status};
+ghost use Rattle.krb_c.specs.Opens.{OpensNone};
 
 use crate::handle::KrbfKeytab;
 use crate::heap::{Heap, heap};
@@ -73,44 +71,18 @@ fn fill(alloc: Global, keytab: Keytab<Heap>, kt: &mut KrbfKeytab) -> u32
     }
 }
 
-// Opens the keytab of a copy of an image.
-fn open(alloc: Global, image: &[u8], v1_order: Order, limits: Limits, kt: &mut KrbfKeytab) -> u32
-    requires { kt.old.held ≡ None }
-    ensures opens { Opens kt_open_status (open_result v1_order limits image.now) result (keytab_of kt.new) kt.new }
-    ensures memory { result ≡ 1 → IsOk (open_result v1_order limits image.now) }
-{
-    if let Err(why) = look_at_front(image, v1_order, limits) {
-        return of_kt_open(why);
-    }
-    let Ok(image) = Vec::from_slice(heap(alloc), image) else {
-        return NO_MEMORY;
-    };
-    match Keytab::open(image, v1_order, limits) {
-        Ok(keytab) => fill(alloc, keytab, kt),
-        Err(refused) => of_kt_open(refused.why),
-    }
-}
-
-// Makes a keytab without entries.
-fn make(alloc: Global, limits: Limits, kt: &mut KrbfKeytab) -> u32
-    requires { kt.old.held ≡ None }
-    ensures { ((result ≡ 0) × (keytab_of kt.new ≡ Some (empty V2 limits))) ⊎ OpensNone 1 result kt.new }
-{
-    match Keytab::create(heap(alloc), KtFormat::V2, limits) {
-        Ok(keytab) => fill(alloc, keytab, kt),
-        Err(NoMemory) => NO_MEMORY,
-    }
-}
-
 /// Makes a keytab of version 2 without entries. The limit is the greatest length of its image: 0 stands for 16,777,216.
 #[unsafe(no_mangle)]
 pub extern "C" fn krbf_kt_create(alloc: Global, limit: u32, kt: &mut KrbfKeytab) -> u32
     requires { kt.old.held ≡ None }
     ensures { Makes (limit_of limit) result kt.new }
 {
-    match limits_of(limit) {
-        Some(limits) => make(alloc, limits, kt),
-        None => TOO_LARGE,
+    let Some(limits) = limits_of(limit) else {
+        return TOO_LARGE;
+    };
+    match Keytab::create(heap(alloc), KtFormat::V2, limits) {
+        Ok(keytab) => fill(alloc, keytab, kt),
+        Err(NoMemory) => NO_MEMORY,
     }
 }
 
@@ -128,9 +100,19 @@ pub extern "C" fn krbf_kt_open(
     ensures opens { OpensImage v1_big image.now (limit_of limit) result kt.new }
     ensures memory { result ≡ 1 → IsKeytab v1_big image.now (limit_of limit) }
 {
-    match limits_of(limit) {
-        Some(limits) => open(alloc, image, order_of(v1_big), limits, kt),
-        None => TOO_LARGE,
+    let Some(limits) = limits_of(limit) else {
+        return TOO_LARGE;
+    };
+    let v1_order = order_of(v1_big);
+    if let Err(why) = look_at_front(image, v1_order, limits) {
+        return of_kt_open(why);
+    }
+    let Ok(image) = Vec::from_slice(heap(alloc), image) else {
+        return NO_MEMORY;
+    };
+    match Keytab::open(image, v1_order, limits) {
+        Ok(keytab) => fill(alloc, keytab, kt),
+        Err(refused) => of_kt_open(refused.why),
     }
 }
 

@@ -5,6 +5,6 @@ use Rattle.krb_c.proofs.keytab.change_calls.krbf_kt_rewrite.Goals as goal
 
 pub returns-clause-entries : goal.returns-clause-entries
 returns-clause-entries c = λ done.
-    let kept = entries_kept c.keytab_mut-keytab.result.now.state c.rewrite-answer.new.self.state c.args.cursors.now c.rewrite-answer.result c.image-bytes.result.now
+    let kept = entries_kept c.keytab-keytab.result.now.state c.rewrite-answer.new.self.state c.args.cursors.now c.rewrite-answer.result c.image-bytes.result.now
     c.image-bytes.ensures.bytes (c.image-bytes.ensures.spelled ∙ ap (λ k. image_of k.state) c.store.ensures) c.rewrite-answer.ensures.rewrites done in
     search rules
