@@ -4,16 +4,11 @@ use Rattle.krb_wire.specs.Spelling.{Parts}
 use Rattle.krb_wire.specs.SameName.{have_same_name}
 use Rattle.krb_wire.specs.declared.name_fault.NameFault.{NameFault}
 use Rattle.krb_ccache.specs.Credential.{CredParts}
-use Rattle.krb_ccache.specs.Store.{CacheState, PlacedCredential, placed_credentials, store_of, credential_at_place}
+use Rattle.krb_ccache.specs.Store.{CacheState, PlacedCredential, placed_credentials}
 use Rattle.krb_ccache.specs.Config.{is_config}
 use Rattle.krb_c.specs.declared.cache.ticket.KrbfTicket.{KrbfTicket}
 use Rattle.krb_c.specs.Text.{ByName}
 use Rattle.krb_c.specs.CacheTicket.{Shows}
-use Rattle.krb_c.specs.Walks.{StepsOver}
-
--- a step of a walk from a cursor
-abbrev pub Steps : CacheState → ℕ → ℕ → ℕ → KrbfTicket → KrbfTicket → Type 0
-Steps k = StepsOver (credential_at_place k) Shows (store_of k)
 
 -- a credential is a ticket for a server: no configuration entry, and its server has that realm and those components
 abbrev pub is_ticket_for : Parts → CredParts → Bool

@@ -1,9 +1,15 @@
--- What stands behind a handle.
+-- What stands behind a handle, and what is written through a reference to it.
+use mathlib.Core.List.{List, [], ◌∷◌}
+use denote.RattleType.{RattleType}
+use denote.Enum.Declared.{shape}
 use Rattle.std.specs.Prelude.{Option, Some, None}
-use Rattle.krb_keytab.specs.Store.{KeytabState}
+use Rattle.std.specs.Borrow.{Lends, MutBor, Fml}
+use Rattle.krb_keytab.specs.Store.{KeytabState, InMemory as KeytabInMemory}
 use Rattle.krb_ccache.specs.Store.{CacheState}
+use Rattle.krb_ccache.specs.Open.{InMemory as CacheInMemory}
 use Rattle.krb_c.specs.declared.held.Held.{Held}
 use Rattle.krb_c.specs.declared.held.Held.TheVariants.{Keytab, Cache}
+use Rattle.krb_c.specs.contracts.held.Held.{the_row, the_type}
 
 -- the keytab that it is
 abbrev pub keytab_in : Held → Option KeytabState
@@ -14,3 +20,20 @@ keytab_in (Cache c) = None
 abbrev pub cache_in : Held → Option CacheState
 cache_in (Keytab k) = None
 cache_in (Cache c) = Some c.state
+
+-- the types of the fields of the two variants, each of which has one
+abbrev first : List (List RattleType) → RattleType
+first ((row ∷ []) ∷ (other ∷ []) ∷ []) = row
+first rows = the_row
+
+abbrev second : List (List RattleType) → RattleType
+second ((other ∷ []) ∷ (row ∷ []) ∷ []) = row
+second rows = the_row
+
+-- it ends as the last keytab behind r
+abbrev pub LendsKeytab : MutBor Held → MutBor KeytabInMemory → Fml
+LendsKeytab held r = Lends the_row (first (shape the_type).variants) held r Keytab
+
+-- it ends as the last cache behind r
+abbrev pub LendsCache : MutBor Held → MutBor CacheInMemory → Fml
+LendsCache held r = Lends the_row (second (shape the_type).variants) held r Cache

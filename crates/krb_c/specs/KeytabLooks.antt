@@ -4,7 +4,7 @@ use Rattle.krb_wire.specs.Spelling.{Parts}
 use Rattle.krb_wire.specs.declared.name_fault.NameFault.{NameFault}
 use Rattle.krb_walk.specs.declared.refusal.Code.{Code}
 use Rattle.krb_keytab.specs.Entry.{EntryParts}
-use Rattle.krb_keytab.specs.Store.{KeytabState, store_of, entry_at_place}
+use Rattle.krb_keytab.specs.Store.{KeytabState}
 use Rattle.krb_keytab.specs.Find.{find_result}
 use Rattle.krb_c.specs.declared.bytes.KrbfBytes.{KrbfBytes}
 use Rattle.krb_c.specs.declared.keytab.entry.KrbfEntry.{KrbfEntry}
@@ -12,11 +12,6 @@ use Rattle.krb_c.specs.KeytabEntry.{Shows}
 use Rattle.krb_c.specs.Shown.{ShowsBytes}
 use Rattle.krb_c.specs.Status.{code_status}
 use Rattle.krb_c.specs.Text.{ByName}
-use Rattle.krb_c.specs.Walks.{StepsOver}
-
--- a step of a walk from a cursor
-abbrev pub Steps : KeytabState → ℕ → ℕ → ℕ → KrbfEntry → KrbfEntry → Type 0
-Steps k = StepsOver (entry_at_place k) Shows (store_of k)
 
 -- a look-up of a name shows what it finds, or tells why it finds nothing
 abbrev pub FindsOne : Result (ℕ × EntryParts) Code → ℕ → KrbfEntry → KrbfEntry → Type 0

@@ -3,7 +3,6 @@ pub mod Status
 pub mod Held
 pub mod Handle
 pub mod Behind
-pub mod Lending
 pub mod Opens
 pub mod Limit
 pub mod Text

@@ -1,9 +1,8 @@
 //! Credential caches for C.
 
 mod asked;
-mod change_calls;
+mod calls;
 mod changes;
-mod look_calls;
 mod looks;
 mod numbers;
 mod opening;

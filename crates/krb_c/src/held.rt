@@ -2,8 +2,7 @@
 
 ghost use Rattle.std.specs.Prelude.{◌≡◌, Some, IsSome};
 ghost use Rattle.std.specs.Borrow.{sem};
-ghost use Rattle.krb_c.specs.Held.{keytab_in, cache_in};
-ghost use Rattle.krb_c.specs.Lending.{LendsKeytab, LendsCache};
+ghost use Rattle.krb_c.specs.Held.{keytab_in, cache_in, LendsKeytab, LendsCache};
 
 use crate::cache::HeldCache;
 use crate::keytab::HeldKeytab;

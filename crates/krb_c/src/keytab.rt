@@ -1,9 +1,8 @@
 //! Keytabs for C.
 
-mod change_calls;
+mod calls;
 mod changes;
 mod entry;
-mod look_calls;
 mod looks;
 mod opening;
 

@@ -1,19 +1,26 @@
-//! The calls of the static library that look at a keytab.
+//! The calls of the static library over a keytab: first those that look, then those that change.
 
-ghost use Rattle.std.specs.Prelude.{◌≡◌, None, IsSome, option_map};
+ghost use Rattle.std.specs.Prelude.{◌≡◌, None, IsSome, option_map, ◌⊎◌, map};
 ghost use Rattle.krb_wire.specs.NameOf.{name_of};
 ghost use Rattle.krb_wire.specs.Names.{name_text};
 ghost use Rattle.krb_walk.specs.Store.{end_of, fault_of};
-ghost use Rattle.krb_keytab.specs.Store.{entry_at_place, image_of, store_of};
-ghost use Rattle.krb_c.specs.Behind.{keytab_of, Looks};
+ghost use Rattle.krb_walk.specs.Ranks.{carry};
+ghost use Rattle.krb_keytab.specs.Store.{entry_at_place, image_of, store_of, entries};
+ghost use Rattle.krb_keytab.specs.Changes.{cut_result};
+ghost use Rattle.krb_keytab.specs.Rewrite.{rewrite_result};
+ghost use Rattle.krb_c.specs.Behind.{keytab_of, Looks, Over};
 ghost use Rattle.krb_c.specs.KeytabEntry.{Shows};
-ghost use Rattle.krb_c.specs.KeytabLooks.{Steps, Finds, ShowsPart};
+ghost use Rattle.krb_c.specs.KeytabLooks.{Finds, ShowsPart};
+ghost use Rattle.krb_c.specs.Walks.{StepsOver};
 ghost use Rattle.krb_c.specs.Shown.{AreShown, LooksAt};
 ghost use Rattle.krb_c.specs.Text.{TellsAt};
-ghost use Rattle.krb_c.specs.Status.{kind_number};
+ghost use Rattle.krb_c.specs.Status.{kind_number, Changes, Rewrites};
+ghost use Rattle.krb_c.specs.Cursors.{with_cursors};
+ghost use Rattle.krb_c.specs.KeytabChanges.{AddsNamed, ReadsBack, entry_with};
 
 use crate::bytes::{KrbfBytes, bytes_of};
 use crate::handle::{KrbfKeytab, with_held};
+use crate::keytab::changes::{Numbers, add};
 use crate::keytab::entry::KrbfEntry;
 use crate::keytab::looks::{find, look_at, show_component, tell_name_at};
 use crate::status::{DONE, kind_of};
@@ -28,7 +35,8 @@ pub extern "C" fn krbf_kt_next(
     entry: &mut KrbfEntry,
 ) -> u32
     requires { IsSome (keytab_of kt.old) }
-    ensures steps { Looks (keytab_of kt.old) (keytab_of kt.new) (λ k. Steps k result cursor.old cursor.new entry.old entry.new) }
+    ensures steps { Looks (keytab_of kt.old) (keytab_of kt.new) (λ k. StepsOver (entry_at_place k) Shows (store_of k)
+        result cursor.old cursor.new entry.old entry.new) }
 {
     with_held!(kt, alloc, held => held.keytab().step(cursor, entry))
 }
@@ -123,5 +131,58 @@ pub extern "C" fn krbf_kt_image(alloc: Global, kt: &mut KrbfKeytab, image: &mut 
     with_held!(kt, alloc, held => {
         *image = bytes_of(held.keytab().store().image());
         DONE
+    })
+}
+
+/// Adds an entry of a name of type 1, and tells the place of its record.
+#[unsafe(no_mangle)]
+pub extern "C" fn krbf_kt_add(
+    alloc: Global,
+    kt: &mut KrbfKeytab,
+    name: &[u8],
+    timestamp: u32,
+    kvno: u32,
+    enctype: u16,
+    key: &[u8],
+    place: &mut u32,
+) -> u32
+    requires { IsSome (keytab_of kt.old) }
+    ensures adds { Over (keytab_of kt.old) (keytab_of kt.new) (λ old new. AddsNamed old (name_of name.now None)
+        (entry_with timestamp kvno enctype key.now) result place.old place.new new) }
+    ensures reads { result ≡ 0 → Over (keytab_of kt.old) (keytab_of kt.new) (λ old new. ReadsBack old (name_of name.now None)
+        (entry_with timestamp kvno enctype key.now) place.new new) }
+{
+    let numbers = Numbers {
+        timestamp,
+        kvno,
+        enctype,
+    };
+    with_held!(kt, alloc, held => add(alloc, held.keytab(), name, numbers, key, place))
+}
+
+/// Makes the record at a place a hole of zeros.
+#[unsafe(no_mangle)]
+pub extern "C" fn krbf_kt_remove_at(alloc: Global, kt: &mut KrbfKeytab, place: u32) -> u32
+    requires { IsSome (keytab_of kt.old) }
+    ensures { Over (keytab_of kt.old) (keytab_of kt.new) (λ old new. Changes (cut_result old place) old result new) }
+{
+    with_held!(kt, alloc, held => held.keytab().remove(place))
+}
+
+/// Writes the records anew in version 2, without holes, and carries each cursor to its record's new place.
+#[unsafe(no_mangle)]
+pub extern "C" fn krbf_kt_rewrite(alloc: Global, kt: &mut KrbfKeytab, cursors: &mut [u32]) -> u32
+    requires { IsSome (keytab_of kt.old) }
+    ensures rewrites { Over (keytab_of kt.old) (keytab_of kt.new) (λ old new.
+        Rewrites (with_cursors (store_of old) cursors.old (rewrite_result old)) old result new) }
+    ensures entries { result ≡ 0 → Over (keytab_of kt.old) (keytab_of kt.new) (λ old new. entries new ≡ entries old) }
+    ensures carries { result ≡ 0 → Over (keytab_of kt.old) (keytab_of kt.new) (λ old new.
+        cursors.new ≡ map (carry (store_of old) (store_of new)) cursors.old) }
+    ensures left { (result ≡ 0) ⊎ (cursors.new ≡ cursors.old) }
+{
+    with_held!(kt, alloc, held => {
+        let keytab = held.keytab();
+        let _bytes = keytab.store().image();
+        keytab.rewrite(cursors)
     })
 }

@@ -1,7 +1,7 @@
 use Rattle.std.proofs.Common.{rules, ap, ◌∙◌}
 use Rattle.krb_keytab.specs.Store.{image_of}
 use Rattle.krb_c.proofs.Done.{entries_kept}
-use Rattle.krb_c.proofs.keytab.change_calls.krbf_kt_rewrite.Goals as goal
+use Rattle.krb_c.proofs.keytab.calls.krbf_kt_rewrite.Goals as goal
 
 pub returns-clause-entries : goal.returns-clause-entries
 returns-clause-entries c = λ done.
