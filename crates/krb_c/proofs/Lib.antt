@@ -1,7 +1,6 @@
 mod AsBox
 pub mod CursorLemmas
 pub mod CacheCells
-pub mod CacheAsked
 pub mod Known
 pub mod Done
 pub mod NameLemmas

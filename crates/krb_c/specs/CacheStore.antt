@@ -1,13 +1,13 @@
 -- Changes of a cache that C asks for.
-use Rattle.std.specs.Prelude.{ℕ, List, [], Bool, ◌&&◌, nat_lt, None, Result, Ok, Err, IsOk, ◌⊎◌, if◌then◌else◌}
+use Rattle.std.specs.Prelude.{ℕ, List, [], Bool, ◌&&◌, nat_lt, None, Result, Ok, Err, if◌then◌else◌}
 use Rattle.krb_wire.specs.Spelling.{Parts}
 use Rattle.krb_wire.specs.NameOf.{name_of}
-use Rattle.krb_wire.specs.declared.name_fault.NameFault.{NameFault}
 use Rattle.krb_ccache.specs.Credential.{CredParts, plain_key}
 use Rattle.krb_ccache.specs.Store.{CacheState}
 use Rattle.krb_ccache.specs.Changes.{put_result}
 use Rattle.krb_c.specs.declared.cache.numbers.KrbfNumbers.{KrbfNumbers}
-use Rattle.krb_c.specs.Status.{AddsOr, Refuses, name_status}
+use Rattle.krb_c.specs.Status.{AddsOr, Refuses}
+use Rattle.krb_c.specs.Text.{ByName}
 
 -- ---- what a credential is made of
 
@@ -47,24 +47,15 @@ credential_between a client server = record {
 abbrev pub with_parts : AskedParts → Parts → Parts → Result CredParts ℕ
 with_parts a client server = if numbers_fit a.numbers then Ok (credential_between a client server) else Err 32
 
--- the same by the names of two texts, of which the client's is looked at first
-abbrev pub with_names : AskedParts → Result Parts NameFault → Result Parts NameFault → Result CredParts ℕ
-with_names a (Err fault) server = Err (name_status fault)
-with_names a (Ok client) (Err fault) = Err (name_status fault)
-with_names a (Ok client) (Ok server) = with_parts a client server
-
--- the credential that is asked for, or the status that refuses it
-abbrev pub asked_credential : AskedParts → Result CredParts ℕ
-asked_credential a = with_names a (name_of a.client None) (name_of a.server None)
-
 -- ---- what an addition answers
 
--- the credential that is asked for is stored, or refused
+-- the credential is stored, or refused
 abbrev pub StoresOr : Result CredParts ℕ → CacheState → ℕ → ℕ → ℕ → CacheState → Type 0
 StoresOr (Ok c) old status place new_place new = AddsOr (put_result old c) old status place new_place new
 StoresOr (Err why) old status place new_place new = Refuses why old status place new_place new
 
--- the same, or memory runs out, for which the client must have a name
+-- the credential that is asked for is stored: the client's text is looked at first, then the server's, and then the numbers
 abbrev pub Stores : AskedParts → CacheState → ℕ → ℕ → ℕ → CacheState → Type 0
 Stores a old status place new_place new =
-    StoresOr (asked_credential a) old status place new_place new ⊎ (IsOk (name_of a.client None) × Refuses 1 old status place new_place new)
+    let Refused : ℕ → Type 0 = λ why. Refuses why old status place new_place new in
+    ByName (λ client. ByName (λ server. StoresOr (with_parts a client server) old status place new_place new) Refused (name_of a.server None)) Refused (name_of a.client None)

@@ -1,14 +1,12 @@
 //! Credentials that C asks to store.
 
-ghost use Rattle.std.specs.Prelude.{◌≡◌, ◌⊎◌, None, Ok, Err, IfOk, IfErr, IsOk};
-ghost use Rattle.krb_wire.specs.NameOf.{name_of};
+ghost use Rattle.std.specs.Prelude.{◌≡◌, ◌⊎◌, Ok, Err, IfOk, IfErr};
 ghost use Rattle.krb_wire.specs.Reading.{principal_parts};
-ghost use Rattle.krb_c.specs.CacheStore.{asked_credential, with_parts};
+ghost use Rattle.krb_c.specs.CacheStore.{with_parts};
 
 use crate::cache::numbers::KrbfNumbers;
 use crate::heap::{Heap, copied, heap};
 use crate::status::of_code;
-use crate::text::read_name;
 use krb_ccache::Cred;
 use krb_walk::Code;
 use krb_wire::Principal;
@@ -42,8 +40,8 @@ impl<'a> Model for Asked<'a> {
 }
 
 impl<'a> Asked<'a> {
-    // The credential between two names.
-    fn between(
+    /// The credential between two names.
+    pub fn between(
         &self,
         alloc: Global,
         client: Principal<Heap>,
@@ -75,21 +73,5 @@ impl<'a> Asked<'a> {
             ticket,
             second_ticket,
         })
-    }
-
-    /// The credential that is asked for.
-    pub fn credential(&self, alloc: Global) -> Result<Cred<Heap>, u32>
-        ensures ok { IfOk result (λ c. asked_credential self.now ≡ Ok c) }
-        ensures err { IfErr result (λ s. (asked_credential self.now ≡ Err s) ⊎ ((s ≡ 1) × IsOk (name_of self.now.client None))) }
-    {
-        let client = match read_name(alloc, self.client) {
-            Ok(client) => client,
-            Err(why) => return Err(why),
-        };
-        let server = match read_name(alloc, self.server) {
-            Ok(server) => server,
-            Err(why) => return Err(why),
-        };
-        self.between(alloc, client, server)
     }
 }

@@ -10,15 +10,25 @@ use crate::cache::asked::Asked;
 use crate::cache::looks::some_text;
 use crate::heap::{Heap, copied};
 use crate::status::{DONE, NO_MEMORY, of_refusal};
+use crate::text::read_name;
 use crate::walked::Walked;
 use krb_ccache::Ccache;
 use std::alloc::Global;
 
 /// Stores the credential that is asked for, and tells its place.
+#[tactic(auto, using(crate::proofs::NameLemmas::unread))]
 pub fn store(alloc: Global, held: &mut HeldCache, asked: &Asked<'_>, place: &mut u32) -> u32
     ensures { Stores asked.now held.old.state result place.old place.new held.new.state }
 {
-    match asked.credential(alloc) {
+    let client = match read_name(alloc, asked.client) {
+        Ok(client) => client,
+        Err(status) => return status,
+    };
+    let server = match read_name(alloc, asked.server) {
+        Ok(server) => server,
+        Err(status) => return status,
+    };
+    match asked.between(alloc, client, server) {
         Ok(credential) => held.put(&credential, place),
         Err(status) => status,
     }
