@@ -19,7 +19,7 @@ pub struct Walked<S: Records> {
     pub(crate) store: S,
     // The place of the record that a walk was given last.
     pub(crate) given: Option<u32>,
-    // A place, that after it or one that was after it.
+    // The place after it. That record may have been removed since.
     pub(crate) next: Option<u32>,
 }
 
@@ -76,7 +76,7 @@ impl<S: Records> Walked<S> {
     }
 
     /// Adds a record, and tells its place. Places stay what they are.
-    #[tactic(auto, using(crate::proofs::Known::kept_by_put, crate::proofs::Refused::refused))]
+    #[tactic(auto, using(crate::proofs::StoreLemmas::kept_by_put, crate::proofs::StoreLemmas::refused))]
     pub fn put(&mut self, item: &S::Item, place: &mut u32) -> u32
         ensures { Adds (S.rules.put (S.state_of self.old) item.now) (S.state_of self.old)
             result place.old place.new (S.state_of self.new) }
@@ -92,7 +92,7 @@ impl<S: Records> Walked<S> {
     }
 
     /// Removes the record at a place. Places stay what they are.
-    #[tactic(auto, using(crate::proofs::Known::kept_by_cut))]
+    #[tactic(auto, using(crate::proofs::StoreLemmas::kept_by_cut))]
     pub fn remove(&mut self, place: u32) -> u32
         ensures { Changes (S.rules.cut (S.state_of self.old) place) (S.state_of self.old) result (S.state_of self.new) }
     {
@@ -104,7 +104,7 @@ impl<S: Records> Walked<S> {
     }
 
     /// Writes the records anew, and carries the cursors, each of which has to be a place.
-    #[tactic(auto, using(crate::proofs::CursorLemmas::places_all))]
+    #[tactic(auto, using(crate::proofs::StoreLemmas::places_all))]
     pub fn rewrite(&mut self, cursors: &mut [u32]) -> u32
         ensures rewrites { Rewrites (with_cursors (S.rules.seen (S.state_of self.old)) cursors.old
             (S.rules.rewrite (S.state_of self.old))) (S.state_of self.old) result (S.state_of self.new) }

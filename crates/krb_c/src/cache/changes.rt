@@ -36,7 +36,7 @@ pub fn store(alloc: Global, held: &mut HeldCache, asked: &Asked<'_>, place: &mut
 
 impl Walked<Ccache<Heap>> {
     // Sets a configuration value, and tells the place of its entry.
-    #[tactic(auto, using(crate::proofs::Refused::refused))]
+    #[tactic(auto, using(crate::proofs::StoreLemmas::refused))]
     fn set(&mut self, key: &[u8], principal: &[u8], value: &[u8], place: &mut u32) -> u32
         ensures { Adds (set_config_result self.old.state key.now (text_or_none principal.now) value.now)
             self.old.state result place.old place.new self.new.state }

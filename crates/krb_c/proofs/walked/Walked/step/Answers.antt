@@ -1,5 +1,5 @@
 use Rattle.std.proofs.Common.{◌∙◌, sym}
-use Rattle.krb_c.proofs.Known.{known_after}
+use Rattle.krb_c.proofs.StoreLemmas.{known_after}
 use Rattle.krb_c.proofs.walked.Walked.step.Goals as goal
 
 pub shown_at-requires : goal.shown_at-requires

@@ -1,6 +1,6 @@
--- What is known of a store for its walks.
-use Rattle.std.proofs.Common.{◌≡◌, ℕ, Option, Some, None, Result, Ok, Err, sym, ap, subst, ◌∙◌}
-use Rattle.std.specs.Prelude.{IfSome, IfOk, OnOk}
+-- What is known of a store behind a handle, and what a refusal says.
+use Rattle.std.proofs.Common.{◌≡◌, ℕ, Option, Some, None, Result, Ok, Err, sym, ap, subst, ◌∙◌, inl, inr, refl}
+use Rattle.std.specs.Prelude.{IfSome, IfOk, OnOk, List, [], ◌∷◌, true}
 use Rattle.krb_walk.specs.declared.refusal.Code.{Code}
 use Rattle.krb_walk.specs.declared.refusal.Refusal.{Refusal}
 use Rattle.krb_walk.specs.declared.refusal.Refusal.TheVariants.{Code as ByCode, NoMemory}
@@ -13,6 +13,10 @@ use Rattle.krb_walk.proofs.Cells.{stops_live}
 use Rattle.krb_walk.proofs.Lists.{some_is}
 use Rattle.krb_walk.proofs.Places.{Extends, puts-extends, cuts-extends, place_kept, stop_place}
 use Rattle.krb_c.specs.Walks.{AreKnown}
+use Rattle.std.specs.List.{AllByRecursion}
+use Rattle.krb_wire.proofs.NamesTold.{and_both}
+use Rattle.krb_c.specs.Cursors.{are_places}
+use Rattle.krb_c.specs.Status.{Adds, refusal_status}
 
 -- the cell that a walk stops at, and the place after it
 pub known_after : (s : Store) (c p n : ℕ) → IsSound s → Live p n ≡ stop_at s c → AreKnown s (Some p) (Some n)
@@ -40,3 +44,16 @@ module _ {S : Type 0} (seen : S → Store) where
   pub kept_by_cut : (k new : S) (given : Result S Code) (r : Result (Unit {0}) Code) (p : ℕ) (next : Option ℕ) → CutGives given k r new → OnOk r (Cuts (seen k) (seen new) p) → IfSome next (IsPlace (seen k)) → AreKnown (seen new) None next
   kept_by_cut k new given (Ok done) p next gives cuts h = kept_by (seen k) (seen new) next (cuts-extends (seen k) (seen new) p cuts) h
   kept_by_cut k new given (Err code) p next gives cuts h = kept_same k new next gives.1 h
+
+-- cursors that were tested are places
+pub places_all : (s : Store) (cursors : List ℕ) → are_places s cursors ≡ true → AllByRecursion (IsPlace s) cursors
+places_all s [] e = tt
+places_all s (p ∷ ps) e =
+    let both = and_both (is_place s p) (are_places s ps) e in
+    (both.0, places_all s ps both.1)
+
+-- a refusal has its status, and leaves the place and what there was
+pub refused : {S : Type 0} → (given : Result (ℕ × S) Code) (old new : S) (why : Refusal) (status place : ℕ)
+    → PutGives given old (Err why) new → status ≡ refusal_status why → Adds given old status place place new
+refused given old new (ByCode code) status place gives is = inl (rw gives.0 (is, refl, gives.1))
+refused given old new NoMemory status place gives is = inr (is, refl, gives)
