@@ -1,7 +1,6 @@
 mod AsBox
 pub mod StoreLemmas
 pub mod CacheCells
-pub mod Done
 pub mod NameLemmas
 pub mod Deeper
 mod Sent

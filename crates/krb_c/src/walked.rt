@@ -1,6 +1,6 @@
 //! What stands behind a handle: a store, and where a walk stands in it.
 
-ghost use Rattle.std.specs.Prelude.{◌≡◌, ◌⊎◌, map};
+ghost use Rattle.std.specs.Prelude.{◌≡◌, ◌⊎◌, Ok, map};
 ghost use Rattle.krb_walk.specs.Ranks.{carry};
 ghost use Rattle.krb_c.specs.Cursors.{with_cursors};
 ghost use Rattle.krb_c.specs.Status.{Adds, Changes, Rewrites};
@@ -78,8 +78,9 @@ impl<S: Records> Walked<S> {
     /// Adds a record, and tells its place. Places stay what they are.
     #[tactic(auto, using(crate::proofs::StoreLemmas::kept_by_put, crate::proofs::StoreLemmas::refused))]
     pub fn put(&mut self, item: &S::Item, place: &mut u32) -> u32
-        ensures { Adds (S.rules.put (S.state_of self.old) item.now) (S.state_of self.old)
+        ensures adds { Adds (S.rules.put (S.state_of self.old) item.now) (S.state_of self.old)
             result place.old place.new (S.state_of self.new) }
+        ensures done { result ≡ 0 → S.rules.put (S.state_of self.old) item.now ≡ Ok (place.new, S.state_of self.new) }
     {
         self.given = None;
         match self.store.put(item) {
@@ -108,6 +109,7 @@ impl<S: Records> Walked<S> {
     pub fn rewrite(&mut self, cursors: &mut [u32]) -> u32
         ensures rewrites { Rewrites (with_cursors (S.rules.seen (S.state_of self.old)) cursors.old
             (S.rules.rewrite (S.state_of self.old))) (S.state_of self.old) result (S.state_of self.new) }
+        ensures done { result ≡ 0 → S.rules.rewrite (S.state_of self.old) ≡ Ok (S.state_of self.new) }
         ensures carries { result ≡ 0 → cursors.new
             ≡ map (carry (S.rules.seen (S.state_of self.old)) (S.rules.seen (S.state_of self.new))) cursors.old }
         ensures left { (result ≡ 0) ⊎ (cursors.new ≡ cursors.old) }
