@@ -8,7 +8,7 @@ mod opening;
 
 use crate::heap::Heap;
 use crate::walked::Walked;
-use krb_indexed::Indexed;
+use krb_keytab::Indexed;
 
 /// A keytab in memory, with a table of its cells: an addition and a removal take no pass.
 pub type HeldKeytab = Walked<Indexed<Heap>>;

@@ -5,8 +5,7 @@ ghost use Rattle.krb_c.specs.KeytabEntry.{Shows};
 use crate::bytes::{KrbfBytes, bytes_of};
 use crate::heap::Heap;
 use crate::records::Records;
-use krb_indexed::Indexed;
-use krb_keytab::{EntryView, read_entry};
+use krb_keytab::{EntryView, Indexed, read_entry};
 use krb_walk::Stop;
 use krb_wire::Name;
 
