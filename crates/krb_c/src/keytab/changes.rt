@@ -1,14 +1,16 @@
 //! Changes of keytabs.
 
-ghost use Rattle.std.specs.Prelude.{◌≡◌, None};
+ghost use Rattle.std.specs.Prelude.{◌≡◌, ◌<◌, ◌^◌, None};
 ghost use Rattle.krb_wire.specs.NameOf.{name_of};
+ghost use Rattle.krb_keytab.specs.Form.{IsEntry};
 ghost use Rattle.krb_c.specs.KeytabChanges.{AddsNamed, ReadsBack, entry_with};
 
-use crate::heap::heap;
+use crate::heap::{Heap, heap};
 use crate::keytab::HeldKeytab;
 use crate::status::NO_MEMORY;
 use crate::text::read_name;
 use krb_keytab::NewEntry;
+use krb_wire::Name;
 use std::alloc::Global;
 
 /// The numbers of an entry.
@@ -17,6 +19,22 @@ pub struct Numbers {
     pub timestamp: u32,
     pub kvno: u32,
     pub enctype: u16,
+}
+
+// Numbers of these types are below their types' ends.
+fn in_range(name_type: u32, timestamp: u32, kvno: u32, enctype: u16)
+    ensures name_type { name_type < 2 ^ 32 }
+    ensures timestamp { timestamp < 2 ^ 32 }
+    ensures kvno { kvno < 2 ^ 32 }
+    ensures enctype { enctype < 2 ^ 16 }
+{}
+
+// Each number of an entry is below its type's end.
+fn numbers_fit(entry: &NewEntry<Heap>)
+    ensures { IsEntry entry.now }
+{
+    let name_type = entry.principal.name_type();
+    in_range(name_type, entry.timestamp, entry.kvno, entry.enctype);
 }
 
 /// Adds the entry of what a text names, and tells its place.
@@ -48,6 +66,6 @@ pub fn add(
         enctype: numbers.enctype,
         key,
     };
-    let _numbers = held.store().keytab().record_len(&entry);
+    numbers_fit(&entry);
     held.put(&entry, place)
 }
