@@ -187,7 +187,10 @@ def check_keys(report: Report, program: str, folder: str) -> None:
                     os.path.join(SOURCES, "freed.c")], check=True, timeout=SECONDS)
     with folder_of({"k": TWO, "c": USUAL}) as at:
         runs = [(build(folder, "keys"), ("k", "c"), b"")]
-        runs += [(program, words, stdin) for words, stdin in PROGRAM_RUNS]
+        if report.is_proved:
+            runs += [(program, words, stdin) for words, stdin in PROGRAM_RUNS]
+        else:
+            report.skip("keys", "the program is not proved: its memory does not come from the C library")
         for named, words, stdin in runs:
             seen = os.path.join(folder, "seen")
             env = {**os.environ, "LD_PRELOAD": freed, "FREED_SEEN": seen}
