@@ -42,7 +42,7 @@ def given(name: str, cell: Credential, tail: bytes) -> Case:
 
 def no_room(name: str, room: int, wanted: Outcome | list[str], *script: str,
             after: tuple[Credential, ...] = ()) -> Case:
-    """A value set behind a long ticket, which leaves room for so many bytes. The old one has 136, as the new."""
+    """A value set after a long ticket, which leaves that much room. The old entry has 136 bytes, as the new one has."""
     ticket = long_ticket(LIMIT - 22 - 136 - room)
     return edit(name, cache(ticket, PA_TYPE), [SET_3, *script], wanted, cache(ticket, *after) if after else None)
 

@@ -60,7 +60,7 @@ class Preloaded:
             return self.run_in(folder, line, **settings)
 
     def run_in(self, folder: str, line: Line, **settings: int) -> Counted | None:
-        """The same in a folder."""
+        """One run in a folder, with those settings."""
         with tempfile.NamedTemporaryFile() as counts:
             env = {"LD_PRELOAD": self.library, "PRELOAD_COUNTS": counts.name}
             env.update((name, str(value)) for name, value in settings.items())

@@ -1,9 +1,9 @@
 //! What C sees of the records of a store.
 
-ghost use Rattle.std.specs.Prelude.{◌≡◌, IsSome, IsSomeAnd};
-ghost use Rattle.krb_walk.specs.Store.{IsPlace, live_bytes, stop_at};
+ghost use Rattle.std.specs.Prelude.{IsSome, IsSomeAnd};
+ghost use Rattle.krb_walk.specs.Store.{live_bytes};
 
-use krb_walk::{Placed, Stop};
+use krb_walk::Placed;
 
 /// A store whose records C sees.
 pub trait Records: Placed {
@@ -20,11 +20,6 @@ pub trait Records: Placed {
 
     /// What C sees is the record at a place.
     ghost Shows: { Self.Shown → ℕ → Record → Type 0 };
-
-    /// The same as `stop_at`, but it looks for the place in no table.
-    fn stop_from(&self, place: u32) -> Stop
-        requires { IsPlace (Self.rules.seen (Self.state_of self.now)) place }
-        ensures { result ≡ stop_at (Self.rules.seen (Self.state_of self.now)) place };
 
     /// The record of the live cell at a place. It reads that one.
     fn shown_at(&self, place: u32) -> Self::Shown

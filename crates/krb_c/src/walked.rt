@@ -62,7 +62,7 @@ impl<S: Records> Walked<S> {
             return of_code(Code::NotAPlace);
         }
         let _sound = self.store.first();
-        match self.store.stop_from(*cursor) {
+        match self.store.stop_at(*cursor) {
             Stop::Live { place, next } => {
                 *shown = self.store.shown_at(place);
                 *cursor = next;

@@ -9,7 +9,6 @@ use crate::bytes::{KrbfBytes, bytes_of};
 use crate::heap::Heap;
 use crate::records::Records;
 use krb_ccache::{Ccache, CredView, is_config, read_credential};
-use krb_walk::Stop;
 
 /// A credential: its place, its numbers, and where its key and tickets lie.
 #[repr(C)]
@@ -73,10 +72,6 @@ impl Records for Ccache<Heap> {
     ghost record_at = { λ k. credential_at_place k.state };
 
     ghost Shows = { Shows };
-
-    fn stop_from(&self, place: u32) -> Stop {
-        self.stop_at(place)
-    }
 
     fn shown_at(&self, place: u32) -> KrbfTicket {
         shown(place, &read_at(self, place))

@@ -6,7 +6,6 @@ use crate::bytes::{KrbfBytes, bytes_of};
 use crate::heap::Heap;
 use crate::records::Records;
 use krb_keytab::{EntryView, Indexed, read_entry};
-use krb_walk::Stop;
 use krb_wire::Name;
 
 /// An entry: the place of its record, its numbers, and where its realm and its key lie.
@@ -53,12 +52,8 @@ impl Records for Indexed<Heap> {
 
     ghost Shows = { Shows };
 
-    fn stop_from(&self, place: u32) -> Stop {
-        self.keytab().stop_at(place)
-    }
-
     fn shown_at(&self, place: u32) -> KrbfEntry {
-        let Some(entry) = read_entry(self.format(), self.keytab().bytes_at(place)) else {
+        let Some(entry) = read_entry(self.format(), self.bytes_at(place)) else {
             unreachable!()
         };
         shown(place, &entry)
