@@ -135,7 +135,7 @@ def clauses_of(said: str) -> dict[str, list[str]]:
 
 
 def check_functions(crate: str, folder: str, only: Iterable[str], kept: str) -> Answer:
-    """Checks functions of the crate in a folder. What is proved there is kept in another, for later checks of the crate."""
+    """Checks functions of the crate in a folder. What is proved is kept in another, for later checks of the crate."""
     words = [*command("check", crate, 1), "--incremental", kept]
     for function in only:
         words += ["--only", function]
