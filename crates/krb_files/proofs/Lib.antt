@@ -1,3 +1,4 @@
+pub mod PlanLaws
 pub mod Prefixes
 pub mod FileLists
 pub mod Reading

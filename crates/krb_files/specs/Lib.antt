@@ -1,7 +1,9 @@
 -- What the contracts of this crate say.
 pub mod Bytes
 pub mod Files
+pub mod Loading
 pub mod MemFiles
 pub mod Numbers
 pub mod Phrases
+pub mod Plan
 pub mod Reader

@@ -1,0 +1,127 @@
+-- What plans come to over honest files.
+use Rattle.std.proofs.Common.{◌≡◌, ◌⊎◌, inl, inr, ◌∙◌, ℕ, ◌<◌, ◌≤◌, ◌^◌, ◌-◌, Bool, true, false, List, [], ◌∷◌, Option, None, Some, length, refl, sym, ap, subst, cond, arith}
+use Rattle.std.specs.Prelude.{Ok, Err, if◌then◌else◌, nat_lt}
+use Rattle.std.specs.Str.{bytes_eq}
+use Rattle.std.proofs.lemmas.Bool.{true≢false, cases_lt}
+use Rattle.std.proofs.lemmas.Slice.Eq.{bytes_eq-Decides}
+use Rattle.krb_files.specs.declared.files.LoadFault.TheVariants as load
+use Rattle.krb_files.specs.declared.files.Files.{Ghosts}
+use Rattle.krb_files.specs.Files.{FileMap, SameFiles, SetsFile, CountsFailure, loaded}
+use Rattle.krb_files.specs.Loading.{Answer, LoadsFile, most_bytes}
+use Rattle.krb_files.specs.Plan.{Plan, Ends, Holds, Loads, Faults, by, Loaded, follow, with_bytes}
+
+-- ---- files, and counts of failures
+
+pub same-trans : (first second third : FileMap) → SameFiles first second → SameFiles second third → SameFiles first third
+same-trans first second third same then_ name = then_ name ∙ same name
+
+-- the files after a save are those with its bytes
+with_bytes-cond : (b : Bool) (files files' : FileMap) (name bytes other : List ℕ) → bytes_eq other name ≡ b → SetsFile files name bytes files' → files' other ≡ cond b (Some bytes) (files other)
+with_bytes-cond true files files' name bytes other e sets = ap files' ((bytes_eq-Decides other name).0 e) ∙ sets.this
+with_bytes-cond false files files' name bytes other e sets = sets.others other (λ same. true≢false (sym ((bytes_eq-Decides other name).1 same) ∙ e))
+
+pub with_bytes-set : (before files files' : FileMap) (name bytes : List ℕ) → SameFiles before files → SetsFile files name bytes files' → SameFiles (with_bytes before name bytes) files'
+with_bytes-set before files files' name bytes same sets other =
+    with_bytes-cond (bytes_eq other name) files files' name bytes other refl sets ∙ ap (λ (x : Option (List ℕ)). cond (bytes_eq other name) (Some bytes) x) (same other)
+
+count-at : (a b c : ℕ) → (a < b) ⊎ (b ≤ a) → a ≤ b → b ≤ c → b ≡ 2 ^ 64 - 1 → CountsFailure a c
+count-at a b c (inl lt) le le' is = inl (omega (arith, le', lt))
+count-at a b c (inr ge) le le' is = inr (omega (arith, le, ge, is))
+
+-- a failure that was counted later counts
+pub count-trans : (a b c : ℕ) → a ≤ b → b ≤ c → CountsFailure b c → CountsFailure a c
+count-trans a b c le le' (inl lt) = inl (omega (arith, le, lt))
+count-trans a b c le le' (inr is) = count-at a b c (cases_lt a b) le le' is
+
+count-more-at : (a b c : ℕ) → b ≤ c → (a < b) ⊎ (a ≡ 2 ^ 64 - 1) → CountsFailure a c
+count-more-at a b c le (inl lt) = inl (omega (arith, le, lt))
+count-more-at a b c le (inr is) = inr is
+
+-- one that was counted before counts
+pub count-more : (a b c : ℕ) → b ≤ c → CountsFailure a b → CountsFailure a c
+count-more a b c le counted = count-more-at a b c le counted
+
+module _ {F R : Type 0} (trait : Ghosts F) (faults : Faults R) where
+  -- loads leave honest files honest and the same, and the count of failures falls nowhere
+  pub record Lasts (old new : F) : Type 0 where
+    pub honest : trait.is_honest old → trait.is_honest new
+    pub same : trait.is_honest old → SameFiles (trait.file old) (trait.file new)
+    pub count : trait.failure_count old ≤ trait.failure_count new
+
+  lasts-none : (old new : F) → new ≡ old → Lasts old new
+  lasts-none old new is = subst (λ (x : F). Lasts old x) (sym is) (record { honest = λ h. h; same = λ h name. refl; count = omega arith })
+
+  pub loaded-lasts : (plan : Plan R) (old : F) (answers : List Answer) (new : F) → Loaded trait plan old answers new → Lasts old new
+  loaded-lasts (Ends r) old answers new l = lasts-none old new l.1
+  loaded-lasts (Holds held name plan) old answers new l = loaded-lasts plan old answers new l
+  loaded-lasts (Loads name then_) old [] new l = lasts-none old new l
+  loaded-lasts (Loads name then_) old (answer ∷ answers) new l =
+      let first = l.1.0 in
+      let rest = loaded-lasts (then_ answer) l.0 answers new l.1.1 in
+      let le = first.count in
+      let le' = rest.count in
+      record {
+        honest = λ h. rest.honest (first.honest h);
+        same = λ h. same-trans (trait.file old) (trait.file l.0) (trait.file new) (first.same h) (rest.same (first.honest h));
+        count = omega (arith, le, le');
+      }
+
+  -- where no load was done yet
+  pub loaded-none : (plan : Plan R) (old : F) → Loaded trait plan old [] old
+  loaded-none (Ends r) old = (refl, refl)
+  loaded-none (Holds held name plan) old = loaded-none plan old
+  loaded-none (Loads name then_) old = refl
+
+  -- ---- honest files
+
+  -- a plan came to what is due; or a call failed, which was counted; or memory ran out
+  abbrev pub Comes : R → F → F → R → Type 0
+  Comes due old new came =
+      (came ≡ due)
+      ⊎ ((CountsFailure (trait.failure_count old) (trait.failure_count new) × ((name : List ℕ) × (came ≡ faults.unread name)))
+      ⊎ ((name : List ℕ) × (came ≡ faults.spent name)))
+
+  by-large : (name : List ℕ) (then_ : Answer → Plan R) (answers : List Answer) (bytes : List ℕ) (b : Bool)
+      → by faults (Loads name then_) ((if b then Err load.TooLarge else Ok bytes) ∷ answers) ≡ by faults (then_ (if b then Err load.TooLarge else Ok bytes)) answers
+  by-large name then_ answers bytes true = refl
+  by-large name then_ answers bytes false = refl
+
+  -- what stands there does not end a plan
+  by-loaded : (name : List ℕ) (then_ : Answer → Plan R) (answers : List Answer) (x : Option (List ℕ)) → by faults (Loads name then_) (loaded x most_bytes ∷ answers) ≡ by faults (then_ (loaded x most_bytes)) answers
+  by-loaded name then_ answers None = refl
+  by-loaded name then_ answers (Some bytes) = by-large name then_ answers bytes (nat_lt most_bytes (length bytes))
+
+  comes-later : (due came : R) (old between new : F) → trait.failure_count old ≤ trait.failure_count between → trait.failure_count between ≤ trait.failure_count new → Comes due between new came → Comes due old new came
+  comes-later due came old between new le le' (inl is) = inl is
+  comes-later due came old between new le le' (inr (inl failed)) = inr (inl (count-trans (trait.failure_count old) (trait.failure_count between) (trait.failure_count new) le le' failed.0, failed.1))
+  comes-later due came old between new le le' (inr (inr spent)) = inr (inr spent)
+
+  comes-loaded : (name : List ℕ) (then_ : Answer → Plan R) (before : FileMap) (old between new : F) (answer : Answer) (answers : List Answer) → trait.is_honest old → SameFiles before (trait.file old)
+      → LoadsFile trait old name answer between → Loaded trait (then_ answer) between answers new
+      → (Loaded trait (then_ (loaded (before name) most_bytes)) between answers new → Comes (follow before (then_ (loaded (before name) most_bytes))) between new (by faults (then_ (loaded (before name) most_bytes)) answers))
+      → (answer ≡ Err load.Failed) ⊎ (answer ≡ Err load.NoMemory) ⊎ (answer ≡ loaded (trait.file old name) most_bytes)
+      → Comes (follow before (Loads name then_)) old new (by faults (Loads name then_) (answer ∷ answers))
+  comes-loaded name then_ before old between new answer answers h same loads l next (inl failed) =
+      inr (inl (
+        count-more (trait.failure_count old) (trait.failure_count between) (trait.failure_count new) (loaded-lasts (then_ answer) between answers new l).count (loads.failed failed),
+        (name, ap (λ (a : Answer). by faults (Loads name then_) (a ∷ answers)) failed),
+      ))
+  comes-loaded name then_ before old between new answer answers h same loads l next (inr (inl spent)) = inr (inr (name, ap (λ (a : Answer). by faults (Loads name then_) (a ∷ answers)) spent))
+  comes-loaded name then_ before old between new answer answers h same loads l next (inr (inr stands)) =
+      let is : answer ≡ loaded (before name) most_bytes = stands ∙ ap (λ (x : Option (List ℕ)). loaded x most_bytes) (same name) in
+      let due = follow before (Loads name then_) in
+      comes-later due (by faults (Loads name then_) (answer ∷ answers)) old between new loads.count (loaded-lasts (then_ answer) between answers new l).count
+      (subst (λ (r : R). Comes due between new r) (sym (ap (λ (a : Answer). by faults (Loads name then_) (a ∷ answers)) is ∙ by-loaded name then_ answers (before name)))
+      (next (subst (λ (a : Answer). Loaded trait (then_ a) between answers new) is l)))
+
+  -- the law: over honest files a plan comes to what is due, or a call failed, or memory ran out
+  pub comes : (plan : Plan R) (before : FileMap) (old : F) (answers : List Answer) (new : F) → trait.is_honest old → SameFiles before (trait.file old) → Loaded trait plan old answers new
+      → Comes (follow before plan) old new (by faults plan answers)
+  comes (Ends r) before old answers new h same l = inl refl
+  comes (Holds held name plan) before old answers new h same l = comes plan before old answers new h same l
+  comes (Loads name then_) before old [] new h same l = inr (inr (name, refl))
+  comes (Loads name then_) before old (answer ∷ answers) new h same l =
+      let loads = l.1.0 in
+      comes-loaded name then_ before old l.0 new answer answers h same loads l.1.1
+      (comes (then_ (loaded (before name) most_bytes)) before l.0 answers new (loads.honest h) (same-trans before (trait.file old) (trait.file l.0) same (loads.same h)))
+      (loads.stands h)

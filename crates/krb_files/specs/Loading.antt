@@ -1,0 +1,35 @@
+-- What a load or a save of a file did.
+use Rattle.std.specs.Prelude.{◌≡◌, ◌⊎◌, ◌≤◌, ℕ, List, Result, Ok, Err, OnOk, OnErr}
+use Rattle.krb_files.specs.declared.files.Files.{Ghosts}
+use Rattle.krb_files.specs.declared.files.LoadFault.{LoadFault}
+use Rattle.krb_files.specs.declared.files.LoadFault.TheVariants as load
+use Rattle.krb_files.specs.declared.files.SaveFault.{SaveFault}
+use Rattle.krb_files.specs.declared.files.SaveFault.TheVariants as save
+use Rattle.krb_files.specs.Files.{SameFiles, SetsFile, CountsFailure, loaded}
+
+-- the most bytes that a file may have
+abbrev pub most_bytes : ℕ
+most_bytes = 16777216
+
+-- what a load answers
+abbrev pub Answer : Type 0
+Answer = Result (List ℕ) LoadFault
+
+module _ {F : Type 0} (trait : Ghosts F) (old : F) (name : List ℕ) where
+  -- the file of a name was loaded, with that answer: what stands there, where the files are honest and neither the call nor memory failed
+  pub record LoadsFile (answer : Answer) (new : F) : Type 0 where
+    pub answered : trait.answers old name most_bytes answer new
+    pub failed : answer ≡ Err load.Failed → CountsFailure (trait.failure_count old) (trait.failure_count new)
+    pub count : trait.failure_count old ≤ trait.failure_count new
+    pub honest : trait.is_honest old → trait.is_honest new
+    pub same : trait.is_honest old → SameFiles (trait.file old) (trait.file new)
+    pub stands : trait.is_honest old → (answer ≡ Err load.Failed) ⊎ (answer ≡ Err load.NoMemory) ⊎ (answer ≡ loaded (trait.file old name) most_bytes)
+
+  -- these bytes were saved under a name, or not, by the answer
+  pub record SavesFile (bytes : List ℕ) (answer : Result (Unit {0}) SaveFault) (new : F) : Type 0 where
+    pub answered : trait.saves old name bytes answer new
+    pub failed : answer ≡ Err save.Failed → CountsFailure (trait.failure_count old) (trait.failure_count new)
+    pub count : trait.failure_count old ≤ trait.failure_count new
+    pub honest : trait.is_honest old → trait.is_honest new
+    pub sets : trait.is_honest old → OnOk answer (SetsFile (trait.file old) name bytes (trait.file new))
+    pub same : trait.is_honest old → OnErr answer (SameFiles (trait.file old) (trait.file new))

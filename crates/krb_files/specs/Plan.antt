@@ -1,0 +1,44 @@
+-- Plans over files: what is loaded, one after the other, and what comes of the answers.
+use Rattle.std.specs.Prelude.{◌≡◌, ℕ, Bool, List, [], ◌∷◌, Some, if◌then◌else◌, Err}
+use Rattle.std.specs.Str.{bytes_eq}
+use Rattle.krb_files.specs.declared.files.Files.{Ghosts}
+use Rattle.krb_files.specs.declared.files.LoadFault.TheVariants as load
+use Rattle.krb_files.specs.Files.{FileMap, loaded}
+use Rattle.krb_files.specs.Loading.{Answer, LoadsFile, most_bytes}
+
+-- what is to be done: an end; a file that is held, if that is asked for; or a load, whose answer decides how to go on
+pub data Plan (R : Type 0) : Type 0 where
+  Ends : R → Plan R
+  Holds : Bool → List ℕ → Plan R → Plan R
+  Loads : List ℕ → (Answer → Plan R) → Plan R
+
+-- how a plan ends whose file of that name was not read, or for which there was no memory
+pub record Faults (R : Type 0) : Type 0 where
+  pub unread : List ℕ → R
+  pub spent : List ℕ → R
+
+-- what a plan comes to by the answers of its loads: one that failed ends it, and where no more come there was no memory
+abbrev pub by : {R : Type 0} → Faults R → Plan R → List Answer → R
+by faults (Ends r) answers = r
+by faults (Holds held name plan) answers = by faults plan answers
+by faults (Loads name then_) [] = faults.spent name
+by faults (Loads name then_) (Err load.Failed ∷ answers) = faults.unread name
+by faults (Loads name then_) (Err load.NoMemory ∷ answers) = faults.spent name
+by faults (Loads name then_) (answer ∷ answers) = by faults (then_ answer) answers
+
+-- the loads of a plan were done one after the other, or the first of them, and answered so
+abbrev pub Loaded : {F R : Type 0} → Ghosts F → Plan R → F → List Answer → F → Type 0
+Loaded trait (Ends r) old answers new = (answers ≡ []) × (new ≡ old)
+Loaded trait (Holds held name plan) old answers new = Loaded trait plan old answers new
+Loaded trait (Loads name then_) old [] new = new ≡ old
+Loaded {F = F} trait (Loads name then_) old (answer ∷ answers) new = (between : F) × (LoadsFile trait old name answer between × Loaded trait (then_ answer) between answers new)
+
+-- what a plan comes to over files whose bytes are known, where no call fails
+abbrev pub follow : {R : Type 0} → FileMap → Plan R → R
+follow files (Ends r) = r
+follow files (Holds held name plan) = follow files plan
+follow files (Loads name then_) = follow files (then_ (loaded (files name) most_bytes))
+
+-- the files, where these bytes stand under that name
+abbrev pub with_bytes : FileMap → List ℕ → List ℕ → FileMap
+with_bytes files name bytes other = if bytes_eq other name then Some bytes else files other
