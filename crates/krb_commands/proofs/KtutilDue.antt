@@ -19,7 +19,8 @@ use Rattle.krb_commands.specs.declared.ktutil.line_end.LineEnd.TheVariants as en
 use Rattle.krb_files.specs.Files.{FileMap, SameFiles, SetsFile, CountsFailure, loaded}
 use Rattle.krb_commands.specs.KtutilCommand.{Awaited, Command, Skip, ListSlots, ReadFile, WriteFile, AwaitKey, DeleteSlot, ClearList, Quit, command_of}
 use Rattle.krb_commands.specs.declared.loading.NoKeytab.{NoKeytab}
-use Rattle.krb_commands.specs.Loading.{most_bytes, keytab_of, keytab_or_new, LoadsFile, SavesFile}
+use Rattle.krb_files.specs.Loading.{most_bytes, LoadsFile, SavesFile}
+use Rattle.krb_commands.specs.Loading.{keytab_of, keytab_or_new}
 use Rattle.krb_commands.specs.KtutilPlan.{KtutilState, Outcome, Plan, Ends, Loads, Saves, stays, save_end, with_entries, with_added, saved_as, written_to, key_line, with_key, command_plan, plan_by, plan_of}
 use Rattle.krb_commands.specs.KtutilFiles.{Shows, Follows, Begins, Handles}
 use Rattle.krb_commands.specs.KtutilHonest.{with_bytes, Followed, follow, ShowsDue, FailsCall, Spends, HandlesHonestly, Spares}

@@ -12,7 +12,8 @@ use Rattle.krb_files.specs.declared.files.Files.{Ghosts}
 use Rattle.krb_commands.specs.declared.ktutil.line_end.LineEnd.{LineEnd}
 use Rattle.krb_commands.specs.declared.ktutil.line_end.LineEnd.TheVariants as end
 use Rattle.krb_commands.specs.declared.loading.NoKeytab.{NoKeytab}
-use Rattle.krb_commands.specs.Loading.{keytab_of, keytab_or_new, LoadsFile, SavesFile, Gives, GivesOrRunsOut}
+use Rattle.krb_files.specs.Loading.{LoadsFile, SavesFile}
+use Rattle.krb_commands.specs.Loading.{keytab_of, keytab_or_new, Gives, GivesOrRunsOut}
 use Rattle.krb_text.specs.declared.line_fault.LineFault.{LineFault}
 use Rattle.krb_commands.specs.KtutilCommand.{Awaited, AwaitKey, after}
 use Rattle.krb_commands.specs.KtutilPlan.{KtutilState, Plan, command_plan, Ends, Loads, Saves, no_keytab_end, save_end, with_added, with_entries, saved_as, written_to}

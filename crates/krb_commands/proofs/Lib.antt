@@ -4,12 +4,10 @@ pub mod Faults
 pub mod Pieces
 pub mod SessionReplies
 pub mod CacheEdits
-pub mod Removals
-pub mod TicketRemovals
 pub mod Shown
+pub mod Making
+pub mod Running
 pub mod Listed
-pub mod Changing
-pub mod ScriptLemmas
 pub mod WordLemmas
 pub mod KtutilLists
 pub mod KtutilHandles

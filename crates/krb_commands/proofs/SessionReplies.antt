@@ -31,14 +31,12 @@ use Rattle.krb_ccache.specs.Rewrite as cache_rewrite
 use Rattle.krb_ccache.specs.Store as cache_store
 use Rattle.krb_ccache.specs.Store.{CacheState}
 use Rattle.krb_text.specs.Reply.{reply_text_by, reply_texts_by, format_after_by}
-use Rattle.krb_commands.specs.declared.edited.Edited.{Edited}
-use Rattle.krb_commands.specs.declared.trouble.FileKind.{FileKind}
-use Rattle.krb_commands.specs.declared.trouble.Trouble.TheVariants.{Replied}
-use Rattle.krb_commands.specs.Edits.{Makes, saved_of}
-use Rattle.krb_commands.specs.Runs.{Run}
-use Rattle.krb_commands.specs.Sessions.{is_change, new_session, moments, left, reply_lines, session_edit, RunsFairly}
-use Rattle.krb_commands.specs.Told.{is_trouble, tells_code, tells_fault, code_told, fault_told, codes_told, faults_told, replied_ending}
-use Rattle.krb_commands.specs.Troubles.{Ending}
+use Rattle.krb_commands.specs.declared.verdict.FileKind.{FileKind}
+use Rattle.krb_commands.specs.declared.verdict.Verdict.{Verdict}
+use Rattle.krb_commands.specs.declared.verdict.Verdict.TheVariants.{Well, Replied}
+use Rattle.krb_commands.specs.Effects.{Effect}
+use Rattle.krb_commands.specs.Sessions.{new_session, moments, left, replied, session_effect, RunsFairly}
+use Rattle.krb_commands.specs.Told.{is_trouble, tells_code, tells_fault, code_told, fault_told, codes_told, faults_told, replied_verdict}
 
 -- ---- the format after an event
 
@@ -185,9 +183,9 @@ same_map f g each [] = refl
 same_map f g each (x ∷ xs) = ap (λ y. y ∷ map f xs) (each x) ∙ ap (λ ys. g x ∷ ys) (same_map f g each xs)
 
 -- how a run ends that printed replies is a function of what they say
-pub replied_said : {A : Type 0} (kind : FileKind) (f : A → Said) (rs : List A) → replied_ending kind f rs ≡ replied_ending kind (λ said. said) (map f rs)
+pub replied_said : {A : Type 0} (kind : FileKind) (f : A → Said) (rs : List A) → replied_verdict kind f rs ≡ replied_verdict kind (λ said. said) (map f rs)
 replied_said kind f rs =
-    let ends : Bool → List (Option Code) → List (Option FaultKind) → Ending = λ b codes faults. if b then Err (Replied (record { kind = kind; codes = codes; faults = faults })) else Ok tt in
+    let ends : Bool → List (Option Code) → List (Option FaultKind) → Verdict = λ b codes faults. if b then Replied (record { kind = kind; codes = codes; faults = faults }) else Well in
     let code_is : (c : Code) → code_told f rs c ≡ code_told (λ said. said) (map f rs) c = λ c. ap (λ (b : Bool). if b then Some c else None) (any_said f (tells_code c) rs) in
     let fault_is : (k : FaultKind) → fault_told f rs k ≡ fault_told (λ said. said) (map f rs) k = λ k. ap (λ (b : Bool). if b then Some k else None) (any_said f (tells_fault k) rs) in
     ap (λ (b : Bool). ends b (codes_told f rs) (faults_told f rs)) (any_said f is_trouble rs)
@@ -202,11 +200,9 @@ ran_begun {S} r store events old new told begins ran =
     subst (λ (s : SessionState S). Ran r (new_session store) s events [] told) from_new.state from_new
 
 -- every walk is given what is due to it
-pub begun_fair : {S I : Type 0} (r : Rules S I) (store : S) (events : List (Event I)) (old new : SessionState S) (told : List Said)
-    → old ≡ new_session store → Ran r old new events [] told → RunsFairly r store events
-begun_fair r store events old new told begins ran =
-    let from_new = ran_begun r store events old new told begins ran in
-    subst (λ (t : List Said). Ran r (new_session store) (state_after r (new_session store) events) events [] t) from_new.replies_are from_new
+pub ran_fair : {S I : Type 0} (r : Rules S I) (store : S) (events : List (Event I)) (told : List Said)
+    → Ran r (new_session store) (state_after r (new_session store) events) events [] told → RunsFairly r store events
+ran_fair r store events told ran = subst (λ (t : List Said). Ran r (new_session store) (state_after r (new_session store) events) events [] t) ran.replies_are ran
 
 -- it left the store that the events leave
 pub left_begun : {S I : Type 0} (r : Rules S I) (store : S) (events : List (Event I)) (old new : SessionState S) (told : List Said)
@@ -214,29 +210,14 @@ pub left_begun : {S I : Type 0} (r : Rules S I) (store : S) (events : List (Even
 left_begun {S} r store events old new told begins ran =
     ap (λ (s : SessionState S). s.store) (ran.state ∙ ap (λ (s : SessionState S). state_after r s events) begins)
 
--- events were run over a store, and their replies and the image that they left gathered
-session_made : {S I F A : Type 0} (kind : FileKind) (r : Rules S I) (image : S → List ℕ) (tail_of : F → List ℕ → List ℕ) (format : S → F) (rewritten : F) → KeepsFormat format rewritten r
-    → (store : S) (events : List (Event I)) (told : List Said) (bytes : List ℕ) (e : Edited A)
+-- what the replies of a session come to is what the session comes to
+pub session_made : {S I F : Type 0} (kind : FileKind) (r : Rules S I) (image : S → List ℕ) (tail_of : F → List ℕ → List ℕ) (format : S → F) (rewritten : F) → KeepsFormat format rewritten r
+    → (file : List ℕ) (store : S) (events : List (Event I)) (told : List Said) (bytes : List ℕ) (effect : Effect)
     → Ran r (new_session store) (state_after r (new_session store) events) events [] told → bytes ≡ image (left r store events)
-    → saved_of e ≡ (if list_any is_change told then Some bytes else None) → e.text.items ≡ reply_texts_by tail_of rewritten (format store) told
-    → e.ending ≡ replied_ending kind (λ said. said) told → Makes (RunsFairly r store events) (session_edit kind r image (λ k. reply_text_by tail_of (format k)) store events) e
-session_made {S} {I} {F} kind r image tail_of format rewritten keeps store events told bytes e ran bytes_are saved text ending =
-    let told_is : told ≡ replies (moments r store events) = ran.replies_are in
-    let text_is : e.text.items ≡ reply_lines kind r image (λ k. reply_text_by tail_of (format k)) store events =
-    text ∙ ap (reply_texts_by tail_of rewritten (format store)) told_is ∙ sym (lines_of r format rewritten keeps tail_of (new_session store) events) in
-    let shown : List ℕ → Ending → Run = λ lines e. record { out = lines; ending = e } in
-    record {
-      fair = subst (λ (t : List Said). Ran r (new_session store) (state_after r (new_session store) events) events [] t) told_is ran;
-      saved = saved ∙ ap (λ (t : List Said). if list_any is_change t then Some bytes else None) told_is
-          ∙ ap (λ (b : List ℕ). if list_any is_change (replies (moments r store events)) then Some b else None) bytes_are;
-      run = ap (λ (lines : List ℕ). shown lines e.ending) text_is ∙ ap (shown (reply_lines kind r image (λ k. reply_text_by tail_of (format k)) store events)) (ending ∙ ap (replied_ending kind (λ said. said)) told_is);
-    }
-
--- the same, where there was memory for it
-pub session_made_ok : {S I F A E : Type 0} (kind : FileKind) (r : Rules S I) (image : S → List ℕ) (tail_of : F → List ℕ → List ℕ) (format : S → F) (rewritten : F) → KeepsFormat format rewritten r
-    → (store : S) (events : List (Event I)) (told : List Said) (bytes : List ℕ) (result : Result (Edited A) E)
-    → Ran r (new_session store) (state_after r (new_session store) events) events [] told → bytes ≡ image (left r store events)
-    → IfOk result (λ e. saved_of e ≡ (if list_any is_change told then Some bytes else None)) → IfOk result (λ e. e.text.items ≡ reply_texts_by tail_of rewritten (format store) told)
-    → IfOk result (λ e. e.ending ≡ replied_ending kind (λ said. said) told) → IfOk result (Makes (RunsFairly r store events) (session_edit kind r image (λ k. reply_text_by tail_of (format k)) store events))
-session_made_ok kind r image tail_of format rewritten keeps store events told bytes (Ok e) ran bytes_are saved text ending = session_made kind r image tail_of format rewritten keeps store events told bytes e ran bytes_are saved text ending
-session_made_ok kind r image tail_of format rewritten keeps store events told bytes (Err refused) ran bytes_are saved text ending = tt
+    → effect ≡ replied kind file told bytes (reply_texts_by tail_of rewritten (format store) told)
+    → effect ≡ session_effect kind r image (λ k. reply_text_by tail_of (format k)) file store events
+session_made kind r image tail_of format rewritten keeps file store events told bytes effect ran bytes_are is =
+    let due = replies (moments r store events) in
+    is ∙ ap (λ (t : List Said). replied kind file t bytes (reply_texts_by tail_of rewritten (format store) t)) ran.replies_are
+    ∙ ap (λ (b : List ℕ). replied kind file due b (reply_texts_by tail_of rewritten (format store) due)) bytes_are
+    ∙ ap (replied kind file due (image (left r store events))) (sym (lines_of r format rewritten keeps tail_of (new_session store) events))

@@ -1,13 +1,14 @@
 -- Pieces and the text behind them, what is said without words, and how a run ends that printed replies.
 use Rattle.std.proofs.Common.{◌≡◌, ℕ, Bool, false, List, [], ◌∷◌, ◌++◌, refl, sym, ap, subst, ◌∙◌, append_assoc}
-use Rattle.std.specs.Prelude.{if◌then◌else◌, codes, Option, Ok, Err}
+use Rattle.std.specs.Prelude.{if◌then◌else◌, codes, Option}
 use Rattle.std.specs.List.{list_any}
 use Rattle.krb_walk.specs.declared.fault.FaultKind.{FaultKind}
 use Rattle.krb_walk.specs.declared.refusal.Code.{Code}
 use Rattle.krb_walk.specs.Said.{Said}
 use Rattle.krb_commands.specs.declared.telling.piece.Piece.{Piece}
-use Rattle.krb_commands.specs.declared.trouble.FileKind.{FileKind}
-use Rattle.krb_commands.specs.declared.trouble.Trouble.TheVariants.{Replied}
+use Rattle.krb_commands.specs.declared.verdict.FileKind.{FileKind}
+use Rattle.krb_commands.specs.declared.verdict.Verdict.{Verdict}
+use Rattle.krb_commands.specs.declared.verdict.Verdict.TheVariants.{Well, Replied}
 use Rattle.krb_files.specs.Bytes.{Watch}
 use Rattle.krb_commands.specs.declared.command_line.mistake.BadLine.{BadLine}
 use Rattle.krb_commands.specs.declared.command_line.mistake.WordFault.TheVariants as word
@@ -16,19 +17,18 @@ use Rattle.krb_commands.specs.Messages.{message}
 use Rattle.krb_commands.specs.Mistakes.{word_text}
 use Rattle.krb_commands.specs.Runs.{Says}
 use Rattle.krb_commands.specs.PieceTexts.{piece_text, pieces_text, pieces_before}
-use Rattle.krb_commands.specs.Told.{is_trouble, codes_told, faults_told, replied_ending}
-use Rattle.krb_commands.specs.Troubles.{Ending}
+use Rattle.krb_commands.specs.Told.{is_trouble, codes_told, faults_told, replied_verdict}
 
 pub pieces_text-append : (pieces : List Piece) (rest : List ℕ) → pieces_text pieces ++ rest ≡ pieces_before pieces rest
 pieces_text-append [] rest = refl
 pieces_text-append (p ∷ ps) rest = append_assoc (piece_text p) (pieces_text ps) rest ∙ ap (λ l. piece_text p ++ l) (pieces_text-append ps rest)
 
 -- an end is that of the replies, where what it tells is what they tell
-pub replied_ending-by : {R : Type 0} (kind : FileKind) (said : R → Said) (replies : List R) (b : Bool) (codes : List (Option Code)) (faults : List (Option FaultKind))
+pub replied_verdict-by : {R : Type 0} (kind : FileKind) (said : R → Said) (replies : List R) (b : Bool) (codes : List (Option Code)) (faults : List (Option FaultKind))
     → b ≡ list_any (λ r. is_trouble (said r)) replies → codes ≡ codes_told said replies → faults ≡ faults_told said replies
-    → (if b then Err (Replied (record { kind = kind; codes = codes; faults = faults })) else Ok tt) ≡ replied_ending kind said replies
-replied_ending-by kind said replies b codes faults told codes_are faults_are =
-    let ends : Bool → List (Option Code) → List (Option FaultKind) → Ending = λ b codes faults. if b then Err (Replied (record { kind = kind; codes = codes; faults = faults })) else Ok tt in
+    → (if b then Replied (record { kind = kind; codes = codes; faults = faults }) else Well) ≡ replied_verdict kind said replies
+replied_verdict-by kind said replies b codes faults told codes_are faults_are =
+    let ends : Bool → List (Option Code) → List (Option FaultKind) → Verdict = λ b codes faults. if b then Replied (record { kind = kind; codes = codes; faults = faults }) else Well in
     ap (λ (d : Bool). ends d codes faults) told ∙ ap (λ (cs : List (Option Code)). ends (list_any (λ r. is_trouble (said r)) replies) cs faults) codes_are
     ∙ ap (λ (ks : List (Option FaultKind)). ends (list_any (λ r. is_trouble (said r)) replies) (codes_told said replies) ks) faults_are
 

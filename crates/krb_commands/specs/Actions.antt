@@ -6,35 +6,38 @@ use Rattle.krb_files.specs.Reader.{Source}
 use Rattle.krb_commands.specs.declared.action.Action.{Action}
 use Rattle.krb_commands.specs.declared.action.Action.TheVariants.{Ccedit, Ccremove, Klist, Ktcheck, Ktedit, Ktfind, Ktremove, Ktutil, Help}
 use Rattle.krb_commands.specs.declared.command_line.mistake.WordFault.{WordFault}
-use Rattle.krb_commands.specs.Ccedit.{RunsCcedit}
-use Rattle.krb_commands.specs.Ccremove.{RunsCcremove}
-use Rattle.krb_commands.specs.Changing.{RunsChange}
+use Rattle.krb_commands.specs.declared.verdict.Verdict.TheVariants.{Well}
+use Rattle.krb_commands.specs.Ccedit.{ccedit_fairly, ccedit_plan}
+use Rattle.krb_commands.specs.Ccremove.{RunsCcremove, ended_by}
+use Rattle.krb_commands.specs.Commands.{RunsCommand, any}
 use Rattle.krb_commands.specs.ErrorOutput.{ErrorWatch}
-use Rattle.krb_commands.specs.Mistakes.{word_status, word_text}
-use Rattle.krb_commands.specs.Loading.{RunsOver}
-use Rattle.krb_commands.specs.Klist.{listing}
-use Rattle.krb_commands.specs.Ktcheck.{checking}
-use Rattle.krb_commands.specs.Ktedit.{RunsEdit}
-use Rattle.krb_commands.specs.Ktfind.{finding}
-use Rattle.krb_commands.specs.Ktremove.{RemovesFairly, removal}
+use Rattle.krb_commands.specs.Klist.{klist_plan}
+use Rattle.krb_commands.specs.Ktcheck.{ktcheck_plan}
+use Rattle.krb_commands.specs.Ktedit.{ktedit_fairly, ktedit_plan}
+use Rattle.krb_commands.specs.Ktfind.{ktfind_plan}
+use Rattle.krb_commands.specs.Ktremove.{ktremove_plan}
 use Rattle.krb_commands.specs.Ktutil.{RunsKtutil}
+use Rattle.krb_commands.specs.Mistakes.{word_status, word_text}
 use Rattle.krb_commands.specs.Runs.{Run, EndsRun, Says}
+use Rattle.krb_commands.specs.Scripted.{RunsScript}
+use Rattle.krb_text.specs.Script.{event_in}
+use Rattle.krb_cache_text.specs.Script.{cache_line_in}
 
 -- help that was asked for
 abbrev pub help_run : List ℕ → Run
-help_run text = record { out = text; ending = Ok tt }
+help_run text = record { out = text; ending = Ok Well }
 
 module _ {F : Type 0} (trait : Ghosts F) (now : Option ℕ) (input input' : Source) (old new : F) (out out' : Watch) (err err' : ErrorWatch) (status : ℕ) where
   -- an action over the files, and over what the standard input gives
   abbrev pub EndsAction : Action → Type 0
-  EndsAction (Klist options file) = RunsOver trait old (string_bytes file) (listing options (string_bytes file)) new out out' err err' status
-  EndsAction (Ktfind options file) = RunsOver trait old (string_bytes file) (finding options) new out out' err err' status
-  EndsAction (Ktedit order file) = RunsEdit trait (string_bytes file) order input input' old new out out' err err' status
-  EndsAction (Ktcheck order file) = RunsOver trait old (string_bytes file) (checking order (trait.mode new)) new out out' err err' status
-  EndsAction (Ktremove options file) = RunsChange trait (string_bytes file) (RemovesFairly options) (removal options) old new out out' err err' status
+  EndsAction (Klist options file) = RunsCommand trait (λ mode. klist_plan options (string_bytes file)) any old new out out' err err' status
+  EndsAction (Ktfind options file) = RunsCommand trait (λ mode. ktfind_plan options (string_bytes file)) any old new out out' err err' status
+  EndsAction (Ktedit order file) = RunsScript trait old new out out' err err' status (ktedit_plan order (string_bytes file)) (ktedit_fairly order) event_in input input'
+  EndsAction (Ktcheck order file) = RunsCommand trait (ktcheck_plan order (string_bytes file)) any old new out out' err err' status
+  EndsAction (Ktremove options file) = RunsCommand trait (λ mode. ktremove_plan options (string_bytes file)) any old new out out' err err' status
   EndsAction (Ktutil order) = RunsKtutil trait order (unwrap_or now 0) input input' old new out out' err err' status
-  EndsAction (Ccedit file) = RunsCcedit trait (string_bytes file) input input' old new out out' err err' status
-  EndsAction (Ccremove options file) = RunsCcremove trait (string_bytes file) options now old new out out' err err' status
+  EndsAction (Ccedit file) = RunsScript trait old new out out' err err' status (ccedit_plan (string_bytes file)) ccedit_fairly cache_line_in input input'
+  EndsAction (Ccremove options file) = RunsCcremove trait (string_bytes file) options old new out out' err err' status (ended_by options now)
   EndsAction (Help text) = (new ≡ old) × EndsRun [] None (help_run (string_bytes text)) out out' err err' status
 
   -- it is said why nothing was asked for, and nothing is done

@@ -3,7 +3,7 @@ use Rattle.std.specs.Prelude.{◌≡◌, ◌≢◌, ◌||◌, ℕ, ◌+◌, ◌<
 use Rattle.krb_files.specs.declared.files.LoadFault.{LoadFault}
 use Rattle.krb_files.specs.declared.files.LoadFault.TheVariants.{Missing, TooLarge}
 use Rattle.krb_files.specs.Reader.{Source, ConsumesAtMost, is_read_fault}
-use Rattle.krb_commands.specs.Loading.{most_bytes}
+use Rattle.krb_files.specs.Loading.{most_bytes}
 
 -- a reader gave all that it had left, or more than may be read, or it failed, or memory ran out
 pub record GivesInput (reader reader' : Source) (input : Result (List ℕ) LoadFault) : Type 0 where

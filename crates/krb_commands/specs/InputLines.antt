@@ -2,7 +2,7 @@
 use Rattle.std.specs.Prelude.{◌≡◌, ℕ, ◌+◌, ◌<◌, ◌≤◌, ◌==◌, List, [], ◌∷◌, ◌++◌, drop, take, length, slice_range, Bool, true, false, Option, None, Some, IfSome}
 use Rattle.std.specs.List.{flat_map, slice_split, AllByRecursion}
 use Rattle.std.specs.Io.KnownBytes.{Consumes, IsAtEnd}
-use Rattle.krb_commands.specs.Loading.{most_bytes}
+use Rattle.krb_files.specs.Loading.{most_bytes}
 
 -- a byte is a newline
 abbrev pub is_newline : ℕ → Bool

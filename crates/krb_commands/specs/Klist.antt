@@ -1,10 +1,10 @@
--- What klist prints.
-use Rattle.std.specs.Prelude.{ℕ, List, Bool, if◌then◌else◌, Result}
+-- What klist does.
+use Rattle.std.specs.Prelude.{ℕ, List, Bool, true, if◌then◌else◌}
 use Rattle.krb_wire.specs.declared.format.Order.{Order}
 use Rattle.krb_walk.specs.Store.{fault_of}
 use Rattle.krb_keytab.specs.Store.{KeytabState, store_of}
 use Rattle.krb_ccache.specs.Store.{CacheState, store_of as cache_store}
-use Rattle.krb_files.specs.declared.files.LoadFault.{LoadFault}
+use Rattle.krb_files.specs.Plan.{Ends}
 use Rattle.krb_json.specs.Cache.{cache_json_text}
 use Rattle.krb_json.specs.Keytab.{keytab_json_text}
 use Rattle.krb_text.specs.declared.columns.KtColumns.{KtColumns}
@@ -14,9 +14,13 @@ use Rattle.krb_cache_text.specs.Listing.{cache_text}
 use Rattle.krb_commands.specs.declared.action.KlistOptions.{KlistOptions}
 use Rattle.krb_commands.specs.declared.action.ListKind.{ListKind}
 use Rattle.krb_commands.specs.declared.action.ListKind.TheVariants.{Keytab, Cache}
-use Rattle.krb_commands.specs.Loading.{keytab_of, cache_of, run_over}
-use Rattle.krb_commands.specs.Runs.{Run}
-use Rattle.krb_commands.specs.Troubles.{list_trouble, listing_ending}
+use Rattle.krb_commands.specs.declared.klist.Listing.{Listing}
+use Rattle.krb_commands.specs.declared.klist.Opened.{Opened}
+use Rattle.krb_commands.specs.declared.klist.Opened.TheVariants as opened
+use Rattle.krb_commands.specs.Effects.{CommandPlan, Displays, Page, opens}
+use Rattle.krb_commands.specs.Loading.{cache_of}
+use Rattle.krb_commands.specs.Opening.{listed_in}
+use Rattle.krb_commands.specs.Verdicts.{listing_verdict}
 
 -- what is shown of a keytab: one JSON object, or its listing
 abbrev pub keytab_shown : Bool → KtColumns → List ℕ → KeytabState → List ℕ
@@ -26,19 +30,26 @@ keytab_shown json columns file k = if json then keytab_json_text file columns.ke
 abbrev pub cache_shown : Bool → CcColumns → List ℕ → CacheState → List ℕ
 cache_shown json columns file k = if json then cache_json_text file k else cache_text columns file k
 
--- a keytab is listed; where it is damaged the listing tells so
-abbrev pub keytab_listing : Bool → KtColumns → List ℕ → KeytabState → Run
-keytab_listing json columns file k = record { out = keytab_shown json columns file k; ending = listing_ending (fault_of (store_of k)) }
+-- the page of a keytab; where it is damaged the listing reports it
+abbrev pub keytab_page : Bool → KtColumns → List ℕ → KeytabState → Page
+keytab_page json columns file k = record { out = keytab_shown json columns file k; verdict = listing_verdict (fault_of (store_of k)); takes = true }
 
--- a cache is listed
-abbrev pub cache_listing : Bool → CcColumns → List ℕ → CacheState → Run
-cache_listing json columns file k = record { out = cache_shown json columns file k; ending = listing_ending (fault_of (cache_store k)) }
+-- the page of a cache
+abbrev pub cache_page : Bool → CcColumns → List ℕ → CacheState → Page
+cache_page json columns file k = record { out = cache_shown json columns file k; verdict = listing_verdict (fault_of (cache_store k)); takes = true }
 
--- what was loaded is listed as that kind of file
-abbrev pub listing_as : ListKind → Bool → Order → List ℕ → Result (List ℕ) LoadFault → Run
-listing_as (Keytab columns) json order file answer = run_over list_trouble (keytab_listing json columns file) (keytab_of order answer)
-listing_as (Cache columns) json order file answer = run_over (λ trouble. trouble) (cache_listing json columns file) (cache_of answer)
+-- the page of what was opened
+abbrev pub opened_page : {A : Type 0} → Bool → Opened A → List ℕ → Page
+opened_page json (opened.Keytab columns keytab) file = keytab_page json columns file keytab.state
+opened_page json (opened.Cache columns cache) file = cache_page json columns file cache.state
 
--- the listing of what was loaded under a name
-abbrev pub listing : KlistOptions → List ℕ → Result (List ℕ) LoadFault → Run
-listing options file = listing_as options.kind options.json options.v1_order file
+abbrev pub listing_page : {A : Type 0} → Listing A → List ℕ → Page
+listing_page l file = opened_page l.json l.opened file
+
+-- the file is loaded as that kind, and what it gives is shown
+abbrev pub listing_plan : ListKind → Bool → Order → List ℕ → CommandPlan
+listing_plan (Keytab columns) json order file = opens file (listed_in order) (λ k. Ends (Displays file (keytab_page json columns file k)))
+listing_plan (Cache columns) json order file = opens file cache_of (λ k. Ends (Displays file (cache_page json columns file k)))
+
+abbrev pub klist_plan : KlistOptions → List ℕ → CommandPlan
+klist_plan o file = listing_plan o.kind o.json o.v1_order file

@@ -5,7 +5,7 @@ use Rattle.krb_files.specs.declared.files.Files.{Ghosts}
 use Rattle.krb_files.specs.Bytes.{Watch}
 use Rattle.krb_commands.specs.ErrorOutput.{ErrorWatch}
 use Rattle.krb_commands.specs.KtutilPlan.{KtutilState}
-use Rattle.krb_commands.specs.Loading.{most_bytes}
+use Rattle.krb_files.specs.Loading.{most_bytes}
 use Rattle.krb_commands.specs.KtutilTalk.{Talk, first_talk, Continues, Stops, TalksOver, EndsTalk}
 use Rattle.krb_commands.specs.KtutilDue.{TalksHonestly}
 use Rattle.krb_files.specs.Reader.{Source, ConsumesAtMost}

@@ -10,6 +10,7 @@ use Rattle.krb_commands.specs.KtutilHonest.{follow}
 use Rattle.krb_commands.specs.InputLines.{lines_of}
 use Rattle.krb_commands.specs.KtutilTalk.{Talk, line_run, named_in, goes_on, AreFirst}
 use Rattle.krb_commands.specs.Runs.{Run, SaysEnd, ends_by}
+use Rattle.krb_commands.specs.declared.verdict.Verdict.TheVariants.{Well}
 use Rattle.krb_commands.specs.Troubles.{Ending, ending_status, input_trouble}
 
 -- what is told: an end, the file that may be named, and the line
@@ -50,7 +51,7 @@ TellsInTurn old new (t ∷ others) = (between : ErrorWatch) × SaysEnd t.file t.
 
 -- nothing is printed, and all is well
 abbrev pub quiet_run : Run
-quiet_run = record { out = []; ending = Ok tt }
+quiet_run = record { out = []; ending = Ok Well }
 
 -- the lines of an input, and what is due after them: nothing at its end, or else it is said why it was not read further, or that memory ran out in the next line
 pub record GivesLines (given : Option (List ℕ)) (lines : List (List ℕ)) (final : Run) : Type 0 where

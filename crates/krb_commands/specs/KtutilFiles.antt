@@ -9,7 +9,7 @@ use Rattle.krb_files.specs.declared.files.SaveFault.{SaveFault}
 use Rattle.krb_files.specs.declared.files.Files.{Ghosts}
 use Rattle.krb_commands.specs.declared.ktutil.line_end.LineEnd.{LineEnd}
 use Rattle.krb_commands.specs.declared.ktutil.line_end.LineEnd.TheVariants as end
-use Rattle.krb_commands.specs.Loading.{LoadsFile, SavesFile}
+use Rattle.krb_files.specs.Loading.{LoadsFile, SavesFile}
 use Rattle.krb_commands.specs.KtutilPlan.{KtutilState, Outcome, Plan, Ends, Loads, Saves, takes_memory}
 
 -- the state, the bytes that were written and the end are those of an outcome

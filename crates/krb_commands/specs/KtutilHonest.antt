@@ -7,7 +7,7 @@ use Rattle.krb_files.specs.declared.files.Files.{Ghosts}
 use Rattle.krb_commands.specs.declared.ktutil.line_end.LineEnd.{LineEnd}
 use Rattle.krb_commands.specs.declared.ktutil.line_end.LineEnd.TheVariants as end
 use Rattle.krb_files.specs.Files.{FileMap, SameFiles, CountsFailure, loaded}
-use Rattle.krb_commands.specs.Loading.{most_bytes}
+use Rattle.krb_files.specs.Loading.{most_bytes}
 use Rattle.krb_commands.specs.KtutilPlan.{KtutilState, Outcome, Plan, Ends, Loads, Saves}
 use Rattle.krb_commands.specs.KtutilFiles.{Shows, RunsOut}
 

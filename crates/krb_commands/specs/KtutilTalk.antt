@@ -9,20 +9,21 @@ use Rattle.krb_files.specs.Bytes.{Watch}
 use Rattle.krb_files.specs.Reader.{Source, is_failed}
 use Rattle.krb_commands.specs.declared.ktutil.line_end.LineEnd.{LineEnd}
 use Rattle.krb_commands.specs.declared.ktutil.line_end.LineEnd.TheVariants as end
+use Rattle.krb_commands.specs.declared.verdict.Verdict.TheVariants.{Well}
 use Rattle.krb_commands.specs.declared.trouble.Trouble.TheVariants as trouble
 use Rattle.krb_commands.specs.ErrorOutput.{ErrorWatch}
 use Rattle.krb_commands.specs.KtutilWords.{words, second}
 use Rattle.krb_commands.specs.KtutilPlan.{KtutilState, plan_of}
 use Rattle.krb_commands.specs.KtutilFiles.{Handles}
 use Rattle.krb_commands.specs.InputLines.{CutsOff, lines_of}
-use Rattle.krb_commands.specs.Loading.{most_bytes}
+use Rattle.krb_files.specs.Loading.{most_bytes}
 use Rattle.krb_commands.specs.Runs.{Run, SaysEnd, EndsRun}
 use Rattle.krb_commands.specs.Troubles.{Ending, input_trouble, load_trouble, save_trouble, trouble_status}
 
 -- how a line of that number ended
 abbrev pub ending_of : ℕ → LineEnd → Ending
-ending_of number end.Done = Ok tt
-ending_of number end.Quit = Ok tt
+ending_of number end.Done = Ok Well
+ending_of number end.Quit = Ok Well
 ending_of number (end.Fault fault) = Err (trouble.FaultyLine number fault)
 ending_of number (end.Refused code) = Err (trouble.LineRefused number code)
 ending_of number (end.NotAKeytab why) = Err (trouble.NotAKeytab why)

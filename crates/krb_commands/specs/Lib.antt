@@ -1,6 +1,7 @@
 -- What the contracts of this crate say.
 pub mod Messages
 pub mod PieceTexts
+pub mod Verdicts
 pub mod Troubles
 pub mod Told
 pub mod Words
@@ -8,12 +9,13 @@ pub mod ErrorOutput
 pub mod Runs
 pub mod Mistakes
 pub mod Loading
+pub mod Opening
+pub mod Effects
+pub mod Commands
 pub mod Input
 pub mod InputLines
 pub mod Klist
 pub mod Ktfind
-pub mod Changing
-pub mod Edits
 pub mod Sessions
 pub mod Scripted
 pub mod Ktcheck

@@ -1,5 +1,5 @@
--- Files that are loaded and saved, and what is done with what was loaded.
-use Rattle.std.specs.Prelude.{◌≡◌, ◌⊎◌, ◌≤◌, ℕ, nat_eq, Bool, ◌||◌, List, [], ◌∷◌, None, Result, Ok, Err, OnOk, OnErr}
+-- What a load gives.
+use Rattle.std.specs.Prelude.{◌≡◌, ◌⊎◌, ℕ, nat_eq, Bool, ◌||◌, List, [], ◌∷◌, Result, Ok, Err}
 use Rattle.std.specs.List.{starts_with}
 use Rattle.krb_wire.specs.declared.format.KtFormat.TheVariants.{V2}
 use Rattle.krb_wire.specs.declared.format.Order.{Order}
@@ -10,21 +10,12 @@ use Rattle.krb_ccache.specs.Store.{CacheState, open_result as cache_result}
 use Rattle.krb_files.specs.declared.files.Files.{Ghosts}
 use Rattle.krb_files.specs.declared.files.LoadFault.{LoadFault}
 use Rattle.krb_files.specs.declared.files.LoadFault.TheVariants as load
-use Rattle.krb_files.specs.declared.files.SaveFault.{SaveFault}
-use Rattle.krb_files.specs.declared.files.SaveFault.TheVariants as save
-use Rattle.krb_files.specs.Bytes.{Watch}
-use Rattle.krb_files.specs.Files.{SameFiles, SetsFile, CountsFailure, loaded}
+use Rattle.krb_files.specs.Loading.{LoadsFile, most_bytes}
 use Rattle.krb_commands.specs.declared.loading.NoKeytab.{NoKeytab}
 use Rattle.krb_commands.specs.declared.loading.NoKeytab.TheVariants.{Load, Open}
 use Rattle.krb_commands.specs.declared.trouble.Trouble.{Trouble}
 use Rattle.krb_commands.specs.declared.trouble.Trouble.TheVariants.{NotACache}
-use Rattle.krb_commands.specs.ErrorOutput.{ErrorWatch}
-use Rattle.krb_commands.specs.Troubles.{Ending, load_trouble}
-use Rattle.krb_commands.specs.Runs.{Run, Prints, Tells, ends_by}
-
--- the most bytes that a file may have
-abbrev pub most_bytes : ℕ
-most_bytes = 16777216
+use Rattle.krb_commands.specs.Troubles.{load_trouble}
 
 -- ---- what a load gives
 
@@ -64,52 +55,17 @@ abbrev pub cache_of : Result (List ℕ) LoadFault → Result CacheState Trouble
 cache_of (Ok image) = result_map_err (not_cache image) (cache_result most_bytes image)
 cache_of (Err fault) = Err (load_trouble fault)
 
--- something is done with what a load gives, or the run ends by what it gives instead
-abbrev pub run_over : {X E : Type 0} → (E → Trouble) → (X → Run) → Result X E → Run
-run_over why then_ (Ok x) = then_ x
-run_over why then_ (Err e) = ends_by (why e)
-
 -- ---- what files answer
 
 module _ {F : Type 0} (trait : Ghosts F) (old : F) (name : List ℕ) where
-  -- the file of a name was loaded, with that answer: what stands there, where the files are honest and neither the call nor memory failed
-  pub record LoadsFile (answer : Result (List ℕ) LoadFault) (new : F) : Type 0 where
-    pub answered : trait.answers old name most_bytes answer new
-    pub failed : answer ≡ Err load.Failed → CountsFailure (trait.failure_count old) (trait.failure_count new)
-    pub count : trait.failure_count old ≤ trait.failure_count new
-    pub honest : trait.is_honest old → trait.is_honest new
-    pub same : trait.is_honest old → SameFiles (trait.file old) (trait.file new)
-    pub stands : trait.is_honest old → (answer ≡ Err load.Failed) ⊎ (answer ≡ Err load.NoMemory) ⊎ (answer ≡ loaded (trait.file old name) most_bytes)
-
-  -- these bytes were saved under a name, or not, by the answer
-  pub record SavesFile (bytes : List ℕ) (answer : Result (Unit {0}) SaveFault) (new : F) : Type 0 where
-    pub answered : trait.saves old name bytes answer new
-    pub failed : answer ≡ Err save.Failed → CountsFailure (trait.failure_count old) (trait.failure_count new)
-    pub count : trait.failure_count old ≤ trait.failure_count new
-    pub honest : trait.is_honest old → trait.is_honest new
-    pub sets : trait.is_honest old → OnOk answer (SetsFile (trait.file old) name bytes (trait.file new))
-    pub same : trait.is_honest old → OnErr answer (SameFiles (trait.file old) (trait.file new))
-
   -- a file was loaded, and what it gave is what that answer gives
   pub record Gives {X E : Type 0} (due : Result (List ℕ) LoadFault → Result X E) (given : Result X E) (new : F) : Type 0 where
     pub answer : Result (List ℕ) LoadFault
-    pub loads : LoadsFile answer new
+    pub loads : LoadsFile trait old name answer new
     pub gives : due answer ≡ given
 
   -- the same, or memory ran out for what takes the place of a missing file
   pub record GivesOrRunsOut {X : Type 0} (due : Result (List ℕ) LoadFault → Result X NoKeytab) (given : Result X NoKeytab) (new : F) : Type 0 where
     pub answer : Result (List ℕ) LoadFault
-    pub loads : LoadsFile answer new
+    pub loads : LoadsFile trait old name answer new
     pub gives : (due answer ≡ given) ⊎ (given ≡ Err (Load load.NoMemory))
-
-  -- a file was loaded, and what is due by that answer was printed
-  pub record PrintsOver (due : Result (List ℕ) LoadFault → Run) (new : F) (out out' : Watch) (ending : Ending) : Type 0 where
-    pub answer : Result (List ℕ) LoadFault
-    pub loads : LoadsFile answer new
-    pub prints : Prints (due answer) out out' ending
-
-  -- a run over the file of a name: what a load of it answers decides what is printed and how the run ends, which is told
-  pub record RunsOver (due : Result (List ℕ) LoadFault → Run) (new : F) (out out' : Watch) (err err' : ErrorWatch) (status : ℕ) : Type 0 where
-    pub ending : Ending
-    pub prints : PrintsOver due new out out' ending
-    pub told : Tells name None ending err err' status

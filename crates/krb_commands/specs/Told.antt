@@ -1,5 +1,5 @@
 -- What replies tell of, and how a run ends that printed them.
-use Rattle.std.specs.Prelude.{◌==◌, List, [], ◌∷◌, map, Bool, true, false, if◌then◌else◌, Option, None, Some, Ok, Err}
+use Rattle.std.specs.Prelude.{◌==◌, List, [], ◌∷◌, map, Bool, true, false, if◌then◌else◌, Option, None, Some}
 use Rattle.std.specs.List.{list_any}
 use Rattle.krb_walk.specs.declared.fault.FaultKind.{FaultKind}
 use Rattle.krb_walk.specs.declared.fault.FaultKind.TheVariants.{CutLength, Overrun, BadEntry, BadCredential}
@@ -7,16 +7,9 @@ use Rattle.krb_walk.specs.declared.refusal.Code.{Code}
 use Rattle.krb_walk.specs.declared.refusal.Code.TheVariants.{Damaged, TooLong, Full, NotAPlace, NotLive, NoSuchWalk, TooManyWalks, ReadOnly, NotFound, KvnoNotFound, Marked}
 use Rattle.krb_walk.specs.Numbers.{code_number, fault_number}
 use Rattle.krb_walk.specs.Said.{Said, Refused, Faulted}
-use Rattle.krb_commands.specs.declared.trouble.FileKind.{FileKind}
-use Rattle.krb_commands.specs.declared.trouble.Trouble.{Trouble}
-use Rattle.krb_commands.specs.declared.trouble.Trouble.TheVariants.{Found, Replied}
-use Rattle.krb_commands.specs.Troubles.{Ending}
-
--- replies or findings tell of the trouble
-abbrev pub is_printed : Trouble → Bool
-is_printed (Replied told) = true
-is_printed (Found findings) = true
-is_printed other = false
+use Rattle.krb_commands.specs.declared.verdict.FileKind.{FileKind}
+use Rattle.krb_commands.specs.declared.verdict.Verdict.{Verdict}
+use Rattle.krb_commands.specs.declared.verdict.Verdict.TheVariants.{Well, Replied}
 
 -- a reply that tells of a refusal or of a fault
 abbrev pub is_trouble : Said → Bool
@@ -52,5 +45,5 @@ module _ {R : Type 0} (said : R → Said) (replies : List R) where
   faults_told = map fault_told (CutLength ∷ Overrun ∷ BadEntry ∷ BadCredential ∷ [])
 
 -- how a run ends that printed the replies of a file of that kind
-abbrev pub replied_ending : {R : Type 0} → FileKind → (R → Said) → List R → Ending
-replied_ending kind said replies = if list_any (λ r. is_trouble (said r)) replies then Err (Replied (record { kind = kind; codes = codes_told said replies; faults = faults_told said replies })) else Ok tt
+abbrev pub replied_verdict : {R : Type 0} → FileKind → (R → Said) → List R → Verdict
+replied_verdict kind said replies = if list_any (λ r. is_trouble (said r)) replies then Replied (record { kind = kind; codes = codes_told said replies; faults = faults_told said replies }) else Well

@@ -1,7 +1,5 @@
 -- What ends a run before its end: where it comes from, what is said of it, and the status.
-use Rattle.std.specs.Prelude.{ℕ, List, [], if◌then◌else◌, Option, None, Some, Result, Ok, Err, codes}
-use Rattle.krb_walk.specs.declared.fault.Fault.{Fault}
-use Rattle.krb_walk.specs.declared.refusal.Code.TheVariants.{NotFound}
+use Rattle.std.specs.Prelude.{ℕ, List, [], Result, Ok, Err, codes}
 use Rattle.krb_walk.specs.Numbers.{code_number}
 use Rattle.krb_keytab.specs.Open.{open_fault_number}
 use Rattle.krb_ccache.specs.Open.{open_fault_number as cache_fault_number}
@@ -18,7 +16,9 @@ use Rattle.krb_commands.specs.declared.loading.NoKeytab.{NoKeytab}
 use Rattle.krb_commands.specs.declared.loading.NoKeytab.TheVariants.{Load, Open}
 use Rattle.krb_commands.specs.declared.trouble.Trouble.{Trouble}
 use Rattle.krb_commands.specs.declared.trouble.Trouble.TheVariants as trouble
+use Rattle.krb_commands.specs.declared.verdict.Verdict.{Verdict}
 use Rattle.krb_commands.specs.Messages.{message, file_message, file_number_message, line_message}
+use Rattle.krb_commands.specs.Verdicts.{verdict_message, verdict_status}
 
 -- ---- where it comes from
 
@@ -76,10 +76,6 @@ trouble_message file (trouble.NotAKeytab why) = file_number_message file (codes 
 trouble_message file (trouble.NotAKeytabToList why) = file_number_message file (codes "not a keytab (") (open_fault_number why.fault) (codes ")")
 trouble_message file (trouble.NotACache why) = file_number_message file (codes "not a cache (") (cache_fault_number why.fault) (codes ")")
 trouble_message file (trouble.Refused code) = file_number_message file (codes "refused ") (code_number code) []
-trouble_message file (trouble.NothingToRemove kind) = file_number_message file (codes "refused ") (code_number NotFound) []
-trouble_message file (trouble.Listed fault) = []
-trouble_message file (trouble.Replied told) = []
-trouble_message file (trouble.Found findings) = []
 trouble_message file trouble.OutputNotWritten = message (codes "cannot write output")
 trouble_message file trouble.ClockNotRead = message (codes "cannot read the clock")
 trouble_message file trouble.NoMemory = message (codes "out of memory")
@@ -92,26 +88,20 @@ trouble_status trouble.FileNotRead = 3
 trouble_status trouble.FileNotWritten = 3
 trouble_status trouble.OutputNotWritten = 3
 trouble_status trouble.ClockNotRead = 3
-trouble_status (trouble.Found findings) = if findings.is_wrong then 1 else 0
 trouble_status other = 1
 
 -- ---- how a run ends
 
--- well, or by some trouble
+-- it did its work, or some trouble ends it
 abbrev pub Ending : Type 0
-Ending = Result (Unit {0}) Trouble
-
--- a listing tells of a fault
-abbrev pub listing_ending : Option Fault → Ending
-listing_ending None = Ok tt
-listing_ending (Some fault) = Err (trouble.Listed fault)
+Ending = Result Verdict Trouble
 
 -- what is said of an end
 abbrev pub ending_message : List ℕ → Ending → List ℕ
-ending_message file (Ok done) = []
+ending_message file (Ok verdict) = verdict_message file verdict
 ending_message file (Err trouble) = trouble_message file trouble
 
 -- the status of a run that ends so
 abbrev pub ending_status : Ending → ℕ
-ending_status (Ok done) = 0
+ending_status (Ok verdict) = verdict_status verdict
 ending_status (Err trouble) = trouble_status trouble

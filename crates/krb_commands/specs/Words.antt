@@ -19,11 +19,13 @@ use Rattle.krb_files.specs.Phrases.{cause_phrase}
 use Rattle.krb_text.specs.declared.line_fault.LineFault.{LineFault}
 use Rattle.krb_text.specs.LineFault.{line_phrase, ktutil_phrase}
 use Rattle.krb_audit.specs.declared.told.Told.{Told as CheckTold}
-use Rattle.krb_commands.specs.declared.trouble.FileKind.{FileKind}
-use Rattle.krb_commands.specs.declared.trouble.FileKind.TheVariants.{Keytab, Cache}
-use Rattle.krb_commands.specs.declared.trouble.Findings.{Findings}
 use Rattle.krb_commands.specs.declared.trouble.Trouble.{Trouble}
 use Rattle.krb_commands.specs.declared.trouble.Trouble.TheVariants as trouble
+use Rattle.krb_commands.specs.declared.verdict.FileKind.{FileKind}
+use Rattle.krb_commands.specs.declared.verdict.FileKind.TheVariants.{Keytab, Cache}
+use Rattle.krb_commands.specs.declared.verdict.Findings.{Findings}
+use Rattle.krb_commands.specs.declared.verdict.Verdict.{Verdict}
+use Rattle.krb_commands.specs.declared.verdict.Verdict.TheVariants.{Well, Listed, Replied, Found, NothingToRemove}
 use Rattle.krb_commands.specs.Messages.{words_line, phrase_line}
 use Rattle.krb_commands.specs.Troubles.{Ending, ending_message}
 
@@ -145,17 +147,21 @@ trouble_words file line cause (trouble.NotAKeytab why) = phrase_line line (no_ke
 trouble_words file line cause (trouble.NotAKeytabToList why) = phrase_line line (list_phrase why.fault why.is_cache)
 trouble_words file line cause (trouble.NotACache why) = phrase_line line (no_cache_phrase why.fault why.is_keytab)
 trouble_words file line cause (trouble.Refused code) = phrase_line line (keytab_phrase code)
-trouble_words file line cause (trouble.NothingToRemove kind) = phrase_line line (nothing_phrase kind)
-trouble_words file line cause (trouble.Listed fault) = listed_words file fault
-trouble_words file line cause (trouble.Found findings) = found_words file findings
-trouble_words file line cause (trouble.Replied told) = told_words told.kind told.codes told.faults
 trouble_words file line cause trouble.OutputNotWritten = cause_words file line cause
 trouble_words file line cause trouble.ClockNotRead = phrase_line line (codes "the clock is before 1970 or after 2106, or failed")
 trouble_words file line cause trouble.NoMemory = []
 
+-- what explains the end of a run that did its work over that file
+abbrev pub verdict_words : List ℕ → Option ℕ → Verdict → List ℕ
+verdict_words file line Well = []
+verdict_words file line (NothingToRemove kind) = phrase_line line (nothing_phrase kind)
+verdict_words file line (Listed fault) = listed_words file fault
+verdict_words file line (Found findings) = found_words file findings
+verdict_words file line (Replied told) = told_words told.kind told.codes told.faults
+
 -- what explains an end
 abbrev pub ending_words : List ℕ → Option ℕ → Option Cause → Ending → List ℕ
-ending_words file line cause (Ok done) = []
+ending_words file line cause (Ok verdict) = verdict_words file line verdict
 ending_words file line cause (Err trouble) = trouble_words file line cause trouble
 
 -- words, where they are shown

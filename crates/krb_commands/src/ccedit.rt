@@ -1,6 +1,6 @@
 //! Edits a cache's file by a script.
 
-ghost use Rattle.std.specs.Prelude.{◌≡◌, IfOk, IsFalse, OnOk, ◌∷◌, [], map};
+ghost use Rattle.std.specs.Prelude.{◌≡◌, ◌⊎◌, IfOk, IsFalse, OnOk, ◌∷◌, [], map};
 ghost use Rattle.krb_walk.specs.declared.event.Event.TheVariants.{Cut};
 ghost use Rattle.krb_walk.specs.Events.{reply_to};
 ghost use Rattle.krb_walk.specs.History.{state_after};
@@ -8,22 +8,34 @@ ghost use Rattle.krb_walk.specs.Ran.{Ran};
 ghost use Rattle.krb_walk.specs.Said.{said};
 ghost use Rattle.krb_ccache.specs.Placed.{cache_rules};
 ghost use Rattle.krb_ccache.specs.SetConfig.{setting_events};
-ghost use Rattle.krb_commands.specs.Ccedit.{RunsCcedit, RunsFairly, cache_events, cache_session, edit_in, is_refusal, line_events};
-ghost use Rattle.krb_commands.specs.Edits.{Makes};
+ghost use Rattle.krb_cache_text.specs.Script.{cache_line_in};
+ghost use Rattle.krb_commands.specs.Ccedit.{RunsFairly, cache_events, cache_session, ccedit_fairly, ccedit_plan, edits, is_refusal, line_events, line_may_change};
+ghost use Rattle.krb_commands.specs.Commands.{text_effect};
+ghost use Rattle.krb_commands.specs.Effects.{IsMade, IsSpent};
+ghost use Rattle.krb_commands.specs.Scripted.{RunsScript};
 ghost use Rattle.krb_commands.specs.Sessions.{left, new_session};
 
-use crate::edited::{Edited, edited_of, may_change, save_edited};
-use crate::loading::load_cache;
-use crate::scripted::{Editor, run_script};
-use crate::telling::error_output::ErrorOutput;
-use crate::trouble::{FileKind, Trouble};
+use crate::command::{Command, FileTrouble, Made, Output, hold_file, run};
+use crate::edited::{may_change, replied};
+use crate::opening::give_cache;
+use crate::scripted::read_script;
+use crate::streams::Streams;
+use crate::telling::tell;
+use crate::verdict::FileKind;
 use krb_cache_text::{Asked, CacheLine, CcFormat};
 use krb_ccache::{Ccache, Cred, Setting};
-use krb_files::{Files, Watched, WatchedReader};
+use krb_files::Files;
 use krb_walk::{Event, Reply, Session};
 use krb_wire::NoMemory;
 use std::alloc::Allocator;
 use std::io::{Read, Write};
+
+/// What ccedit asks for.
+#[derive(Drop)]
+struct EditCache<'f, A: Allocator> {
+    file: &'f str,
+    lines: Vec<CacheLine<A>, A>,
+}
 
 // The removals of what stands at those places.
 fn cuts<A: Allocator + Copy>(alloc: A, places: &[u32]) -> Result<Vec<Event<Cred<A>>, A>, NoMemory>
@@ -111,69 +123,82 @@ fn run_lines<A: Allocator + Copy>(
     Ok(session.into_store())
 }
 
-// Runs lines over a cache, and gathers the replies' lines.
-fn edit<A: Allocator + Copy>(
+// Runs the lines over a cache.
+fn edit<'a, A: Allocator + Copy>(
     alloc: A,
+    command: &EditCache<'a, A>,
     cache: Ccache<A>,
-    lines: &[CacheLine<A>],
-) -> Result<Edited<A>, NoMemory>
-    ensures { IfOk result (Makes (RunsFairly lines.now cache.state) (edit_in lines.now cache.state)) }
+) -> Result<Made<A, Output<A>>, FileTrouble<'a>>
+    ensures made { IsMade (edits command.now.lines.items command.now.file.now cache.state)
+        (text_effect command.now.file.now result) }
+    ensures fair { IsSpent (text_effect command.now.file.now result) ⊎ RunsFairly command.now.lines.items cache.state }
 {
     let format = CcFormat(cache.version());
     let mut replies = Vec::new(alloc);
-    let cache = run_lines(alloc, cache, lines, &mut replies)?;
-    edited_of(alloc, FileKind::Cache, format, &replies, cache.into_image())
+    let cache = run_lines(alloc, cache, &command.lines, &mut replies)?;
+    Ok(replied(
+        alloc,
+        FileKind::Cache,
+        format,
+        &replies,
+        cache.into_image(),
+    )?)
 }
 
-/// Caches.
-#[derive(Clone, Copy)]
-struct CacheEditor;
+// Whether a line may change a cache.
+fn line_may_change<A: Allocator>(line: &CacheLine<A>) -> bool
+    ensures { result ≡ line_may_change line.now }
+{
+    match line {
+        Asked::Event(event) => may_change(event),
+        Asked::Setting(_) => true,
+    }
+}
 
-impl<A: Allocator + Copy> Editor<A, CacheLine<A>> for CacheEditor {
-    ghost use Rattle.krb_commands.specs.Ccedit.{edit_due, edit_fairly, line_may_change};
+impl<'f, A: Allocator + Copy> Command<A> for EditCache<'f, A> {
+    ghost use Rattle.krb_commands.specs.Ccedit.{ccedit_fairly, ccedit_plan};
 
-    ghost due = { λ editor. edit_due };
+    type Shown = Output<A>;
 
-    ghost fairly = { λ editor. edit_fairly };
+    ghost file = { λ c. c.file.now };
 
-    ghost changes = { line_may_change };
+    ghost plan = { λ c mode. ccedit_plan c.file.now c.lines.items };
 
-    fn may_change(&self, line: &CacheLine<A>) -> bool {
-        match line {
-            Asked::Event(event) => may_change(event),
-            Asked::Setting(_) => true,
-        }
+    // Every walk is given what is due to it.
+    ghost fairly = { λ c. ccedit_fairly c.lines.items };
+
+    fn file(&self) -> &str {
+        self.file
     }
 
-    fn edit_held<F: Files>(
+    fn make<F: Files>(
         &self,
         alloc: A,
-        file: &str,
         files: &mut F,
-        lines: &[CacheLine<A>],
-    ) -> Result<Edited<A>, Trouble> {
-        let cache = load_cache(alloc, files, file)?;
-        let edited = edit(alloc, cache, lines)?;
-        save_edited(file, files, &edited)?;
-        Ok(edited)
+    ) -> Result<Made<A, Self::Shown>, FileTrouble<'_>> {
+        hold_file(self.lines.iter().any(line_may_change), files, self.file);
+        let cache = give_cache(alloc, files, self.file)?;
+        edit(alloc, self, cache)
     }
 }
 
-/// Edits the cache of that name by a script, and answers the status: loads it, runs the script's lines over it
-/// in one session, saves it where it was changed, and shows the replies on `out`. All is ready before it is
-/// saved, so memory is not missed after that. What goes wrong is said on `err`; a failure of `err` changes
-/// nothing else.
+/// Runs the lines of a script over the cache of that name in one session, saves it where they changed it,
+/// prints the replies, and returns the status.
 pub fn run_ccedit<A: Allocator + Copy, F: Files, R: Read, W: Write, E: Write>(
     alloc: A,
     file: &str,
     files: &mut F,
-    script: &mut WatchedReader<R>,
-    out: &mut Watched<W>,
-    err: &mut ErrorOutput<E>,
+    streams: &mut Streams<R, W, E>,
 ) -> u8
-    requires { IsFalse out.old.failed }
-    ensures { RunsCcedit F.Files file.now script.old script.new
-        files.old files.new out.old out.new err.old err.new result }
+    requires { IsFalse streams.old.out.failed }
+    ensures { RunsScript F.Files files.old files.new streams.old.out streams.new.out streams.old.err streams.new.err result
+        (ccedit_plan file.now) ccedit_fairly cache_line_in streams.old.input streams.new.input }
 {
-    run_script(alloc, &CacheEditor, file, files, script, out, err)
+    match read_script(alloc, &mut streams.input) {
+        Ok(lines) => run(alloc, &EditCache { file, lines }, files, streams),
+        Err(trouble) => {
+            let cause = streams.input.cause();
+            tell(Err(trouble), b"", None, cause, &mut streams.err)
+        }
+    }
 }

@@ -2,7 +2,7 @@
 
 ghost use Rattle.std.specs.Prelude.{◌≡◌, ◌≢◌, ◌⊎◌, ◌||◌, ◌<◌, ◌≤◌, ◌+◌, [], length, slice_range, IfOk, IfErr, IfSome, IsTrue, OnErr, IsErrOf, vec_len};
 ghost use Rattle.krb_files.specs.Reader.{is_read_fault};
-ghost use Rattle.krb_commands.specs.Loading.{most_bytes};
+ghost use Rattle.krb_files.specs.Loading.{most_bytes};
 ghost use Rattle.krb_commands.specs.InputLines.{InputParts, ReadsLine, KeepsLines, Grows, IsWithin, FindsNewline, EndsLine, EndsInNewline, IsSpent, HasNoMore, HasNone};
 
 use krb_files::{LoadFault, WatchedReader, append_read, next_read};
@@ -24,7 +24,7 @@ pub struct InputLines<A: Allocator> {
 impl<A: Allocator> Model for InputLines<A> {
     ghost use Rattle.std.specs.Prelude.{◌≤◌, ◌+◌, slice_range, vec_len};
     ghost use Rattle.krb_commands.specs.InputLines.{InputParts};
-    ghost use Rattle.krb_commands.specs.Loading.{most_bytes};
+    ghost use Rattle.krb_files.specs.Loading.{most_bytes};
 
     ghost Value = { InputParts };
 

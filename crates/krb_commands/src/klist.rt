@@ -3,30 +3,55 @@
 ghost use Rattle.std.specs.Prelude.{◌≡◌, IsFalse, OnErr, OnOk};
 ghost use Rattle.std.specs.Io.KnownBytes.{Appends};
 ghost use Rattle.krb_files.specs.Bytes.{AppendsPrefix, is_write_fault};
-ghost use Rattle.krb_commands.specs.Klist.{cache_shown, keytab_shown, listing};
-ghost use Rattle.krb_commands.specs.Loading.{PrintsOver, RunsOver};
+ghost use Rattle.krb_commands.specs.Commands.{RunsCommand, any, made_effect};
+ghost use Rattle.krb_commands.specs.Effects.{Displays, IsMade};
+ghost use Rattle.krb_commands.specs.Klist.{cache_page, cache_shown, keytab_page, keytab_shown, klist_plan, listing_page};
+ghost use Rattle.krb_commands.specs.Verdicts.{listing_verdict};
 
 use crate::action::{KlistOptions, ListKind};
-use crate::loading::{load_cache, load_keytab};
-use crate::telling::error_output::ErrorOutput;
-use crate::telling::{cause_of, tell};
-use crate::trouble::{Trouble, listing_end};
+use crate::command::{Command, FileTrouble, Made, Show, run};
+use crate::opening::{open_cache, open_listed};
+use crate::streams::Streams;
+use crate::trouble::Trouble;
+use crate::verdict::Verdict;
 use krb_cache_text::{CcColumns, list_cache};
 use krb_ccache::Ccache;
 use krb_files::{Files, OutFault, Watched};
 use krb_json::{cache_json, keytab_json};
 use krb_keytab::Keytab;
 use krb_text::{KtColumns, list_keytab};
+use krb_walk::Fault;
 use std::alloc::Allocator;
-use std::io::Write;
+use std::io::{Read, Write};
+
+/// What klist asks for.
+#[derive(Clone, Copy)]
+struct ListFile<'f> {
+    options: &'f KlistOptions,
+    file: &'f str,
+}
+
+/// What was opened, and what is shown of it.
+#[derive(Drop)]
+pub enum Opened<A: Allocator> {
+    Keytab(KtColumns, Keytab<A>),
+    Cache(CcColumns, Ccache<A>),
+}
+
+/// A listing of what was opened, perhaps as JSON.
+#[derive(Drop)]
+pub struct Listing<A: Allocator> {
+    json: bool,
+    opened: Opened<A>,
+}
 
 // Shows a keytab by those columns, or as JSON.
-fn show_keytab<A: Allocator + Copy, B: Allocator, W: Write>(
+fn show_keytab<A: Allocator + Copy, W: Write>(
     alloc: A,
     json: bool,
     columns: KtColumns,
     file: &str,
-    keytab: &Keytab<B>,
+    keytab: &Keytab<A>,
     out: &mut Watched<W>,
 ) -> Result<(), OutFault>
     requires { IsFalse out.old.failed }
@@ -44,12 +69,12 @@ fn show_keytab<A: Allocator + Copy, B: Allocator, W: Write>(
 }
 
 // Shows a cache by those columns, or as JSON.
-fn show_cache<A: Allocator + Copy, B: Allocator, W: Write>(
+fn show_cache<A: Allocator + Copy, W: Write>(
     alloc: A,
     json: bool,
     columns: CcColumns,
     file: &str,
-    cache: &Ccache<B>,
+    cache: &Ccache<A>,
     out: &mut Watched<W>,
 ) -> Result<(), OutFault>
     requires { IsFalse out.old.failed }
@@ -66,50 +91,111 @@ fn show_cache<A: Allocator + Copy, B: Allocator, W: Write>(
     }
 }
 
-// Lists the file of that name as the kind of file that was asked for.
-fn list_file<A: Allocator + Copy, F: Files, W: Write>(
-    alloc: A,
-    options: &KlistOptions,
-    file: &str,
-    files: &mut F,
-    out: &mut Watched<W>,
-) -> Result<(), Trouble>
-    requires { IsFalse out.old.failed }
-    ensures { PrintsOver F.Files files.old file.now (listing options.now file.now) files.new
-        out.old out.new result }
+// How a listing ends, which reports a fault.
+fn listing_verdict(fault: Option<Fault>) -> Verdict
+    ensures { result ≡ listing_verdict fault }
 {
-    match options.kind {
-        ListKind::Keytab(columns) => {
-            let keytab = match load_keytab(alloc, options.v1_order, files, file) {
-                Ok(keytab) => keytab,
-                Err(why) => return Err(Trouble::of_listed(why)),
-            };
-            show_keytab(alloc, options.json, columns, file, &keytab, out)?;
-            listing_end(keytab.fault())
-        }
-        ListKind::Cache(columns) => {
-            let cache = load_cache(alloc, files, file)?;
-            show_cache(alloc, options.json, columns, file, &cache, out)?;
-            listing_end(cache.fault())
+    match fault {
+        Some(fault) => Verdict::Listed(fault),
+        None => Verdict::Well,
+    }
+}
+
+impl<A: Allocator + Copy> Show<A> for Listing<A> {
+    ghost page = { listing_page };
+
+    fn show<W: Write>(
+        &self,
+        alloc: A,
+        file: &str,
+        out: &mut Watched<W>,
+    ) -> Result<Verdict, Trouble> {
+        match &self.opened {
+            Opened::Keytab(columns, keytab) => {
+                show_keytab(alloc, self.json, *columns, file, keytab, out)?;
+                Ok(listing_verdict(keytab.fault()))
+            }
+            Opened::Cache(columns, cache) => {
+                show_cache(alloc, self.json, *columns, file, cache, out)?;
+                Ok(listing_verdict(cache.fault()))
+            }
         }
     }
 }
 
-/// Lists the file of that name on `out`, and answers the status. What goes wrong is said on `err`;
-/// a failure of `err` changes nothing else.
-pub fn run_klist<A: Allocator + Copy, F: Files, W: Write, E: Write>(
+// What is shown of a keytab.
+fn list_keytab_of<'a, A: Allocator>(
+    command: &ListFile<'a>,
+    columns: KtColumns,
+    keytab: Keytab<A>,
+) -> Result<Made<A, Listing<A>>, FileTrouble<'a>>
+    ensures { IsMade (Displays command.now.file.now (keytab_page command.now.options.now.json columns command.now.file.now keytab.state))
+        (made_effect listing_page command.now.file.now result) }
+{
+    Ok(Made::Shows(Listing {
+        json: command.options.json,
+        opened: Opened::Keytab(columns, keytab),
+    }))
+}
+
+// What is shown of a cache.
+fn list_cache_of<'a, A: Allocator>(
+    command: &ListFile<'a>,
+    columns: CcColumns,
+    cache: Ccache<A>,
+) -> Result<Made<A, Listing<A>>, FileTrouble<'a>>
+    ensures { IsMade (Displays command.now.file.now (cache_page command.now.options.now.json columns command.now.file.now cache.state))
+        (made_effect listing_page command.now.file.now result) }
+{
+    Ok(Made::Shows(Listing {
+        json: command.options.json,
+        opened: Opened::Cache(columns, cache),
+    }))
+}
+
+impl<'f, A: Allocator + Copy> Command<A> for ListFile<'f> {
+    ghost use Rattle.krb_commands.specs.Klist.{klist_plan};
+
+    type Shown = Listing<A>;
+
+    ghost file = { λ c. c.file.now };
+
+    ghost plan = { λ c mode. klist_plan c.options.now c.file.now };
+
+    fn file(&self) -> &str {
+        self.file
+    }
+
+    fn make<F: Files>(
+        &self,
+        alloc: A,
+        files: &mut F,
+    ) -> Result<Made<A, Self::Shown>, FileTrouble<'_>> {
+        match self.options.kind {
+            ListKind::Keytab(columns) => {
+                let keytab = open_listed(alloc, self.options.v1_order, files, self.file)?;
+                list_keytab_of(self, columns, keytab)
+            }
+            ListKind::Cache(columns) => {
+                let cache = open_cache(alloc, files, self.file)?;
+                list_cache_of(self, columns, cache)
+            }
+        }
+    }
+}
+
+/// Lists the file of that name, and returns the status.
+pub fn run_klist<A: Allocator + Copy, F: Files, R: Read, W: Write, E: Write>(
     alloc: A,
     options: &KlistOptions,
     file: &str,
     files: &mut F,
-    out: &mut Watched<W>,
-    err: &mut ErrorOutput<E>,
+    streams: &mut Streams<R, W, E>,
 ) -> u8
-    requires { IsFalse out.old.failed }
-    ensures { RunsOver F.Files files.old file.now (listing options.now file.now) files.new
-        out.old out.new err.old err.new result }
+    requires { IsFalse streams.old.out.failed }
+    ensures runs { RunsCommand F.Files (λ mode. klist_plan options.now file.now) any files.old files.new
+        streams.old.out streams.new.out streams.old.err streams.new.err result }
+    ensures input { streams.new.input ≡ streams.old.input }
 {
-    let ending = list_file(alloc, options, file, files, out);
-    let cause = cause_of(&ending, files, out);
-    tell(ending, file.as_bytes(), None, cause, err)
+    run(alloc, &ListFile { options, file }, files, streams)
 }

@@ -1,69 +1,98 @@
 //! Finds what an administrator should know of a keytab.
 
 ghost use Rattle.std.specs.Prelude.{◌≡◌, IsFalse};
-ghost use Rattle.krb_commands.specs.Ktcheck.{checking, found_ending};
-ghost use Rattle.krb_commands.specs.Loading.{PrintsOver, RunsOver};
+ghost use Rattle.krb_commands.specs.Commands.{RunsCommand, any, text_effect};
+ghost use Rattle.krb_commands.specs.Effects.{Displays, IsMade};
+ghost use Rattle.krb_commands.specs.Ktcheck.{findings, found_verdict, ktcheck_plan};
 
-use crate::loading::load_keytab;
-use crate::telling::error_output::ErrorOutput;
-use crate::telling::{cause_of, show, tell};
-use crate::trouble::{Findings, Trouble};
+use crate::command::{Command, FileTrouble, Made, Output, run};
+use crate::opening::open_keytab;
+use crate::streams::Streams;
+use crate::verdict::{Findings, Verdict};
 use krb_audit::check_up;
-use krb_files::{Files, Watched};
+use krb_files::Files;
+use krb_keytab::Keytab;
 use krb_wire::Order;
 use std::alloc::Allocator;
-use std::io::Write;
+use std::io::{Read, Write};
 
-// How a run ends that printed findings: well, where no word and no fault was told.
-fn found_end(findings: Findings) -> Result<(), Trouble>
-    ensures { result ≡ found_ending findings }
+/// What ktcheck asks for.
+#[derive(Clone, Copy)]
+struct CheckKeytab<'f> {
+    v1_order: Order,
+    file: &'f str,
+}
+
+// How a run ends that printed findings: well, where no word and no fault was printed.
+fn found_verdict(findings: Findings) -> Verdict
+    ensures { result ≡ found_verdict findings }
 {
     let told = findings.words;
     let is_told = told.weak || told.hidden || told.same || told.clash || told.old || told.mode;
     if is_told || findings.fault.is_some() {
-        Err(Trouble::Found(findings))
+        Verdict::Found(findings)
     } else {
-        Ok(())
+        Verdict::Well
     }
 }
 
-// Checks the file of that name, and shows what is found.
-fn check_file<A: Allocator + Copy, F: Files, W: Write>(
+// What is found about the keytab that was loaded.
+fn check<'a, A: Allocator + Copy, F: Files>(
     alloc: A,
-    v1_order: Order,
-    file: &str,
-    files: &mut F,
-    out: &mut Watched<W>,
-) -> Result<(), Trouble>
-    requires { IsFalse out.old.failed }
-    ensures { PrintsOver F.Files files.old file.now (checking v1_order (F.mode files.new)) files.new
-        out.old out.new result }
+    command: &CheckKeytab<'a>,
+    files: &F,
+    keytab: &Keytab<A>,
+) -> Result<Made<A, Output<A>>, FileTrouble<'a>>
+    ensures { IsMade (Displays command.now.file.now (findings (F.Files.mode files.now) keytab.now.state))
+        (text_effect command.now.file.now result) }
 {
-    let keytab = load_keytab(alloc, v1_order, files, file)?;
-    let found = check_up(alloc, files.mode(), &keytab)?;
-    let ending = found_end(Findings {
+    let found = check_up(alloc, files.mode(), keytab)?;
+    let verdict = found_verdict(Findings {
         words: found.told,
         fault: keytab.fault(),
         is_wrong: found.is_wrong,
     });
-    show(&found.text, ending, out)
+    Ok(Made::Shows(Output {
+        text: found.text,
+        verdict,
+    }))
 }
 
-/// Finds what an administrator should know of the keytab of that name and shows it on `out`, and answers the
-/// status. What goes wrong is said on `err`; a failure of `err` changes nothing else.
-pub fn run_ktcheck<A: Allocator + Copy, F: Files, W: Write, E: Write>(
+impl<'f, A: Allocator + Copy> Command<A> for CheckKeytab<'f> {
+    ghost use Rattle.krb_commands.specs.Ktcheck.{ktcheck_plan};
+
+    type Shown = Output<A>;
+
+    ghost file = { λ c. c.file.now };
+
+    ghost plan = { λ c. ktcheck_plan c.v1_order c.file.now };
+
+    fn file(&self) -> &str {
+        self.file
+    }
+
+    fn make<F: Files>(
+        &self,
+        alloc: A,
+        files: &mut F,
+    ) -> Result<Made<A, Self::Shown>, FileTrouble<'_>> {
+        let keytab = open_keytab(alloc, self.v1_order, files, self.file)?;
+        check(alloc, self, files, &keytab)
+    }
+}
+
+/// Finds what an administrator should know of the keytab of that name, prints it, and returns the status.
+pub fn run_ktcheck<A: Allocator + Copy, F: Files, R: Read, W: Write, E: Write>(
     alloc: A,
     v1_order: Order,
     file: &str,
     files: &mut F,
-    out: &mut Watched<W>,
-    err: &mut ErrorOutput<E>,
+    streams: &mut Streams<R, W, E>,
 ) -> u8
-    requires { IsFalse out.old.failed }
-    ensures { RunsOver F.Files files.old file.now (checking v1_order (F.mode files.new)) files.new
-        out.old out.new err.old err.new result }
+    requires { IsFalse streams.old.out.failed }
+    ensures runs { RunsCommand F.Files (ktcheck_plan v1_order file.now) any files.old files.new
+        streams.old.out streams.new.out streams.old.err streams.new.err result }
+    ensures input { streams.new.input ≡ streams.old.input }
 {
-    let ending = check_file(alloc, v1_order, file, files, out);
-    let cause = cause_of(&ending, files, out);
-    tell(ending, file.as_bytes(), None, cause, err)
+    run(alloc, &CheckKeytab { v1_order, file }, files, streams)
 }

@@ -1,98 +1,107 @@
 //! Edits a keytab's file by a script.
 
-ghost use Rattle.std.specs.Prelude.{IfOk, IsFalse};
-ghost use Rattle.krb_commands.specs.Edits.{Makes};
-ghost use Rattle.krb_commands.specs.Ktedit.{edit_in, RunsEdit, RunsFairly};
+ghost use Rattle.std.specs.Prelude.{◌⊎◌, IsFalse};
+ghost use Rattle.krb_text.specs.Script.{event_in};
+ghost use Rattle.krb_commands.specs.Commands.{text_effect};
+ghost use Rattle.krb_commands.specs.Effects.{IsMade, IsSpent};
+ghost use Rattle.krb_commands.specs.Ktedit.{RunsFairly, edits, ktedit_fairly, ktedit_plan};
+ghost use Rattle.krb_commands.specs.Scripted.{RunsScript};
 
-use crate::edited::{Edited, edited_of, may_change, save_edited};
-use crate::loading::load_or_new;
-use crate::scripted::{Editor, run_script};
-use crate::telling::error_output::ErrorOutput;
-use crate::trouble::{FileKind, Trouble};
-use krb_files::{Files, Watched, WatchedReader};
+use crate::command::{Command, FileTrouble, Made, Output, hold_file, run};
+use crate::edited::{may_change, replied};
+use crate::opening::give_or_empty;
+use crate::scripted::read_script;
+use crate::streams::Streams;
+use crate::telling::tell;
+use crate::verdict::FileKind;
+use krb_files::Files;
 use krb_keytab::{Indexed, Keytab, NewEntry};
 use krb_walk::{Event, Session};
 use krb_wire::{NoMemory, Order};
 use std::alloc::Allocator;
 use std::io::{Read, Write};
 
-// Runs events over a keytab, by a table of its cells, in a session, and gathers the replies' lines.
-fn edit<A: Allocator + Copy>(
+/// What ktedit asks for.
+#[derive(Drop)]
+struct EditKeytab<'f, A: Allocator> {
+    v1_order: Order,
+    file: &'f str,
+    events: Vec<Event<NewEntry<A>>, A>,
+}
+
+// Runs events over a keytab, by a table of its cells, in a session.
+fn edit<'a, A: Allocator + Copy>(
     alloc: A,
+    command: &EditKeytab<'a, A>,
     keytab: Keytab<A>,
-    events: &[Event<NewEntry<A>>],
-) -> Result<Edited<A>, NoMemory>
-    ensures { IfOk result (Makes (RunsFairly events.now keytab.state) (edit_in events.now keytab.state)) }
+) -> Result<Made<A, Output<A>>, FileTrouble<'a>>
+    ensures made { IsMade (edits command.now.events.items command.now.file.now keytab.state)
+        (text_effect command.now.file.now result) }
+    ensures fair { IsSpent (text_effect command.now.file.now result) ⊎ RunsFairly command.now.events.items keytab.state }
 {
     let format = keytab.format();
     let Ok(keytab) = Indexed::of(alloc, keytab) else {
-        return Err(NoMemory);
+        return Err(FileTrouble::from(NoMemory));
     };
     let mut session = Session::new(alloc, keytab);
     let mut replies = Vec::new(alloc);
-    session.run(events, &mut replies)?;
+    session.run(&command.events, &mut replies)?;
     let image = session.into_store().into_image();
-    edited_of(alloc, FileKind::Keytab, format, &replies, image)
+    Ok(replied(alloc, FileKind::Keytab, format, &replies, image)?)
 }
 
-/// Keytabs; version 1 has that order.
-#[derive(Clone, Copy)]
-struct KeytabEditor {
-    v1_order: Order,
-}
+impl<'f, A: Allocator + Copy> Command<A> for EditKeytab<'f, A> {
+    ghost use Rattle.krb_commands.specs.Ktedit.{ktedit_fairly, ktedit_plan};
 
-impl<A: Allocator + Copy> Editor<A, Event<NewEntry<A>>> for KeytabEditor {
-    ghost use Rattle.krb_commands.specs.Edits.{may_change};
-    ghost use Rattle.krb_commands.specs.Ktedit.{edit_due, edit_fairly};
+    type Shown = Output<A>;
 
-    ghost due = { λ editor. edit_due editor.v1_order };
+    ghost file = { λ c. c.file.now };
 
-    ghost fairly = { λ editor. edit_fairly editor.v1_order };
+    ghost plan = { λ c mode. ktedit_plan c.v1_order c.file.now c.events.items };
 
-    ghost changes = { may_change };
+    // Every walk is given what is due to it.
+    ghost fairly = { λ c. ktedit_fairly c.v1_order c.events.items };
 
-    fn may_change(&self, event: &Event<NewEntry<A>>) -> bool {
-        may_change(event)
+    fn file(&self) -> &str {
+        self.file
     }
 
-    fn edit_held<F: Files>(
+    fn make<F: Files>(
         &self,
         alloc: A,
-        file: &str,
         files: &mut F,
-        events: &[Event<NewEntry<A>>],
-    ) -> Result<Edited<A>, Trouble> {
-        let keytab = load_or_new(alloc, self.v1_order, files, file)?;
-        let edited = edit(alloc, keytab, events)?;
-        save_edited(file, files, &edited)?;
-        Ok(edited)
+    ) -> Result<Made<A, Self::Shown>, FileTrouble<'_>> {
+        hold_file(self.events.iter().any(may_change), files, self.file);
+        let keytab = give_or_empty(alloc, self.v1_order, files, self.file)?;
+        edit(alloc, self, keytab)
     }
 }
 
-/// Edits the keytab of that name by a script, and answers the status: loads it, runs the script's events
-/// over it in one session, saves it where it was changed, and shows the replies on `out`. All is ready
-/// before it is saved, so memory is not missed after that. What goes wrong is said on `err`; a failure of
-/// `err` changes nothing else.
+/// Runs the events of a script over the keytab of that name in one session, saves it where they changed it,
+/// prints the replies, and returns the status.
 pub fn run_ktedit<A: Allocator + Copy, F: Files, R: Read, W: Write, E: Write>(
     alloc: A,
     v1_order: Order,
     file: &str,
     files: &mut F,
-    script: &mut WatchedReader<R>,
-    out: &mut Watched<W>,
-    err: &mut ErrorOutput<E>,
+    streams: &mut Streams<R, W, E>,
 ) -> u8
-    requires { IsFalse out.old.failed }
-    ensures { RunsEdit F.Files file.now v1_order script.old script.new
-        files.old files.new out.old out.new err.old err.new result }
+    requires { IsFalse streams.old.out.failed }
+    ensures { RunsScript F.Files files.old files.new streams.old.out streams.new.out streams.old.err streams.new.err result
+        (ktedit_plan v1_order file.now) (ktedit_fairly v1_order) event_in streams.old.input streams.new.input }
 {
-    run_script(
-        alloc,
-        &KeytabEditor { v1_order },
-        file,
-        files,
-        script,
-        out,
-        err,
-    )
+    match read_script(alloc, &mut streams.input) {
+        Ok(events) => {
+            let command = EditKeytab {
+                v1_order,
+                file,
+                events,
+            };
+            run(alloc, &command, files, streams)
+        }
+        Err(trouble) => {
+            let cause = streams.input.cause();
+            tell(Err(trouble), b"", None, cause, &mut streams.err)
+        }
+    }
 }

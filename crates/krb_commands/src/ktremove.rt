@@ -1,148 +1,118 @@
 //! Removes entries of a keytab's file.
 
-ghost use Rattle.std.specs.Prelude.{◌≡◌, false, IfOk, IsFalse, None, Some, if◌then◌else◌, map, option_map, vec_items};
-ghost use Rattle.krb_walk.specs.declared.event.Event.TheVariants.{Cut};
+ghost use Rattle.std.specs.Prelude.{◌≡◌, IfOk, IsFalse};
 ghost use Rattle.krb_keytab.specs.Store.{image_of};
-ghost use Rattle.krb_commands.specs.Changing.{Changes, ChangesFile, RunsChange};
-ghost use Rattle.krb_commands.specs.Edits.{run_of, Makes};
-ghost use Rattle.krb_commands.specs.Ktedit.{keytab_after, RunsFairly};
-ghost use Rattle.krb_commands.specs.Ktremove.{FairRemoval, RemovesFairly, none_ending, removal, removal_in};
+ghost use Rattle.krb_audit.specs.Selection.{asked};
+ghost use Rattle.krb_commands.specs.Commands.{RunsCommand, any, text_effect};
+ghost use Rattle.krb_commands.specs.Effects.{IsMade};
+ghost use Rattle.krb_commands.specs.Ktremove.{ktremove_plan, none_verdict, removes, without};
 
 use crate::action::RemoveOptions;
-use crate::edited::{Edited, hold_if, nothing, save_edited, show_edited};
-use crate::loading::load_keytab;
-use crate::telling::error_output::ErrorOutput;
-use crate::telling::{cause_of, tell};
-use crate::trouble::{FileKind, Trouble};
+use crate::command::{Command, FileTrouble, Made, Output, hold_if, run, save_unless};
+use crate::opening::open_whole;
+use crate::streams::Streams;
+use crate::verdict::{FileKind, Verdict};
 use krb_audit::{AskedKvno, Selection, select};
-use krb_files::{Files, Watched};
+use krb_files::Files;
 use krb_keytab::{Indexed, Keytab};
-use krb_walk::{Code, Session};
 use krb_wire::NoMemory;
 use std::alloc::Allocator;
-use std::io::Write;
+use std::io::{Read, Write};
 
-// The image of a keytab without the records at those places, which one session removes.
+/// What ktremove asks for.
+#[derive(Clone, Copy)]
+struct RemoveEntries<'f, B: Allocator> {
+    options: &'f RemoveOptions<B>,
+    file: &'f str,
+}
+
+// How a run ends where no entry is asked for: nothing to do is no failure where old ones are.
+fn none_verdict<B: Allocator>(selection: &Selection<B>, is_named: bool) -> Verdict
+    ensures { result ≡ none_verdict selection.now is_named }
+{
+    let is_any = selection.name.is_none() && selection.enctypes.is_empty();
+    if selection.kvno == AskedKvno::Old && (is_any || is_named) {
+        Verdict::Well
+    } else {
+        Verdict::NothingToRemove(FileKind::Keytab)
+    }
+}
+
+// The image of a keytab without the records at those places.
 fn cut<A: Allocator + Copy>(
     alloc: A,
     keytab: Keytab<A>,
     places: &[u32],
 ) -> Result<Vec<u8, A>, NoMemory>
-    ensures image { IfOk result (λ image. image.items ≡ image_of (keytab_after keytab.state (map Cut places.now))) }
-    ensures fair { IfOk result (λ image. RunsFairly (map Cut places.now) keytab.state) }
+    ensures { IfOk result (λ image. image.items ≡ image_of (without keytab.state places.now)) }
 {
-    let Ok(keytab) = Indexed::of(alloc, keytab) else {
+    let Ok(mut indexed) = Indexed::of(alloc, keytab) else {
         return Err(NoMemory);
     };
-    let mut session = Session::new(alloc, keytab);
-    session.cut_all(places);
-    Ok(session.into_store().into_image())
-}
-
-// What is to be saved of a keytab without the records at those places.
-fn image_without<A: Allocator + Copy>(
-    alloc: A,
-    dry_run: bool,
-    keytab: Keytab<A>,
-    places: &[u32],
-) -> Result<Option<Vec<u8, A>>, NoMemory>
-    ensures image { IfOk result (λ saved. option_map vec_items saved
-        ≡ (if dry_run then None else Some (image_of (keytab_after keytab.state (map Cut places.now))))) }
-    ensures fair { IfOk result (λ saved. dry_run ≡ false → RunsFairly (map Cut places.now) keytab.state) }
-{
-    if dry_run {
-        return Ok(None);
+    for place in places {
+        let _ = indexed.remove_at(*place);
     }
-    Ok(Some(cut(alloc, keytab, places)?))
-}
-
-// How a run ends where no entry is asked for: nothing to do is no failure where old ones are.
-fn none_end<A: Allocator>(selection: &Selection<A>, is_named: bool) -> Result<(), Trouble>
-    ensures { result ≡ none_ending selection.now is_named }
-{
-    let is_any = selection.name.is_none() && selection.enctypes.is_empty();
-    if selection.kvno == AskedKvno::Old && (is_any || is_named) {
-        Ok(())
-    } else {
-        Err(Trouble::NothingToRemove(FileKind::Keytab))
-    }
+    Ok(indexed.into_image())
 }
 
 // Removes from a keytab the entries that are asked for.
-fn remove<A: Allocator + Copy, B: Allocator>(
+fn remove<'a, A: Allocator + Copy, B: Allocator>(
     alloc: A,
-    options: &RemoveOptions<B>,
+    command: &RemoveEntries<'a, B>,
     keytab: Keytab<A>,
-) -> Result<Edited<A>, NoMemory>
-    ensures { IfOk result (Makes (FairRemoval options.now keytab.state) (removal_in options.now keytab.state)) }
+) -> Result<Made<A, Output<A>>, FileTrouble<'a>>
+    ensures { IsMade (removes command.now.options.now command.now.file.now keytab.state (asked command.now.options.now.selection keytab.state))
+        (text_effect command.now.file.now result) }
 {
-    if keytab.fault().is_some() {
-        return Ok(nothing(alloc, Err(Trouble::Refused(Code::Damaged))));
-    }
+    let options = command.options;
     let selected = select(alloc, &keytab, &options.selection)?;
     if selected.places.is_empty() {
-        let ending = none_end(&options.selection, selected.is_named);
-        return Ok(nothing(alloc, ending));
+        return Ok(Made::Shows(Output {
+            text: Vec::new(alloc),
+            verdict: none_verdict(&options.selection, selected.is_named),
+        }));
     }
-    let saved = image_without(alloc, options.dry_run, keytab, &selected.places)?;
-    Ok(Edited {
-        saved,
-        text: selected.text,
-        ending: Ok(()),
-    })
+    let image = cut(alloc, keytab, &selected.places)?;
+    Ok(save_unless(options.dry_run, image, selected.text))
 }
 
-// Removes entries from the file of that name, which is held, and saves it.
-fn remove_held<A: Allocator + Copy, B: Allocator, F: Files>(
+impl<'f, A: Allocator + Copy, B: Allocator> Command<A> for RemoveEntries<'f, B> {
+    ghost use Rattle.krb_commands.specs.Ktremove.{ktremove_plan};
+
+    type Shown = Output<A>;
+
+    ghost file = { λ c. c.file.now };
+
+    ghost plan = { λ c mode. ktremove_plan c.options.now c.file.now };
+
+    fn file(&self) -> &str {
+        self.file
+    }
+
+    fn make<F: Files>(
+        &self,
+        alloc: A,
+        files: &mut F,
+    ) -> Result<Made<A, Self::Shown>, FileTrouble<'_>> {
+        hold_if(!self.options.dry_run, files, self.file);
+        let keytab = open_whole(alloc, self.options.v1_order, files, self.file)?;
+        remove(alloc, self, keytab)
+    }
+}
+
+/// Removes from the keytab of that name the entries that are asked for, prints a line for each, and returns
+/// the status.
+pub fn run_ktremove<A: Allocator + Copy, B: Allocator, F: Files, R: Read, W: Write, E: Write>(
     alloc: A,
     options: &RemoveOptions<B>,
     file: &str,
     files: &mut F,
-) -> Result<Edited<A>, Trouble>
-    ensures { ChangesFile F.Files file.now (λ due. run_of result ≡ due)
-        (RemovesFairly options.now) (removal options.now) files.old files.new }
-{
-    let keytab = load_keytab(alloc, options.v1_order, files, file)?;
-    let edited = remove(alloc, options, keytab)?;
-    save_edited(file, files, &edited)?;
-    Ok(edited)
-}
-
-// Removes entries from the file of that name, and leaves it before it shows which.
-fn remove_from_file<A: Allocator + Copy, B: Allocator, F: Files, W: Write>(
-    alloc: A,
-    options: &RemoveOptions<B>,
-    file: &str,
-    files: &mut F,
-    out: &mut Watched<W>,
-) -> Result<(), Trouble>
-    requires { IsFalse out.old.failed }
-    ensures { Changes F.Files file.now (RemovesFairly options.now) (removal options.now)
-        files.old files.new out.old out.new result }
-{
-    hold_if(!options.dry_run, files, file);
-    let edited = remove_held(alloc, options, file, files);
-    files.release();
-    show_edited(edited, out)
-}
-
-/// Removes from the keytab of that name the entries that are asked for, and answers the status: loads it,
-/// removes them in one session, saves it, and shows on `out` a line for each. All is ready before it is
-/// saved, so memory is not missed after that. What goes wrong is said on `err`; a failure of `err` changes
-/// nothing else.
-pub fn run_ktremove<A: Allocator + Copy, B: Allocator, F: Files, W: Write, E: Write>(
-    alloc: A,
-    options: &RemoveOptions<B>,
-    file: &str,
-    files: &mut F,
-    out: &mut Watched<W>,
-    err: &mut ErrorOutput<E>,
+    streams: &mut Streams<R, W, E>,
 ) -> u8
-    requires { IsFalse out.old.failed }
-    ensures { RunsChange F.Files file.now (RemovesFairly options.now) (removal options.now)
-        files.old files.new out.old out.new err.old err.new result }
+    requires { IsFalse streams.old.out.failed }
+    ensures runs { RunsCommand F.Files (λ mode. ktremove_plan options.now file.now) any files.old files.new
+        streams.old.out streams.new.out streams.old.err streams.new.err result }
+    ensures input { streams.new.input ≡ streams.old.input }
 {
-    let ending = remove_from_file(alloc, options, file, files, out);
-    let cause = cause_of(&ending, files, out);
-    tell(ending, file.as_bytes(), None, cause, err)
+    run(alloc, &RemoveEntries { options, file }, files, streams)
 }

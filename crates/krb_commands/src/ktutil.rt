@@ -15,10 +15,12 @@ mod verb;
 mod words;
 
 use crate::input_lines::InputLines;
+use crate::streams::Streams;
 use crate::telling::error_output::ErrorOutput;
 use crate::telling::{cause_of, show, tell};
 use crate::trouble::Trouble;
-use krb_files::{Files, Watched, WatchedReader};
+use crate::verdict::Verdict;
+use krb_files::{Files, Watched};
 use krb_wire::Order;
 pub use line_end::LineEnd;
 pub use state::Ktutil;
@@ -46,11 +48,11 @@ fn goes_on(ending: LineEnd, has_out_failed: bool) -> bool
 }
 
 // How a line of that number ended.
-fn ending_of(number: u64, ending: LineEnd) -> Result<(), Trouble>
+fn ending_of(number: u64, ending: LineEnd) -> Result<Verdict, Trouble>
     ensures { result ≡ ending_of number ending }
 {
     match ending {
-        LineEnd::Done | LineEnd::Quit => Ok(()),
+        LineEnd::Done | LineEnd::Quit => Ok(Verdict::Well),
         LineEnd::Fault(fault) => Err(Trouble::FaultyLine {
             line: number,
             fault,
@@ -110,16 +112,15 @@ impl<A: Allocator + Copy> Talk<A> {
 pub fn run_ktutil<A: Allocator + Copy, F: Files, R: Read, W: Write, E: Write>(
     alloc: A,
     v1_order: Order,
-    files: &mut F,
-    input: &mut WatchedReader<R>,
     now: u32,
-    out: &mut Watched<W>,
-    err: &mut ErrorOutput<E>,
+    files: &mut F,
+    streams: &mut Streams<R, W, E>,
 ) -> u8
-    requires { IsFalse out.old.failed }
-    ensures { RunsKtutil F.Files v1_order now input.old input.new
-        files.old files.new out.old out.new err.old err.new result }
+    requires { IsFalse streams.old.out.failed }
+    ensures { RunsKtutil F.Files v1_order now streams.old.input streams.new.input
+        files.old files.new streams.old.out streams.new.out streams.old.err streams.new.err result }
 {
+    let Streams { input, out, err } = streams;
     let mut lines = InputLines::new(alloc);
     let mut talk = Talk::new(alloc, v1_order, now);
     let mut number = 0u64;

@@ -4,7 +4,8 @@ ghost use Rattle.std.specs.Prelude.{◌≡◌, Err};
 ghost use Rattle.krb_keytab.specs.Store.{open_result};
 ghost use Rattle.krb_commands.specs.declared.loading.NoKeytab.TheVariants.{Load};
 ghost use Rattle.krb_commands.specs.KtutilCommand.{result_map};
-ghost use Rattle.krb_commands.specs.Loading.{Gives, GivesOrRunsOut, begins_as_cache, begins_as_keytab, cache_of, keytab_of, keytab_or_new, most_bytes, not_keytab, result_map_err};
+ghost use Rattle.krb_files.specs.Loading.{most_bytes};
+ghost use Rattle.krb_commands.specs.Loading.{Gives, GivesOrRunsOut, begins_as_cache, begins_as_keytab, cache_of, keytab_of, keytab_or_new, not_keytab, result_map_err};
 
 use crate::trouble::Trouble;
 use krb_ccache::{CcOpenFault, Ccache};

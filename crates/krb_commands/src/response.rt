@@ -14,28 +14,20 @@ use crate::ktedit::run_ktedit;
 use crate::ktfind::run_ktfind;
 use crate::ktremove::run_ktremove;
 use crate::ktutil::run_ktutil;
+use crate::streams::Streams;
 use crate::telling::error_output::ErrorOutput;
 use crate::telling::{show, tell, tell_word_fault};
-use krb_files::{Files, Watched, WatchedReader};
+use crate::verdict::Verdict;
+use krb_files::{Files, Watched};
 use std::alloc::Allocator;
 use std::io::{Read, Write};
-
-/// The streams of a run.
-#[derive(Drop)]
-pub struct Streams<R: Read, W: Write, E: Write> {
-    /// Gives scripts, and the lines of ktutil.
-    pub input: WatchedReader<R>,
-    pub out: Watched<W>,
-    /// Takes what is said of what goes wrong.
-    pub err: ErrorOutput<E>,
-}
 
 // Shows help that was asked for.
 fn show_help<W: Write, E: Write>(text: &str, out: &mut Watched<W>, err: &mut ErrorOutput<E>) -> u8
     requires { IsFalse out.old.failed }
     ensures { EndsRun [] None (help_run text.now) out.old out.new err.old err.new result }
 {
-    let ending = show(text.as_bytes(), Ok(()), out);
+    let ending = show(text.as_bytes(), Ok(Verdict::Well), out);
     tell(ending, b"", None, out.cause(), err)
 }
 
@@ -52,31 +44,30 @@ pub fn respond<A: Allocator + Copy, F: Files, R: Read, W: Write, E: Write>(
     ensures { EndsAsked F.Files now streams.old.input streams.new.input files.old files.new
         streams.old.out streams.new.out streams.old.err streams.new.err result asked.now }
 {
-    let Streams { input, out, err } = streams;
     match asked {
         Ok(Action::Klist(options, file)) => {
-            run_klist(alloc, options, file.as_str(), files, out, err)
+            run_klist(alloc, options, file.as_str(), files, streams)
         }
         Ok(Action::Ktfind(options, file)) => {
-            run_ktfind(alloc, options, file.as_str(), files, out, err)
+            run_ktfind(alloc, options, file.as_str(), files, streams)
         }
         Ok(Action::Ktedit(v1_order, file)) => {
-            run_ktedit(alloc, *v1_order, file.as_str(), files, input, out, err)
+            run_ktedit(alloc, *v1_order, file.as_str(), files, streams)
         }
         Ok(Action::Ktcheck(v1_order, file)) => {
-            run_ktcheck(alloc, *v1_order, file.as_str(), files, out, err)
+            run_ktcheck(alloc, *v1_order, file.as_str(), files, streams)
         }
         Ok(Action::Ktremove(options, file)) => {
-            run_ktremove(alloc, options, file.as_str(), files, out, err)
+            run_ktremove(alloc, options, file.as_str(), files, streams)
         }
         Ok(Action::Ktutil(v1_order)) => {
-            run_ktutil(alloc, *v1_order, files, input, now.unwrap_or(0), out, err)
+            run_ktutil(alloc, *v1_order, now.unwrap_or(0), files, streams)
         }
-        Ok(Action::Ccedit(file)) => run_ccedit(alloc, file.as_str(), files, input, out, err),
+        Ok(Action::Ccedit(file)) => run_ccedit(alloc, file.as_str(), files, streams),
         Ok(Action::Ccremove(options, file)) => {
-            run_ccremove(alloc, options, now, file.as_str(), files, out, err)
+            run_ccremove(alloc, options, now, file.as_str(), files, streams)
         }
-        Ok(Action::Help(text)) => show_help(text.as_str(), out, err),
-        Err(fault) => tell_word_fault(*fault, err),
+        Ok(Action::Help(text)) => show_help(text.as_str(), &mut streams.out, &mut streams.err),
+        Err(fault) => tell_word_fault(*fault, &mut streams.err),
     }
 }

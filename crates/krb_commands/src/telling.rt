@@ -9,12 +9,13 @@ pub(crate) mod told;
 mod told_words;
 mod words;
 
-ghost use Rattle.std.specs.Prelude.{◌≡◌, IsFalse, Err, codes};
+ghost use Rattle.std.specs.Prelude.{◌≡◌, IsFalse, codes};
 ghost use Rattle.krb_keytab.specs.Open.{open_fault_number};
 ghost use Rattle.krb_commands.specs.Messages.{file_message, file_number_message, line_message, message};
 ghost use Rattle.krb_commands.specs.PieceTexts.{pieces_text};
 ghost use Rattle.krb_commands.specs.Runs.{Says, SaysEnd, Shows, Tells};
-ghost use Rattle.krb_commands.specs.Troubles.{trouble_message};
+ghost use Rattle.krb_commands.specs.Troubles.{ending_message, trouble_message};
+ghost use Rattle.krb_commands.specs.Verdicts.{verdict_message};
 ghost use Rattle.krb_commands.specs.Words.{ending_text};
 
 use crate::loading::NotKeytab;
@@ -23,8 +24,9 @@ use crate::telling::found_words::say_findings;
 use crate::telling::piece::Piece;
 use crate::telling::saying::say;
 use crate::telling::told_words::say_told;
-use crate::telling::words::trouble_words;
+use crate::telling::words::ending_words;
 use crate::trouble::Trouble;
+use crate::verdict::Verdict;
 use krb_files::{Cause, Files, Watched, put};
 use krb_walk::Code;
 pub use mistake_words::tell_word_fault;
@@ -33,9 +35,9 @@ use std::io::Write;
 /// Shows a text, and then ends so; or by an output that failed.
 pub fn show<W: Write>(
     text: &[u8],
-    ending: Result<(), Trouble>,
+    ending: Result<Verdict, Trouble>,
     out: &mut Watched<W>,
-) -> Result<(), Trouble>
+) -> Result<Verdict, Trouble>
     requires { IsFalse out.old.failed }
     ensures { Shows (record { out = text.now; ending = ending }) out.old out.new result }
 {
@@ -115,7 +117,7 @@ fn not_keytab_message(file: &[u8], why: NotKeytab) -> Message<'_>
     file_number_message(file, "not a keytab (", why.fault.number(), ")")
 }
 
-// What ended a run, where that was not told before.
+// What ended a run before its end.
 fn trouble_message(trouble: Trouble, file: &[u8]) -> Message<'_>
     ensures { pieces_text result ≡ trouble_message file.now trouble }
 {
@@ -134,19 +136,37 @@ fn trouble_message(trouble: Trouble, file: &[u8]) -> Message<'_>
             file_number_message(file, "not a cache (", why.fault.number(), ")")
         }
         Trouble::Refused(code) => file_number_message(file, "refused ", code.number(), ""),
-        Trouble::NothingToRemove(_) => {
-            file_number_message(file, "refused ", Code::NotFound.number(), "")
-        }
-        Trouble::Listed(_) | Trouble::Replied(_) | Trouble::Found(_) => [NONE; 7],
         Trouble::OutputNotWritten => message("cannot write output"),
         Trouble::ClockNotRead => message("cannot read the clock"),
         Trouble::NoMemory => message("out of memory"),
     }
 }
 
-/// What ended a run failed with, where a call over a file or a write did.
+// What a run has to say that did its work.
+fn verdict_message(verdict: Verdict, file: &[u8]) -> Message<'_>
+    ensures { pieces_text result ≡ verdict_message file.now verdict }
+{
+    match verdict {
+        Verdict::NothingToRemove(_) => {
+            file_number_message(file, "refused ", Code::NotFound.number(), "")
+        }
+        _ => [NONE; 7],
+    }
+}
+
+// What is said of an end.
+fn ending_message(ending: Result<Verdict, Trouble>, file: &[u8]) -> Message<'_>
+    ensures { pieces_text result ≡ ending_message file.now ending }
+{
+    match ending {
+        Ok(verdict) => verdict_message(verdict, file),
+        Err(trouble) => trouble_message(trouble, file),
+    }
+}
+
+/// What a run failed with, where a call over a file or a write did.
 pub fn cause_of<F: Files, W: Write>(
-    ending: &Result<(), Trouble>,
+    ending: &Result<Verdict, Trouble>,
     files: &F,
     out: &Watched<W>,
 ) -> Option<Cause> {
@@ -156,37 +176,37 @@ pub fn cause_of<F: Files, W: Write>(
     }
 }
 
-// Says what ended a run, with words where they are shown.
-fn say_trouble<E: Write>(
-    trouble: Trouble,
+// Says how a run ended, with words where they are shown.
+fn say_end<E: Write>(
+    ending: Result<Verdict, Trouble>,
     file: &[u8],
     line: Option<u64>,
     cause: Option<Cause>,
     err: &mut ErrorOutput<E>,
 )
-    ensures says { SaysEnd file.now line (Err trouble) err.old err.new }
-    ensures cause { Says err.old.to err.new.to (ending_text err.old.explains file.now line cause (Err trouble)) }
+    ensures says { SaysEnd file.now line ending err.old err.new }
+    ensures cause { Says err.old.to err.new.to (ending_text err.old.explains file.now line cause ending) }
 {
-    let message = trouble_message(trouble, file);
+    let message = ending_message(ending, file);
     if !err.explains {
         say(&mut err.to, &message, &[]);
         return;
     }
-    match trouble {
-        Trouble::Replied(told) => say_told(&mut err.to, &told),
-        Trouble::Found(findings) => say_findings(&mut err.to, &findings, file),
+    match ending {
+        Ok(Verdict::Replied(told)) => say_told(&mut err.to, &told),
+        Ok(Verdict::Found(findings)) => say_findings(&mut err.to, &findings, file),
         _ => say(
             &mut err.to,
             &message,
-            &trouble_words(trouble, file, line, cause),
+            &ending_words(ending, file, line, cause),
         ),
     }
 }
 
-/// Tells on `err` how a run, or that line of ktutil, ended that names that file, and answers the status. A
+/// Says on `err` how a run, or that line of ktutil, ended that names that file, and returns the status. A
 /// failure of `err` is passed over. The cause is that of the call that failed, if one did.
 pub fn tell<E: Write>(
-    ending: Result<(), Trouble>,
+    ending: Result<Verdict, Trouble>,
     file: &[u8],
     line: Option<u64>,
     cause: Option<Cause>,
@@ -196,9 +216,13 @@ pub fn tell<E: Write>(
     ensures cause { Says err.old.to err.new.to (ending_text err.old.explains file.now line cause ending) }
 {
     match ending {
-        Ok(()) => 0,
+        Ok(Verdict::Well) => 0,
+        Ok(verdict) => {
+            say_end(ending, file, line, cause, err);
+            verdict.status()
+        }
         Err(trouble) => {
-            say_trouble(trouble, file, line, cause, err);
+            say_end(ending, file, line, cause, err);
             trouble.status()
         }
     }

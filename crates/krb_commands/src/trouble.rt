@@ -2,32 +2,15 @@
 
 ghost use Rattle.std.specs.Prelude.{◌≡◌};
 ghost use Rattle.krb_commands.specs.declared.trouble.Trouble.TheVariants as trouble;
-ghost use Rattle.krb_commands.specs.Troubles.{input_trouble, list_trouble, listing_ending, load_trouble, no_keytab_trouble, out_trouble, save_trouble, script_trouble, trouble_status};
+ghost use Rattle.krb_commands.specs.Troubles.{input_trouble, list_trouble, load_trouble, no_keytab_trouble, out_trouble, save_trouble, script_trouble, trouble_status};
 
 use crate::loading::{NoKeytab, NotCache, NotKeytab};
-use crate::telling::told::Told;
 use krb_files::{LoadFault, OutFault, SaveFault};
 use krb_text::{LineFault, ScriptRefusal};
-use krb_walk::{Code, Fault};
+use krb_walk::Code;
 use krb_wire::NoMemory;
 
-/// The kind of file that a run changes.
-#[derive(Clone, Copy)]
-pub enum FileKind {
-    Keytab,
-    Cache,
-}
-
-/// What was found about a keytab: which words were printed, the fault, and whether something is wrong.
-#[derive(Clone, Copy)]
-pub struct Findings {
-    pub words: krb_audit::Told,
-    pub fault: Option<Fault>,
-    pub is_wrong: bool,
-}
-
-/// What ends a run, or a line of ktutil, before its end. The file is the one that the run or the line
-/// names; a line has its number, counted from 1.
+/// What ends a run, or a line of ktutil, before its end. A line has its number, counted from 1.
 #[derive(Clone, Copy)]
 pub enum Trouble {
     InputTooLarge,
@@ -45,14 +28,6 @@ pub enum Trouble {
     NotACache(NotCache),
     /// The file refused what the run asked for.
     Refused(Code),
-    /// No entry, or no ticket, has what was asked for.
-    NothingToRemove(FileKind),
-    /// The listing that was printed tells of it.
-    Listed(Fault),
-    /// The replies that were printed tell of it.
-    Replied(Told),
-    /// The findings that were printed tell of it.
-    Found(Findings),
     OutputNotWritten,
     /// The clock failed, or stands before 1970 or after 2106.
     ClockNotRead,
@@ -72,7 +47,6 @@ impl Trouble {
             | Trouble::FileNotWritten
             | Trouble::OutputNotWritten
             | Trouble::ClockNotRead => 3,
-            Trouble::Found(findings) => u8::from(findings.is_wrong),
             _ => 1,
         }
     }
@@ -96,16 +70,6 @@ impl Trouble {
             LoadFault::NoMemory => Trouble::NoMemory,
             LoadFault::Missing | LoadFault::Failed => Trouble::InputNotRead,
         }
-    }
-}
-
-/// The end of a listing, which tells of a fault.
-pub fn listing_end(fault: Option<Fault>) -> Result<(), Trouble>
-    ensures { result ≡ listing_ending fault }
-{
-    match fault {
-        Some(fault) => Err(Trouble::Listed(fault)),
-        None => Ok(()),
     }
 }
 

@@ -8,7 +8,7 @@ ghost use Rattle.krb_commands.specs.Words.{found_fault_words, found_words, word_
 use crate::telling::piece::Piece;
 use crate::telling::saying::say;
 use crate::telling::words::{Words, listed_words, no_words};
-use crate::trouble::Findings;
+use crate::verdict::Findings;
 use krb_audit::Told;
 use krb_files::Watched;
 use krb_walk::Fault;

@@ -3,9 +3,9 @@
 ghost use Rattle.std.specs.Prelude.{◌≡◌};
 ghost use Rattle.std.specs.List.{list_any};
 ghost use Rattle.krb_walk.specs.Said.{said};
-ghost use Rattle.krb_commands.specs.Told.{code_told, codes_told, fault_told, faults_told, is_trouble, replied_ending, tells_code, tells_fault};
+ghost use Rattle.krb_commands.specs.Told.{code_told, codes_told, fault_told, faults_told, is_trouble, replied_verdict, tells_code, tells_fault};
 
-use crate::trouble::{FileKind, Trouble};
+use crate::verdict::{FileKind, Verdict};
 use krb_walk::{Code, FaultKind, Reply};
 use std::alloc::Allocator;
 
@@ -118,16 +118,16 @@ fn are_trouble<A: Allocator>(replies: &[Reply<A>]) -> bool
 }
 
 /// The end of a run that printed these replies of a file of that kind.
-pub fn replied_end<A: Allocator>(kind: FileKind, replies: &[Reply<A>]) -> Result<(), Trouble>
-    ensures { result ≡ replied_ending kind said replies.now }
+pub fn replied_verdict<A: Allocator>(kind: FileKind, replies: &[Reply<A>]) -> Verdict
+    ensures { result ≡ replied_verdict kind said replies.now }
 {
     if are_trouble(replies) {
-        Err(Trouble::Replied(Told {
+        Verdict::Replied(Told {
             kind,
             codes: codes_told(replies),
             faults: faults_told(replies),
-        }))
+        })
     } else {
-        Ok(())
+        Verdict::Well
     }
 }

@@ -12,7 +12,7 @@ use crate::telling::piece::Piece;
 use crate::telling::saying::{Gathered, add_pieces};
 use crate::telling::told::Told;
 use crate::telling::words::refusal_phrase;
-use crate::trouble::FileKind;
+use crate::verdict::FileKind;
 use arrayvec::ArrayVec;
 use krb_files::{OutFault, Watched, put};
 use krb_walk::{Code, FaultKind};

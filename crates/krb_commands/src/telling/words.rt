@@ -1,14 +1,15 @@
 //! The words that explain what ended a run.
 
-ghost use Rattle.std.specs.Prelude.{◌≡◌, [], ◌++◌, IsFalse, codes};
+ghost use Rattle.std.specs.Prelude.{◌≡◌, [], ◌++◌, IfOk, IsFalse, codes};
 ghost use Rattle.krb_commands.specs.Messages.{phrase_line, words_line};
 ghost use Rattle.krb_commands.specs.PieceTexts.{piece_text, pieces_text};
-ghost use Rattle.krb_commands.specs.Told.{is_printed};
-ghost use Rattle.krb_commands.specs.Words.{cache_phrase, cause_words, keytab_phrase, line_fault_phrase, list_phrase, listed_words, missing_words, no_cache_phrase, no_keytab_phrase, nothing_phrase, refusal_phrase, trouble_words};
+ghost use Rattle.krb_commands.specs.Verdicts.{is_itemized};
+ghost use Rattle.krb_commands.specs.Words.{cache_phrase, cause_words, ending_words, keytab_phrase, line_fault_phrase, list_phrase, listed_words, missing_words, no_cache_phrase, no_keytab_phrase, nothing_phrase, refusal_phrase, trouble_words, verdict_words};
 
 use crate::loading::{NotCache, NotKeytab};
 use crate::telling::piece::Piece;
-use crate::trouble::{FileKind, Trouble};
+use crate::trouble::Trouble;
+use crate::verdict::{FileKind, Verdict};
 use krb_ccache::CcOpenFault;
 use krb_files::Cause;
 use krb_keytab::KtOpenFault;
@@ -189,15 +190,13 @@ pub fn listed_words(file: &[u8], fault: Fault) -> Words<'_>
     ]
 }
 
-/// What explains a message, where the run or that line of ktutil names that file. What replies
-/// and findings tell of has more words than these.
-pub fn trouble_words(
+// What explains some trouble, where the run or that line of ktutil names that file.
+fn trouble_words(
     trouble: Trouble,
     file: &[u8],
     line: Option<u64>,
     cause: Option<Cause>,
 ) -> Words<'_>
-    requires { IsFalse (is_printed trouble) }
     ensures { pieces_text result ≡ trouble_words file.now line cause trouble }
 {
     match trouble {
@@ -206,7 +205,6 @@ pub fn trouble_words(
         Trouble::LineRefused { code, .. } | Trouble::Refused(code) => {
             phrase(line, keytab_phrase(code))
         }
-        Trouble::NothingToRemove(kind) => phrase(line, nothing_phrase(kind)),
         Trouble::NoSuchFile => missing_words(line),
         Trouble::InputNotRead
         | Trouble::FileNotRead
@@ -215,9 +213,37 @@ pub fn trouble_words(
         Trouble::NotAKeytab(why) => phrase(line, no_keytab_phrase(why)),
         Trouble::NotAKeytabToList(why) => phrase(line, list_phrase(why)),
         Trouble::NotACache(why) => phrase(line, no_cache_phrase(why)),
-        Trouble::Listed(fault) => listed_words(file, fault),
-        Trouble::Replied(_) | Trouble::Found(_) => unreachable!(),
         Trouble::ClockNotRead => phrase(line, "the clock is before 1970 or after 2106, or failed"),
         Trouble::NoMemory => no_words(),
+    }
+}
+
+// What explains the end of a run that did its work. Replies and findings have more words than these.
+fn verdict_words(verdict: Verdict, file: &[u8], line: Option<u64>) -> Words<'_>
+    requires { IsFalse (is_itemized verdict) }
+    ensures { pieces_text result ≡ verdict_words file.now line verdict }
+{
+    match verdict {
+        Verdict::Well => no_words(),
+        Verdict::NothingToRemove(kind) => phrase(line, nothing_phrase(kind)),
+        Verdict::Listed(fault) => listed_words(file, fault),
+        Verdict::Replied(_) | Verdict::Found(_) => unreachable!(),
+    }
+}
+
+/// What explains an end, where the run or that line of ktutil names that file. Replies and findings have more
+/// words than these.
+pub fn ending_words(
+    ending: Result<Verdict, Trouble>,
+    file: &[u8],
+    line: Option<u64>,
+    cause: Option<Cause>,
+) -> Words<'_>
+    requires { IfOk ending (λ verdict. IsFalse (is_itemized verdict)) }
+    ensures { pieces_text result ≡ ending_words file.now line cause ending }
+{
+    match ending {
+        Ok(verdict) => verdict_words(verdict, file, line),
+        Err(trouble) => trouble_words(trouble, file, line, cause),
     }
 }

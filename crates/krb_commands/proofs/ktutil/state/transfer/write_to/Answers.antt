@@ -1,5 +1,5 @@
 use Rattle.krb_keytab.specs.Store.{image_of}
-use Rattle.krb_commands.specs.Loading.{SavesFile}
+use Rattle.krb_files.specs.Loading.{SavesFile}
 use Rattle.krb_commands.proofs.KtutilHandles.{goes_saved}
 use Rattle.krb_commands.proofs.ktutil.state.transfer.write_to.Goals as goal
 

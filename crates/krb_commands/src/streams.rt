@@ -1,0 +1,15 @@
+//! The streams of a run.
+
+use crate::telling::error_output::ErrorOutput;
+use krb_files::{Watched, WatchedReader};
+use std::io::{Read, Write};
+
+/// The streams of a run.
+#[derive(Drop)]
+pub struct Streams<R: Read, W: Write, E: Write> {
+    /// Gives scripts, and the lines of ktutil.
+    pub input: WatchedReader<R>,
+    pub out: Watched<W>,
+    /// Takes what is said of what goes wrong.
+    pub err: ErrorOutput<E>,
+}
