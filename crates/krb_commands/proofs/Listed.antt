@@ -1,17 +1,20 @@
 -- What is shown of a file where its output fails.
 use Rattle.std.proofs.Common.{◌≡◌, ℕ, List, [], ◌∷◌, ◌++◌, inl, inr, refl, sym, ap, ◌∙◌}
-use Rattle.std.specs.Prelude.{Bool, true, false, Err, codes}
+use Rattle.std.specs.Prelude.{Bool, true, false, IsFalse, Ok, Err, codes}
 use Rattle.std.proofs.lemmas.Bool.{false≢true, true≢false}
 use Rattle.krb_keytab.specs.Store.{KeytabState}
 use Rattle.krb_ccache.specs.Store.{CacheState}
+use Rattle.std.specs.Io.KnownBytes.{Appends}
 use Rattle.krb_files.specs.Bytes.{Watch, AppendsPrefix, is_write_fault}
+use Rattle.krb_files.proofs.Prefixes.{AppendsPrefix-all}
 use Rattle.krb_files.specs.declared.output.OutFault.{OutFault}
 use Rattle.krb_files.specs.declared.output.OutFault.TheVariants.{Write, NoMemory}
 use Rattle.krb_text.specs.declared.columns.KtColumns.{KtColumns}
 use Rattle.krb_cache_text.specs.declared.columns.CcColumns.{CcColumns}
 use Rattle.krb_commands.specs.Klist.{cache_shown, keytab_shown}
-use Rattle.krb_commands.specs.Runs.{Prints, Run}
-use Rattle.krb_commands.specs.Troubles.{out_trouble}
+use Rattle.krb_commands.specs.Commands.{ShowsPage}
+use Rattle.krb_commands.specs.Effects.{Page}
+use Rattle.krb_commands.specs.Troubles.{Ending, out_trouble}
 
 -- nothing stands in a list
 abbrev is_none : List ℕ → Bool
@@ -37,13 +40,22 @@ pub cache_shown-some : (json : Bool) (columns : CcColumns) (file : List ℕ) (k 
 cache_shown-some true columns file k is = line-some _ is
 cache_shown-some false columns file k is = cons-some 84 _ is
 
--- the output failed, or memory ran out, before the end of a text
-pub Prints-failed : (T : Type 0) (due : Run) (out out' : Watch) (fault : OutFault) → (due.out ≡ [] → ⊥) → AppendsPrefix out.contents out'.contents due.out
-    → out'.failed ≡ is_write_fault {T = T} (Err fault) → Prints due out out' (Err (out_trouble fault))
-Prints-failed T due out out' Write some prefix failed = inl (record {
+-- a page was shown whole
+pub ShowsPage-done : (page : Page) (out out' : Watch) (ending : Ending) → IsFalse out.failed → IsFalse out'.failed → Appends out.contents out'.contents page.out → ending ≡ Ok page.verdict → ShowsPage out out' ending page
+ShowsPage-done page out out' ending well still appends is = inl (record {
+  done = λ _. (appends, is);
+  prefix = AppendsPrefix-all out.contents out'.contents page.out appends;
+  failed = λ failed. absurd (false≢true (sym still ∙ failed));
+  still = λ _. still ∙ sym well;
+})
+
+-- the output failed, or memory ran out, before the end of a page
+pub ShowsPage-failed : (T : Type 0) (page : Page) (out out' : Watch) (fault : OutFault) → page.takes ≡ true → (page.out ≡ [] → ⊥) → AppendsPrefix out.contents out'.contents page.out
+    → out'.failed ≡ is_write_fault {T = T} (Err fault) → ShowsPage out out' (Err (out_trouble fault)) page
+ShowsPage-failed T page out out' Write takes some prefix failed = inl (record {
   done = λ well. absurd (true≢false (sym failed ∙ well));
   prefix = prefix;
   failed = λ _. refl;
   still = λ none. absurd (some none);
 })
-Prints-failed T due out out' NoMemory some prefix failed = inr (record { ending_is = refl; well = failed; prefix = prefix })
+ShowsPage-failed T page out out' NoMemory takes some prefix failed = inr (takes, record { ending_is = refl; well = failed; prefix = prefix })

@@ -31,9 +31,12 @@ use Rattle.krb_ccache.specs.Rewrite as cache_rewrite
 use Rattle.krb_ccache.specs.Store as cache_store
 use Rattle.krb_ccache.specs.Store.{CacheState}
 use Rattle.krb_text.specs.Reply.{reply_text_by, reply_texts_by, format_after_by}
+use Rattle.krb_commands.specs.declared.command.Made.{Made}
+use Rattle.krb_commands.specs.declared.command.Output.{Output}
 use Rattle.krb_commands.specs.declared.verdict.FileKind.{FileKind}
 use Rattle.krb_commands.specs.declared.verdict.Verdict.{Verdict}
 use Rattle.krb_commands.specs.declared.verdict.Verdict.TheVariants.{Well, Replied}
+use Rattle.krb_commands.specs.Commands.{text_effect}
 use Rattle.krb_commands.specs.Effects.{Effect}
 use Rattle.krb_commands.specs.Sessions.{new_session, moments, left, replied, session_effect, RunsFairly}
 use Rattle.krb_commands.specs.Told.{is_trouble, tells_code, tells_fault, code_told, fault_told, codes_told, faults_told, replied_verdict}
@@ -204,6 +207,11 @@ pub ran_fair : {S I : Type 0} (r : Rules S I) (store : S) (events : List (Event 
     → Ran r (new_session store) (state_after r (new_session store) events) events [] told → RunsFairly r store events
 ran_fair r store events told ran = subst (λ (t : List Said). Ran r (new_session store) (state_after r (new_session store) events) events [] t) ran.replies_are ran
 
+-- the same of a session that began new
+pub begun_fair : {S I : Type 0} (r : Rules S I) (store : S) (events : List (Event I)) (old new : SessionState S) (told : List Said)
+    → old ≡ new_session store → Ran r old new events [] told → RunsFairly r store events
+begun_fair r store events old new told begins ran = ran_fair r store events told (ran_begun r store events old new told begins ran)
+
 -- it left the store that the events leave
 pub left_begun : {S I : Type 0} (r : Rules S I) (store : S) (events : List (Event I)) (old new : SessionState S) (told : List Said)
     → old ≡ new_session store → Ran r old new events [] told → new.store ≡ left r store events
@@ -212,12 +220,21 @@ left_begun {S} r store events old new told begins ran =
 
 -- what the replies of a session come to is what the session comes to
 pub session_made : {S I F : Type 0} (kind : FileKind) (r : Rules S I) (image : S → List ℕ) (tail_of : F → List ℕ → List ℕ) (format : S → F) (rewritten : F) → KeepsFormat format rewritten r
-    → (file : List ℕ) (store : S) (events : List (Event I)) (told : List Said) (bytes : List ℕ) (effect : Effect)
-    → Ran r (new_session store) (state_after r (new_session store) events) events [] told → bytes ≡ image (left r store events)
-    → effect ≡ replied kind file told bytes (reply_texts_by tail_of rewritten (format store) told)
-    → effect ≡ session_effect kind r image (λ k. reply_text_by tail_of (format k)) file store events
-session_made kind r image tail_of format rewritten keeps file store events told bytes effect ran bytes_are is =
+    → (store : S) (events : List (Event I)) (told : List Said) (bytes : List ℕ) → Ran r (new_session store) (state_after r (new_session store) events) events [] told → bytes ≡ image (left r store events)
+    → (file : List ℕ) → replied kind file told bytes (reply_texts_by tail_of rewritten (format store) told) ≡ session_effect kind r image (λ k. reply_text_by tail_of (format k)) file store events
+session_made kind r image tail_of format rewritten keeps store events told bytes ran bytes_are file =
     let due = replies (moments r store events) in
-    is ∙ ap (λ (t : List Said). replied kind file t bytes (reply_texts_by tail_of rewritten (format store) t)) ran.replies_are
+    ap (λ (t : List Said). replied kind file t bytes (reply_texts_by tail_of rewritten (format store) t)) ran.replies_are
     ∙ ap (λ (b : List ℕ). replied kind file due b (reply_texts_by tail_of rewritten (format store) due)) bytes_are
     ∙ ap (replied kind file due (image (left r store events))) (sym (lines_of r format rewritten keeps tail_of (new_session store) events))
+
+-- what was made is what is due, where that is the same
+pub made_as : {A E : Type 0} (given due : List ℕ → Effect) → ((file : List ℕ) → given file ≡ due file) → (result : Result (Made A (Output A)) E)
+    → IfOk result (λ made. (file : List ℕ) → text_effect file (Ok made) ≡ given file) → IfOk result (λ made. (file : List ℕ) → text_effect file (Ok made) ≡ due file)
+made_as given due same (Ok made) is = λ file. is file ∙ same file
+made_as given due same (Err refused) is = tt
+
+-- that holds, also where something was made
+pub made_so : {X E : Type 0} (P : Type 0) → P → (result : Result X E) → IfOk result (λ made. P)
+made_so P holds (Ok made) = holds
+made_so P holds (Err refused) = tt

@@ -1,10 +1,9 @@
 -- What ccremove does.
-use Rattle.std.specs.Prelude.{ℕ, Bool, not, List, [], ◌∷◌, ◌++◌, ◌&&◌, ◌||◌, ◌==◌, map, length, is_none, if◌then◌else◌, Option, None, Some, Result, Ok, Err}
+use Rattle.std.specs.Prelude.{ℕ, Bool, not, List, [], ◌&&◌, ◌||◌, ◌==◌, map, length, is_none, if◌then◌else◌, Option, None, Some, Result, Ok, Err}
 use Rattle.std.specs.List.{flat_map, list_any}
-use Rattle.krb_walk.specs.declared.event.Event.{Event}
-use Rattle.krb_walk.specs.declared.event.Event.TheVariants.{Cut, Rewrite}
-use Rattle.krb_ccache.specs.Credential.{CredParts}
-use Rattle.krb_ccache.specs.Placed.{cache_rules}
+use Rattle.krb_walk.specs.Events.{cut_store}
+use Rattle.krb_ccache.specs.Changes.{without}
+use Rattle.krb_ccache.specs.Rewrite.{rewrite_result}
 use Rattle.krb_ccache.specs.Store.{CacheState, PlacedCredential, image_of, placed_credentials}
 use Rattle.krb_files.specs.declared.files.Files.{Ghosts}
 use Rattle.krb_files.specs.Bytes.{Watch}
@@ -21,7 +20,6 @@ use Rattle.krb_commands.specs.Effects.{CommandPlan, Effect, Displays, opens, sav
 use Rattle.krb_commands.specs.ErrorOutput.{ErrorWatch}
 use Rattle.krb_commands.specs.Opening.{writable_in}
 use Rattle.krb_commands.specs.Scripted.{EndsBefore}
-use Rattle.krb_commands.specs.Sessions as session
 
 -- the time at or before which tickets that are asked for end, by the clock, if expired ones are
 abbrev pub clock_time : Option ℕ → Result (Option ℕ) Trouble
@@ -31,13 +29,9 @@ clock_time (Some now) = Ok (Some now)
 abbrev pub ended_by : {A : Type 0} → TicketOptions A → Option ℕ → Result (Option ℕ) Trouble
 ended_by o now = if o.expired then clock_time now else Ok None
 
--- the removal of what stands at each of these places, and then a rewrite, which takes the keys of what was removed out of the file
-abbrev pub removals : List ℕ → List (Event CredParts)
-removals places = map Cut places ++ Rewrite ∷ []
-
--- the cache after them
+-- the cache rewritten without the tickets at these places, so that their keys are not in the file any more
 abbrev pub cache_after : CacheState → List ℕ → CacheState
-cache_after k places = session.left cache_rules k (removals places)
+cache_after k places = cut_store (without k places) (rewrite_result (without k places))
 
 -- how a run ends where no ticket is asked for; nothing to do is no failure where expired ones are, of what there is
 abbrev pub none_verdict : {A : Type 0} → TicketOptions A → Bool → Verdict
@@ -47,7 +41,7 @@ none_verdict o named = if o.expired && (is_none o.server || named) then Well els
 abbrev pub places : List PlacedCredential → List ℕ
 places xs = map (λ x. x.0) xs
 
-module _ {A : Type 0} (o : TicketOptions A) (file : List ℕ) (ended : Option ℕ) where
+module _ {A : Type 0} (o : TicketOptions A) (file : List ℕ) where
   -- the tickets are removed, if there are some, and a line is printed for each
   abbrev pub removes : CacheState → List PlacedCredential → Effect
   removes k xs =
@@ -55,8 +49,8 @@ module _ {A : Type 0} (o : TicketOptions A) (file : List ℕ) (ended : Option �
       else saves_unless o.dry_run file (image_of (cache_after k (places xs))) (flat_map removed_ticket_line xs) Well
 
   -- the file is held, unless it is a dry run, and loaded; of the cache that it gives the tickets that are asked for are removed
-  abbrev pub ccremove_plan : CommandPlan
-  ccremove_plan = Holds (not o.dry_run) file (opens file writable_in (λ k. Ends (removes k (asked_tickets o.server ended k))))
+  abbrev pub ccremove_plan : Option ℕ → CommandPlan
+  ccremove_plan ended = Holds (not o.dry_run) file (opens file writable_in (λ k. Ends (removes k (asked_tickets o.server ended k))))
 
 module _ {F A : Type 0} (trait : Ghosts F) (file : List ℕ) (o : TicketOptions A) (old new : F) (out out' : Watch) (err err' : ErrorWatch) (status : ℕ) where
   -- a run of ccremove, where the clock was read, if it is asked for

@@ -1,8 +1,7 @@
 -- What ktremove does.
-use Rattle.std.specs.Prelude.{ℕ, Bool, true, false, not, List, [], ◌∷◌, ◌&&◌, ◌||◌, map, is_none, length, ◌==◌, if◌then◌else◌}
+use Rattle.std.specs.Prelude.{ℕ, Bool, true, false, not, List, [], ◌&&◌, ◌||◌, map, is_none, length, ◌==◌, if◌then◌else◌}
 use Rattle.std.specs.List.{flat_map, list_any}
-use Rattle.krb_walk.specs.Events.{cut_store}
-use Rattle.krb_keytab.specs.Changes.{cut_result}
+use Rattle.krb_keytab.specs.Changes.{without}
 use Rattle.krb_keytab.specs.Find.{PlacedEntry, placed_entries}
 use Rattle.krb_keytab.specs.Store.{KeytabState, image_of}
 use Rattle.krb_files.specs.Plan.{Ends, Holds}
@@ -30,11 +29,6 @@ asks_for_any s = is_none s.name && (length s.enctypes.items == 0)
 -- how a run ends where no entry is asked for; nothing to do is no failure where old ones are, of what there is
 abbrev pub none_verdict : {A : Type 0} → Selection A → Bool → Verdict
 none_verdict s named = if asks_for_old s.kvno && (asks_for_any s || named) then Well else NothingToRemove Keytab
-
--- the keytab without the records at these places
-abbrev pub without : KeytabState → List ℕ → KeytabState
-without keytab [] = keytab
-without keytab (place ∷ places) = without (cut_store keytab (cut_result keytab place)) places
 
 -- the places of entries
 abbrev pub places : List PlacedEntry → List ℕ

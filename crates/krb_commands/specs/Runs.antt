@@ -1,5 +1,5 @@
 -- What a run of the program leaves.
-use Rattle.std.specs.Prelude.{◌≡◌, ◌⊎◌, ℕ, List, [], IsTrue, IsFalse, Option, Err}
+use Rattle.std.specs.Prelude.{◌≡◌, ℕ, List, [], IsTrue, IsFalse, Option, Err}
 use Rattle.std.specs.Io.KnownBytes.{Appends}
 use Rattle.krb_files.specs.declared.cause.Cause.{Cause}
 use Rattle.krb_files.specs.Bytes.{Watch, AppendsPrefix}
@@ -30,10 +30,6 @@ pub record BreaksOff (due : Run) (out out' : Watch) (ending : Ending) : Type 0 w
   pub ending_is : ending ≡ Err NoMemory
   pub well : IsFalse out'.failed
   pub prefix : AppendsPrefix out.contents out'.contents due.out
-
--- a text that takes memory was shown, or as much of it as there was memory for
-abbrev pub Prints : Run → Watch → Watch → Ending → Type 0
-Prints due out out' ending = Shows due out out' ending ⊎ BreaksOff due out out' ending
 
 -- the whole text was written, unless the writer has failed: then a prefix of it was
 pub record Says (old new : Watch) (text : List ℕ) : Type 0 where

@@ -1,6 +1,6 @@
 //! Edits a cache's file by a script.
 
-ghost use Rattle.std.specs.Prelude.{◌≡◌, ◌⊎◌, IfOk, IsFalse, OnOk, ◌∷◌, [], map};
+ghost use Rattle.std.specs.Prelude.{◌≡◌, ℕ, List, IfOk, IsFalse, Ok, OnOk, ◌∷◌, [], map};
 ghost use Rattle.krb_walk.specs.declared.event.Event.TheVariants.{Cut};
 ghost use Rattle.krb_walk.specs.Events.{reply_to};
 ghost use Rattle.krb_walk.specs.History.{state_after};
@@ -11,7 +11,6 @@ ghost use Rattle.krb_ccache.specs.SetConfig.{setting_events};
 ghost use Rattle.krb_cache_text.specs.Script.{cache_line_in};
 ghost use Rattle.krb_commands.specs.Ccedit.{RunsFairly, cache_events, cache_session, ccedit_fairly, ccedit_plan, edits, is_refusal, line_events, line_may_change};
 ghost use Rattle.krb_commands.specs.Commands.{text_effect};
-ghost use Rattle.krb_commands.specs.Effects.{IsMade, IsSpent};
 ghost use Rattle.krb_commands.specs.Scripted.{RunsScript};
 ghost use Rattle.krb_commands.specs.Sessions.{left, new_session};
 
@@ -123,26 +122,19 @@ fn run_lines<A: Allocator + Copy>(
     Ok(session.into_store())
 }
 
-// Runs the lines over a cache.
-fn edit<'a, A: Allocator + Copy>(
+// Runs lines over a cache, and gathers the lines of the replies.
+fn edit<A: Allocator + Copy>(
     alloc: A,
-    command: &EditCache<'a, A>,
     cache: Ccache<A>,
-) -> Result<Made<A, Output<A>>, FileTrouble<'a>>
-    ensures made { IsMade (edits command.now.lines.items command.now.file.now cache.state)
-        (text_effect command.now.file.now result) }
-    ensures fair { IsSpent (text_effect command.now.file.now result) ⊎ RunsFairly command.now.lines.items cache.state }
+    lines: &[CacheLine<A>],
+) -> Result<Made<A, Output<A>>, NoMemory>
+    ensures made { IfOk result (λ made. (file : List ℕ) → text_effect file (Ok made) ≡ edits lines.now file cache.state) }
+    ensures fair { IfOk result (λ made. RunsFairly lines.now cache.state) }
 {
     let format = CcFormat(cache.version());
     let mut replies = Vec::new(alloc);
-    let cache = run_lines(alloc, cache, &command.lines, &mut replies)?;
-    Ok(replied(
-        alloc,
-        FileKind::Cache,
-        format,
-        &replies,
-        cache.into_image(),
-    )?)
+    let cache = run_lines(alloc, cache, lines, &mut replies)?;
+    replied(alloc, FileKind::Cache, format, &replies, cache.into_image())
 }
 
 // Whether a line may change a cache.
@@ -178,7 +170,7 @@ impl<'f, A: Allocator + Copy> Command<A> for EditCache<'f, A> {
     ) -> Result<Made<A, Self::Shown>, FileTrouble<'_>> {
         hold_file(self.lines.iter().any(line_may_change), files, self.file);
         let cache = give_cache(alloc, files, self.file)?;
-        edit(alloc, self, cache)
+        Ok(edit(alloc, cache, &self.lines)?)
     }
 }
 

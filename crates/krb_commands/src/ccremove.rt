@@ -17,7 +17,7 @@ use crate::verdict::{FileKind, Verdict};
 use krb_audit::select_tickets;
 use krb_ccache::Ccache;
 use krb_files::Files;
-use krb_walk::{Event, Session};
+use krb_walk::Refusal;
 use krb_wire::NoMemory;
 use std::alloc::Allocator;
 use std::io::{Read, Write};
@@ -44,18 +44,16 @@ fn ended_by<B: Allocator>(
     }
 }
 
-// The image of a cache that is rewritten without the tickets at those places; one session does both.
-fn cut<A: Allocator + Copy>(
-    alloc: A,
-    cache: Ccache<A>,
-    places: &[u32],
-) -> Result<Vec<u8, A>, NoMemory>
+// The image of a cache that is rewritten without the tickets at those places. One that may be changed refuses no
+// rewrite.
+fn cut<A: Allocator>(mut cache: Ccache<A>, places: &[u32]) -> Result<Vec<u8, A>, NoMemory>
     ensures { IfOk result (λ image. image.items ≡ image_of (cache_after cache.state places.now)) }
 {
-    let mut session = Session::new(alloc, cache);
-    session.cut_all(places);
-    session.apply(&Event::Rewrite)?;
-    Ok(session.into_store().into_image())
+    cache.remove_all(places);
+    match cache.rewrite(&mut []) {
+        Err(Refusal::NoMemory) => Err(NoMemory),
+        _ => Ok(cache.into_image()),
+    }
 }
 
 // How a run ends where no ticket is asked for: nothing to do is no failure where expired ones are.
@@ -76,7 +74,7 @@ fn remove<'a, A: Allocator + Copy, B: Allocator>(
     cache: Ccache<A>,
 ) -> Result<Made<A, Output<A>>, FileTrouble<'a>>
     ensures { IsMade (removes command.now.options.now command.now.file.now cache.state
-            (asked_tickets command.now.options.now.server command.now.ended_by cache.state))
+        (asked_tickets command.now.options.now.server command.now.ended_by cache.state))
         (text_effect command.now.file.now result) }
 {
     let options = command.options;
@@ -87,7 +85,7 @@ fn remove<'a, A: Allocator + Copy, B: Allocator>(
             verdict: none_verdict(options, selected.is_named),
         }));
     }
-    let image = cut(alloc, cache, &selected.places)?;
+    let image = cut(cache, &selected.places)?;
     Ok(save_unless(options.dry_run, image, selected.text))
 }
 

@@ -76,7 +76,12 @@ impl<A: Allocator + Copy> Show<A> for Output<A> {
 
     ghost page = { λ shown file. output_page shown };
 
-    fn show<W: Write>(&self, alloc: A, file: &str, out: &mut Watched<W>) -> Result<Verdict, Trouble> {
+    fn show<W: Write>(
+        &self,
+        alloc: A,
+        file: &str,
+        out: &mut Watched<W>,
+    ) -> Result<Verdict, Trouble> {
         show(&self.text, Ok(self.verdict), out)
     }
 }
@@ -105,7 +110,11 @@ pub trait Command<A: Allocator + Copy> {
         ensures { result.now ≡ file self.now };
 
     /// Loads its files, holding those that it may change, and makes of them what is to be saved and shown.
-    fn make<F: Files>(&self, alloc: A, files: &mut F) -> Result<Made<A, Self::Shown>, FileTrouble<'_>>
+    fn make<F: Files>(
+        &self,
+        alloc: A,
+        files: &mut F,
+    ) -> Result<Made<A, Self::Shown>, FileTrouble<'_>>
         ensures { MakesFairly F.Files files.old (plan self.now (F.Files.mode files.new)) (fairly self.now)
             (made_effect Self.Shown.page (file self.now) result) files.new };
 }
@@ -172,7 +181,10 @@ fn settle<'a, A: Allocator + Copy, C: Command<A>, F: Files>(
 }
 
 // The file that is told of, where a command is about that one.
-fn about<'a, A: Allocator, S: Drop>(ready: &Result<Ready<A, S>, FileTrouble<'a>>, file: &'a str) -> &'a str
+fn about<'a, A: Allocator, S: Drop>(
+    ready: &Result<Ready<A, S>, FileTrouble<'a>>,
+    file: &'a str,
+) -> &'a str
     ensures { (page : S → List ℕ → Page) → result.now ≡ about (ready_end page file.now ready.now) }
 {
     match ready {

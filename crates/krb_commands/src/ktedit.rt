@@ -1,9 +1,8 @@
 //! Edits a keytab's file by a script.
 
-ghost use Rattle.std.specs.Prelude.{◌⊎◌, IsFalse};
+ghost use Rattle.std.specs.Prelude.{◌≡◌, ℕ, List, IfOk, IsFalse, Ok};
 ghost use Rattle.krb_text.specs.Script.{event_in};
 ghost use Rattle.krb_commands.specs.Commands.{text_effect};
-ghost use Rattle.krb_commands.specs.Effects.{IsMade, IsSpent};
 ghost use Rattle.krb_commands.specs.Ktedit.{RunsFairly, edits, ktedit_fairly, ktedit_plan};
 ghost use Rattle.krb_commands.specs.Scripted.{RunsScript};
 
@@ -30,24 +29,23 @@ struct EditKeytab<'f, A: Allocator> {
 }
 
 // Runs events over a keytab, by a table of its cells, in a session.
-fn edit<'a, A: Allocator + Copy>(
+fn edit<A: Allocator + Copy>(
     alloc: A,
-    command: &EditKeytab<'a, A>,
     keytab: Keytab<A>,
-) -> Result<Made<A, Output<A>>, FileTrouble<'a>>
-    ensures made { IsMade (edits command.now.events.items command.now.file.now keytab.state)
-        (text_effect command.now.file.now result) }
-    ensures fair { IsSpent (text_effect command.now.file.now result) ⊎ RunsFairly command.now.events.items keytab.state }
+    events: &[Event<NewEntry<A>>],
+) -> Result<Made<A, Output<A>>, NoMemory>
+    ensures made { IfOk result (λ made. (file : List ℕ) → text_effect file (Ok made) ≡ edits events.now file keytab.state) }
+    ensures fair { IfOk result (λ made. RunsFairly events.now keytab.state) }
 {
     let format = keytab.format();
     let Ok(keytab) = Indexed::of(alloc, keytab) else {
-        return Err(FileTrouble::from(NoMemory));
+        return Err(NoMemory);
     };
     let mut session = Session::new(alloc, keytab);
     let mut replies = Vec::new(alloc);
-    session.run(&command.events, &mut replies)?;
+    session.run(events, &mut replies)?;
     let image = session.into_store().into_image();
-    Ok(replied(alloc, FileKind::Keytab, format, &replies, image)?)
+    replied(alloc, FileKind::Keytab, format, &replies, image)
 }
 
 impl<'f, A: Allocator + Copy> Command<A> for EditKeytab<'f, A> {
@@ -73,7 +71,7 @@ impl<'f, A: Allocator + Copy> Command<A> for EditKeytab<'f, A> {
     ) -> Result<Made<A, Self::Shown>, FileTrouble<'_>> {
         hold_file(self.events.iter().any(may_change), files, self.file);
         let keytab = give_or_empty(alloc, self.v1_order, files, self.file)?;
-        edit(alloc, self, keytab)
+        Ok(edit(alloc, keytab, &self.events)?)
     }
 }
 

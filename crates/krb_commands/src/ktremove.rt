@@ -1,11 +1,10 @@
 //! Removes entries of a keytab's file.
 
-ghost use Rattle.std.specs.Prelude.{◌≡◌, IfOk, IsFalse};
-ghost use Rattle.krb_keytab.specs.Store.{image_of};
+ghost use Rattle.std.specs.Prelude.{◌≡◌, IsFalse};
 ghost use Rattle.krb_audit.specs.Selection.{asked};
 ghost use Rattle.krb_commands.specs.Commands.{RunsCommand, any, text_effect};
 ghost use Rattle.krb_commands.specs.Effects.{IsMade};
-ghost use Rattle.krb_commands.specs.Ktremove.{ktremove_plan, none_verdict, removes, without};
+ghost use Rattle.krb_commands.specs.Ktremove.{ktremove_plan, none_verdict, removes};
 
 use crate::action::RemoveOptions;
 use crate::command::{Command, FileTrouble, Made, Output, hold_if, run, save_unless};
@@ -14,8 +13,7 @@ use crate::streams::Streams;
 use crate::verdict::{FileKind, Verdict};
 use krb_audit::{AskedKvno, Selection, select};
 use krb_files::Files;
-use krb_keytab::{Indexed, Keytab};
-use krb_wire::NoMemory;
+use krb_keytab::Keytab;
 use std::alloc::Allocator;
 use std::io::{Read, Write};
 
@@ -38,28 +36,11 @@ fn none_verdict<B: Allocator>(selection: &Selection<B>, is_named: bool) -> Verdi
     }
 }
 
-// The image of a keytab without the records at those places.
-fn cut<A: Allocator + Copy>(
-    alloc: A,
-    keytab: Keytab<A>,
-    places: &[u32],
-) -> Result<Vec<u8, A>, NoMemory>
-    ensures { IfOk result (λ image. image.items ≡ image_of (without keytab.state places.now)) }
-{
-    let Ok(mut indexed) = Indexed::of(alloc, keytab) else {
-        return Err(NoMemory);
-    };
-    for place in places {
-        let _ = indexed.remove_at(*place);
-    }
-    Ok(indexed.into_image())
-}
-
 // Removes from a keytab the entries that are asked for.
 fn remove<'a, A: Allocator + Copy, B: Allocator>(
     alloc: A,
     command: &RemoveEntries<'a, B>,
-    keytab: Keytab<A>,
+    mut keytab: Keytab<A>,
 ) -> Result<Made<A, Output<A>>, FileTrouble<'a>>
     ensures { IsMade (removes command.now.options.now command.now.file.now keytab.state (asked command.now.options.now.selection keytab.state))
         (text_effect command.now.file.now result) }
@@ -72,8 +53,12 @@ fn remove<'a, A: Allocator + Copy, B: Allocator>(
             verdict: none_verdict(&options.selection, selected.is_named),
         }));
     }
-    let image = cut(alloc, keytab, &selected.places)?;
-    Ok(save_unless(options.dry_run, image, selected.text))
+    keytab.remove_all(&selected.places);
+    Ok(save_unless(
+        options.dry_run,
+        keytab.into_image(),
+        selected.text,
+    ))
 }
 
 impl<'f, A: Allocator + Copy, B: Allocator> Command<A> for RemoveEntries<'f, B> {

@@ -30,21 +30,21 @@ returns-in-Err g c =
     }
 
 -- it gives no lines
-pub returns-in_err-parse_script : goal.returns-in_err-parse_script
-returns-in_err-parse_script g c =
+pub returns-in_err-parse_script-in-Ok : goal.returns-in_err-parse_script-in-Ok
+returns-in_err-parse_script-in-Ok g c =
     let p = err_from_is_err_and c.from_residual.result c.from_residual.ensures.1 in
     let text = c.in-Ok.text.items in
     rw p.1 (record {
       input = Ok text;
       read = GivesInput-ok c.args.input.now c.load.new.reader text c.in-Ok.ensures.ok (let within = c.in-Ok.ensures.within in let len = c.in-Ok.text.ok.0 in omega (arith, within, len)) c.in-Ok.ensures.failed c.in-Ok.ensures.taken;
-      given_is = refused g.L.ScriptLine.line_in text c.in_err-parse_script.field-0.0 (Err p.0) (rw c.deref.ensures.value at c.in_err-parse_script.ensures.err) (ap Err p.2);
+      given_is = refused g.L.ScriptLine.line_in text c.in_err-parse_script-in-Ok.field-0.0 (Err p.0) (rw c.deref.ensures.value at c.in_err-parse_script-in-Ok.ensures.err) (ap Err p.2);
     })
 
-pub returns-in-Ok : goal.returns-in-Ok
-returns-in-Ok g c =
+pub returns-in_ok-parse_script-in-Ok : goal.returns-in_ok-parse_script-in-Ok
+returns-in_ok-parse_script-in-Ok g c =
     let text = c.in-Ok.text.items in
     record {
       input = Ok text;
       read = GivesInput-ok c.args.input.now c.load.new.reader text c.in-Ok.ensures.ok (let within = c.in-Ok.ensures.within in let len = c.in-Ok.text.ok.0 in omega (arith, within, len)) c.in-Ok.ensures.failed c.in-Ok.ensures.taken;
-      given_is = inr (sym (ap (result_map_err (λ (fault : ScriptFault). FaultyLine fault.line fault.kind)) (rw c.deref.ensures.value at c.in_ok-parse_script.ensures.ok)));
+      given_is = inr (sym (ap (result_map_err (λ (fault : ScriptFault). FaultyLine fault.line fault.kind)) (rw c.deref.ensures.value at c.in_ok-parse_script-in-Ok.ensures.ok)));
     }
