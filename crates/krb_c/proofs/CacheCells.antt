@@ -7,9 +7,9 @@ use Rattle.krb_wire.specs.Spelling.{Parts}
 use Rattle.krb_wire.specs.Reading.{cc_principal_at}
 use Rattle.krb_wire.proofs.Fields.{IsBytes, IsBytes-drop}
 use Rattle.krb_wire.proofs.Principals.{cc_principal_field}
-use Rattle.krb_walk.specs.Contents.{Contents, contents, IsCell}
+use Rattle.krb_cells.specs.Contents.{Contents, contents, IsCell}
 use Rattle.krb_walk.specs.Store.{live_bytes}
-use Rattle.krb_walk.proofs.ContentsLemmas.{contents_spelled}
+use Rattle.krb_cells.proofs.ContentsLemmas.{contents_spelled}
 use Rattle.krb_ccache.specs.declared.version.Version.{Version}
 use Rattle.krb_ccache.specs.declared.open.CcOpenFault.{CcOpenFault}
 use Rattle.krb_ccache.specs.declared.open.CcOpenFault.TheVariants.{TooShort, TooLarge}

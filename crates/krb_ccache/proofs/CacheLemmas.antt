@@ -8,9 +8,9 @@ use Rattle.krb_wire.specs.Spelling.{Parts, digits, data16, cc_principal, IsShort
 use Rattle.krb_wire.specs.Reading.{data16_at, cc_principal_at}
 use Rattle.krb_wire.proofs.Fields.{IsBytes, IsBytes-drop, bind_some, some_is, Takes}
 use Rattle.krb_wire.proofs.Principals.{data16_field, cc_principal_field}
-use Rattle.krb_walk.specs.Contents.{Contents, More, contents, spelling, next_by, IsCell, IsEnd}
+use Rattle.krb_cells.specs.Contents.{Contents, More, contents, spelling, next_by, IsCell, IsEnd}
 use Rattle.krb_walk.specs.Store.{end_from, end_of}
-use Rattle.krb_walk.proofs.ContentsLemmas.{contents_again}
+use Rattle.krb_cells.proofs.ContentsLemmas.{contents_again}
 use Rattle.krb_ccache.specs.declared.version.Version.{Version}
 use Rattle.krb_ccache.specs.declared.version.Version.TheVariants.{V3, V4}
 use Rattle.krb_ccache.specs.declared.open.Layout.{Layout}

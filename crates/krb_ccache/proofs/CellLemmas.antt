@@ -6,9 +6,9 @@ use Rattle.std.proofs.lemmas.List.Concat.{flat_map-cons}
 use Rattle.krb_wire.specs.declared.format.Order.TheVariants.{Big}
 use Rattle.krb_wire.specs.Spelling.{data32, cc_principal}
 use Rattle.krb_wire.proofs.Fields.{IsBytes, wide32}
-use Rattle.krb_walk.specs.Contents.{contents, IsCell}
+use Rattle.krb_cells.specs.Contents.{contents, IsCell}
 use Rattle.krb_walk.specs.Store.{end_from}
-use Rattle.krb_walk.proofs.ContentsLemmas.{ReadsOne, reads_one, reads_none, IsFormat, unframed_cell, unframed_format}
+use Rattle.krb_cells.proofs.ContentsLemmas.{ReadsOne, reads_one, reads_none, IsFormat, unframed_cell, unframed_format}
 use Rattle.krb_cells.specs.CellFormat.{seen_in}
 use Rattle.krb_cells.proofs.Formats.{IsSeen}
 use Rattle.krb_ccache.specs.declared.version.Version.{Version}

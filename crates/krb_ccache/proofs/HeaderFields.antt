@@ -11,8 +11,8 @@ use Rattle.krb_wire.specs.Reading.{number_at, data16_at}
 use Rattle.krb_wire.proofs.Fields.{IsBytes, bind_some, some_is, Takes, Takes-then}
 use Rattle.krb_wire.proofs.Places.{IsField}
 use Rattle.krb_wire.proofs.Principals.{data16_field}
-use Rattle.krb_walk.specs.Contents.{Contents, contents}
-use Rattle.krb_walk.proofs.ContentsLemmas.{IsFormat, contents_spelled, unframed_format, reads_one, reads_none}
+use Rattle.krb_cells.specs.Contents.{Contents, contents}
+use Rattle.krb_cells.proofs.ContentsLemmas.{IsFormat, contents_spelled, unframed_format, reads_one, reads_none}
 use Rattle.krb_ccache.specs.declared.version.Version.{Version}
 use Rattle.krb_ccache.specs.declared.version.Version.TheVariants.{V3, V4}
 use Rattle.krb_ccache.specs.declared.offset.Offset.{Offset}

@@ -10,9 +10,9 @@ use Rattle.krb_wire.specs.declared.format.Order.TheVariants.{Big}
 use Rattle.krb_wire.proofs.Fields.{IsBytes, IsBytes-drop, Takes, bind_some, some_is}
 use Rattle.krb_wire.proofs.Principals.{cc_principal_field}
 use Rattle.krb_walk.specs.declared.fault.FaultKind.TheVariants.{BadCredential}
-use Rattle.krb_walk.specs.Contents.{Contents, contents, IsSpelled}
+use Rattle.krb_cells.specs.Contents.{Contents, contents, IsSpelled}
 use Rattle.krb_walk.specs.Store.{end_from, end_of}
-use Rattle.krb_walk.proofs.ContentsLemmas.{contents_spelled}
+use Rattle.krb_cells.proofs.ContentsLemmas.{contents_spelled}
 use Rattle.krb_cells.specs.CellFormat.{AreCells, seen_in}
 use Rattle.krb_cells.proofs.Formats.{are_cells}
 use Rattle.krb_ccache.specs.declared.version.Version.{Version}

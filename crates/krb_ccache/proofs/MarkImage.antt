@@ -5,7 +5,7 @@ use Rattle.std.proofs.lemmas.Grind.{flat_map-append}
 use Rattle.std.proofs.lemmas.List.{drop_at}
 use Rattle.krb_wire.specs.Spelling.{cc_principal}
 use Rattle.krb_wire.proofs.Fields.{IsBytes}
-use Rattle.krb_walk.specs.Contents.{spelling}
+use Rattle.krb_cells.specs.Contents.{spelling}
 use Rattle.krb_walk.specs.Store.{end_of}
 use Rattle.krb_ccache.specs.declared.version.Version.{Version}
 use Rattle.krb_ccache.specs.declared.open.Layout.{Layout}

@@ -4,7 +4,7 @@ use Rattle.std.specs.List.{flat_map, splice, AllByRecursion}
 use Rattle.std.proofs.lemmas.List.{take_at, drop_at, take-append-drop, length-take, length-drop}
 use Rattle.std.proofs.lemmas.List.Concat.{flat_map-cons}
 use Rattle.krb_wire.proofs.Fields.{IsBytes, IsBytes-drop}
-use Rattle.krb_walk.specs.Contents.{Contents, contents, spelling}
+use Rattle.krb_cells.specs.Contents.{Contents, contents, spelling}
 use Rattle.krb_walk.specs.Store.{end_of}
 use Rattle.krb_ccache.specs.declared.version.Version.{Version}
 use Rattle.krb_ccache.specs.Credential.{CredParts, credential, credential_at, FitsCredential}

@@ -7,7 +7,7 @@ use Rattle.krb_wire.specs.declared.format.Order.TheVariants.{Big}
 use Rattle.krb_wire.specs.Spelling.{digits, data32, cc_principal}
 use Rattle.krb_wire.proofs.Fields.{IsBytes, some_is, wide16}
 use Rattle.krb_wire.proofs.Principals.{cc_principal_field}
-use Rattle.krb_walk.specs.Contents.{Contents}
+use Rattle.krb_cells.specs.Contents.{Contents}
 use Rattle.krb_ccache.specs.declared.version.Version.{Version}
 use Rattle.krb_ccache.specs.declared.version.Version.TheVariants.{V3, V4}
 use Rattle.krb_ccache.specs.Credential.{CredParts, number32, typed_list, times, credential, credential_at, is_marked, FitsCredential, in_version_4}

@@ -8,7 +8,7 @@ use Rattle.krb_wire.specs.Spelling.{Parts, cc_principal}
 use Rattle.krb_wire.specs.Reading.{cc_principal_at}
 use Rattle.krb_wire.proofs.Fields.{IsBytes, IsBytes-drop, Takes}
 use Rattle.krb_wire.proofs.Principals.{cc_principal_field}
-use Rattle.krb_walk.specs.Contents.{Contents, contents}
+use Rattle.krb_cells.specs.Contents.{Contents, contents}
 use Rattle.krb_ccache.specs.declared.version.Version.{Version}
 use Rattle.krb_ccache.specs.declared.open.CcOpenFault.TheVariants.{BadHeader, BadDefault}
 use Rattle.krb_ccache.specs.declared.open.Places.{Places}

@@ -7,7 +7,7 @@ use Rattle.std.proofs.lemmas.List.{append-nil}
 use Rattle.krb_wire.specs.declared.format.Order.TheVariants.{Big}
 use Rattle.krb_wire.specs.Spelling.{Parts, digits, cc_principal, FitsCc}
 use Rattle.krb_wire.proofs.Fields.{IsBytes}
-use Rattle.krb_walk.specs.Contents.{next_by}
+use Rattle.krb_cells.specs.Contents.{next_by}
 use Rattle.krb_ccache.specs.declared.version.Version.TheVariants.{V4}
 use Rattle.krb_ccache.specs.declared.offset.Offset.{Offset}
 use Rattle.krb_ccache.specs.Credential.{CredParts, number32}

@@ -9,8 +9,8 @@ use Rattle.krb_wire.specs.declared.format.Order.TheVariants.{Big}
 use Rattle.krb_wire.specs.Spelling.{digits, cc_principal}
 use Rattle.krb_wire.proofs.Fields.{IsBytes}
 use Rattle.krb_wire.proofs.Principals.{data16_field, cc_principal_field}
-use Rattle.krb_walk.specs.Contents.{Contents, NoMore, contents, spelling, next_by, IsCell}
-use Rattle.krb_walk.proofs.ContentsLemmas.{contents_again, unframed_cell}
+use Rattle.krb_cells.specs.Contents.{Contents, NoMore, contents, spelling, next_by, IsCell}
+use Rattle.krb_cells.proofs.ContentsLemmas.{contents_again, unframed_cell}
 use Rattle.krb_ccache.specs.declared.version.Version.{Version}
 use Rattle.krb_ccache.specs.declared.version.Version.TheVariants.{V3, V4}
 use Rattle.krb_ccache.specs.Credential.{CredParts}

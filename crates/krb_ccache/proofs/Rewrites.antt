@@ -6,7 +6,7 @@ use Rattle.std.proofs.lemmas.Bool.{le-ltb}
 use Rattle.std.proofs.lemmas.List.{append-nil}
 use Rattle.krb_wire.specs.Spelling.{cc_principal, Parts}
 use Rattle.krb_wire.proofs.Fields.{IsBytes, IsBytes-drop, IsBytes-take}
-use Rattle.krb_walk.specs.Contents.{next_by, spelling, Contents}
+use Rattle.krb_cells.specs.Contents.{next_by, spelling, Contents}
 use Rattle.krb_walk.specs.declared.refusal.Code.{Code}
 use Rattle.krb_walk.specs.Store.{Cell, end_of, fault_of}
 use Rattle.krb_walk.specs.Ranks.{Rewrites}

@@ -6,7 +6,7 @@ use Rattle.krb_wire.specs.Spelling.{Parts, cc_principal}
 use Rattle.krb_wire.specs.Reading.{cc_principal_at}
 use Rattle.krb_wire.proofs.Fields.{IsBytes, some_is}
 use Rattle.krb_wire.proofs.Principals.{cc_principal_field}
-use Rattle.krb_walk.specs.Contents.{spelling}
+use Rattle.krb_cells.specs.Contents.{spelling}
 use Rattle.krb_ccache.specs.declared.open.Layout.{Layout}
 use Rattle.krb_ccache.specs.Header.{header}
 use Rattle.krb_ccache.specs.Store.{CacheState, credentials_format, version_byte, image_of, first_place}

@@ -6,9 +6,9 @@ use Rattle.std.proofs.lemmas.Bool.Decides.{nat_tests}
 use Rattle.std.proofs.lemmas.List.{append-nil, take_at}
 use Rattle.krb_wire.proofs.Fields.{IsBytes, IsBytes-drop, IsBytes-take}
 use Rattle.krb_wire.proofs.Principals.{no_cc_principal}
-use Rattle.krb_walk.specs.Contents.{Contents, contents, IsCell}
+use Rattle.krb_cells.specs.Contents.{Contents, contents, IsCell}
 use Rattle.krb_walk.specs.Store.{live_bytes}
-use Rattle.krb_walk.proofs.ContentsLemmas.{behind, contents_behind}
+use Rattle.krb_cells.proofs.ContentsLemmas.{behind, contents_behind}
 use Rattle.krb_walk.proofs.Splits.{bytes_here}
 use Rattle.krb_walk.proofs.Stops.{bytes_from}
 use Rattle.krb_ccache.specs.declared.version.Version.{Version}

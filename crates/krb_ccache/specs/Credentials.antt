@@ -1,6 +1,6 @@
 -- The credentials of an image from a place on, removed ones too.
 use Rattle.std.specs.Prelude.{◌≡◌, ℕ, ◌+◌, ◌≤◌, ◌^◌, List, [], ◌∷◌, length, filter, find, ◌==◌, Option, Some, None}
-use Rattle.krb_walk.specs.Contents.{contents}
+use Rattle.krb_cells.specs.Contents.{contents}
 use Rattle.krb_ccache.specs.declared.version.Version.{Version}
 use Rattle.krb_ccache.specs.Credential.{CredParts, credential}
 use Rattle.krb_ccache.specs.Store.{CacheState, PlacedCredential, credentials_format, placed_from, is_live, live_of, first_place}

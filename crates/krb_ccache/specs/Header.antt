@@ -6,7 +6,7 @@ use Rattle.std.specs.Int.{w16, w32, from_be_bytes, cast_signed}
 use Rattle.krb_wire.specs.declared.format.Order.TheVariants.{Big}
 use Rattle.krb_wire.specs.Spelling.{digits, data16, IsShort}
 use Rattle.krb_wire.specs.Reading.{◌>>=◌, number_at, data16_at}
-use Rattle.krb_walk.specs.Contents.{Format, contents, unframed}
+use Rattle.krb_cells.specs.Contents.{Format, contents, unframed}
 use Rattle.krb_ccache.specs.declared.version.Version.{Version}
 use Rattle.krb_ccache.specs.declared.version.Version.TheVariants.{V3, V4}
 use Rattle.krb_ccache.specs.declared.offset.Offset.{Offset}

@@ -4,7 +4,7 @@ use Rattle.std.specs.List.{flat_map}
 use Rattle.std.specs.Int.{w16}
 use Rattle.krb_wire.specs.declared.format.Order.TheVariants.{Big}
 use Rattle.krb_wire.specs.Reading.{◌>>=◌, number_at, cc_principal_at}
-use Rattle.krb_walk.specs.Contents.{contents}
+use Rattle.krb_cells.specs.Contents.{contents}
 use Rattle.krb_ccache.specs.declared.version.Version.{Version}
 use Rattle.krb_ccache.specs.declared.version.Version.TheVariants.{V4}
 use Rattle.krb_ccache.specs.Credential.{CredParts, credential, credential_at, is_marked, in_version_4}

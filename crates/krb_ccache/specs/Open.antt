@@ -3,7 +3,7 @@ use Rattle.std.specs.Prelude.{◌≡◌, ℕ, ◌≤◌, List, [], length, drop,
 use Rattle.std.specs.List.{flat_map}
 use Rattle.krb_wire.specs.Spelling.{Parts}
 use Rattle.krb_wire.specs.Reading.{cc_principal_at}
-use Rattle.krb_walk.specs.Contents.{contents}
+use Rattle.krb_cells.specs.Contents.{contents}
 use Rattle.krb_walk.specs.Store.{end_from}
 use Rattle.krb_ccache.specs.declared.version.Version.{Version}
 use Rattle.krb_ccache.specs.declared.open.CcOpenFault.{CcOpenFault}

@@ -4,7 +4,7 @@ use Rattle.krb_wire.specs.Spelling.{Parts, cc_principal}
 use Rattle.krb_wire.specs.Reading.{cc_principal_at}
 use Rattle.krb_walk.specs.declared.fault.FaultKind.{FaultKind}
 use Rattle.krb_walk.specs.declared.fault.FaultKind.TheVariants.{BadCredential}
-use Rattle.krb_walk.specs.Contents.{Contents, Format, contents, spelling, unframed}
+use Rattle.krb_cells.specs.Contents.{Contents, Format, contents, spelling, unframed}
 use Rattle.krb_walk.specs.Store.{Cell, Store}
 use Rattle.krb_ccache.specs.declared.version.Version.{Version}
 use Rattle.krb_ccache.specs.declared.version.Version.TheVariants.{V3, V4}

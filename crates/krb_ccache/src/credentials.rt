@@ -21,7 +21,7 @@ pub struct AllCredentials<'a> {
 
 impl<'a> Model for AllCredentials<'a> {
     ghost use Rattle.std.specs.Prelude.{◌≤◌, ◌^◌, ◌+◌, length};
-    ghost use Rattle.krb_walk.specs.Contents.{contents};
+    ghost use Rattle.krb_cells.specs.Contents.{contents};
     ghost use Rattle.krb_ccache.specs.Store.{credentials_format};
     ghost use Rattle.krb_ccache.specs.Credentials.{CredentialsFrom};
 

@@ -3,8 +3,8 @@ use Rattle.std.proofs.Common.{◌≡◌, ℕ, zero, suc, ◌<◌, ◌≤◌, Lis
 use Rattle.std.proofs.lemmas.List.{drop_at}
 use Rattle.krb_wire.proofs.Fields.{IsBytes}
 use Rattle.krb_walk.specs.Store.{Cell}
-use Rattle.krb_walk.specs.Contents.{NextCell, More, NoMore, Contents, Format, on_next, contents}
-use Rattle.krb_walk.proofs.ContentsLemmas.{IsNext, IsFormat, contents_next}
+use Rattle.krb_cells.specs.Contents.{NextCell, More, NoMore, Contents, Format, on_next, contents}
+use Rattle.krb_cells.proofs.ContentsLemmas.{IsNext, IsFormat, contents_next}
 use Rattle.krb_cells.specs.CellFormat.{HasCells, AreCells, seen_in}
 
 -- a format whose cells a store sees as wide as they are, four bytes or more, and which has nothing at the end of no bytes

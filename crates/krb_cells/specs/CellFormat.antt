@@ -1,6 +1,6 @@
 -- What stands at the front of bytes.
 use Rattle.std.specs.Prelude.{◌≡◌, ℕ, ◌≤◌, List, [], ◌∷◌, length, drop, map, option_copied}
-use Rattle.krb_walk.specs.Contents.{Format, contents}
+use Rattle.krb_cells.specs.Contents.{Format, contents}
 use Rattle.krb_walk.specs.Store.{Cell}
 use Rattle.krb_cells.specs.declared.cell_format.CellView.{CellView}
 

@@ -1,4 +1,5 @@
 -- What the contracts of this crate say.
+pub mod Contents
 pub mod CellFormat
 pub mod Cells
 pub mod Carry

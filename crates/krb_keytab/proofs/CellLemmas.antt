@@ -10,8 +10,8 @@ use Rattle.krb_wire.specs.declared.format.KtFormat.{KtFormat}
 use Rattle.krb_wire.specs.Spelling.{order_of, digits, version_byte}
 use Rattle.krb_wire.specs.Reading.{number_at}
 use Rattle.krb_wire.proofs.Fields.{IsBytes, IsBytes-drop, Takes, Takes-then, wide32, number_takes, number_again}
-use Rattle.krb_walk.specs.Contents.{NextCell, More, NoMore, on_next, IsCell as IsReadCell}
-use Rattle.krb_walk.proofs.ContentsLemmas.{IsNext as IsNextIn, IsFormat, behind, contents_next as next_of_contents, contents_spelled as spelled_of, contents_behind as behind_of, contents_again as again_of}
+use Rattle.krb_cells.specs.Contents.{NextCell, More, NoMore, on_next, IsCell as IsReadCell}
+use Rattle.krb_cells.proofs.ContentsLemmas.{IsNext as IsNextIn, IsFormat, behind, contents_next as next_of_contents, contents_spelled as spelled_of, contents_behind as behind_of, contents_again as again_of}
 use Rattle.krb_keytab.specs.declared.length.Length.{Length}
 use Rattle.krb_keytab.specs.declared.length.Length.TheVariants as says
 use Rattle.krb_keytab.specs.Entry.{entry_at}

@@ -6,7 +6,7 @@ use Rattle.krb_wire.proofs.Fields.{IsBytes, IsBytes-drop}
 use Rattle.krb_keytab.specs.declared.length.Length.{Length}
 use Rattle.krb_keytab.specs.declared.length.Length.TheVariants as says
 use Rattle.krb_keytab.specs.declared.image.Ending.{Ending}
-use Rattle.krb_walk.specs.Contents.{NoMore, More}
+use Rattle.krb_cells.specs.Contents.{NoMore, More}
 use Rattle.krb_keytab.specs.Length.{size_of}
 use Rattle.krb_keytab.specs.Cells.{Contents, cell_in, next, contents, size}
 use Rattle.krb_keytab.specs.Image.{ends, IsPassed, EndsThere}

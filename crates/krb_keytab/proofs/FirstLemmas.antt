@@ -8,7 +8,7 @@ use Rattle.krb_wire.specs.declared.format.KtFormat.{KtFormat}
 use Rattle.krb_wire.specs.Spelling.{order_of, digits}
 use Rattle.krb_wire.specs.Reading.{number_at}
 use Rattle.krb_wire.proofs.Fields.{IsBytes, some_is, wide32}
-use Rattle.krb_walk.specs.Contents.{More}
+use Rattle.krb_cells.specs.Contents.{More}
 use Rattle.krb_keytab.specs.declared.length.Length.{Length}
 use Rattle.krb_keytab.specs.Length.{length_of, size_of}
 use Rattle.krb_keytab.specs.Cells.{Cell, Contents, bytes_of, length_of_cell, length_field, cell, cell_in, end_bytes, next, contents, IsCell, IsSpelled, size}

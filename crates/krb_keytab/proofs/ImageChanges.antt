@@ -10,7 +10,7 @@ use Rattle.krb_wire.proofs.Fields.{IsBytes, IsBytes-drop, some_is}
 use Rattle.krb_keytab.specs.declared.image.CellsEnd.{CellsEnd}
 use Rattle.krb_keytab.specs.declared.cells.Hole.{Hole}
 use Rattle.krb_keytab.specs.Cells.{Cell, Live, Free, End, Bare, Contents, cell, next, contents, IsCell, size}
-use Rattle.krb_walk.specs.Contents.{contents as contents_of, first_cells}
+use Rattle.krb_cells.specs.Contents.{contents as contents_of, first_cells}
 use Rattle.krb_walk.specs.Store.{live_bytes}
 use Rattle.krb_walk.proofs.Stops.{end_from-ge}
 use Rattle.krb_keytab.specs.Store.{store_cell, store_of_image, end_place}

@@ -7,7 +7,7 @@ use Rattle.krb_wire.specs.Spelling.{order_of}
 use Rattle.krb_wire.proofs.Fields.{IsBytes, IsBytes-drop, IsBytes-take}
 use Rattle.krb_walk.specs.declared.fault.FaultKind.{FaultKind}
 use Rattle.krb_walk.specs.Store.{Store}
-use Rattle.krb_walk.proofs.ContentsLemmas.{behind}
+use Rattle.krb_cells.proofs.ContentsLemmas.{behind}
 use Rattle.krb_walk.proofs.Stops.{end_from-ge}
 use Rattle.krb_cells.specs.CellFormat.{AreCells}
 use Rattle.krb_cells.specs.Carry.{store_in}

@@ -8,7 +8,7 @@ use Rattle.krb_wire.specs.Spelling.{order_of, digits, version_byte}
 use Rattle.krb_wire.specs.Reading.{number_at}
 use Rattle.krb_walk.specs.declared.fault.FaultKind.{FaultKind}
 use Rattle.krb_walk.specs.declared.fault.FaultKind.TheVariants.{CutLength, Overrun, BadEntry}
-use Rattle.krb_walk.specs.Contents.{NextCell, More, NoMore, Format, Contents as ContentsOf, contents as contents_of}
+use Rattle.krb_cells.specs.Contents.{NextCell, More, NoMore, Format, Contents as ContentsOf, contents as contents_of}
 use Rattle.krb_keytab.specs.declared.length.Length.{Length}
 use Rattle.krb_keytab.specs.declared.length.Length.TheVariants as says
 use Rattle.krb_keytab.specs.Entry.{entry_at}

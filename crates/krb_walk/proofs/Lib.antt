@@ -2,7 +2,6 @@ pub mod Stops
 pub mod Lists
 pub mod Cells
 pub mod Splits
-pub mod ContentsLemmas
 pub mod Places
 pub mod Effects
 pub mod Table

@@ -3,7 +3,7 @@ use Rattle.std.specs.Prelude.{IfOk, OnOk, OnErr}
 use Rattle.std.proofs.Common.{◌≡◌, ℕ, Result, Ok, Err, List, [], ◌∷◌, ◌++◌, refl, sym, ap, ◌∙◌, subst, append_assoc}
 use Rattle.std.proofs.lemmas.List.{append-nil}
 use Rattle.krb_walk.specs.declared.event.Event.{Event}
-use Rattle.krb_walk.specs.declared.event.Event.TheVariants.{Cut, Step}
+use Rattle.krb_walk.specs.declared.event.Event.TheVariants.{Step}
 use Rattle.krb_walk.specs.declared.event.Reply.{Reply}
 use Rattle.krb_walk.specs.Said.{Said, said}
 use Rattle.krb_walk.specs.Rules.{Rules}
@@ -52,12 +52,6 @@ ran_more {S} r old mid new es e t u v ready ran is lawful told =
     ∙ append_assoc t (replies (history r old es)) (reply_to r (state_after r old es) e ∷ []) ∙ sym (ap (λ (x : List Said). t ++ x) (replies_more r old es e)))
     (is ∙ ap (λ (s : SessionState S). after r s e) ran.state ∙ sym (state_more r old es e))
     (lawful_more r old es e ran.run.lawful (subst (λ (s : SessionState S). IsLawful r (moment r s e)) ran.state lawful))
-
--- a run of removals, and one more, where the replies are not told
-pub ran_cut : {S I : Type 0} (r : Rules S I) (old mid new : SessionState S) (es : List (Event I)) (p : ℕ) → IsReady r old → Ran r old mid es [] (replies (history r old es)) → new ≡ after {I = I} r mid (Cut p) → IsLawful {I = I} r (moment r mid (Cut p)) → Ran r old new (es ++ Cut p ∷ []) [] (replies (history r old (es ++ Cut p ∷ [])))
-ran_cut {S} {I} r old mid new es p ready ran is lawful =
-    ran_more r old mid new es (Cut p) [] _ _ ready ran is lawful
-    (replies_more r old es (Cut p) ∙ ap (λ (s : SessionState S). replies (history r old es) ++ reply_to {I = I} r s (Cut p) ∷ []) (sym ran.state))
 
 -- a run of one event
 pub ran_one : {S I : Type 0} (r : Rules S I) (old new : SessionState S) (e : Event I) (told : Said) → IsReady r old → told ≡ reply_to r old e → new ≡ after r old e → IsLawful r (moment r old e) → Ran r old new (e ∷ []) [] (told ∷ [])

@@ -13,7 +13,6 @@ pub mod Numbers
 pub mod Phrases
 pub mod Store
 pub mod Stops
-pub mod Contents
 pub mod Ranks
 pub mod Rules
 pub mod Said

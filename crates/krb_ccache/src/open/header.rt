@@ -3,7 +3,7 @@
 ghost use Rattle.std.specs.Prelude.{◌≡◌, is_some};
 ghost use Rattle.std.specs.List.{filter_map};
 ghost use Rattle.krb_wire.specs.Reading.{Gives};
-ghost use Rattle.krb_walk.specs.Contents.{contents};
+ghost use Rattle.krb_cells.specs.Contents.{contents};
 ghost use Rattle.krb_ccache.specs.Header.{field_at, fields_format, fields_in, header_end, offset_of, first_of, header_offset, field_of};
 
 use crate::offset::Offset;

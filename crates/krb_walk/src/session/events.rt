@@ -8,7 +8,7 @@ ghost use Rattle.krb_walk.specs.Ranks.{carry, Rewrites};
 ghost use Rattle.krb_walk.specs.Rules.{RewriteGives};
 ghost use Rattle.krb_walk.specs.Said.{said, Started, is_gave};
 ghost use Rattle.krb_walk.specs.Events.{session_of, reply_to, after, stop_said};
-ghost use Rattle.krb_walk.specs.History.{IsLawful, IsReady, history, moment, replies};
+ghost use Rattle.krb_walk.specs.History.{IsLawful, IsReady, moment};
 ghost use Rattle.krb_walk.specs.Memory.{TakesNone};
 ghost use Rattle.krb_walk.specs.Ran.{Ran, RanSome};
 
@@ -51,17 +51,6 @@ impl<P: Placed, A: Allocator + Copy> Session<P, A> {
             replies.push_reserved(reply);
         }
         Ok(())
-    }
-
-    /// Removes the records at these places, one after the other: the events `Cut`, whose replies nobody is
-    /// given. It takes no memory.
-    pub fn cut_all(&mut self, places: &[u32])
-        ensures { Ran P.rules (session_of P.state_of self.old) (session_of P.state_of self.new) (map Cut places.now) [] (replies (history P.rules (session_of P.state_of self.old) (map Cut places.now))) }
-    {
-        let _ = &self.count;
-        for place in places {
-            let _ = self.cut(*place);
-        }
     }
 
     fn answer(&mut self, event: &Event<P::Item>) -> Result<Reply<A>, NoMemory>

@@ -1,5 +1,5 @@
 use Rattle.std.proofs.Common.{◌∙◌, List, ℕ, ap, map, arith}
-use Rattle.krb_walk.specs.Contents.{Contents}
+use Rattle.krb_cells.specs.Contents.{Contents}
 use Rattle.krb_ccache.specs.Credential.{CredParts}
 use Rattle.krb_ccache.specs.Store.{store_cell, live_by}
 use Rattle.krb_ccache.proofs.CellLemmas.{read_one, read_none, cell_first}

@@ -5,7 +5,7 @@ use Rattle.std.proofs.lemmas.List.{append-nil, drop_at, length-append}
 use Rattle.std.proofs.lemmas.List.Concat.{flat_map-cons}
 use Rattle.krb_wire.proofs.Fields.{IsBytes, IsBytes-drop, Takes}
 use Rattle.krb_wire.proofs.Places.{IsField}
-use Rattle.krb_walk.specs.Contents.{NextCell, More, NoMore, Contents, Format, spelling, on_next, first_cells, contents, IsCell, IsEnd, IsSound, IsSpelled, next_by, unframed}
+use Rattle.krb_cells.specs.Contents.{NextCell, More, NoMore, Contents, Format, spelling, on_next, first_cells, contents, IsCell, IsEnd, IsSound, IsSpelled, next_by, unframed}
 
 -- the outcome of one read
 abbrev pub IsNext : {C E : Type 0} → Format C E → List ℕ → NextCell C E → Type 0
