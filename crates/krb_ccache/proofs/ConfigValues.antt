@@ -1,21 +1,26 @@
 -- After a value is set, exactly one live entry is asked for.
-use Rattle.std.proofs.Common.{◌≡◌, ℕ, ◌+◌, Bool, true, false, List, [], ◌∷◌, ◌++◌, length, map, Option, Some, None, Result, Ok, Err, refl, sym, ap, subst, ◌∙◌}
-use Rattle.std.specs.Prelude.{filter, find, option_map, IfOk}
+use Rattle.std.proofs.Common.{◌≡◌, ℕ, ◌+◌, ◌≤◌, Bool, true, false, List, [], ◌∷◌, ◌++◌, length, map, Option, Some, None, Result, Ok, refl, sym, ap, subst, ◌∙◌, arith}
+use Rattle.std.specs.Prelude.{filter, find, option_map, not, ◌==◌, ◌&&◌}
 use Rattle.std.specs.Str.{bytes_eq}
+use Rattle.std.proofs.lemmas.Bool.Decides.{nat_tests}
+use Rattle.std.proofs.lemmas.List.Elements.{filter-append}
 use Rattle.std.proofs.lemmas.Slice.Eq.{bytes_eq-Decides}
 use Rattle.krb_wire.specs.Spelling.{Parts}
 use Rattle.krb_wire.specs.SameName.{have_same_name}
 use Rattle.krb_wire.proofs.NamesTold.{same_name_is}
-use Rattle.krb_walk.specs.declared.refusal.Refusal.{Refusal}
-use Rattle.krb_walk.specs.Rules.{PutGives}
-use Rattle.krb_walk.specs.Store.{end_from, end_of}
+use Rattle.krb_walk.specs.declared.refusal.Code.{Code}
+use Rattle.krb_walk.specs.Events.{cut_store}
+use Rattle.krb_walk.specs.Store.{end_from, end_of, live_bytes}
 use Rattle.krb_ccache.specs.declared.version.Version.{Version}
+use Rattle.krb_ccache.specs.declared.version.Version.TheVariants.{V4}
 use Rattle.krb_ccache.specs.Credential.{CredParts, credential, is_marked}
-use Rattle.krb_ccache.specs.Store.{CacheState, PlacedCredential, store_of, store_cell, first_place, placed_from, is_live, placed_credentials}
+use Rattle.krb_ccache.specs.Store.{CacheState, PlacedCredential, store_of, store_cell, first_place, placed_from, is_live, live_of, placed_credentials, credential_at_place}
 use Rattle.krb_ccache.specs.Config.{QueryParts, is_match, query_of}
-use Rattle.krb_ccache.specs.Changes.{with_last, append_result}
-use Rattle.krb_ccache.specs.SetConfig.{config_entry, mark_match, without_matches, HoldsConfig}
-use Rattle.krb_ccache.proofs.LastCredential.{append_pair}
+use Rattle.krb_ccache.specs.Changes.{add_mark, add_mark_at, with_mark, cut_result, put_result, with_last, without, is_read_only}
+use Rattle.krb_ccache.specs.SetConfig.{config_entry, matches_of, HoldsConfig}
+use Rattle.krb_ccache.proofs.CredentialField.{credential_field}
+use Rattle.krb_ccache.proofs.MarkLemmas.{marked_len, unmarked_by, unmarked_after}
+use Rattle.krb_ccache.proofs.Splits.{live_is}
 
 same_bytes : (b : List ℕ) → bytes_eq b b ≡ true
 same_bytes b = (bytes_eq-Decides b b).1 refl
@@ -28,33 +33,121 @@ match_by : (owner : Parts) (key : List ℕ) (text : Option (List ℕ)) (value : 
 match_by owner key None value = rw (same_bytes key, name_same owner) refl
 match_by owner key (Some t) value = rw (same_bytes key, same_bytes t, name_same owner) refl
 
--- those of the live ones that are asked for
-abbrev matches_among : QueryParts → List PlacedCredential → List PlacedCredential
-matches_among q xs = filter (λ x. is_match q x.1) (filter is_live xs)
+-- the live credentials that are asked for, with their places
+abbrev matches_from : Version → QueryParts → ℕ → List CredParts → List PlacedCredential
+matches_from v q at cs = filter (λ x. is_match q x.1) (filter is_live (placed_from v at cs))
 
-one_by : (q : QueryParts) (v : Version) (at : ℕ) (c : CredParts) (xs : List PlacedCredential) (matched removed : Bool) → is_match q c ≡ matched → is_marked c ≡ removed
-    → matches_among q ((at, mark_match q c) ∷ xs) ≡ matches_among q xs
-one_by q v at c xs true removed e m = rw e refl
-one_by q v at c xs false true e m = rw (e, m) refl
-one_by q v at c xs false false e m = rw (e, m, e) refl
+-- those of a cache
+abbrev matches_in : QueryParts → CacheState → List PlacedCredential
+matches_in q k = matches_from k.version q (first_place k) k.contents.cells
 
--- of those that were there none is left, so a new one is the only one
-one_match : (q : QueryParts) (value : List ℕ) (v : Version) (at : ℕ) (cs : List CredParts)
-    → matches_among q (placed_from v at (map (mark_match q) cs ++ config_entry q.owner q.key q.principal value ∷ [])) ≡ (end_from at (map (store_cell v) (map (mark_match q) cs)), config_entry q.owner q.key q.principal value) ∷ []
-one_match q value v at [] = rw (match_by q.owner q.key q.principal value) refl
-one_match q value v at (c ∷ cs) =
-    let next = at + length (credential v (mark_match q c)) in
-    one_by q v at c (placed_from v next (map (mark_match q) cs ++ config_entry q.owner q.key q.principal value ∷ [])) (is_match q c) (is_marked c) refl refl
-    ∙ one_match q value v next cs
+taken : (v : Version) (q : QueryParts) (at : ℕ) (c : CredParts) (cs : List CredParts) → is_marked c ≡ false → is_match q c ≡ true → matches_from v q at (c ∷ cs) ≡ (at, c) ∷ matches_from v q (at + length (credential v c)) cs
+taken v q at c cs live asked = rw (live, asked) refl
 
-first_by : (p : PlacedCredential → Bool) (x : PlacedCredential) (xs : List PlacedCredential) (y : PlacedCredential) (b : Bool) → p x ≡ b → (filter p xs ≡ y ∷ [] → find p xs ≡ Some y) → filter p (x ∷ xs) ≡ y ∷ [] → find p (x ∷ xs) ≡ Some y
-first_by p x xs y true e ih is =
+passed : (v : Version) (q : QueryParts) (at : ℕ) (c : CredParts) (cs : List CredParts) (marked matched : Bool) → is_marked c ≡ marked → is_match q c ≡ matched → (not marked && matched) ≡ false
+    → matches_from v q at (c ∷ cs) ≡ matches_from v q (at + length (credential v c)) cs
+passed v q at c cs true matched m e none = rw m refl
+passed v q at c cs false false m e none = rw (m, e) refl
+passed v q at c cs false true m e none = absurd cc
+
+-- ---- the first of them
+
+-- it stands at its place, and a mark on it leaves those after it
+record IsFirst (v : Version) (q : QueryParts) (at : ℕ) (cs : List CredParts) (p : ℕ) (c : CredParts) (rest : List PlacedCredential) : Type 0 where
+  pub from : at ≤ p
+  pub there : live_of (find (λ x. x.0 == p) (placed_from v at cs)) ≡ Some c
+  pub left : matches_from v q at (add_mark_at v at p cs) ≡ rest
+
+-- it is the first credential
+first_here : (v : Version) (q : QueryParts) (at p : ℕ) (c : CredParts) (cs : List CredParts) (rest : List PlacedCredential) → at ≡ p → is_marked c ≡ false → matches_from v q (at + length (credential v c)) cs ≡ rest → IsFirst v q at (c ∷ cs) p c rest
+first_here v q at p c cs rest is live others =
+    let next = at + length (credential v c) in
+    let some = (credential_field v).nonempty c in
+    let here : (at == p) ≡ true = grind (arith, nat_tests) in
+    let found : find (λ x. x.0 == p) (placed_from v at (c ∷ cs)) ≡ Some (at, c) = rw here refl in
+    let marked : add_mark_at v at p (c ∷ cs) ≡ add_mark c ∷ add_mark_at v next p cs = rw here refl in
+    record {
+      from = omega (arith, is);
+      there = ap live_of found ∙ rw live refl;
+      left =
+          ap (matches_from v q at) (marked ∙ ap (λ (xs : List CredParts). add_mark c ∷ xs) (unmarked_after v next p cs (omega (arith, is, some))))
+          ∙ passed v q at (add_mark c) cs true (is_match q (add_mark c)) refl refl refl
+          ∙ ap (λ (n : ℕ). matches_from v q (at + n) cs) (marked_len v c) ∙ others;
+    }
+
+-- it comes after the first credential
+first_after : (v : Version) (q : QueryParts) (at p : ℕ) (c d : CredParts) (cs : List CredParts) (rest : List PlacedCredential) → ((xs : List CredParts) → matches_from v q at (d ∷ xs) ≡ matches_from v q (at + length (credential v d)) xs)
+    → IsFirst v q (at + length (credential v d)) cs p c rest → IsFirst v q at (d ∷ cs) p c rest
+first_after v q at p c d cs rest skips first =
+    let some = (credential_field v).nonempty d in
+    let from = first.from in
+    let apart : (at == p) ≡ false = grind (arith, nat_tests, some, from) in
+    record {
+      from = omega (arith, from);
+      there = rw apart first.there;
+      left = ap (matches_from v q at) (unmarked_by v at p d cs apart) ∙ skips (add_mark_at v (at + length (credential v d)) p cs) ∙ first.left;
+    }
+
+first_by : (v : Version) (q : QueryParts) (at p : ℕ) (c d : CredParts) (cs : List CredParts) (rest : List PlacedCredential) (marked matched : Bool) → is_marked d ≡ marked → is_match q d ≡ matched
+    → (matches_from v q (at + length (credential v d)) cs ≡ (p, c) ∷ rest → IsFirst v q (at + length (credential v d)) cs p c rest) → matches_from v q at (d ∷ cs) ≡ (p, c) ∷ rest → IsFirst v q at (d ∷ cs) p c rest
+first_by v q at p c d cs rest false true m e ih is =
+    let both : (at, d) ∷ matches_from v q (at + length (credential v d)) cs ≡ (p, c) ∷ rest = sym (taken v q at d cs m e) ∙ is in
+    let first : ◌≡◌ {A = PlacedCredential} (at, d) (p, c) = cc in
+    let others : matches_from v q (at + length (credential v d)) cs ≡ rest = cc in
+    subst (λ (x : CredParts). IsFirst v q at (d ∷ cs) p x rest) (ap (λ (x : PlacedCredential). x.1) first) (first_here v q at p d cs rest (ap (λ (x : PlacedCredential). x.0) first) m others)
+first_by v q at p c d cs rest true matched m e ih is =
+    first_after v q at p c d cs rest (λ xs. passed v q at d xs true matched m e refl) (ih (sym (passed v q at d cs true matched m e refl) ∙ is))
+first_by v q at p c d cs rest false false m e ih is =
+    first_after v q at p c d cs rest (λ xs. passed v q at d xs false false m e refl) (ih (sym (passed v q at d cs false false m e refl) ∙ is))
+
+first_is : (v : Version) (q : QueryParts) (at p : ℕ) (c : CredParts) (cs : List CredParts) (rest : List PlacedCredential) → matches_from v q at cs ≡ (p, c) ∷ rest → IsFirst v q at cs p c rest
+first_is v q at p c [] rest is = absurd cc
+first_is v q at p c (d ∷ cs) rest is = first_by v q at p c d cs rest (is_marked d) (is_match q d) refl refl (first_is v q (at + length (credential v d)) p c cs rest) is
+
+-- ---- removals of the first ones
+
+cut_there : (k : CacheState) (p : ℕ) (c : CredParts) → k.version ≡ V4 → k.contents.end ≡ [] → credential_at_place k p ≡ Some c → cut_result k p ≡ Ok (with_mark k p)
+cut_there k p c version whole there =
+    let live : live_bytes (store_of k) p ≡ Some (credential k.version c) = live_is k.version (first_place k) p k.contents.cells ∙ ap (option_map (credential k.version)) there in
+    let writes : is_read_only k.version ≡ false = ap is_read_only version in
+    rw (writes, whole, live) refl
+
+-- those after them are left
+cut_matches : (q : QueryParts) (k : CacheState) (xs ys : List PlacedCredential) → k.version ≡ V4 → k.contents.end ≡ [] → matches_in q k ≡ xs ++ ys
+    → (matches_in q (without k (map (λ x. x.0) xs)) ≡ ys) × ((without k (map (λ x. x.0) xs)).principal ≡ k.principal)
+cut_matches q k [] ys version whole is = (is, refl)
+cut_matches q k (x ∷ xs) ys version whole is =
+    let f = first_is k.version q (first_place k) x.0 x.1 k.contents.cells (xs ++ ys) is in
+    let places = map (λ (y : PlacedCredential). y.0) xs in
+    let cut = cut_there k x.0 x.1 version whole f.there in
+    let rest = cut_matches q (with_mark k x.0) xs ys version whole f.left in
+    (ap (λ (r : Result CacheState Code). matches_in q (without (cut_store k r) places)) cut ∙ rest.0, ap (λ (r : Result CacheState Code). (without (cut_store k r) places).principal) cut ∙ rest.1)
+
+-- ---- the new entry
+
+placed_last : (v : Version) (at : ℕ) (cs : List CredParts) (c : CredParts) → placed_from v at (cs ++ c ∷ []) ≡ placed_from v at cs ++ (end_from at (map (store_cell v) cs), c) ∷ []
+placed_last v at [] c = refl
+placed_last v at (d ∷ cs) c = ap (λ (xs : List PlacedCredential). (at, d) ∷ xs) (placed_last v (at + length (credential v d)) cs c)
+
+-- it comes after the others
+match_last : (q : QueryParts) (k : CacheState) (c : CredParts) → is_marked c ≡ false → is_match q c ≡ true → matches_in q (with_last k c) ≡ matches_in q k ++ (end_of (store_of k), c) ∷ []
+match_last q k c live asked =
+    let asks : PlacedCredential → Bool = λ x. is_match q x.1 in
+    let all = placed_from k.version (first_place k) k.contents.cells in
+    let last : List PlacedCredential = (end_of (store_of k), c) ∷ [] in
+    let one : filter asks (filter is_live last) ≡ last = rw (live, asked) refl in
+    ap (λ (xs : List PlacedCredential). filter asks (filter is_live xs)) (placed_last k.version (first_place k) k.contents.cells c)
+    ∙ ap (filter asks) (filter-append is_live all last) ∙ filter-append asks (filter is_live all) (filter is_live last)
+    ∙ ap (λ (xs : List PlacedCredential). filter asks (filter is_live all) ++ xs) one
+
+found_by : (p : PlacedCredential → Bool) (x : PlacedCredential) (xs : List PlacedCredential) (y : PlacedCredential) (b : Bool) → p x ≡ b → (filter p xs ≡ y ∷ [] → find p xs ≡ Some y) → filter p (x ∷ xs) ≡ y ∷ [] → find p (x ∷ xs) ≡ Some y
+found_by p x xs y true e ih is =
     let kept : filter p (x ∷ xs) ≡ x ∷ filter p xs = rw e refl in
     let same : x ∷ filter p xs ≡ y ∷ [] = sym kept ∙ is in
     let found : find p (x ∷ xs) ≡ Some x = rw e refl in
     let first : x ≡ y = cc in
     found ∙ ap (λ (z : PlacedCredential). Some z) first
-first_by p x xs y false e ih is =
+found_by p x xs y false e ih is =
     let passed : filter p (x ∷ xs) ≡ filter p xs = rw e refl in
     let next : find p (x ∷ xs) ≡ find p xs = rw e refl in
     next ∙ ih (sym passed ∙ is)
@@ -62,18 +155,32 @@ first_by p x xs y false e ih is =
 -- the only one is the first
 only_first : (p : PlacedCredential → Bool) (xs : List PlacedCredential) (y : PlacedCredential) → filter p xs ≡ y ∷ [] → find p xs ≡ Some y
 only_first p [] y is = absurd cc
-only_first p (x ∷ xs) y is = first_by p x xs y (p x) refl (only_first p xs y) is
+only_first p (x ∷ xs) y is = found_by p x xs y (p x) refl (only_first p xs y) is
 
-set_holds : (k : CacheState) (key : List ℕ) (text : Option (List ℕ)) (value : List ℕ) → HoldsConfig (with_last (without_matches k key text) (config_entry k.principal key text value)) key text value (end_of (store_of (without_matches k key text)))
-set_holds k key text value =
-    let one = one_match (query_of k key text) value k.version (first_place k) k.contents.cells in
-    let new = with_last (without_matches k key text) (config_entry k.principal key text value) in
+-- ---- after a value was set
+
+-- it is held, by the entry at that place
+pub record IsSet (k new : CacheState) (key : List ℕ) (text : Option (List ℕ)) (value : List ℕ) (place : ℕ) : Type 0 where
+  pub holds : HoldsConfig new key text value place
+  pub there : credential_at_place new place ≡ Some (config_entry k.principal key text value)
+
+set_by : (k new : CacheState) (key : List ℕ) (text : Option (List ℕ)) (value : List ℕ) (p : ℕ) → new.principal ≡ k.principal → matches_in (query_of k key text) new ≡ (p, config_entry k.principal key text value) ∷ [] → IsSet k new key text value p
+set_by k new key text value p owner all =
+    let one : matches_of new key text ≡ (p, config_entry new.principal key text value) ∷ [] =
+    subst (λ (o : Parts). matches_in (record { owner = o; key = key; principal = text }) new ≡ (p, config_entry o key text value) ∷ []) (sym owner) all in
     record {
-      one = one;
-      gives = ap (option_map (λ (x : PlacedCredential). x.1.ticket)) (only_first (λ x. is_match (query_of k key text) x.1) (placed_credentials new) _ one);
+      holds = record { one = one; gives = ap (option_map (λ (x : PlacedCredential). x.1.ticket)) (only_first (λ x. is_match (query_of new key text) x.1) (placed_credentials new) _ one) };
+      there = (first_is new.version (query_of k key text) (first_place new) p (config_entry k.principal key text value) new.contents.cells [] all).there;
     }
 
--- after a value was set
-pub holds_by : (k new : CacheState) (key : List ℕ) (text : Option (List ℕ)) (value : List ℕ) (result : Result ℕ Refusal) → PutGives (append_result (without_matches k key text) (config_entry k.principal key text value)) k result new → IfOk result (HoldsConfig new key text value)
-holds_by k new key text value (Ok p) gives = subst (λ (x : ℕ × CacheState). HoldsConfig x.1 key text value x.0) (append_pair (without_matches k key text) new (config_entry k.principal key text value) p gives) (set_holds k key text value)
-holds_by k new key text value (Err e) gives = tt
+ok_pair : (a b : ℕ × CacheState) → ◌≡◌ {A = Result (ℕ × CacheState) Code} (Ok a) (Ok b) → a ≡ b
+ok_pair a b e = cc
+
+pub is_set : (k mid : CacheState) (key : List ℕ) (text : Option (List ℕ)) (value : List ℕ) (p : ℕ) → k.version ≡ V4 → k.contents.end ≡ [] → put_result k (config_entry k.principal key text value) ≡ Ok (end_of (store_of k), with_last k (config_entry k.principal key text value))
+    → put_result k (config_entry k.principal key text value) ≡ Ok (p, mid) → IsSet k (without mid (map (λ x. x.0) (matches_of k key text))) key text value p
+is_set k mid key text value p version whole fits put =
+    let q = query_of k key text in
+    let x = config_entry k.principal key text value in
+    let xs = matches_of k key text in
+    let all = cut_matches q (with_last k x) xs ((end_of (store_of k), x) ∷ []) version whole (match_last q k x refl (match_by k.principal key text value)) in
+    subst (λ (y : ℕ × CacheState). IsSet k (without y.1 (map (λ z. z.0) xs)) key text value y.0) (ok_pair _ _ (sym fits ∙ put)) (set_by k (without (with_last k x) (map (λ z. z.0) xs)) key text value (end_of (store_of k)) all.1 all.0)

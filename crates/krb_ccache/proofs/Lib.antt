@@ -16,7 +16,5 @@ pub mod PreambleLemmas
 pub mod StoreChanges
 pub mod NewTexts
 pub mod Rewrites
-pub mod MatchLemmas
+pub mod Removals
 pub mod ConfigValues
-pub mod SetConfigLemmas
-pub mod SettingEvents

@@ -154,11 +154,11 @@ pub stands : (v : Version) (at p : ℕ) (cs : List CredParts) (c : CredParts) �
 stands v at p [] c is = absurd cc
 stands v at p (d ∷ cs) c is = stands_cons v at p d cs c (at == p) refl (stands v (at + length (credential v d)) p cs c) is
 
-unmarked_by : (v : Version) (at p : ℕ) (c : CredParts) (cs : List CredParts) → (at == p) ≡ false → add_mark_at v at p (c ∷ cs) ≡ c ∷ add_mark_at v (at + length (credential v c)) p cs
+pub unmarked_by : (v : Version) (at p : ℕ) (c : CredParts) (cs : List CredParts) → (at == p) ≡ false → add_mark_at v at p (c ∷ cs) ≡ c ∷ add_mark_at v (at + length (credential v c)) p cs
 unmarked_by v at p c cs e = rw e refl
 
 -- those after the place stay
-unmarked_after : (v : Version) (at p : ℕ) (cs : List CredParts) → p < at → add_mark_at v at p cs ≡ cs
+pub unmarked_after : (v : Version) (at p : ℕ) (cs : List CredParts) → p < at → add_mark_at v at p cs ≡ cs
 unmarked_after v at p [] lt = refl
 unmarked_after v at p (c ∷ cs) lt =
     unmarked_by v at p c cs (grind (arith, nat_tests)) ∙ ap (λ (xs : List CredParts). c ∷ xs) (unmarked_after v (at + length (credential v c)) p cs (omega (arith, lt)))

@@ -1,5 +1,5 @@
--- What is written for a credential and for a configuration entry: whether it fits, and its parts.
-use Rattle.std.proofs.Common.{◌≡◌, ℕ, ◌+◌, ◌-◌, ◌^◌, ◌<◌, ◌≤◌, true, List, [], ◌∷◌, ◌++◌, length, sym, ap, subst, ◌∙◌, append_assoc, length-append, arith, replicate, sum, Option, Some, None, IfSome, IfNone, refl}
+-- What is written for a credential: whether it fits, and its parts.
+use Rattle.std.proofs.Common.{◌≡◌, ℕ, ◌+◌, ◌-◌, ◌^◌, ◌<◌, ◌≤◌, true, List, [], ◌∷◌, ◌++◌, length, sym, ap, subst, ◌∙◌, append_assoc, length-append, arith, sum, Option, None, IfNone, refl}
 use Rattle.std.specs.List.{flat_map, AllByRecursion}
 use Rattle.std.specs.Int.{w16, w32}
 use Rattle.std.proofs.lemmas.List.Concat.{flat_map-cons}
@@ -10,7 +10,6 @@ use Rattle.krb_wire.proofs.NamesTold.{has_cc_len, and_both, long_lengths_of, lon
 use Rattle.krb_ccache.specs.declared.version.Version.TheVariants.{V4}
 use Rattle.krb_ccache.specs.Credential.{TypedData, Key, CredParts, number32, typed_data, typed_list, key, times, credential, FitsTypedData, FitsTypedList, FitsTimes, FitsCredential, plain_key, middle_text, lists_text}
 use Rattle.krb_ccache.specs.declared.credential.times.Times.{Times}
-use Rattle.krb_ccache.specs.SetConfig.{SettingParts, text_component, config_components, config_server, config_entry, entry_of, value_text}
 
 -- ---- what fits
 
@@ -187,91 +186,3 @@ fits_by c d same parts client server enctype is_skey flags times =
       ticket = p.ticket;
       second_ticket = p.second_ticket;
     }
-
--- ---- a configuration entry
-
--- ---- its parts
-
-zeros_are : (owner : Parts) (key : List ℕ) (text : Option (List ℕ)) (value : List ℕ) → replicate 27 0 ≡ middle_text (config_entry owner key text value)
-zeros_are owner key text value = refl
-
-values_are : (owner : Parts) (key : List ℕ) (text : Option (List ℕ)) (value : List ℕ) → value_text value ≡ lists_text (config_entry owner key text value)
-values_are owner key text value = refl
-
-pub entry_parts : (owner : Parts) (key : List ℕ) (text : Option (List ℕ)) (value : List ℕ) → cc_principal owner ++ (cc_principal (config_server key text) ++ (replicate 27 0 ++ value_text value)) ≡ credential V4 (config_entry owner key text value)
-entry_parts owner key text value =
-    let c = config_entry owner key text value in
-    ap (λ (b : List ℕ). cc_principal owner ++ (cc_principal (config_server key text) ++ (b ++ value_text value))) (zeros_are owner key text value)
-    ∙ ap (λ (b : List ℕ). cc_principal owner ++ (cc_principal (config_server key text) ++ (middle_text c ++ b))) (values_are owner key text value)
-    ∙ in_four c
-
--- ---- whether it fits
-
-text_long : (text : Option (List ℕ)) → length (flat_map (data32 Big) (text_component text)) < 2 ^ 32 → AllByRecursion IsLong (text_component text)
-text_long None lt = tt
-text_long (Some t) lt = (omega (arith, lt, ap length (flat_map-cons (data32 Big) t []), length-append (data32 Big t) [], data_len t), tt)
-
-few_components : (key : List ℕ) (text : Option (List ℕ)) → length (config_components key text) < 2 ^ 32
-few_components key None = omega arith
-few_components key (Some t) = omega arith
-
-entry_fits : (owner : Parts) (key : List ℕ) (text : Option (List ℕ)) (value : List ℕ) → true ≡ has_cc_len owner → owner.name_type < 2 ^ 32 → IsLong key → length (flat_map (data32 Big) (text_component text)) < 2 ^ 32 → IsLong value
-    → FitsCredential V4 (config_entry owner key text value)
-entry_fits owner key text value told name_type key_long text_len value_long = record {
-  client = told_fits owner told name_type;
-  server = record { name_type = omega arith; count = few_components key text; realm = omega arith; components = (omega arith, (key_long, text_long text text_len)) };
-  key = record { enctype = omega arith; second_enctype = refl; bytes = omega arith };
-  times = record { authtime = omega arith; starttime = omega arith; endtime = omega arith; renew_till = omega arith };
-  is_skey = omega arith;
-  flags = omega arith;
-  addresses = record { count = omega arith; each = tt };
-  authdata = record { count = omega arith; each = tt };
-  ticket = value_long;
-  second_ticket = omega arith;
-}
-
--- ---- its length, and whether it fits
-
-server_len : (key : List ℕ) (text : Option (List ℕ)) → length (cc_principal (config_server key text)) ≡ 53 + length key + length (flat_map (data32 Big) (text_component text))
-server_len key text = omega (arith, length-append key (flat_map (data32 Big) (text_component text)))
-
-entry_len : (owner : Parts) (key : List ℕ) (text : Option (List ℕ)) (value : List ℕ) → length (credential V4 (config_entry owner key text value)) ≡ 96 + length (cc_principal owner) + length key + length (flat_map (data32 Big) (text_component text)) + length value
-entry_len owner key text value = omega (arith, credential_len (config_entry owner key text value), server_len key text)
-
--- the lengths that are told of a setting, seen from inside, and the owner's; their sum is that of its entry
-pub record EntryTold (owner : Parts) (s d : SettingParts) (a b e n : ℕ) : Type 0 where
-  pub same : d ≡ s
-  pub name : a ≡ length (cc_principal owner)
-  pub key : b ≡ length d.key
-  pub text : e ≡ length (flat_map (data32 Big) (text_component d.principal))
-  pub value : n ≡ length d.value
-
-entry_told : (owner : Parts) (s d : SettingParts) (name key text value : ℕ) → EntryTold owner s d name key text value → sum (96 ∷ name ∷ key ∷ text ∷ value ∷ []) ≡ length (credential V4 (entry_of owner s))
-entry_told owner s d name key text value t =
-    let names = t.name in
-    let keys = t.key in
-    let texts = t.text in
-    let values = t.value in
-    let sums : sum (96 ∷ name ∷ key ∷ text ∷ value ∷ []) ≡ length (credential V4 (entry_of owner d)) = omega (arith, names, keys, texts, values, entry_len owner d.key d.principal d.value) in
-    sums ∙ ap (λ (x : SettingParts). length (credential V4 (entry_of owner x))) t.same
-
-pub owner_too_long : (owner : Parts) (s : SettingParts) (most : ℕ) → most ≤ 2 ^ 30 → 2 ^ 32 ≤ length (cc_principal owner) → most < length (credential V4 (entry_of owner s))
-owner_too_long owner s most small long = omega (arith, small, long, entry_len owner s.key s.principal s.value)
-
-pub sum_told : (r : Option ℕ) (owner : Parts) (s d : SettingParts) (name key text value : ℕ) → EntryTold owner s d name key text value → IfSome r (λ n. n ≡ sum (96 ∷ name ∷ key ∷ text ∷ value ∷ [])) → IfSome r (λ n. n ≡ length (credential V4 (entry_of owner s)))
-sum_told (Some n) owner s d name key text value t is = is ∙ entry_told owner s d name key text value t
-sum_told None owner s d name key text value t is = tt
-
-pub none_summed : (r : Option ℕ) (owner : Parts) (s d : SettingParts) (most name key text value : ℕ) → EntryTold owner s d name key text value → IfNone r (most < sum (96 ∷ name ∷ key ∷ text ∷ value ∷ [])) → IfNone r (most < length (credential V4 (entry_of owner s)))
-none_summed (Some n) owner s d most name key text value t long = tt
-none_summed None owner s d most name key text value t long = subst (λ (n : ℕ). most < n) (entry_told owner s d name key text value t) long
-
-pub sum_fits : (r : Option ℕ) (owner : Parts) (s d : SettingParts) (most name key text value : ℕ) → EntryTold owner s d name key text value → most ≤ 2 ^ 30 → true ≡ has_cc_len owner → owner.name_type < 2 ^ 32 → IfSome r (λ n. n ≡ sum (96 ∷ name ∷ key ∷ text ∷ value ∷ [])) → IfSome r (λ n. n ≤ most)
-    → IfSome r (λ n. FitsCredential V4 (entry_of owner s))
-sum_fits None owner s d most name key text value t small told name_type is within = tt
-sum_fits (Some n) owner s d most name key text value t small told name_type is within =
-    let keys = t.key in
-    let texts = t.text in
-    let values = t.value in
-    subst (λ (x : SettingParts). FitsCredential V4 (entry_of owner x)) t.same
-    (entry_fits owner d.key d.principal d.value told name_type (omega (arith, small, is, within, keys)) (omega (arith, small, is, within, texts)) (omega (arith, small, is, within, values)))

@@ -10,9 +10,10 @@ use Rattle.krb_walk.proofs.Stops.{bytes_from}
 use Rattle.krb_walk.proofs.Splits.{bytes_here, split_is_place}
 use Rattle.krb_wire.proofs.Fields.{is_some_has}
 use Rattle.krb_ccache.specs.declared.version.Version.{Version}
+use Rattle.krb_ccache.specs.declared.version.Version.TheVariants.{V3, V4}
 use Rattle.krb_ccache.specs.Credential.{CredParts, credential, is_marked}
 use Rattle.krb_ccache.specs.Store.{CacheState, live_by, store_cell, store_of, fault_kind, first_place, credential_at_place}
-use Rattle.krb_ccache.specs.Changes.{add_mark, add_mark_at, with_mark, with_last}
+use Rattle.krb_ccache.specs.Changes.{add_mark, add_mark_at, with_mark, with_last, is_read_only}
 use Rattle.krb_ccache.proofs.CredentialField.{credential_field}
 use Rattle.krb_ccache.proofs.MarkLemmas.{stands, marked_one, marked_len}
 use Rattle.krb_ccache.proofs.Splits.{live_is}
@@ -20,6 +21,18 @@ use Rattle.krb_ccache.proofs.Splits.{live_is}
 pub whole_of : (place : ℕ) (kind : Option FaultKind) → is_some (fault_from place kind) ≡ false → kind ≡ None
 whole_of place None h = refl
 whole_of place (Some kind) h = absurd cc
+
+none_left : (end : List ℕ) → fault_kind end ≡ None → end ≡ []
+none_left [] h = refl
+none_left (b ∷ bs) h = absurd cc
+
+-- nothing follows the credentials of a cache without a fault
+pub end_by : (k : CacheState) → is_some (fault_of (store_of k)) ≡ false → k.contents.end ≡ []
+end_by k h = none_left k.contents.end (whole_of (end_of (store_of k)) (fault_kind k.contents.end) h)
+
+pub version_by : (v : Version) → is_read_only v ≡ false → v ≡ V4
+version_by V3 h = absurd cc
+version_by V4 h = refl
 
 -- ---- removals
 

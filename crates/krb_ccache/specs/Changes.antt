@@ -6,6 +6,7 @@ use Rattle.krb_walk.specs.declared.refusal.Code.{Code}
 use Rattle.krb_walk.specs.declared.refusal.Code.TheVariants as code
 use Rattle.krb_walk.specs.declared.refusal.Refusal.{Refusal}
 use Rattle.krb_walk.specs.declared.refusal.Refusal.TheVariants.{Code as ByCode, NoMemory}
+use Rattle.krb_walk.specs.Events.{cut_store}
 use Rattle.krb_walk.specs.Store.{end_of, fault_of, live_bytes}
 use Rattle.krb_ccache.specs.declared.version.Version.{Version}
 use Rattle.krb_ccache.specs.declared.version.Version.TheVariants.{V3, V4}
@@ -72,6 +73,11 @@ cut_result k p =
     if is_read_only k.version then Err code.ReadOnly
     else (if is_some (fault_of (store_of k)) then Err code.Damaged
     else (if is_some (live_bytes (store_of k) p) then Ok (with_mark k p) else Err code.NotLive))
+
+-- what removals at these places leave, one after the other: one that is refused changes nothing
+abbrev pub without : CacheState → List ℕ → CacheState
+without k [] = k
+without k (p ∷ ps) = without (cut_store k (cut_result k p)) ps
 
 -- ---- adding
 

@@ -2,13 +2,15 @@
 use Rattle.std.specs.Prelude.{◌≡◌, ℕ, ◌<◌, ◌≤◌, List, ◌++◌, length, map, get_or, Some, Ok}
 use Rattle.std.specs.List.{flat_map, AllByRecursion}
 use Rattle.krb_wire.specs.Spelling.{FitsCc}
-use Rattle.krb_cells.specs.Contents.{Contents, contents, spelling, IsSound, IsSpelled}
+use Rattle.krb_walk.specs.Contents.{Contents, contents, spelling, IsSound, IsSpelled}
+use Rattle.krb_walk.specs.declared.event.Event.TheVariants.{Cut}
 use Rattle.krb_walk.specs.Events.{put_store}
 use Rattle.krb_walk.specs.History.{state_after}
 use Rattle.krb_ccache.specs.declared.version.Version.{Version}
 use Rattle.krb_ccache.specs.Credential.{CredParts, credential, credential_at, FitsCredential, in_version_4}
 use Rattle.krb_ccache.specs.Header.{FitsHeader}
 use Rattle.krb_ccache.specs.Store.{CacheState, credentials_format, image_of, open_result, placed_credentials}
+use Rattle.krb_ccache.specs.Changes.{without}
 use Rattle.krb_ccache.specs.Placed.{cache_rules}
 use Rattle.krb_ccache.specs.Rewrite.{rewrite_result}
 use Rattle.krb_ccache.specs.SetConfig.{SettingParts, setting_events, set_config_result}
@@ -56,6 +58,11 @@ live_credentials k = map (λ x. x.1) (placed_credentials k)
 -- a cache that is written anew has the same live credentials, in the same order, as version 4 has them
 abbrev pub IsKeptByRewrites : Type 0
 IsKeptByRewrites = (k new : CacheState) → rewrite_result k ≡ Ok new → live_credentials new ≡ map in_version_4 (live_credentials k)
+
+-- the removals at these places, as events, leave the cache without them
+abbrev pub AreRemovedByEvents : Type 0
+AreRemovedByEvents = (k : CacheState) (cursors places : List ℕ)
+    → (state_after cache_rules (record { store = k; cursors = cursors }) (map Cut places)).store ≡ without k places
 
 -- the events of a setting leave the cache as setting the value does
 abbrev pub IsSetByEvents : Type 0

@@ -13,8 +13,8 @@ use crate::open::{Layout, Places};
 use krb_wire::Pen;
 use std::alloc::{AllocError, Allocator};
 
-/// Grows an image by `more` bytes.
-pub fn grow<A: Allocator>(image: &mut Vec<u8, A>, more: usize) -> Result<(), AllocError>
+// Grows an image by `more` bytes.
+fn grow<A: Allocator>(image: &mut Vec<u8, A>, more: usize) -> Result<(), AllocError>
     requires { vec_len image.old + more ≤ 2 ^ 30 }
     ensures ok { OnOk result (image.new.items ≡ image.old.items ++ replicate more 0) }
     ensures err { OnErr result (image.new.items ≡ image.old.items) }

@@ -2,7 +2,6 @@
 
 mod changes;
 mod rewrite;
-mod set_config;
 mod settings;
 mod view;
 

@@ -1,8 +1,6 @@
 //! Configuration entries: credentials that hold a value under a key.
 
 pub(crate) mod query;
-mod removal;
-pub(crate) mod replacement;
 pub(crate) mod setting;
 
 ghost use Rattle.std.specs.Prelude.{◌≡◌, is_some, option_map};

@@ -1,6 +1,6 @@
 //! Laws of the definitions that the contracts cite.
 
-ghost use Rattle.krb_ccache.specs.Laws.{IsAlwaysSpelled, IsLongest, IsOnlyOne, IsOpenedAgain, IsAlwaysReadBack, HasOwnSpelling, IsKeptByRewrites, IsSetByEvents};
+ghost use Rattle.krb_ccache.specs.Laws.{IsAlwaysSpelled, IsLongest, IsOnlyOne, IsOpenedAgain, IsAlwaysReadBack, HasOwnSpelling, IsKeptByRewrites, AreRemovedByEvents, IsSetByEvents};
 
 /// The credentials of a cache and what follows them are one list and one end, and no longer list of credentials
 /// stands at its front.
@@ -24,6 +24,11 @@ pub fn credentials_are_read_back()
 /// Each rewrite keeps the live credentials, in order: also those in a run of a session, whose store is a cache.
 pub fn rewrites_keep_credentials()
     ensures { IsKeptByRewrites }
+{}
+
+/// Removals at places leave the cache that a session's events leave, so what holds of its history holds of them.
+pub fn removals_are_events()
+    ensures { AreRemovedByEvents }
 {}
 
 /// A value is set by events of a session too, which walks see one by one: the addition of its entry, and then the

@@ -26,8 +26,8 @@ pub use credential::times::Times;
 pub use credential::view::{CredView, read_credential};
 pub use credentials::Credentials;
 pub use laws::{
-    caches_are_opened_again, credentials_are_read_back, one_reading, rewrites_keep_credentials,
-    settings_are_events,
+    caches_are_opened_again, credentials_are_read_back, one_reading, removals_are_events,
+    rewrites_keep_credentials, settings_are_events,
 };
 pub use offset::Offset;
 pub use open::{CcOpenFault, CcOpenRefused};

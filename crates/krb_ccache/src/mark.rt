@@ -35,8 +35,8 @@ fn put_time(time: u32, image: &mut [u8], at: usize)
     Pen::new(image, at).put_u32(Order::Big, time);
 }
 
-/// Marks the credential at a place: two of its times are written, and no other byte.
-pub fn mark(version: Version, image: &mut [u8], place: usize)
+// Marks the credential at a place: two of its times are written, and no other byte.
+fn mark(version: Version, image: &mut [u8], place: usize)
     requires within { place ≤ length image.old }
     requires there { IsSome (credential_at version (drop place image.old)) }
     ensures marked { (c : CredParts) (rest : List ℕ) → credential_at version (drop place image.old) ≡ Some (c, rest)

@@ -8,7 +8,7 @@ ghost use Rattle.krb_walk.specs.Store.{live_bytes};
 ghost use Rattle.krb_ccache.specs.Header.{offset_in};
 ghost use Rattle.krb_ccache.specs.Store.{store_of, credential_at_place};
 ghost use Rattle.krb_ccache.specs.declared.version.Version.TheVariants.{V4};
-ghost use Rattle.krb_ccache.specs.Changes.{create_result, RefusesAs, append_result, is_refused, is_read_only, put_result, cut_result, takes_none, with_mark, HasRoomFor};
+ghost use Rattle.krb_ccache.specs.Changes.{create_result, RefusesAs, append_result, is_refused, is_read_only, put_result, cut_result, takes_none, with_mark, without, HasRoomFor};
 
 use super::Ccache;
 use crate::append::append_credential;
@@ -112,6 +112,17 @@ impl<A: Allocator> Ccache<A> {
         }
         self.mark(place);
         Ok(())
+    }
+
+    /// Removes the credentials at these places, one after the other. A place that `remove_at` refuses changes nothing.
+    /// It takes no memory, and one pass where credentials stand at the places and they ascend.
+    pub fn remove_all(&mut self, places: &[u32])
+        ensures gives { self.new.state ≡ without self.old.state places.now }
+        ensures room { self.new.room ≡ self.old.room }
+    {
+        for place in places {
+            let _ = self.remove_at(*place);
+        }
     }
 
     // Puts a credential after the last of a cache that is whole.

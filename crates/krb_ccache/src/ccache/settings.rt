@@ -1,14 +1,22 @@
-//! What setting a configuration value adds to a cache, and what it removes.
+//! Configuration values that are set in a cache: what that adds, and what it removes.
 
-ghost use Rattle.std.specs.Prelude.{◌≡◌, IfOk, option_copied};
+ghost use Rattle.std.specs.Prelude.{◌≡◌, [], true, Ok, Err, Some, IfOk, IfErr, OnOk, option_copied};
 ghost use Rattle.krb_wire.specs.Reading.{items_of, principal_parts};
-ghost use Rattle.krb_ccache.specs.SetConfig.{config_components, config_server, entry_of, match_places};
+ghost use Rattle.krb_walk.specs.Rules.{PutGives};
+ghost use Rattle.krb_walk.specs.Memory.{HadMemory};
+ghost use Rattle.krb_walk.specs.Store.{end_of};
+ghost use Rattle.krb_ccache.specs.declared.version.Version.TheVariants.{V4};
+ghost use Rattle.krb_ccache.specs.Store.{store_of, credential_at_place};
+ghost use Rattle.krb_ccache.specs.Changes.{is_refused, put_result, with_last};
+ghost use Rattle.krb_ccache.specs.SetConfig.{config_components, config_entry, config_server, entry_of, match_places, set_config_result, HoldsConfig};
 
 use super::Ccache;
+use crate::cells::bytes_fit;
 use crate::config::query::Query;
 use crate::config::setting::Setting;
 use crate::config::{FIRST, REALM};
 use crate::credential::Cred;
+use krb_walk::{Code, Refusal};
 use krb_wire::{NoMemory, Principal, copy_name};
 use std::alloc::Allocator;
 
@@ -92,5 +100,61 @@ impl<A: Allocator> Ccache<A> {
             }
         }
         Ok(places)
+    }
+
+    // Why the entry of a setting cannot be added, if it cannot.
+    fn check_setting(&self, setting: &Setting<'_>) -> Result<(), Code>
+        ensures ok { OnOk result (put_result self.now.state (entry_of self.now.state.principal setting.now)
+            ≡ Ok (end_of (store_of self.now.state), with_last self.now.state (entry_of self.now.state.principal setting.now))) }
+        ensures version { OnOk result (self.now.state.version ≡ V4) }
+        ensures whole { OnOk result ((self.now.state).contents.end ≡ []) }
+        ensures err { IfErr result (λ code. put_result self.now.state (entry_of self.now.state.principal setting.now) ≡ Err code) }
+    {
+        if self.is_read_only() {
+            return Err(Code::ReadOnly);
+        }
+        if self.fault().is_some() {
+            return Err(Code::Damaged);
+        }
+        bytes_fit(&self.image);
+        let room = self.layout.limit as usize - self.image.len();
+        if !setting.fits_within(&self.default_principal(), room) {
+            return Err(Code::Full);
+        }
+        Ok(())
+    }
+}
+
+impl<A: Allocator + Copy> Ccache<A> {
+    /// Sets the value of the default principal for a key and a principal's text, or for the key alone: puts a new entry
+    /// after the last credential, removes every other entry that holds one, and answers the place of the new one. A cache
+    /// of version 3 refuses, then a damaged one, and then a limit that the image would pass. Memory is taken before
+    /// anything changes.
+    pub fn set_config(
+        &mut self,
+        key: &[u8],
+        principal: Option<&[u8]>,
+        value: &[u8],
+    ) -> Result<u32, Refusal>
+        ensures gives { PutGives (set_config_result self.old.state key.now (option_copied principal.entry) value.now)
+            self.old.state result self.new.state }
+        ensures holds { IfOk result (HoldsConfig self.new.state key.now (option_copied principal.entry) value.now) }
+        ensures there { IfOk result (λ place. credential_at_place self.new.state place
+            ≡ Some (config_entry self.old.state.principal key.now (option_copied principal.entry) value.now)) }
+        ensures memory { is_refused (set_config_result self.old.state key.now (option_copied principal.entry) value.now) ≡ true
+            → HadMemory result }
+    {
+        let setting = Setting {
+            key,
+            principal,
+            value,
+        };
+        self.check_setting(&setting)?;
+        let alloc = *self.image.allocator();
+        let entry = self.setting_entry(alloc, &setting)?;
+        let others = self.setting_places(alloc, &setting)?;
+        let place = self.store(&entry)?;
+        self.remove_all(&others);
+        Ok(place)
     }
 }

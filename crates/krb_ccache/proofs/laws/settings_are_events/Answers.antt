@@ -1,5 +1,7 @@
-use Rattle.krb_ccache.proofs.SettingEvents.{settings_set}
+use Rattle.krb_ccache.proofs.Removals.{setting_leaves}
+use Rattle.krb_ccache.specs.Changes.{put_result}
+use Rattle.krb_ccache.specs.SetConfig.{entry_of}
 use Rattle.krb_ccache.proofs.laws.settings_are_events.Goals as goal
 
 pub returns : goal.returns
-returns c = λ k cursors s. settings_set k cursors s
+returns c = λ k cursors s. setting_leaves k cursors s (put_result k (entry_of k.principal s))

@@ -1,16 +1,31 @@
-use Rattle.std.proofs.Common.{refl}
+use Rattle.std.proofs.Common.{sym, ap, subst, ◌∙◌}
 use Rattle.std.specs.Prelude.{option_copied}
-use Rattle.krb_ccache.specs.SetConfig.{config_entry, without_matches}
-use Rattle.krb_ccache.proofs.LastCredential.{put_there}
-use Rattle.krb_ccache.proofs.ConfigValues.{holds_by}
+use Rattle.krb_ccache.specs.Store.{CacheState, credential_at_place}
+use Rattle.krb_ccache.specs.Changes.{put_result, without}
+use Rattle.krb_ccache.specs.SetConfig.{HoldsConfig}
+use Rattle.krb_ccache.proofs.ConfigValues.{is_set}
 use Rattle.krb_ccache.proofs.ccache.Ccache.set_config.Goals as goal
 
 pub returns-clause-holds : goal.returns-clause-holds
-returns-clause-holds g c = holds_by c.args.self.now.state c.replace.new.self.state c.args.key.now (option_copied c.args.principal) c.args.value.now c.replace.result c.replace.ensures.gives
+returns-clause-holds g c =
+    let k = c.args.self.now.state in
+    let mid = c.store.new.self.state in
+    let key = c.args.key.now in
+    let text = option_copied c.args.principal in
+    let known = c.in_ok-check_setting.ensures in
+    let put = ap (put_result k) (sym c.in_ok-entry.ensures) ∙ c.in_ok-place.ensures.gives in
+    let t = is_set k mid key text c.args.value.now c.in_ok-place.place known.version known.whole known.ok put in
+    let new = c.remove_all.ensures.gives ∙ ap (without mid) (c.deref.ensures.value ∙ c.in_ok-others.ensures) in
+    subst (λ (s : CacheState). HoldsConfig s key text c.args.value.now c.in_ok-place.place) (sym new) t.holds
 
 pub returns-clause-there : goal.returns-clause-there
 returns-clause-there g c =
     let k = c.args.self.now.state in
+    let mid = c.store.new.self.state in
     let key = c.args.key.now in
     let text = option_copied c.args.principal in
-    put_there (without_matches k key text) k c.replace.new.self.state (config_entry k.principal key text c.args.value.now) c.replace.result refl c.replace.ensures.gives
+    let known = c.in_ok-check_setting.ensures in
+    let put = ap (put_result k) (sym c.in_ok-entry.ensures) ∙ c.in_ok-place.ensures.gives in
+    let t = is_set k mid key text c.args.value.now c.in_ok-place.place known.version known.whole known.ok put in
+    let new = c.remove_all.ensures.gives ∙ ap (without mid) (c.deref.ensures.value ∙ c.in_ok-others.ensures) in
+    ap (λ (s : CacheState). credential_at_place s c.in_ok-place.place) new ∙ t.there
