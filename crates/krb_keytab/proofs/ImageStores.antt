@@ -1,16 +1,18 @@
 -- The store that the cells of an image are, as their lengths tell it.
-use Rattle.std.proofs.Common.{◌≡◌, ℕ, ◌+◌, ◌-◌, ◌^◌, ◌≤◌, List, [], ◌++◌, length, take, drop, map, Option, None, refl, sym, ap, subst, ◌∙◌, arith}
+use Rattle.std.proofs.Common.{◌≡◌, ℕ, ◌+◌, ◌-◌, ◌^◌, ◌≤◌, true, List, [], ◌∷◌, ◌++◌, length, take, drop, map, Option, None, refl, sym, ap, subst, ◌∙◌, arith}
 use Rattle.std.specs.List.{flat_map}
 use Rattle.std.proofs.lemmas.List.{append-nil, take_at, length-take}
 use Rattle.krb_wire.specs.declared.format.KtFormat.{KtFormat}
 use Rattle.krb_wire.specs.Spelling.{order_of}
 use Rattle.krb_wire.proofs.Fields.{IsBytes, IsBytes-drop, IsBytes-take}
 use Rattle.krb_walk.specs.declared.fault.FaultKind.{FaultKind}
-use Rattle.krb_walk.specs.Store.{Store}
+use Rattle.krb_walk.specs.Store.{Cell as StoreCell, Store, IsPlace, end_from, is_place, is_place_from, live_bytes}
 use Rattle.krb_walk.proofs.ContentsLemmas.{behind}
-use Rattle.krb_walk.proofs.Stops.{end_from-ge}
+use Rattle.krb_walk.proofs.Stops.{bytes_from, end_from-ge, is_place_from-cons}
 use Rattle.krb_cells.specs.CellFormat.{AreCells}
+use Rattle.krb_cells.specs.Cells.{HoldsCells}
 use Rattle.krb_cells.specs.Carry.{store_in}
+use Rattle.krb_cells.proofs.Cuts.{cut_held, holds_from, is_from}
 use Rattle.krb_cells.proofs.Formats.{IsSeen, are_cells}
 use Rattle.krb_keytab.specs.declared.image.CellsEnd.{CellsEnd}
 use Rattle.krb_keytab.specs.Cells.{Cell, Bare, Contents, cell, end_bytes, keytab_format, contents, kind_of}
@@ -76,6 +78,40 @@ seen_store f limit image image' bytes e kind k same fits bytes_fit is known of_k
           ap (λ (x : Contents). record { first = 2; cells = map store_cell x.cells; fault = kind }) held
           ∙ ap (λ (y : Option FaultKind). record { first = 2; cells = store_cells f (drop 2 image); fault = y }) wrong
           ∙ ap store_of of_k;
+    }
+
+place_behind : (at q : ℕ) (before after : List StoreCell) → is_place_from (end_from at before) after q ≡ true → is_place_from at (before ++ after) q ≡ true
+place_behind at q [] after h = h
+place_behind at q (c ∷ before) after h = is_place_from-cons at c.width q c.live (before ++ after) (place_behind (at + c.width) q before after h)
+
+-- the cells from a place on, and what is asked of them
+pub record IsSeenFrom (f : KtFormat) (spelled : List ℕ) (kind : Option FaultKind) (k : KeytabState) (p : ℕ) : Type 0 where
+  pub ahead : 2 ≤ p
+  pub within : p - 2 ≤ length spelled
+  pub are : AreCells (store_cells f) (drop (p - 2) spelled)
+  pub small : p + length (drop (p - 2) spelled) ≤ 2 ^ 30
+  pub places : (q : ℕ) → is_place_from p (store_cells f (drop (p - 2) spelled)) q ≡ true → is_place (store_of k) q ≡ true
+  pub bytes : (q : ℕ) → p ≤ q → bytes_from p (store_cells f (drop (p - 2) spelled)) q ≡ live_bytes (store_of k) q
+  pub all : p ≡ 2 → ◌≡◌ {A = Store} (record { first = p; cells = store_cells f (drop (p - 2) spelled); fault = kind }) (store_of k)
+
+pub seen_from : (f : KtFormat) (spelled : List ℕ) (kind : Option FaultKind) (k : KeytabState) (p : ℕ) → IsSeenStore f spelled kind k → IsPlace (store_of k) p → IsSeenFrom f spelled kind k p
+seen_from f spelled kind k p s at =
+    let holds : HoldsCells (store_cells f) 2 spelled = record { are = s.are; small = s.small } in
+    let c = cut_held (store_cells f) 2 spelled kind (store_of k) p holds s.store at in
+    let from = holds_from (store_cells f) 2 spelled p holds c in
+    let after = store_cells f (drop (p - 2) spelled) in
+    let within = c.within in
+    let ahead = c.ahead in
+    record {
+      ahead = ahead;
+      within = omega (arith, within, ahead);
+      are = from.are;
+      small = from.small;
+      places = λ q h.
+          let behind : is_place_from 2 (c.before ++ after) q ≡ true = place_behind 2 q c.before after (ap (λ (n : ℕ). is_place_from n after q) (sym c.place) ∙ h) in
+          ap (λ (x : Store). is_place x q) (sym s.store) ∙ ap (λ (cs : List StoreCell). is_place_from 2 cs q) c.parts ∙ behind;
+      bytes = (is_from (store_cells f) 2 spelled kind (store_of k) p holds s.store c).bytes;
+      all = λ first. ap (λ (n : ℕ). record { first = n; cells = store_cells f (drop (n - 2) spelled); fault = kind }) first ∙ s.store;
     }
 
 -- an image that is replaced: its cells are this store

@@ -3,7 +3,7 @@
 mod changes;
 mod rewrite;
 
-ghost use Rattle.std.specs.Prelude.{◌≡◌, IsSome, IfOk, IfErr, IfSome, IfNone, Ok, Err, Some, None, ◌<◌, ◌≤◌, ◌-◌, ◌^◌, length, take, drop, option_copied, vec_capacity};
+ghost use Rattle.std.specs.Prelude.{◌≡◌, ℕ, IsSome, IfOk, IfErr, IfSome, IfNone, Ok, Err, Some, None, ◌<◌, ◌≤◌, ◌-◌, ◌^◌, length, take, drop, option_copied, vec_capacity};
 ghost use Rattle.krb_wire.specs.Reading.{Gives};
 ghost use Rattle.krb_walk.specs.Store.{end_of, fault_of, is_place, stop_at, live_bytes, IsPlace, IsSound as IsSoundStore};
 ghost use Rattle.krb_keytab.specs.Entry.{entry_at, Spells};
@@ -22,7 +22,7 @@ use crate::open::{KtOpenRefused, read_head};
 use crate::put::bytes_fit;
 use krb_cells::Cells;
 use krb_walk::{Fault, Stop};
-use krb_wire::{KtFormat, Limits, NoMemory, Order};
+use krb_wire::{KtFormat, Limits, NoMemory, Order, tail};
 use std::alloc::Allocator;
 use std::marker::Model;
 
@@ -142,6 +142,16 @@ impl<A: Allocator> Keytab<A> {
     fn store(&self) -> Cells<'_, KnownFormat>
         ensures { result ≡ store_of self.now.state }
     {
+        self.store_from(2)
+    }
+
+    // The cells from a place on: what is asked of them is asked of all.
+    fn store_from(&self, place: u32) -> Cells<'_, KnownFormat>
+        requires { IsPlace (store_of self.now.state) place }
+        ensures places { (q : ℕ) → IsPlace result q → IsPlace (store_of self.now.state) q }
+        ensures bytes { (q : ℕ) → place ≤ q → live_bytes result q ≡ live_bytes (store_of self.now.state) q }
+        ensures all { place ≡ 2 → result ≡ store_of self.now.state }
+    {
         let image: &[u8] = &self.image;
         bytes_fit(image);
         let cells = cells_in(image, self.end.place);
@@ -149,7 +159,8 @@ impl<A: Allocator> Keytab<A> {
         let front = KnownFormat {
             format: self.format,
         };
-        Cells::of(front, 2, cells, self.end.ending.kind())
+        let at = place as usize;
+        Cells::of(front, at, tail(cells, at - 2), self.end.ending.kind())
     }
 
     /// The place of the first cell: 2, after the version bytes.
