@@ -61,9 +61,9 @@ pub record IsSeenStore (f : KtFormat) (bytes : List ℕ) (kind : Option FaultKin
   pub small : 2 + length bytes ≤ 2 ^ 30
   pub store : ◌≡◌ {A = Store} (record { first = 2; cells = store_cells f bytes; fault = kind }) (store_of k)
 
-pub seen_store : (f : KtFormat) (limit : ℕ) (image image' bytes : List ℕ) (e : CellsEnd) (kind : Option FaultKind) (k : KeytabState) → image' ≡ image → IsBytes image' → IsBytes bytes → IsImage f limit image → IsKnownEnd f image e → keytab_of f limit image ≡ k
+pub seen_store : (f : KtFormat) (limit : ℕ) (image image' bytes : List ℕ) (e : CellsEnd) (kind : Option FaultKind) (k : KeytabState) → image' ≡ image → IsBytes image' → IsImage f limit image → IsKnownEnd f image e → keytab_of f limit image ≡ k
     → bytes ≡ take (e.place - 2) (drop 2 image') → kind ≡ ending_kind e.ending → IsSeenStore f bytes kind k
-seen_store f limit image image' bytes e kind k same fits bytes_fit is known of_k is_bytes is_kind =
+seen_store f limit image image' bytes e kind k same fits is known of_k is_bytes is_kind =
     let whole = bare f image e (subst IsBytes same fits) known in
     let taken : bytes ≡ take (e.place - 2) (drop 2 image) = is_bytes ∙ ap (λ (b : List ℕ). take (e.place - 2) (drop 2 b)) same in
     let held : contents f bytes ≡ record { cells = (contents f (drop 2 image)).cells; end = Bare } = ap (contents f) taken ∙ whole in
@@ -72,7 +72,7 @@ seen_store f limit image image' bytes e kind k same fits bytes_fit is known of_k
     let limit_fits = is.limit_fits in
     let wrong : kind ≡ kind_of (contents f (drop 2 image)).end = is_kind ∙ sym (ap kind_of known.same ∙ ap (λ (x : Contents). kind_of x.end) known.ending ∙ kind_ends (drop e.place image) e.ending) in
     record {
-      are = are_seen f bytes bytes_fit (ap (λ (x : Contents). x.end) held);
+      are = are_seen f bytes (subst IsBytes (sym is_bytes) (IsBytes-take (e.place - 2) (drop 2 image') (IsBytes-drop 2 image' fits))) (ap (λ (x : Contents). x.end) held);
       small = omega (arith, ahead f image e known, within, short, limit_fits, ap length taken, length-take (e.place - 2) (drop 2 image));
       store =
           ap (λ (x : Contents). record { first = 2; cells = map store_cell x.cells; fault = kind }) held
@@ -124,7 +124,7 @@ pub record IsOldStore (f : KtFormat) (image : List ℕ) (end : ℕ) (k : KeytabS
 pub old_store : (f : KtFormat) (limit : ℕ) (image image' : List ℕ) (e : CellsEnd) (k : KeytabState) → image' ≡ image → IsBytes image → IsImage f limit image → IsKnownEnd f image e → keytab_of f limit image ≡ k → (store_of k).fault ≡ None → IsOldStore f image' e.place k
 old_store f limit image image' e k same fits is known of_k whole =
     let bytes = take (e.place - 2) (drop 2 image) in
-    let s = seen_store f limit image image bytes e (ending_kind e.ending) k refl fits (IsBytes-take (e.place - 2) (drop 2 image) (IsBytes-drop 2 image fits)) is known of_k refl refl in
+    let s = seen_store f limit image image bytes e (ending_kind e.ending) k refl fits is known of_k refl refl in
     subst (λ (b : List ℕ). IsOldStore f b e.place k) (sym same) (record {
       ahead = ahead f image e known;
       within = known.within;

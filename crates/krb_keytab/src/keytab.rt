@@ -139,6 +139,7 @@ impl<A: Allocator> Keytab<A> {
     }
 
     // The store that it is.
+    #[tactic(auto, using(crate::proofs::Stores::first_is_place))]
     fn store(&self) -> Cells<'_, KnownFormat>
         ensures { result ≡ store_of self.now.state }
     {
@@ -155,7 +156,6 @@ impl<A: Allocator> Keytab<A> {
         let image: &[u8] = &self.image;
         bytes_fit(image);
         let cells = cells_in(image, self.end.place);
-        bytes_fit(cells);
         let front = KnownFormat {
             format: self.format,
         };
@@ -248,13 +248,6 @@ impl<A: Allocator> Keytab<A> {
         Entries::of(self.cells())
     }
 
-    // The bytes of the record at a place, if one stands there.
-    fn record(&self, place: u32) -> Option<&[u8]>
-        ensures { option_copied result ≡ live_bytes (store_of self.now.state) place }
-    {
-        self.store().find_live(place)
-    }
-
     /// The entry of the record at a place: none exactly where no live cell stands. It looks from the
     /// front; to go through all records, take `stop_at` and `bytes_at`.
     pub fn entry_at(&self, place: u32) -> Option<EntryView<'_>>
@@ -264,7 +257,7 @@ impl<A: Allocator> Keytab<A> {
         ensures exact { Gives (λ e. e) result (entry_at_place self.now.state place) }
     {
         let _ = self.image();
-        let bytes = self.record(place)?;
+        let bytes = self.store().find_live(place)?;
         read_entry(self.format(), bytes)
     }
 }

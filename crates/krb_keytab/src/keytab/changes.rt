@@ -35,7 +35,7 @@ impl<A: Allocator> Keytab<A> {
 
     /// Makes the record at a place a hole of its size, all zeros (MIT krb5, "Keytab file format"). A
     /// damaged keytab refuses.
-    #[tactic(auto, using(crate::proofs::StoreChanges::removal_gone))]
+    #[tactic(auto, using(crate::proofs::StoreChanges::removal_gone, crate::proofs::Stores::first_is_place))]
     pub fn remove_at(&mut self, place: u32) -> Result<(), Code>
         ensures gives { CutGives (cut_result self.old.state place) self.old.state result self.new.state }
         // No record stands there any more.
@@ -48,6 +48,7 @@ impl<A: Allocator> Keytab<A> {
 
     /// Removes the record at each of the places, as `remove_at` does; a place that is refused changes nothing. The
     /// look for a place goes on from the one before, so ascending places take one pass.
+    #[tactic(auto, using(crate::proofs::Stores::first_is_place))]
     pub fn remove_all(&mut self, places: &[u32])
         ensures removed { self.new.state ≡ without self.old.state places.now }
         ensures room { self.new.room ≡ self.old.room }
