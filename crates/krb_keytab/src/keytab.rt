@@ -3,9 +3,10 @@
 mod changes;
 mod rewrite;
 
-ghost use Rattle.std.specs.Prelude.{◌≡◌, ℕ, IsSome, IfOk, IfErr, IfSome, IfNone, Ok, Err, Some, None, ◌<◌, ◌≤◌, ◌-◌, ◌^◌, length, take, drop, option_copied, vec_capacity};
+ghost use Rattle.std.specs.Prelude.{◌≡◌, ℕ, IsSome, IfOk, IfErr, IfSome, IfNone, Ok, Err, Some, None, ◌<◌, ◌≤◌, ◌-◌, ◌^◌, length, drop, vec_capacity};
 ghost use Rattle.krb_wire.specs.Reading.{Gives};
 ghost use Rattle.krb_walk.specs.Store.{end_of, fault_of, is_place, stop_at, live_bytes, IsPlace, IsSound as IsSoundStore};
+ghost use Rattle.krb_cells.specs.Carry.{between};
 ghost use Rattle.krb_keytab.specs.Entry.{entry_at, Spells};
 ghost use Rattle.krb_keytab.specs.Cells.{contents, IsSound};
 ghost use Rattle.krb_keytab.specs.CellViews.{cells_of};
@@ -22,7 +23,7 @@ use crate::open::{KtOpenRefused, read_head};
 use crate::put::bytes_fit;
 use krb_cells::Cells;
 use krb_walk::{Fault, Stop};
-use krb_wire::{KtFormat, Limits, NoMemory, Order, tail};
+use krb_wire::{KtFormat, Limits, NoMemory, Order};
 use std::alloc::Allocator;
 use std::marker::Model;
 
@@ -50,13 +51,13 @@ impl<A: Allocator> Model for Keytab<A> {
         × (k.count ≡ length (contents k.format (drop 2 k.image.items)).cells) };
 }
 
-// The bytes of the cells that end at a place.
-fn cells_in(image: &[u8], end: usize) -> &[u8]
-    requires ahead { 2 ≤ end }
+// The bytes between two places.
+fn part(image: &[u8], first: usize, end: usize) -> &[u8]
+    requires ahead { first ≤ end }
     requires within { end ≤ length image.now }
-    ensures { result.now ≡ take (end - 2) (drop 2 image.now) }
+    ensures { result.now ≡ between first end image.now }
 {
-    &image[2..end]
+    &image[first..end]
 }
 
 impl<A: Allocator> Keytab<A> {
@@ -155,12 +156,11 @@ impl<A: Allocator> Keytab<A> {
     {
         let image: &[u8] = &self.image;
         bytes_fit(image);
-        let cells = cells_in(image, self.end.place);
+        let cells = part(image, place as usize, self.end.place);
         let front = KnownFormat {
             format: self.format,
         };
-        let at = place as usize;
-        Cells::of(front, at, tail(cells, at - 2), self.end.ending.kind())
+        Cells::of(front, place as usize, cells, self.end.ending.kind())
     }
 
     /// The place of the first cell: 2, after the version bytes.
