@@ -1,13 +1,14 @@
 -- Where cells end, and what a store has there.
-use Rattle.std.proofs.Common.{◌≡◌, ℕ, ◌+◌, ◌*◌, ◌<◌, ◌≤◌, List, [], ◌∷◌, ◌++◌, map, length, refl, ap, ◌∙◌, length-append, arith}
+use Rattle.std.proofs.Common.{◌≡◌, ℕ, ◌+◌, ◌*◌, ◌<◌, ◌≤◌, false, eqb, List, [], ◌∷◌, ◌++◌, map, length, None, refl, sym, ap, ◌∙◌, length-append, arith}
 use Rattle.std.specs.Int.{w32}
 use Rattle.std.specs.List.{flat_map, AllByRecursion}
+use Rattle.std.proofs.lemmas.Bool.{ne_eqb}
 use Rattle.std.proofs.lemmas.List.{map-append}
 use Rattle.std.proofs.lemmas.List.Concat.{flat_map-cons}
 use Rattle.krb_wire.specs.declared.format.Order.{Order}
 use Rattle.krb_wire.specs.Spelling.{digits}
 use Rattle.krb_wire.proofs.Fields.{wide32}
-use Rattle.krb_walk.specs.Store.{Cell as StoreCell}
+use Rattle.krb_walk.specs.Store.{Cell as StoreCell, Store, live_bytes}
 use Rattle.krb_walk.proofs.Stops.{bytes_from}
 use Rattle.krb_walk.proofs.Splits.{bytes_here}
 use Rattle.krb_keytab.specs.Cells.{Cell, bytes_of, length_field, cell, size}
@@ -42,6 +43,15 @@ places_for (c ∷ cs) at = let h = places_for cs (at + (4 + size c)) in omega (a
 pub store_sound : (cs : List Cell) → AllByRecursion (λ (c : StoreCell). 0 < c.width) (map store_cell cs)
 store_sound [] = tt
 store_sound (c ∷ cs) = (omega arith, store_sound cs)
+
+-- no record stands before the first cell
+none_before : (at p : ℕ) (cells : List StoreCell) → p < at → bytes_from at cells p ≡ None
+none_before at p [] lt = refl
+none_before at p (c ∷ cells) lt = let no : eqb at p ≡ false = ne_eqb at p (λ e. omega arith) in rw no (none_before (at + c.width) p cells (omega arith))
+
+-- nor inside it
+pub none_inside : (s : Store) (c : StoreCell) (cells : List StoreCell) (at p : ℕ) → at ≡ s.first → s.cells ≡ c ∷ cells → p < at + c.width → (at ≡ p → ⊥) → live_bytes s p ≡ None
+none_inside s c cells at p first is lt other = ap (λ (n : ℕ). bytes_from n s.cells p) (sym first) ∙ ap (λ (cs : List StoreCell). bytes_from at cs p) is ∙ rw (ne_eqb at p other) (none_before (at + c.width) p cells lt)
 
 -- the bytes that the store has where the cells before one end are those of that cell
 pub live_there : (front back : List Cell) (c : Cell) (p : ℕ) → p ≡ end_place 2 front → bytes_from 2 (map store_cell (front ++ (c ∷ back))) p ≡ live_of c

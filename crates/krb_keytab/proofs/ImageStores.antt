@@ -1,16 +1,18 @@
 -- The store that the cells of an image are, as their lengths tell it.
-use Rattle.std.proofs.Common.{◌≡◌, ℕ, ◌+◌, ◌-◌, ◌^◌, ◌≤◌, List, [], ◌++◌, length, take, drop, map, Option, None, refl, sym, ap, subst, ◌∙◌, arith}
+use Rattle.std.proofs.Common.{◌≡◌, ℕ, ◌+◌, ◌-◌, ◌^◌, ◌≤◌, true, List, [], ◌∷◌, ◌++◌, length, take, drop, map, Option, refl, sym, ap, subst, ◌∙◌, arith}
 use Rattle.std.specs.List.{flat_map}
-use Rattle.std.proofs.lemmas.List.{append-nil, take_at, length-take}
+use Rattle.std.proofs.lemmas.List.{append-nil, take_at, length-take, drop-take, drop-drop}
 use Rattle.krb_wire.specs.declared.format.KtFormat.{KtFormat}
 use Rattle.krb_wire.specs.Spelling.{order_of}
 use Rattle.krb_wire.proofs.Fields.{IsBytes, IsBytes-drop, IsBytes-take}
 use Rattle.krb_walk.specs.declared.fault.FaultKind.{FaultKind}
-use Rattle.krb_walk.specs.Store.{Store}
+use Rattle.krb_walk.specs.Store.{Cell as StoreCell, Store, IsPlace, end_from, is_place, is_place_from, live_bytes}
 use Rattle.krb_cells.proofs.ContentsLemmas.{behind}
-use Rattle.krb_walk.proofs.Stops.{end_from-ge}
+use Rattle.krb_walk.proofs.Stops.{bytes_from, end_from-ge, is_place_from-cons}
 use Rattle.krb_cells.specs.CellFormat.{AreCells}
-use Rattle.krb_cells.specs.Carry.{store_in}
+use Rattle.krb_cells.specs.Cells.{HoldsCells}
+use Rattle.krb_cells.specs.Carry.{between}
+use Rattle.krb_cells.proofs.Cuts.{cut_held, holds_from, is_from}
 use Rattle.krb_cells.proofs.Formats.{IsSeen, are_cells}
 use Rattle.krb_keytab.specs.declared.image.CellsEnd.{CellsEnd}
 use Rattle.krb_keytab.specs.Cells.{Cell, Bare, Contents, cell, end_bytes, keytab_format, contents, kind_of}
@@ -53,45 +55,76 @@ bare f image e fits known =
     ap (contents f) taken ∙ contents_behind f k.cells [] spelled.sound.cells taken_fits
     ∙ ap (λ (x : Contents). behind k.cells x) (contents_none f) ∙ ap (λ (cs : List Cell). record { cells = cs; end = Bare }) (append-nil k.cells)
 
--- they are its cells, and it is this store
-pub record IsSeenStore (f : KtFormat) (bytes : List ℕ) (kind : Option FaultKind) (k : KeytabState) : Type 0 where
-  pub are : AreCells (store_cells f) bytes
-  pub small : 2 + length bytes ≤ 2 ^ 30
-  pub store : ◌≡◌ {A = Store} (record { first = 2; cells = store_cells f bytes; fault = kind }) (store_of k)
+-- the bytes up to the end of the cells
+record AreAll (f : KtFormat) (spelled : List ℕ) (k : KeytabState) : Type 0 where
+  pub holds : HoldsCells (store_cells f) 2 spelled
+  pub cells : store_cells f spelled ≡ (store_of k).cells
 
-pub seen_store : (f : KtFormat) (limit : ℕ) (image image' bytes : List ℕ) (e : CellsEnd) (kind : Option FaultKind) (k : KeytabState) → image' ≡ image → IsBytes image' → IsBytes bytes → IsImage f limit image → IsKnownEnd f image e → keytab_of f limit image ≡ k
-    → bytes ≡ take (e.place - 2) (drop 2 image') → kind ≡ ending_kind e.ending → IsSeenStore f bytes kind k
-seen_store f limit image image' bytes e kind k same fits bytes_fit is known of_k is_bytes is_kind =
-    let whole = bare f image e (subst IsBytes same fits) known in
-    let taken : bytes ≡ take (e.place - 2) (drop 2 image) = is_bytes ∙ ap (λ (b : List ℕ). take (e.place - 2) (drop 2 b)) same in
-    let held : contents f bytes ≡ record { cells = (contents f (drop 2 image)).cells; end = Bare } = ap (contents f) taken ∙ whole in
+all_held : (f : KtFormat) (limit : ℕ) (image : List ℕ) (e : CellsEnd) (k : KeytabState) → IsBytes image → IsImage f limit image → IsKnownEnd f image e → keytab_of f limit image ≡ k → AreAll f (between 2 e.place image) k
+all_held f limit image e k fits is known of_k =
+    let spelled = between 2 e.place image in
+    let held = bare f image e fits known in
     let within = known.within in
     let short = is.within in
     let limit_fits = is.limit_fits in
-    let wrong : kind ≡ kind_of (contents f (drop 2 image)).end = is_kind ∙ sym (ap kind_of known.same ∙ ap (λ (x : Contents). kind_of x.end) known.ending ∙ kind_ends (drop e.place image) e.ending) in
     record {
-      are = are_seen f bytes bytes_fit (ap (λ (x : Contents). x.end) held);
-      small = omega (arith, ahead f image e known, within, short, limit_fits, ap length taken, length-take (e.place - 2) (drop 2 image));
-      store =
-          ap (λ (x : Contents). record { first = 2; cells = map store_cell x.cells; fault = kind }) held
-          ∙ ap (λ (y : Option FaultKind). record { first = 2; cells = store_cells f (drop 2 image); fault = y }) wrong
-          ∙ ap store_of of_k;
+      holds = record {
+        are = are_seen f spelled (IsBytes-take (e.place - 2) (drop 2 image) (IsBytes-drop 2 image fits)) (ap (λ (x : Contents). x.end) held);
+        small = omega (arith, ahead f image e known, within, short, limit_fits, length-take (e.place - 2) (drop 2 image));
+      };
+      cells = ap (λ (x : Contents). map store_cell x.cells) held ∙ ap (λ (x : KeytabState). (store_of x).cells) of_k;
     }
 
--- an image that is replaced: its cells are this store
-pub record IsOldStore (f : KtFormat) (image : List ℕ) (end : ℕ) (k : KeytabState) : Type 0 where
-  pub ahead : 2 ≤ end
-  pub within : end ≤ length image
-  pub are : AreCells (store_cells f) (take (end - 2) (drop 2 image))
-  pub store : store_in (store_cells f) image 2 end ≡ store_of k
+-- what is wrong at the end
+pub kind_held : (f : KtFormat) (limit : ℕ) (image : List ℕ) (e : CellsEnd) (k : KeytabState) → IsKnownEnd f image e → keytab_of f limit image ≡ k → ending_kind e.ending ≡ (store_of k).fault
+kind_held f limit image e k known of_k =
+    sym (ap kind_of known.same ∙ ap (λ (x : Contents). kind_of x.end) known.ending ∙ kind_ends (drop e.place image) e.ending) ∙ ap (λ (x : KeytabState). (store_of x).fault) of_k
 
-pub old_store : (f : KtFormat) (limit : ℕ) (image image' : List ℕ) (e : CellsEnd) (k : KeytabState) → image' ≡ image → IsBytes image → IsImage f limit image → IsKnownEnd f image e → keytab_of f limit image ≡ k → (store_of k).fault ≡ None → IsOldStore f image' e.place k
-old_store f limit image image' e k same fits is known of_k whole =
-    let bytes = take (e.place - 2) (drop 2 image) in
-    let s = seen_store f limit image image bytes e (ending_kind e.ending) k refl fits (IsBytes-take (e.place - 2) (drop 2 image) (IsBytes-drop 2 image fits)) is known of_k refl refl in
-    subst (λ (b : List ℕ). IsOldStore f b e.place k) (sym same) (record {
-      ahead = ahead f image e known;
-      within = known.within;
-      are = s.are;
-      store = ap (λ (y : Option FaultKind). record { first = 2; cells = store_cells f bytes; fault = y }) (sym (ap (λ (x : Store). x.fault) s.store ∙ whole)) ∙ s.store;
-    })
+-- ---- from a place on
+
+-- the bytes from a place up to the end of the cells: what is asked of the cells there is asked of all
+pub record AreFrom (f : KtFormat) (len end : ℕ) (rest : List ℕ) (k : KeytabState) (p : ℕ) : Type 0 where
+  pub ahead : p ≤ end
+  pub within : end ≤ len
+  pub are : AreCells (store_cells f) rest
+  pub small : p + length rest ≤ 2 ^ 30
+  pub places : (q : ℕ) → is_place_from p (store_cells f rest) q ≡ true → is_place (store_of k) q ≡ true
+  pub bytes : (q : ℕ) → p ≤ q → bytes_from p (store_cells f rest) q ≡ live_bytes (store_of k) q
+  pub all : (kind : Option FaultKind) → p ≡ 2 → kind ≡ (store_of k).fault → ◌≡◌ {A = Store} (record { first = p; cells = store_cells f rest; fault = kind }) (store_of k)
+
+place_behind : (at q : ℕ) (before after : List StoreCell) → is_place_from (end_from at before) after q ≡ true → is_place_from at (before ++ after) q ≡ true
+place_behind at q [] after h = h
+place_behind at q (c ∷ before) after h = is_place_from-cons at c.width q c.live (before ++ after) (place_behind (at + c.width) q before after h)
+
+cut_between : (image : List ℕ) (p end : ℕ) → 2 ≤ p → p ≤ end → drop (p - 2) (between 2 end image) ≡ between p end image
+cut_between image p end two le =
+    let size : end - 2 ≡ (p - 2) + (end - p) = omega arith in
+    let place : 2 + (p - 2) ≡ p = omega arith in
+    ap (λ (n : ℕ). drop (p - 2) (take n (drop 2 image))) size ∙ drop-take (p - 2) (end - p) (drop 2 image) ∙ ap (take (end - p)) (drop-drop (p - 2) 2 image ∙ ap (λ (n : ℕ). drop n image) place)
+
+pub held_from : (f : KtFormat) (limit : ℕ) (image image' rest : List ℕ) (e : CellsEnd) (k : KeytabState) (p : ℕ) → image' ≡ image → IsBytes image → IsImage f limit image → IsKnownEnd f image e → keytab_of f limit image ≡ k → IsPlace (store_of k) p
+    → rest ≡ between p e.place image' → AreFrom f (length image') e.place rest k p
+held_from f limit image image' rest e k p same fits is known of_k at is_rest =
+    let s = all_held f limit image e k fits is known of_k in
+    let spelled = between 2 e.place image in
+    let fault = (store_of k).fault in
+    let store : ◌≡◌ {A = Store} (record { first = 2; cells = store_cells f spelled; fault = fault }) (store_of k) = ap (λ (cs : List StoreCell). record { first = 2; cells = cs; fault = fault }) s.cells in
+    let c = cut_held (store_cells f) 2 spelled fault (store_of k) p s.holds store at in
+    let holds = holds_from (store_cells f) 2 spelled p s.holds c in
+    let after = store_cells f (drop (p - 2) spelled) in
+    let two = c.ahead in
+    let upto = c.within in
+    let within = known.within in
+    let ahead : p ≤ e.place = omega (arith, upto, ahead f image e known, length-take (e.place - 2) (drop 2 image)) in
+    let from : AreFrom f (length image') e.place (drop (p - 2) spelled) k p = record {
+      ahead = ahead;
+      within = omega (arith, within, ap length same);
+      are = holds.are;
+      small = holds.small;
+      places = λ q h.
+          let behind : is_place_from 2 (c.before ++ after) q ≡ true = place_behind 2 q c.before after (ap (λ (n : ℕ). is_place_from n after q) (sym c.place) ∙ h) in
+          ap (λ (cs : List StoreCell). is_place_from 2 cs q) (sym s.cells ∙ c.parts) ∙ behind;
+      bytes = (is_from (store_cells f) 2 spelled fault (store_of k) p s.holds store c).bytes;
+      all = λ kind first wrong. ap (λ (n : ℕ). record { first = n; cells = store_cells f (drop (n - 2) spelled); fault = kind }) first ∙ ap (λ (x : Option FaultKind). record { first = 2; cells = store_cells f spelled; fault = x }) wrong ∙ store;
+    } in
+    subst (λ (b : List ℕ). AreFrom f (length image') e.place b k p) (cut_between image p e.place two ahead ∙ ap (between p e.place) (sym same) ∙ sym is_rest) from

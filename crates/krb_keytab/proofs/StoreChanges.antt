@@ -5,15 +5,23 @@ use Rattle.std.proofs.lemmas.List.{map-append, length-replicate}
 use Rattle.std.proofs.lemmas.Bool.{leb-true}
 use Rattle.krb_walk.specs.declared.refusal.Code.{Code}
 use Rattle.krb_walk.specs.declared.refusal.Refusal.{Refusal}
-use Rattle.krb_walk.specs.Store.{end_of, live_bytes as store_bytes}
-use Rattle.krb_walk.specs.Changes.{OneCell, Puts, Cuts}
+use Rattle.krb_walk.specs.declared.event.Event.TheVariants.{Cut}
+use Rattle.krb_walk.specs.Store.{end_of, live_bytes as store_bytes, IsPlace}
+use Rattle.krb_walk.specs.Changes.{OneCell, Puts, Cuts, Changes}
+use Rattle.krb_walk.specs.Events.{SessionState, cut_said, cut_store}
+use Rattle.krb_walk.specs.History.{IsReady, AllLawful, history, replies, state_after}
+use Rattle.krb_walk.proofs.Places.{cuts-extends, place_kept}
+use Rattle.krb_walk.proofs.Runs.{ran_of}
 use Rattle.krb_keytab.specs.Entry.{EntryParts}
 use Rattle.krb_keytab.specs.Cells.{Cell, Live, Free, End, Bare, Mark, Damaged, kind_of}
 use Rattle.krb_keytab.specs.Store.{KeytabState, store_cell, store_of, entry_at_place}
 use Rattle.krb_keytab.specs.Form.{written_form, read_back, IsEntry}
-use Rattle.krb_keytab.specs.Changes.{replaced_at, zero_hole, is_hole, with_zeros, record_in, with_record_in, with_last, end_after, with_hole, put_result, cut_result}
+use Rattle.krb_keytab.specs.Changes.{replaced_at, zero_hole, is_hole, with_zeros, record_in, with_record_in, with_last, end_after, with_hole, put_result, cut_result, without}
+use Rattle.krb_keytab.specs.Placed.{keytab_rules}
+use Rattle.krb_keytab.specs.Laws.{AreRuns}
 use Rattle.krb_walk.specs.Rules.{PutGives, CutGives}
-use Rattle.krb_keytab.proofs.AfterChanges.{added_reads, put_gives, cut_gives}
+use Rattle.krb_keytab.proofs.AfterChanges.{added_reads, put_gives, cut_gives, removed_none}
+use Rattle.krb_keytab.proofs.Cuts.{store_sound}
 use Rattle.krb_keytab.proofs.ImageChanges.{padded_len}
 use Rattle.krb_keytab.proofs.Replacements.{StandsAt, live_stands, hole_stands, replaced_cells}
 use Rattle.krb_keytab.proofs.Stores.{whole_of}
@@ -51,6 +59,33 @@ removal_cuts k new p (Ok done) a =
     let c = cut_gives k p new a in
     subst (λ (x : KeytabState). Cuts (store_of k) (store_of x) p) c.gives (cuts_at k p c.bytes (whole_of _ _ c.whole) c.held)
 removal_cuts k new p (Err refused) a = tt
+
+-- it keeps places
+pub place_stays : (k new : KeytabState) (p q : ℕ) → cut_result k p ≡ Ok new → IsPlace (store_of k) q → IsPlace (store_of new) q
+place_stays k new p q cut at = place_kept (store_of k) (store_of new) q (cuts-extends (store_of k) (store_of new) p (removal_cuts k new p (Ok tt) cut)) at
+
+pub removal_gone : (k new : KeytabState) (p : ℕ) (result : Result (Unit {0}) Code) → CutGives (cut_result k p) k result new → OnOk result (store_bytes (store_of new) p ≡ None)
+removal_gone k new p (Ok done) a = removed_none k p new a
+removal_gone k new p (Err refused) a = tt
+
+cut_lawful : (k : KeytabState) (p : ℕ) (given : Result KeytabState Code) → cut_result k p ≡ given → Changes (cut_said p given) (store_of k) (store_of (cut_store k given))
+cut_lawful k p (Ok new) cut = removal_cuts k new p (Ok tt) cut
+cut_lawful k p (Err refused) cut = refl
+
+cuts_lawful : (k : KeytabState) (places : List ℕ) → AllLawful keytab_rules (history keytab_rules (record { store = k; cursors = [] }) (map Cut places))
+cuts_lawful k [] = tt
+cuts_lawful k (p ∷ places) = (cut_lawful k p (cut_result k p) refl, cuts_lawful (cut_store k (cut_result k p)) places)
+
+cuts_leave : (k : KeytabState) (places : List ℕ) → ◌≡◌ {A = SessionState KeytabState} (record { store = without k places; cursors = [] }) (state_after keytab_rules (record { store = k; cursors = [] }) (map Cut places))
+cuts_leave k [] = refl
+cuts_leave k (p ∷ places) = cuts_leave (cut_store k (cut_result k p)) places
+
+-- removals are a run
+pub cuts_ran : AreRuns
+cuts_ran k places =
+    let old : SessionState KeytabState = record { store = k; cursors = [] } in
+    let ready : IsReady keytab_rules old = record { sound = store_sound k.contents.cells; cursors = λ w c e. absurd cc } in
+    ran_of keytab_rules old (record { store = without k places; cursors = [] }) (map Cut places) [] (replies (history keytab_rules old (map Cut places))) ready refl (cuts_leave k places) (cuts_lawful k places)
 
 -- ---- additions
 

@@ -4,7 +4,8 @@ use Rattle.std.specs.Prelude.{is_some, IsSome, IfNone}
 use Rattle.krb_wire.specs.declared.format.KtFormat.{KtFormat}
 use Rattle.krb_wire.specs.Reading.{Gives}
 use Rattle.krb_walk.specs.declared.fault.FaultKind.{FaultKind}
-use Rattle.krb_walk.specs.Store.{end_of, fault_from, live_bytes as store_bytes}
+use Rattle.krb_walk.specs.Store.{end_of, fault_from, live_bytes as store_bytes, IsPlace}
+use Rattle.krb_walk.proofs.Places.{place_first}
 use Rattle.krb_keytab.specs.declared.image.CellsEnd.{CellsEnd}
 use Rattle.krb_keytab.specs.declared.image.Ending.{Ending}
 use Rattle.krb_keytab.specs.declared.image.Ending.TheVariants as ending
@@ -25,6 +26,10 @@ state_is is = ap (λ (k : InMemory). k.state) is
 -- the keytab of an image
 abbrev pub keytab_of : KtFormat → ℕ → List ℕ → KeytabState
 keytab_of f limit image = record { format = f; limit = limit; contents = contents f (drop 2 image) }
+
+-- where the cells begin is a place
+pub first_is_place : (k : KeytabState) (p : ℕ) → p ≡ 2 → IsPlace (store_of k) p
+first_is_place k p first = rw first (place_first (store_of k))
 
 pub end_held : (f : KtFormat) (limit : ℕ) (image : List ℕ) (k : KeytabState) (e : CellsEnd) → IsKnownEnd f image e → keytab_of f limit image ≡ k → e.place ≡ end_of (store_of k)
 end_held f limit image k e known is = sym known.place ∙ ap (λ (x : KeytabState). end_of (store_of x)) is

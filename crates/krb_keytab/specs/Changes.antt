@@ -2,6 +2,7 @@
 use Rattle.std.specs.Prelude.{ℕ, ◌+◌, ◌-◌, List, [], ◌∷◌, ◌++◌, length, map, find, replicate, Option, Some, None, is_some, Result, Ok, Err, Bool, true, false, ◌||◌, nat_lt, nat_le, ◌==◌, if◌then◌else◌, option_map, ◌≡◌}
 use Rattle.krb_wire.specs.Spelling.{Parts}
 use Rattle.krb_walk.specs.declared.refusal.Code.{Code}
+use Rattle.krb_walk.specs.Events.{cut_store}
 use Rattle.krb_walk.specs.Store.{end_of, fault_of, live_bytes}
 use Rattle.krb_keytab.specs.Entry.{EntryParts}
 use Rattle.krb_keytab.specs.Cells.{Cell, Live, Free, End, Bare, Mark, Damaged, size}
@@ -39,6 +40,11 @@ abbrev pub cut_result : KeytabState → ℕ → Result KeytabState Code
 cut_result k p =
     if is_some (fault_of (store_of k)) then Err code.Damaged
     else (if is_some (live_bytes (store_of k) p) then Ok (with_hole k p) else Err code.NotLive)
+
+-- the keytab without the records at these places, of which each that is refused changes nothing
+abbrev pub without : KeytabState → List ℕ → KeytabState
+without k [] = k
+without k (p ∷ places) = without (cut_store k (cut_result k p)) places
 
 -- the removal of the record that was found: its place, and the keytab without it
 abbrev pub cut_result_of : KeytabState → Result PlacedEntry Code → Result (ℕ × KeytabState) Code

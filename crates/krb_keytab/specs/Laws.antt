@@ -1,13 +1,17 @@
 -- Laws of the definitions.
-use Rattle.std.specs.Prelude.{◌≡◌, ℕ, ◌<◌, List, ◌++◌, replicate, get_or, IsTrue, Some, None, Ok}
+use Rattle.std.specs.Prelude.{◌≡◌, ℕ, ◌<◌, List, [], ◌++◌, map, replicate, get_or, IsTrue, Some, None, Ok}
 use Rattle.std.specs.List.{flat_map, AllByRecursion}
 use Rattle.krb_wire.specs.declared.format.KtFormat.{KtFormat}
 use Rattle.krb_wire.specs.Spelling.{order_of}
 use Rattle.krb_keytab.specs.Entry.{EntryParts, Spells}
 use Rattle.krb_keytab.specs.Form.{fits, written_form, read_back, IsEntry}
+use Rattle.krb_walk.specs.declared.event.Event.TheVariants.{Cut}
 use Rattle.krb_walk.specs.Store.{live_bytes}
+use Rattle.krb_walk.specs.History.{history, replies}
+use Rattle.krb_walk.specs.Ran.{Ran}
 use Rattle.krb_keytab.specs.Store.{KeytabState, image_of, store_of, entries, entry_at_place}
-use Rattle.krb_keytab.specs.Changes.{put_result, cut_result}
+use Rattle.krb_keytab.specs.Changes.{put_result, cut_result, without}
+use Rattle.krb_keytab.specs.Placed.{keytab_rules}
 use Rattle.krb_keytab.specs.Rewrite.{rewrite_result}
 use Rattle.krb_keytab.specs.Cells.{Cell, Contents, cell, spelling, contents, IsCell, IsSound, IsSpelled}
 
@@ -48,3 +52,8 @@ IsGoneWhereRemoved = (k : KeytabState) (place : ℕ) (new : KeytabState) → cut
 -- a keytab that is written anew has the same entries, in the same order
 abbrev pub IsKeptByRewrites : Type 0
 IsKeptByRewrites = (k new : KeytabState) → AreBytes (image_of k) → rewrite_result k ≡ Ok new → entries new ≡ entries k
+
+-- the removal of records is a run of the events `Cut` in a session without walks
+abbrev pub AreRuns : Type 0
+AreRuns = (k : KeytabState) (places : List ℕ) → Ran keytab_rules (record { store = k; cursors = [] }) (record { store = without k places; cursors = [] }) (map Cut places) []
+    (replies (history keytab_rules (record { store = k; cursors = [] }) (map Cut places)))

@@ -39,8 +39,8 @@ fn in_range(name_type: u32, timestamp: u32, kvno: u32, enctype: u16)
 {}
 
 impl<'a, N: Name> Fields<'a, N> {
-    // Each number is below its type's end.
-    pub(crate) fn numbers_fit(&self)
+    /// Each number is below its type's end.
+    pub fn numbers_fit(&self)
         ensures { IsEntry self.now }
     {
         let name_type = self.principal.name_type();

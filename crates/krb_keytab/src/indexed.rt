@@ -75,13 +75,6 @@ impl<A: Allocator> Indexed<A> {
         })
     }
 
-    /// The keytab, to be asked without the table: where a place is known, its lengths answer from there on.
-    pub fn keytab(&self) -> &Keytab<A>
-        ensures { result.now ≡ self.now }
-    {
-        &self.keytab
-    }
-
     /// The keytab, without the table.
     pub fn into_keytab(self) -> Keytab<A>
         ensures { result ≡ self }

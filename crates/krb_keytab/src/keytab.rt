@@ -3,9 +3,10 @@
 mod changes;
 mod rewrite;
 
-ghost use Rattle.std.specs.Prelude.{◌≡◌, IsSome, IfOk, IfErr, IfSome, IfNone, Ok, Err, Some, None, ◌<◌, ◌≤◌, ◌-◌, ◌^◌, length, take, drop, option_copied, vec_capacity};
+ghost use Rattle.std.specs.Prelude.{◌≡◌, ℕ, IsSome, IfOk, IfErr, IfSome, IfNone, Ok, Err, Some, None, ◌<◌, ◌≤◌, ◌-◌, ◌^◌, length, drop, vec_capacity};
 ghost use Rattle.krb_wire.specs.Reading.{Gives};
 ghost use Rattle.krb_walk.specs.Store.{end_of, fault_of, is_place, stop_at, live_bytes, IsPlace, IsSound as IsSoundStore};
+ghost use Rattle.krb_cells.specs.Carry.{between};
 ghost use Rattle.krb_keytab.specs.Entry.{entry_at, Spells};
 ghost use Rattle.krb_keytab.specs.Cells.{contents, IsSound};
 ghost use Rattle.krb_keytab.specs.CellViews.{cells_of};
@@ -50,13 +51,13 @@ impl<A: Allocator> Model for Keytab<A> {
         × (k.count ≡ length (contents k.format (drop 2 k.image.items)).cells) };
 }
 
-// The bytes of the cells that end at a place.
-fn cells_in(image: &[u8], end: usize) -> &[u8]
-    requires ahead { 2 ≤ end }
+// The bytes between two places.
+fn part(image: &[u8], first: usize, end: usize) -> &[u8]
+    requires ahead { first ≤ end }
     requires within { end ≤ length image.now }
-    ensures { result.now ≡ take (end - 2) (drop 2 image.now) }
+    ensures { result.now ≡ between first end image.now }
 {
-    &image[2..end]
+    &image[first..end]
 }
 
 impl<A: Allocator> Keytab<A> {
@@ -139,17 +140,27 @@ impl<A: Allocator> Keytab<A> {
     }
 
     // The store that it is.
+    #[tactic(auto, using(crate::proofs::Stores::first_is_place))]
     fn store(&self) -> Cells<'_, KnownFormat>
         ensures { result ≡ store_of self.now.state }
     {
+        self.store_from(2)
+    }
+
+    // The cells from a place on: what is asked of them is asked of all.
+    fn store_from(&self, place: u32) -> Cells<'_, KnownFormat>
+        requires { IsPlace (store_of self.now.state) place }
+        ensures places { (q : ℕ) → IsPlace result q → IsPlace (store_of self.now.state) q }
+        ensures bytes { (q : ℕ) → place ≤ q → live_bytes result q ≡ live_bytes (store_of self.now.state) q }
+        ensures all { place ≡ 2 → result ≡ store_of self.now.state }
+    {
         let image: &[u8] = &self.image;
         bytes_fit(image);
-        let cells = cells_in(image, self.end.place);
-        bytes_fit(cells);
+        let cells = part(image, place as usize, self.end.place);
         let front = KnownFormat {
             format: self.format,
         };
-        Cells::of(front, 2, cells, self.end.ending.kind())
+        Cells::of(front, place as usize, cells, self.end.ending.kind())
     }
 
     /// The place of the first cell: 2, after the version bytes.
@@ -237,13 +248,6 @@ impl<A: Allocator> Keytab<A> {
         Entries::of(self.cells())
     }
 
-    // The bytes of the record at a place, if one stands there.
-    fn record(&self, place: u32) -> Option<&[u8]>
-        ensures { option_copied result ≡ live_bytes (store_of self.now.state) place }
-    {
-        self.store().find_live(place)
-    }
-
     /// The entry of the record at a place: none exactly where no live cell stands. It looks from the
     /// front; to go through all records, take `stop_at` and `bytes_at`.
     pub fn entry_at(&self, place: u32) -> Option<EntryView<'_>>
@@ -253,7 +257,7 @@ impl<A: Allocator> Keytab<A> {
         ensures exact { Gives (λ e. e) result (entry_at_place self.now.state place) }
     {
         let _ = self.image();
-        let bytes = self.record(place)?;
+        let bytes = self.store().find_live(place)?;
         read_entry(self.format(), bytes)
     }
 }

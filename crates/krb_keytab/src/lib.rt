@@ -25,6 +25,8 @@ pub use entry::{EntryView, read_entry};
 pub use fields::Fields;
 pub use indexed::Indexed;
 pub use keytab::Keytab;
-pub use laws::{changes_are_seen, one_reading, rewrites_keep_entries, written_is_read_back};
+pub use laws::{
+    changes_are_seen, one_reading, removals_are_runs, rewrites_keep_entries, written_is_read_back,
+};
 pub use new_entry::NewEntry;
 pub use open::{KtOpenFault, KtOpenRefused};

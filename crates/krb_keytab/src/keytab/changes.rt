@@ -5,15 +5,15 @@ ghost use Rattle.std.specs.Bool.{OnTrue, OnFalse};
 ghost use Rattle.krb_walk.specs.Rules.{PutGives, CutGives};
 ghost use Rattle.krb_walk.specs.Memory.{HadMemory};
 ghost use Rattle.krb_walk.specs.declared.refusal.Code.TheVariants.{Full};
-ghost use Rattle.krb_walk.specs.Store.{end_of, fault_of, live_bytes};
+ghost use Rattle.krb_walk.specs.Store.{end_of, fault_of, live_bytes, IsPlace};
 ghost use Rattle.krb_keytab.specs.Store.{store_of, entry_at_place};
 ghost use Rattle.krb_keytab.specs.Form.{fits, read_back, IsEntry};
-ghost use Rattle.krb_keytab.specs.Changes.{AnswersRemove, append_result, cut_result, put_result, remove_result, takes_none, with_last, with_record_in, with_hole, hole_from};
+ghost use Rattle.krb_keytab.specs.Changes.{AnswersRemove, append_result, cut_result, put_result, remove_result, takes_none, with_last, with_record_in, with_hole, hole_from, without};
 ghost use Rattle.krb_keytab.specs.Append.{AnswersAppend, KeepsRoom, IsFormOf};
 
 use super::Keytab;
 use crate::append::{append_record, len_with};
-use crate::cells::{Hole, first_hole};
+use crate::cells::{Hole, first_hole, look_for};
 use crate::form::Form;
 use crate::image::spelled_of;
 use crate::new_entry::NewEntry;
@@ -35,20 +35,60 @@ impl<A: Allocator> Keytab<A> {
 
     /// Makes the record at a place a hole of its size, all zeros (MIT krb5, "Keytab file format"). A
     /// damaged keytab refuses.
+    #[tactic(auto, using(crate::proofs::StoreChanges::removal_gone, crate::proofs::Stores::first_is_place))]
     pub fn remove_at(&mut self, place: u32) -> Result<(), Code>
         ensures gives { CutGives (cut_result self.old.state place) self.old.state result self.new.state }
         // No record stands there any more.
         ensures gone { OnOk result (live_bytes (store_of self.new.state) place ≡ None) }
         ensures room { self.new.room ≡ self.old.room }
     {
+        let mut from = self.first();
+        self.remove_from(&mut from, place)
+    }
+
+    /// Removes the record at each of the places, as `remove_at` does; a place that is refused changes nothing. The
+    /// look for a place goes on from the one before, so ascending places take one pass.
+    #[tactic(auto, using(crate::proofs::Stores::first_is_place))]
+    pub fn remove_all(&mut self, places: &[u32])
+        ensures removed { self.new.state ≡ without self.old.state places.now }
+        ensures room { self.new.room ≡ self.old.room }
+    {
+        let mut from = self.first();
+        'places: for place in places {
+            let _ = self.remove_from(&mut from, *place);
+        }
+    }
+
+    // Removes the record at a place, which is looked for from another on; the next look may begin where this ended.
+    fn remove_from(&mut self, from: &mut u32, place: u32) -> Result<(), Code>
+        requires { IsPlace (store_of self.old.state) from.old }
+        ensures gives { CutGives (cut_result self.old.state place) self.old.state result self.new.state }
+        ensures from { IsPlace (store_of self.new.state) from.new }
+        ensures room { self.new.room ≡ self.old.room }
+    {
         if self.fault().is_some() {
             return Err(Code::Damaged);
         }
-        if self.record(place).is_none() {
+        let (at, is_live) = self.look(*from, place);
+        *from = at;
+        if !is_live {
             return Err(Code::NotLive);
         }
         self.free(place);
         Ok(())
+    }
+
+    // Where a look for a place ends, and whether a record stands there. It begins at another place, if that is no
+    // further, and else at the front.
+    fn look(&self, from: u32, place: u32) -> (u32, bool)
+        requires { IsPlace (store_of self.now.state) from }
+        ensures at { IsPlace (store_of self.now.state) result.0 }
+        ensures live { result.1 ≡ is_some (live_bytes (store_of self.now.state) place) }
+    {
+        if place < from {
+            return look_for(self.store(), place);
+        }
+        look_for(self.store_from(from), place)
     }
 
     /// Removes the record that `find` gives for the same arguments, and answers its place. It refuses

@@ -1,5 +1,5 @@
-use Rattle.std.proofs.Common.{sym}
-use Rattle.krb_walk.specs.Store.{live_bytes}
+use Rattle.std.proofs.Common.{sym, ap, ◌∙◌}
+use Rattle.krb_walk.specs.Store.{Store, live_bytes}
 use Rattle.krb_keytab.specs.Entry.{entry_at}
 use Rattle.krb_keytab.specs.Store.{store_of}
 use Rattle.krb_keytab.proofs.Stores.{entry_held, none_there}
@@ -9,6 +9,6 @@ pub returns-clause-none : goal.returns-clause-none
 returns-clause-none g c =
     let k = c.args.self.now.state in
     let b = c.in_ok-bytes.bytes.now in
-    let some = entry_held k c.args.place b c.image.ensures.sound (sym c.in_ok-bytes.ensures) in
+    let some = entry_held k c.args.place b c.image.ensures.sound (ap (λ (s : Store). live_bytes s c.args.place) (sym c.store.ensures) ∙ sym c.in_ok-bytes.ensures) in
     let is = c.format.ensures in
     none_there (λ v. v) c.read_entry.result (entry_at k.format b) (live_bytes (store_of k) c.args.place) (rw (← is) c.read_entry.ensures.exact) some

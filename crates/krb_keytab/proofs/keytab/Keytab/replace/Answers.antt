@@ -1,28 +1,30 @@
-use Rattle.std.proofs.Common.{◌∙◌, map, sym, ap, subst}
+use Rattle.std.proofs.Common.{◌∙◌, map, None, refl, sym, ap, subst}
 use Rattle.std.specs.List.{AllByRecursion}
 use Rattle.krb_wire.proofs.Fields.{IsBytes}
 use Rattle.krb_walk.specs.Store.{Store, IsPlace}
 use Rattle.krb_walk.specs.Ranks.{carry, Rewrites}
 use Rattle.krb_keytab.specs.Store.{InMemory, store_of}
-use Rattle.krb_keytab.proofs.Stores.{state_is}
-use Rattle.krb_keytab.proofs.ImageStores.{old_store}
+use Rattle.krb_keytab.proofs.Stores.{state_is, first_is_place}
+use Rattle.krb_keytab.proofs.ImageStores.{held_from}
 use Rattle.krb_keytab.proofs.keytab.Keytab.replace.Goals as goal
 
 pub carry_to-requires : goal.carry_to-requires
 carry_to-requires g c =
     let i = c.self.inside in
-    let o = old_store i.format i.limit i.image.items c.deref_mut.result.now i.end c.args.self.now.state c.deref_mut.ensures.value (subst IsBytes c.deref.ensures.value c.bytes_fit.ensures) c.self.invariant.0 c.self.invariant.1 (state_is c.self.view_is) c.requires.rewrites.whole in
+    let o = held_from i.format i.limit i.image.items c.deref_mut.result.now _ i.end c.args.self.now.state 2 c.deref_mut.ensures.value (subst IsBytes c.deref.ensures.value c.bytes_fit.ensures) c.self.invariant.0 c.self.invariant.1 (state_is c.self.view_is) (first_is_place c.args.self.now.state 2 refl) refl in
+    let store = o.all None refl (sym c.requires.rewrites.whole) in
     record {
       ahead = o.ahead;
       within = o.within;
       cells = o.are;
-      rewrites = subst (λ (s : Store). Rewrites s c.store.result) (sym o.store) (subst (λ (s : Store). Rewrites (store_of c.args.self.now.state) s) (sym c.store.ensures) c.requires.rewrites);
-      places = subst (λ (s : Store). AllByRecursion (IsPlace s) c.args.cursors.now) (sym o.store) c.requires.places;
+      rewrites = subst (λ (s : Store). Rewrites s c.store.result) (sym store) (subst (λ (s : Store). Rewrites (store_of c.args.self.now.state) s) (sym c.store.ensures) c.requires.rewrites);
+      places = subst (λ (s : Store). AllByRecursion (IsPlace s) c.args.cursors.now) (sym store) c.requires.places;
     }
 
 pub returns-clause-carries : goal.returns-clause-carries
 returns-clause-carries g c =
     let i = c.self.inside in
-    let o = old_store i.format i.limit i.image.items c.deref_mut.result.now i.end c.args.self.now.state c.deref_mut.ensures.value (subst IsBytes c.deref.ensures.value c.bytes_fit.ensures) c.self.invariant.0 c.self.invariant.1 (state_is c.self.view_is) c.requires.rewrites.whole in
-    c.carry_to.ensures ∙ ap (λ (s : Store). map (carry s c.store.result) c.args.cursors.now) o.store
+    let o = held_from i.format i.limit i.image.items c.deref_mut.result.now _ i.end c.args.self.now.state 2 c.deref_mut.ensures.value (subst IsBytes c.deref.ensures.value c.bytes_fit.ensures) c.self.invariant.0 c.self.invariant.1 (state_is c.self.view_is) (first_is_place c.args.self.now.state 2 refl) refl in
+    let store = o.all None refl (sym c.requires.rewrites.whole) in
+    c.carry_to.ensures ∙ ap (λ (s : Store). map (carry s c.store.result) c.args.cursors.now) store
     ∙ ap (λ (s : Store). map (carry (store_of c.args.self.now.state) s) c.args.cursors.now) (c.store.ensures ∙ ap (λ (k : InMemory). store_of k.state) (sym c.drop.view_is))

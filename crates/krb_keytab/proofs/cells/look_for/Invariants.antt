@@ -1,0 +1,13 @@
+use Rattle.std.proofs.Common.{◌≡◌, ℕ, true, length}
+use Rattle.krb_walk.specs.Store.{live_bytes, is_place}
+use Rattle.krb_keytab.proofs.cells.look_for.Given as goal
+
+-- what is asked of the rest is asked of all
+abbrev pub invariant-cells : goal.invariant-cells
+invariant-cells l = record {
+  places : (q : ℕ) → is_place l.rest q ≡ true → is_place l.fn.cells q ≡ true;
+  bytes : live_bytes l.rest l.place ≡ live_bytes l.fn.cells l.place;
+}
+
+abbrev pub decreases-cells : goal.decreases-cells
+decreases-cells l = length l.rest.cells
