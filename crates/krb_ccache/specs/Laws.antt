@@ -2,7 +2,7 @@
 use Rattle.std.specs.Prelude.{◌≡◌, ℕ, ◌<◌, ◌≤◌, List, ◌++◌, length, map, get_or, Some, Ok}
 use Rattle.std.specs.List.{flat_map, AllByRecursion}
 use Rattle.krb_wire.specs.Spelling.{FitsCc}
-use Rattle.krb_walk.specs.Contents.{Contents, contents, spelling, IsSound, IsSpelled}
+use Rattle.krb_cells.specs.Contents.{Contents, contents, spelling, IsSound, IsSpelled}
 use Rattle.krb_walk.specs.declared.event.Event.TheVariants.{Cut}
 use Rattle.krb_walk.specs.Events.{put_store}
 use Rattle.krb_walk.specs.History.{state_after}
