@@ -37,8 +37,8 @@ use Rattle.krb_commands.specs.declared.verdict.FileKind.{FileKind}
 use Rattle.krb_commands.specs.declared.verdict.Verdict.{Verdict}
 use Rattle.krb_commands.specs.declared.verdict.Verdict.TheVariants.{Well, Replied}
 use Rattle.krb_commands.specs.Commands.{text_effect}
-use Rattle.krb_commands.specs.Effects.{Effect}
-use Rattle.krb_commands.specs.Sessions.{new_session, moments, left, replied, session_effect, RunsFairly}
+use Rattle.krb_commands.specs.Effects.{Effect, Displays, Saves, text}
+use Rattle.krb_commands.specs.Sessions.{is_change, new_session, moments, left, replied, session_effect, RunsFairly}
 use Rattle.krb_commands.specs.Told.{is_trouble, tells_code, tells_fault, code_told, fault_told, codes_told, faults_told, replied_verdict}
 
 -- ---- the format after an event
@@ -217,6 +217,21 @@ pub left_begun : {S I : Type 0} (r : Rules S I) (store : S) (events : List (Even
     → old ≡ new_session store → Ran r old new events [] told → new.store ≡ left r store events
 left_begun {S} r store events old new told begins ran =
     ap (λ (s : SessionState S). s.store) (ran.state ∙ ap (λ (s : SessionState S). state_after r s events) begins)
+
+module _ (kind : FileKind) (told : List Said) (image lines text_ : List ℕ) (verdict : Verdict) where
+  -- replies that report a change save the image
+  pub replied_saves : list_any is_change told ≡ true → text_ ≡ lines → verdict ≡ replied_verdict kind (λ said. said) told → (file : List ℕ) → Saves file image text_ verdict ≡ replied kind file told image lines
+  replied_saves changed text_is verdict_is file =
+      let due = replied_verdict kind (λ said. said) told in
+      ap (λ (t : List ℕ). Saves file image t verdict) text_is ∙ ap (Saves file image lines) verdict_is
+      ∙ ap (λ (b : Bool). if b then Saves file image lines due else Displays file (text lines due)) (sym changed)
+
+  -- others save nothing
+  pub replied_shows : list_any is_change told ≡ false → text_ ≡ lines → verdict ≡ replied_verdict kind (λ said. said) told → (file : List ℕ) → Displays file (text text_ verdict) ≡ replied kind file told image lines
+  replied_shows changed text_is verdict_is file =
+      let due = replied_verdict kind (λ said. said) told in
+      ap (λ (t : List ℕ). Displays file (text t verdict)) text_is ∙ ap (λ (v : Verdict). Displays file (text lines v)) verdict_is
+      ∙ ap (λ (b : Bool). if b then Saves file image lines due else Displays file (text lines due)) (sym changed)
 
 -- what the replies of a session come to is what the session comes to
 pub session_made : {S I F : Type 0} (kind : FileKind) (r : Rules S I) (image : S → List ℕ) (tail_of : F → List ℕ → List ℕ) (format : S → F) (rewritten : F) → KeepsFormat format rewritten r
