@@ -16,7 +16,8 @@ use Rattle.krb_audit.specs.declared.findings.Before.{Before}
 use Rattle.krb_audit.specs.declared.marks.Marks.{Marks}
 use Rattle.krb_audit.specs.declared.told.Told.{Told}
 use Rattle.krb_audit.specs.Before.{IsBefore}
-use Rattle.krb_audit.specs.Findings.{as_alike, ends_mit, is_alike, is_weak, marked, marked_after, marks_of}
+use Rattle.krb_text.specs.Etype.{is_weak}
+use Rattle.krb_audit.specs.Findings.{as_alike, ends_mit, is_alike, marked, marked_after, marks_of}
 use Rattle.krb_audit.specs.Firsts.{AreFirsts, Key, key_of, same_key}
 use Rattle.krb_audit.specs.Newest.{is_old}
 use Rattle.krb_audit.specs.Stamps.{first_number}

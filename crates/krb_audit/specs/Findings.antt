@@ -6,13 +6,10 @@ use Rattle.krb_wire.specs.SameName.{have_same_name}
 use Rattle.krb_keytab.specs.Entry.{EntryParts}
 use Rattle.krb_keytab.specs.Find.{PlacedEntry, placed_entries}
 use Rattle.krb_keytab.specs.Store.{KeytabState}
+use Rattle.krb_text.specs.Etype.{is_weak}
 use Rattle.krb_audit.specs.declared.marks.Alike.{Alike}
 use Rattle.krb_audit.specs.declared.marks.Marks.{Marks}
 use Rattle.krb_audit.specs.Newest.{is_old}
-
--- the enctypes that MIT names, and calls weak or deprecated
-abbrev pub is_weak : ℕ → Bool
-is_weak enctype = list_any (λ n. n == enctype) (1 ∷ 2 ∷ 3 ∷ 4 ∷ 6 ∷ 8 ∷ 16 ∷ 23 ∷ 24 ∷ [])
 
 -- a count or a length with which MIT's programs read no entry
 abbrev pub is_out : ℕ → Bool

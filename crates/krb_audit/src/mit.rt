@@ -2,7 +2,7 @@
 
 ghost use Rattle.std.specs.Prelude.{◌≡◌, length, List, ℕ};
 ghost use Rattle.std.specs.List.{list_any};
-ghost use Rattle.krb_audit.specs.Findings.{ends_mit, is_out, is_weak};
+ghost use Rattle.krb_audit.specs.Findings.{ends_mit, is_out};
 
 use krb_keytab::EntryView;
 use krb_wire::{Components, Name};
@@ -10,13 +10,6 @@ use std::alloc::Allocator;
 
 /// The greatest count, and length, with which they read an entry.
 const MOST: usize = 32_767;
-
-/// Whether they name an enctype, and call it weak or deprecated.
-pub fn is_weak(enctype: u16) -> bool
-    ensures { result ≡ is_weak enctype }
-{
-    matches!(enctype, 1 | 2 | 3 | 4 | 6 | 8 | 16 | 23 | 24)
-}
 
 // Whether they read no entry with such a count or length.
 fn is_out(count: usize) -> bool

@@ -1,24 +1,30 @@
--- The names of the table are read as their numbers.
-use Rattle.std.proofs.Common.{◌≡◌, ◌==◌, ℕ, true, false, Option, Some, None, IsSome, refl, sym, ap, ◌∙◌}
+-- The table of encryption types.
+use Rattle.std.proofs.Common.{◌≡◌, ℕ, List, true, false, Option, Some, None, IsSome, IfSome, ◌==◌, refl, ap, ◌∙◌}
 use Rattle.std.proofs.lemmas.Bool.{eqb-true}
 use Rattle.std.specs.List.{AllByRecursion}
-use Rattle.std.specs.Option.{MatchOption}
-use Rattle.krb_text.specs.Etype.{Etype, etype_table, etype_numbered, etype_text_of, etype_in, name_or, unnamed}
+use Rattle.std.specs.Option.{MatchOption, option_map, option_and_then, unwrap_or}
+use Rattle.krb_text.specs.Etype.{Etype, etype_table, etype_numbered, etype_name_of, etype_text_of, etype_in, unnamed}
 use Rattle.krb_text.proofs.Found.{MatchOption-find}
 
 -- the name is read as the number
 abbrev IsRead : Etype → Type 0
-IsRead e = etype_in e.name ≡ Some e.number
+IsRead e = IfSome e.named (λ x. etype_in x.0 ≡ Some e.number)
 
 -- each name is
 table_is_read : AllByRecursion IsRead etype_table
-table_is_read = (refl, (refl, (refl, (refl, (refl, (refl, (refl, (refl, tt))))))))
+unfolding etype_table
+table_is_read = (tt, (tt, (tt, (tt, (tt, (tt, (tt, (refl, (refl, (refl, (refl, (refl, (refl, (refl, (refl, tt)))))))))))))))
 
--- so is the text of what the table has of a number
-row_is_read : (n : ℕ) (o : Option Etype) → MatchOption o (Unit {0}) (λ e. IsRead e × ((n == e.number) ≡ true)) → IsSome o → etype_in (name_or (unnamed n) o) ≡ Some n
-row_is_read n (Some e) m h = m.0 ∙ ap Some (sym (eqb-true n e.number m.1))
+-- so is the text of what has a name
+named_is_read : (n number : ℕ) (o : Option (List ℕ × ℕ)) → IfSome o (λ x. etype_in x.0 ≡ Some number) → number ≡ n → IsSome (option_map (λ x. x.0) o) → etype_in (unwrap_or (option_map (λ x. x.0) o) (unnamed n)) ≡ Some n
+named_is_read n number (Some x) read is h = read ∙ ap Some is
+named_is_read n number None read is h = let no : false ≡ true = h in cc
+
+row_is_read : (n : ℕ) (o : Option Etype) → MatchOption o (Unit {0}) (λ e. IsRead e × ((e.number == n) ≡ true)) → IsSome (option_map (λ x. x.0) (option_and_then (λ e. e.named) o))
+    → etype_in (unwrap_or (option_map (λ x. x.0) (option_and_then (λ e. e.named) o)) (unnamed n)) ≡ Some n
+row_is_read n (Some e) m h = named_is_read n e.number e.named m.0 (eqb-true e.number n m.1) h
 row_is_read n None m h = let no : false ≡ true = h in cc
 
--- the text of a number of the table is read as that number
-pub read_text : (n : ℕ) → IsSome (etype_numbered n) → etype_in (etype_text_of n) ≡ Some n
-read_text n h = row_is_read n (etype_numbered n) (MatchOption-find IsRead (λ e. n == e.number) etype_table table_is_read) h
+-- the name of a number is read as that number
+pub read_text : (n : ℕ) → IsSome (etype_name_of n) → etype_in (etype_text_of n) ≡ Some n
+read_text n h = row_is_read n (etype_numbered n) (MatchOption-find IsRead (λ e. e.number == n) etype_table table_is_read) h

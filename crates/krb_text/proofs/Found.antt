@@ -1,16 +1,7 @@
 -- The first element of a list that passes a test.
-use Rattle.std.proofs.Common.{◌≡◌, List, [], ◌∷◌, Bool, true, false, cond, Some, map, refl}
+use Rattle.std.proofs.Common.{◌≡◌, List, [], ◌∷◌, Bool, true, false, cond, Some, refl}
 use Rattle.std.specs.List.{find, AllByRecursion}
-use Rattle.std.specs.Option.{option_map, MatchOption}
-
--- what is found among the values of a function is the value of what is found
-pub find-map : {X Y : Type 0} (test : Y → Bool) (f : X → Y) (xs : List X) → find test (map f xs) ≡ option_map f (find (λ x. test (f x)) xs)
-find-map test f [] = refl
-find-map test f (x ∷ xs) =
-    elim (test (f x)) as (λ b. cond b (Some (f x)) (find test (map f xs)) ≡ option_map f (cond b (Some x) (find (λ y. test (f y)) xs))) [
-      | true ↦ refl
-      | false ↦ find-map test f xs
-    ]
+use Rattle.std.specs.Option.{MatchOption}
 
 -- what holds of each element holds of what is found, and that passes the test
 pub MatchOption-find : {X : Type 0} (P : X → Type 0) (test : X → Bool) (xs : List X) → AllByRecursion P xs → MatchOption (find test xs) (Unit {0}) (λ x. P x × (test x ≡ true))

@@ -1,66 +1,70 @@
 -- Encryption types. The numbers are IANA's Kerberos encryption type numbers, and the sizes of keys those of RFC 3961 (16), 3962 (17, 18), 8009 (19, 20), 4757 (23) and 6803 (25, 26).
 -- The names are those of MIT Kerberos. IANA's are the same but for 16, `des3-cbc-sha1-kd`, and 23, `rc4-hmac`.
-use Rattle.std.specs.Prelude.{ℕ, List, [], ◌∷◌, ◌++◌, ◌==◌, codes, decimal, Option, None, Some, option_map, Bool, false}
+use Rattle.std.specs.Prelude.{ℕ, List, [], ◌∷◌, ◌++◌, ◌==◌, codes, decimal, Option, None, Some, map, option_map, unwrap_or, Bool, true, false}
 use Rattle.std.specs.List.{find}
+use Rattle.std.specs.Option.{option_and_then, option_map_or}
 use Rattle.std.specs.Str.{bytes_eq}
 use Rattle.krb_text.specs.Numbers.{number_in}
 
--- an encryption type: its number, its name and the number of bytes of its keys
+-- an encryption type: its number, its name and the number of bytes of its keys if it has a name here, and whether MIT calls it weak or deprecated
 pub record Etype : Type 0 where
   pub number : ℕ
-  pub name : List ℕ
-  pub key_size : ℕ
+  pub named : Option (List ℕ × ℕ)
+  pub is_weak : Bool
 
--- the encryption types that have a name here
-abbrev pub etype_table : List Etype
+-- one that is weak, and has no name here
+abbrev pub weak_unnamed : ℕ → Etype
+weak_unnamed n = record { number = n; named = None; is_weak = true }
+
+-- those that have a name here or are weak
+unfoldable pub etype_table : List Etype
 etype_table =
-    record { number = 16; name = codes "des3-cbc-sha1"; key_size = 24 }
-    ∷ record { number = 17; name = codes "aes128-cts-hmac-sha1-96"; key_size = 16 }
-    ∷ record { number = 18; name = codes "aes256-cts-hmac-sha1-96"; key_size = 32 }
-    ∷ record { number = 19; name = codes "aes128-cts-hmac-sha256-128"; key_size = 16 }
-    ∷ record { number = 20; name = codes "aes256-cts-hmac-sha384-192"; key_size = 32 }
-    ∷ record { number = 23; name = codes "arcfour-hmac"; key_size = 16 }
-    ∷ record { number = 25; name = codes "camellia128-cts-cmac"; key_size = 16 }
-    ∷ record { number = 26; name = codes "camellia256-cts-cmac"; key_size = 32 }
-    ∷ []
+    map weak_unnamed (1 ∷ 2 ∷ 3 ∷ 4 ∷ 6 ∷ 8 ∷ 24 ∷ []) ++
+    (record { number = 16; named = Some (codes "des3-cbc-sha1", 24); is_weak = true }
+    ∷ record { number = 17; named = Some (codes "aes128-cts-hmac-sha1-96", 16); is_weak = false }
+    ∷ record { number = 18; named = Some (codes "aes256-cts-hmac-sha1-96", 32); is_weak = false }
+    ∷ record { number = 19; named = Some (codes "aes128-cts-hmac-sha256-128", 16); is_weak = false }
+    ∷ record { number = 20; named = Some (codes "aes256-cts-hmac-sha384-192", 32); is_weak = false }
+    ∷ record { number = 23; named = Some (codes "arcfour-hmac", 16); is_weak = true }
+    ∷ record { number = 25; named = Some (codes "camellia128-cts-cmac", 16); is_weak = false }
+    ∷ record { number = 26; named = Some (codes "camellia256-cts-cmac", 32); is_weak = false }
+    ∷ [])
 
 -- the encryption type of a number
 abbrev pub etype_numbered : ℕ → Option Etype
-etype_numbered n = find (λ e. n == e.number) etype_table
+etype_numbered n = find (λ e. e.number == n) etype_table
 
--- the name of a number, where the table has it
+-- the name of a number and the number of bytes of its keys, if it has a name
+abbrev pub named_of : ℕ → Option (List ℕ × ℕ)
+named_of n = option_and_then (λ e. e.named) (etype_numbered n)
+
+-- the name of a number
 abbrev pub etype_name_of : ℕ → Option (List ℕ)
-etype_name_of n = option_map (λ e. e.name) (etype_numbered n)
+etype_name_of n = option_map (λ x. x.0) (named_of n)
 
--- the number of bytes of a key, where the table has the number
+-- the number of bytes of a key
 abbrev pub key_size_of : ℕ → Option ℕ
-key_size_of n = option_map (λ e. e.key_size) (etype_numbered n)
+key_size_of n = option_map (λ x. x.1) (named_of n)
 
--- the text of a number that the table has not
+-- the number is that of a weak one
+abbrev pub is_weak : ℕ → Bool
+is_weak n = option_map_or (λ e. e.is_weak) (etype_numbered n) false
+
+-- the text of a number that has no name
 abbrev pub unnamed : ℕ → List ℕ
 unnamed n = codes "etype " ++ decimal n
 
--- the name, where there is one
-abbrev pub name_or : List ℕ → Option Etype → List ℕ
-name_or text None = text
-name_or text (Some e) = e.name
-
--- the text of a number: its name in the table, or `etype ` and the number in decimal
+-- the text of a number: its name, or `etype ` and the number in decimal
 abbrev pub etype_text_of : ℕ → List ℕ
-etype_text_of n = name_or (unnamed n) (etype_numbered n)
+etype_text_of n = unwrap_or (etype_name_of n) (unnamed n)
 
--- the text is the name
-abbrev pub is_name : List ℕ → Option Etype → Bool
-is_name text None = false
-is_name text (Some e) = bytes_eq e.name text
-
--- the text is the name of a number of the table
+-- the text is the name of a number
 abbrev pub is_named : List ℕ → ℕ → Bool
-is_named text n = is_name text (etype_numbered n)
+is_named text n = option_map_or (λ name. bytes_eq name text) (etype_name_of n) false
 
 -- the number of a name
 abbrev pub number_named : List ℕ → Option ℕ
-number_named text = option_map (λ e. e.number) (find (λ e. bytes_eq e.name text) etype_table)
+number_named text = find (is_named text) (map (λ e. e.number) etype_table)
 
 -- the first of two, where there is one
 abbrev pub first_of : Option ℕ → Option ℕ → Option ℕ

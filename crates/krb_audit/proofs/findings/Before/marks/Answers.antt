@@ -1,7 +1,7 @@
 use Rattle.std.proofs.Common.{ap, sym, ◌∙◌}
 use Rattle.std.specs.Prelude.{◌&&◌, ◌||◌, not, Bool}
 use Rattle.krb_keytab.specs.Find.{PlacedEntry, placed_entries}
-use Rattle.krb_audit.specs.Findings.{is_weak}
+use Rattle.krb_text.specs.Etype.{is_weak}
 use Rattle.krb_audit.specs.Firsts.{looked}
 use Rattle.krb_audit.proofs.FindingsLemmas.{entry_at_count, key_here, marks_here, firsts_here, count_here, ended_here}
 use Rattle.krb_audit.proofs.findings.Before.marks.Goals as goal
