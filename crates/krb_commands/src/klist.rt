@@ -1,8 +1,7 @@
 //! Lists a file.
 
-ghost use Rattle.std.specs.Prelude.{◌≡◌, IsFalse, OnErr, OnOk};
-ghost use Rattle.std.specs.Io.KnownBytes.{Appends};
-ghost use Rattle.krb_files.specs.Bytes.{AppendsPrefix, is_write_fault};
+ghost use Rattle.std.specs.Prelude.{◌≡◌, IsFalse};
+ghost use Rattle.krb_text.specs.Gathered.{Prints};
 ghost use Rattle.krb_commands.specs.Commands.{RunsCommand, any, made_effect};
 ghost use Rattle.krb_commands.specs.Effects.{Displays, IsMade};
 ghost use Rattle.krb_commands.specs.Klist.{cache_page, cache_shown, keytab_page, keytab_shown, klist_plan, listing_page};
@@ -55,11 +54,7 @@ fn show_keytab<A: Allocator + Copy, W: Write>(
     out: &mut Watched<W>,
 ) -> Result<(), OutFault>
     requires { IsFalse out.old.failed }
-    ensures ok { OnOk result (Appends out.old.contents out.new.contents
-        (keytab_shown json columns file.now keytab.now.state)) }
-    ensures prefix { OnErr result (AppendsPrefix out.old.contents out.new.contents
-        (keytab_shown json columns file.now keytab.now.state)) }
-    ensures failed { out.new.failed ≡ is_write_fault result }
+    ensures { Prints out.old out.new result (keytab_shown json columns file.now keytab.now.state) }
 {
     if json {
         keytab_json(alloc, file, keytab, columns.keys, out)
@@ -78,11 +73,7 @@ fn show_cache<A: Allocator + Copy, W: Write>(
     out: &mut Watched<W>,
 ) -> Result<(), OutFault>
     requires { IsFalse out.old.failed }
-    ensures ok { OnOk result (Appends out.old.contents out.new.contents
-        (cache_shown json columns file.now cache.now.state)) }
-    ensures prefix { OnErr result (AppendsPrefix out.old.contents out.new.contents
-        (cache_shown json columns file.now cache.now.state)) }
-    ensures failed { out.new.failed ≡ is_write_fault result }
+    ensures { Prints out.old out.new result (cache_shown json columns file.now cache.now.state) }
 {
     if json {
         cache_json(alloc, file, cache, out)
