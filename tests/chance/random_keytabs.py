@@ -6,9 +6,10 @@ from random import Random
 
 from makers.images import BIG, END, LITTLE, Entry, hole, keytab, record
 from makers.mutations import mutated
-from makers.sample_keytabs import keytabs
+from peers import corpus
 
-SAMPLES = keytabs()
+# Keytabs of other programs.
+SAMPLES = corpus.images("keytab")
 
 # Lengths that run past the end, end the file, or are cut.
 LENGTHS = [END, b"\0", b"\0\0\0\1", b"\x7f\xff\xff\xff", b"\x80\0\0\0", b"\xff\xff\xff\xff"]

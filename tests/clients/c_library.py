@@ -9,8 +9,6 @@ import subprocess
 from clients.c_exports import prototypes
 from makers.cache_images import Credential, Name, cache, config, header_field
 from makers.images import TWO
-from makers.sample_caches import caches
-from makers.sample_keytabs import keytabs
 from makers.samples import SAMPLES
 from makers.usual_caches import PA_TYPE, TICKET, USUAL
 from peers import corpus
@@ -97,7 +95,7 @@ def check_keytabs(report: Report, program: str, folder: str) -> None:
     """What keytabs.c lists and adds, beside `klist -k` and `ktedit`, under gcc's sanitizers."""
     built = build(folder, "keytabs", *SANITIZED)
     samples = (data for name, data in SAMPLES.items() if name.endswith(".keytab"))
-    for image in (*keytabs(), *samples, *corpus.images("keytab"), b"", b"\5", USUAL):
+    for image in (*samples, *corpus.images("keytab"), b"", b"\5", USUAL):
         with folder_of({"f": image}) as at:
             is_sound = run(program, ("klist", "-k", "f"), at).status == 0
         after = edited(program, image) if is_sound else None
@@ -110,7 +108,7 @@ def check_caches(report: Report, program: str, folder: str) -> None:
     field = header_field(9, b"\xab")
     for image in (USUAL, cache(TICKET, PA_TYPE), cache(TICKET, fields=field)):
         check_image(report, program, built, "-c", image, stored(image))
-    for image in (*caches(), *corpus.images("ccache"), b"", b"\5\4\0", TWO):
+    for image in (*corpus.images("ccache"), b"", b"\5\4\0", TWO):
         check_image(report, program, built, "-c", image, None)
 
 
@@ -142,23 +140,6 @@ def check_example(report: Report, program: str) -> None:
         for what, image in (("damaged", keytab + b"\x7f"), ("large", TWO + hole)):
             got = run(built, (), folder, image)
             report.compare(f"the example of krbfile(3), {what}", Outcome(1), got)
-
-
-def check_rust(report: Report, program: str, folder: str) -> None:
-    """A program in Rust lists what `klist -k` does."""
-    if shutil.which("rustc") is None:
-        report.skip("the C library from Rust", "rustc is not there")
-        return
-    built = os.path.join(folder, "list")
-    subprocess.run(["rustc", "--edition", "2021", "-D", "warnings", "-A", "dead_code", "-o", built,
-                    "-L", os.path.dirname(LIBRARY), "-l", "static=krbfile",
-                    os.path.join(SOURCES, "list.rs")], check=True, timeout=SECONDS)
-    for image in keytabs():
-        with folder_of({"f": image}) as at:
-            listed = run(program, ("klist", "-k", "f"), at).out.splitlines(keepends=True)[3:]
-            got = run(built, (), at, image)
-        wanted = b"".join(line for line in listed if not line.startswith(b"fault "))
-        report.compare(f"from Rust: a keytab of {len(image)} bytes", Outcome(0, wanted), got)
 
 
 def check_memory(report: Report, folder: str) -> None:
@@ -212,7 +193,6 @@ def check(report: Report, program: str) -> None:
         check_keytabs(report, program, folder)
         check_caches(report, program, folder)
         check_example(report, program)
-        check_rust(report, program, folder)
         check_given(report, folder)
         check_memory(report, folder)
         check_keys(report, program, folder)
