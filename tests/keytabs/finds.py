@@ -4,7 +4,7 @@ from __future__ import annotations
 from keytabs import columns
 from keytabs.file_names import LIMIT, TOO_LARGE
 from makers.images import B, BIG, END, HOST, TWO, Entry, hole, keytab, old, record
-from runs.harness import Case, Outcome, Report, folder_of, message, run
+from runs.harness import Case, Outcome, message
 
 NOT_FOUND = message(1, "k: refused 9")
 NO_SUCH_VERSION = message(1, "k: refused 10")
@@ -163,17 +163,3 @@ CASES = [
     Case("no file", ("ktfind", "no", "0", "0", "b@R"), message(1, "no: no such file"), {"k": TWO}),
     Case("a folder", ("ktfind", ".", "0", "0", "b@R"), message(3, ".: cannot read"), {"k": TWO}),
 ]
-
-
-def check(report: Report, program: str) -> None:
-    """The name that a listing prints finds the entry of its line."""
-    with folder_of({"k": keytab(*NAMED)}) as folder:
-        lines = run(program, ["klist", "-k", "k"], folder).out.split(b"\n")[3:-1]
-        told = [] if len(lines) == len(NAMED) else [f"{len(lines)} lines of {len(NAMED)} names"]
-        report.check("a line for each name", told)
-        for number, line in enumerate(lines):
-            text = line[5:]
-            place = place_of(NAMED, number)
-            wanted = Outcome(0, b"found %d kvno %d etype 17 " % (place, number) + text + b"\n")
-            got = run(program, ["ktfind", "k", "0", "0", "--", text], folder)
-            report.compare(f"the printed name {text[:50]!r}", wanted, got)
