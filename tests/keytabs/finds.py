@@ -16,6 +16,14 @@ FIVE = Entry(version8=5, version32=5)
 # host/a@R at 2, 53 and 120: version 3 of enctype 17, version 5 of 18, version 5 of 17.
 THREE = keytab(HOST, AES256, FIVE)
 
+# What is found there by a version and an enctype: the first entry of the highest version that is asked for.
+OF_THREE = {
+    "0 0": (53, 5, 18), "0 17": (120, 5, 17), "0 aes256-cts-hmac-sha1-96": (53, 5, 18),
+    "3 0": (2, 3, 17), "3 17": (2, 3, 17), "5 0": (53, 5, 18), "5 17": (120, 5, 17),
+    "4 0": NO_SUCH_VERSION, "3 18": NO_SUCH_VERSION, "4294967295 0": NO_SUCH_VERSION,
+    "0 23": NOT_FOUND, "4 23": NOT_FOUND,
+}
+
 
 def find(name: str, image: bytes, asked: str, wanted: Outcome | tuple[int, int, int], *options: str) -> Case:
     """A look-up by a version, an enctype and a name.
@@ -103,18 +111,7 @@ ETYPES = {**{str(number): number for number in NUMBERS},
 
 CASES = [
     # Which of several entries of one name is taken.
-    find("the highest version, first of two", THREE, "0 0 host/a@R", (53, 5, 18)),
-    find("the highest version of an enctype", THREE, "0 17 host/a@R", (120, 5, 17)),
-    find("the highest by the enctype's name", THREE, "0 aes256-cts-hmac-sha1-96 host/a@R", (53, 5, 18)),
-    find("an older version", THREE, "3 0 host/a@R", (2, 3, 17)),
-    find("an older version of its enctype", THREE, "3 17 host/a@R", (2, 3, 17)),
-    find("a version of two enctypes", THREE, "5 0 host/a@R", (53, 5, 18)),
-    find("a version of the later enctype", THREE, "5 17 host/a@R", (120, 5, 17)),
-    find("a version that no entry has", THREE, "4 0 host/a@R", NO_SUCH_VERSION),
-    find("a version that no entry of that enctype has", THREE, "3 18 host/a@R", NO_SUCH_VERSION),
-    find("the greatest version, which none has", THREE, "4294967295 0 host/a@R", NO_SUCH_VERSION),
-    find("an enctype that no entry has", THREE, "0 23 host/a@R", NOT_FOUND),
-    find("neither version nor enctype", THREE, "4 23 host/a@R", NOT_FOUND),
+    *(find(f"{asked} of three", THREE, f"{asked} host/a@R", wanted) for asked, wanted in OF_THREE.items()),
     find("the first of equals", SAME, "0 0 host/a@R", (2, 3, 17)),
     find("the first of equals by version", SAME, "3 17 host/a@R", (2, 3, 17)),
     find("the highest in the middle", FALLING, "0 0 host/a@R", (53, 12, 17)),
