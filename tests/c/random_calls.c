@@ -85,7 +85,7 @@ static void call_kt(krbf_keytab *kt, uint32_t *cursor, uint32_t *known) {
         see_entry(krbf_kt_entry(kt, place, &entry), &entry, known);
         break;
     case 8:
-        *cursor = a_place(*cursor);
+        *cursor = a_place(KRBF_FIRST);
         break;
     default:
         CHECK(krbf_kt_fault(kt, &kind, &place) == KRBF_DONE);
@@ -133,6 +133,7 @@ static void call_cc(krbf_ccache *cc, uint32_t *cursor, uint32_t *known) {
         krbf_cc_set_config(cc, TEXT("pa_type"), TEXT(name), image, below(40), &place);
         break;
     case 9:
+        krbf_cc_first(cc, cursor);
         *cursor = a_place(*cursor);
         break;
     case 10:
