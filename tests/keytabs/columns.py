@@ -24,7 +24,7 @@ ETYPE = b" (aes128-cts-hmac-sha1-96)"
 HOST_KEY = b" (0x000102030405060708090a0b0c0d0e0f)"
 B_KEY = b" (0x101112131415161718191a1b1c1d1e1f)"
 
-# Times and their texts, among them the edges of a year and of February in three years.
+# Times and their texts, among them the edges of a year, and of February in 2000 and 2100.
 KNOWN_TIMES = {
     0: b"1970-01-01T00:00:00Z",
     951_782_399: b"2000-02-28T23:59:59Z",
