@@ -1,6 +1,5 @@
-/* caches FILE: lists a cache as klist does. Of one that can be changed it then stores a ticket,
- * sets a value, writes the image to the error output, removes the ticket again and writes the cache
- * anew, and checks what each call answers. */
+/* caches FILE: lists a cache as klist does. In one that can be changed it then stores a ticket, and
+ * looks at all parts of it. */
 #include "check.h"
 
 #include <time.h>
@@ -19,16 +18,15 @@ static void print_time(uint32_t seconds, const char *end) {
     printf("%s%s", text, end);
 }
 
-/* Lists the tickets, and answers how many credentials there are. */
-static size_t list(krbf_ccache *cc, uint32_t end) {
+/* Lists the tickets. */
+static void list(krbf_ccache *cc, uint32_t end) {
     uint32_t cursor, status;
-    size_t count = 0, len = 0;
+    size_t len = 0;
     krbf_ticket ticket;
     krbf_cc_first(cc, &cursor);
     while ((status = krbf_cc_next(cc, &cursor, &ticket)) == KRBF_DONE) {
         CHECK(krbf_cc_server(cc, ticket.place, room, sizeof room, &len) == KRBF_DONE &&
               len <= sizeof room);
-        count++;
         if (ticket.is_config)
             continue;
         print_time(ticket.starttime ? ticket.starttime : ticket.authtime, " ");
@@ -40,11 +38,10 @@ static size_t list(krbf_ccache *cc, uint32_t end) {
         }
     }
     CHECK(status == end);
-    return count;
 }
 
 /* A ticket that is stored is found with all its parts. */
-static uint32_t store(krbf_ccache *cc) {
+static void store(krbf_ccache *cc) {
     uint32_t place = 0;
     size_t len = 0;
     krbf_ticket ticket;
@@ -66,40 +63,6 @@ static uint32_t store(krbf_ccache *cc) {
     CHECK(is_text(ticket.ticket, "tkt") && ticket.second_ticket.len == 0);
     CHECK(krbf_cc_client(cc, place, room, sizeof room, &len) == KRBF_DONE && len == 3 &&
           !memcmp(room, "u@R", 3));
-    return place;
-}
-
-/* Values are set and read, and a second one takes the place of the first. */
-static void set_values(krbf_ccache *cc) {
-    uint32_t place = 0;
-    krbf_bytes value;
-    CHECK(krbf_cc_config(cc, TEXT("c_abi"), TEXT(""), &value) == KRBF_NOT_FOUND);
-    CHECK(krbf_cc_set_config(cc, TEXT("c_abi"), TEXT(""), (const uint8_t *)TEXT("1"), &place) ==
-          KRBF_DONE);
-    CHECK(krbf_cc_set_config(cc, TEXT("c_abi"), TEXT("b@R"), (const uint8_t *)TEXT("2"), &place) ==
-          KRBF_DONE);
-    CHECK(krbf_cc_set_config(cc, TEXT("c_abi"), TEXT(""), (const uint8_t *)TEXT("33"), &place) ==
-          KRBF_DONE);
-    CHECK(krbf_cc_config(cc, TEXT("c_abi"), TEXT(""), &value) == KRBF_DONE && is_text(value, "33"));
-    CHECK(krbf_cc_config(cc, TEXT("c_abi"), TEXT("b@R"), &value) == KRBF_DONE &&
-          is_text(value, "2"));
-}
-
-/* The ticket is removed, and is there no more. A walk is carried by a rewrite. */
-static void remove_again(krbf_ccache *cc, uint32_t place, size_t count) {
-    uint32_t cursor;
-    krbf_ticket ticket;
-    CHECK(krbf_cc_remove_at(cc, place) == KRBF_DONE);
-    CHECK(krbf_cc_remove_at(cc, place) == KRBF_NOT_LIVE);
-    CHECK(krbf_cc_ticket(cc, place, &ticket) == KRBF_NOT_LIVE);
-    CHECK(krbf_cc_find(cc, TEXT(SERVER), &ticket) == KRBF_NOT_FOUND);
-    krbf_cc_first(cc, &cursor);
-    CHECK(krbf_cc_next(cc, &cursor, &ticket) == KRBF_DONE);
-    CHECK(krbf_cc_rewrite(cc, &cursor, 1) == KRBF_DONE);
-    /* The two values are left beside what was there, and one step was taken. */
-    for (size_t left = count + 1; left > 0; left--)
-        CHECK(krbf_cc_next(cc, &cursor, &ticket) == KRBF_DONE);
-    CHECK(krbf_cc_next(cc, &cursor, &ticket) == KRBF_END);
 }
 
 int main(int argc, char **argv) {
@@ -116,7 +79,7 @@ int main(int argc, char **argv) {
     printf("Valid starting       Expires              Service principal\n");
     uint32_t fault, refusal;
     CHECK(krbf_cc_fault(&cc, &fault, &place) == KRBF_DONE);
-    size_t count = list(&cc, fault ? KRBF_DAMAGED : KRBF_END);
+    list(&cc, fault ? KRBF_DAMAGED : KRBF_END);
     if (fault)
         printf("fault %u at %u\n", fault, place);
     refusal =
@@ -124,11 +87,8 @@ int main(int argc, char **argv) {
     if (refusal != KRBF_DONE) {
         CHECK(refusal == KRBF_READ_ONLY || (fault && refusal == KRBF_DAMAGED));
     } else {
-        CHECK(!fault && krbf_cc_remove_at(&cc, place) == KRBF_DONE);
-        place = store(&cc);
-        set_values(&cc);
-        WRITE_IMAGE(krbf_cc_image, &cc);
-        remove_again(&cc, place, count);
+        CHECK(!fault);
+        store(&cc);
     }
     krbf_cc_close(&cc);
     CHECK(cc.held == NULL);

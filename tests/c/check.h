@@ -43,14 +43,6 @@ static inline int tell_refusal(uint32_t status) {
     return 2;
 }
 
-/* Writes the image of a keytab or a cache, which a call gives, to the error output. */
-#define WRITE_IMAGE(image_of, held)                                 \
-    do {                                                            \
-        krbf_bytes bytes;                                           \
-        image_of(held, &bytes);                                     \
-        CHECK(fwrite(bytes.at, 1, bytes.len, stderr) == bytes.len); \
-    } while (0)
-
 /* Reads all bytes, so that a sanitizer sees where they lie. */
 static inline void touch(krbf_bytes bytes) {
     for (size_t at = 0; at < bytes.len; at++)

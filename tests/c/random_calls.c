@@ -23,14 +23,18 @@ static uint32_t a_place(uint32_t known) {
     return below(4) ? known : below(2) ? below(4096) : below(0xffffffff);
 }
 
-/* An entry that is shown: its parts are there, and it is known. */
-static void see_entry(const krbf_entry *entry, uint32_t *known) {
+/* Where a call shows an entry, its parts are there, and it is known. */
+static void see_entry(uint32_t status, const krbf_entry *entry, uint32_t *known) {
+    if (status != KRBF_DONE)
+        return;
     touch(entry->realm);
     touch(entry->key);
     *known = entry->place;
 }
 
-static void see_ticket(const krbf_ticket *ticket, uint32_t *known) {
+static void see_ticket(uint32_t status, const krbf_ticket *ticket, uint32_t *known) {
+    if (status != KRBF_DONE)
+        return;
     touch(ticket->key);
     touch(ticket->ticket);
     touch(ticket->second_ticket);
@@ -51,16 +55,12 @@ static void call_kt(krbf_keytab *kt, uint32_t *cursor, uint32_t *known) {
     const char *name = a_name();
     size_t len;
     uint32_t place = a_place(*known), kind;
-    switch (below(9)) {
+    switch (below(10)) {
     case 0:
-        if (krbf_kt_next(kt, cursor, &entry) == KRBF_DONE)
-            see_entry(&entry, known);
-        else
-            *cursor = a_place(KRBF_FIRST);
+        see_entry(krbf_kt_next(kt, cursor, &entry), &entry, known);
         break;
     case 1:
-        if (krbf_kt_find(kt, TEXT(name), below(8), (uint16_t)below(20), &entry) == KRBF_DONE)
-            see_entry(&entry, known);
+        see_entry(krbf_kt_find(kt, TEXT(name), below(8), (uint16_t)below(20), &entry), &entry, known);
         break;
     case 2:
         if (krbf_kt_add(kt, TEXT(name), below(9), below(300), (uint16_t)below(20), image, below(40),
@@ -82,8 +82,10 @@ static void call_kt(krbf_keytab *kt, uint32_t *cursor, uint32_t *known) {
             touch(bytes);
         break;
     case 7:
-        if (krbf_kt_entry(kt, place, &entry) == KRBF_DONE)
-            see_entry(&entry, known);
+        see_entry(krbf_kt_entry(kt, place, &entry), &entry, known);
+        break;
+    case 8:
+        *cursor = a_place(KRBF_FIRST);
         break;
     default:
         CHECK(krbf_kt_fault(kt, &kind, &place) == KRBF_DONE);
@@ -100,14 +102,10 @@ static void call_cc(krbf_ccache *cc, uint32_t *cursor, uint32_t *known) {
     uint32_t place = a_place(*known), kind;
     switch (below(12)) {
     case 0:
-        if (krbf_cc_next(cc, cursor, &ticket) == KRBF_DONE)
-            see_ticket(&ticket, known);
-        else
-            krbf_cc_first(cc, cursor);
+        see_ticket(krbf_cc_next(cc, cursor, &ticket), &ticket, known);
         break;
     case 1:
-        if (krbf_cc_find(cc, TEXT(name), &ticket) == KRBF_DONE)
-            see_ticket(&ticket, known);
+        see_ticket(krbf_cc_find(cc, TEXT(name), &ticket), &ticket, known);
         break;
     case 2:
         if (krbf_cc_store(cc, TEXT(client), TEXT(name), image, below(40), image, below(40), image,
@@ -135,11 +133,11 @@ static void call_cc(krbf_ccache *cc, uint32_t *cursor, uint32_t *known) {
         krbf_cc_set_config(cc, TEXT("pa_type"), TEXT(name), image, below(40), &place);
         break;
     case 9:
+        krbf_cc_first(cc, cursor);
         *cursor = a_place(*cursor);
         break;
     case 10:
-        if (krbf_cc_ticket(cc, place, &ticket) == KRBF_DONE)
-            see_ticket(&ticket, known);
+        see_ticket(krbf_cc_ticket(cc, place, &ticket), &ticket, known);
         break;
     default:
         CHECK(krbf_cc_fault(cc, &kind, &place) == KRBF_DONE);

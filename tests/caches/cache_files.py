@@ -1,15 +1,14 @@
 """Which cache is read: names of all kinds, files that cannot be read, and the greatest size."""
 from __future__ import annotations
 
-import os
 from dataclasses import replace
 
 from caches.cache_listings import TICKET_LINE
-from keytabs.file_names import LIMIT, NAMES
+from keytabs.file_names import LIMIT, NAMES, ODD, check_odd_files
 from makers.cache_images import Credential, Name, U, cache, config
 from makers.usual_caches import TICKET, USUAL
 from models.cache_reading import listed
-from runs.harness import Case, Outcome, Report, folder_of, message, run
+from runs.harness import Case, Outcome, Report, message
 from runs.rows import check_rows, over
 
 TOO_LARGE = message(1, "c: file too large")
@@ -62,18 +61,8 @@ def large() -> list[Case]:
     ]
 
 
-def check_odd_files(report: Report, program: str) -> None:
-    """A folder, and a file without bytes."""
-    odd = [("d", message(3, "d: cannot read")),
-           ("/dev/null", message(1, "/dev/null: not a cache (1)"))]
-    with folder_of({}) as folder:
-        os.mkdir(os.path.join(folder, "d"))
-        for name, wanted in odd:
-            got = run(program, ("klist", name), folder)
-            report.compare(f"odd cache {name}", wanted, got)
-
-
 def check(report: Report, program: str) -> None:
     """Large files, and those that no table makes."""
     check_rows(report, program, [*sizes(), *large()])
-    check_odd_files(report, program)
+    odd = {"d": ODD["d"], "/dev/null": message(1, "/dev/null: not a cache (1)")}
+    check_odd_files(report, program, ("klist",), odd)

@@ -4,7 +4,7 @@ from __future__ import annotations
 from dataclasses import replace
 from functools import partial
 
-from keytabs.columns import KNOWN_TIMES, NAMES, dates, month_edges
+from keytabs.columns import KNOWN_TIMES, NAMES
 from keytabs.listings import QUOTED, QUOTES
 from makers.cache_images import CONFIG_FIRST, CONFIG_REALM, Credential, Name, cache, config
 from makers.usual_caches import PA_TYPE, TICKET, USUAL, VERSION_3, config_ticket
@@ -51,15 +51,8 @@ def configured(name: str, cell: Credential, *lines: bytes) -> Case:
     return case(f"configuration, {name}", cache(cell, TICKET), *lines, TICKET_LINE, columns="C")
 
 
-def of_date() -> Case:
-    """Edges of months by date(1), and the known times."""
-    seconds = [*month_edges(), *KNOWN_TIMES]
-    texts = dict(zip(seconds, dates(seconds), strict=True)) | KNOWN_TIMES
-    del texts[0]
-    tickets = [replace(TICKET, starttime=time, endtime=time, renew_till=time) for time in texts]
-    return case("the times that date(1) has", cache(*tickets), *(
-        line for text in texts.values() for line in (text + b" " + text + b" krbtgt/R@R", b"    renew until " + text)))
-
+# A starttime or a renewal of 0 is none.
+TIMED = {second: text for second, text in KNOWN_TIMES.items() if second}
 
 UNTIL = cache(replace(TICKET, renew_till=0x655D2B80))
 RENEWED = b"    renew until 2023-11-21T22:13:20Z"
@@ -120,9 +113,11 @@ CASES = [
     ticket("mark, the greatest starttime and endtime 0", GREATEST + b" " + NEVER, starttime=2**32 - 1, endtime=0),
     ticket("mark, a smaller authtime", b"2106-02-07T06:28:14Z " + NEVER, authtime=2**32 - 2, endtime=0),
     ticket("mark, endtime 1", GREATEST + b" 1970-01-01T00:00:01Z", authtime=2**32 - 1, endtime=1),
-    # The start is the starttime, or the authtime where that is 0; edges of months by date(1).
+    # The start is the starttime, or the authtime where that is 0.
     ticket("a starttime", b"2023-11-14T22:13:21Z " + END, starttime=1_700_000_001),
-    of_date,
+    case("known times", cache(*(replace(TICKET, starttime=at, endtime=at, renew_till=at) for at in TIMED)),
+         *(line for text in TIMED.values()
+           for line in (text + b" " + text + b" krbtgt/R@R", b"    renew until " + text))),
     # Each enctype that has a name, and some that have none.
     case("enctypes", cache(*(replace(TICKET, enctype=number) for number in ETYPES)),
          *(line

@@ -2,8 +2,7 @@
 from __future__ import annotations
 
 from clients.c_library import SANITIZED, build, is_built
-from makers.sample_caches import caches
-from makers.sample_keytabs import keytabs
+from peers import corpus
 from runs.harness import Outcome, Report, folder_of, run
 from runs.random_runs import Rounds
 
@@ -15,12 +14,10 @@ def check_rounds(report: Report, _program: str, seeds: range) -> None:
     """Makes the calls of all numbers in one run, where the library was built."""
     if not is_built(report, "random calls of C"):
         return
-    made = {"k": keytabs(), "c": caches()[:20]}
-    files = {f"{kind}{at}": image for kind, those in made.items() for at, image in enumerate(those)}
-    names = {kind: [name for name in files if name[0] == kind] for kind in made}
+    keytabs, caches = (dict(corpus.files(kind)) for kind in ("keytab", "ccache"))
     seed, calls = seeds.start + 1, len(seeds) * CALLS
-    words = (str(seed), str(calls), *names["k"], "--", *names["c"])
-    with folder_of({}) as folder, folder_of(files) as at:
+    words = (str(seed), str(calls), *keytabs, "--", *caches)
+    with folder_of({}) as folder, folder_of(keytabs | caches) as at:
         got = run(build(folder, "random_calls", *SANITIZED), words, at)
     report.compare(f"{calls} random calls of C, seed {seed}", Outcome(0), got)
 

@@ -10,11 +10,11 @@ from keytabs.columns import NAMES
 from makers.cache_images import CONFIG_FIRST, CONFIG_REALM, Credential, Name, cache, config, header_field, offset
 from makers.images import number
 from makers.mutations import damaged, mutated
-from makers.sample_caches import caches
 from models.cache_reading import FLAGS
+from peers import corpus
 
-# Caches as programs leave them.
-SAMPLES = caches()
+# Caches of other programs.
+SAMPLES = corpus.images("ccache")
 
 # Few keys and principals, so that many values are set in place of others.
 KEYS = [b"k", b"l", b"pa_type", b"\\x00", b"\x00", b"-"]

@@ -5,10 +5,11 @@ from dataclasses import dataclass, replace
 from random import Random
 
 from makers.images import BIG, END, LITTLE, Entry, hole, keytab, record
-from makers.mutations import mutated
-from makers.sample_keytabs import keytabs
+from makers.mutations import damaged, mutated
+from peers import corpus
 
-SAMPLES = keytabs()
+# Keytabs of other programs.
+SAMPLES = corpus.images("keytab")
 
 # Lengths that run past the end, end the file, or are cut.
 LENGTHS = [END, b"\0", b"\0\0\0\1", b"\x7f\xff\xff\xff", b"\x80\0\0\0", b"\xff\xff\xff\xff"]
@@ -51,18 +52,12 @@ def any_part(random: Random, version: int, order: str) -> bytes:
 
 
 def random_image(random: Random) -> bytes:
-    """A keytab of up to five parts, of which a third is damaged in one byte or cut."""
+    """A keytab of up to five parts, of which a third is damaged."""
     version = random.choice([1, 2, 2])
     order = random.choice([BIG, LITTLE]) if version == 1 else BIG
     parts = (any_part(random, version, order) for _ in range(random.randrange(6)))
-    image = bytearray(keytab(*parts, version=version))
-    damage = random.random()
-    at = random.randrange(len(image))
-    if damage < 0.2:
-        image[at] = random.choice([0, 1, 2, 5, 0xFF])
-    elif damage < 0.35:
-        del image[at:]
-    return bytes(image)
+    image = keytab(*parts, version=version)
+    return damaged(random, image, image) if random.random() < 0.35 else image
 
 
 def sound_part(random: Random, version: int, order: str) -> bytes:

@@ -7,20 +7,18 @@ from collections.abc import Iterator
 from functools import partial
 from random import Random
 
+from chance import random_caches, random_keytabs
 from chance.random_caches import random_cache
 from chance.random_keytabs import random_image
-from makers.mit_files import mit_caches, mit_keytabs
 from makers.mutations import damaged, mutated
-from makers.sample_caches import caches
-from makers.sample_keytabs import REALM, keytabs
 from models.cases import big, klist, klist_cache, klist_cache_json, klist_json, ktfind
 from runs.harness import Case
 from runs.random_runs import CaseAt, Topic, said
 
-KEYTABS, CACHES = keytabs(), caches()
+KEYTABS, CACHES = random_keytabs.SAMPLES, random_caches.SAMPLES
 
-# Names that samples have.
-NAMES = [(b"host", b"a", b"R"), (b"b", b"R"), (b"user", REALM), (b"host", b"a.example.com", REALM)]
+# Names that several of these keytabs have.
+NAMES = [(b"host", b"a", b"R"), (b"host", b"a", b"PEER.TEST"), (b"host", b"a.peer.test", b"PEER.TEST")]
 
 # The lines that each cache is listed by: two of these, of which the second has all columns.
 LINES = [("c",), ("-c", "c"), ("-e", "c"), ("-f", "c"), ("-C", "c"), ("-cf", "c"), ("c", "-eC")]
@@ -45,14 +43,14 @@ def random_listing(random: Random) -> Iterator[CaseAt]:
     yield partial(klist, image, columns=random_columns(random), v1_big=random.random() < 0.5)
 
 
-def damaged_keytab(samples: list[bytes], random: Random) -> Iterator[CaseAt]:
+def damaged_keytab(random: Random) -> Iterator[CaseAt]:
     """A damaged keytab: all columns in both orders of version 1, others, and a look-up."""
-    image = mutated(random, samples)
+    image = mutated(random, KEYTABS)
     for v1_big in (False, True):
         yield partial(klist, image, columns="tKe", v1_big=v1_big)
     v1_big = random.random() < 0.5
     yield partial(klist, image, columns=random_columns(random), v1_big=v1_big)
-    kvno, etype = random.choice([0, 0, 2, 3, 300]), random.choice([0, 0, 17, 18])
+    kvno, etype = random.choice([0, 0, 0, 2, 3]), random.choice([0, 0, 17, 18])
     yield partial(ktfind, image, kvno=kvno, enctype=etype, name=random.choice(NAMES), v1_big=v1_big)
 
 
@@ -84,9 +82,9 @@ def random_cache_listings(random: Random) -> Iterator[CaseAt]:
     yield from cache_listings(random, cache_image(random))
 
 
-def damaged_cache(samples: list[bytes], random: Random) -> Iterator[CaseAt]:
+def damaged_cache(random: Random) -> Iterator[CaseAt]:
     """The listings of a damaged cache."""
-    yield from cache_listings(random, mutated(random, samples))
+    yield from cache_listings(random, mutated(random, CACHES))
 
 
 def kinds_of_cache(case: Case) -> Iterator[str]:
@@ -140,8 +138,6 @@ TOPICS = (
     Topic("random images", random_listing, kinds_of_keytab, OF_KEYTABS, usual=600),
     Topic("random caches", random_cache_listings, kinds_of_cache, OF_CACHES, usual=400),
     Topic("random JSON", random_json, kinds_of_json, OF_JSON, usual=300),
-    Topic("damaged keytabs", partial(damaged_keytab, KEYTABS), kinds_of_keytab, (*OF_KEYTABS, "found", "not found"),
-          usual=200, of_long=lambda report: partial(damaged_keytab, [*KEYTABS, *mit_keytabs(report)])),
-    Topic("damaged caches", partial(damaged_cache, CACHES), kinds_of_cache, OF_CACHES, usual=200,
-          of_long=lambda report: partial(damaged_cache, [*CACHES, *mit_caches(report)])),
+    Topic("damaged keytabs", damaged_keytab, kinds_of_keytab, (*OF_KEYTABS, "found", "not found"), usual=200),
+    Topic("damaged caches", damaged_cache, kinds_of_cache, OF_CACHES, usual=200),
 )

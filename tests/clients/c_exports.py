@@ -15,20 +15,15 @@ PROTOTYPE = re.compile(r"^(uint32_t|void) (krbf_\w+)\(([^)]*)\);", re.S | re.M)
 # What a parameter of an export is in C. An allocator takes no bytes.
 IN_C = {
     "Global": [],
-    "u16": ["uint16_t"],
-    "u32": ["uint32_t"],
     "usize": ["size_t"],
+    **{f"u{bits}": [f"uint{bits}_t"] for bits in (16, 32)},
     "&[u8]": ["const bytes *", "size_t"],
     "&mut [u8]": ["bytes *", "size_t"],
     "&mut [u32]": ["uint32_t *", "size_t"],
     "&mut u32": ["uint32_t *"],
     "&mut usize": ["size_t *"],
     "&KrbfNumbers": ["const krbf_numbers *"],
-    "&mut KrbfBytes": ["krbf_bytes *"],
-    "&mut KrbfEntry": ["krbf_entry *"],
-    "&mut KrbfTicket": ["krbf_ticket *"],
-    "&mut KrbfKeytab": ["krbf_keytab *"],
-    "&mut KrbfCcache": ["krbf_ccache *"],
+    **{f"&mut Krbf{name}": [f"krbf_{name.lower()} *"] for name in ("Bytes", "Entry", "Ticket", "Keytab", "Ccache")},
 }
 
 # A call's answer, and the kinds of its parameters.

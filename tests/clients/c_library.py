@@ -5,12 +5,11 @@ import os
 import re
 import shutil
 import subprocess
+from collections.abc import Iterable
 
 from clients.c_exports import prototypes
-from makers.cache_images import Credential, Name, cache, config, header_field
+from makers.cache_images import cache
 from makers.images import TWO
-from makers.sample_caches import caches
-from makers.sample_keytabs import keytabs
 from makers.samples import SAMPLES
 from makers.usual_caches import PA_TYPE, TICKET, USUAL
 from peers import corpus
@@ -63,55 +62,17 @@ def check_symbols(report: Report) -> None:
     report.check("the shared library's name", faults)
 
 
-def edited(program: str, image: bytes) -> bytes:
-    """A keytab after an addition by `ktedit`."""
-    with folder_of({"f": image}) as folder:
-        run(program, ("ktedit", "f"), folder, ADDED.encode())
-        return files_in(folder)["f"]
-
-
-def stored(image: bytes) -> bytes:
-    """A cache whose default principal is u@R, after what caches.c stores and sets."""
-    ticket = Credential(server=Name((b"c", b"abi"), b"EXAMPLE.ORG"))
-    those = (config(b"c_abi_0", b"v").removed(), ticket, config(b"c_abi", b"1").removed(),
-             config(b"c_abi", b"2", b"b@R"), config(b"c_abi", b"33"))
-    return image + b"".join(one.spelled() for one in those)
-
-
-def check_image(
-    report: Report, program: str, built: str, option: str, image: bytes, after: bytes | None
-) -> None:
-    """Over an image the C program lists what `klist` does, and makes the image that is wanted."""
-    with folder_of({"f": image}) as folder:
-        wanted, got = run(program, ("klist", option, "f"), folder), run(built, ("f",), folder)
-    if wanted.err:
-        faults = [] if got.status == 2 and got.out else [f"an image that is refused: {got}"]
-    else:
-        faults = differences(Outcome(wanted.status, wanted.out), Outcome(got.status, got.out))
-    if after is not None and got.err != after:
-        faults.append("the changed image is not as wanted")
-    report.check(f"{os.path.basename(built)}.c over an image of {len(image)} bytes", faults)
-
-
-def check_keytabs(report: Report, program: str, folder: str) -> None:
-    """What keytabs.c lists and adds, beside `klist -k` and `ktedit`, under gcc's sanitizers."""
-    built = build(folder, "keytabs", *SANITIZED)
-    samples = (data for name, data in SAMPLES.items() if name.endswith(".keytab"))
-    for image in (*keytabs(), *samples, *corpus.images("keytab"), b"", b"\5", USUAL):
+def check_lists(report: Report, program: str, folder: str, name: str, option: str, images: Iterable[bytes]) -> None:
+    """A C program lists what `klist` does, and then looks at what it adds, under gcc's sanitizers."""
+    built = build(folder, name, *SANITIZED)
+    for image in images:
         with folder_of({"f": image}) as at:
-            is_sound = run(program, ("klist", "-k", "f"), at).status == 0
-        after = edited(program, image) if is_sound else None
-        check_image(report, program, built, "-k", image, after)
-
-
-def check_caches(report: Report, program: str, folder: str) -> None:
-    """What caches.c lists, stores and sets, beside `klist` and by hand, under gcc's sanitizers."""
-    built = build(folder, "caches", *SANITIZED)
-    field = header_field(9, b"\xab")
-    for image in (USUAL, cache(TICKET, PA_TYPE), cache(TICKET, fields=field)):
-        check_image(report, program, built, "-c", image, stored(image))
-    for image in (*caches(), *corpus.images("ccache"), b"", b"\5\4\0", TWO):
-        check_image(report, program, built, "-c", image, None)
+            wanted, got = run(program, ("klist", option, "f"), at), run(built, ("f",), at)
+        if wanted.err:
+            faults = [] if got.status == 2 and got.out else [f"an image that is refused: {got}"]
+        else:
+            faults = differences(wanted, got)
+        report.check(f"{name}.c over an image of {len(image)} bytes", faults)
 
 
 # Runs of the program that move keys, which are the bytes 0 to 15 as in all images of these tests.
@@ -142,23 +103,6 @@ def check_example(report: Report, program: str) -> None:
         for what, image in (("damaged", keytab + b"\x7f"), ("large", TWO + hole)):
             got = run(built, (), folder, image)
             report.compare(f"the example of krbfile(3), {what}", Outcome(1), got)
-
-
-def check_rust(report: Report, program: str, folder: str) -> None:
-    """A program in Rust lists what `klist -k` does."""
-    if shutil.which("rustc") is None:
-        report.skip("the C library from Rust", "rustc is not there")
-        return
-    built = os.path.join(folder, "list")
-    subprocess.run(["rustc", "--edition", "2021", "-D", "warnings", "-A", "dead_code", "-o", built,
-                    "-L", os.path.dirname(LIBRARY), "-l", "static=krbfile",
-                    os.path.join(SOURCES, "list.rs")], check=True, timeout=SECONDS)
-    for image in keytabs():
-        with folder_of({"f": image}) as at:
-            listed = run(program, ("klist", "-k", "f"), at).out.splitlines(keepends=True)[3:]
-            got = run(built, (), at, image)
-        wanted = b"".join(line for line in listed if not line.startswith(b"fault "))
-        report.compare(f"from Rust: a keytab of {len(image)} bytes", Outcome(0, wanted), got)
 
 
 def check_memory(report: Report, folder: str) -> None:
@@ -209,10 +153,12 @@ def check(report: Report, program: str) -> None:
         return
     check_symbols(report)
     with folder_of({}) as folder:
-        check_keytabs(report, program, folder)
-        check_caches(report, program, folder)
+        samples = (data for name, data in SAMPLES.items() if name.endswith(".keytab"))
+        check_lists(report, program, folder, "keytabs", "-k",
+                    (*samples, *corpus.images("keytab"), b"", b"\5", USUAL))
+        check_lists(report, program, folder, "caches", "-c",
+                    (USUAL, cache(TICKET, PA_TYPE), *corpus.images("ccache"), b"", b"\5\4\0", TWO))
         check_example(report, program)
-        check_rust(report, program, folder)
         check_given(report, folder)
         check_memory(report, folder)
         check_keys(report, program, folder)

@@ -5,7 +5,6 @@ import os
 import subprocess
 import sys
 
-from clients import python_limits
 from makers.cache_images import Credential, Name, cache, config
 from makers.images import B, TWO, Entry, keytab
 from makers.usual_caches import PA_TYPE, TICKET
@@ -43,7 +42,12 @@ try:
     Keytab.open(b"5")
 except KrbfileError as error:
     print(error.status, error)
-print(Keytab.open(image[:60]).fault, Keytab.open(image, v1_big=True, limit=98).image == image)
+damaged = Keytab.open(image[:60])
+try:
+    for entry in damaged:
+        print(entry.place)
+except KrbfileError as error:
+    print(error.status, damaged.fault, Keytab.open(image, v1_big=True, limit=98).image == image)
 print(len(Keytab.create().image), after.hex())
 """
 
@@ -219,7 +223,8 @@ SCRIPTS = (
         "35 nothing to remove stands at this place",
         "it is closed",
         "11 it has fewer than two bytes",
-        "(2, 53) True",
+        "2",
+        "31 (2, 53) True",
         f"2 {KEYTAB_AFTER.hex()}",
     ]),
     ("caches", CACHES, cache(TICKET, PA_TYPE), [
@@ -240,7 +245,6 @@ SCRIPTS = (
         "True", "True True b'k' True",
     ]),
     ("threads", THREADS, TWO, ["[] True"]),
-    *python_limits.SCRIPTS,
     ("components", COMPONENTS, keytab(*(Entry(name, b"R/@") for name in NAMES)),
      [f"{len(name)} {b'|'.join(name[:8]).hex()} b'R/@'" for name in NAMES]),
 )

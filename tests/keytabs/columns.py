@@ -1,8 +1,5 @@
-"""Listings with times, enctypes and keys. What is wanted is written by hand, or by date(1)."""
+"""Listings with times, enctypes and keys. What is wanted is written by hand."""
 from __future__ import annotations
-
-import calendar
-import subprocess
 
 from keytabs.listings import B_LINE, HOST_LINE, case, listed
 from makers.images import B, BIG, HOST, TWO, Entry, hole, keytab, old, record
@@ -27,12 +24,19 @@ ETYPE = b" (aes128-cts-hmac-sha1-96)"
 HOST_KEY = b" (0x000102030405060708090a0b0c0d0e0f)"
 B_KEY = b" (0x101112131415161718191a1b1c1d1e1f)"
 
-# Texts of times that are known without date(1).
+# Times and their texts, among them the edges of a year, and of February in 2000 and 2100.
 KNOWN_TIMES = {
     0: b"1970-01-01T00:00:00Z",
+    951_782_399: b"2000-02-28T23:59:59Z",
+    951_782_400: b"2000-02-29T00:00:00Z",
+    951_868_800: b"2000-03-01T00:00:00Z",
     1_700_000_000: b"2023-11-14T22:13:20Z",
+    1_704_067_199: b"2023-12-31T23:59:59Z",
+    1_704_067_200: b"2024-01-01T00:00:00Z",
     2**31 - 1: b"2038-01-19T03:14:07Z",
     2**31: b"2038-01-19T03:14:08Z",
+    4_107_542_399: b"2100-02-28T23:59:59Z",
+    4_107_542_400: b"2100-03-01T00:00:00Z",
     2**32 - 1: b"2106-02-07T06:28:15Z",
 }
 
@@ -58,32 +62,10 @@ def of_keys(name: str, *keys: bytes) -> Case:
     return case(name, keytab(*(Entry((b"a",), key=key) for key in keys)), *lines, letters="K")
 
 
-def month_edges() -> list[int]:
-    """The first and the last second of each month of some years."""
-    months = [(year, month) for year in (2000, 2023, 2024, 2100) for month in range(1, 13)]
-    firsts = [calendar.timegm((year, month, 1, 0, 0, 0)) for year, month in months]
-    after = [calendar.timegm((year, month + 1, 1, 0, 0, 0)) if month < 12
-             else calendar.timegm((year + 1, 1, 1, 0, 0, 0)) for year, month in months]
-    return sorted([*firsts, *(second - 1 for second in after)])
-
-
-def dates(seconds: list[int]) -> list[bytes]:
-    """The texts that date(1) has for those times."""
-    words = ["date", "-u", "-f", "-", "+%Y-%m-%dT%H:%M:%SZ"]
-    text = "".join(f"@{second}\n" for second in seconds).encode()
-    return subprocess.run(words, input=text, check=True, capture_output=True).stdout.split()
-
-
 def times_of(name: str, texts: dict[int, bytes]) -> Case:
     """A listing of entries of those times."""
     return case(name, keytab(*(Entry((b"a",), timestamp=second) for second in texts)),
                 *(b"   3 " + text + b" a@R" for text in texts.values()), letters="t")
-
-
-def times() -> Case:
-    """Edges of months, and the known times, as date(1) has them."""
-    seconds = [*month_edges(), *KNOWN_TIMES]
-    return times_of("times as date(1) has them", dict(zip(seconds, dates(seconds), strict=True)))
 
 
 SETS = ["", "t", "e", "K", "te", "tK", "eK", "teK"]
@@ -123,7 +105,7 @@ CASES = [
     of_keys("each byte alone", *(bytes([byte]) for byte in BYTES)),
     of_keys("keys of many lengths",
             *((BYTES * 256)[:length] for length in (*range(70), 255, 256, 4_095, 4_096, 32_767, 32_768, 65_535))),
-    # Times that are known, and edges of months as date(1) has them.
+    # Each time alone, and all of them.
     *(times_of(f"time {second}", {second: text}) for second, text in KNOWN_TIMES.items()),
-    times,
+    times_of("all times", KNOWN_TIMES),
 ]

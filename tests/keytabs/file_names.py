@@ -47,22 +47,24 @@ CASES = [
 ]
 
 
-def check_odd_files(report: Report, program: str) -> None:
-    """A folder; a file that opens, but whose first byte is never there; and one without an end."""
-    odd = [
-        ("d", message(3, "d: cannot read")),
-        ("/proc/self/mem", message(3, "/proc/self/mem: cannot read")),
-        ("/dev/zero", message(1, "/dev/zero: file too large")),
-        ("/dev/null", message(1, "/dev/null: not a keytab (1)")),
-    ]
+# A folder; a file that opens, but whose first byte is never there; one without an end, and one without bytes.
+ODD = {
+    "d": message(3, "d: cannot read"),
+    "/proc/self/mem": message(3, "/proc/self/mem: cannot read"),
+    "/dev/zero": message(1, "/dev/zero: file too large"),
+    "/dev/null": message(1, "/dev/null: not a keytab (1)"),
+}
+
+
+def check_odd_files(report: Report, program: str, words: tuple[str, ...], odd: dict[str, Outcome]) -> None:
+    """Listings by those words of files that no table makes."""
     with folder_of({}) as folder:
         os.mkdir(os.path.join(folder, "d"))
-        for name, wanted in odd:
+        for name, wanted in odd.items():
             if not os.path.exists(os.path.join(folder, name)):
                 report.skip(f"odd file {name}", "it is not there")
-                continue
-            got = run(program, ("klist", "-k", name), folder)
-            report.compare(f"odd file {name}", wanted, got)
+            elif name != "/dev/zero" or not report.leaves_out(LIMIT):
+                report.compare(f"odd file {name}", wanted, run(program, (*words, name), folder))
 
 
 def check_pipe(report: Report, program: str) -> None:
@@ -93,6 +95,6 @@ def check_unreadable(report: Report, program: str) -> None:
 
 def check(report: Report, program: str) -> None:
     """Files that no table makes."""
-    check_odd_files(report, program)
+    check_odd_files(report, program, ("klist", "-k"), ODD)
     check_pipe(report, program)
     check_unreadable(report, program)

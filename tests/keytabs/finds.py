@@ -4,7 +4,7 @@ from __future__ import annotations
 from keytabs import columns
 from keytabs.file_names import LIMIT, TOO_LARGE
 from makers.images import B, BIG, END, HOST, TWO, Entry, hole, keytab, old, record
-from runs.harness import Case, Outcome, Report, folder_of, message, run
+from runs.harness import Case, Outcome, message
 
 NOT_FOUND = message(1, "k: refused 9")
 NO_SUCH_VERSION = message(1, "k: refused 10")
@@ -15,6 +15,14 @@ FIVE = Entry(version8=5, version32=5)
 
 # host/a@R at 2, 53 and 120: version 3 of enctype 17, version 5 of 18, version 5 of 17.
 THREE = keytab(HOST, AES256, FIVE)
+
+# What is found there by a version and an enctype: the first entry of the highest version that is asked for.
+OF_THREE = {
+    "0 0": (53, 5, 18), "0 17": (120, 5, 17), "0 aes256-cts-hmac-sha1-96": (53, 5, 18),
+    "3 0": (2, 3, 17), "3 17": (2, 3, 17), "5 0": (53, 5, 18), "5 17": (120, 5, 17),
+    "4 0": NO_SUCH_VERSION, "3 18": NO_SUCH_VERSION, "4294967295 0": NO_SUCH_VERSION,
+    "0 23": NOT_FOUND, "4 23": NOT_FOUND,
+}
 
 
 def find(name: str, image: bytes, asked: str, wanted: Outcome | tuple[int, int, int], *options: str) -> Case:
@@ -103,18 +111,7 @@ ETYPES = {**{str(number): number for number in NUMBERS},
 
 CASES = [
     # Which of several entries of one name is taken.
-    find("the highest version, first of two", THREE, "0 0 host/a@R", (53, 5, 18)),
-    find("the highest version of an enctype", THREE, "0 17 host/a@R", (120, 5, 17)),
-    find("the highest by the enctype's name", THREE, "0 aes256-cts-hmac-sha1-96 host/a@R", (53, 5, 18)),
-    find("an older version", THREE, "3 0 host/a@R", (2, 3, 17)),
-    find("an older version of its enctype", THREE, "3 17 host/a@R", (2, 3, 17)),
-    find("a version of two enctypes", THREE, "5 0 host/a@R", (53, 5, 18)),
-    find("a version of the later enctype", THREE, "5 17 host/a@R", (120, 5, 17)),
-    find("a version that no entry has", THREE, "4 0 host/a@R", NO_SUCH_VERSION),
-    find("a version that no entry of that enctype has", THREE, "3 18 host/a@R", NO_SUCH_VERSION),
-    find("the greatest version, which none has", THREE, "4294967295 0 host/a@R", NO_SUCH_VERSION),
-    find("an enctype that no entry has", THREE, "0 23 host/a@R", NOT_FOUND),
-    find("neither version nor enctype", THREE, "4 23 host/a@R", NOT_FOUND),
+    *(find(f"{asked} of three", THREE, f"{asked} host/a@R", wanted) for asked, wanted in OF_THREE.items()),
     find("the first of equals", SAME, "0 0 host/a@R", (2, 3, 17)),
     find("the first of equals by version", SAME, "3 17 host/a@R", (2, 3, 17)),
     find("the highest in the middle", FALLING, "0 0 host/a@R", (53, 12, 17)),
@@ -163,17 +160,3 @@ CASES = [
     Case("no file", ("ktfind", "no", "0", "0", "b@R"), message(1, "no: no such file"), {"k": TWO}),
     Case("a folder", ("ktfind", ".", "0", "0", "b@R"), message(3, ".: cannot read"), {"k": TWO}),
 ]
-
-
-def check(report: Report, program: str) -> None:
-    """The name that a listing prints finds the entry of its line."""
-    with folder_of({"k": keytab(*NAMED)}) as folder:
-        lines = run(program, ["klist", "-k", "k"], folder).out.split(b"\n")[3:-1]
-        told = [] if len(lines) == len(NAMED) else [f"{len(lines)} lines of {len(NAMED)} names"]
-        report.check("a line for each name", told)
-        for number, line in enumerate(lines):
-            text = line[5:]
-            place = place_of(NAMED, number)
-            wanted = Outcome(0, b"found %d kvno %d etype 17 " % (place, number) + text + b"\n")
-            got = run(program, ["ktfind", "k", "0", "0", "--", text], folder)
-            report.compare(f"the printed name {text[:50]!r}", wanted, got)

@@ -1,13 +1,12 @@
 """Keytabs and caches as JSON by `klist --json`. Each wanted text is written by hand from the layout."""
 from __future__ import annotations
 
-import json
 from dataclasses import replace
 
 from makers.cache_images import U, Name, cache, config
 from makers.images import BIG, HOST, TWO, Entry, keytab, old, record
 from makers.usual_caches import PA_TYPE, TICKET, USUAL, VERSION_3
-from runs.harness import Case, Outcome, Report, message, run_case
+from runs.harness import Case, Outcome, message
 from runs.rows import BAD_LINE, over
 
 HOST_FRONT = (b'{"place":2,"principal":"host/a@R","kvno":3,"etype":17,'
@@ -109,13 +108,3 @@ CASES = [
     over("no cache", "klist --json c", b"", message(1, "c: not a cache (1)")),
     over("of both kinds", "klist --json -c -k k", TWO, BAD_LINE),
 ]
-
-
-def check(report: Report, program: str) -> None:
-    """Many entries are printed in writes of some 32 KiB, and are one object."""
-    count = 3_000
-    image = keytab(*(Entry((b"svc", b"%d" % number)) for number in range(count)))
-    got, _ = run_case(program, Case("", ("klist", "--json", "-k", "k"), Outcome(0), {"k": image}))
-    names = [entry["principal"] for entry in json.loads(got.out)["entries"]]
-    wanted = [f"svc/{number}@R" for number in range(count)]
-    report.check("many entries", [] if names == wanted else ["other names"])

@@ -23,10 +23,10 @@ def case(name: str, image: bytes, *lines: bytes, letters: str = "", options: str
     return over(name, f"klist -k{letters} {options} k", image, Outcome(status, listed(*lines, letters=letters)))
 
 
-def version(name: str, version8: int, after: str, told: bytes) -> Case:
+def version(version8: int, after: str, kvno: int) -> Case:
     """An entry with those bytes after its key."""
     entry = Entry(version8=version8, version32=None).spelled() + bytes.fromhex(after)
-    return case(f"version {name}", keytab(record(entry)), told + b" host/a@R")
+    return case(f"version {version8} and then {after!r}", keytab(record(entry)), b"%4d host/a@R" % kvno)
 
 
 def named(name: str, components: tuple[bytes, ...], realm: bytes, told: bytes) -> Case:
@@ -48,6 +48,12 @@ QUOTED = b"/@\\\n\t\b\0"
 QUOTES = b"\\/\\@\\\\\\n\\t\\b\\0"
 UNQUOTED = b"\r\x0b\x1b\x7f\"' "
 NUMBERS = range(1, 2001)
+# The version that is listed, by the 8-bit one and the bytes after the key.
+VERSIONS = {
+    (7, ""): 7, (7, "000001"): 7, (7, "00000000"): 7, (7, "00000000 00000005"): 7, (0, "00000100"): 256,
+    (7, "00000009"): 9, (7, "00000009 00000005"): 9, (0, ""): 0, (255, ""): 255, (15, "0000270f"): 9_999,
+    (16, "00002710"): 10_000, (255, "ffffffff"): 2**32 - 1,
+}
 LATE = Entry(version8=0, version32=256)
 LATE_LINE = b" 256 host/a@R"
 
@@ -64,18 +70,7 @@ CASES = [
          HOST_LINE),
     case("bytes after the 32-bit version", keytab(record(B.spelled() + b"\xff" * 7)), B_LINE),
     # The 8-bit version counts, but where a 32-bit one follows the key and is not 0.
-    version("in 8 bits alone", 7, "", b"   7"),
-    version("in 8 bits, with three bytes after the key", 7, "000001", b"   7"),
-    version("in 32 bits that is 0", 7, "00000000", b"   7"),
-    version("in 32 bits that is 0, with a number after it", 7, "00000000 00000005", b"   7"),
-    version("in 32 bits that is 256", 0, "00000100", b" 256"),
-    version("in 32 bits with other low bits than the 8-bit one", 7, "00000009", b"   9"),
-    version("in 32 bits with a number after it", 7, "00000009 00000005", b"   9"),
-    version("0", 0, "", b"   0"),
-    version("255", 255, "", b" 255"),
-    version("of four digits", 15, "0000270f", b"9999"),
-    version("of five digits", 16, "00002710", b"10000"),
-    version("that is the greatest", 255, "ffffffff", b"4294967295"),
+    *(version(version8, after, kvno) for (version8, after), kvno in VERSIONS.items()),
     # Names with odd bytes and odd counts.
     named("with each quoted byte", (QUOTED,), b"R", QUOTES + b"@R"),
     named("with each quoted byte in the realm", (b"a",), QUOTED, b"a@" + QUOTES),

@@ -89,26 +89,3 @@ def old(*parts: Entry | int | bytes, order: str = LITTLE) -> bytes:
 
 # The keytab of most cases: 98 bytes, with an entry at 2 and one at 53.
 TWO = keytab(HOST, B)
-
-
-def misspelled() -> list[str]:
-    """What is spelled here otherwise than by hand."""
-    two = bytes.fromhex(
-        "0502"
-        "0000002f 0002 000152 0004686f7374 000161 00000001 6553f100 03"
-        "0011 0010 000102030405060708090a0b0c0d0e0f 00000003"
-        "00000029 0001 000152 000162 00000001 6553f100 03"
-        "0011 0010 101112131415161718191a1b1c1d1e1f 00000003"
-    )
-    version_one = bytes.fromhex(
-        "0501"
-        "2b000000 0300 010052 0400686f7374 010061 00f15365 03"
-        "1100 1000 000102030405060708090a0b0c0d0e0f 03000000"
-    )
-    pairs = [
-        ("two entries", TWO, two),
-        ("version 1", old(HOST), version_one),
-        ("a hole", hole(b"abc"), bytes.fromhex("fffffffd 616263")),
-        ("a hole in version 1", hole(b"abc", LITTLE), bytes.fromhex("fdffffff 616263")),
-    ]
-    return [f"{name} is {got.hex()}" for name, got, wanted in pairs if got != wanted]

@@ -4,10 +4,10 @@ from __future__ import annotations
 import os
 import re
 
-from pages.calls import LIBRARY, TOP, calls_of
+from pages.calls import LIBRARY, calls_of
 from pages.documents import read
 from pages.readme import lines_of, stands_in
-from runs.harness import Report
+from runs.harness import TOP, Report
 
 # Crates without a page: what `krb_disk` offers stands on that of `krb_files`.
 WITHOUT = ("krb_disk",)

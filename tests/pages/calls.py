@@ -6,9 +6,10 @@ import os
 import re
 from collections import Counter
 
+from pages.documents import read
 from runs.harness import TOP, Report
 
-TABLE = os.path.join(TOP, "docs", "CALLS.md")
+TABLE = os.path.join("docs", "CALLS.md")
 LIBRARY = ("krb_wire", "krb_walk", "krb_cells", "krb_keytab", "krb_ccache",
            "krb_files", "krb_text", "krb_cache_text", "krb_json", "krb_audit", "krb_commands", "krb_disk",
            "wiping")
@@ -19,12 +20,6 @@ FUNCTION = re.compile(r"( *)(pub )?(?:const )?fn (\w+)")
 
 # The contract of each public call by its name.
 Calls = dict[str, str]
-
-
-def read(path: str) -> str:
-    """A file of the repository."""
-    with open(os.path.join(TOP, path), encoding="utf-8") as file:
-        return file.read()
 
 
 def shown(crate: str) -> set[str]:
@@ -131,10 +126,8 @@ def faults_of_tests(crate: str, rows: list[list[str]]) -> list[str]:
     for row in rows:
         for test in quoted(row[5]) if len(row) == 6 else []:
             path, name = test.split(": ")
-            whole = os.path.join(TOP, "crates", path.replace("/", "/src/", 1))
-            with open(whole, encoding="utf-8") as file:
-                if f"fn {name}(" not in file.read():
-                    wrong.append(f"{crate}: no test {test}")
+            if f"fn {name}(" not in read(os.path.join("crates", path.replace("/", "/src/", 1))):
+                wrong.append(f"{crate}: no test {test}")
     return wrong
 
 

@@ -5,16 +5,11 @@ import glob
 import os
 import re
 
+from pages.documents import read
 from runs.harness import TOP, Report
 
 # The libraries that the program is written over.
 MEANT = ("byteorder", "clap", "hex", "jiff", "thiserror")
-
-
-def read(*path: str) -> str:
-    """A file of the repository."""
-    with open(os.path.join(TOP, *path), encoding="utf-8") as file:
-        return file.read()
 
 
 def uses() -> dict[str, list[str]]:
@@ -43,7 +38,7 @@ def check(report: Report, program: str) -> None:
         users = [crate for crate in crates if library in below[crate] and is_used(library, crate)]
         report.check(f"the library {library}", [] if users else ["no crate of the program uses it"])
     others = {each for crate in crates for each in below[crate]} - {*below, *MEANT}
-    decisions = read("docs", "DECISIONS.md")
+    decisions = read("docs/DECISIONS.md")
     for library in sorted(others):
         found = [] if f"`{library}`" in decisions else ["DECISIONS.md has no reason for it"]
         report.check(f"the library {library}", found)

@@ -4,21 +4,16 @@ from __future__ import annotations
 import os
 import re
 import shutil
-import subprocess
+from collections.abc import Iterator
 from itertools import takewhile
 
 from makers.samples import folder_of_samples
-from runs.harness import TOP, Outcome, Report, folder_of
+from pages.documents import read
+from runs.harness import TOP, Outcome, Report, folder_of, run
 
-SHOWN = os.path.join(TOP, "README.md")
+SHOWN = "README.md"
 LIBRARY = os.path.join(TOP, "lib", "libkrbfile.so.1")
-PROVED = os.path.join(TOP, "crates", "store_tests", "src", "tests", "readme.rt")
-
-
-def shown() -> str:
-    """README's text."""
-    with open(SHOWN, encoding="utf-8") as file:
-        return file.read()
+PROVED = "crates/store_tests/src/tests/readme.rt"
 
 
 def lines_of(text: str) -> list[str]:
@@ -33,24 +28,25 @@ def stands_in(part: list[str], whole: list[str]) -> bool:
 
 def check_snippets(report: Report) -> None:
     """Compares each snippet with the test that has it."""
-    snippets = re.findall(r"```rust\n(.*?)```", shown(), re.DOTALL)
-    with open(PROVED, encoding="utf-8") as file:
-        proved = lines_of(file.read())
+    snippets = re.findall(r"```rust\n(.*?)```", read(SHOWN), re.DOTALL)
+    proved = lines_of(read(PROVED))
     report.check("README has snippets", [] if snippets else ["none"])
     for number, snippet in enumerate(snippets, 1):
         is_there = stands_in(lines_of(snippet), proved)
         report.check(f"snippet {number} of README", [] if is_there else [f"is not in {PROVED}"])
 
 
-def sessions() -> list[tuple[str, bytes]]:
+def parted(session: str) -> tuple[str, bytes]:
+    """The command of a session, with its input where that stands under it, and what it prints."""
+    end = session.find("\nEND\n") + 5 if "<<'END'" in session else session.find("\n") + 1
+    return session[:end], session[end:].encode()
+
+
+def sessions() -> Iterator[tuple[str, bytes]]:
     """The commands of the sessions, each with what it prints."""
-    found = []
-    for part in re.split(r"^    \$ ", shown(), flags=re.MULTILINE)[1:]:
+    for part in re.split(r"^    \$ ", read(SHOWN), flags=re.MULTILINE)[1:]:
         lines = takewhile(lambda line: line[:4] in ("", "    "), ("    " + part).splitlines())
-        session = "\n".join(line[4:] for line in lines).rstrip("\n") + "\n"
-        end = session.find("\nEND\n") + 5 if "<<'END'" in session else session.find("\n") + 1
-        found.append((session[:end], session[end:].encode()))
-    return found
+        yield parted("\n".join(line[4:] for line in lines).rstrip("\n") + "\n")
 
 
 def lacks(command: str) -> str:
@@ -71,25 +67,28 @@ def surroundings(programs: str) -> dict[str, str]:
             "PYTHONDONTWRITEBYTECODE": "1"}
 
 
-def check_sessions(report: Report, program: str) -> None:
-    """Runs them one after the other over the samples. A fault and a key that stands twice end with status 1."""
-    commands = sessions()
-    report.check("README has sessions", [] if commands else ["none"])
-    with folder_of({}) as programs, folder_of_samples() as folder:
+def check_session(report: Report, program: str, folder: str, what: str, session: tuple[str, bytes]) -> None:
+    """Runs a session in a folder. A fault and a key that stands twice end with status 1."""
+    command, wanted = session
+    with folder_of({}) as programs:
         os.symlink(program, os.path.join(programs, "krbfile"))
-        env = surroundings(programs)
+        got = run("sh", ("-c", command), folder, env=surroundings(programs))
+    status = 1 if b"\nfault " in wanted or wanted.startswith(b"same ") else 0
+    report.compare(f"{what}: {command.splitlines()[0]}", Outcome(status, wanted), got)
+
+
+def check_sessions(report: Report, program: str) -> None:
+    """Runs them one after the other over the samples."""
+    found = [*sessions()]
+    report.check("README has sessions", [] if found else ["none"])
+    with folder_of_samples() as folder:
         with open(os.path.join(folder, "list.c"), "w", encoding="utf-8") as file:
-            file.writelines(re.findall(r"```c\n(.*?)```", shown(), re.DOTALL))
-        for command, wanted in commands:
-            if lacks(command):
-                report.skip(f"session of README: {command.splitlines()[0]}", lacks(command))
-                continue
-            done = subprocess.run(["sh", "-c", command], cwd=folder, env=env, check=False,
-                                  capture_output=True)
-            got = Outcome(done.returncode, done.stdout, done.stderr)
-            status = 1 if b"\nfault " in wanted or wanted.startswith(b"same ") else 0
-            report.compare(f"session of README: {command.splitlines()[0]}",
-                           Outcome(status, wanted), got)
+            file.writelines(re.findall(r"```c\n(.*?)```", read(SHOWN), re.DOTALL))
+        for session in found:
+            if lacks(session[0]):
+                report.skip(f"session of README: {session[0].splitlines()[0]}", lacks(session[0]))
+            else:
+                check_session(report, program, folder, "session of README", session)
 
 
 def check(report: Report, program: str) -> None:

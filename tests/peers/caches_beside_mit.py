@@ -7,25 +7,19 @@ from __future__ import annotations
 import os
 import socket
 import subprocess
-import sys
 import time
 from collections.abc import Callable, Iterator
 from contextlib import contextmanager
 from dataclasses import replace
 from random import Random
 
-from caches.cache_listings import HOST_LINE, of_host
 from chance.random_caches import random_credential, random_name
-from makers.cache_images import cache, config, offset
+from makers.cache_images import cache, offset
 from makers.cache_peers import told_by_mit, told_by_us
 from makers.images import Entry, keytab
-from makers.usual_caches import PA_TYPE, TICKET
-from models.cache_reading import listed
 from models.reading import read_image
 from peers.beside_mit import SURROUNDINGS, are_there, mit_klist
-from runs.harness import SECONDS, Outcome, Report, differences, files_in, folder_of, run
-
-REMOVER = os.path.join(os.path.dirname(os.path.abspath(__file__)), "remove_credentials.py")
+from runs.harness import SECONDS, Report, files_in, folder_of, run
 
 # MIT's programs.
 TOOLS = ("klist", "kinit", "kvno", "kdb5_util", "krb5kdc")
@@ -227,17 +221,6 @@ def check_random(report: Report, program: str, _: Realm) -> None:
     report.check("MIT's klist and ours: random caches", wrong[:3])
 
 
-def check_removed(report: Report, program: str, realm_of: Realm) -> None:
-    """What MIT's library has removed is not listed; what it has left is."""
-    image = cache(TICKET, of_host(), PA_TYPE, config(b"k", b"v"), config(b"l", b"w"))
-    with folder_of({"c": image}) as folder:
-        realm_of.call(sys.executable, REMOVER, "c", folder=folder)
-        found = differences_of(program, folder, "-f", "-C")
-        got = run(program, ("klist", "-C", "c"), folder)
-    wanted = Outcome(0, listed(b"u@R", HOST_LINE, b"config: l = w"))
-    report.check("what MIT's library has removed", found + differences(wanted, got))
-
-
 def check_in_realm(report: Report, what: str, checks: Callable[[Realm], None], more: tuple[str, ...] = ()) -> None:
     """Makes checks in a realm with its principals and more of them, where MIT's programs are there."""
     if not are_there(report, what, TOOLS):
@@ -253,7 +236,7 @@ def check(report: Report, program: str) -> None:
     """Runs all of this topic where MIT's programs are there."""
 
     def checks(made: Realm) -> None:
-        for each in (check_filled, check_random, check_removed):
+        for each in (check_filled, check_random):
             each(report, program, made)
 
     check_in_realm(report, "caches beside MIT's programs", checks)

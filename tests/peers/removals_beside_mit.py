@@ -8,6 +8,7 @@ from models.removal_model import OLD, Asked, removal
 from peers.beside_mit import are_there
 from peers.caches_beside_mit import Failed, Realm
 from runs.harness import Report, differences, files_in, folder_of, run
+from runs.random_runs import ONE_IN
 
 # The tools of MIT's that this needs.
 TOOLS = ("kdb5_util", "kadmin.local")
@@ -60,7 +61,7 @@ def check(report: Report, program: str) -> None:
         with folder_of({}) as folder:
             realm = Realm(folder, 0)
             realm.create()
-            for seed in range(KEYTABS):
+            for seed in range(KEYTABS if report.is_proved else KEYTABS // ONE_IN):
                 wrong += faults_of(program, realm, Random(seed))
     except Failed as failed:
         wrong.append(str(failed))

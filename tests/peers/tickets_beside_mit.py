@@ -11,7 +11,7 @@ from contextlib import contextmanager
 from models.cache_model import Cache
 from models.cache_script_model import cache_edited
 from peers.beside_mit import mit_klist
-from peers.caches_beside_mit import FILLED, HOST, KINIT, USER, Realm, check_in_realm, differences_of
+from peers.caches_beside_mit import HOST, KINIT, USER, Realm, check_in_realm, differences_of
 from runs.harness import Outcome, Report, differences, files_in, folder_of, run
 
 TGT = b"krbtgt/CACHE.TEST@CACHE.TEST"
@@ -159,26 +159,11 @@ def check_version_3(report: Report, program: str, made: Realm) -> None:
     report.check("a cache of version 3 that is written anew", one.found)
 
 
-def check_each_place(report: Report, program: str, made: Realm) -> None:
-    """Of each cache that MIT fills each ticket and each value goes, and all is written anew."""
-    for name, (version, commands) in FILLED.items():
-        with filled(program, made, *commands, version=version) as one:
-            if version == 3:
-                one.change(("ccedit",), cache_edited(one.image(), b"rewrite\n")[0], b"rewrite\n")
-            for place in one.cache().live_places():
-                one.change(("ccedit",), Outcome(0, b"gone %d\n" % place), b"cut %d\n" % place)
-            wanted, after = cache_edited(one.image(), b"rewrite\n")
-            one.change(("ccedit",), wanted, b"rewrite\n")
-            one.want("something is left", one.image() == after and not one.cache().cells)
-            one.use(*USER)
-        report.check(f"each place of a cache of MIT's: {name}", one.found[:3])
-
-
 def check(report: Report, program: str) -> None:
     """Runs all of this topic where MIT's programs are there."""
 
     def checks(made: Realm) -> None:
-        for each in (check_removed, check_cut, check_expired, check_values, check_version_3, check_each_place):
+        for each in (check_removed, check_cut, check_expired, check_values, check_version_3):
             each(report, program, made)
 
     check_in_realm(report, "changes of caches beside MIT's programs", checks)

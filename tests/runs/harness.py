@@ -51,8 +51,7 @@ class Case:
 
     def check(self, report: Report, program: str) -> None:
         """Runs it and reports it."""
-        if not report.is_proved and self.size() > LARGE:
-            report.large += 1
+        if report.leaves_out(self.size()):
             return
         try:
             found = faults_of(self, *run_case(program, self))
@@ -79,6 +78,12 @@ class Report:
             print(f"{self.front}{name}: {'; '.join(faults)}", flush=True)
         else:
             self.passed += 1
+
+    def leaves_out(self, size: int) -> bool:
+        """Whether a case that gives the program so many bytes is left out, which is then counted."""
+        is_large = not self.is_proved and size > LARGE
+        self.large += is_large
+        return is_large
 
     def add(self, other: Report) -> None:
         """Takes in what another report counted."""

@@ -94,10 +94,6 @@ class Topic:
     usual: int
     # A long run takes its count divided by this many numbers.
     share: int = 1
-    # What is wrong with a run of a case.
-    run: Callable[[str, CaseAt], list[str]] = faults_by_clock
-    # The cases of a long run, where they are made from more.
-    of_long: Callable[[Report], Cases] | None = None
 
     @property
     def name(self) -> str:
@@ -123,7 +119,7 @@ class Topic:
     def faults_of(self, program: str, case_at: CaseAt) -> list[str]:
         """What is wrong with a run of a case, which has to end."""
         try:
-            return self.run(program, case_at)
+            return faults_by_clock(program, case_at)
         except subprocess.TimeoutExpired:
             return [f"no end in {SECONDS} seconds"]
 
@@ -172,9 +168,8 @@ class Topic:
     def check_long(self, program: str, seed: int, count: int) -> Report:
         """Runs many numbers, from a seed on, and answers what came of them."""
         report = Report()
-        topic = replace(self, cases=self.of_long(report), of_long=None) if self.of_long else self
         numbers = range(seed, seed + max(1, count // self.share))
-        self.judge(report, program, topic.try_on_all_processors(program, numbers), len(numbers))
+        self.judge(report, program, self.try_on_all_processors(program, numbers), len(numbers))
         return report
 
 

@@ -2,15 +2,13 @@
 from __future__ import annotations
 
 import os
-import resource
 import signal
 import subprocess
 from collections.abc import Iterator
 from contextlib import contextmanager
 
 from runs.harness import Outcome, Report, differences, folder_of, message, run
-from runs.limits import limit
-from runs.preload import MOST_CALLS, Line, Preloaded, preloaded
+from runs.preload import Line
 from runs.system_calls import Call, calls_of, check_traced, traced
 from system.saving import (
     GROUP,
@@ -40,11 +38,10 @@ REMAINS = b"remains"
 MODE = 0o640
 
 UNPRINTED = message(3, "cannot write output")
-NO_MEMORY = message(4, "out of memory")
 KILLED = Outcome(-signal.SIGKILL)
 
 # What the file is after each outcome of a run in which one call failed.
-WANTED = {SAVED: NEW, UNREAD: OLD, UNSAVED: OLD, UNPRINTED: NEW, NO_MEMORY: OLD}
+WANTED = {SAVED: NEW, UNREAD: OLD, UNSAVED: OLD, UNPRINTED: NEW}
 
 
 def place(folder: str) -> None:
@@ -103,44 +100,6 @@ def check_calls(report: Report, program: str) -> None:
             outcome, _ = traced(program, LINE, folder, *call.to("signal=KILL"))
             faults = faults_of_kill(program, folder, outcome)
         report.check(f"killed at {call}", faults)
-
-
-def memory_faults(under: Preloaded, **settings: int) -> list[str]:
-    """What is wrong where each request for memory is refused in turn, until one is not made."""
-    for nth in range(1, MOST_CALLS):
-        with folder_of({}) as folder:
-            place(folder)
-            got = under.run_in(folder, LINE, REFUSE=nth, **settings)
-            faults = faults_of_failure(folder, got.outcome)
-        if got.failures == 0:
-            return faults + differences(SAVED, got.outcome)
-        if faults or got.outcome == UNSAVED:
-            return [f"at {nth} {got.outcome} {faults}"]
-    return [f"there is no end at {MOST_CALLS}"]
-
-
-def check_preloaded(report: Report, program: str) -> None:
-    """Requests for memory that are refused, and writes that take few bytes."""
-    with preloaded(report, program, "saves without memory", {"k": OLD}) as under:
-        if under is None:
-            return
-        report.check("memory refused once", memory_faults(under))
-        report.check("memory refused from a request on", memory_faults(under, REFUSE_LASTS=1))
-        for most in (1, 7, len(NEW) - 1):
-            got = under.run(LINE, MOST=most)
-            faults = differences(SAVED, got.outcome) + ([] if got.files == {"k": NEW} else ["another file"])
-            report.check(f"{most} bytes at a time", faults)
-
-
-def check_sizes(report: Report, program: str) -> None:
-    """Files are limited in size: the write that would pass the limit is cut."""
-    for most in range(len(NEW) + 1):
-        whole = most == len(NEW)
-        with folder_of({"k": OLD}) as folder:
-            got = edit(program, folder, preexec_fn=limit(resource.RLIMIT_FSIZE, most))
-            faults = differences(SAVED if whole else UNSAVED, got)
-            faults += tree_faults({"k": NEW if whole else OLD}, folder)
-        report.check(f"a file of at most {most} bytes", faults)
 
 
 @contextmanager
@@ -248,7 +207,5 @@ def check(report: Report, program: str) -> None:
     """Runs all of this topic."""
     check_traced(report, program, "system calls that fail",
                  check_calls, check_owner, check_lock, check_no_proc)
-    check_preloaded(report, program)
-    check_sizes(report, program)
     check_full_disk(report, program)
     check_fixed(report, program)

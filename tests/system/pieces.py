@@ -1,16 +1,16 @@
-"""Listings and JSON of the greatest files go out in pieces. To a socket each write is a message, so its length is seen."""
+"""Long listings and JSON go out in pieces. To a socket each write is a message, so its length is seen."""
 from __future__ import annotations
 
 import socket
 import subprocess
 
-from caches import cache_files
-from caches import greatest_caches
-from keytabs import greatest
+from models.cases import klist, klist_cache, klist_cache_json, klist_json
+from models.modelled import mixed_cache, mixed_keytab
 from runs.harness import SECONDS, Case, Outcome, Report, differences, folder_of
 
-# A write of what was gathered has one line or element more at most, of which none has 300 bytes here. No message is longer.
-LONGEST, MESSAGE = 32_768 + 300, 1 << 20
+# A write of what was gathered has one line or element more at most, of which none has 2,000 bytes here. No message is
+# longer than a write may be.
+LONGEST, MESSAGE = 32_768 + 2_000, 1 << 20
 
 
 def pieces_of(program: str, case: Case) -> tuple[Outcome, list[int]]:
@@ -27,16 +27,13 @@ def pieces_of(program: str, case: Case) -> tuple[Outcome, list[int]]:
     return got, [*map(len, parts)]
 
 
-def cases() -> list[Case]:
-    """Long listings of short lines, of keytabs and caches."""
-    return [greatest.listings()[0], greatest.json()[0], cache_files.large()[2],
-            greatest_caches.json()[0]]
-
-
 def check(report: Report, program: str) -> None:
-    """Runs all of this topic."""
-    for case in cases():
+    """Lists a keytab and a cache of more than three pieces."""
+    image, cache = mixed_keytab(3_000), mixed_cache(400)
+    for case in (klist(image), klist_json(image), klist_cache(cache, words=("-cefC", "c")),
+                 klist_cache_json(cache)):
         got, lengths = pieces_of(program, case)
         faults = differences(case.wanted, got)
         faults += [f"a write of {max(lengths)} bytes"] if max(lengths, default=0) > LONGEST else []
+        faults += [f"{len(lengths)} writes"] if len(lengths) < 3 else []
         report.check(f"in pieces: {case.name}", faults)

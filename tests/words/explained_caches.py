@@ -4,10 +4,11 @@ from __future__ import annotations
 from functools import partial
 
 from caches.cache_edits import long_ticket
+from caches.cache_scripts import FAULTS
 from keytabs.file_names import LIMIT
 from makers.cache_images import cache
 from makers.usual_caches import USUAL, VERSION_3
-from words.explained import DAMAGED, LARGE, Told, in_the_way, told
+from words.explained import DAMAGED, LARGE, PHRASES, Told, first_of_each, in_the_way, told
 
 READ_ONLY = "a cache of version 3 is changed only by a rewrite"
 FAULT = "no whole credential follows; cut off, or being written"
@@ -77,11 +78,7 @@ CASES = [
     refused("from version 3", "--expired", VERSION_3, 8, READ_ONLY),
     told("ccremove: nothing to do", "ccremove --expired c", cache(), file="c", status=0),
     # Lines of scripts that are faulty.
-    faulty("add 3 17 0 - b@R", 1, "unknown first word"),
-    faulty("config k -", 2, "words are missing or left over"),
-    faulty("config k  v", 2, "words are missing or left over"),
-    faulty("step x", 3, "a number is not from 0 to 4294967295"),
-    faulty("config k a v", 6, "not a principal name with its realm"),
+    *(faulty(line, number, PHRASES[number]) for number, line in first_of_each(FAULTS).items()),
     # Files that are not read or not saved.
     *(each for line, stdin in CHANGING for each in files(line, stdin)),
     *(partial(large, line, stdin) for line, stdin in CHANGING),
