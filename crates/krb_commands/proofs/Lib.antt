@@ -18,3 +18,4 @@ pub mod KtutilEnds
 pub mod KtutilHonestly
 pub mod KtutilLemmas
 pub mod Words
+pub mod MatchLemmas

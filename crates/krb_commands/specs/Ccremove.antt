@@ -1,6 +1,7 @@
 -- What ccremove does.
-use Rattle.std.specs.Prelude.{ℕ, Bool, not, List, [], ◌&&◌, ◌||◌, ◌==◌, map, length, is_none, if◌then◌else◌, Option, None, Some, Result, Ok, Err}
+use Rattle.std.specs.Prelude.{◌≡◌, ℕ, Bool, not, List, [], ◌&&◌, ◌||◌, ◌==◌, nat_lt, map, length, slice_get, codes, is_none, if◌then◌else◌, Option, None, Some, option_and_then, Result, Ok, Err}
 use Rattle.std.specs.List.{flat_map, list_any}
+use Rattle.std.specs.Option.{option_or}
 use Rattle.krb_walk.specs.Events.{cut_store}
 use Rattle.krb_ccache.specs.Changes.{without}
 use Rattle.krb_ccache.specs.Rewrite.{rewrite_result}
@@ -9,7 +10,7 @@ use Rattle.krb_files.specs.declared.files.Files.{Ghosts}
 use Rattle.krb_files.specs.Bytes.{Watch}
 use Rattle.krb_files.specs.Plan.{Ends, Holds}
 use Rattle.krb_audit.specs.Tickets.{asked_tickets, names_ticket, removed_ticket_line}
-use Rattle.krb_commands.specs.declared.action.TicketOptions.{TicketOptions}
+use Rattle.krb_commands.specs.declared.ccremove.TicketOptions.{TicketOptions}
 use Rattle.krb_commands.specs.declared.trouble.Trouble.{Trouble}
 use Rattle.krb_commands.specs.declared.trouble.Trouble.TheVariants.{ClockNotRead}
 use Rattle.krb_commands.specs.declared.verdict.FileKind.TheVariants.{Cache}
@@ -18,6 +19,7 @@ use Rattle.krb_commands.specs.declared.verdict.Verdict.TheVariants.{Well, Nothin
 use Rattle.krb_commands.specs.Commands.{RunsCommand, any}
 use Rattle.krb_commands.specs.Effects.{CommandPlan, Effect, Displays, opens, saves_unless, text}
 use Rattle.krb_commands.specs.ErrorOutput.{ErrorWatch}
+use Rattle.krb_commands.specs.Matches.{IsSpelledName, Matched, bad_name}
 use Rattle.krb_commands.specs.Opening.{writable_in}
 use Rattle.krb_commands.specs.Scripted.{EndsBefore}
 
@@ -57,3 +59,22 @@ module _ {F A : Type 0} (trait : Ghosts F) (file : List ℕ) (o : TicketOptions 
   abbrev pub RunsCcremove : Result (Option ℕ) Trouble → Type 0
   RunsCcremove (Ok ended) = RunsCommand trait (λ mode. ccremove_plan o file ended) any old new out out' err err' status
   RunsCcremove (Err why) = EndsBefore trait old new out out' err err' status why
+
+-- ---- what the words ask for
+
+-- what is wrong before any word is read: an option is given twice, or nothing selects
+abbrev pub odd_tickets : Matched → Option (List ℕ)
+odd_tickets words =
+    if nat_lt 1 (length (words.values (codes "service"))) then Some (codes "-p is given twice")
+    else (if (length (words.values (codes "service")) == 0) && not (words.flag (codes "expired")) then Some (codes "nothing selects; give -p or --expired")
+    else None)
+
+-- the first mistake of the words
+abbrev pub ticket_mistake : Matched → Option (List ℕ)
+ticket_mistake words = option_or (odd_tickets words) (option_and_then bad_name (slice_get (words.values (codes "service")) 0))
+
+-- each option is what its own word spells
+pub record SpellsTickets {A : Type 0} (words : Matched) (options : TicketOptions A) : Type 0 where
+  pub server : IsSpelledName (slice_get (words.values (codes "service")) 0) options.server
+  pub expired : options.expired ≡ words.flag (codes "expired")
+  pub dry_run : options.dry_run ≡ words.flag (codes "dry-run")

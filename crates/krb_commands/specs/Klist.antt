@@ -1,5 +1,5 @@
 -- What klist does.
-use Rattle.std.specs.Prelude.{ℕ, List, Bool, true, if◌then◌else◌}
+use Rattle.std.specs.Prelude.{ℕ, List, Bool, true, if◌then◌else◌, codes, Option, None, Some}
 use Rattle.krb_wire.specs.declared.format.Order.{Order}
 use Rattle.krb_walk.specs.Store.{fault_of}
 use Rattle.krb_keytab.specs.Store.{KeytabState, store_of}
@@ -11,14 +11,15 @@ use Rattle.krb_text.specs.declared.columns.KtColumns.{KtColumns}
 use Rattle.krb_text.specs.Listing.{list_text}
 use Rattle.krb_cache_text.specs.declared.columns.CcColumns.{CcColumns}
 use Rattle.krb_cache_text.specs.Listing.{cache_text}
-use Rattle.krb_commands.specs.declared.action.KlistOptions.{KlistOptions}
-use Rattle.krb_commands.specs.declared.action.ListKind.{ListKind}
-use Rattle.krb_commands.specs.declared.action.ListKind.TheVariants.{Keytab, Cache}
+use Rattle.krb_commands.specs.declared.klist.KlistOptions.{KlistOptions}
+use Rattle.krb_commands.specs.declared.klist.ListKind.{ListKind}
+use Rattle.krb_commands.specs.declared.klist.ListKind.TheVariants.{Keytab, Cache}
 use Rattle.krb_commands.specs.declared.klist.Listing.{Listing}
 use Rattle.krb_commands.specs.declared.klist.Opened.{Opened}
 use Rattle.krb_commands.specs.declared.klist.Opened.TheVariants as opened
 use Rattle.krb_commands.specs.Effects.{CommandPlan, Displays, Page, opens}
 use Rattle.krb_commands.specs.Loading.{cache_of}
+use Rattle.krb_commands.specs.Matches.{Matched, v1_order}
 use Rattle.krb_commands.specs.Opening.{listed_in}
 use Rattle.krb_commands.specs.Verdicts.{listing_verdict}
 
@@ -53,3 +54,36 @@ listing_plan (Cache columns) json order file = opens file cache_of (λ k. Ends (
 
 abbrev pub klist_plan : KlistOptions → List ℕ → CommandPlan
 klist_plan o file = listing_plan o.kind o.json o.v1_order file
+
+-- ---- what the words ask for
+
+-- the first option that does not go with the word for a keytab
+abbrev pub odd_with_keytab : Matched → Option (List ℕ)
+odd_with_keytab words =
+    if words.flag (codes "cache") then Some (codes "-c does not go with -k")
+    else (if words.flag (codes "flags") then Some (codes "-f does not go with -k")
+    else (if words.flag (codes "configs") then Some (codes "-C does not go with -k")
+    else None))
+
+-- the first option that asks for the word for a keytab
+abbrev pub odd_with_cache : Matched → Option (List ℕ)
+odd_with_cache words =
+    if words.flag (codes "times") then Some (codes "-t is for keytabs; give -k")
+    else (if words.flag (codes "keys") then Some (codes "-K is for keytabs; give -k")
+    else (if words.flag (codes "v1-big") then Some (codes "--v1-big is for keytabs; give -k")
+    else None))
+
+-- what does not go together in the words, if something does not
+abbrev pub odd_option : Matched → Option (List ℕ)
+odd_option words = if words.flag (codes "keytab") then odd_with_keytab words else odd_with_cache words
+
+-- the kind of file: a cache, unless the words name a keytab; each column has a word of its own
+abbrev pub list_kind : Matched → ListKind
+list_kind words =
+    if words.flag (codes "keytab")
+    then Keytab (record { times = words.flag (codes "times"); etypes = words.flag (codes "etypes"); keys = words.flag (codes "keys") })
+    else Cache (record { flags = words.flag (codes "flags"); etypes = words.flag (codes "etypes"); configs = words.flag (codes "configs") })
+
+-- the options of a listing
+abbrev pub list_options : Matched → KlistOptions
+list_options words = record { kind = list_kind words; v1_order = v1_order words; json = words.flag (codes "json") }

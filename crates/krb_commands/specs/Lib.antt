@@ -8,6 +8,7 @@ pub mod Words
 pub mod ErrorOutput
 pub mod Runs
 pub mod Mistakes
+pub mod Matches
 pub mod Loading
 pub mod Opening
 pub mod Effects
@@ -31,7 +32,4 @@ pub mod KtutilHonest
 pub mod KtutilTalk
 pub mod KtutilDue
 pub mod Ktutil
-pub mod Options
-pub mod RemoveWords
-pub mod TicketWords
 pub mod Actions

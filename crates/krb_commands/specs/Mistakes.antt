@@ -1,5 +1,6 @@
 -- What is said of a command line that was not read.
-use Rattle.std.specs.Prelude.{◌≡◌, ℕ, List, [], ◌++◌, Bool, Option, None, Some, option_map, codes}
+use Rattle.std.specs.Borrow.{Bor}
+use Rattle.std.specs.Prelude.{◌≡◌, ℕ, List, [], ◌++◌, Bool, Option, None, Some, option_map, codes, Result, Ok, Err}
 use Rattle.krb_wire.specs.NameOf.{name_fault_phrase}
 use Rattle.krb_commands.specs.declared.command_line.mistake.Mistake.{Mistake}
 use Rattle.krb_commands.specs.declared.command_line.mistake.Mistake.TheVariants as mistake
@@ -40,6 +41,13 @@ mistake_line mistake.NotText rest = codes "an argument is not UTF-8" ++ rest
 abbrev pub mistake_phrase : Mistake → List ℕ
 mistake_phrase what = mistake_line what []
 
+-- a word that spells no version, or no encryption type
+abbrev pub no_version : List ℕ → List ℕ
+no_version word = quoted word (codes "\" is no ") (codes "version")
+
+abbrev pub no_etype : List ℕ → List ℕ
+no_etype word = quoted word (codes "\" is no ") (codes "encryption type")
+
 -- where more is said
 abbrev pub help_of : Option (List ℕ) → List ℕ
 help_of None = codes "; see krbfile --help\n"
@@ -66,12 +74,22 @@ abbrev pub word_status : WordFault → ℕ
 word_status (word.BadLine line) = 2
 word_status word.NoMemory = 4
 
--- it is that mistake, in words of that command
-abbrev pub IsMistake : List ℕ → Mistake → WordFault → Type 0
-IsMistake command what (word.BadLine line) = (line.mistake ≡ what) × (option_map (λ name. name.now) line.command ≡ Some command)
-IsMistake command what word.NoMemory = ⊥
+-- the same fault, of words of that command
+abbrev pub in_command : Bor (List ℕ) → WordFault → WordFault
+in_command command (word.BadLine line) = word.BadLine (record line { command = Some command })
+in_command command word.NoMemory = word.NoMemory
 
--- words of that command are refused for the mistake that they have, by what is seen of it, or for memory where they have none
-abbrev pub IsRefusal : {M : Type 0} → (Mistake → M) → List ℕ → Option M → WordFault → Type 0
-IsRefusal seen command found (word.BadLine line) = (found ≡ Some (seen line.mistake)) × (option_map (λ name. name.now) line.command ≡ Some command)
-IsRefusal seen command found word.NoMemory = found ≡ None
+-- a mistake is the one that words have; memory runs out only where they have none
+abbrev pub IsOf : Option (List ℕ) → WordFault → Type 0
+IsOf found (word.BadLine line) = found ≡ Some (mistake_phrase line.mistake)
+IsOf found word.NoMemory = found ≡ None
+
+-- words that have no mistake say that, and of others the mistake is said
+abbrev pub Reads : {X : Type 0} → Option (List ℕ) → (X → Type 0) → Result X WordFault → Type 0
+Reads found Says (Ok x) = (found ≡ None) × Says x
+Reads found Says (Err fault) = IsOf found fault
+
+-- the same of words of that command
+abbrev pub IsRefusal : List ℕ → Option (List ℕ) → WordFault → Type 0
+IsRefusal command found (word.BadLine line) = (found ≡ Some (mistake_phrase line.mistake)) × (option_map (λ name. name.now) line.command ≡ Some command)
+IsRefusal command found word.NoMemory = found ≡ None

@@ -1,80 +1,91 @@
-//! What a command line asks for.
+//! The commands, and what a line of each asks for.
 
-use krb_audit::Selection;
-use krb_cache_text::CcColumns;
-use krb_text::KtColumns;
-use krb_wire::{Order, Principal};
-use std::alloc::{Allocator, Global};
+ghost use Rattle.std.specs.Prelude.{◌≡◌, IfErr, IfOk, None, OnOk};
+ghost use Rattle.krb_commands.specs.Actions.{Asks, line_mistake};
+ghost use Rattle.krb_commands.specs.Mistakes.{IsRefusal, Reads};
 
-/// The kind of file that klist lists, and what it shows of it.
-#[derive(Clone, Copy)]
-pub enum ListKind {
-    Keytab(KtColumns),
-    Cache(CcColumns),
-}
+use crate::ccedit::CCEDIT;
+use crate::ccremove::{CCREMOVE, TicketOptions, ticket_options};
+use crate::command_line::matches::{Matches, v1_order};
+use crate::command_line::mistake::WordFault;
+use crate::command_line::words::{CommandName, CommandWords};
+use crate::klist::{KLIST, KlistOptions, klist_options};
+use crate::ktcheck::KTCHECK;
+use crate::ktedit::KTEDIT;
+use crate::ktfind::{FindOptions, KTFIND, find_options};
+use crate::ktremove::{KTREMOVE, RemoveOptions, remove_options};
+use crate::ktutil::KTUTIL;
+use krb_wire::Order;
+use std::alloc::Global;
 
-/// The options of klist.
-#[derive(Clone, Copy)]
-pub struct KlistOptions {
-    pub kind: ListKind,
-    /// The order of a keytab of version 1.
-    pub v1_order: Order,
-    /// To give all as one JSON object, whatever is shown; of a keytab the keys only where they are.
-    pub json: bool,
-}
+/// The commands, in the order in which help lists them.
+pub const COMMANDS: &[CommandWords] = &[
+    KLIST, KTEDIT, KTFIND, KTREMOVE, KTCHECK, CCEDIT, CCREMOVE, KTUTIL,
+];
 
-/// What ktfind looks for.
+/// What a command line asks for. A command over a file has its name.
 #[derive(Drop)]
-pub struct FindOptions<A: Allocator> {
-    pub name: Principal<A>,
-    /// 0 asks for the highest.
-    pub kvno: u32,
-    /// 0 asks for any.
-    pub enctype: u16,
-    /// The order of a keytab of version 1.
-    pub v1_order: Order,
-}
-
-/// What ktremove removes.
-#[derive(Drop)]
-pub struct RemoveOptions<A: Allocator> {
-    pub selection: Selection<A>,
-    /// To tell what would be removed, and to save nothing.
-    pub dry_run: bool,
-    /// The order of a keytab of version 1.
-    pub v1_order: Order,
-}
-
-/// Which tickets ccremove removes: those of which all holds that is given.
-#[derive(Drop)]
-pub struct TicketOptions<A: Allocator> {
-    /// Their server, as it is printed.
-    pub server: Option<Principal<A>>,
-    /// Those that have ended.
-    pub expired: bool,
-    /// To tell what would be removed, and to save nothing.
-    pub dry_run: bool,
-}
-
-/// What a command line asks for.
-#[derive(Drop)]
-pub enum Action {
-    /// To list the file of that name.
-    Klist(KlistOptions, String),
-    /// To look up an entry in the file of that name.
-    Ktfind(FindOptions<Global>, String),
-    /// To edit the file of that name by a script; version 1 has that order.
-    Ktedit(Order, String),
-    /// To check the file of that name; version 1 has that order.
-    Ktcheck(Order, String),
-    /// To remove entries of the file of that name.
-    Ktremove(RemoveOptions<Global>, String),
-    /// To edit the cache of that name by a script.
-    Ccedit(String),
-    /// To remove tickets of the cache of that name.
-    Ccremove(TicketOptions<Global>, String),
-    /// To handle the lines of ktutil; version 1 has that order.
+pub enum Action<'a> {
+    Klist(KlistOptions, &'a str),
+    Ktfind(FindOptions<Global>, &'a str),
+    /// With the order of a keytab of version 1.
+    Ktedit(Order, &'a str),
+    /// With the order of a keytab of version 1.
+    Ktcheck(Order, &'a str),
+    Ktremove(RemoveOptions<Global>, &'a str),
+    Ccedit(&'a str),
+    Ccremove(TicketOptions<Global>, &'a str),
+    /// With the order of keytabs of version 1.
     Ktutil(Order),
     /// To show that help.
     Help(String),
+}
+
+impl Action<'_> {
+    /// Whether it depends on the time: entries that ktutil adds, and tickets that have expired.
+    pub fn needs_clock(&self) -> bool {
+        match self {
+            Action::Ktutil(_) => true,
+            Action::Ccremove(options, _) => options.expired,
+            _ => false,
+        }
+    }
+}
+
+// What the words of a command ask for.
+fn asked<'a, M: Matches<'a>>(
+    alloc: Global,
+    command: CommandName,
+    matches: &M,
+) -> Result<Action<'a>, WordFault<'a>>
+    ensures { Reads (line_mistake command (M.matched matches.now)) (Asks command (M.matched matches.now)) result }
+{
+    let file = matches.operand("FILE");
+    match command {
+        CommandName::Klist => Ok(Action::Klist(klist_options(matches)?, file)),
+        CommandName::Ktedit => Ok(Action::Ktedit(v1_order(matches), file)),
+        CommandName::Ktfind => Ok(Action::Ktfind(find_options(alloc, matches)?, file)),
+        CommandName::Ktremove => Ok(Action::Ktremove(remove_options(alloc, matches)?, file)),
+        CommandName::Ktcheck => Ok(Action::Ktcheck(v1_order(matches), file)),
+        CommandName::Ccedit => Ok(Action::Ccedit(file)),
+        CommandName::Ccremove => Ok(Action::Ccremove(ticket_options(alloc, matches)?, file)),
+        CommandName::Ktutil => Ok(Action::Ktutil(v1_order(matches))),
+    }
+}
+
+/// What a line of a command asks for, or why it was not read: options that do not go together, a word that cannot be
+/// read, or an allocation that failed.
+pub fn action_of<'a, M: Matches<'a>>(
+    alloc: Global,
+    line: &CommandWords,
+    matches: &M,
+) -> Result<Action<'a>, WordFault<'a>>
+    ensures ok { IfOk result (Asks line.now.command (M.matched matches.now)) }
+    ensures readable { OnOk result (line_mistake line.now.command (M.matched matches.now) ≡ None) }
+    ensures refused { IfErr result (IsRefusal line.now.name.now (line_mistake line.now.command (M.matched matches.now))) }
+{
+    match asked(alloc, line.command, matches) {
+        Ok(action) => Ok(action),
+        Err(fault) => Err(fault.in_command(line.name)),
+    }
 }

@@ -15,6 +15,7 @@ ghost use Rattle.krb_commands.specs.Scripted.{RunsScript};
 ghost use Rattle.krb_commands.specs.Sessions.{left, new_session};
 
 use crate::command::{Command, FileTrouble, Made, Output, hold_file, run};
+use crate::command_line::words::{CommandName, CommandWords, Word};
 use crate::edited::{may_change, replied};
 use crate::opening::give_cache;
 use crate::scripted::read_script;
@@ -28,6 +29,25 @@ use krb_walk::{Event, Reply, Session};
 use krb_wire::NoMemory;
 use std::alloc::Allocator;
 use std::io::{Read, Write};
+
+/// The words of ccedit.
+pub const CCEDIT: CommandWords = CommandWords {
+    command: CommandName::Ccedit,
+    name: "ccedit",
+    about: "Edits a credential cache by a script from the standard input",
+    usage: "krbfile ccedit FILE < SCRIPT",
+    after_help: Some(
+        "\
+Lines of the script, of which empty ones and those that begin with # ask for nothing:
+  start                       A new walk, from the first credential
+  resume PLACE                A new walk, from that place
+  step WALK                   The next credential of that walk
+  cut PLACE                   The removal of the credential at that place
+  config KEY PRINCIPAL VALUE  A configuration value; PRINCIPAL is - for none
+  rewrite                     The cache is written anew, without what was removed",
+    ),
+    words: &[Word::Operand("FILE", "The file to edit")],
+};
 
 /// What ccedit asks for.
 #[derive(Drop)]

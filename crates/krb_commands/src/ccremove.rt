@@ -1,14 +1,17 @@
 //! Removes tickets from a cache's file.
 
-ghost use Rattle.std.specs.Prelude.{◌≡◌, IfOk, IsFalse};
+ghost use Rattle.std.specs.Prelude.{◌≡◌, IfOk, IsFalse, option_map};
 ghost use Rattle.krb_ccache.specs.Store.{image_of};
 ghost use Rattle.krb_audit.specs.Tickets.{asked_tickets};
-ghost use Rattle.krb_commands.specs.Ccremove.{RunsCcremove, cache_after, ended_by, none_verdict, removes};
+ghost use Rattle.krb_commands.specs.Ccremove.{RunsCcremove, SpellsTickets, cache_after, ended_by, none_verdict, odd_tickets, removes, ticket_mistake};
 ghost use Rattle.krb_commands.specs.Commands.{text_effect};
 ghost use Rattle.krb_commands.specs.Effects.{IsMade};
+ghost use Rattle.krb_commands.specs.Mistakes.{Reads, mistake_phrase};
 
-use crate::action::TicketOptions;
 use crate::command::{Command, FileTrouble, Made, Output, hold_if, run, save_unless};
+use crate::command_line::matches::{Matches, asked_name, first_value, times_given};
+use crate::command_line::mistake::{Mistake, WordFault};
+use crate::command_line::words::{CommandName, CommandWords, DRY_RUN, Word};
 use crate::opening::open_writable;
 use crate::streams::Streams;
 use crate::telling::tell;
@@ -18,9 +21,71 @@ use krb_audit::select_tickets;
 use krb_ccache::Ccache;
 use krb_files::Files;
 use krb_walk::Refusal;
-use krb_wire::NoMemory;
-use std::alloc::Allocator;
+use krb_wire::{NoMemory, Principal};
+use std::alloc::{Allocator, Global};
 use std::io::{Read, Write};
+
+/// The words of ccremove.
+pub const CCREMOVE: CommandWords = CommandWords {
+    command: CommandName::Ccremove,
+    name: "ccremove",
+    about: "Removes tickets from a credential cache",
+    usage: "krbfile ccremove [-n] [-p SERVICE] [--expired] FILE",
+    after_help: None,
+    words: &[
+        DRY_RUN,
+        Word::Valued(
+            "service",
+            'p',
+            "SERVICE",
+            "Tickets for that service, with its realm",
+        ),
+        Word::LongFlag("expired", "Tickets that have ended"),
+        Word::Operand("FILE", "The file to remove from"),
+    ],
+};
+
+/// Which tickets ccremove removes: those of which all holds that is given.
+#[derive(Drop)]
+pub struct TicketOptions<A: Allocator> {
+    /// Their server, as it is printed.
+    pub server: Option<Principal<A>>,
+    /// Those that have ended.
+    pub expired: bool,
+    /// To tell what would be removed, and to save nothing.
+    pub dry_run: bool,
+}
+
+// What is wrong before any word is read: nothing selects, or an option is given twice.
+fn odd_tickets<'a, M: Matches<'a>>(matches: &M) -> Option<Mistake<'a>>
+    ensures { option_map mistake_phrase result ≡ odd_tickets (M.matched matches.now) }
+{
+    let services = times_given(matches, "service");
+    if services > 1 {
+        Some(Mistake::Twice("-p"))
+    } else if services == 0 && !matches.flag("expired") {
+        Some(Mistake::NothingSelects("-p or --expired"))
+    } else {
+        None
+    }
+}
+
+/// What the words of ccremove select: something, and the name has to be read.
+pub fn ticket_options<'a, M: Matches<'a>>(
+    alloc: Global,
+    matches: &M,
+) -> Result<TicketOptions<Global>, WordFault<'a>>
+    ensures { Reads (ticket_mistake (M.matched matches.now)) (SpellsTickets (M.matched matches.now)) result }
+{
+    if let Some(mistake) = odd_tickets(matches) {
+        return Err(WordFault::of(mistake));
+    }
+    Ok(TicketOptions {
+        server: asked_name(alloc, first_value(matches, "service"))?,
+        expired: matches.flag("expired"),
+        dry_run: matches.flag("dry-run"),
+    })
+}
 
 /// What ccremove asks for: tickets that end at or before a time, if there is one.
 #[derive(Clone, Copy)]

@@ -1,6 +1,5 @@
-//! The words of each command, and what they ask for.
+//! What a command line is made of, what it matched, and what is wrong with it.
 
+pub(crate) mod matches;
 pub(crate) mod mistake;
-pub(crate) mod options;
-pub(crate) mod remove_words;
-pub(crate) mod ticket_words;
+pub(crate) mod words;

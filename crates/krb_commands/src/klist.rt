@@ -1,14 +1,17 @@
 //! Lists a file.
 
-ghost use Rattle.std.specs.Prelude.{◌≡◌, IsFalse};
+ghost use Rattle.std.specs.Prelude.{◌≡◌, IsFalse, option_map};
 ghost use Rattle.krb_text.specs.Gathered.{Prints};
 ghost use Rattle.krb_commands.specs.Commands.{RunsCommand, any, made_effect};
 ghost use Rattle.krb_commands.specs.Effects.{Displays, IsMade};
-ghost use Rattle.krb_commands.specs.Klist.{cache_page, cache_shown, keytab_page, keytab_shown, klist_plan, listing_page};
+ghost use Rattle.krb_commands.specs.Klist.{cache_page, cache_shown, keytab_page, keytab_shown, klist_plan, list_kind, list_options, listing_page, odd_option, odd_with_cache, odd_with_keytab};
+ghost use Rattle.krb_commands.specs.Mistakes.{Reads, mistake_phrase};
 ghost use Rattle.krb_commands.specs.Verdicts.{listing_verdict};
 
-use crate::action::{KlistOptions, ListKind};
 use crate::command::{Command, FileTrouble, Made, Show, run};
+use crate::command_line::matches::{Matches, v1_order};
+use crate::command_line::mistake::{Mistake, WordFault};
+use crate::command_line::words::{CommandName, CommandWords, V1_BIG, Word};
 use crate::opening::{open_cache, open_listed};
 use crate::streams::Streams;
 use crate::trouble::Trouble;
@@ -20,8 +23,123 @@ use krb_json::{cache_json, keytab_json};
 use krb_keytab::Keytab;
 use krb_text::{KtColumns, list_keytab};
 use krb_walk::Fault;
+use krb_wire::Order;
 use std::alloc::Allocator;
 use std::io::{Read, Write};
+
+/// The words of klist.
+pub const KLIST: CommandWords = CommandWords {
+    command: CommandName::Klist,
+    name: "klist",
+    about: "Lists a keytab or a credential cache",
+    usage: "\
+krbfile klist [-c] [-e] [-f] [-C] [--json] FILE
+       krbfile klist -k [-t] [-K] [-e] [--v1-big] [--json] FILE",
+    after_help: None,
+    words: &[
+        Word::Flag("cache", 'c', "List a credential cache (the default)"),
+        Word::Flag("flags", 'f', "Show the flags of tickets"),
+        Word::Flag("configs", 'C', "Show configuration entries"),
+        Word::Flag("keytab", 'k', "List a keytab"),
+        Word::Flag("times", 't', "Show the times of entries"),
+        Word::Flag("keys", 'K', "Show the keys of entries"),
+        Word::Flag("etypes", 'e', "Show encryption types"),
+        V1_BIG,
+        Word::LongFlag("json", "Print all as one JSON object; keys only with -K"),
+        Word::Operand("FILE", "The file to list"),
+    ],
+};
+
+/// The kind of file that klist lists, and what it shows of it.
+#[derive(Clone, Copy)]
+pub enum ListKind {
+    Keytab(KtColumns),
+    Cache(CcColumns),
+}
+
+/// The options of klist.
+#[derive(Clone, Copy)]
+pub struct KlistOptions {
+    pub kind: ListKind,
+    /// The order of a keytab of version 1.
+    pub v1_order: Order,
+    /// To give all as one JSON object, whatever is shown; of a keytab the keys only where they are.
+    pub json: bool,
+}
+
+// An option that does not go with a keytab.
+fn odd_with_keytab<'a, M: Matches<'a>>(matches: &M) -> Option<Mistake<'a>>
+    ensures { option_map mistake_phrase result ≡ odd_with_keytab (M.matched matches.now) }
+{
+    if matches.flag("cache") {
+        Some(Mistake::DoNotGoTogether("-c", "-k"))
+    } else if matches.flag("flags") {
+        Some(Mistake::DoNotGoTogether("-f", "-k"))
+    } else if matches.flag("configs") {
+        Some(Mistake::DoNotGoTogether("-C", "-k"))
+    } else {
+        None
+    }
+}
+
+// An option that goes with a keytab alone.
+fn odd_with_cache<'a, M: Matches<'a>>(matches: &M) -> Option<Mistake<'a>>
+    ensures { option_map mistake_phrase result ≡ odd_with_cache (M.matched matches.now) }
+{
+    if matches.flag("times") {
+        Some(Mistake::ForKeytabs("-t"))
+    } else if matches.flag("keys") {
+        Some(Mistake::ForKeytabs("-K"))
+    } else if matches.flag("v1-big") {
+        Some(Mistake::ForKeytabs("--v1-big"))
+    } else {
+        None
+    }
+}
+
+// The first option that does not go with the others: each kind of file has options of its own.
+fn odd_option<'a, M: Matches<'a>>(matches: &M) -> Option<Mistake<'a>>
+    ensures { option_map mistake_phrase result ≡ odd_option (M.matched matches.now) }
+{
+    if matches.flag("keytab") {
+        odd_with_keytab(matches)
+    } else {
+        odd_with_cache(matches)
+    }
+}
+
+// The kind of file: a cache, unless the words name a keytab. Each column has a word of its own.
+fn list_kind<'a, M: Matches<'a>>(matches: &M) -> ListKind
+    ensures { result ≡ list_kind (M.matched matches.now) }
+{
+    if matches.flag("keytab") {
+        ListKind::Keytab(KtColumns {
+            times: matches.flag("times"),
+            etypes: matches.flag("etypes"),
+            keys: matches.flag("keys"),
+        })
+    } else {
+        ListKind::Cache(CcColumns {
+            flags: matches.flag("flags"),
+            etypes: matches.flag("etypes"),
+            configs: matches.flag("configs"),
+        })
+    }
+}
+
+/// The options that the words of klist ask for, which have to go together.
+pub fn klist_options<'a, M: Matches<'a>>(matches: &M) -> Result<KlistOptions, WordFault<'a>>
+    ensures { Reads (odd_option (M.matched matches.now)) (λ options. options ≡ list_options (M.matched matches.now)) result }
+{
+    if let Some(mistake) = odd_option(matches) {
+        return Err(WordFault::of(mistake));
+    }
+    Ok(KlistOptions {
+        kind: list_kind(matches),
+        v1_order: v1_order(matches),
+        json: matches.flag("json"),
+    })
+}
 
 /// What klist asks for.
 #[derive(Clone, Copy)]

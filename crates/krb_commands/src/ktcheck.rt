@@ -6,6 +6,7 @@ ghost use Rattle.krb_commands.specs.Effects.{Displays, IsMade};
 ghost use Rattle.krb_commands.specs.Ktcheck.{findings, found_verdict, ktcheck_plan};
 
 use crate::command::{Command, FileTrouble, Made, Output, run};
+use crate::command_line::words::{CommandName, CommandWords, V1_BIG, Word};
 use crate::opening::open_keytab;
 use crate::streams::Streams;
 use crate::verdict::{Findings, Verdict};
@@ -15,6 +16,16 @@ use krb_keytab::Keytab;
 use krb_wire::Order;
 use std::alloc::Allocator;
 use std::io::{Read, Write};
+
+/// The words of ktcheck.
+pub const KTCHECK: CommandWords = CommandWords {
+    command: CommandName::Ktcheck,
+    name: "ktcheck",
+    about: "Tells what is wrong with a keytab",
+    usage: "krbfile ktcheck [--v1-big] FILE",
+    after_help: None,
+    words: &[V1_BIG, Word::Operand("FILE", "The file to check")],
+};
 
 /// What ktcheck asks for.
 #[derive(Clone, Copy)]

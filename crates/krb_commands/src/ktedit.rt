@@ -7,6 +7,7 @@ ghost use Rattle.krb_commands.specs.Ktedit.{RunsFairly, edits, ktedit_fairly, kt
 ghost use Rattle.krb_commands.specs.Scripted.{RunsScript};
 
 use crate::command::{Command, FileTrouble, Made, Output, hold_file, run};
+use crate::command_line::words::{CommandName, CommandWords, V1_BIG, Word};
 use crate::edited::{may_change, replied};
 use crate::opening::give_or_empty;
 use crate::scripted::read_script;
@@ -19,6 +20,28 @@ use krb_walk::{Event, Session};
 use krb_wire::{NoMemory, Order};
 use std::alloc::Allocator;
 use std::io::{Read, Write};
+
+/// The words of ktedit.
+pub const KTEDIT: CommandWords = CommandWords {
+    command: CommandName::Ktedit,
+    name: "ktedit",
+    about: "Edits a keytab by a script from the standard input",
+    usage: "krbfile ktedit [--v1-big] FILE < SCRIPT",
+    after_help: Some(
+        "\
+Lines of the script, of which empty ones and those that begin with # ask for nothing:
+  start                         A new walk, from the first record
+  resume PLACE                  A new walk, from that place
+  step WALK                     The next record of that walk
+  add KVNO ETYPE TIME KEY NAME  An addition; KEY is hexadecimal, or - for none
+  cut PLACE                     The removal of the record at that place
+  rewrite                       The keytab is written anew, without holes",
+    ),
+    words: &[
+        V1_BIG,
+        Word::Operand("FILE", "The file to edit, made where it is missing"),
+    ],
+};
 
 /// What ktedit asks for.
 #[derive(Drop)]

@@ -3,19 +3,74 @@
 ghost use Rattle.std.specs.Prelude.{◌≡◌, IsFalse};
 ghost use Rattle.krb_commands.specs.Commands.{RunsCommand, any, text_effect};
 ghost use Rattle.krb_commands.specs.Effects.{IsMade};
-ghost use Rattle.krb_commands.specs.Ktfind.{finds, ktfind_plan};
+ghost use Rattle.krb_commands.specs.Ktfind.{SpellsEntry, find_mistake, finds, ktfind_plan};
+ghost use Rattle.krb_commands.specs.Mistakes.{Reads};
 
-use crate::action::FindOptions;
 use crate::command::{Command, FileTrouble, Made, Output, run};
+use crate::command_line::matches::{Matches, spelled_name, v1_order};
+use crate::command_line::mistake::{Mistake, WordFault};
+use crate::command_line::words::{CommandName, CommandWords, V1_BIG, Word};
 use crate::opening::open_keytab;
 use crate::streams::Streams;
 use crate::trouble::Trouble;
 use crate::verdict::Verdict;
 use krb_files::Files;
 use krb_keytab::Keytab;
-use krb_text::found_text;
-use std::alloc::Allocator;
+use krb_text::{etype_of, found_text, parse_u32};
+use krb_wire::{Order, Principal};
+use std::alloc::{Allocator, Global};
 use std::io::{Read, Write};
+
+/// The words of ktfind.
+pub const KTFIND: CommandWords = CommandWords {
+    command: CommandName::Ktfind,
+    name: "ktfind",
+    about: "Finds an entry in a keytab",
+    usage: "krbfile ktfind [--v1-big] FILE KVNO ETYPE NAME",
+    after_help: None,
+    words: &[
+        V1_BIG,
+        Word::Operand("FILE", "The file to look in"),
+        Word::Operand("KVNO", "The key version, 0 for the highest"),
+        Word::Operand("ETYPE", "The encryption type by name or number, 0 for any"),
+        Word::Operand("NAME", "The principal, with its realm"),
+    ],
+};
+
+/// What ktfind looks for.
+#[derive(Drop)]
+pub struct FindOptions<A: Allocator> {
+    pub name: Principal<A>,
+    /// 0 asks for the highest.
+    pub kvno: u32,
+    /// 0 asks for any.
+    pub enctype: u16,
+    /// The order of a keytab of version 1.
+    pub v1_order: Order,
+}
+
+/// What the words of ktfind spell: a number, an encryption type and a name with its realm.
+pub fn find_options<'a, M: Matches<'a>>(
+    alloc: Global,
+    matches: &M,
+) -> Result<FindOptions<Global>, WordFault<'a>>
+    ensures { Reads (find_mistake (M.matched matches.now)) (SpellsEntry (M.matched matches.now)) result }
+{
+    let version = matches.operand("KVNO");
+    let Some(kvno) = parse_u32(version.as_bytes()) else {
+        return Err(WordFault::of(Mistake::NoVersion(version)));
+    };
+    let etype = matches.operand("ETYPE");
+    let Some(enctype) = etype_of(etype.as_bytes()) else {
+        return Err(WordFault::of(Mistake::NoEtype(etype)));
+    };
+    Ok(FindOptions {
+        name: spelled_name(alloc, matches.operand("NAME"))?,
+        kvno,
+        enctype,
+        v1_order: v1_order(matches),
+    })
+}
 
 /// What ktfind asks for.
 #[derive(Clone, Copy)]

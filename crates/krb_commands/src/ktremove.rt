@@ -1,21 +1,176 @@
 //! Removes entries of a keytab's file.
 
-ghost use Rattle.std.specs.Prelude.{◌≡◌, IsFalse};
+ghost use Rattle.std.specs.Prelude.{◌≡◌, IfErr, IfOk, IsFalse, None, OnOk, Some, codes, find, is_none, map, option_map};
+ghost use Rattle.std.specs.List.{filter_map};
+ghost use Rattle.krb_text.specs.Etype.{etype_in};
 ghost use Rattle.krb_audit.specs.Selection.{asked};
 ghost use Rattle.krb_commands.specs.Commands.{RunsCommand, any, text_effect};
 ghost use Rattle.krb_commands.specs.Effects.{IsMade};
-ghost use Rattle.krb_commands.specs.Ktremove.{ktremove_plan, none_verdict, removes};
+ghost use Rattle.krb_commands.specs.Ktremove.{IsSpelledKvno, SpellsRemoval, bad_etype, bad_kvno, ktremove_plan, kvno_in, none_verdict, odd_selection, remove_mistake, removes};
+ghost use Rattle.krb_commands.specs.Mistakes.{Reads, mistake_phrase};
 
-use crate::action::RemoveOptions;
 use crate::command::{Command, FileTrouble, Made, Output, hold_if, run, save_unless};
+use crate::command_line::matches::{Matches, asked_name, first_value, times_given, v1_order};
+use crate::command_line::mistake::{Mistake, WordFault};
+use crate::command_line::words::{CommandName, CommandWords, DRY_RUN, V1_BIG, Word};
 use crate::opening::open_whole;
 use crate::streams::Streams;
 use crate::verdict::{FileKind, Verdict};
 use krb_audit::{AskedKvno, Selection, select};
 use krb_files::Files;
 use krb_keytab::Keytab;
-use std::alloc::Allocator;
+use krb_text::{etype_of, parse_u32};
+use krb_wire::{NoMemory, Order};
+use std::alloc::{Allocator, Global};
 use std::io::{Read, Write};
+
+/// The words of ktremove.
+pub const KTREMOVE: CommandWords = CommandWords {
+    command: CommandName::Ktremove,
+    name: "ktremove",
+    about: "Removes entries from a keytab",
+    usage: "krbfile ktremove [--v1-big] [-n] [-p NAME] [-k KVNO|old] [-e ETYPE].. FILE",
+    after_help: None,
+    words: &[
+        DRY_RUN,
+        Word::Valued(
+            "name",
+            'p',
+            "NAME",
+            "Entries of that principal, with its realm",
+        ),
+        Word::Valued(
+            "kvno",
+            'k',
+            "KVNO",
+            "Entries of that version; old: those older than the newest",
+        ),
+        Word::Valued(
+            "etype",
+            'e',
+            "ETYPE",
+            "Entries of that encryption type, by name or number; may be repeated",
+        ),
+        V1_BIG,
+        Word::Operand("FILE", "The file to remove from"),
+    ],
+};
+
+/// What ktremove removes.
+#[derive(Drop)]
+pub struct RemoveOptions<A: Allocator> {
+    pub selection: Selection<A>,
+    /// To tell what would be removed, and to save nothing.
+    pub dry_run: bool,
+    /// The order of a keytab of version 1.
+    pub v1_order: Order,
+}
+
+// The versions that a word asks for.
+fn kvno_of(word: &str) -> Option<AskedKvno>
+    ensures { result ≡ kvno_in word.now }
+{
+    if word == "old" {
+        return Some(AskedKvno::Old);
+    }
+    Some(AskedKvno::Exactly(parse_u32(word.as_bytes())?))
+}
+
+// The first word that is no encryption type.
+#[tactic(auto, using(crate::proofs::MatchLemmas::find_word))]
+fn first_bad<'a>(words: &[&'a str]) -> Option<&'a str>
+    ensures { option_map (λ word. word.now) result
+        ≡ find (λ word. is_none (etype_in word)) (map (λ word. word.now) words.now) }
+{
+    words
+        .iter()
+        .copied()
+        .find(|word| etype_of(word.as_bytes()).is_none())
+}
+
+// That a word is no encryption type, if one is not.
+fn bad_etype<'a, M: Matches<'a>>(matches: &M) -> Option<Mistake<'a>>
+    ensures { option_map mistake_phrase result ≡ bad_etype ((M.matched matches.now).values (codes "etype")) }
+{
+    Some(Mistake::NoEtype(first_bad(matches.values("etype"))?))
+}
+
+// What is wrong before any word is read: nothing selects, or an option is given twice.
+fn odd_selection<'a, M: Matches<'a>>(matches: &M) -> Option<Mistake<'a>>
+    ensures { option_map mistake_phrase result ≡ odd_selection (M.matched matches.now) }
+{
+    let names = times_given(matches, "name");
+    let kvnos = times_given(matches, "kvno");
+    if names > 1 {
+        Some(Mistake::Twice("-p"))
+    } else if kvnos > 1 {
+        Some(Mistake::Twice("-k"))
+    } else if names == 0 && kvnos == 0 && times_given(matches, "etype") == 0 {
+        Some(Mistake::NothingSelects("-p, -k or -e"))
+    } else {
+        None
+    }
+}
+
+// The versions that a word asks for, if there is a word.
+fn asked_kvno<'a>(word: Option<&'a str>) -> Result<AskedKvno, Mistake<'a>>
+    ensures ok { IfOk result (IsSpelledKvno (option_map (λ word. word.now) word.entry)) }
+    ensures readable { OnOk result (bad_kvno (option_map (λ word. word.now) word.entry) ≡ None) }
+    ensures mistake { IfErr result (λ mistake. bad_kvno (option_map (λ word. word.now) word.entry) ≡ Some (mistake_phrase mistake)) }
+{
+    let Some(word) = word else {
+        return Ok(AskedKvno::Any);
+    };
+    match kvno_of(word) {
+        Some(kvno) => Ok(kvno),
+        None => Err(Mistake::NoVersion(word)),
+    }
+}
+
+// The encryption types that words spell.
+#[tactic(auto, using(crate::proofs::MatchLemmas::filter_map_words))]
+fn etypes_of(alloc: Global, words: &[&str]) -> Result<Vec<u16>, NoMemory>
+    ensures { IfOk result (λ etypes. etypes.items ≡ filter_map etype_in (map (λ word. word.now) words.now)) }
+{
+    Ok(
+        words
+            .iter()
+            .filter_map(|word| etype_of(word.as_bytes()))
+            .collect(alloc)?,
+    )
+}
+
+/// What the words of ktremove select: something, and each word has to be read.
+pub fn remove_options<'a, M: Matches<'a>>(
+    alloc: Global,
+    matches: &M,
+) -> Result<RemoveOptions<Global>, WordFault<'a>>
+    ensures { Reads (remove_mistake (M.matched matches.now)) (SpellsRemoval (M.matched matches.now)) result }
+{
+    if let Some(mistake) = odd_selection(matches) {
+        return Err(WordFault::of(mistake));
+    }
+    let kvno = match asked_kvno(first_value(matches, "kvno")) {
+        Ok(kvno) => kvno,
+        Err(mistake) => return Err(WordFault::of(mistake)),
+    };
+    if let Some(mistake) = bad_etype(matches) {
+        return Err(WordFault::of(mistake));
+    }
+    let name = asked_name(alloc, first_value(matches, "name"))?;
+    let Ok(enctypes) = etypes_of(alloc, matches.values("etype")) else {
+        return Err(WordFault::NoMemory);
+    };
+    Ok(RemoveOptions {
+        selection: Selection {
+            name,
+            kvno,
+            enctypes,
+        },
+        dry_run: matches.flag("dry-run"),
+        v1_order: v1_order(matches),
+    })
+}
 
 /// What ktremove asks for.
 #[derive(Clone, Copy)]

@@ -14,6 +14,7 @@ mod state;
 mod verb;
 mod words;
 
+use crate::command_line::words::{CommandName, CommandWords, V1_BIG};
 use crate::input_lines::InputLines;
 use crate::streams::Streams;
 use crate::telling::error_output::ErrorOutput;
@@ -27,6 +28,27 @@ pub use state::Ktutil;
 use std::alloc::Allocator;
 use std::io::{Read, Write};
 pub use words::file_word;
+
+/// The words of ktutil.
+pub const KTUTIL: CommandWords = CommandWords {
+    command: CommandName::Ktutil,
+    name: "ktutil",
+    about: "Edits a list of entries by commands from the standard input",
+    usage: "krbfile ktutil [--v1-big] < COMMANDS",
+    after_help: Some(
+        "\
+Commands, each on a line, and their short names:
+  list, l [-t] [-k] [-e]     Lists the entries, with times, keys, encryption types
+  read_kt, rkt FILE          Adds the entries of the file to the list
+  write_kt, wkt FILE         Adds the list to the file, made where it is missing
+  add_entry, addent -key -p NAME -k KVNO -e ETYPE
+                             Adds an entry; the next line is its key, in hexadecimal
+  delete_entry, delent SLOT  Deletes the entry of that slot
+  clear_list, clear          Empties the list
+  quit, q, exit              Ends",
+    ),
+    words: &[V1_BIG],
+};
 
 /// A run of ktutil between two lines.
 #[derive(Drop)]

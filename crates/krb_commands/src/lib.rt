@@ -23,21 +23,17 @@ mod telling;
 mod trouble;
 mod verdict;
 
-pub use action::{Action, FindOptions, KlistOptions, ListKind, RemoveOptions, TicketOptions};
+pub use action::{Action, COMMANDS, action_of};
 pub use ccedit::run_ccedit;
-pub use ccremove::run_ccremove;
+pub use ccremove::{TicketOptions, run_ccremove};
+pub use command_line::matches::Matches;
 pub use command_line::mistake::{BadLine, Mistake, WordFault};
-pub use command_line::options::{
-    CceditWords, KlistWords, KtcheckWords, KteditWords, KtfindWords, KtutilWords, ccedit_action,
-    klist_action, ktcheck_action, ktedit_action, ktfind_action, ktutil_action,
-};
-pub use command_line::remove_words::{KtremoveWords, ktremove_action};
-pub use command_line::ticket_words::{CcremoveWords, ccremove_action};
-pub use klist::run_klist;
+pub use command_line::words::{CommandName, CommandWords, Word};
+pub use klist::{KlistOptions, ListKind, run_klist};
 pub use ktcheck::run_ktcheck;
 pub use ktedit::run_ktedit;
-pub use ktfind::run_ktfind;
-pub use ktremove::run_ktremove;
+pub use ktfind::{FindOptions, run_ktfind};
+pub use ktremove::{RemoveOptions, run_ktremove};
 pub use ktutil::{Ktutil, LineEnd, file_word, run_ktutil};
 pub use loading::NotKeytab;
 pub use response::respond;

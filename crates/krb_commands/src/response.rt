@@ -35,7 +35,7 @@ fn show_help<W: Write, E: Write>(text: &str, out: &mut Watched<W>, err: &mut Err
 /// made at `now`, in seconds, or at 0 where the clock was not read. A failure of `err` changes nothing else.
 pub fn respond<A: Allocator + Copy, F: Files, R: Read, W: Write, E: Write>(
     alloc: A,
-    asked: &Result<Action, WordFault<'_>>,
+    asked: &Result<Action<'_>, WordFault<'_>>,
     files: &mut F,
     now: Option<u32>,
     streams: &mut Streams<R, W, E>,
@@ -45,27 +45,21 @@ pub fn respond<A: Allocator + Copy, F: Files, R: Read, W: Write, E: Write>(
         streams.old.out streams.new.out streams.old.err streams.new.err result asked.now }
 {
     match asked {
-        Ok(Action::Klist(options, file)) => {
-            run_klist(alloc, options, file.as_str(), files, streams)
-        }
-        Ok(Action::Ktfind(options, file)) => {
-            run_ktfind(alloc, options, file.as_str(), files, streams)
-        }
-        Ok(Action::Ktedit(v1_order, file)) => {
-            run_ktedit(alloc, *v1_order, file.as_str(), files, streams)
-        }
+        Ok(Action::Klist(options, file)) => { run_klist(alloc, options, file, files, streams) }
+        Ok(Action::Ktfind(options, file)) => { run_ktfind(alloc, options, file, files, streams) }
+        Ok(Action::Ktedit(v1_order, file)) => { run_ktedit(alloc, *v1_order, file, files, streams) }
         Ok(Action::Ktcheck(v1_order, file)) => {
-            run_ktcheck(alloc, *v1_order, file.as_str(), files, streams)
+            run_ktcheck(alloc, *v1_order, file, files, streams)
         }
         Ok(Action::Ktremove(options, file)) => {
-            run_ktremove(alloc, options, file.as_str(), files, streams)
+            run_ktremove(alloc, options, file, files, streams)
         }
         Ok(Action::Ktutil(v1_order)) => {
             run_ktutil(alloc, *v1_order, now.unwrap_or(0), files, streams)
         }
-        Ok(Action::Ccedit(file)) => run_ccedit(alloc, file.as_str(), files, streams),
+        Ok(Action::Ccedit(file)) => run_ccedit(alloc, file, files, streams),
         Ok(Action::Ccremove(options, file)) => {
-            run_ccremove(alloc, options, now, file.as_str(), files, streams)
+            run_ccremove(alloc, options, now, file, files, streams)
         }
         Ok(Action::Help(text)) => show_help(text.as_str(), &mut streams.out, &mut streams.err),
         Err(fault) => tell_word_fault(*fault, &mut streams.err),

@@ -7,7 +7,7 @@ ghost use Rattle.krb_commands.specs.Actions.{EndsAsked};
 
 use crate::clock::seconds_now;
 use crate::words::parse_words;
-use krb_commands::{Action, BadLine, Mistake, Streams, WordFault, respond};
+use krb_commands::{Action, Mistake, Streams, WordFault, respond};
 use krb_files::Files;
 use std::alloc::Global;
 use std::io::{Read, Write};
@@ -25,10 +25,7 @@ fn words_of<R: rt::Env + AllocGlobal>(rt: &R) -> Result<Vec<String>, WordFault<'
     match env::args(rt) {
         Ok(words) => Ok(words.collect(rt.alloc())?),
         Err(error) if error.kind() == io::ErrorKind::OutOfMemory => Err(WordFault::NoMemory),
-        Err(_) => Err(WordFault::BadLine(BadLine {
-            mistake: Mistake::NotText,
-            command: None,
-        })),
+        Err(_) => Err(WordFault::of(Mistake::NotText)),
     }
 }
 
@@ -36,19 +33,10 @@ fn words_of<R: rt::Env + AllocGlobal>(rt: &R) -> Result<Vec<String>, WordFault<'
 fn asked<'a>(
     alloc: Global,
     words: &'a mut Result<Vec<String>, WordFault<'static>>,
-) -> Result<Action, WordFault<'a>> {
+) -> Result<Action<'a>, WordFault<'a>> {
     match words {
         Ok(words) => parse_words(alloc, words),
         Err(fault) => Err(*fault),
-    }
-}
-
-// Whether a run needs the time: tickets that have expired, and entries that ktutil adds.
-fn needs_clock(asked: &Result<Action, WordFault<'_>>) -> bool {
-    match asked {
-        Ok(Action::Ktutil(_)) => true,
-        Ok(Action::Ccremove(options, _)) => options.expired,
-        _ => false,
     }
 }
 
@@ -69,10 +57,9 @@ pub fn run<H: rt::Env + rt::Clock + AllocGlobal, F: Files, R: Read, W: Write, E:
     let mut words = words_of(rt);
     let alloc = Wiping::new(rt.alloc());
     let asked = asked(rt.alloc(), &mut words);
-    let now = if needs_clock(&asked) {
-        seconds_now(rt)
-    } else {
-        None
+    let now = match &asked {
+        Ok(action) if action.needs_clock() => seconds_now(rt),
+        _ => None,
     };
     respond(alloc, &asked, files, now, streams)
 }

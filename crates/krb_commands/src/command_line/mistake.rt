@@ -1,6 +1,6 @@
 //! What is wrong with a command line.
 
-ghost use Rattle.std.specs.Prelude.{◌≡◌};
+ghost use Rattle.std.specs.Prelude.{◌≡◌, None};
 ghost use Rattle.krb_commands.specs.declared.command_line.mistake.WordFault.TheVariants.{NoMemory};
 
 use krb_wire::NameFault;
@@ -45,16 +45,29 @@ pub enum WordFault<'a> {
 }
 
 impl<'a> WordFault<'a> {
-    ghost use Rattle.krb_commands.specs.Mistakes.{IsMistake, word_number};
+    ghost use Rattle.krb_commands.specs.Mistakes.{in_command, word_number};
 
-    /// That the words of that command have that mistake.
-    pub fn of(command: &'a str, mistake: Mistake<'a>) -> WordFault<'a>
-        ensures { IsMistake command.now mistake.entry result }
+    /// That words have that mistake.
+    pub fn of(mistake: Mistake<'a>) -> WordFault<'a>
+        ensures { result ≡ WordFault.BadLine (record { mistake = mistake.entry; command = None }) }
     {
         WordFault::BadLine(BadLine {
             mistake,
-            command: Some(command),
+            command: None,
         })
+    }
+
+    /// The same of words of that command.
+    pub fn in_command(self, command: &'a str) -> WordFault<'a>
+        ensures { result ≡ in_command command.entry self.entry }
+    {
+        match self {
+            WordFault::BadLine(line) => WordFault::BadLine(BadLine {
+                command: Some(command),
+                ..line
+            }),
+            WordFault::NoMemory => WordFault::NoMemory,
+        }
     }
 
     /// 1 for a bad line, 2 where an allocation failed.

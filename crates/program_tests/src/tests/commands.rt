@@ -184,8 +184,11 @@ impl Asked {
     }
 
     /// As it is asked of that file.
-    pub fn of(self, alloc: Global, file: &str) -> Result<Result<Action, WordFault<'static>>, Fail> {
-        let file = String::from_str(alloc, file)?;
+    pub fn of<'a>(
+        self,
+        alloc: Global,
+        file: &'a str,
+    ) -> Result<Result<Action<'a>, WordFault<'static>>, Fail> {
         Ok(Ok(match self {
             Asked::Klist => Action::Klist(listing(ListKind::Keytab(KtColumns::default())), file),
             Asked::KlistCache => Action::Klist(listing(ListKind::Cache(ALL)), file),

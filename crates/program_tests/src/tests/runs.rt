@@ -15,7 +15,7 @@ use std::test::Fail;
 /// Does what was asked for over some files, with that input, and answers the status.
 pub fn respond_over<A: Allocator + Copy, F: Files, E: Write>(
     alloc: A,
-    asked: &Result<Action, WordFault<'_>>,
+    asked: &Result<Action<'_>, WordFault<'_>>,
     files: &mut F,
     input: &str,
     out: &mut Vec<u8, Global>,
