@@ -159,8 +159,8 @@ pub fn first_hole(cells: CellViews<'_>, need: usize) -> Option<Hole>
     None
 }
 
-/// Where a look for a place ends, and whether a record stands at that place: the look goes on until a cell ends
-/// behind the place.
+/// The place of the first cell that ends behind another place, or else of the end, and whether a record stands at
+/// that other place.
 pub fn look_for(cells: Cells<'_, KnownFormat>, place: u32) -> (u32, bool)
     ensures at { IsPlace cells.entry result.0 }
     ensures live { result.1 ≡ is_some (live_bytes cells.entry place) }

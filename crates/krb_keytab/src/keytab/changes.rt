@@ -46,8 +46,8 @@ impl<A: Allocator> Keytab<A> {
         self.remove_from(&mut from, place)
     }
 
-    /// Removes the record at each of the places, as `remove_at` does; a place that is refused changes nothing. The
-    /// look for a place goes on from the one before, so ascending places take one pass.
+    /// Does at each place in turn what `remove_at` does there; a place that is refused changes nothing. Places that
+    /// ascend take one pass over the cells.
     #[tactic(auto, using(crate::proofs::Stores::first_is_place))]
     pub fn remove_all(&mut self, places: &[u32])
         ensures removed { self.new.state ≡ without self.old.state places.now }
@@ -59,7 +59,7 @@ impl<A: Allocator> Keytab<A> {
         }
     }
 
-    // Removes the record at a place, which is looked for from another on; the next look may begin where this ended.
+    // As `remove_at`. The look for the place begins at another, and leaves there where the next may begin.
     fn remove_from(&mut self, from: &mut u32, place: u32) -> Result<(), Code>
         requires { IsPlace (store_of self.old.state) from.old }
         ensures gives { CutGives (cut_result self.old.state place) self.old.state result self.new.state }
@@ -78,8 +78,7 @@ impl<A: Allocator> Keytab<A> {
         Ok(())
     }
 
-    // Where a look for a place ends, and whether a record stands there. It begins at another place, if that is no
-    // further, and else at the front.
+    // As `look_for`, from a cell on, or from the front if the place is before that cell.
     fn look(&self, from: u32, place: u32) -> (u32, bool)
         requires { IsPlace (store_of self.now.state) from }
         ensures at { IsPlace (store_of self.now.state) result.0 }
