@@ -1,10 +1,8 @@
 //! The listing of a credential cache.
 
-ghost use Rattle.std.specs.Prelude.{◌≡◌, ◌++◌, [], OnOk, OnErr, IsFalse};
-ghost use Rattle.std.specs.Io.KnownBytes.{Appends};
+ghost use Rattle.std.specs.Prelude.{◌≡◌, ◌++◌, OnOk, IsFalse};
 ghost use Rattle.krb_ccache.specs.Store.{placed_credentials};
-ghost use Rattle.krb_files.specs.Bytes.{AppendsPrefix, is_write_fault};
-ghost use Rattle.krb_text.specs.Gathered.{Passed};
+ghost use Rattle.krb_text.specs.Gathered.{Gathers, Prints};
 ghost use Rattle.krb_cache_text.specs.Listing.{cache_heading, lines_of_credentials, cache_text};
 
 use crate::columns::CcColumns;
@@ -42,12 +40,8 @@ fn list_credentials<A: Allocator, B: Allocator, W: Write>(
     out: &mut Watched<W>,
 ) -> Result<(), OutFault>
     requires { IsFalse out.old.failed }
-    ensures ok { OnOk result (Passed out.old.contents out.new.contents
-        (gathered.old.items ++ lines_of_credentials columns (placed_credentials cache.now.state))
-        [] gathered.new.items) }
-    ensures prefix { OnErr result (AppendsPrefix out.old.contents out.new.contents
-        (gathered.old.items ++ lines_of_credentials columns (placed_credentials cache.now.state))) }
-    ensures failed { out.new.failed ≡ is_write_fault result }
+    ensures { Gathers out.old out.new gathered.old.items gathered.new.items result
+        (lines_of_credentials columns (placed_credentials cache.now.state)) }
 {
     let mut last = LastTimes::new();
     'credentials: for (_, credential) in cache.credentials() {
@@ -68,11 +62,7 @@ pub fn list_cache<A: Allocator, B: Allocator, W: Write>(
     out: &mut Watched<W>,
 ) -> Result<(), OutFault>
     requires { IsFalse out.old.failed }
-    ensures ok { OnOk result (Appends out.old.contents out.new.contents
-        (cache_text columns name.now cache.now.state)) }
-    ensures prefix { OnErr result (AppendsPrefix out.old.contents out.new.contents
-        (cache_text columns name.now cache.now.state)) }
-    ensures failed { out.new.failed ≡ is_write_fault result }
+    ensures { Prints out.old out.new result (cache_text columns name.now cache.now.state) }
 {
     let mut gathered = room_to_gather(alloc)?;
     append_heading(name, &cache.default_principal(), &mut gathered)?;

@@ -1,13 +1,16 @@
 -- Elements of an array, one after the other.
-use Rattle.std.proofs.Common.{◌≡◌, ℕ, Bool, ◌||◌, List, [], ◌++◌, Option, None, Some, is_some, refl, sym, ap, ◌∙◌, append_assoc, append-nil}
+use Rattle.std.proofs.Common.{◌≡◌, ℕ, Bool, ◌||◌, List, [], ◌++◌, Option, None, Some, is_some, Result, Ok, Err, refl, sym, ap, ◌∙◌, append_assoc, append-nil}
 use Rattle.std.specs.List.{cons_option}
+use Rattle.std.proofs.lemmas.Result.{on_ok_weaker, on_err_weaker}
 use Rattle.json.specs.Json.{Json}
 use Rattle.json.specs.Token.{Token}
 use Rattle.json.specs.Print.{print}
 use Rattle.json.specs.Tree.{json_tokens}
-use Rattle.krb_text.specs.Gathered.{Passed}
-use Rattle.krb_text.proofs.Passing.{passed_gather, passed_last, passed_fail}
-use Rattle.krb_files.specs.Bytes.{AppendsPrefix}
+use Rattle.krb_text.specs.Gathered.{Passed, Gathers}
+use Rattle.krb_text.proofs.Passing.{passed_gather, passed_last, passed_fail, gathers_memory}
+use Rattle.krb_files.specs.declared.output.OutFault.{OutFault}
+use Rattle.krb_files.specs.declared.output.OutFault.TheVariants.{NoMemory}
+use Rattle.krb_files.specs.Bytes.{Watch}
 use Rattle.krb_files.proofs.Prefixes.{Appends-trans, AppendsPrefix-longer}
 use Rattle.krb_json.specs.Pieces.{comma_after, element_text, element_if, elements_text, IfPlain, ArePlain}
 
@@ -33,10 +36,10 @@ pub plain_if : (x : Option Json) (vs : List Json) → IfPlain x → ArePlain vs 
 plain_if None vs h rest = rest
 plain_if (Some v) vs h rest = (h, rest)
 
--- ---- pieces behind pieces
+-- ---- pieces after pieces
 
--- a whole text passed, and then another behind what is gathered
-pub passed_on : (o p q : Option (List ℕ)) (whole x b more : List ℕ) → Passed o p whole [] b → Passed p q (b ++ x) [] more → Passed o q (whole ++ x) [] more
+-- a whole text passed, and then another after what is gathered
+passed_on : (o p q : Option (List ℕ)) (whole x b more : List ℕ) → Passed o p whole [] b → Passed p q (b ++ x) [] more → Passed o q (whole ++ x) [] more
 passed_on o p q whole x b more h k = record {
   sent = h.sent ++ k.sent;
   appends = Appends-trans o p q h.sent k.sent h.appends k.appends;
@@ -44,20 +47,21 @@ passed_on o p q whole x b more h k = record {
       ∙ ap (λ (t : List ℕ). h.sent ++ t) k.parts ∙ sym (append_assoc h.sent k.sent (more ++ []));
 }
 
--- or a prefix of the other
-pub prefix_on : (o p q : Option (List ℕ)) (whole x b : List ℕ) → Passed o p whole [] b → AppendsPrefix p q (b ++ x) → AppendsPrefix o q (whole ++ x)
-prefix_on o p q whole x b h f = passed_fail o p q (whole ++ x) [] (b ++ x) (passed_last o p whole x b (b ++ x) h refl) f
+-- three pieces: the first and the last by themselves, the second after what was gathered
+pub gathers_three : {T U : Type 0} (o p q : Watch) (b x y z c d e : List ℕ) (v : T) (r : Result U OutFault) → Gathers o p b c (Ok v) x → d ≡ c ++ y → Gathers p q d e r z → Gathers o q b e r (x ++ (y ++ z))
+gathers_three o p q b x y z c d e v r first is last =
+    let passed = passed_last _ _ (b ++ x) y c d first.ok is in
+    record {
+      ok = on_ok_weaker r (λ sent. rw (sym (append_assoc b x (y ++ z)), sym (append_assoc (b ++ x) y z)) (passed_on _ _ _ _ z d e passed sent)) last.ok;
+      prefix = on_err_weaker r (λ sent. rw (sym (append_assoc b x (y ++ z)), sym (append_assoc (b ++ x) y z)) (passed_fail _ _ _ _ [] (d ++ z) (passed_last _ _ _ z d (d ++ z) passed refl) sent)) last.prefix;
+      failed = last.failed;
+    }
 
--- a prefix of the first of two pieces is one of both
-pub prefix_of_first : (o p : Option (List ℕ)) (b x y : List ℕ) → AppendsPrefix o p (b ++ x) → AppendsPrefix o p (b ++ (x ++ y))
-prefix_of_first o p b x y h = rw (sym (append_assoc b x y)) (AppendsPrefix-longer o p (b ++ x) y h)
+-- the first of two was not
+pub gathers_two_fails : {T U : Type 0} (o p : Watch) (b x y c d : List ℕ) (e : OutFault) → Gathers {T = T} o p b c (Err e) x → Gathers {T = U} o p b d (Err e) (x ++ y)
+gathers_two_fails o p b x y c d e h = record { ok = tt; prefix = rw (sym (append_assoc b x y)) (AppendsPrefix-longer _ _ (b ++ x) y h.prefix); failed = h.failed }
 
--- three pieces passed: the first and the last by themselves, the second behind what was gathered
-pub passed_three : (o p q : Option (List ℕ)) (b x y z c d e : List ℕ) → Passed o p (b ++ x) [] c → d ≡ c ++ y → Passed p q (d ++ z) [] e → Passed o q (b ++ (x ++ (y ++ z))) [] e
-passed_three o p q b x y z c d e first is last =
-    rw (sym (append_assoc b x (y ++ z)), sym (append_assoc (b ++ x) y z)) (passed_on o p q ((b ++ x) ++ y) z d e (passed_last o p (b ++ x) y c d first is) last)
-
--- or a prefix of the last
-pub prefix_three : (o p q : Option (List ℕ)) (b x y z c d : List ℕ) → Passed o p (b ++ x) [] c → d ≡ c ++ y → AppendsPrefix p q (d ++ z) → AppendsPrefix o q (b ++ (x ++ (y ++ z)))
-prefix_three o p q b x y z c d first is last =
-    rw (sym (append_assoc b x (y ++ z)), sym (append_assoc (b ++ x) y z)) (prefix_on o p q ((b ++ x) ++ y) z d (passed_last o p (b ++ x) y c d first is) last)
+-- the first of two was, and then no memory was left
+pub gathers_then_memory : {T U : Type 0} (o p : Watch) (b x y c d : List ℕ) (v : T) (e : OutFault) → Gathers o p b c (Ok v) x → e ≡ NoMemory → Gathers {T = U} o p b d (Err e) (x ++ y)
+gathers_then_memory {T} o p b x y c d v e h is =
+    gathers_two_fails {T = T} o p b x y c d e (gathers_memory o p b c x [] c e h.ok h.failed is)

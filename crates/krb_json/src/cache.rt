@@ -1,15 +1,13 @@
 //! A credential cache as JSON.
 
-ghost use Rattle.std.specs.Prelude.{◌≡◌, ◌++◌, [], ◌∷◌, Some, OnOk, OnErr, IfOk, IsFalse, false, codes, is_some, ◌||◌};
-ghost use Rattle.std.specs.Io.KnownBytes.{Appends};
+ghost use Rattle.std.specs.Prelude.{◌≡◌, ◌++◌, [], ◌∷◌, Some, OnOk, IfOk, IsFalse, false, codes, is_some, ◌||◌};
 ghost use Rattle.json.specs.Json.{document};
 ghost use Rattle.json.specs.Print.{print};
 ghost use Rattle.json.specs.Tree.{json_tokens};
 ghost use Rattle.krb_wire.specs.Names.{name_text};
-ghost use Rattle.krb_files.specs.Bytes.{AppendsPrefix, is_write_fault};
 ghost use Rattle.krb_ccache.specs.Config.{config_name};
 ghost use Rattle.krb_ccache.specs.Store.{version_byte, placed_credentials};
-ghost use Rattle.krb_text.specs.Gathered.{Passed};
+ghost use Rattle.krb_text.specs.Gathered.{Gathers, Prints};
 ghost use Rattle.krb_json.specs.Members.{file_members, text_member};
 ghost use Rattle.krb_json.specs.Cache.{shown_by, shown_values, ticket_values, config_values, cache_value, cache_json_text};
 ghost use Rattle.krb_json.specs.Pieces.{element_if, elements_text, head_tokens, between_tokens, arrays_text, IfPlain, ArePlain};
@@ -95,12 +93,8 @@ fn send_shown<A: Allocator + Copy, B: Allocator, W: Write>(
 ) -> Result<(), OutFault>
     requires well { IsFalse out.old.failed }
     requires empty { piece.old ≡ [] }
-    ensures ok { OnOk result (Passed out.old.contents out.new.contents
-        (gathered.old.items ++ elements_text false (shown_values shown (placed_credentials cache.now.state)))
-        [] gathered.new.items) }
-    ensures prefix { OnErr result (AppendsPrefix out.old.contents out.new.contents
-        (gathered.old.items ++ elements_text false (shown_values shown (placed_credentials cache.now.state)))) }
-    ensures failed { out.new.failed ≡ is_write_fault result }
+    ensures gathers { Gathers out.old out.new gathered.old.items gathered.new.items result
+        (elements_text false (shown_values shown (placed_credentials cache.now.state))) }
     ensures empty { OnOk result (piece.new ≡ []) }
     ensures plain { OnOk result (ArePlain (shown_values shown (placed_credentials cache.now.state))) }
 {
@@ -134,11 +128,8 @@ fn send_arrays<A: Allocator + Copy, B: Allocator, W: Write>(
 ) -> Result<(), OutFault>
     requires well { IsFalse out.old.failed }
     requires empty { piece.old ≡ [] }
-    ensures ok { OnOk result (Passed out.old.contents out.new.contents
-        (gathered.old.items ++ arrays_text cache.now.state) [] gathered.new.items) }
-    ensures prefix { OnErr result (AppendsPrefix out.old.contents out.new.contents
-        (gathered.old.items ++ arrays_text cache.now.state)) }
-    ensures failed { out.new.failed ≡ is_write_fault result }
+    ensures gathers { Gathers out.old out.new gathered.old.items gathered.new.items result
+        (arrays_text cache.now.state) }
     ensures empty { OnOk result (piece.new ≡ []) }
     ensures tickets { OnOk result (ArePlain (ticket_values (placed_credentials cache.now.state))) }
     ensures configs { OnOk result (ArePlain (config_values (placed_credentials cache.now.state))) }
@@ -158,11 +149,7 @@ pub fn cache_json<A: Allocator + Copy, B: Allocator, W: Write>(
     out: &mut Watched<W>,
 ) -> Result<(), OutFault>
     requires { IsFalse out.old.failed }
-    ensures ok { OnOk result (Appends out.old.contents out.new.contents
-        (cache_json_text file.now cache.now.state)) }
-    ensures prefix { OnErr result (AppendsPrefix out.old.contents out.new.contents
-        (cache_json_text file.now cache.now.state)) }
-    ensures failed { out.new.failed ≡ is_write_fault result }
+    ensures prints { Prints out.old out.new result (cache_json_text file.now cache.now.state) }
     // A reader finds just this value in the text.
     ensures reads_back { OnOk result (document (print (json_tokens (cache_value file.now cache.now.state)))
         ≡ Some (cache_value file.now cache.now.state)) }

@@ -1,13 +1,11 @@
 //! A keytab as JSON.
 
-ghost use Rattle.std.specs.Prelude.{◌≡◌, ◌++◌, [], Some, OnOk, OnErr, IsFalse, false, codes};
-ghost use Rattle.std.specs.Io.KnownBytes.{Appends};
+ghost use Rattle.std.specs.Prelude.{◌≡◌, ◌++◌, [], Some, OnOk, IsFalse, false, codes};
 ghost use Rattle.json.specs.Json.{document};
 ghost use Rattle.json.specs.Print.{print};
 ghost use Rattle.json.specs.Tree.{json_tokens};
 ghost use Rattle.krb_wire.specs.Spelling.{version_byte};
-ghost use Rattle.krb_files.specs.Bytes.{AppendsPrefix, is_write_fault};
-ghost use Rattle.krb_text.specs.Gathered.{Passed};
+ghost use Rattle.krb_text.specs.Gathered.{Gathers, Prints};
 ghost use Rattle.krb_json.specs.Members.{file_members};
 ghost use Rattle.krb_json.specs.Keytab.{entry_values, keytab_value, keytab_json_text};
 ghost use Rattle.krb_json.specs.Pieces.{elements_text, head_tokens, ArePlain};
@@ -48,12 +46,8 @@ fn send_entries<A: Allocator + Copy, B: Allocator, W: Write>(
 ) -> Result<(), OutFault>
     requires well { IsFalse out.old.failed }
     requires empty { piece.old ≡ [] }
-    ensures ok { OnOk result (Passed out.old.contents out.new.contents
-        (gathered.old.items ++ elements_text false (entry_values shows_keys keytab.now.state))
-        [] gathered.new.items) }
-    ensures prefix { OnErr result (AppendsPrefix out.old.contents out.new.contents
-        (gathered.old.items ++ elements_text false (entry_values shows_keys keytab.now.state))) }
-    ensures failed { out.new.failed ≡ is_write_fault result }
+    ensures gathers { Gathers out.old out.new gathered.old.items gathered.new.items result
+        (elements_text false (entry_values shows_keys keytab.now.state)) }
     ensures empty { OnOk result (piece.new ≡ []) }
     ensures plain { OnOk result (ArePlain (entry_values shows_keys keytab.now.state)) }
 {
@@ -78,11 +72,7 @@ pub fn keytab_json<A: Allocator + Copy, B: Allocator, W: Write>(
     out: &mut Watched<W>,
 ) -> Result<(), OutFault>
     requires { IsFalse out.old.failed }
-    ensures ok { OnOk result (Appends out.old.contents out.new.contents
-        (keytab_json_text file.now shows_keys keytab.now.state)) }
-    ensures prefix { OnErr result (AppendsPrefix out.old.contents out.new.contents
-        (keytab_json_text file.now shows_keys keytab.now.state)) }
-    ensures failed { out.new.failed ≡ is_write_fault result }
+    ensures prints { Prints out.old out.new result (keytab_json_text file.now shows_keys keytab.now.state) }
     // A reader finds just this value in the text.
     ensures reads_back { OnOk result (document (print (json_tokens
         (keytab_value file.now shows_keys keytab.now.state)))

@@ -1,9 +1,8 @@
 //! What stands after the last array of a file, and is written with what is gathered.
 
-ghost use Rattle.std.specs.Prelude.{◌≡◌, ◌++◌, [], ◌∷◌, OnOk, OnErr, IsFalse, codes};
-ghost use Rattle.std.specs.Io.KnownBytes.{Appends};
+ghost use Rattle.std.specs.Prelude.{◌≡◌, ◌++◌, [], ◌∷◌, OnOk, IsFalse, codes};
 ghost use Rattle.json.specs.Print.{print};
-ghost use Rattle.krb_files.specs.Bytes.{AppendsPrefix, is_write_fault};
+ghost use Rattle.krb_text.specs.Gathered.{Prints};
 ghost use Rattle.krb_json.specs.Members.{fault_value};
 ghost use Rattle.krb_json.specs.Pieces.{tail_tokens, IsPlain};
 
@@ -39,11 +38,8 @@ pub fn send_tail<A: Allocator + Copy, W: Write>(
 ) -> Result<(), OutFault>
     requires well { IsFalse out.old.failed }
     requires empty { piece.old ≡ [] }
-    ensures ok { OnOk result (Appends out.old.contents out.new.contents (gathered.old.items
-        ++ (print (tail_tokens ((codes "fault", fault_value fault) ∷ [])) ++ codes "\n"))) }
-    ensures prefix { OnErr result (AppendsPrefix out.old.contents out.new.contents (gathered.old.items
-        ++ (print (tail_tokens ((codes "fault", fault_value fault) ∷ [])) ++ codes "\n"))) }
-    ensures failed { out.new.failed ≡ is_write_fault result }
+    ensures prints { Prints out.old out.new result (gathered.old.items
+        ++ (print (tail_tokens ((codes "fault", fault_value fault) ∷ [])) ++ codes "\n")) }
     ensures plain { OnOk result (IsPlain (fault_value fault)) }
 {
     append_tail(fault, piece, gathered)?;

@@ -1,8 +1,12 @@
 -- How a text passes to a writer: what was gathered, what was sent, and what a failure leaves.
-use Rattle.std.proofs.Common.{◌≡◌, ℕ, List, [], ◌++◌, Option, refl, sym, ap, ◌∙◌, append_assoc, append-nil}
+use Rattle.std.proofs.Common.{◌≡◌, ℕ, true, List, [], ◌++◌, Option, Result, Ok, Err, refl, sym, ap, ◌∙◌, append_assoc, append-nil}
+use Rattle.std.specs.Prelude.{IsFalse}
 use Rattle.std.specs.Io.KnownBytes.{Appends}
-use Rattle.krb_files.specs.Bytes.{AppendsPrefix}
-use Rattle.krb_text.specs.Gathered.{Sent, Passed}
+use Rattle.std.proofs.lemmas.Result.{on_ok_weaker, on_err_weaker}
+use Rattle.krb_files.specs.declared.output.OutFault.{OutFault}
+use Rattle.krb_files.specs.declared.output.OutFault.TheVariants.{Write, NoMemory}
+use Rattle.krb_files.specs.Bytes.{AppendsPrefix, Watch}
+use Rattle.krb_text.specs.Gathered.{Sent, Passed, Prints, Gathers}
 use Rattle.krb_files.proofs.Prefixes.{Appends-nil, Appends-trans, AppendsPrefix-longer}
 
 -- three pieces are gathered
@@ -61,20 +65,30 @@ passed_all o p q whole b h s =
     let is : whole ≡ h.sent ++ b = h.parts ∙ ap (λ (t : List ℕ). h.sent ++ t) (append-nil b) in
     rw is (Appends-trans o p q h.sent b h.appends s)
 
--- a prefix of the first two of three pieces is one of all
-pub prefix_of_three : (o p : Option (List ℕ)) (b first second third : List ℕ) → b ≡ first → AppendsPrefix o p (b ++ second) → AppendsPrefix o p (first ++ (second ++ third))
-prefix_of_three o p b first second third is f =
-    let same : AppendsPrefix o p (first ++ second) = rw (sym is) f in
-    rw (sym (append_assoc first second third)) (AppendsPrefix-longer o p (first ++ second) third same)
+-- ---- what a function does that gathers or prints
 
--- the first two of three pieces passed, and what is gathered is sent with the third
-pub passed_end : (o p q : Option (List ℕ)) (b first second third more : List ℕ) → b ≡ first → Passed o p (b ++ second) [] more → Appends p q (more ++ third) → Appends o q (first ++ (second ++ third))
-passed_end o p q b first second third more is h s =
-    let same : Passed o p (first ++ second) [] more = rw (sym is) h in
-    rw (sym (append_assoc first second third)) (passed_all o p q _ _ (passed_last o p (first ++ second) third more (more ++ third) same refl) s)
+-- no memory was left for more
+pub gathers_memory : {T : Type 0} (o p : Watch) (before after text rest b : List ℕ) (e : OutFault) → Passed o.contents p.contents (before ++ text) rest b → IsFalse p.failed → e ≡ NoMemory → Gathers {T = T} o p before after (Err e) text
+gathers_memory o p before after text rest b e h well is = record { ok = tt; prefix = passed_prefix _ _ _ _ _ h; failed = rw is well }
 
--- or a prefix of that
-pub failed_end : (o p q : Option (List ℕ)) (b first second third more : List ℕ) → b ≡ first → Passed o p (b ++ second) [] more → AppendsPrefix p q (more ++ third) → AppendsPrefix o q (first ++ (second ++ third))
-failed_end o p q b first second third more is h s =
-    let same : Passed o p (first ++ second) [] more = rw (sym is) h in
-    rw (sym (append_assoc first second third)) (passed_fail o p q _ _ _ (passed_last o p (first ++ second) third more (more ++ third) same refl) s)
+-- a write failed
+pub gathers_write : {T : Type 0} (o : Watch) (p : Option (List ℕ)) (q : Watch) (before after text rest b : List ℕ) (e : OutFault) → Passed o.contents p (before ++ text) rest b → AppendsPrefix p q.contents b → q.failed ≡ true → e ≡ Write → Gathers {T = T} o q before after (Err e) text
+gathers_write o p q before after text rest b e h f failed is = record { ok = tt; prefix = passed_fail _ _ _ _ _ _ h f; failed = rw is failed }
+
+-- a text was gathered after a first one, and a last one is printed after both
+pub gathers_prints : {T U : Type 0} (o p q : Watch) (none before after first text last : List ℕ) (v : T) (r : Result U OutFault) → none ≡ [] → before ≡ none ++ first → Gathers o p before after (Ok v) text → Prints p q r (after ++ last) → Prints o q r (first ++ (text ++ last))
+gathers_prints o p q none before after first text last v r is_none is g h =
+    let passed : Passed o.contents p.contents (first ++ (text ++ last)) [] (after ++ last) = rw (sym (append_assoc first text last)) (passed_last _ _ _ last after _ (rw (is, is_none) at g.ok) refl) in
+    record {
+      ok = on_ok_weaker r (λ sent. passed_all _ _ _ _ _ passed sent) h.ok;
+      prefix = on_err_weaker r (λ sent. passed_fail _ _ _ _ _ _ passed sent) h.prefix;
+      failed = h.failed;
+    }
+
+-- or it was not, and nothing more is printed
+pub gathers_fails : {T U : Type 0} (o p : Watch) (none before after first text last : List ℕ) (e : OutFault) → none ≡ [] → before ≡ none ++ first → Gathers {T = T} o p before after (Err e) text → Prints {T = U} o p (Err e) (first ++ (text ++ last))
+gathers_fails o p none before after first text last e is_none is g = record {
+  ok = tt;
+  prefix = rw (sym (append_assoc first text last)) (AppendsPrefix-longer _ _ _ last (rw (is, is_none) at g.prefix));
+  failed = g.failed;
+}

@@ -1,9 +1,7 @@
 //! The listing of a keytab.
 
-ghost use Rattle.std.specs.Prelude.{◌≡◌, ◌++◌, [], OnOk, OnErr, IsFalse};
-ghost use Rattle.std.specs.Io.KnownBytes.{Appends};
-ghost use Rattle.krb_files.specs.Bytes.{AppendsPrefix, is_write_fault};
-ghost use Rattle.krb_text.specs.Gathered.{Passed};
+ghost use Rattle.std.specs.Prelude.{◌≡◌, ◌++◌, OnOk, IsFalse};
+ghost use Rattle.krb_text.specs.Gathered.{Gathers, Prints};
 ghost use Rattle.krb_text.specs.Listing.{titles, underlines, heading, entry_lines, fault_line, list_text};
 
 use crate::bytes::append;
@@ -62,11 +60,8 @@ fn list_entries<A: Allocator, B: Allocator, W: Write>(
     out: &mut Watched<W>,
 ) -> Result<(), OutFault>
     requires { IsFalse out.old.failed }
-    ensures ok { OnOk result (Passed out.old.contents out.new.contents
-        (gathered.old.items ++ entry_lines columns keytab.now.state) [] gathered.new.items) }
-    ensures prefix { OnErr result (AppendsPrefix out.old.contents out.new.contents
-        (gathered.old.items ++ entry_lines columns keytab.now.state)) }
-    ensures failed { out.new.failed ≡ is_write_fault result }
+    ensures { Gathers out.old out.new gathered.old.items gathered.new.items result
+        (entry_lines columns keytab.now.state) }
 {
     let mut last = LastTime::new();
     'entries: for (_, entry) in keytab.entries() {
@@ -96,11 +91,7 @@ pub fn send_last<A: Allocator, W: Write>(
     out: &mut Watched<W>,
 ) -> Result<(), OutFault>
     requires { IsFalse out.old.failed }
-    ensures ok { OnOk result (Appends out.old.contents out.new.contents
-        (gathered.old.items ++ fault_line fault)) }
-    ensures prefix { OnErr result (AppendsPrefix out.old.contents out.new.contents
-        (gathered.old.items ++ fault_line fault)) }
-    ensures failed { out.new.failed ≡ is_write_fault result }
+    ensures { Prints out.old out.new result (gathered.old.items ++ fault_line fault) }
 {
     append_fault_line(fault, gathered)?;
     put(out, gathered)
@@ -117,11 +108,7 @@ pub fn list_keytab<A: Allocator, B: Allocator, W: Write>(
     out: &mut Watched<W>,
 ) -> Result<(), OutFault>
     requires { IsFalse out.old.failed }
-    ensures ok { OnOk result (Appends out.old.contents out.new.contents
-        (list_text columns name.now keytab.now.state)) }
-    ensures prefix { OnErr result (AppendsPrefix out.old.contents out.new.contents
-        (list_text columns name.now keytab.now.state)) }
-    ensures failed { out.new.failed ≡ is_write_fault result }
+    ensures { Prints out.old out.new result (list_text columns name.now keytab.now.state) }
 {
     let mut gathered = room_to_gather(alloc)?;
     append_heading(name, columns.times, &mut gathered)?;

@@ -1,6 +1,6 @@
 use Rattle.std.proofs.Common.{◌++◌, List, ℕ, sym, ap, ◌∙◌}
 use Rattle.std.proofs.lemmas.Result.{err_from_is_err_and}
-use Rattle.krb_text.proofs.Passing.{passed_none, passed_gather, passed_send, passed_prefix, passed_fail}
+use Rattle.krb_text.proofs.Passing.{passed_none, passed_gather, passed_send, gathers_memory, gathers_write}
 use Rattle.krb_cache_text.specs.Credential.{credential_lines}
 use Rattle.krb_cache_text.specs.Listing.{lines_of_credentials}
 use Rattle.krb_cache_text.proofs.listing.list_credentials.Goals as goal
@@ -13,18 +13,19 @@ credentials-init g c =
       passed = passed_none _ _ (lines_of_credentials c.args.columns c.into_iter-credential-iterator.result) c.args.gathered.now.items (ap (λ (t : List ℕ). c.args.gathered.now.items ++ t) all);
     }
 
-pub returns-in_err-append_credential-clause-prefix : goal.returns-in_err-append_credential-clause-prefix
-returns-in_err-append_credential-clause-prefix g c =
+pub returns-in_err-append_credential : goal.returns-in_err-append_credential
+returns-in_err-append_credential g c =
     let p = err_from_is_err_and c.from_residual.result c.from_residual.ensures.1 in
-    rw p.1 (passed_prefix _ _ _ _ _ c.credentials.invariant.passed)
+    rw p.1 (gathers_memory _ _ _ _ _ _ _ _ c.credentials.invariant.passed c.credentials.invariant.well p.2)
 
 -- what was sent when a write fails
-pub returns-in_err-send_if_full-clause-prefix : goal.returns-in_err-send_if_full-clause-prefix
-returns-in_err-send_if_full-clause-prefix g c =
+pub returns-in_err-send_if_full : goal.returns-in_err-send_if_full
+returns-in_err-send_if_full g c =
     let p = err_from_is_err_and c.from_residual-in_err-send_if_full.result c.from_residual-in_err-send_if_full.ensures.1 in
     let lines = rw (ap (lines_of_credentials c.args.columns) c.in-Some.ensures.steps) at c.credentials.invariant.passed in
     let passed = passed_gather _ _ _ (credential_lines c.args.columns c.in-Some.credential) (lines_of_credentials c.args.columns c.next.new.self) c.credentials.gathered.items _ lines c.in_ok-append_credential.ensures in
-    rw p.1 (passed_fail _ _ _ _ _ _ passed c.in_err-send_if_full.ensures.prefix)
+    let sent = c.in_err-send_if_full.ensures in
+    rw p.1 (gathers_write _ _ _ _ _ _ _ _ _ passed sent.prefix sent.failed (p.2 ∙ sent.why))
 
 pub credentials-preserved : goal.credentials-preserved
 credentials-preserved g c =

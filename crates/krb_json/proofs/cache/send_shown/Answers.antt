@@ -2,7 +2,7 @@ use Rattle.std.proofs.Common.{◌++◌, false, subst, sym, ap, ◌∙◌}
 use Rattle.std.proofs.lemmas.Result.{err_from_is_err_and}
 use Rattle.krb_ccache.specs.Config.{config_name}
 use Rattle.krb_ccache.specs.Store.{PlacedCredential}
-use Rattle.krb_text.proofs.Passing.{passed_none, passed_send, passed_prefix, passed_fail}
+use Rattle.krb_text.proofs.Passing.{passed_none, passed_send, gathers_memory, gathers_write}
 use Rattle.krb_json.specs.Cache.{shown_by, shown_values}
 use Rattle.krb_json.specs.Pieces.{elements_text, ArePlain}
 use Rattle.krb_json.proofs.Sending.{gathers_if, plain_if}
@@ -19,20 +19,21 @@ credentials-init g c =
       plain = λ h. subst ArePlain all h;
     }
 
-pub returns-in_err-is_after-clause-prefix : goal.returns-in_err-is_after-clause-prefix
-returns-in_err-is_after-clause-prefix g c =
+pub returns-in_err-is_after-clause-gathers : goal.returns-in_err-is_after-clause-gathers
+returns-in_err-is_after-clause-gathers g c =
     let p = err_from_is_err_and c.from_residual.result c.from_residual.ensures.1 in
-    rw p.1 (passed_prefix _ _ _ _ _ c.credentials.invariant.passed)
+    rw p.1 (gathers_memory _ _ _ _ _ _ _ _ c.credentials.invariant.passed c.credentials.invariant.well p.2)
 
 -- what was sent when a write fails
-pub returns-in_err-send_if_full-clause-prefix : goal.returns-in_err-send_if_full-clause-prefix
-returns-in_err-send_if_full-clause-prefix g c =
+pub returns-in_err-send_if_full-clause-gathers : goal.returns-in_err-send_if_full-clause-gathers
+returns-in_err-send_if_full-clause-gathers g c =
     let p = err_from_is_err_and c.from_residual-in_err-send_if_full.result c.from_residual-in_err-send_if_full.ensures.1 in
     let x : PlacedCredential = (c.in-Some.place, c.in-Some.credential) in
     let after = c.credentials.is_after in
     let before = rw (ap (λ t. elements_text after (shown_values c.args.shown t)) c.in-Some.ensures.steps) at c.credentials.invariant.passed in
     let passed = gathers_if _ _ _ after (shown_by c.args.shown (config_name x.1.server) x) (shown_values c.args.shown c.next.new.self) c.credentials.gathered.items _ before c.in_ok-is_after.ensures.text in
-    rw p.1 (passed_fail _ _ _ _ _ _ passed c.in_err-send_if_full.ensures.prefix)
+    let sent = c.in_err-send_if_full.ensures in
+    rw p.1 (gathers_write _ _ _ _ _ _ _ _ _ passed sent.prefix sent.failed (p.2 ∙ sent.why))
 
 pub credentials-preserved : goal.credentials-preserved
 credentials-preserved g c =

@@ -1,6 +1,6 @@
 use Rattle.std.proofs.Common.{◌++◌, Some, map, false, subst, sym, ap, ◌∙◌}
 use Rattle.std.proofs.lemmas.Result.{err_from_is_err_and}
-use Rattle.krb_text.proofs.Passing.{passed_none, passed_send, passed_prefix, passed_fail}
+use Rattle.krb_text.proofs.Passing.{passed_none, passed_send, gathers_memory, gathers_write}
 use Rattle.krb_json.specs.Keytab.{entry_value}
 use Rattle.krb_json.specs.Pieces.{elements_text, ArePlain}
 use Rattle.krb_json.proofs.Sending.{gathers_if, element_behind}
@@ -18,19 +18,19 @@ entries-init g c =
       plain = λ h. subst ArePlain all h;
     }
 
-pub returns-in_err-entry-clause-prefix : goal.returns-in_err-entry-clause-prefix
-returns-in_err-entry-clause-prefix g c =
+pub returns-in_err-entry-clause-gathers : goal.returns-in_err-entry-clause-gathers
+returns-in_err-entry-clause-gathers g c =
     let p = err_from_is_err_and c.from_residual.result c.from_residual.ensures.1 in
-    rw p.1 (passed_prefix _ _ _ _ _ c.entries.invariant.passed)
+    rw p.1 (gathers_memory _ _ _ _ _ _ _ _ c.entries.invariant.passed c.entries.invariant.well p.2)
 
-pub returns-in_err-append_to-clause-prefix : goal.returns-in_err-append_to-clause-prefix
-returns-in_err-append_to-clause-prefix g c =
+pub returns-in_err-append_to-clause-gathers : goal.returns-in_err-append_to-clause-gathers
+returns-in_err-append_to-clause-gathers g c =
     let p = err_from_is_err_and c.from_residual-in_err-append_to.result c.from_residual-in_err-append_to.ensures.1 in
-    rw p.1 (passed_prefix _ _ _ _ _ c.entries.invariant.passed)
+    rw p.1 (gathers_memory _ _ _ _ _ _ _ _ c.entries.invariant.passed c.entries.invariant.well p.2)
 
 -- what was sent when a write fails
-pub returns-in_err-send_if_full-clause-prefix : goal.returns-in_err-send_if_full-clause-prefix
-returns-in_err-send_if_full-clause-prefix g c =
+pub returns-in_err-send_if_full-clause-gathers : goal.returns-in_err-send_if_full-clause-gathers
+returns-in_err-send_if_full-clause-gathers g c =
     let p = err_from_is_err_and c.from_residual-in_err-send_if_full.result c.from_residual-in_err-send_if_full.ensures.1 in
     let value = entry_value c.args.shows_keys in
     let v = value (c.in-Some.place, c.in-Some.entry) in
@@ -38,7 +38,8 @@ returns-in_err-send_if_full-clause-prefix g c =
     let before = rw (ap (λ t. elements_text after (map value t)) c.in-Some.ensures.steps) at c.entries.invariant.passed in
     let text = element_behind after v _ _ c.entries.gathered.items _ c.entries.invariant.empty c.in_ok-entry.ensures.tokens c.in_ok-append_to.ensures.text in
     let passed = gathers_if _ _ _ after (Some v) (map value c.next.new.self) c.entries.gathered.items _ before text in
-    rw p.1 (passed_fail _ _ _ _ _ _ passed c.in_err-send_if_full.ensures.prefix)
+    let sent = c.in_err-send_if_full.ensures in
+    rw p.1 (gathers_write _ _ _ _ _ _ _ _ _ passed sent.prefix sent.failed (p.2 ∙ sent.why))
 
 pub entries-preserved : goal.entries-preserved
 entries-preserved g c =

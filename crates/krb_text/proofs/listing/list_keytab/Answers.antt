@@ -1,26 +1,12 @@
-use Rattle.std.proofs.Common.{◌++◌, List, ℕ, ap, ◌∙◌}
-use Rattle.std.proofs.lemmas.Result.{err_from_is_err_and, on_ok_weaker, on_err_weaker}
-use Rattle.krb_walk.specs.Store.{fault_of}
-use Rattle.krb_keytab.specs.Store.{store_of}
-use Rattle.krb_text.specs.Listing.{heading, entry_lines, fault_line}
-use Rattle.krb_text.proofs.Passing.{prefix_of_three, passed_end, failed_end}
+use Rattle.std.proofs.lemmas.Result.{err_from_is_err_and}
+use Rattle.krb_text.proofs.Passing.{gathers_prints, gathers_fails}
 use Rattle.krb_text.proofs.listing.list_keytab.Goals as goal
 
-pub returns-in_err-list_entries-clause-prefix : goal.returns-in_err-list_entries-clause-prefix
-returns-in_err-list_entries-clause-prefix g c =
+pub returns-in_err-list_entries : goal.returns-in_err-list_entries
+returns-in_err-list_entries g c =
     let p = err_from_is_err_and c.from_residual-in_err-list_entries.result c.from_residual-in_err-list_entries.ensures.1 in
-    let k = c.args.keytab.now.state in
-    let first = c.in_ok-append_heading.ensures ∙ ap (λ (t : List ℕ). t ++ heading c.args.name.now c.args.columns.times) c.in_ok-gathered.ensures in
-    rw p.1 (prefix_of_three _ _ _ (heading c.args.name.now c.args.columns.times) (entry_lines c.args.columns k) (fault_line (fault_of (store_of k))) first c.in_err-list_entries.ensures.prefix)
+    rw (p.1, p.2) (gathers_fails _ _ _ _ _ _ _ _ _ c.in_ok-gathered.ensures c.in_ok-append_heading.ensures c.in_err-list_entries.ensures)
 
-pub returns-clause-ok : goal.returns-clause-ok
-returns-clause-ok g c =
-    let k = c.args.keytab.now.state in
-    let first = c.in_ok-append_heading.ensures ∙ ap (λ (t : List ℕ). t ++ heading c.args.name.now c.args.columns.times) c.in_ok-gathered.ensures in
-    on_ok_weaker c.send_last.result (λ sent. passed_end _ _ _ _ (heading c.args.name.now c.args.columns.times) (entry_lines c.args.columns k) (fault_line (fault_of (store_of k))) _ first c.in_ok-list_entries.ensures.ok (rw c.fault.ensures at sent)) c.send_last.ensures.ok
-
-pub returns-clause-prefix : goal.returns-clause-prefix
-returns-clause-prefix g c =
-    let k = c.args.keytab.now.state in
-    let first = c.in_ok-append_heading.ensures ∙ ap (λ (t : List ℕ). t ++ heading c.args.name.now c.args.columns.times) c.in_ok-gathered.ensures in
-    on_err_weaker c.send_last.result (λ sent. failed_end _ _ _ _ (heading c.args.name.now c.args.columns.times) (entry_lines c.args.columns k) (fault_line (fault_of (store_of k))) _ first c.in_ok-list_entries.ensures.ok (rw c.fault.ensures at sent)) c.send_last.ensures.prefix
+pub returns : goal.returns
+returns g c =
+    gathers_prints _ _ _ _ _ _ _ _ _ _ _ c.in_ok-gathered.ensures c.in_ok-append_heading.ensures c.in_ok-list_entries.ensures (rw c.fault.ensures at c.send_last.ensures)
