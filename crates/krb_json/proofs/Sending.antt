@@ -63,5 +63,5 @@ gathers_two_fails o p b x y c d e h = record { ok = tt; prefix = rw (sym (append
 
 -- the first of two was, and then no memory was left
 pub gathers_then_memory : {T U : Type 0} (o p : Watch) (b x y c d : List ℕ) (v : T) (e : OutFault) → Gathers o p b c (Ok v) x → e ≡ NoMemory → Gathers {T = U} o p b d (Err e) (x ++ y)
-gathers_then_memory o p b x y c d v e h is =
-    gathers_two_fails o p b x y c d e (gathers_memory o p b c x [] c e h.ok h.failed is)
+gathers_then_memory {T} o p b x y c d v e h is =
+    gathers_two_fails {T = T} o p b x y c d e (gathers_memory o p b c x [] c e h.ok h.failed is)
