@@ -1,17 +1,18 @@
 -- Elements of an array, one after the other.
 use Rattle.std.proofs.Common.{◌≡◌, ℕ, Bool, ◌||◌, List, [], ◌++◌, Option, None, Some, is_some, Result, Ok, Err, refl, sym, ap, ◌∙◌, append_assoc, append-nil}
+use Rattle.std.specs.Prelude.{IsFalse}
 use Rattle.std.specs.List.{cons_option}
 use Rattle.std.proofs.lemmas.Result.{on_ok_weaker, on_err_weaker}
 use Rattle.json.specs.Json.{Json}
 use Rattle.json.specs.Token.{Token}
 use Rattle.json.specs.Print.{print}
 use Rattle.json.specs.Tree.{json_tokens}
-use Rattle.krb_text.specs.Gathered.{Passed, Gathers}
+use Rattle.krb_text.specs.Gathered.{Passed, Gathers, Prints}
 use Rattle.krb_text.proofs.Passing.{passed_gather, passed_last, passed_fail, gathers_memory}
 use Rattle.krb_files.specs.declared.output.OutFault.{OutFault}
 use Rattle.krb_files.specs.declared.output.OutFault.TheVariants.{NoMemory}
 use Rattle.krb_files.specs.Bytes.{Watch}
-use Rattle.krb_files.proofs.Prefixes.{Appends-trans, AppendsPrefix-longer}
+use Rattle.krb_files.proofs.Prefixes.{Appends-trans, AppendsPrefix-longer, AppendsPrefix-none}
 use Rattle.krb_json.specs.Pieces.{comma_after, element_text, element_if, elements_text, IfPlain, ArePlain}
 
 elements_step : (after : Bool) (x : Option Json) (vs : List Json) → elements_text after (cons_option x vs) ≡ element_if after x ++ elements_text (is_some x || after) vs
@@ -65,3 +66,7 @@ gathers_two_fails o p b x y c d e h = record { ok = tt; prefix = rw (sym (append
 pub gathers_then_memory : {T U : Type 0} (o p : Watch) (b x y c d : List ℕ) (v : T) (e : OutFault) → Gathers o p b c (Ok v) x → e ≡ NoMemory → Gathers {T = U} o p b d (Err e) (x ++ y)
 gathers_then_memory {T} o p b x y c d v e h is =
     gathers_two_fails {T = T} o p b x y c d e (gathers_memory o p b c x [] c e h.ok h.failed is)
+
+-- nothing was, as no memory was left
+pub prints_memory : {T : Type 0} (o : Watch) (text : List ℕ) (e : OutFault) → IsFalse o.failed → e ≡ NoMemory → Prints {T = T} o o (Err e) text
+prints_memory o text e well is = record { ok = tt; prefix = AppendsPrefix-none o.contents text; failed = rw is well }

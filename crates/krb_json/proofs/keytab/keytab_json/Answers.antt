@@ -1,8 +1,14 @@
 use Rattle.std.proofs.lemmas.Result.{err_from_is_err_and, on_ok_weaker}
 use Rattle.krb_text.proofs.Passing.{gathers_prints, gathers_fails}
+use Rattle.krb_json.proofs.Sending.{prints_memory}
 use Rattle.krb_json.proofs.ReadBack.{keytab_is_read}
 use Rattle.krb_json.proofs.Wholes.{keytab_text}
 use Rattle.krb_json.proofs.keytab.keytab_json.Goals as goal
+
+pub returns-in_err-append_head-clause-prints : goal.returns-in_err-append_head-clause-prints
+returns-in_err-append_head-clause-prints g c =
+    let p = err_from_is_err_and c.from_residual-in_err-append_head.result c.from_residual-in_err-append_head.ensures.1 in
+    rw p.1 (prints_memory _ _ p.0 c.requires p.2)
 
 pub returns-in_err-send_entries-clause-prints : goal.returns-in_err-send_entries-clause-prints
 returns-in_err-send_entries-clause-prints g c =
