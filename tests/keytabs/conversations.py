@@ -34,7 +34,7 @@ class Talk:
     def take(self, count: int, stream) -> bytes:
         """Waits for that many bytes of an output."""
         heard = b""
-        while len(heard) < count and select.select([stream], [], [], 5)[0]:
+        while len(heard) < count and select.select([stream], [], [], SECONDS)[0]:
             piece = stream.read(count - len(heard))
             if not piece:
                 break
