@@ -1,0 +1,75 @@
+"""Keytabs that are cut, damaged or at their limit, by Python's module: scripts, and what they print."""
+from __future__ import annotations
+
+from makers.images import HOST, TWO, keytab, old
+
+# Cut, damaged and limited keytabs: the places and versions of the entries before the fault, the status
+# that ends the walk there, and the fault.
+DAMAGED = """
+from itertools import groupby
+from krbfile import Keytab, KrbfileError
+import sys
+
+image = sys.stdin.buffer.read()
+host = image[6:53]
+
+def seen(image, **limit):
+    try:
+        keytab = Keytab.open(image, **limit)
+    except KrbfileError as error:
+        return error.status
+    found = []
+    try:
+        for entry in keytab:
+            found.append((entry.place, entry.kvno))
+    except KrbfileError as error:
+        found.append(error.status)
+    return found, keytab.fault
+
+def told(lengths, made):
+    for answer, group in groupby(lengths, lambda length: seen(made(length))):
+        print(next(group), answer)
+
+told(range(len(image) + 1), lambda length: image[:length])
+told(range(1, len(host) + 1), lambda length: image[:2] + length.to_bytes(4, "big") + host[:length])
+for at in (6, 8, 31):
+    print(at, seen(image[:at] + bytes([255] * 2) + image[at + 2:]))
+print(seen(bytes([5])), seen(bytes([5, 3])), seen(bytes([4, 2])), seen(bytes([5, 2, 0]), limit=2))
+"""
+
+# A rewrite that does not fit: version 2 has four bytes more for the type of a name.
+TOO_LONG = """
+from krbfile import Keytab, KrbfileError
+import sys
+
+image = sys.stdin.buffer.read()
+with Keytab.open(image, limit=len(image)) as keytab:
+    walk = iter(keytab)
+    print(next(walk).place)
+    try:
+        keytab.rewrite([len(image)])
+    except KrbfileError as error:
+        print(error.status, keytab.image == image, list(walk))
+"""
+
+
+# HOST stands at 2, B at 53, and 98 bytes are all.
+SCRIPTS = (
+    ("damaged keytabs", DAMAGED, TWO, [
+        "0 11",
+        "2 ([], None)",
+        "3 ([31], (1, 2))",
+        "6 ([31], (2, 2))",
+        "53 ([(2, 3)], None)",
+        "54 ([(2, 3), 31], (1, 53))",
+        "57 ([(2, 3), 31], (2, 53))",
+        "98 ([(2, 3), (53, 3)], None)",
+        "1 ([31], (3, 2))",
+        "43 ([(2, 3)], None)",
+        "6 ([31], (3, 2))",
+        "8 ([31], (3, 2))",
+        "31 ([31], (3, 2))",
+        "11 12 12 13",
+    ]),
+    ("a rewrite that does not fit", TOO_LONG, old(HOST), ["2", "33 True []"]),
+)
