@@ -73,19 +73,20 @@ fn asked<'a, M: Matches<'a>>(
     }
 }
 
-/// What a line of a command asks for, or why it was not read: options that do not go together, a word that cannot be
-/// read, or an allocation that failed.
+/// What a line of that command, of that name, asks for, or why it was not read: options that do not go together, a word
+/// that cannot be read, or an allocation that failed.
 pub fn action_of<'a, M: Matches<'a>>(
     alloc: Global,
-    line: &CommandWords,
+    command: CommandName,
+    name: &'a str,
     matches: &M,
 ) -> Result<Action<'a>, WordFault<'a>>
-    ensures ok { IfOk result (Asks line.now.command (M.matched matches.now)) }
-    ensures readable { OnOk result (line_mistake line.now.command (M.matched matches.now) ≡ None) }
-    ensures refused { IfErr result (IsRefusal line.now.name.now (line_mistake line.now.command (M.matched matches.now))) }
+    ensures ok { IfOk result (Asks command (M.matched matches.now)) }
+    ensures readable { OnOk result (line_mistake command (M.matched matches.now) ≡ None) }
+    ensures refused { IfErr result (IsRefusal name.now (line_mistake command (M.matched matches.now))) }
 {
-    match asked(alloc, line.command, matches) {
+    match asked(alloc, command, matches) {
         Ok(action) => Ok(action),
-        Err(fault) => Err(fault.in_command(line.name)),
+        Err(fault) => Err(fault.in_command(name)),
     }
 }

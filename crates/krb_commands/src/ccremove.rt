@@ -111,7 +111,7 @@ fn ended_by<B: Allocator>(
 
 // The image of a cache that is rewritten without the tickets at those places. One that may be changed refuses no
 // rewrite.
-fn cut<A: Allocator>(mut cache: Ccache<A>, places: &[u32]) -> Result<Vec<u8, A>, NoMemory>
+fn cut<A: Allocator + Copy>(mut cache: Ccache<A>, places: &[u32]) -> Result<Vec<u8, A>, NoMemory>
     ensures { IfOk result (λ image. image.items ≡ image_of (cache_after cache.state places.now)) }
 {
     cache.remove_all(places);

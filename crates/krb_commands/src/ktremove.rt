@@ -209,11 +209,7 @@ fn remove<'a, A: Allocator + Copy, B: Allocator>(
         }));
     }
     keytab.remove_all(&selected.places);
-    Ok(save_unless(
-        options.dry_run,
-        keytab.into_image(),
-        selected.text,
-    ))
+    Ok(save_unless(options.dry_run, keytab.into_image(), selected.text))
 }
 
 impl<'f, A: Allocator + Copy, B: Allocator> Command<A> for RemoveEntries<'f, B> {

@@ -53,7 +53,7 @@ fn command_action<'a>(
 ) -> Result<Action<'a>, WordFault<'a>> {
     for line in COMMANDS {
         if let Some(found) = matches.subcommand_matches(line.name) {
-            return action_of(alloc, line, &Matched(found));
+            return action_of(alloc, line.command, line.name, &Matched(found));
         }
     }
     Err(WordFault::of(Mistake::NoCommand))
