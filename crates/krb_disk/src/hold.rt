@@ -23,7 +23,6 @@ use crate::seen::Seen;
 use crate::target::{Target, find_target};
 use krb_files::Cause;
 use std::alloc::Allocator;
-use std::io::ErrorKind;
 use std::rt;
 
 /// A file that this program alone may change, among all that hold a file before they change it: it has
@@ -167,12 +166,7 @@ where
 {
     fill(calls, new_file, bytes, seen.file())?;
     check(calls, new_file, target.path(), seen)?;
-    match calls.rename(new_file, target, bytes) {
-        Err(error) if error.kind() == ErrorKind::ResourceBusy => {
-            Err(DiskFault::Failed(Cause::MountPoint))
-        }
-        renamed => Ok(renamed?),
-    }
+    calls.rename(new_file, target, bytes)
 }
 
 impl<R: rt::Files + rt::Clock + Alloc> Hold<R>

@@ -19,9 +19,11 @@ use crate::read::read_file;
 use crate::seen::Seen;
 use crate::stage::Stage;
 use crate::target::Target;
+use krb_files::Cause;
 use std::alloc::Allocator;
 use std::fs::{self, OpenFile};
-use std::{io, rt};
+use std::io::{self, ErrorKind};
+use std::rt;
 
 /// How many bytes a file that is loaded to be changed may gain before its image moves.
 const ROOM_TO_GROW: u64 = 131_072;
@@ -79,7 +81,7 @@ impl<R: rt::Files + Alloc> Calls<'_, R> {
         file: &mut NewFile<String<R::A>, R::File>,
         target: &Target<R::A>,
         bytes: &[u8],
-    ) -> io::Result<()>
+    ) -> Result<(), DiskFault>
         requires quiet { IsQuiet file.old.stage }
         requires filled { IsFilled (new_path (path_buf_bytes target.now.path)) bytes.now file.old }
         ensures ok { OnOk result (self.new.saved.entries
@@ -87,7 +89,12 @@ impl<R: rt::Files + Alloc> Calls<'_, R> {
         ensures err { OnErr result (self.new.saved.entries ≡ self.old.saved.entries) }
     {
         file.stage = Stage::Lost;
-        fs::rename(self.rt, &file.path, target.path())?;
+        match fs::rename(self.rt, &file.path, target.path()) {
+            Err(error) if error.kind() == ErrorKind::ResourceBusy => {
+                return Err(DiskFault::Failed(Cause::MountPoint));
+            }
+            renamed => renamed?,
+        }
         self.saved = Log::with(&self.saved, target.name().as_bytes(), bytes);
         Ok(())
     }

@@ -2,7 +2,7 @@
 
 use super::is;
 use refusing::{Refusing, refuse_each};
-use std::alloc::{AllocError, Allocator};
+use std::alloc::{AllocError, Allocator, Global};
 use std::test::Fail;
 use wiping::Wiping;
 
@@ -11,41 +11,50 @@ fn is_granted<A: Allocator>(heap: &Refusing<A>) -> bool {
     Box::new(heap, 7u8).is_ok()
 }
 
+/// Which request is refused, whether all from it on are, which of three are granted, and how many of them come to the
+/// allocator below.
+type Plan = (u64, bool, [bool; 3], u64);
+
+const PLANS: &[Plan] = &[
+    (0, false, [true, true, true], 3),
+    (1, false, [false, true, true], 2),
+    (3, false, [true, true, false], 2),
+    (0, true, [false, false, false], 0),
+    (1, true, [false, false, false], 0),
+    (3, true, [true, true, false], 2),
+];
+
+/// Whether three requests go as planned.
+fn is_kept(below: &Refusing<Global>, heap: &Refusing<&Refusing<Global>>, plan: &Plan) -> bool {
+    let (nth, all_from_it, wanted, passed) = *plan;
+    below.refuse(0);
+    if all_from_it {
+        heap.refuse_from(nth);
+    } else {
+        heap.refuse(nth);
+    }
+    let granted = [is_granted(heap), is_granted(heap), is_granted(heap)];
+    let was_refused = heap.refused();
+    heap.grant();
+    granted == wanted
+        && was_refused == (passed < 3)
+        && (heap.requests(), below.requests()) == (3, passed)
+}
+
 /// Those that are refused are counted too, and do not come to the allocator below.
 #[test]
 fn requests_are_refused_as_told(rt: HostRuntime) -> Result<(), Fail> {
     let below = Refusing::new(rt.alloc());
     let heap = Refusing::new(&below);
-    for (nth, on, wanted, passed) in [
-        (0, false, [true, true, true], 3),
-        (1, false, [false, true, true], 2),
-        (3, false, [true, true, false], 2),
-        (0, true, [false, false, false], 0),
-        (1, true, [false, false, false], 0),
-        (3, true, [true, true, false], 2),
-    ] {
-        below.refuse(0);
-        if on {
-            heap.refuse_from(nth);
-        } else {
-            heap.refuse(nth);
-        }
-        let granted = [is_granted(&heap), is_granted(&heap), is_granted(&heap)];
-        is(granted == wanted, "granted")?;
-        is(heap.refused() == (passed < 3), "refused")?;
-        heap.grant();
-        is(
-            (heap.requests(), below.requests()) == (3, passed),
-            "requests",
-        )?;
+    let mut are_kept = true;
+    for plan in PLANS {
+        are_kept = are_kept && is_kept(&below, &heap, plan);
     }
-    let held = Box::new(&heap, 7u8);
-    is((heap.live_blocks(), below.live_blocks()) == (1, 1), "held")?;
-    drop(held);
-    is(
-        (heap.live_blocks(), below.live_blocks()) == (0, 0),
-        "given back",
-    )
+    let block = Box::new(&heap, 7u8);
+    let held = (heap.live_blocks(), below.live_blocks());
+    drop(block);
+    let left = (heap.live_blocks(), below.live_blocks());
+    is(are_kept && held == (1, 1) && left == (0, 0), "requests")
 }
 
 /// A vector that grows, is cloned and shrinks, and a box of no bytes.

@@ -1,11 +1,10 @@
 //! Caches and their changes. Images are spelled out by hand.
 
-mod as_mit;
 mod memory;
 
 use krb_ccache::{Ccache, Cred};
 use krb_wire::Limits;
-use std::alloc::{Allocator, Global};
+use std::alloc::Allocator;
 use std::test::Fail;
 
 // Written out by hand from MIT's description of the cache file format.
@@ -46,19 +45,24 @@ fn is(holds: bool, otherwise: &'static str) -> Result<(), Fail> {
     }
 }
 
-fn joined<A: Allocator>(alloc: A, parts: &[&[u8]]) -> Result<Vec<u8, A>, Fail> {
-    let mut bytes = Vec::new(alloc);
+// Whether an image is these parts, one after the other.
+fn is_spelled(image: &[u8], parts: &[&[u8]]) -> bool {
+    let mut rest = image;
     for part in parts {
-        bytes.extend_from_slice(part)?;
+        match rest.strip_prefix(*part) {
+            Some(after) => rest = after,
+            None => return false,
+        }
     }
-    Ok(bytes)
+    rest.is_empty()
 }
 
-fn is_spelled(alloc: Global, image: &[u8], parts: &[&[u8]]) -> Result<bool, Fail> {
-    Ok(image == joined(alloc, parts)?.as_slice())
-}
-
-fn opened<A: Allocator>(image: Vec<u8, A>) -> Result<Ccache<A>, Fail> {
+// The cache `CACHE` with that room.
+fn cache_in<A: Allocator>(alloc: A, room: usize) -> Result<Ccache<A>, Fail> {
+    let mut image = Vec::with_capacity(alloc, room)?;
+    for part in CACHE {
+        image.extend_from_slice(part)?;
+    }
     match Ccache::open(image, Limits::usual()) {
         Ok(cache) => Ok(cache),
         Err(_) => Err(Fail::from("no cache")),
@@ -66,6 +70,6 @@ fn opened<A: Allocator>(image: Vec<u8, A>) -> Result<Ccache<A>, Fail> {
 }
 
 // A copy of the ticket at 40.
-fn ticket_of<A: Allocator + Copy, B: Allocator>(alloc: A, cache: &Ccache<B>) -> Option<Cred<A>> {
+fn ticket_of<A: Allocator + Copy>(alloc: A, cache: &Ccache<A>) -> Option<Cred<A>> {
     cache.cred_at(40)?.copy(alloc).ok()
 }

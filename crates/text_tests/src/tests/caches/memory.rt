@@ -1,8 +1,8 @@
 //! Each request for memory refused in turn: the cache is as it was, until the call is granted all that it asks for.
 
 use super::{
-    CACHE, CONFIG, HEADER, KEY, KRBTGT, NO_TIMES, OWNER, REMOVED, TICKET, TIMES, TWO, is,
-    is_spelled, opened, ticket_of,
+    CACHE, CONFIG, HEADER, KEY, KRBTGT, NO_TIMES, OWNER, REMOVED, TICKET, TIMES, TWO, cache_in, is,
+    is_spelled, ticket_of,
 };
 use krb_ccache::{Ccache, Cred, Setting};
 use krb_walk::{Event, Session};
@@ -164,43 +164,31 @@ fn is_done<A: Allocator + Copy>(alloc: A, cache: &mut Ccache<A>, call: Call) -> 
     }
 }
 
-fn cache_in<A: Allocator>(alloc: A, room: usize) -> Result<Ccache<A>, Fail> {
-    let mut image = Vec::with_capacity(alloc, room)?;
-    for part in CACHE {
-        image.extend_from_slice(part)?;
+// Whether a call was done and left what its row says, or was not done and left the cache as it was.
+fn is_right<A: Allocator>(cache: &Ccache<A>, row: &Row, is_refused: bool) -> bool {
+    let value = cache.config(SETTING.key, SETTING.principal);
+    if is_refused {
+        value == Some(b"2".as_slice()) && is_spelled(cache.image(), CACHE)
+    } else {
+        value == row.value && is_spelled(cache.image(), row.image)
     }
-    opened(image)
 }
 
-fn looks<A: Allocator>(
-    cache: &Ccache<A>,
-    plain: Global,
-    image: &[&[u8]],
-    value: Option<&[u8]>,
-) -> Result<bool, Fail> {
-    let held = cache.config(SETTING.key, SETTING.principal);
-    Ok(held == value && is_spelled(plain, cache.image(), image)?)
-}
-
-fn refuse(heap: &Refusing<Global>, nth: u64, plain: Global, row: &Row) -> Result<(), Fail> {
+fn refuse(heap: &Refusing<Global>, nth: u64, row: &Row) -> Result<(), Fail> {
     let mut cache = cache_in(heap, row.room)?;
     heap.refuse(nth);
-    let done = is_done(heap, &mut cache, row.call);
-    is(done != heap.refused(), row.name)?;
-    let looks_so = if done {
-        looks(&cache, plain, row.image, row.value)?
-    } else {
-        looks(&cache, plain, CACHE, Some(b"2"))?
-    };
-    is(looks_so, row.name)
+    let is_done = is_done(heap, &mut cache, row.call);
+    let is_refused = heap.refused();
+    is(
+        is_done != is_refused && is_right(&cache, row, is_refused),
+        row.name,
+    )
 }
 
 #[test]
 fn each_request_of_each_call(rt: HostRuntime) -> Result<(), Fail> {
     for row in &ROWS {
-        let requests = refuse_each(rt.alloc(), 100, |heap, nth| {
-            refuse(heap, nth, rt.alloc(), row)
-        })?;
+        let requests = refuse_each(rt.alloc(), 100, |heap, nth| refuse(heap, nth, row))?;
         is(requests == row.requests, row.name)?;
     }
     Ok(())
@@ -227,9 +215,8 @@ const EDITED: &[&[u8]] = &[
 ];
 
 // A walk of one step, an addition, the removal of what the walk was given, and a rewrite.
-fn events<A: Allocator + Copy>(alloc: A, plain: Global) -> Result<[Event<Cred<A>>; 5], Fail> {
-    let cache = cache_in(plain, 392)?;
-    let ticket = ticket_of(alloc, &cache).ok_or("no ticket")?;
+fn events<A: Allocator + Copy>(alloc: A, cache: &Ccache<A>) -> Result<[Event<Cred<A>>; 5], Fail> {
+    let ticket = ticket_of(alloc, cache).ok_or("no ticket")?;
     Ok([
         Event::Start,
         Event::Step(0),
@@ -240,17 +227,19 @@ fn events<A: Allocator + Copy>(alloc: A, plain: Global) -> Result<[Event<Cred<A>
 }
 
 // No event is left out after a refusal, and none is done twice.
-fn run(heap: &Refusing<Global>, nth: u64, plain: Global) -> Result<(), Fail> {
-    let events = events(heap, plain)?;
+fn run(heap: &Refusing<Global>, nth: u64) -> Result<(), Fail> {
     let cache = cache_in(heap, 392)?;
+    let events = events(heap, &cache)?;
     heap.refuse(nth);
     let (cache, ran_out) = edited(heap, cache, &events)?;
-    is(ran_out == heap.refused(), "another end")?;
-    is(is_spelled(plain, cache.image(), EDITED)?, "another image")
+    is(
+        ran_out == heap.refused() && is_spelled(cache.image(), EDITED),
+        "another end",
+    )
 }
 
 #[test]
 fn each_request_of_a_run(rt: HostRuntime) -> Result<(), Fail> {
-    let requests = refuse_each(rt.alloc(), 100, |heap, nth| run(heap, nth, rt.alloc()))?;
+    let requests = refuse_each(rt.alloc(), 100, run)?;
     is(requests >= 4, "fewer requests")
 }

@@ -1,0 +1,31 @@
+"""Caches that MIT's library changed: the same changes give the same bytes here."""
+from __future__ import annotations
+
+from peers.corpus import files
+from runs.harness import Report, files_in, folder_of, run
+
+# A value, and where the file that MIT's library set it in ended before and after it.
+VALUES = (
+    ("config k - ", 22, 137),
+    ("config sp - a b", 137, 256),
+    (f"config long - {'v' * 200}", 380, 698),
+    ("config odd=key(x) a/b@R 1", 698, 832),
+)
+
+
+def changed(program: str, image: bytes, line: str) -> bytes:
+    """What ccedit makes of a cache by a line."""
+    with folder_of({"c": image}) as folder:
+        run(program, ("ccedit", "c"), folder, f"{line}\n".encode())
+        return files_in(folder)["c"]
+
+
+def check(report: Report, program: str) -> None:
+    """Removes a ticket, and sets each value behind those before it."""
+    caches = dict(files("ccache"))
+    got = changed(program, caches["lib-removed-before"], "cut 120")
+    report.check("a removed ticket as MIT's library marks it", [] if got == caches["lib-removed"] else [got.hex()])
+    image = caches["lib-config-values"]
+    for line, start, end in VALUES:
+        got = changed(program, image[:start], line)
+        report.check(f"{line} as MIT's library sets it", [] if got == image[:end] else [got.hex()])
