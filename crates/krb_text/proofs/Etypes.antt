@@ -12,7 +12,7 @@ IsRead e = IfSome e.named (λ x. etype_in x.0 ≡ Some e.number)
 
 -- each name is
 table_is_read : AllByRecursion IsRead etype_table
-unfolding etype_table
+unfolding etype_table etype_in
 table_is_read = (tt, (tt, (tt, (tt, (tt, (tt, (tt, (refl, (refl, (refl, (refl, (refl, (refl, (refl, (refl, tt)))))))))))))))
 
 -- so is the text of what has a name

@@ -72,5 +72,5 @@ first_of (Some n) other = Some n
 first_of None other = other
 
 -- the number that a text has: that of a name, in just these letters, or that of one to ten decimal digits with a value below 2 ^ 16
-abbrev pub etype_in : List ℕ → Option ℕ
+unfoldable pub etype_in : List ℕ → Option ℕ
 etype_in text = first_of (number_named text) (number_in 16 text)

@@ -106,6 +106,7 @@ fn named(text: &[u8]) -> Option<u16>
 
 /// The number of an encryption type from its name, in just these letters, or from one
 /// to ten decimal digits with a value up to 65,535.
+#[tactic(auto, unfolding(crate::specs::Etype::etype_in))]
 pub fn etype_of(text: &[u8]) -> Option<u16>
     ensures { result ≡ etype_in text.now }
 {

@@ -1,8 +1,7 @@
 //! Changes of keytabs.
 
-ghost use Rattle.std.specs.Prelude.{◌≡◌, ◌<◌, ◌^◌, None};
+ghost use Rattle.std.specs.Prelude.{◌≡◌, None};
 ghost use Rattle.krb_wire.specs.NameOf.{name_of};
-ghost use Rattle.krb_keytab.specs.Form.{IsEntry};
 ghost use Rattle.krb_c.specs.KeytabChanges.{AddsNamed, ReadsBack, entry_with};
 
 use crate::heap::{Heap, heap};
@@ -10,7 +9,6 @@ use crate::keytab::HeldKeytab;
 use crate::status::NO_MEMORY;
 use crate::text::read_name;
 use krb_keytab::NewEntry;
-use krb_wire::Name;
 use std::alloc::Global;
 
 /// The numbers of an entry.
@@ -19,22 +17,6 @@ pub struct Numbers {
     pub timestamp: u32,
     pub kvno: u32,
     pub enctype: u16,
-}
-
-// Numbers of these types are below their types' ends.
-fn in_range(name_type: u32, timestamp: u32, kvno: u32, enctype: u16)
-    ensures name_type { name_type < 2 ^ 32 }
-    ensures timestamp { timestamp < 2 ^ 32 }
-    ensures kvno { kvno < 2 ^ 32 }
-    ensures enctype { enctype < 2 ^ 16 }
-{}
-
-// Each number of an entry is below its type's end.
-fn numbers_fit(entry: &NewEntry<Heap>)
-    ensures { IsEntry entry.now }
-{
-    let name_type = entry.principal.name_type();
-    in_range(name_type, entry.timestamp, entry.kvno, entry.enctype);
 }
 
 /// Adds the entry of what a text names, and tells its place.
@@ -66,6 +48,6 @@ pub fn add(
         enctype: numbers.enctype,
         key,
     };
-    numbers_fit(&entry);
+    entry.fields().numbers_fit();
     held.put(&entry, place)
 }

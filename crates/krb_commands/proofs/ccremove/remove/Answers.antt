@@ -3,7 +3,7 @@ use Rattle.std.specs.Prelude.{[], ◌==◌, if◌then◌else◌}
 use Rattle.std.specs.List.{flat_map, list_any}
 use Rattle.krb_ccache.specs.Store.{CacheState, PlacedCredential, image_of, placed_credentials}
 use Rattle.krb_audit.specs.Tickets.{asked_tickets, names_ticket, removed_ticket_line}
-use Rattle.krb_commands.specs.declared.action.TicketOptions.{TicketOptions}
+use Rattle.krb_commands.specs.declared.ccremove.TicketOptions.{TicketOptions}
 use Rattle.krb_commands.specs.declared.verdict.Verdict.TheVariants.{Well}
 use Rattle.krb_commands.specs.Ccremove.{cache_after, none_verdict, places, removes}
 use Rattle.krb_commands.specs.Effects.{Effect, Displays, saves_unless, text}
