@@ -1,6 +1,6 @@
 -- The lines of ktutil, one after the other.
-use Rattle.std.proofs.Common.{◌≡◌, ◌≢◌, inl, inr, ℕ, ◌⊎◌, ◌+◌, ◌-◌, ◌<◌, ◌≤◌, List, [], ◌∷◌, ◌++◌, length, length-append, take, take-add, drop, refl, sym, ap, subst, ◌∙◌, append_assoc, append-nil, arith}
-use Rattle.std.specs.Prelude.{IsFalse, max, slice_range, ◌||◌, Option, None, Some, IfSome, Err}
+use Rattle.std.proofs.Common.{◌≡◌, ◌≢◌, inl, inr, ℕ, ◌⊎◌, ◌+◌, ◌-◌, ◌<◌, ◌≤◌, Bool, true, false, List, [], ◌∷◌, ◌++◌, length, length-append, take, take-add, drop, refl, sym, ap, subst, ◌∙◌, append_assoc, append-nil, arith}
+use Rattle.std.specs.Prelude.{IsFalse, max, not, slice_range, ◌||◌, ◌&&◌, Option, None, Some, IfSome, Err}
 use Rattle.std.proofs.lemmas.List.{drop_all, take-append-le}
 use Rattle.std.proofs.lemmas.Grind.{flat_map-append}
 use Rattle.std.specs.Io.KnownBytes.{Consumes}
@@ -9,12 +9,13 @@ use Rattle.krb_files.specs.declared.files.Files.{Ghosts}
 use Rattle.krb_files.specs.declared.files.LoadFault.{LoadFault}
 use Rattle.krb_files.specs.declared.files.LoadFault.TheVariants.{Missing, TooLarge}
 use Rattle.krb_files.specs.Bytes.{Watch}
+use Rattle.krb_commands.specs.declared.ktutil.line_end.LineEnd.{LineEnd}
 use Rattle.krb_commands.specs.ErrorOutput.{ErrorWatch}
 use Rattle.krb_commands.specs.Troubles.{input_trouble, trouble_status}
 use Rattle.krb_commands.specs.InputLines.{InputParts, lines_of, with_newlines, HasLines, KeepsLines, TakesLine, EndsInNewline, IsSpent, HasNoMore, HasNone, CutsOff, Grows, IsWithin}
 use Rattle.krb_files.specs.Loading.{most_bytes}
-use Rattle.krb_commands.specs.KtutilTalk.{Talk, first_talk, AreFirst, Continues, Stops, TalksOver}
-use Rattle.krb_commands.specs.Ktutil.{RunsKtutil}
+use Rattle.krb_commands.specs.KtutilTalk.{Talk, first_talk, goes_on, AreFirst, Continues, HandlesLine, Stops, TalksOver}
+use Rattle.krb_commands.specs.Ktutil.{HandlesNext, RunsKtutil}
 use Rattle.krb_commands.proofs.KtutilHonestly.{honest_after, honest_in_line, honest_unread}
 use Rattle.krb_files.specs.Reader.{Source, ConsumesAtMost, is_failed}
 use Rattle.krb_commands.specs.Runs.{SaysEnd}
@@ -94,6 +95,13 @@ module _ {F : Type 0} (trait : Ghosts F) (now : ℕ) where
   TalksOver-line number (first ∷ lines) next line old mid new talked is continues =
       let after_first : next ≡ number + 1 + length lines = omega (arith, is) in
       (talked.0, talked.1, TalksOver-line (number + 1) lines next line talked.0 mid new talked.2 after_first continues)
+
+-- the end of a line decides whether another comes, and the output
+pub HandlesNext-by : {F : Type 0} (trait : Ghosts F) (now number : ℕ) (line : List ℕ) (old new : Talk F) (ending : LineEnd) → HandlesLine trait now number line old new ending
+    → (goes failed : Bool) → goes ≡ goes_on ending → failed ≡ new.out.failed → HandlesNext trait now number line old new (goes && not failed)
+HandlesNext-by trait now number line old new ending handles true true goes is = record { ending = ending; handles = handles; why = inr (sym is) }
+HandlesNext-by trait now number line old new ending handles true false goes is = record { ending = ending; handles = handles; goes_on = sym goes; well = sym is }
+HandlesNext-by trait now number line old new ending handles false failed goes is = record { ending = ending; handles = handles; why = inl (sym goes) }
 
 -- lines were handled, and the run goes on
 pub record Underway {F : Type 0} (trait : Ghosts F) (now : ℕ) (given : Option (List ℕ)) (first : Talk F) (input : InputParts) (left : Option (List ℕ)) (number : ℕ) (talk : Talk F) : Type 0 where
