@@ -25,10 +25,6 @@ use Rattle.krb_commands.specs.Runs.{Run, SaysEnd, EndsRun, ends_by}
 use Rattle.krb_commands.specs.Troubles.{Ending, ending_status, input_trouble, trouble_status}
 use Rattle.krb_commands.proofs.Shown.{SaysEnd-nothing}
 
--- a line that quits or misses memory is the last
-memory_stops : (ending : LineEnd) → ending ≡ end.NoMemory → IsTrue (goes_on ending) → ⊥
-memory_stops ending is goes = false≢true (subst (λ (e : LineEnd). IsTrue (goes_on e)) is goes)
-
 -- what a line comes to, by its parts
 outcome_is : (due : Outcome) (state : KtutilState) (text : List ℕ) (ending : LineEnd) → state ≡ due.state → text ≡ due.text → ending ≡ due.ending → due ≡ record { state = state; text = text; ending = ending }
 outcome_is due state text ending state_is text_is ending_is = rw (state_is, text_is, ending_is) refl
@@ -44,29 +40,21 @@ talk_lasts trait now number (line ∷ lines) old new talked =
     (λ h. others.0 (first.0 h), omega (arith, le, le'))
 
 module _ {F : Type 0} (trait : Ghosts F) (now : ℕ) (final : Run) where
-  -- what is due of a line that comes to that, and of those after it
-  abbrev NextDue : ℕ → List ℕ → List (List ℕ) → Outcome → FileMap → TalkDue
-  NextDue number line more due files =
-      if goes_on due.ending
-      then due_after (named_in line) (Some number) (line_run number due.ending due.text) (talk_due final now (number + 1) more due.state files)
+  -- what is due of a line that comes to that, and of those after it, if it goes on
+  abbrev NextDue : ℕ → List ℕ → List (List ℕ) → Bool → Outcome → FileMap → TalkDue
+  NextDue number line more goes due files =
+      if goes then due_after (named_in line) (Some number) (line_run number due.ending due.text) (talk_due final now (number + 1) more due.state files)
       else last_due (named_in line) (Some number) (line_run number due.ending due.text) files
 
-  choose : (goes b : Bool) (x y : TalkDue) → goes ≡ b → (if goes then x else y) ≡ (if b then x else y)
-  choose goes b x y is = ap (λ (g : Bool). if g then x else y) is
-
-  module _ (number : ℕ) (line : List ℕ) (more : List (List ℕ)) (old new : KtutilState) (files files' : F) (text : List ℕ) (ending : LineEnd)
-      (due : ShowsDue trait (follow (trait.file files) (plan_of old now line)) files files' old new [] text ending) where
-    next_is : talk_due final now number (line ∷ more) old (trait.file files) ≡ NextDue number line more (record { state = new; text = text; ending = ending }) (trait.file files')
-    next_is =
-        let effect = follow (trait.file files) (plan_of old now line) in
-        ap (λ (o : Outcome). NextDue number line more o (line_files (trait.file files) effect)) (outcome_is (line_outcome old effect) new text ending due.shows.state_is due.shows.appended due.shows.ending_is)
-        ∙ ap (NextDue number line more (record { state = new; text = text; ending = ending })) (sym (fun_ext due.files_are))
-
-    due_goes_on : IsTrue (goes_on ending) → talk_due final now number (line ∷ more) old (trait.file files) ≡ due_after (named_in line) (Some number) (line_run number ending text) (talk_due final now (number + 1) more new (trait.file files'))
-    due_goes_on goes = next_is ∙ choose (goes_on ending) true _ _ goes
-
-    due_stops : IsFalse (goes_on ending) → talk_due final now number (line ∷ more) old (trait.file files) ≡ last_due (named_in line) (Some number) (line_run number ending text) (trait.file files')
-    due_stops stops = next_is ∙ choose (goes_on ending) false _ _ stops
+  due_by : (number : ℕ) (line : List ℕ) (more : List (List ℕ)) (old new : KtutilState) (files files' : F) (text : List ℕ) (ending : LineEnd)
+      → ShowsDue trait (follow (trait.file files) (plan_of old now line)) files files' old new [] text ending → (goes : Bool) → goes_on ending ≡ goes
+      → talk_due final now number (line ∷ more) old (trait.file files) ≡ NextDue number line more goes (record { state = new; text = text; ending = ending }) (trait.file files')
+  due_by number line more old new files files' text ending due goes is =
+      let effect = follow (trait.file files) (plan_of old now line) in
+      let came : Outcome = record { state = new; text = text; ending = ending } in
+      ap (λ (o : Outcome). NextDue number line more (goes_on o.ending) o (line_files (trait.file files) effect)) (outcome_is (line_outcome old effect) new text ending due.shows.state_is due.shows.appended due.shows.ending_is)
+      ∙ ap (NextDue number line more (goes_on ending) came) (sym (fun_ext due.files_are))
+      ∙ ap (λ (b : Bool). NextDue number line more b came (trait.file files')) is
 
   worst_after : (a b run due status new : ℕ) → new ≡ max b due → b ≡ max a status → status ≡ run → new ≡ max a (max run due)
   worst_after a b run due status new new_is b_is is = omega (arith, new_is, b_is, is)
@@ -99,11 +87,11 @@ module _ {F : Type 0} (trait : Ghosts F) (now : ℕ) (final : Run) where
       let others = talk_due final now (number + 1) more mid.state (trait.file mid.files) in
       elim honestly.comes [
         | inl shows ↦ subst (λ (d : TalkDue). LeavesDueUnlessFailed trait d old new)
-            (sym (due_goes_on number line more old.state mid.state old.files mid.files handles.text continues.ending shows continues.goes_on))
+            (sym (due_by number line more old.state mid.state old.files mid.files handles.text continues.ending shows true continues.goes_on))
             (leaves_after (named_in line) (Some number) run handles.status old mid new others handles.ends continues.well handles.worst le le' rest)
         | inr fails ↦ elim fails.why [
           | inl call ↦ inl (count-more (trait.failure_count old.files) (trait.failure_count mid.files) (trait.failure_count new.files) le' call.0)
-          | inr spent ↦ absurd (memory_stops continues.ending spent continues.goes_on)
+          | inr spent ↦ absurd (false≢true (subst (λ (e : LineEnd). IsTrue (goes_on e)) spent continues.goes_on))
         ]
       ]
 
@@ -142,7 +130,7 @@ module _ {F : Type 0} (trait : Ghosts F) (now : ℕ) (final : Run) where
       let handles = stops.handles in
       elim stops.why [
         | inl not ↦ subst (λ (d : TalkDue). LeavesDueUnlessFailed trait d last new)
-            (sym (due_stops number line more last.state new.state last.files new.files handles.text stops.ending due not))
+            (sym (due_by number line more last.state new.state last.files new.files handles.text stops.ending due false not))
             (close_by (named_in line) (Some number) (line_run number stops.ending handles.text) handles.status last new handles.ends handles.worst new.out.failed refl)
         | inr failed ↦ inr (inl failed)
       ]
