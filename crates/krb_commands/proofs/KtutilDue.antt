@@ -1,275 +1,227 @@
--- What a plan of ktutil comes to with honest files, and what its line spares.
-use Rattle.std.proofs.Common.{◌≡◌, ◌≢◌, ◌⊎◌, inl, inr, ◌∙◌, ℕ, ◌<◌, ◌≤◌, ◌^◌, ◌-◌, Bool, true, false, List, [], ◌++◌, Option, Some, None, is_some, length, refl, sym, ap, subst, cond, arith}
+-- What a line of ktutil comes to that was handled by its plan.
+use Rattle.std.proofs.Common.{◌≡◌, ◌≢◌, ◌⊎◌, inl, inr, ◌∙◌, ℕ, ◌≤◌, Bool, true, false, List, [], ◌∷◌, ◌++◌, Option, Some, None, is_some, length, refl, sym, ap, subst, cond, arith}
 use Rattle.std.specs.Prelude.{Result, Ok, Err}
-use Rattle.std.specs.Str.{bytes_eq}
+use Rattle.std.proofs.lemmas.Bool.{true≢false}
 use Rattle.std.proofs.lemmas.List.{append-nil}
-use Rattle.std.proofs.lemmas.Bool.{true≢false, cases_lt}
-use Rattle.std.proofs.lemmas.Slice.Eq.{bytes_eq-Decides}
 use Rattle.krb_walk.specs.Store.{fault_of}
 use Rattle.krb_walk.specs.declared.refusal.Code.{Code}
+use Rattle.krb_walk.specs.declared.refusal.Code.TheVariants as code
 use Rattle.krb_keytab.specs.Store.{KeytabState, store_of}
-use Rattle.krb_files.specs.declared.files.LoadFault.{LoadFault}
 use Rattle.krb_files.specs.declared.files.LoadFault.TheVariants as load
 use Rattle.krb_files.specs.declared.files.SaveFault.{SaveFault}
 use Rattle.krb_files.specs.declared.files.SaveFault.TheVariants as save
 use Rattle.krb_files.specs.declared.files.Files.{Ghosts}
+use Rattle.krb_files.specs.Files.{SameFiles}
+use Rattle.krb_files.specs.Loading.{Answer, SavesFile}
+use Rattle.krb_files.specs.Plan.{Ends, Holds, Loads, by, follow}
+use Rattle.krb_files.proofs.PlanLaws.{comes, count-trans, loaded-lasts, same-trans, with_bytes-set}
 use Rattle.krb_text.specs.declared.line_fault.LineFault.{LineFault}
 use Rattle.krb_commands.specs.declared.ktutil.line_end.LineEnd.{LineEnd}
 use Rattle.krb_commands.specs.declared.ktutil.line_end.LineEnd.TheVariants as end
-use Rattle.krb_files.specs.Files.{FileMap, SameFiles, SetsFile, CountsFailure, loaded}
-use Rattle.krb_commands.specs.KtutilCommand.{Awaited, Command, Skip, ListSlots, ReadFile, WriteFile, AwaitKey, DeleteSlot, ClearList, Quit, command_of}
 use Rattle.krb_commands.specs.declared.loading.NoKeytab.{NoKeytab}
-use Rattle.krb_files.specs.Loading.{most_bytes, LoadsFile, SavesFile}
+use Rattle.krb_commands.specs.declared.loading.NoKeytab.TheVariants.{Load, Open}
 use Rattle.krb_commands.specs.Loading.{keytab_of, keytab_or_new}
-use Rattle.krb_commands.specs.KtutilPlan.{KtutilState, Outcome, Plan, Ends, Loads, Saves, stays, save_end, with_entries, with_added, saved_as, written_to, key_line, with_key, command_plan, plan_by, plan_of}
-use Rattle.krb_commands.specs.KtutilFiles.{Shows, Follows, Begins, Handles}
-use Rattle.krb_commands.specs.KtutilHonest.{with_bytes, Followed, follow, ShowsDue, FailsCall, Spends, HandlesHonestly, Spares}
+use Rattle.krb_commands.specs.KtutilCommand.{Awaited, Command, Skip, ListSlots, ReadFile, WriteFile, AwaitKey, DeleteSlot, ClearList, Quit, command_of}
+use Rattle.krb_commands.specs.KtutilPlan.{KtutilState, Outcome, LineEffect, ComesTo, Saves, LinePlan, kept, line_faults, no_keytab_end, save_end, with_entries, with_added, saved_as, stays, written_to, key_line, with_key, command_plan, plan_by, plan_of}
+use Rattle.krb_commands.specs.KtutilFiles.{Shows, RunsOut, Settles, Handles}
+use Rattle.krb_commands.specs.KtutilHonest.{ShowsDue, FailsBy, FailsCall, HandlesHonestly, Spares, TellsMemory}
 
 -- ---- plans of lines
 
--- an answer without bytes ends the plan with its fault, and after a save nothing is done; only a line that is done has other entries
-abbrev Careful : KtutilState → Plan → Type 0
-Careful s (Ends due) = due.ending ≢ end.Done → due.state.entries ≡ s.entries
-Careful s (Loads name then_) =
-    (then_ (Err load.Failed) ≡ stays s (end.Load load.Failed))
-    × (then_ (Err load.NoMemory) ≡ stays s end.NoMemory)
-    × ((answer : Result (List ℕ) LoadFault) → Careful s (then_ answer))
-Careful s (Saves name bytes then_) = (answer : Result (Unit {0}) SaveFault) → then_ answer ≡ stays s (save_end answer)
+-- a line that is not done leaves the entries; one that is out of memory tells so, leaves the state and prints nothing
+pub record IsCareful (s : KtutilState) (due : Outcome) : Type 0 where
+  pub entries : due.ending ≢ end.Done → due.state.entries ≡ s.entries
+  pub told : TellsMemory due.ending
+  pub memory : due.ending ≡ end.NoMemory → (due.state ≡ s) × (due.text ≡ [])
 
-careful-either : (b : Bool) (s : KtutilState) (p q : Plan) → Careful s p → Careful s q → Careful s (cond b p q)
-careful-either true s p q first second = first
-careful-either false s p q first second = second
+-- so is each outcome that a plan comes to without a save
+abbrev Careful : KtutilState → LineEffect → Type 0
+Careful s (ComesTo takes due) = IsCareful s due
+Careful s (Saves name bytes) = Unit {0}
 
-careful-entries : (s : KtutilState) (given : Result KeytabState NoKeytab) → Careful s (with_entries s given)
-careful-entries s (Ok k) = careful-either (is_some (fault_of (store_of k))) s _ _ (λ _. refl) (λ differ. absurd (differ refl))
-careful-entries s (Err why) = λ _. refl
+abbrev AllCareful : KtutilState → LinePlan → Type 0
+AllCareful s (Ends effect) = Careful s effect
+AllCareful s (Holds held name plan) = AllCareful s plan
+AllCareful s (Loads name then_) = (answer : Answer) → AllCareful s (then_ answer)
 
-careful-saved : (s : KtutilState) (name : List ℕ) (added : Result KeytabState Code) → Careful s (saved_as s name added)
-careful-saved s name (Ok k) = λ _. refl
-careful-saved s name (Err refused) = λ _. refl
+no_keytab-told : (why : NoKeytab) → TellsMemory (no_keytab_end why)
+no_keytab-told (Load load.Missing) = tt
+no_keytab-told (Load load.TooLarge) = tt
+no_keytab-told (Load load.Failed) = tt
+no_keytab-told (Load load.NoMemory) = tt
+no_keytab-told (Open fault) = tt
 
-careful-written : (s : KtutilState) (name : List ℕ) (given : Result KeytabState NoKeytab) → Careful s (written_to s name given)
-careful-written s name (Ok k) = careful-saved s name (with_added s.entries (Ok k))
-careful-written s name (Err why) = λ _. refl
+save-told : (answer : Result (Unit {0}) SaveFault) → TellsMemory (save_end answer)
+save-told (Ok done) = tt
+save-told (Err save.Failed) = tt
+save-told (Err save.NoMemory) = tt
 
-careful-command : (s : KtutilState) (command : Result Command LineFault) → Careful s (command_plan s command)
-careful-command s (Err fault) = λ _. refl
-careful-command s (Ok Skip) = λ _. refl
-careful-command s (Ok (ListSlots columns)) = λ _. refl
-careful-command s (Ok (ReadFile name)) = (refl, refl, λ answer. careful-entries s (keytab_of s.order answer))
-careful-command s (Ok (WriteFile name)) = (refl, refl, λ answer. careful-written s name (keytab_or_new s.order answer))
-careful-command s (Ok (AwaitKey awaited)) = λ _. refl
-careful-command s (Ok (DeleteSlot slot)) = λ differ. absurd (differ refl)
-careful-command s (Ok ClearList) = λ differ. absurd (differ refl)
-careful-command s (Ok Quit) = λ _. refl
+module _ (s : KtutilState) where
+  kept-careful : (ending : LineEnd) → TellsMemory ending → IsCareful s (kept s ending)
+  kept-careful ending told = record { entries = λ _. refl; told = told; memory = λ _. (refl, refl) }
 
-careful-key : (s : KtutilState) (x : Awaited) (now : ℕ) (key : Result (List ℕ) LineFault) → Careful s (with_key s x now key)
-careful-key s x now (Ok key) = λ differ. absurd (differ refl)
-careful-key s x now (Err fault) = λ _. refl
+  done-careful : (state : KtutilState) (text : List ℕ) → IsCareful s (record { state = state; text = text; ending = end.Done })
+  done-careful state text = record { entries = λ differ. absurd (differ refl); told = tt; memory = λ is. absurd cc }
 
-careful-by : (s : KtutilState) (now : ℕ) (line : List ℕ) (awaited : Option Awaited) → Careful s (plan_by s now line awaited)
-careful-by s now line None = careful-command s (command_of line (length s.entries))
-careful-by s now line (Some x) = careful-key s x now (key_line x.enctype line)
+  either-careful : (b : Bool) (p q : LineEffect) → Careful s p → Careful s q → Careful s (cond b p q)
+  either-careful true p q first second = first
+  either-careful false p q first second = second
 
--- the plan of a line is so
-careful : (s : KtutilState) (now : ℕ) (line : List ℕ) → Careful s (plan_of s now line)
-careful s now line = careful-by s now line s.awaited
+  entries-careful : (given : Result KeytabState NoKeytab) → Careful s (with_entries s given)
+  entries-careful (Ok k) = either-careful (is_some (fault_of (store_of k))) _ _ (kept-careful (end.Refused code.Damaged) tt) (done-careful _ [])
+  entries-careful (Err why) = kept-careful (no_keytab_end why) (no_keytab-told why)
 
--- ---- files
+  saved-careful : (name : List ℕ) (added : Result KeytabState Code) → Careful s (saved_as s name added)
+  saved-careful name (Ok k) = tt
+  saved-careful name (Err refused) = kept-careful (end.Refused refused) tt
 
-same-twice : (first second third : FileMap) → SameFiles first second → SameFiles second third → SameFiles first third
-same-twice first second third same then_ name = then_ name ∙ same name
+  written-careful : (name : List ℕ) (given : Result KeytabState NoKeytab) → Careful s (written_to s name given)
+  written-careful name (Ok k) = saved-careful name (with_added s.entries (Ok k))
+  written-careful name (Err why) = kept-careful (no_keytab_end why) (no_keytab-told why)
 
-with_bytes-cons : (b : Bool) (files files' : FileMap) (name bytes other : List ℕ) → bytes_eq other name ≡ b → SetsFile files name bytes files' → files' other ≡ cond b (Some bytes) (files other)
-with_bytes-cons true files files' name bytes other e sets = ap files' ((bytes_eq-Decides other name).0 e) ∙ sets.this
-with_bytes-cons false files files' name bytes other e sets = sets.others other (λ same. true≢false (sym ((bytes_eq-Decides other name).1 same) ∙ e))
+  command-careful : (command : Result Command LineFault) → AllCareful s (command_plan s command)
+  command-careful (Err fault) = kept-careful (end.Fault fault) tt
+  command-careful (Ok Skip) = done-careful s []
+  command-careful (Ok (ListSlots columns)) = done-careful s _
+  command-careful (Ok (ReadFile name)) = λ answer. entries-careful (keytab_of s.order answer)
+  command-careful (Ok (WriteFile name)) = λ answer. written-careful name (keytab_or_new s.order answer)
+  command-careful (Ok (AwaitKey awaited)) = done-careful _ []
+  command-careful (Ok (DeleteSlot slot)) = done-careful _ []
+  command-careful (Ok ClearList) = done-careful _ []
+  command-careful (Ok Quit) = kept-careful end.Quit tt
 
--- after a file was set the files are those with it
-with_bytes-set : (files files' before : FileMap) (name bytes : List ℕ) → SameFiles before files → SetsFile files name bytes files' → SameFiles (with_bytes before name bytes) files'
-with_bytes-set files files' before name bytes same sets other =
-    with_bytes-cons (bytes_eq other name) files files' name bytes other refl sets ∙ ap (λ (x : Option (List ℕ)). cond (bytes_eq other name) (Some bytes) x) (same other)
+  key-careful : (x : Awaited) (now : ℕ) (key : Result (List ℕ) LineFault) → Careful s (with_key s x now key)
+  key-careful x now (Ok key) = done-careful _ []
+  key-careful x now (Err fault) = record { entries = λ _. refl; told = tt; memory = λ is. absurd cc }
 
-counts-at : (first second third : ℕ) → (first < second) ⊎ (second ≤ first) → first ≤ second → second ≤ third → second ≡ 2 ^ 64 - 1 → CountsFailure first third
-counts-at first second third (inl lt) le le' is = inl (omega (arith, le', lt))
-counts-at first second third (inr ge) le le' is = inr (omega (arith, le, ge, is))
+  plan-careful : (now : ℕ) (line : List ℕ) (awaited : Option Awaited) → AllCareful s (plan_by s now line awaited)
+  plan-careful now line None = command-careful (command_of line (length s.entries))
+  plan-careful now line (Some x) = key-careful x now (key_line x.enctype line)
 
--- a failure that is counted later
-counts-later : (first second third : ℕ) → first ≤ second → second ≤ third → CountsFailure second third → CountsFailure first third
-counts-later first second third le le' (inl lt) = inl (omega (arith, le, lt))
-counts-later first second third le le' (inr is) = counts-at first second third (cases_lt first second) le le' is
+  by-careful : (plan : LinePlan) (answers : List Answer) → AllCareful s plan → Careful s (by (line_faults s) plan answers)
+  by-careful (Ends effect) answers careful = careful
+  by-careful (Holds held name plan) answers careful = by-careful plan answers careful
+  by-careful (Loads name then_) [] careful = kept-careful end.NoMemory tt
+  by-careful (Loads name then_) (Ok bytes ∷ answers) careful = by-careful (then_ (Ok bytes)) answers (careful (Ok bytes))
+  by-careful (Loads name then_) (Err load.Missing ∷ answers) careful = by-careful (then_ (Err load.Missing)) answers (careful (Err load.Missing))
+  by-careful (Loads name then_) (Err load.TooLarge ∷ answers) careful = by-careful (then_ (Err load.TooLarge)) answers (careful (Err load.TooLarge))
+  by-careful (Loads name then_) (Err load.Failed ∷ answers) careful = kept-careful (end.Load load.Failed) tt
+  by-careful (Loads name then_) (Err load.NoMemory ∷ answers) careful = kept-careful end.NoMemory tt
 
--- nothing was printed
-prints-nothing : (out out' : List ℕ) → out' ≡ out ++ [] → out' ≡ out
-prints-nothing out out' is = is ∙ append-nil out
+-- where no key is awaited a line is a command
+pub plan_of-none : (s : KtutilState) (now : ℕ) (line : List ℕ) (awaited : Option Awaited) → is_some awaited ≡ false → plan_by s now line awaited ≡ command_plan s (command_of line (length s.entries))
+plan_of-none s now line None is = refl
+plan_of-none s now line (Some x) is = absurd (true≢false is)
 
-module _ {F : Type 0} (trait : Ghosts F) where
-  -- calls of files leave them honest, and the count of failures falls nowhere
-  pub record Lasts (files files' : F) : Type 0 where
-    pub honest : trait.is_honest files → trait.is_honest files'
-    pub count : trait.failure_count files ≤ trait.failure_count files'
+-- files stay honest, and the count of failures falls nowhere
+abbrev pub Lasts : {F : Type 0} → Ghosts F → F → F → Type 0
+Lasts trait files files' = (trait.is_honest files → trait.is_honest files') × (trait.failure_count files ≤ trait.failure_count files')
 
-  lasts-none : (files files' : F) → files' ≡ files → Lasts files files'
-  lasts-none files files' is = subst (λ (x : F). Lasts files x) (sym is) (record { honest = λ h. h; count = omega arith })
+module _ {F : Type 0} (trait : Ghosts F) (old new : KtutilState) (out out' : List ℕ) (ending : LineEnd) where
+  -- an outcome that is so was shown
+  abbrev ShowsCareful : Type 0
+  ShowsCareful = (due : Outcome) × IsCareful old due × Shows new out out' ending due
 
-  lasts-twice : (files between files' : F) → Lasts files between → Lasts between files' → Lasts files files'
-  lasts-twice files between files' first second =
+  settles-careful : (effect : LineEffect) (files files' : F) → Careful old effect → Settles trait old new out out' ending effect files files' → ShowsCareful
+  settles-careful (ComesTo takes due) files files' careful settles = (due, careful, settles.1)
+  settles-careful (Saves name bytes) files files' careful settles = (kept old (save_end settles.0), kept-careful old (save_end settles.0) (save-told settles.0), settles.1.1)
+
+  settles-lasts : (effect : LineEffect) (files files' : F) → Settles trait old new out out' ending effect files files' → Lasts trait files files'
+  settles-lasts (ComesTo takes due) files files' settles = subst (λ (x : F). Lasts trait files x) (sym settles.0) (λ h. h, omega arith)
+  settles-lasts (Saves name bytes) files files' settles = (settles.1.0.honest, settles.1.0.count)
+
+  fails-call : (files files' : F) (fault : LineEnd) → SameFiles (trait.file files) (trait.file files') → Shows new out out' ending (kept old fault) → FailsBy trait files files' fault → FailsCall trait files files' old new out out' ending
+  fails-call files files' fault same shows why = record {
+    why = subst (FailsBy trait files files') (sym shows.ending_is) why;
+    state_is = shows.state_is;
+    same = shows.appended ∙ append-nil out;
+    same_files = same;
+  }
+
+  due-spared : (effect : LineEffect) (files files' : F) → ShowsDue trait effect files files' old new out out' ending → ending ≢ end.Done → SameFiles (trait.file files) (trait.file files')
+  due-spared (ComesTo takes due) files files' shows differ = shows.files_are
+  due-spared (Saves name bytes) files files' shows differ = absurd (differ shows.shows.ending_is)
+
+  module _ (files between files' : F) (same : SameFiles (trait.file files) (trait.file between)) (le : trait.failure_count files ≤ trait.failure_count between) (h : trait.is_honest between) where
+    same-then : files' ≡ between → SameFiles (trait.file files) (trait.file files')
+    same-then is = subst (λ (x : F). SameFiles (trait.file files) (trait.file x)) (sym is) same
+
+    saved-comes : (name bytes : List ℕ) (answer : Result (Unit {0}) SaveFault) → SavesFile trait between name bytes answer files' → Shows new out out' ending (kept old (save_end answer))
+        → ShowsDue trait (Saves name bytes) files files' old new out out' ending ⊎ FailsCall trait files files' old new out out' ending
+    saved-comes name bytes (Ok done) saves shows = inl (record { shows = shows; files_are = with_bytes-set (trait.file files) (trait.file between) (trait.file files') name bytes same (saves.sets h) })
+    saved-comes name bytes (Err save.Failed) saves shows =
+        let counted = count-trans (trait.failure_count files) (trait.failure_count between) (trait.failure_count files') le saves.count (saves.failed refl) in
+        inr (fails-call files files' (end.Save save.Failed) (same-trans (trait.file files) (trait.file between) (trait.file files') same (saves.same h)) shows (inl (counted, inr refl)))
+    saved-comes name bytes (Err save.NoMemory) saves shows =
+        inr (fails-call files files' end.NoMemory (same-trans (trait.file files) (trait.file between) (trait.file files') same (saves.same h)) shows (inr refl))
+
+    settles-comes : (effect : LineEffect) → Settles trait old new out out' ending effect between files' → ShowsDue trait effect files files' old new out out' ending ⊎ FailsCall trait files files' old new out out' ending
+    settles-comes (ComesTo takes due) settles = inl (record { shows = settles.1; files_are = same-then settles.0 })
+    settles-comes (Saves name bytes) settles = saved-comes name bytes settles.0 settles.1.0 settles.1.1
+
+    -- a line that ended with its loads
+    stays-fails : (fault : LineEnd) → FailsBy trait files between fault → Settles trait old new out out' ending (stays old fault) between files' → FailsCall trait files files' old new out out' ending
+    stays-fails fault why settles = fails-call files files' fault (same-then settles.0) settles.1 (subst (λ (x : F). FailsBy trait files x fault) (sym settles.0) why)
+
+-- ---- a line that was handled by its plan
+
+module _ {F : Type 0} (trait : Ghosts F) {old new : KtutilState} {out out' : List ℕ} {ending : LineEnd} where
+  handles-careful : (now : ℕ) (line : List ℕ) {files files' : F} → Handles trait (plan_of old now line) files files' old new out out' ending → ShowsCareful trait old new out out' ending
+  handles-careful now line {files' = files'} handles =
+      settles-careful trait old new out out' ending handles.effect handles.between files' (elim handles.made [
+        | inl is ↦ subst (Careful old) (sym is) (by-careful old (plan_of old now line) handles.answers (plan-careful old now line old.awaited))
+        | inr spent ↦ subst (Careful old) (sym spent.1) (kept-careful old end.NoMemory tt)
+      ]) handles.settles
+
+  -- what it tells of memory
+  pub handles_memory : (now : ℕ) (line : List ℕ) {files files' : F} → Handles trait (plan_of old now line) files files' old new out out' ending → TellsMemory ending × (ending ≡ end.NoMemory → RunsOut old new out out' ending)
+  handles_memory now line handles =
+      let shown = handles-careful now line handles in
+      let shows = shown.2 in (
+        subst TellsMemory (sym shows.ending_is) shown.1.told,
+        λ is.
+            let still = shown.1.memory (sym shows.ending_is ∙ is) in
+            record { state_is = shows.state_is ∙ still.0; same = shows.appended ∙ ap (λ (text : List ℕ). out ++ text) still.1 ∙ append-nil out; ending_is = is },
+      )
+
+  pub handles_lasts : {plan : LinePlan} {files files' : F} → Handles trait plan files files' old new out out' ending → Lasts trait files files'
+  handles_lasts {plan = plan} {files = files} {files' = files'} handles =
+      let first = loaded-lasts trait (line_faults old) plan files handles.answers handles.between handles.loads in
+      let second = settles-lasts trait old new out out' ending handles.effect handles.between files' handles.settles in
       let le = first.count in
-      let le' = second.count in
-      record { honest = λ h. second.honest (first.honest h); count = omega (arith, le, le') }
+      let le' = second.1 in
+      (λ h. second.0 (first.honest h), omega (arith, le, le'))
 
-  follows-lasts : (plan : Plan) (files files' : F) (Holds : Outcome → Type 0) → Follows trait plan files files' Holds → Lasts files files'
-  follows-lasts (Ends due) files files' Holds f = lasts-none files files' f.0
-  follows-lasts (Loads name then_) files files' Holds f =
-      let loads = f.1.1.0 in
-      lasts-twice files f.1.0 files' (record { honest = loads.honest; count = loads.count }) (follows-lasts (then_ f.0) f.1.0 files' Holds f.1.1.1)
-  follows-lasts (Saves name bytes then_) files files' Holds f =
-      let saves = f.1.1.0 in
-      lasts-twice files f.1.0 files' (record { honest = saves.honest; count = saves.count }) (follows-lasts (then_ f.0) f.1.0 files' Holds f.1.1.1)
-
-  -- where a plan was begun honest files are the same
-  pub record Leaves (files files' : F) : Type 0 where
-    pub lasts : Lasts files files'
-    pub same : trait.is_honest files → SameFiles (trait.file files) (trait.file files')
-
-  leaves-none : (files files' : F) → files' ≡ files → Leaves files files'
-  leaves-none files files' is = record { lasts = lasts-none files files' is; same = subst (λ (x : F). trait.is_honest files → SameFiles (trait.file files) (trait.file x)) (sym is) (λ h name. refl) }
-
-  leaves-loaded : (files files' : F) (name : List ℕ) (answer : Result (List ℕ) LoadFault) → LoadsFile trait files name answer files' → Leaves files files'
-  leaves-loaded files files' name answer loads = record { lasts = record { honest = loads.honest; count = loads.count }; same = loads.same }
-
-  begins-leaves : (plan : Plan) (files files' : F) → Begins trait plan files files' → Leaves files files'
-  begins-leaves (Ends due) files files' is = leaves-none files files' is
-  begins-leaves (Loads name then_) files files' (inl is) = leaves-none files files' is
-  begins-leaves (Loads name then_) files files' (inr loaded_) = leaves-loaded files files' name loaded_.0 loaded_.1
-  begins-leaves (Saves name bytes then_) files files' is = leaves-none files files' is
-
-  handles-lasts : (plan : Plan) (files files' : F) (old new : KtutilState) (out out' : List ℕ) (ending : LineEnd) → Handles trait plan files files' old new out out' ending → Lasts files files'
-  handles-lasts plan files files' old new out out' ending (inl follows) = follows-lasts plan files files' (Shows new out out' ending) follows
-  handles-lasts plan files files' old new out out' ending (inr spent) = (begins-leaves plan files files' spent.0).lasts
-
-  -- ---- honest files
-
-  module _ (s new : KtutilState) (out out' : List ℕ) (ending : LineEnd) where
-    -- what a line comes to whose plan was followed from the files
-    abbrev Comes : Followed → F → F → Type 0
-    Comes due files files' =
-        ShowsDue trait files' new out out' ending due
-        ⊎ FailsCall trait files files' s new out out' ending
-        ⊎ Spends trait files files' s new out out' ending
-
-    abbrev FollowsTo : Plan → F → F → Type 0
-    FollowsTo plan files files' = Follows trait plan files files' (Shows new out out' ending)
-
-    comes-failed : (files between files' : F) (fault : LineEnd) → (fault ≡ end.Load load.Failed) ⊎ (fault ≡ end.Save save.Failed)
-        → CountsFailure (trait.failure_count files) (trait.failure_count between) → SameFiles (trait.file files) (trait.file between)
-        → FollowsTo (stays s fault) between files' → FailsCall trait files files' s new out out' ending
-    comes-failed files between files' fault fails counts same f = subst (λ (x : F). FailsCall trait files x s new out out' ending) (sym f.0) (record {
-      counts = counts;
-      ending_is = subst (λ (e : LineEnd). (e ≡ end.Load load.Failed) ⊎ (e ≡ end.Save save.Failed)) (sym f.1.ending_is) fails;
-      state_is = f.1.state_is;
-      same = prints-nothing out out' f.1.appended;
-      same_files = same;
-    })
-
-    comes-spent : (files between files' : F) → SameFiles (trait.file files) (trait.file between) → FollowsTo (stays s end.NoMemory) between files' → Spends trait files files' s new out out' ending
-    comes-spent files between files' same f = subst (λ (x : F). Spends trait files x s new out out' ending) (sym f.0) (record {
-      runs_out = record { state_is = f.1.state_is; same = prints-nothing out out' f.1.appended; ending_is = f.1.ending_is };
-      same_files = same;
-    })
-
-    -- what comes of files that a load left comes of those before it
-    comes-later : (due : Followed) (files between files' : F) → trait.failure_count files ≤ trait.failure_count between → trait.failure_count between ≤ trait.failure_count files'
-        → SameFiles (trait.file files) (trait.file between) → Comes due between files' → Comes due files files'
-    comes-later due files between files' le le' same (inl shows) = inl shows
-    comes-later due files between files' le le' same (inr (inl fails)) = inr (inl (record {
-      ending_is = fails.ending_is;
-      state_is = fails.state_is;
-      same = fails.same;
-      counts = counts-later (trait.failure_count files) (trait.failure_count between) (trait.failure_count files') le le' fails.counts;
-      same_files = same-twice (trait.file files) (trait.file between) (trait.file files') same fails.same_files;
-    }))
-    comes-later due files between files' le le' same (inr (inr spends)) = inr (inr (record { runs_out = spends.runs_out; same_files = same-twice (trait.file files) (trait.file between) (trait.file files') same spends.same_files }))
-
-    comes-loaded : (name : List ℕ) (then_ : Result (List ℕ) LoadFault → Plan) (before : FileMap) (files between files' : F) (answer : Result (List ℕ) LoadFault)
-        → trait.is_honest files → Careful s (Loads name then_) → SameFiles before (trait.file files) → LoadsFile trait files name answer between → FollowsTo (then_ answer) between files'
-        → (FollowsTo (then_ (loaded (before name) most_bytes)) between files' → Comes (follow before (then_ (loaded (before name) most_bytes))) between files')
-        → (answer ≡ Err load.Failed) ⊎ (answer ≡ Err load.NoMemory) ⊎ (answer ≡ loaded (trait.file files name) most_bytes)
-        → Comes (follow before (Loads name then_)) files files'
-    comes-loaded name then_ before files between files' answer h c same loads f next (inl failed) =
-        inr (inl (comes-failed files between files' (end.Load load.Failed) (inl refl) (loads.failed failed) (loads.same h) (subst (λ (p : Plan). FollowsTo p between files') (ap then_ failed ∙ c.0) f)))
-    comes-loaded name then_ before files between files' answer h c same loads f next (inr (inl spent)) =
-        inr (inr (comes-spent files between files' (loads.same h) (subst (λ (p : Plan). FollowsTo p between files') (ap then_ spent ∙ c.1) f)))
-    comes-loaded name then_ before files between files' answer h c same loads f next (inr (inr stands)) =
-        let is : answer ≡ loaded (before name) most_bytes = stands ∙ ap (λ (x : Option (List ℕ)). loaded x most_bytes) (same name) in
-        comes-later (follow before (Loads name then_)) files between files' loads.count (follows-lasts (then_ answer) between files' _ f).count (loads.same h)
-        (next (subst (λ (a : Result (List ℕ) LoadFault). FollowsTo (then_ a) between files') is f))
-
-    comes-saved : (name bytes : List ℕ) (then_ : Result (Unit {0}) SaveFault → Plan) (before : FileMap) (files between files' : F) (answer : Result (Unit {0}) SaveFault)
-        → trait.is_honest files → Careful s (Saves name bytes then_) → SameFiles before (trait.file files) → SavesFile trait files name bytes answer between → FollowsTo (stays s (save_end answer)) between files'
-        → Comes (follow before (Saves name bytes then_)) files files'
-    comes-saved name bytes then_ before files between files' (Ok done) h c same saves f = inl (subst (λ (p : Plan). ShowsDue trait files' new out out' ending (follow (with_bytes before name bytes) p)) (sym (c (Ok tt))) (record {
-      shows = f.1;
-      files_are = subst (λ (x : F). SameFiles (with_bytes before name bytes) (trait.file x)) (sym f.0) (with_bytes-set (trait.file files) (trait.file between) before name bytes same (saves.sets h));
-    }))
-    comes-saved name bytes then_ before files between files' (Err save.Failed) h c same saves f =
-        inr (inl (comes-failed files between files' (end.Save save.Failed) (inr refl) (saves.failed refl) (saves.same h) f))
-    comes-saved name bytes then_ before files between files' (Err save.NoMemory) h c same saves f = inr (inr (comes-spent files between files' (saves.same h) f))
-
-    comes : (plan : Plan) (before : FileMap) (files files' : F) → trait.is_honest files → Careful s plan → SameFiles before (trait.file files) → FollowsTo plan files files' → Comes (follow before plan) files files'
-    comes (Ends due) before files files' h c same f = inl (record { shows = f.1; files_are = subst (λ (x : F). SameFiles before (trait.file x)) (sym f.0) same })
-    comes (Loads name then_) before files files' h c same f =
-        let loads = f.1.1.0 in
-        let answer = loaded (before name) most_bytes in
-        comes-loaded name then_ before files f.1.0 files' f.0 h c same loads f.1.1.1
-        (comes (then_ answer) before f.1.0 files' (loads.honest h) (c.2 answer) (same-twice before (trait.file files) (trait.file f.1.0) same (loads.same h)))
-        (loads.stands h)
-    comes (Saves name bytes then_) before files files' h c same f =
-        comes-saved name bytes then_ before files f.1.0 files' f.0 h c same f.1.1.0 (subst (λ (p : Plan). FollowsTo p f.1.0 files') (c f.0) f.1.1.1)
-
-  -- a line that was handled by its plan, over honest files
-  pub handles_honestly : (now : ℕ) (line : List ℕ) (files files' : F) (old new : KtutilState) (out out' : List ℕ) (ending : LineEnd)
-      → Handles trait (plan_of old now line) files files' old new out out' ending → trait.is_honest files → HandlesHonestly trait (plan_of old now line) files files' old new out out' ending
-  handles_honestly now line files files' old new out out' ending (inl follows) h = record {
-    honest = (follows-lasts (plan_of old now line) files files' (Shows new out out' ending) follows).honest h;
-    comes = comes old new out out' ending (plan_of old now line) (trait.file files) files files' h (careful old now line) (λ name. refl) follows;
-  }
-  handles_honestly now line files files' old new out out' ending (inr spent) h =
-      let leaves = begins-leaves (plan_of old now line) files files' spent.0 in
-      record { honest = leaves.lasts.honest h; comes = inr (inr (record { runs_out = spent.2; same_files = leaves.same h })) }
-
-  -- ---- what is spared
-
-  -- files after a save, by its end
-  spared-saved : (name bytes : List ℕ) (files between : F) (answer : Result (Unit {0}) SaveFault) → SavesFile trait files name bytes answer between → trait.is_honest files → save_end answer ≢ end.Done → SameFiles (trait.file files) (trait.file between)
-  spared-saved name bytes files between (Ok done) saves h differ = absurd (differ refl)
-  spared-saved name bytes files between (Err fault) saves h differ = saves.same h
-
-  spares-followed : (plan : Plan) (s new : KtutilState) (files files' : F) (out out' : List ℕ) (ending : LineEnd) → Careful s plan → Follows trait plan files files' (Shows new out out' ending) → Spares trait files files' s new ending
-  spares-followed (Ends due) s new files files' out out' ending c f = record {
-    entries = λ differ. ap (λ (x : KtutilState). x.entries) f.1.state_is ∙ c (λ same. differ (f.1.ending_is ∙ same));
-    files_are = λ h differ. (leaves-none files files' f.0).same h;
-  }
-  spares-followed (Loads name then_) s new files files' out out' ending c f =
-      let loads = f.1.1.0 in
-      let rest = spares-followed (then_ f.0) s new f.1.0 files' out out' ending (c.2 f.0) f.1.1.1 in
-      record { entries = rest.entries; files_are = λ h differ. same-twice (trait.file files) (trait.file f.1.0) (trait.file files') (loads.same h) (rest.files_are (loads.honest h) differ) }
-  spares-followed (Saves name bytes then_) s new files files' out out' ending c f =
-      let stayed = subst (λ (p : Plan). Follows trait p f.1.0 files' (Shows new out out' ending)) (c f.0) f.1.1.1 in
+  -- over honest files
+  pub handles_honestly : {plan : LinePlan} {files files' : F} → Handles trait plan files files' old new out out' ending → trait.is_honest files → HandlesHonestly trait plan files files' old new out out' ending
+  handles_honestly {plan = plan} {files = files} {files' = files'} handles h =
+      let between = handles.between in
+      let first = loaded-lasts trait (line_faults old) plan files handles.answers between handles.loads in
+      let settle = λ (effect : LineEffect) (is : handles.effect ≡ effect). subst (λ (e : LineEffect). Settles trait old new out out' ending e between files') is handles.settles in
+      let fails = λ (fault : LineEnd) (why : FailsBy trait files between fault) (is : handles.effect ≡ stays old fault).
+      stays-fails trait old new out out' ending files between files' (first.same h) first.count (first.honest h) fault why (settle (stays old fault) is) in
       record {
-        entries = λ differ. ap (λ (x : KtutilState). x.entries) stayed.1.state_is;
-        files_are = λ h differ. subst (λ (x : F). SameFiles (trait.file files) (trait.file x)) (sym stayed.0) (spared-saved name bytes files f.1.0 f.0 f.1.1.0 h (λ same. differ (stayed.1.ending_is ∙ same)));
+        honest = (handles_lasts handles).0 h;
+        comes = elim handles.made [
+          | inl is ↦ elim (comes trait (line_faults old) plan (trait.file files) files handles.answers between h (λ name. refl) handles.loads) [
+            | inl due ↦ settles-comes trait old new out out' ending files between files' (first.same h) first.count (first.honest h) (follow (trait.file files) plan) (settle (follow (trait.file files) plan) (is ∙ due))
+            | inr other ↦ elim other [
+              | inl failed ↦ inr (fails (end.Load load.Failed) (inl (failed.0, inl refl)) (is ∙ failed.1.1))
+              | inr spent ↦ inr (fails end.NoMemory (inr refl) (is ∙ spent.1))
+            ]
+          ]
+          | inr spent ↦ inr (fails end.NoMemory (inr refl) spent.1)
+        ];
       }
 
-  -- a line that was handled by its plan
-  pub handles_spares : (now : ℕ) (line : List ℕ) (files files' : F) (old new : KtutilState) (out out' : List ℕ) (ending : LineEnd)
-      → Handles trait (plan_of old now line) files files' old new out out' ending → Spares trait files files' old new ending
-  handles_spares now line files files' old new out out' ending (inl follows) = spares-followed (plan_of old now line) old new files files' out out' ending (careful old now line) follows
-  handles_spares now line files files' old new out out' ending (inr spent) = record {
-    entries = λ differ. ap (λ (x : KtutilState). x.entries) spent.2.state_is;
-    files_are = λ h differ. (begins-leaves (plan_of old now line) files files' spent.0).same h;
-  }
-
-  -- the count of failures falls nowhere
-  pub handles_count : (plan : Plan) (files files' : F) (old new : KtutilState) (out out' : List ℕ) (ending : LineEnd)
-      → Handles trait plan files files' old new out out' ending → trait.failure_count files ≤ trait.failure_count files'
-  handles_count plan files files' old new out out' ending handles = (handles-lasts plan files files' old new out out' ending handles).count
+  -- what it spares
+  pub handles_spares : (now : ℕ) (line : List ℕ) {files files' : F} → Handles trait (plan_of old now line) files files' old new out out' ending → Spares trait files files' old new ending
+  handles_spares now line {files = files} {files' = files'} handles =
+      let shown = handles-careful now line handles in
+      record {
+        entries = λ differ. ap (λ (x : KtutilState). x.entries) shown.2.state_is ∙ shown.1.entries (λ is. differ (shown.2.ending_is ∙ is));
+        files_are = λ h differ. elim (handles_honestly handles h).comes [
+          | inl shows ↦ due-spared trait old new out out' ending (follow (trait.file files) (plan_of old now line)) files files' shows differ
+          | inr fails ↦ fails.same_files
+        ];
+      }

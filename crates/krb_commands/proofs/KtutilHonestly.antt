@@ -1,19 +1,20 @@
 -- What the lines of ktutil come to over honest files.
-use Rattle.std.proofs.Common.{◌≡◌, ◌≢◌, ◌⊎◌, inl, inr, ℕ, ◌+◌, ◌<◌, ◌≤◌, ◌-◌, ◌^◌, Bool, true, false, List, [], ◌∷◌, ◌++◌, length, refl, sym, ap, subst, ◌∙◌, append_assoc, append-nil, arith}
+use Rattle.std.proofs.Common.{◌≡◌, inl, inr, ℕ, ◌+◌, ◌≤◌, Bool, true, false, List, [], ◌∷◌, ◌++◌, length, refl, sym, ap, subst, ◌∙◌, append_assoc, append-nil, arith}
 use Rattle.std.specs.Prelude.{IsTrue, IsFalse, max, if◌then◌else◌, Option, None, Some, IfSome, Err}
 use Rattle.std.specs.Io.KnownBytes.{Appends}
-use Rattle.std.proofs.lemmas.Bool.{false≢true, cases_lt}
+use Rattle.std.proofs.lemmas.Bool.{false≢true}
 use mathlib.Core.Path.{fun_ext}
 use Rattle.krb_files.specs.declared.files.Files.{Ghosts}
 use Rattle.krb_commands.specs.declared.ktutil.line_end.LineEnd.{LineEnd}
 use Rattle.krb_commands.specs.declared.ktutil.line_end.LineEnd.TheVariants as end
 use Rattle.krb_commands.specs.ErrorOutput.{ErrorWatch}
-use Rattle.krb_files.specs.Files.{FileMap, SameFiles, CountsFailure}
-use Rattle.krb_commands.specs.KtutilPlan.{KtutilState, plan_of}
-use Rattle.krb_commands.specs.KtutilHonest.{Followed, follow, ShowsDue, HandlesHonestly}
+use Rattle.krb_files.specs.Files.{FileMap, SameFiles}
+use Rattle.krb_files.specs.Plan.{follow}
+use Rattle.krb_files.proofs.PlanLaws.{count-more, count-trans}
+use Rattle.krb_commands.specs.KtutilPlan.{KtutilState, Outcome, plan_of}
+use Rattle.krb_commands.specs.KtutilHonest.{ShowsDue, HandlesHonestly, line_files, line_outcome}
 use Rattle.krb_files.proofs.Prefixes.{Appends-nil, Appends-trans}
-use Rattle.krb_commands.proofs.KtutilMemory.{handles_memory}
-use Rattle.krb_commands.proofs.KtutilDue.{handles_honestly, handles_spares, handles_count}
+use Rattle.krb_commands.proofs.KtutilDue.{Lasts, handles_honestly, handles_lasts}
 use Rattle.krb_files.specs.declared.files.LoadFault.TheVariants as load
 use Rattle.krb_files.specs.declared.files.LoadFault.{LoadFault}
 use Rattle.krb_commands.specs.declared.trouble.Trouble.TheVariants.{NoMemory}
@@ -24,81 +25,36 @@ use Rattle.krb_commands.specs.Runs.{Run, SaysEnd, EndsRun, ends_by}
 use Rattle.krb_commands.specs.Troubles.{Ending, ending_status, input_trouble, trouble_status}
 use Rattle.krb_commands.proofs.Shown.{SaysEnd-nothing}
 
--- a failure that was counted later counts, and one that was counted before
-counts_split : (a b c : ℕ) → a ≤ b → b ≤ c → b ≡ 2 ^ 64 - 1 → (a < b) ⊎ (b ≤ a) → CountsFailure a c
-counts_split a b c le le' most (inl lt) = inl (omega (arith, lt, le'))
-counts_split a b c le le' most (inr ge) = inr (omega (arith, le, ge, most))
+-- what a line comes to, by its parts
+outcome_is : (due : Outcome) (state : KtutilState) (text : List ℕ) (ending : LineEnd) → state ≡ due.state → text ≡ due.text → ending ≡ due.ending → due ≡ record { state = state; text = text; ending = ending }
+outcome_is due state text ending state_is text_is ending_is = rw (state_is, text_is, ending_is) refl
 
-counts_later : (a b c : ℕ) → a ≤ b → b ≤ c → CountsFailure b c → CountsFailure a c
-counts_later a b c le le' (inl lt) = inl (omega (arith, le, lt))
-counts_later a b c le le' (inr most) = counts_split a b c le le' most (cases_lt a b)
-
-counts_before : (a b c : ℕ) → b ≤ c → CountsFailure a b → CountsFailure a c
-counts_before a b c le (inl lt) = inl (omega (arith, le, lt))
-counts_before a b c le (inr most) = inr most
-
--- a line that quits or misses memory is the last
-memory_stops : (ending : LineEnd) → ending ≡ end.NoMemory → IsTrue (goes_on ending) → ⊥
-memory_stops ending is goes = false≢true (subst (λ (e : LineEnd). IsTrue (goes_on e)) is goes)
-
-abbrev is_spent : LineEnd → Bool
-is_spent end.NoMemory = true
-is_spent ending = false
-
--- a line ran out of memory, or it did not
-spent_or : (ending : LineEnd) → (ending ≡ end.NoMemory) ⊎ (ending ≢ end.NoMemory)
-spent_or end.NoMemory = inl refl
-spent_or end.Done = inr (λ is. false≢true (ap is_spent is))
-spent_or end.Quit = inr (λ is. false≢true (ap is_spent is))
-spent_or (end.Fault fault) = inr (λ is. false≢true (ap is_spent is))
-spent_or (end.Refused code) = inr (λ is. false≢true (ap is_spent is))
-spent_or (end.NotAKeytab fault) = inr (λ is. false≢true (ap is_spent is))
-spent_or (end.Load fault) = inr (λ is. false≢true (ap is_spent is))
-spent_or (end.Save fault) = inr (λ is. false≢true (ap is_spent is))
-
--- it is not done then
-spent_is_not_done : (ending : LineEnd) → ending ≡ end.NoMemory → ending ≢ end.Done
-spent_is_not_done ending spent done = false≢true (ap is_spent (sym done ∙ spent))
-
--- what a plan comes to, by its parts
-followed_is : (f : Followed) (state : KtutilState) (text : List ℕ) (ending : LineEnd) (files : FileMap) → state ≡ f.outcome.state → text ≡ f.outcome.text → ending ≡ f.outcome.ending → files ≡ f.files
-    → f ≡ record { outcome = record { state = state; text = text; ending = ending; takes = f.outcome.takes }; files = files }
-followed_is f state text ending files state_is text_is ending_is files_are =
-    ap (λ (s : KtutilState). record { outcome = record { state = s; text = f.outcome.text; ending = f.outcome.ending; takes = f.outcome.takes }; files = f.files }) (sym state_is)
-    ∙ ap (λ (t : List ℕ). record { outcome = record { state = state; text = t; ending = f.outcome.ending; takes = f.outcome.takes }; files = f.files }) (sym text_is)
-    ∙ ap (λ (e : LineEnd). record { outcome = record { state = state; text = text; ending = e; takes = f.outcome.takes }; files = f.files }) (sym ending_is)
-    ∙ ap (λ (m : FileMap). record { outcome = record { state = state; text = text; ending = ending; takes = f.outcome.takes }; files = m }) (sym files_are)
+-- lines leave honest files honest, and let the count of failures fall nowhere
+talk_lasts : {F : Type 0} (trait : Ghosts F) (now number : ℕ) (lines : List (List ℕ)) (old new : Talk F) → TalksOver trait now number lines old new → Lasts trait old.files new.files
+talk_lasts {F = F} trait now number [] old new talked = subst (λ (t : Talk F). Lasts trait old.files t.files) (sym talked) (λ h. h, omega arith)
+talk_lasts trait now number (line ∷ lines) old new talked =
+    let first = handles_lasts trait talked.1.handles.handled in
+    let others = talk_lasts trait now (number + 1) lines talked.0 new talked.2 in
+    let le = first.1 in
+    let le' = others.1 in
+    (λ h. others.0 (first.0 h), omega (arith, le, le'))
 
 module _ {F : Type 0} (trait : Ghosts F) (now : ℕ) (final : Run) where
-  -- what is due of a line that comes to that, and of those after it
-  abbrev NextDue : ℕ → List ℕ → List (List ℕ) → Followed → TalkDue
-  NextDue number line more f =
-      if goes_on f.outcome.ending
-      then due_after (named_in line) (Some number) (line_run number f.outcome.ending f.outcome.text) (talk_due final now (number + 1) more f.outcome.state f.files)
-      else last_due (named_in line) (Some number) (line_run number f.outcome.ending f.outcome.text) f.files
+  -- what is due of a line that comes to that, and of those after it, if it goes on
+  abbrev NextDue : ℕ → List ℕ → List (List ℕ) → Bool → Outcome → FileMap → TalkDue
+  NextDue number line more goes due files =
+      if goes then due_after (named_in line) (Some number) (line_run number due.ending due.text) (talk_due final now (number + 1) more due.state files)
+      else last_due (named_in line) (Some number) (line_run number due.ending due.text) files
 
-  choose : (goes b : Bool) (x y : TalkDue) → goes ≡ b → (if goes then x else y) ≡ (if b then x else y)
-  choose goes b x y is = ap (λ (g : Bool). if g then x else y) is
-
-  module _ (number : ℕ) (line : List ℕ) (more : List (List ℕ)) (old : KtutilState) (before : FileMap) (files : F) (new : KtutilState) (text : List ℕ) (ending : LineEnd)
-      (shows : ShowsDue trait files new [] text ending (follow before (plan_of old now line))) where
-    next_is : NextDue number line more (follow before (plan_of old now line)) ≡ NextDue number line more (record { outcome = record { state = new; text = text; ending = ending; takes = (follow before (plan_of old now line)).outcome.takes }; files = trait.file files })
-    next_is = ap (NextDue number line more) (followed_is (follow before (plan_of old now line)) new text ending (trait.file files) shows.shows.state_is shows.shows.appended shows.shows.ending_is (fun_ext shows.files_are))
-
-    due_goes_on : IsTrue (goes_on ending) → talk_due final now number (line ∷ more) old before ≡ due_after (named_in line) (Some number) (line_run number ending text) (talk_due final now (number + 1) more new (trait.file files))
-    due_goes_on goes = next_is ∙ choose (goes_on ending) true _ _ goes
-
-    due_stops : IsFalse (goes_on ending) → talk_due final now number (line ∷ more) old before ≡ last_due (named_in line) (Some number) (line_run number ending text) (trait.file files)
-    due_stops stops = next_is ∙ choose (goes_on ending) false _ _ stops
-
-  -- lines let the count of failures fall nowhere
-  talk_count : (number : ℕ) (lines : List (List ℕ)) (old new : Talk F) → TalksOver trait now number lines old new → trait.failure_count old.files ≤ trait.failure_count new.files
-  talk_count number [] old new talked = subst (λ (t : Talk F). trait.failure_count old.files ≤ trait.failure_count t.files) (sym talked) (omega arith)
-  talk_count number (line ∷ lines) old new talked =
-      let handles = talked.1.handles in
-      let first = handles_count trait (plan_of old.state now line) old.files talked.0.files old.state talked.0.state [] handles.text talked.1.ending handles.handled in
-      let others = talk_count (number + 1) lines talked.0 new talked.2 in
-      omega (arith, first, others)
+  due_by : (number : ℕ) (line : List ℕ) (more : List (List ℕ)) (old new : KtutilState) (files files' : F) (text : List ℕ) (ending : LineEnd)
+      → ShowsDue trait (follow (trait.file files) (plan_of old now line)) files files' old new [] text ending → (goes : Bool) → goes_on ending ≡ goes
+      → talk_due final now number (line ∷ more) old (trait.file files) ≡ NextDue number line more goes (record { state = new; text = text; ending = ending }) (trait.file files')
+  due_by number line more old new files files' text ending due goes is =
+      let effect = follow (trait.file files) (plan_of old now line) in
+      let came : Outcome = record { state = new; text = text; ending = ending } in
+      ap (λ (o : Outcome). NextDue number line more (goes_on o.ending) o (line_files (trait.file files) effect)) (outcome_is (line_outcome old effect) new text ending due.shows.state_is due.shows.appended due.shows.ending_is)
+      ∙ ap (NextDue number line more (goes_on ending) came) (sym (fun_ext due.files_are))
+      ∙ ap (λ (b : Bool). NextDue number line more b came (trait.file files')) is
 
   worst_after : (a b run due status new : ℕ) → new ≡ max b due → b ≡ max a status → status ≡ run → new ≡ max a (max run due)
   worst_after a b run due status new new_is b_is is = omega (arith, new_is, b_is, is)
@@ -107,7 +63,7 @@ module _ {F : Type 0} (trait : Ghosts F) (now : ℕ) (final : Run) where
   leaves_after : (file : List ℕ) (which : Option ℕ) (run : Run) (status : ℕ) (old mid new : Talk F) (due : TalkDue) → EndsRun file which run old.out mid.out old.err mid.err status → IsFalse mid.out.failed → mid.status ≡ max old.status status
       → trait.failure_count old.files ≤ trait.failure_count mid.files → trait.failure_count mid.files ≤ trait.failure_count new.files
       → LeavesDueUnlessFailed trait due mid new → LeavesDueUnlessFailed trait (due_after file which run due) old new
-  leaves_after file which run status old mid new due ends well worst le le' (inl counts) = inl (counts_later (trait.failure_count old.files) (trait.failure_count mid.files) (trait.failure_count new.files) le le' counts)
+  leaves_after file which run status old mid new due ends well worst le le' (inl counts) = inl (count-trans (trait.failure_count old.files) (trait.failure_count mid.files) (trait.failure_count new.files) le le' counts)
   leaves_after file which run status old mid new due ends well worst le le' (inr (inl failed)) = inr (inl failed)
   leaves_after file which run status old mid new due ends well worst le le' (inr (inr leaves)) =
       let done = ends.shows.done well in
@@ -131,27 +87,26 @@ module _ {F : Type 0} (trait : Ghosts F) (now : ℕ) (final : Run) where
       let others = talk_due final now (number + 1) more mid.state (trait.file mid.files) in
       elim honestly.comes [
         | inl shows ↦ subst (λ (d : TalkDue). LeavesDueUnlessFailed trait d old new)
-            (sym (due_goes_on number line more old.state (trait.file old.files) mid.files mid.state handles.text continues.ending shows continues.goes_on))
+            (sym (due_by number line more old.state mid.state old.files mid.files handles.text continues.ending shows true continues.goes_on))
             (leaves_after (named_in line) (Some number) run handles.status old mid new others handles.ends continues.well handles.worst le le' rest)
-        | inr other ↦ elim other [
-          | inl fails ↦ inl (counts_before (trait.failure_count old.files) (trait.failure_count mid.files) (trait.failure_count new.files) le' fails.counts)
-          | inr spends ↦ absurd (memory_stops continues.ending spends.runs_out.ending_is continues.goes_on)
+        | inr fails ↦ elim fails.why [
+          | inl call ↦ inl (count-more (trait.failure_count old.files) (trait.failure_count mid.files) (trait.failure_count new.files) le' call.0)
+          | inr spent ↦ absurd (false≢true (subst (λ (e : LineEnd). IsTrue (goes_on e)) spent continues.goes_on))
         ]
       ]
 
   -- lines were handled, and what is due of those after them was left
   talk_honestly : (lines : List (List ℕ)) (number : ℕ) (more : List (List ℕ)) (old last new : Talk F) → TalksOver trait now number lines old last → trait.is_honest old.files
       → trait.failure_count last.files ≤ trait.failure_count new.files
-      → ((next : ℕ) → next ≡ number + length lines → trait.is_honest last.files → LeavesDueUnlessFailed trait (talk_due final now next more last.state (trait.file last.files)) last new)
+      → ((next : ℕ) → next ≡ number + length lines → LeavesDueUnlessFailed trait (talk_due final now next more last.state (trait.file last.files)) last new)
       → LeavesDueUnlessFailed trait (talk_due final now number (lines ++ more) old.state (trait.file old.files)) old new
   talk_honestly [] number more old last new talked honest le rest =
-      subst (λ (t : Talk F). trait.is_honest t.files → LeavesDueUnlessFailed trait (talk_due final now number more t.state (trait.file t.files)) t new) talked (rest number (omega arith)) honest
+      subst (λ (t : Talk F). LeavesDueUnlessFailed trait (talk_due final now number more t.state (trait.file t.files)) t new) talked (rest number (omega arith))
   talk_honestly (line ∷ lines) number more old last new talked honest le rest =
       let mid = talked.0 in
-      let handles = talked.1.handles in
-      let honestly = handles_honestly trait now line old.files mid.files old.state mid.state [] handles.text talked.1.ending handles.handled honest in
-      let first = handles_count trait (plan_of old.state now line) old.files mid.files old.state mid.state [] handles.text talked.1.ending handles.handled in
-      let others = talk_count (number + 1) lines mid last talked.2 in
+      let honestly = handles_honestly trait talked.1.handles.handled honest in
+      let first = (handles_lasts trait talked.1.handles.handled).1 in
+      let others = (talk_lasts trait now (number + 1) lines mid last talked.2).1 in
       line_honestly number line (lines ++ more) old mid new talked.1 honestly first (omega (arith, others, le))
       (talk_honestly lines (number + 1) more mid last new talked.2 honestly.honest le (λ next is. rest next (omega (arith, is))))
 
@@ -168,48 +123,32 @@ module _ {F : Type 0} (trait : Ghosts F) (now : ℕ) (final : Run) where
         status = worst ∙ ap (max last.status) (ends.told.status_is ∙ ap ending_status done.1);
       }))
 
-  stop_honestly : (number : ℕ) (line : List ℕ) (more : List (List ℕ)) (last new : Talk F) (stops : Stops trait now number line last new) → stops.ending ≢ end.NoMemory → trait.is_honest last.files
+  stop_honestly : (number : ℕ) (line : List ℕ) (more : List (List ℕ)) (last new : Talk F) (stops : Stops trait now number line last new)
+      → ShowsDue trait (follow (trait.file last.files) (plan_of last.state now line)) last.files new.files last.state new.state [] stops.handles.text stops.ending
       → LeavesDueUnlessFailed trait (talk_due final now number (line ∷ more) last.state (trait.file last.files)) last new
-  stop_honestly number line more last new stops unspent honest =
+  stop_honestly number line more last new stops due =
       let handles = stops.handles in
-      let honestly = handles_honestly trait now line last.files new.files last.state new.state [] handles.text stops.ending handles.handled honest in
-      let run = line_run number stops.ending handles.text in
-      elim honestly.comes [
-        | inl shows ↦ elim stops.why [
-          | inl not ↦ subst (λ (d : TalkDue). LeavesDueUnlessFailed trait d last new)
-              (sym (due_stops number line more last.state (trait.file last.files) new.files new.state handles.text stops.ending shows not))
-              (close_by (named_in line) (Some number) run handles.status last new handles.ends handles.worst new.out.failed refl)
-          | inr failed ↦ inr (inl failed)
-        ]
-        | inr other ↦ elim other [
-          | inl fails ↦ inl fails.counts
-          | inr spends ↦ absurd (unspent spends.runs_out.ending_is)
-        ]
+      elim stops.why [
+        | inl not ↦ subst (λ (d : TalkDue). LeavesDueUnlessFailed trait d last new)
+            (sym (due_by number line more last.state new.state last.files new.files handles.text stops.ending due false not))
+            (close_by (named_in line) (Some number) (line_run number stops.ending handles.text) handles.status last new handles.ends handles.worst new.out.failed refl)
+        | inr failed ↦ inr (inl failed)
       ]
 
-module _ {F : Type 0} (trait : Ghosts F) (now : ℕ) where
-  -- a line was the last since memory ran out: what was due of those before it was left, and that is said
-  spent_by : (file : List ℕ) (which : Option ℕ) (run : Run) (status : ℕ) (last end : Talk F) → EndsRun file which run last.out end.out last.err end.err status → end.status ≡ max last.status status → run.out ≡ [] → run.ending ≡ Err NoMemory
-      → SameFiles (trait.file last.files) (trait.file end.files) → (failed : Bool) → failed ≡ end.out.failed → LeavesDueUnlessFailed trait (last_due [] None (ends_by NoMemory) (trait.file last.files)) last end
-  spent_by file which run status last end ends worst none memory same true is = inr (inl (sym is))
-  spent_by file which run status last end ends worst none memory same false is =
-      let done = ends.shows.done (sym is) in
-      let spent = done.1 ∙ memory in
-      let says : SaysEnd file which (Err NoMemory) last.err end.err = subst (λ (e : Ending). SaysEnd file which e last.err end.err) spent ends.told.says in
-      inr (inr (record {
-        files = same;
-        out = subst (λ (text : List ℕ). Appends last.out.contents end.out.contents text) none done.0;
-        err = (end.err, record { cause = says.cause; said = says.said; still = says.still }, refl);
-        status = worst ∙ ap (max last.status) (ends.told.status_is ∙ ap ending_status spent);
-      }))
-
-  spend_honestly : (number : ℕ) (line : List ℕ) (last new : Talk F) (stops : Stops trait now number line last new) → stops.ending ≡ end.NoMemory → trait.is_honest last.files
-      → LeavesDueUnlessFailed trait (last_due [] None (ends_by NoMemory) (trait.file last.files)) last new
-  spend_honestly number line last new stops spent honest =
-      let handles = stops.handles in
-      let same = (handles_spares trait now line last.files new.files last.state new.state [] handles.text stops.ending handles.handled).files_are honest (spent_is_not_done stops.ending spent) in
-      let none = ((handles_memory trait last.state new.state [] handles.text stops.ending now line last.files new.files handles.handled).1 spent).same in
-      spent_by (named_in line) (Some number) (line_run number stops.ending handles.text) handles.status last new handles.ends handles.worst none (ap (ending_of number) spent) same new.out.failed refl
+-- a line was the last since memory ran out: what was due of those before it was left, and that is said
+spent_by : {F : Type 0} (trait : Ghosts F) (file : List ℕ) (which : Option ℕ) (run : Run) (status : ℕ) (last end : Talk F) → EndsRun file which run last.out end.out last.err end.err status → end.status ≡ max last.status status → run.out ≡ [] → run.ending ≡ Err NoMemory
+    → SameFiles (trait.file last.files) (trait.file end.files) → (failed : Bool) → failed ≡ end.out.failed → LeavesDueUnlessFailed trait (last_due [] None (ends_by NoMemory) (trait.file last.files)) last end
+spent_by trait file which run status last end ends worst none memory same true is = inr (inl (sym is))
+spent_by trait file which run status last end ends worst none memory same false is =
+    let done = ends.shows.done (sym is) in
+    let spent = done.1 ∙ memory in
+    let says : SaysEnd file which (Err NoMemory) last.err end.err = subst (λ (e : Ending). SaysEnd file which e last.err end.err) spent ends.told.says in
+    inr (inr (record {
+      files = same;
+      out = subst (λ (text : List ℕ). Appends last.out.contents end.out.contents text) none done.0;
+      err = (end.err, record { cause = says.cause; said = says.said; still = says.still }, refl);
+      status = worst ∙ ap (max last.status) (ends.told.status_is ∙ ap ending_status spent);
+    }))
 
 -- the lines that an input has from its first ones and a further one on
 rest_of : (given : Option (List ℕ)) (lines : List (List ℕ)) (line : List ℕ) → AreFirst (lines ++ line ∷ []) given → (more : List (List ℕ)) × GivesLines given (lines ++ line ∷ more) quiet_run
@@ -224,17 +163,17 @@ before_last (Some bytes) lines line first = (line ∷ first.0, first.1 ∙ appen
 module _ {F : Type 0} (trait : Ghosts F) (now : ℕ) (given : Option (List ℕ)) (lines : List (List ℕ)) (first last : Talk F) (talked : TalksOver trait now 1 lines first last) where
   -- what was due after the lines was left
   leaves_final : (final : Run) (end : Talk F) → GivesLines given (lines ++ []) final → trait.failure_count last.files ≤ trait.failure_count end.files
-      → (trait.is_honest last.files → LeavesDueUnlessFailed trait (last_due [] None final (trait.file last.files)) last end) → trait.is_honest first.files → TalksHonestly trait now given first end
+      → LeavesDueUnlessFailed trait (last_due [] None final (trait.file last.files)) last end → trait.is_honest first.files → TalksHonestly trait now given first end
   leaves_final final end gives le leaves honest = record {
     lines = lines ++ [];
     final = final;
     given_lines = gives;
-    leaves = talk_honestly trait now final lines 1 [] first last end talked honest le (λ next is h. leaves h);
+    leaves = talk_honestly trait now final lines 1 [] first last end talked honest le (λ next is. leaves);
   }
 
   pub honest_after : IfSome given (λ bytes. lines_of bytes ≡ lines ++ []) → trait.is_honest first.files → TalksHonestly trait now given first last
   honest_after all =
-      leaves_final quiet_run last (record { gives = inl (all, refl) }) (omega arith) (λ h. inr (inr (record {
+      leaves_final quiet_run last (record { gives = inl (all, refl) }) (omega arith) (inr (inr (record {
         files = λ name. refl;
         out = Appends-nil last.out.contents;
         err = (last.err, SaysEnd-nothing [] None last.err, refl);
@@ -249,36 +188,31 @@ module _ {F : Type 0} (trait : Ghosts F) (now : ℕ) (given : Option (List ℕ))
       → TalksHonestly trait now given first (record { files = last.files; state = last.state; out = last.out; err = err'; status = status })
   honest_unread fault are_first err' status said worst =
       leaves_final (ends_by (input_trouble fault)) (record { files = last.files; state = last.state; out = last.out; err = err'; status = status })
-      (GivesLines-unread fault are_first) (omega arith) (λ h. inr (inr (record {
+      (GivesLines-unread fault are_first) (omega arith) (inr (inr (record {
         files = λ name. refl;
         out = Appends-nil last.out.contents;
         err = (err', said, refl);
         status = worst;
       })))
 
-  -- a line was the last, and memory did not run out
-  in_line_unspent : (line : List ℕ) (new : Talk F) → AreFirst (lines ++ line ∷ []) given → (stops : Stops trait now (length lines + 1) line last new) → stops.ending ≢ end.NoMemory → trait.is_honest first.files
-      → TalksHonestly trait now given first new
-  in_line_unspent line new are_first stops unspent honest =
+  -- a line was the last
+  pub honest_in_line : (line : List ℕ) (end : Talk F) → AreFirst (lines ++ line ∷ []) given → Stops trait now (length lines + 1) line last end → trait.is_honest first.files → TalksHonestly trait now given first end
+  honest_in_line line end are_first stops honest =
       let rest = rest_of given lines line are_first in
       let handles = stops.handles in
-      let le = handles_count trait (plan_of last.state now line) last.files new.files last.state new.state [] handles.text stops.ending handles.handled in
-      record {
-        lines = lines ++ line ∷ rest.0;
-        final = quiet_run;
-        given_lines = rest.1;
-        leaves = talk_honestly trait now quiet_run lines 1 (line ∷ rest.0) first last new talked honest le
-            (λ next is h. let at : length lines + 1 ≡ next = omega (arith, is) in
-            subst (λ (n : ℕ). LeavesDueUnlessFailed trait (talk_due quiet_run now n (line ∷ rest.0) last.state (trait.file last.files)) last new) at (stop_honestly trait now quiet_run (length lines + 1) line rest.0 last new stops unspent h));
-      }
-
-  in_line : (line : List ℕ) (new : Talk F) → AreFirst (lines ++ line ∷ []) given → (stops : Stops trait now (length lines + 1) line last new) → (stops.ending ≡ end.NoMemory) ⊎ (stops.ending ≢ end.NoMemory) → trait.is_honest first.files
-      → TalksHonestly trait now given first new
-  in_line line new are_first stops (inr unspent) honest = in_line_unspent line new are_first stops unspent honest
-  in_line line new are_first stops (inl spent) honest =
-      let handles = stops.handles in
-      let le = handles_count trait (plan_of last.state now line) last.files new.files last.state new.state [] handles.text stops.ending handles.handled in
-      leaves_final (ends_by NoMemory) new (GivesLines-unread load.NoMemory (before_last given lines line are_first)) le (spend_honestly trait now (length lines + 1) line last new stops spent) honest
-
-  pub honest_in_line : (line : List ℕ) (end : Talk F) → AreFirst (lines ++ line ∷ []) given → Stops trait now (length lines + 1) line last end → trait.is_honest first.files → TalksHonestly trait now given first end
-  honest_in_line line end are_first stops honest = in_line line end are_first stops (spent_or stops.ending) honest
+      let le = (handles_lasts trait handles.handled).1 in
+      let run = line_run (length lines + 1) stops.ending handles.text in
+      elim (handles_honestly trait handles.handled ((talk_lasts trait now 1 lines first last talked).0 honest)).comes [
+        | inl due ↦ record {
+          lines = lines ++ line ∷ rest.0;
+          final = quiet_run;
+          given_lines = rest.1;
+          leaves = talk_honestly trait now quiet_run lines 1 (line ∷ rest.0) first last end talked honest le
+              (λ next is. let at : length lines + 1 ≡ next = omega (arith, is) in
+              subst (λ (n : ℕ). LeavesDueUnlessFailed trait (talk_due quiet_run now n (line ∷ rest.0) last.state (trait.file last.files)) last end) at (stop_honestly trait now quiet_run (length lines + 1) line rest.0 last end stops due));
+        }
+        | inr fails ↦ leaves_final (ends_by NoMemory) end (GivesLines-unread load.NoMemory (before_last given lines line are_first)) le (elim fails.why [
+          | inl call ↦ inl call.0
+          | inr spent ↦ spent_by trait (named_in line) (Some (length lines + 1)) run handles.status last end handles.ends handles.worst fails.same (ap (ending_of (length lines + 1)) spent) fails.same_files end.out.failed refl
+        ]) honest
+      ]

@@ -1,6 +1,6 @@
 -- The lines of ktutil, one after the other.
-use Rattle.std.proofs.Common.{◌≡◌, ◌≢◌, inl, inr, ℕ, ◌⊎◌, ◌+◌, ◌-◌, ◌<◌, ◌≤◌, List, [], ◌∷◌, ◌++◌, length, length-append, take, take-add, drop, refl, sym, ap, subst, ◌∙◌, append_assoc, append-nil, arith}
-use Rattle.std.specs.Prelude.{IsFalse, max, slice_range, ◌||◌, Option, None, Some, IfSome, Err}
+use Rattle.std.proofs.Common.{◌≡◌, ◌≢◌, inl, inr, ℕ, ◌⊎◌, ◌+◌, ◌-◌, ◌<◌, ◌≤◌, Bool, true, false, List, [], ◌∷◌, ◌++◌, length, length-append, take, take-add, drop, refl, sym, ap, subst, ◌∙◌, append_assoc, append-nil, arith}
+use Rattle.std.specs.Prelude.{IsFalse, max, not, slice_range, ◌||◌, ◌&&◌, Option, None, Some, IfSome, Err}
 use Rattle.std.proofs.lemmas.List.{drop_all, take-append-le}
 use Rattle.std.proofs.lemmas.Grind.{flat_map-append}
 use Rattle.std.specs.Io.KnownBytes.{Consumes}
@@ -9,12 +9,14 @@ use Rattle.krb_files.specs.declared.files.Files.{Ghosts}
 use Rattle.krb_files.specs.declared.files.LoadFault.{LoadFault}
 use Rattle.krb_files.specs.declared.files.LoadFault.TheVariants.{Missing, TooLarge}
 use Rattle.krb_files.specs.Bytes.{Watch}
+use Rattle.krb_commands.specs.declared.ktutil.line_end.LineEnd.{LineEnd}
 use Rattle.krb_commands.specs.ErrorOutput.{ErrorWatch}
 use Rattle.krb_commands.specs.Troubles.{input_trouble, trouble_status}
 use Rattle.krb_commands.specs.InputLines.{InputParts, lines_of, with_newlines, HasLines, KeepsLines, TakesLine, EndsInNewline, IsSpent, HasNoMore, HasNone, CutsOff, Grows, IsWithin}
 use Rattle.krb_files.specs.Loading.{most_bytes}
-use Rattle.krb_commands.specs.KtutilTalk.{Talk, first_talk, AreFirst, Continues, Stops, TalksOver}
-use Rattle.krb_commands.specs.Ktutil.{RunsKtutil}
+use Rattle.krb_commands.specs.KtutilTalk.{Talk, first_talk, goes_on, AreFirst, Continues, EndsTalk, HandlesLine, Stops, TalksOver}
+use Rattle.krb_commands.specs.Ktutil.{HandlesNext, RunsKtutil}
+use Rattle.krb_commands.specs.KtutilDue.{TalksHonestly}
 use Rattle.krb_commands.proofs.KtutilHonestly.{honest_after, honest_in_line, honest_unread}
 use Rattle.krb_files.specs.Reader.{Source, ConsumesAtMost, is_failed}
 use Rattle.krb_commands.specs.Runs.{SaysEnd}
@@ -94,6 +96,13 @@ module _ {F : Type 0} (trait : Ghosts F) (now : ℕ) where
   TalksOver-line number (first ∷ lines) next line old mid new talked is continues =
       let after_first : next ≡ number + 1 + length lines = omega (arith, is) in
       (talked.0, talked.1, TalksOver-line (number + 1) lines next line talked.0 mid new talked.2 after_first continues)
+
+-- the end of a line decides whether another comes, and the output
+pub HandlesNext-by : {F : Type 0} (trait : Ghosts F) (now number : ℕ) (line : List ℕ) (old new : Talk F) (ending : LineEnd) → HandlesLine trait now number line old new ending
+    → (goes failed : Bool) → goes ≡ goes_on ending → failed ≡ new.out.failed → HandlesNext trait now number line old new (goes && not failed)
+HandlesNext-by trait now number line old new ending handles true true goes is = record { ending = ending; handles = handles; why = inr (sym is) }
+HandlesNext-by trait now number line old new ending handles true false goes is = record { ending = ending; handles = handles; goes_on = sym goes; well = sym is }
+HandlesNext-by trait now number line old new ending handles false failed goes is = record { ending = ending; handles = handles; why = inl (sym goes) }
 
 -- lines were handled, and the run goes on
 pub record Underway {F : Type 0} (trait : Ghosts F) (now : ℕ) (given : Option (List ℕ)) (first : Talk F) (input : InputParts) (left : Option (List ℕ)) (number : ℕ) (talk : Talk F) : Type 0 where
@@ -185,58 +194,40 @@ due_of lines old new left left' within grows no_more ended =
 
 module _ {F : Type 0} (trait : Ghosts F) (now : ℕ) (order : Order) (files : F) (out : Watch) (err : ErrorWatch) (first last : Source) (old new : InputParts) (left : Option (List ℕ)) (number : ℕ) (talk : Talk F)
     (u : Underway trait now first.left (first_talk order files out err) old left number talk) (grows : Grows old.read new.read left last.left) (within : IsWithin new) where
+  runs : (end : Talk F) → EndsTalk trait now first last u.lines talk end → (trait.is_honest files → TalksHonestly trait now first.left (first_talk order files out err) end) → RunsKtutil trait order now first last files end.files out end.out err end.err end.status
+  runs end ends honest = record { lines = u.lines; last = talk; state = end.state; talked = u.talked; ends = ends; honest = honest; taken = taken first.left left last.left old new u.consumes grows within }
+
   -- the input has ended
   pub RunsKtutil-after : HasLines old left [] → last.failed ≡ first.failed → RunsKtutil trait order now first last files talk.files out talk.out err talk.err talk.status
-  RunsKtutil-after has well = record {
-    lines = u.lines;
-    last = talk;
-    state = talk.state;
-    talked = u.talked;
-    ends = inl (record { all = none_more first.left u.lines (u.to_come [] has); well = well; same = refl });
-    honest = honest_after trait now first.left u.lines (first_talk order files out err) talk u.talked (u.to_come [] has);
-    taken = taken first.left left last.left old new u.consumes grows within;
-  }
+  RunsKtutil-after has well =
+      runs talk (inl (record { all = none_more first.left u.lines (u.to_come [] has); well = well; same = refl }))
+      (honest_after trait now first.left u.lines (first_talk order files out err) talk u.talked (u.to_come [] has))
 
   -- a line was the last
   pub RunsKtutil-in_line : (talk' : Talk F) → TakesLine old new left last.left → last.failed ≡ first.failed → Stops trait now (number + 1) new.line talk talk' → RunsKtutil trait order now first last files talk'.files out talk'.out err talk'.err talk'.status
-  RunsKtutil-in_line talk' takes well stops = record {
-    lines = u.lines;
-    last = talk;
-    state = talk'.state;
-    talked = u.talked;
-    ends = inr (inl (record {
-      line = new.line;
-      well = well;
-      first = ToCome-first first.left (u.lines ++ new.line ∷ []) new last.left (ToCome-line first.left u.lines old new left last.left u.to_come takes);
-      stops = subst (λ (n : ℕ). Stops trait now (n + 1) new.line talk talk') u.counted stops;
-    }));
-    honest = honest_in_line trait now first.left u.lines (first_talk order files out err) talk u.talked new.line talk' (ToCome-first first.left (u.lines ++ new.line ∷ []) new last.left (ToCome-line first.left u.lines old new left last.left u.to_come takes))
-        (subst (λ (n : ℕ). Stops trait now (n + 1) new.line talk talk') u.counted stops);
-    taken = taken first.left left last.left old new u.consumes grows within;
-  }
+  RunsKtutil-in_line talk' takes well stops =
+      let are_first = ToCome-first first.left (u.lines ++ new.line ∷ []) new last.left (ToCome-line first.left u.lines old new left last.left u.to_come takes) in
+      let stopped = subst (λ (n : ℕ). Stops trait now (n + 1) new.line talk talk') u.counted stops in
+      runs talk' (inr (inl (record { line = new.line; well = well; first = are_first; stops = stopped })))
+      (honest_in_line trait now first.left u.lines (first_talk order files out err) talk u.talked new.line talk' are_first stopped)
 
   -- the input was not read further
   pub RunsKtutil-unread : (fault : LoadFault) (err' : ErrorWatch) (status : ℕ) → KeepsLines old new left last.left → IsWithin old → HasNoMore old new → last.failed ≡ (is_failed fault || first.failed) → fault ≢ Missing → (fault ≡ TooLarge → most_bytes < length new.read)
       → SaysEnd [] None (Err (input_trouble fault)) talk.err err' → status ≡ max talk.status (trouble_status (input_trouble fault)) → RunsKtutil trait order now first last files talk.files out talk.out err err' status
-  RunsKtutil-unread fault err' status keeps was no_more failed never too_large said worst = record {
-    lines = u.lines;
-    last = talk;
-    state = talk.state;
-    talked = u.talked;
-    ends = inr (inr (record {
-      fault = fault;
-      failed = failed;
-      read = new.read;
-      consumes = grown first.left left last.left old.read new.read u.consumes grows;
-      due = elim u.ended [ inl ended ↦ inl (due_of u.lines old new left last.left was grows no_more ended) | inr all ↦ inr all ];
-      first = ToCome-first first.left u.lines new last.left (λ more has. u.to_come more (keeps more has));
-      never = never;
-      too_large = λ e. too_long first.left last.left new.read (grown first.left left last.left old.read new.read u.consumes grows) (too_large e);
-      said = said;
-      worst = worst;
-      files = refl;
-      out = refl;
-    }));
-    honest = honest_unread trait now first.left u.lines (first_talk order files out err) talk u.talked fault (ToCome-first first.left u.lines new last.left (λ more has. u.to_come more (keeps more has))) err' status said worst;
-    taken = taken first.left left last.left old new u.consumes grows within;
-  }
+  RunsKtutil-unread fault err' status keeps was no_more failed never too_large said worst =
+      let are_first = ToCome-first first.left u.lines new last.left (λ more has. u.to_come more (keeps more has)) in
+      let consumes = grown first.left left last.left old.read new.read u.consumes grows in
+      runs (record { files = talk.files; state = talk.state; out = talk.out; err = err'; status = status }) (inr (inr (record {
+        fault = fault;
+        failed = failed;
+        read = new.read;
+        consumes = consumes;
+        due = elim u.ended [ inl ended ↦ inl (due_of u.lines old new left last.left was grows no_more ended) | inr all ↦ inr all ];
+        first = are_first;
+        never = never;
+        too_large = λ e. too_long first.left last.left new.read consumes (too_large e);
+        said = said;
+        worst = worst;
+        files = refl;
+        out = refl;
+      }))) (honest_unread trait now first.left u.lines (first_talk order files out err) talk u.talked fault are_first err' status said worst)

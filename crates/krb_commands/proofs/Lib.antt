@@ -13,8 +13,6 @@ pub mod KtutilLists
 pub mod KtutilHandles
 pub mod KtutilOptions
 pub mod KtutilDue
-pub mod KtutilMemory
-pub mod KtutilEnds
 pub mod KtutilHonestly
 pub mod KtutilLemmas
 pub mod Words

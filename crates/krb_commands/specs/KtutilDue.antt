@@ -6,7 +6,8 @@ use Rattle.krb_files.specs.declared.files.LoadFault.{LoadFault}
 use Rattle.krb_files.specs.Files.{FileMap, SameFiles, CountsFailure}
 use Rattle.krb_commands.specs.ErrorOutput.{ErrorWatch}
 use Rattle.krb_commands.specs.KtutilPlan.{KtutilState, plan_of}
-use Rattle.krb_commands.specs.KtutilHonest.{follow}
+use Rattle.krb_files.specs.Plan.{follow}
+use Rattle.krb_commands.specs.KtutilHonest.{line_outcome, line_files}
 use Rattle.krb_commands.specs.InputLines.{lines_of}
 use Rattle.krb_commands.specs.KtutilTalk.{Talk, line_run, named_in, goes_on, AreFirst}
 use Rattle.krb_commands.specs.Runs.{Run, SaysEnd, ends_by}
@@ -38,11 +39,12 @@ due_after file line run due = record { files = due.files; out = run.out ++ due.o
 abbrev pub talk_due : Run → ℕ → ℕ → List (List ℕ) → KtutilState → FileMap → TalkDue
 talk_due final now number [] state files = last_due [] None final files
 talk_due final now number (line ∷ lines) state files =
-    let followed = follow files (plan_of state now line) in
-    let run = line_run number followed.outcome.ending followed.outcome.text in
-    if goes_on followed.outcome.ending
-    then due_after (named_in line) (Some number) run (talk_due final now (number + 1) lines followed.outcome.state followed.files)
-    else last_due (named_in line) (Some number) run followed.files
+    let effect = follow files (plan_of state now line) in
+    let due = line_outcome state effect in
+    let run = line_run number due.ending due.text in
+    if goes_on due.ending
+    then due_after (named_in line) (Some number) run (talk_due final now (number + 1) lines due.state (line_files files effect))
+    else last_due (named_in line) (Some number) run (line_files files effect)
 
 -- this was told, one after the other, each message whole unless the writer has failed
 abbrev pub TellsInTurn : ErrorWatch → ErrorWatch → List Telling → Type 0

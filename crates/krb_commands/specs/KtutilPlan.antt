@@ -7,10 +7,10 @@ use Rattle.krb_walk.specs.Store.{fault_of}
 use Rattle.krb_keytab.specs.Entry.{EntryParts}
 use Rattle.krb_keytab.specs.Store.{KeytabState, image_of, store_of, entries}
 use Rattle.krb_keytab.specs.Changes.{put_result}
-use Rattle.krb_files.specs.declared.files.LoadFault.{LoadFault}
 use Rattle.krb_files.specs.declared.files.LoadFault.TheVariants as load
 use Rattle.krb_files.specs.declared.files.SaveFault.{SaveFault}
 use Rattle.krb_files.specs.declared.files.SaveFault.TheVariants as save
+use Rattle.krb_files.specs.Plan.{Plan, Ends, Loads, Faults}
 use Rattle.krb_text.specs.declared.line_fault.LineFault.{LineFault}
 use Rattle.krb_text.specs.declared.line_fault.LineFault.TheVariants.{BadKey}
 use Rattle.krb_commands.specs.declared.ktutil.line_end.LineEnd.{LineEnd}
@@ -29,30 +29,40 @@ pub record KtutilState : Type 0 where
   pub entries : List EntryParts
   pub awaited : Option Awaited
 
--- what becomes of a line: the state after it, the text that it prints, how it ends, and whether memory is taken for it
+-- what becomes of a line: the state after it, the text that it prints, and how it ends
 pub record Outcome : Type 0 where
   pub state : KtutilState
   pub text : List ℕ
   pub ending : LineEnd
-  pub takes : Bool
 
--- what is to be done: an end, or a load or a save whose answer decides how to go on
-pub data Plan : Type 0 where
-  Ends : Outcome → Plan
-  Loads : List ℕ → (Result (List ℕ) LoadFault → Plan) → Plan
-  Saves : List ℕ → List ℕ → (Result (Unit {0}) SaveFault → Plan) → Plan
+-- what a line comes to: an outcome, and whether memory is taken for it; or bytes that are saved under a name, and the state stays
+pub data LineEffect : Type 0 where
+  ComesTo : Bool → Outcome → LineEffect
+  Saves : List ℕ → List ℕ → LineEffect
+
+-- all that a line does
+abbrev pub LinePlan : Type 0
+LinePlan = Plan LineEffect
+
+-- the line ends so and prints nothing, and this is the state
+abbrev pub kept : KtutilState → LineEnd → Outcome
+kept s ending = record { state = s; text = []; ending = ending }
+
+-- the line ends so, and takes no memory
+abbrev pub stays : KtutilState → LineEnd → LineEffect
+stays s ending = ComesTo false (kept s ending)
 
 -- the line is done, and this is the state
-abbrev pub becomes : KtutilState → Plan
-becomes s = Ends (record { state = s; text = []; ending = end.Done; takes = false })
+abbrev pub becomes : KtutilState → LineEffect
+becomes s = stays s end.Done
 
 -- the same, and memory is taken for it
-abbrev pub grows_to : KtutilState → Plan
-grows_to s = Ends (record { state = s; text = []; ending = end.Done; takes = true })
+abbrev pub grows_to : KtutilState → LineEffect
+grows_to s = ComesTo true (kept s end.Done)
 
--- the line ends otherwise, and the state stays
-abbrev pub stays : KtutilState → LineEnd → Plan
-stays s ending = Ends (record { state = s; text = []; ending = ending; takes = false })
+-- a line whose file is not read, or that runs out of memory, ends so, and the state stays
+abbrev pub line_faults : KtutilState → Faults LineEffect
+line_faults s = record { unread = λ name. stays s (end.Load load.Failed); spent = λ name. stays s end.NoMemory }
 
 -- ---- files
 
@@ -71,7 +81,7 @@ save_end (Err save.Failed) = end.Save save.Failed
 save_end (Err save.NoMemory) = end.NoMemory
 
 -- the entries of a keytab come behind those of the list; a damaged one gives none
-abbrev pub with_entries : KtutilState → Result KeytabState NoKeytab → Plan
+abbrev pub with_entries : KtutilState → Result KeytabState NoKeytab → LineEffect
 with_entries s (Err why) = stays s (no_keytab_end why)
 with_entries s (Ok k) =
     if is_some (fault_of (store_of k)) then stays s (end.Refused code.Damaged)
@@ -84,12 +94,12 @@ with_added (e ∷ es) (Ok k) = with_added es (result_map (λ added. added.1) (pu
 with_added (e ∷ es) (Err refused) = Err refused
 
 -- the keytab is saved under the name, or why not
-abbrev pub saved_as : KtutilState → List ℕ → Result KeytabState Code → Plan
-saved_as s name (Ok k) = Saves name (image_of k) (λ answer. stays s (save_end answer))
+abbrev pub saved_as : KtutilState → List ℕ → Result KeytabState Code → LineEffect
+saved_as s name (Ok k) = Saves name (image_of k)
 saved_as s name (Err refused) = stays s (end.Refused refused)
 
 -- the entries of the list are added to a keytab, and that is saved
-abbrev pub written_to : KtutilState → List ℕ → Result KeytabState NoKeytab → Plan
+abbrev pub written_to : KtutilState → List ℕ → Result KeytabState NoKeytab → LineEffect
 written_to s name (Ok k) = saved_as s name (with_added s.entries (Ok k))
 written_to s name (Err why) = stays s (no_keytab_end why)
 
@@ -104,35 +114,34 @@ abbrev pub entry_of : Awaited → ℕ → List ℕ → EntryParts
 entry_of x now key = record { principal = x.principal; timestamp = now; version = x.version; enctype = x.enctype; key = key }
 
 -- the entry comes behind the others; after a faulty key it is dropped
-abbrev pub with_key : KtutilState → Awaited → ℕ → Result (List ℕ) LineFault → Plan
+abbrev pub with_key : KtutilState → Awaited → ℕ → Result (List ℕ) LineFault → LineEffect
 with_key s x now (Ok key) = grows_to (record s { entries = s.entries ++ entry_of x now key ∷ []; awaited = None })
 with_key s x now (Err fault) = stays (record s { awaited = None }) (end.Fault fault)
 
 -- ---- a line
 
 -- what is done for a command, or for a faulty line
-abbrev pub command_plan : KtutilState → Result Command LineFault → Plan
-command_plan s (Err fault) = stays s (end.Fault fault)
-command_plan s (Ok Skip) = becomes s
-command_plan s (Ok (ListSlots columns)) = Ends (record { state = s; text = slot_text columns s.entries; ending = end.Done; takes = true })
-command_plan s (Ok (ReadFile name)) = Loads name (λ answer. with_entries s (keytab_of s.order answer))
-command_plan s (Ok (WriteFile name)) = Loads name (λ answer. written_to s name (keytab_or_new s.order answer))
-command_plan s (Ok (AwaitKey awaited)) = grows_to (record s { awaited = Some awaited })
-command_plan s (Ok (DeleteSlot slot)) = becomes (record s { entries = remove s.entries (slot - 1) })
-command_plan s (Ok ClearList) = becomes (record s { entries = [] })
-command_plan s (Ok Quit) = stays s end.Quit
+abbrev pub command_plan : KtutilState → Result Command LineFault → LinePlan
+command_plan s (Err fault) = Ends (stays s (end.Fault fault))
+command_plan s (Ok Skip) = Ends (becomes s)
+command_plan s (Ok (ListSlots columns)) = Ends (ComesTo true (record { state = s; text = slot_text columns s.entries; ending = end.Done }))
+command_plan s (Ok (ReadFile name)) = Loads name (λ answer. Ends (with_entries s (keytab_of s.order answer)))
+command_plan s (Ok (WriteFile name)) = Loads name (λ answer. Ends (written_to s name (keytab_or_new s.order answer)))
+command_plan s (Ok (AwaitKey awaited)) = Ends (grows_to (record s { awaited = Some awaited }))
+command_plan s (Ok (DeleteSlot slot)) = Ends (becomes (record s { entries = remove s.entries (slot - 1) }))
+command_plan s (Ok ClearList) = Ends (becomes (record s { entries = [] }))
+command_plan s (Ok Quit) = Ends (stays s end.Quit)
 
 -- where a key is awaited, the line is that key, whatever it is
-abbrev pub plan_by : KtutilState → ℕ → List ℕ → Option Awaited → Plan
+abbrev pub plan_by : KtutilState → ℕ → List ℕ → Option Awaited → LinePlan
 plan_by s now line None = command_plan s (command_of line (length s.entries))
-plan_by s now line (Some x) = with_key s x now (key_line x.enctype line)
+plan_by s now line (Some x) = Ends (with_key s x now (key_line x.enctype line))
 
 -- what is done for a line
-abbrev pub plan_of : KtutilState → ℕ → List ℕ → Plan
+abbrev pub plan_of : KtutilState → ℕ → List ℕ → LinePlan
 plan_of s now line = plan_by s now line s.awaited
 
 -- memory is taken for a plan; a call of a file may take some
-abbrev pub takes_memory : Plan → Bool
-takes_memory (Ends due) = due.takes
-takes_memory (Loads name then_) = true
-takes_memory (Saves name bytes then_) = true
+abbrev pub takes_memory : LinePlan → Bool
+takes_memory (Ends (ComesTo takes due)) = takes
+takes_memory plan = true

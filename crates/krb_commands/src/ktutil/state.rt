@@ -3,10 +3,11 @@
 mod transfer;
 
 ghost use Rattle.std.specs.Prelude.{Some, IsSome, IfSome, ◌≡◌, ◌≤◌, [], None, is_some, length};
+ghost use Rattle.krb_files.specs.Plan.{Ends};
 ghost use Rattle.krb_commands.specs.KtutilWords.{words};
 ghost use Rattle.krb_commands.specs.KtutilCommand.{ClearList, Quit, alone, listing, addition, deletion, command_by, command_of};
 ghost use Rattle.krb_commands.specs.KtutilPlan.{KtutilState, with_key, command_plan, plan_of};
-ghost use Rattle.krb_commands.specs.KtutilFiles.{Ended, EndsAt, Finishes, Handles, RunsOut};
+ghost use Rattle.krb_commands.specs.KtutilFiles.{EndsAt, Finishes, Handles, RunsOut};
 ghost use Rattle.krb_commands.specs.KtutilHonest.{HandlesHonestly, Spares, TellsMemory};
 
 use crate::ktutil::addition::Addition;
@@ -87,7 +88,7 @@ impl<A: Allocator + Copy> Ktutil<A> {
     fn add_with_key(&mut self, key: Vec<u8, A>, now: u32) -> LineEnd
         requires { IsSome self.old.awaited }
         ensures { IfSome self.old.awaited (λ x.
-            Finishes (with_key self.old x now (Ok key.items)) self.old self.new result) }
+            Finishes (Ends (with_key self.old x now (Ok key.items))) self.old self.new result) }
     {
         let Ok(()) = self.entries.reserve(1) else {
             return LineEnd::NoMemory;
@@ -143,8 +144,8 @@ impl<A: Allocator + Copy> Ktutil<A> {
 
     // Deletes a slot.
     fn delete(&mut self, rest: &[u8]) -> LineEnd
-        ensures { Ended (command_plan self.old (deletion (length self.old.entries) (words rest.now)))
-            self.new result }
+        ensures { Finishes (command_plan self.old (deletion (length self.old.entries) (words rest.now)))
+            self.old self.new result }
     {
         match slot(rest, self.entries.len()) {
             Ok(slot) => {
@@ -157,7 +158,8 @@ impl<A: Allocator + Copy> Ktutil<A> {
 
     // Empties the list.
     fn clear(&mut self, rest: &[u8]) -> LineEnd
-        ensures { Ended (command_plan self.old (alone ClearList (words rest.now))) self.new result }
+        ensures { Finishes (command_plan self.old (alone ClearList (words rest.now)))
+            self.old self.new result }
     {
         if !is_bare(rest) {
             return LineEnd::Fault(LineFault::WordCount);
@@ -169,7 +171,7 @@ impl<A: Allocator + Copy> Ktutil<A> {
 
 // Ends the lines.
 fn quit(rest: &[u8]) -> LineEnd
-    ensures { (s : KtutilState) → Ended (command_plan s (alone Quit (words rest.now))) s result }
+    ensures { (s : KtutilState) → Finishes (command_plan s (alone Quit (words rest.now))) s s result }
 {
     if is_bare(rest) {
         LineEnd::Quit

@@ -1,9 +1,10 @@
 //! The list read from a file, and added to one.
 
-ghost use Rattle.std.specs.Prelude.{◌≡◌, Ok};
+ghost use Rattle.std.specs.Prelude.{◌≡◌, [], Ok};
 ghost use Rattle.krb_commands.specs.KtutilCommand.{ReadFile, WriteFile};
 ghost use Rattle.krb_commands.specs.KtutilPlan.{KtutilState, with_entries, written_to, command_plan};
-ghost use Rattle.krb_commands.specs.KtutilFiles.{Finishes, GoesOn, HandlesQuietly};
+ghost use Rattle.krb_commands.specs.KtutilFiles.{Finishes, GoesOn, Handles};
+ghost use Rattle.krb_files.specs.Plan.{Ends};
 
 use super::Ktutil;
 use crate::ktutil::entries::{add_all, copy_entries};
@@ -23,7 +24,7 @@ fn write_to<A: Allocator, B: Allocator + Copy, F: Files>(
     keytab: Keytab<B>,
 ) -> LineEnd
     ensures { (s : KtutilState) → s.entries ≡ entries.now →
-        GoesOn F.Files (written_to s name.now (Ok keytab.state)) files.old files.new s s result }
+        GoesOn F.Files s s result (written_to s name.now (Ok keytab.state)) files.old files.new }
 {
     let Ok(mut keytab) = Indexed::of(alloc, keytab) else {
         return LineEnd::NoMemory;
@@ -38,7 +39,7 @@ fn write_to<A: Allocator, B: Allocator + Copy, F: Files>(
 impl<A: Allocator + Copy> Ktutil<A> {
     // Appends the entries of a keytab, each with memory of its own; a damaged one gives none.
     fn take_entries<B: Allocator>(&mut self, keytab: &Keytab<B>) -> LineEnd
-        ensures { Finishes (with_entries self.old (Ok keytab.now.state)) self.old self.new result }
+        ensures { Finishes (Ends (with_entries self.old (Ok keytab.now.state))) self.old self.new result }
     {
         if keytab.fault().is_some() {
             return LineEnd::Refused(Code::Damaged);
@@ -54,8 +55,8 @@ impl<A: Allocator + Copy> Ktutil<A> {
 
     // Appends the entries of a file.
     pub(crate) fn read<F: Files>(&mut self, files: &mut F, name: &str) -> LineEnd
-        ensures { HandlesQuietly F.Files (command_plan self.old (Ok (ReadFile name.now)))
-            files.old files.new self.old self.new result }
+        ensures { Handles F.Files (command_plan self.old (Ok (ReadFile name.now)))
+            files.old files.new self.old self.new [] [] result }
     {
         match load_keytab(self.alloc, self.v1_order, files, name) {
             Ok(keytab) => self.take_entries(&keytab),
@@ -65,8 +66,8 @@ impl<A: Allocator + Copy> Ktutil<A> {
 
     // Adds the list to a file that is held.
     fn write_held<F: Files>(&self, files: &mut F, name: &str) -> LineEnd
-        ensures { HandlesQuietly F.Files (command_plan self.now (Ok (WriteFile name.now)))
-            files.old files.new self.now self.now result }
+        ensures { Handles F.Files (command_plan self.now (Ok (WriteFile name.now)))
+            files.old files.new self.now self.now [] [] result }
     {
         match load_or_new(self.alloc, self.v1_order, files, name) {
             Ok(keytab) => write_to(self.alloc, &self.entries, files, name, keytab),
@@ -76,8 +77,8 @@ impl<A: Allocator + Copy> Ktutil<A> {
 
     // Adds the list to a file.
     pub(crate) fn write<F: Files>(&self, files: &mut F, name: &str) -> LineEnd
-        ensures { HandlesQuietly F.Files (command_plan self.now (Ok (WriteFile name.now)))
-            files.old files.new self.now self.now result }
+        ensures { Handles F.Files (command_plan self.now (Ok (WriteFile name.now)))
+            files.old files.new self.now self.now [] [] result }
     {
         files.hold(name);
         let ending = self.write_held(files, name);

@@ -1,6 +1,6 @@
 use Rattle.std.proofs.Common.{refl}
 use Rattle.krb_commands.specs.KtutilTalk.{HandlesLine, Talk, goes_on}
-use Rattle.krb_commands.proofs.KtutilEnds.{HandlesNext-by}
+use Rattle.krb_commands.proofs.KtutilLemmas.{HandlesNext-by}
 use Rattle.krb_commands.proofs.ktutil.Talk.handle.Goals as goal
 
 -- its end decides, and the output

@@ -12,4 +12,4 @@ returns-in-Ok g c =
 pub returns-in-Err : goal.returns-in-Err
 returns-in-Err g c =
     handles_read g.F.Files c.args.self.now c.args.self.now c.args.name.now c.args.files.now c.load_keytab.new.files (Err c.in-Err.why) c.from.result
-    c.self.inside.v1_order (ap (λ (s : KtutilState). s.order) c.self.view_is) c.in-Err.ensures (inl (refl, refl, c.from.ensures))
+    c.self.inside.v1_order (ap (λ (s : KtutilState). s.order) c.self.view_is) c.in-Err.ensures (inl (record { state_is = refl; appended = refl; ending_is = c.from.ensures }))
