@@ -46,10 +46,6 @@ ran_join {S} r old mid new es fs t u v first second =
 pub ran_to_end : {S I : Type 0} (r : Rules S I) (old new : SessionState S) (es : List (Event I)) (t u : List Said) → Ran r old new es t u → Ran r old (state_after r old es) es t u
 ran_to_end {S} r old new es t u ran = subst (λ (s : SessionState S). Ran r old s es t u) ran.state ran
 
--- a run whose replies are told behind others
-pub ran_told : {S I : Type 0} (r : Rules S I) (old new : SessionState S) (es : List (Event I)) (t u v : List Said) → Ran r old new es [] u → v ≡ t ++ u → Ran r old new es t v
-ran_told r old new es t u v ran is = ran_of r old new es t v ran.run.ready (is ∙ ap (λ (x : List Said). t ++ x) ran.replies_are) ran.state ran.run.lawful
-
 -- ---- a value
 
 -- a reply tells whether an addition was refused

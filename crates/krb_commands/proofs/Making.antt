@@ -106,9 +106,6 @@ makes-holds {F = F} trait old new held file is = λ plan effect end made.
 pub makes-end : {F : Type 0} (trait : Ghosts F) (old : F) (due effect : Effect) → IsMade due effect → Makes trait old (Ends due) effect old
 makes-end trait old due effect made = record { answers = []; loads = (refl, refl); made = made }
 
-pub makes-spent : {F : Type 0} (trait : Ghosts F) (old : F) (plan : CommandPlan) (effect : Effect) → IsSpent effect → Makes trait old plan effect old
-makes-spent trait old plan effect spent = record { answers = []; loads = loaded-none trait faults plan old; made = inl spent }
-
 abbrev spent_file : {X : Type 0} → List ℕ → Result X (List ℕ × Trouble)
 spent_file file = Err (file, trouble.NoMemory)
 
