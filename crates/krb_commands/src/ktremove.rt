@@ -77,7 +77,7 @@ fn kvno_of(word: &str) -> Option<AskedKvno>
 }
 
 // The first word that is no encryption type.
-#[tactic(auto, using(crate::proofs::MatchLemmas::find_word))]
+#[tactic(auto, using(crate::proofs::MatchLemmas::found_word))]
 fn first_bad<'a>(words: &[&'a str]) -> Option<&'a str>
     ensures { option_map (λ word. word.now) result
         ≡ find (λ word. is_none (etype_in word)) (map (λ word. word.now) words.now) }
@@ -128,7 +128,7 @@ fn asked_kvno<'a>(word: Option<&'a str>) -> Result<AskedKvno, Mistake<'a>>
 }
 
 // The encryption types that words spell.
-#[tactic(auto, using(crate::proofs::MatchLemmas::filter_map_words))]
+#[tactic(auto, using(crate::proofs::MatchLemmas::spelled_words))]
 fn etypes_of(alloc: Global, words: &[&str]) -> Result<Vec<u16>, NoMemory>
     ensures { IfOk result (λ etypes. etypes.items ≡ filter_map etype_in (map (λ word. word.now) words.now)) }
 {

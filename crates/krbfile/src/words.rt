@@ -13,13 +13,13 @@ use std::alloc::Global;
 struct Matched<'m, 'a>(&'m ArgMatches<'a>);
 
 impl<'a> Matches<'a> for Matched<'_, 'a> {
-    ghost use Rattle.std.specs.Prelude.{ℕ, List, [], Option, option_map, unwrap_or, false, codes};
+    ghost use Rattle.std.specs.Prelude.{[], codes, false, option_map, unwrap_or};
     ghost use Rattle.std.specs.Option.{option_map_or};
     ghost use Rattle.std.specs.Str.{bytes_eq};
     ghost use Rattle.clap.specs.Words.{first_value, found_of, matched_of, raw_values};
 
     ghost matched = { λ m. record {
-      flag = λ name. option_map_or (λ word. bytes_eq word (codes "true")) false (first_value (found_of m.0.now) name);
+      flag = λ name. option_map_or (λ word. bytes_eq word (codes "true")) (first_value (found_of m.0.now) name) false;
       operand = λ name. unwrap_or (first_value (found_of m.0.now) name) [];
       values = λ name. unwrap_or (option_map raw_values (matched_of (found_of m.0.now) name)) [];
     } };
