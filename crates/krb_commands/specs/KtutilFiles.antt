@@ -39,13 +39,13 @@ abbrev pub Finishes : LinePlan → KtutilState → KtutilState → LineEnd → T
 Finishes plan old new ending = EndsAt plan old new [] [] ending
 
 module _ {F : Type 0} (trait : Ghosts F) where
-  -- what a line comes to was shown, after what it saves was saved, or not
+  -- what a line comes to was done: bytes were saved, or not, and then its outcome was shown
   abbrev pub Settles : KtutilState → KtutilState → List ℕ → List ℕ → LineEnd → LineEffect → F → F → Type 0
   Settles old new out out' ending (ComesTo takes due) files files' = (files' ≡ files) × Shows new out out' ending due
   Settles old new out out' ending (Saves name bytes) files files' =
       (answer : Result (Unit {0}) SaveFault) × (SavesFile trait files name bytes answer files' × Shows new out out' ending (kept old (save_end answer)))
 
-  -- the same of what prints nothing; or out of memory before anything was done
+  -- the same of what prints nothing; or out of memory before it was done
   abbrev pub GoesOn : KtutilState → KtutilState → LineEnd → LineEffect → F → F → Type 0
   GoesOn old new ending effect files files' = Settles old new [] [] ending effect files files' ⊎ Settles old new [] [] ending (stays old end.NoMemory) files files'
 

@@ -37,7 +37,7 @@ module _ {F : Type 0} (trait : Ghosts F) where
       (CountsFailure (trait.failure_count files) (trait.failure_count files') × ((ending ≡ end.Load load.Failed) ⊎ (ending ≡ end.Save save.Failed)))
       ⊎ (ending ≡ end.NoMemory)
 
-  -- then all else is as it was
+  -- a line ends so, and all else is as it was
   pub record FailsCall (files files' : F) (old new : KtutilState) (out out' : List ℕ) (ending : LineEnd) : Type 0 where
     pub why : FailsBy files files' ending
     pub state_is : new ≡ old

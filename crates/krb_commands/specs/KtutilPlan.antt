@@ -60,7 +60,7 @@ becomes s = stays s end.Done
 abbrev pub grows_to : KtutilState → LineEffect
 grows_to s = ComesTo true (kept s end.Done)
 
--- a line whose file is not read, or that runs out of memory, ends so, and the state stays
+-- how a line ends whose file is not read, or that runs out of memory
 abbrev pub line_faults : KtutilState → Faults LineEffect
 line_faults s = record { unread = λ name. stays s (end.Load load.Failed); spent = λ name. stays s end.NoMemory }
 
