@@ -77,15 +77,21 @@ fn kvno_of(word: &str) -> Option<AskedKvno>
 }
 
 // The first word that is no encryption type.
-#[tactic(auto, using(crate::proofs::MatchLemmas::found_word))]
-fn first_bad<'a>(words: &[&'a str]) -> Option<&'a str>
-    ensures { option_map (λ word. word.now) result
-        ≡ find (λ word. is_none (etype_in word)) (map (λ word. word.now) words.now) }
+fn bad_word<'a>(words: &[&'a str]) -> Option<&'a str>
+    ensures { result ≡ find (λ word. is_none (etype_in word.now)) words.now }
 {
     words
         .iter()
         .copied()
         .find(|word| etype_of(word.as_bytes()).is_none())
+}
+
+// The same, by the texts of the words.
+fn first_bad<'a>(words: &[&'a str]) -> Option<&'a str>
+    ensures { option_map (λ word. word.now) result
+        ≡ find (λ word. is_none (etype_in word)) (map (λ word. word.now) words.now) }
+{
+    bad_word(words)
 }
 
 // That a word is no encryption type, if one is not.
@@ -128,9 +134,8 @@ fn asked_kvno<'a>(word: Option<&'a str>) -> Result<AskedKvno, Mistake<'a>>
 }
 
 // The encryption types that words spell.
-#[tactic(auto, using(crate::proofs::MatchLemmas::spelled_words))]
-fn etypes_of(alloc: Global, words: &[&str]) -> Result<Vec<u16>, NoMemory>
-    ensures { IfOk result (λ etypes. etypes.items ≡ filter_map etype_in (map (λ word. word.now) words.now)) }
+fn read_etypes(alloc: Global, words: &[&str]) -> Result<Vec<u16>, NoMemory>
+    ensures { IfOk result (λ etypes. etypes.items ≡ filter_map (λ word. etype_in word.now) words.now) }
 {
     Ok(
         words
@@ -138,6 +143,13 @@ fn etypes_of(alloc: Global, words: &[&str]) -> Result<Vec<u16>, NoMemory>
             .filter_map(|word| etype_of(word.as_bytes()))
             .collect(alloc)?,
     )
+}
+
+// The same, by the texts of the words.
+fn etypes_of(alloc: Global, words: &[&str]) -> Result<Vec<u16>, NoMemory>
+    ensures { IfOk result (λ etypes. etypes.items ≡ filter_map etype_in (map (λ word. word.now) words.now)) }
+{
+    Ok(read_etypes(alloc, words)?)
 }
 
 /// What the words of ktremove select: something, and each word has to be read.
