@@ -10,39 +10,40 @@ use std::alloc::Global;
 
 /// What clap matched of a command's words.
 #[derive(Drop)]
-struct Matched<'m, 'a>(&'m ArgMatches<'a>);
+struct Matched<'m, 'a> {
+    found: &'m ArgMatches<'a>,
+    /// The values of an option that is not given.
+    none: &'m [&'a str],
+}
 
 impl<'a> Matches<'a> for Matched<'_, 'a> {
-    ghost use Rattle.std.specs.Prelude.{[], codes, false, option_map, unwrap_or};
+    ghost use Rattle.std.specs.Prelude.{[], codes, false, map, option_map, unwrap_or};
     ghost use Rattle.std.specs.Option.{option_map_or};
     ghost use Rattle.std.specs.Str.{bytes_eq};
     ghost use Rattle.clap.specs.Words.{first_value, found_of, matched_of, raw_values};
 
     ghost matched = { λ m. record {
-      flag = λ name. option_map_or (λ word. bytes_eq word (codes "true")) (first_value (found_of m.0.now) name) false;
-      operand = λ name. unwrap_or (first_value (found_of m.0.now) name) [];
-      values = λ name. unwrap_or (option_map raw_values (matched_of (found_of m.0.now) name)) [];
+      flag = λ name. option_map_or (λ word. bytes_eq word (codes "true")) (first_value (found_of m.found.now) name) false;
+      operand = λ name. unwrap_or (first_value (found_of m.found.now) name) [];
+      values = λ name. unwrap_or (option_map raw_values (matched_of (found_of m.found.now) name)) (map (λ word. word.now) m.none.now);
     } };
 
     fn flag(&self, name: &str) -> bool {
-        match self.0.get_str(name) {
+        match self.found.get_str(name) {
             Some(word) => word == "true",
             None => false,
         }
     }
 
     fn operand(&self, name: &str) -> &'a str {
-        match self.0.get_str(name) {
+        match self.found.get_str(name) {
             Some(word) => word,
             None => "",
         }
     }
 
     fn values(&self, name: &str) -> &[&'a str] {
-        match self.0.get_strs(name) {
-            Some(words) => words,
-            None => &[],
-        }
+        self.found.get_strs(name).unwrap_or(self.none)
     }
 }
 
@@ -51,9 +52,11 @@ fn command_action<'a>(
     alloc: Global,
     matches: &ArgMatches<'a>,
 ) -> Result<Action<'a>, WordFault<'a>> {
+    let none = Vec::new(alloc);
     for line in COMMANDS {
         if let Some(found) = matches.subcommand_matches(line.name) {
-            return action_of(alloc, line.command, line.name, &Matched(found));
+            let matched = Matched { found, none: &none };
+            return action_of(alloc, line.command, line.name, &matched);
         }
     }
     Err(WordFault::of(Mistake::NoCommand))
