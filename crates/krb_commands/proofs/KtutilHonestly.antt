@@ -6,7 +6,6 @@ use Rattle.std.proofs.lemmas.Bool.{false≢true}
 use mathlib.Core.Path.{fun_ext}
 use Rattle.krb_files.specs.declared.files.Files.{Ghosts}
 use Rattle.krb_commands.specs.declared.ktutil.line_end.LineEnd.{LineEnd}
-use Rattle.krb_commands.specs.declared.ktutil.line_end.LineEnd.TheVariants as end
 use Rattle.krb_commands.specs.ErrorOutput.{ErrorWatch}
 use Rattle.krb_files.specs.Files.{FileMap, SameFiles}
 use Rattle.krb_files.specs.Plan.{follow}

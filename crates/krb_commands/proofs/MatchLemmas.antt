@@ -1,5 +1,5 @@
 -- Words and their texts.
-use Rattle.std.proofs.Common.{◌≡◌, Bool, true, false, List, [], ◌∷◌, ℕ, Bor, Option, Some, None, refl, ap, ◌∙◌, cond, map}
+use Rattle.std.proofs.Common.{◌≡◌, Bool, true, false, List, [], ◌∷◌, ℕ, Bor, Option, Some, refl, ap, ◌∙◌, cond, map}
 use Rattle.std.proofs.lemmas.List.{length-map}
 use Rattle.std.proofs.lemmas.Option.{slice_get-map}
 use Rattle.std.specs.Prelude.{find, length, option_map, slice_get}

@@ -1,12 +1,11 @@
 -- What is shown of a run, and what a reader gave.
 use Rattle.std.proofs.Common.{◌≡◌, ◌≢◌, ℕ, ◌<◌, List, [], ◌++◌, refl, sym, ap, subst}
-use Rattle.std.specs.Prelude.{◌+◌, ◌≤◌, ◌||◌, length, Bool, true, false, IsFalse, Option, None, Result, Ok, Err, is_ok, IfSome}
-use Rattle.std.proofs.lemmas.Bool.{false≢true, true≢false}
+use Rattle.std.specs.Prelude.{◌+◌, ◌≤◌, ◌||◌, length, Bool, true, false, Option, None, Result, Ok, Err, is_ok, IfSome}
+use Rattle.std.proofs.lemmas.Bool.{true≢false}
 use Rattle.krb_files.specs.declared.files.LoadFault.{LoadFault}
 use Rattle.krb_files.specs.declared.files.LoadFault.TheVariants as load
 use Rattle.krb_files.specs.Bytes.{Watch}
-use Rattle.std.specs.Io.KnownBytes.{Appends}
-use Rattle.krb_files.proofs.Prefixes.{AppendsPrefix-all, AppendsPrefix-none, Appends-nil}
+use Rattle.krb_files.proofs.Prefixes.{AppendsPrefix-none, Appends-nil}
 use Rattle.krb_commands.specs.declared.verdict.Verdict.TheVariants.{Well}
 use Rattle.krb_files.specs.Loading.{most_bytes}
 use Rattle.krb_commands.specs.Input.{GivesInput}

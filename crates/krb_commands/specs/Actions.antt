@@ -11,7 +11,7 @@ use Rattle.krb_commands.specs.declared.command_line.words.CommandName.TheVariant
 use Rattle.krb_commands.specs.declared.verdict.Verdict.TheVariants.{Well}
 use Rattle.krb_commands.specs.Ccedit.{ccedit_fairly, ccedit_plan}
 use Rattle.krb_commands.specs.Ccremove.{RunsCcremove, SpellsTickets, ended_by, ticket_mistake}
-use Rattle.krb_commands.specs.Commands.{RunsCommand, any}
+use Rattle.krb_commands.specs.Commands.{RunsCommand, always, any}
 use Rattle.krb_commands.specs.ErrorOutput.{ErrorWatch}
 use Rattle.krb_commands.specs.Klist.{klist_plan, list_options, odd_option}
 use Rattle.krb_commands.specs.Ktcheck.{ktcheck_plan}
@@ -53,11 +53,11 @@ help_run text = record { out = text; ending = Ok Well }
 module _ {F : Type 0} (trait : Ghosts F) (now : Option ℕ) (input input' : Source) (old new : F) (out out' : Watch) (err err' : ErrorWatch) (status : ℕ) where
   -- an action over the files, and over what the standard input gives
   abbrev pub EndsAction : Action → Type 0
-  EndsAction (Klist options file) = RunsCommand trait (λ mode. klist_plan options file.now) any old new out out' err err' status
-  EndsAction (Ktfind options file) = RunsCommand trait (λ mode. ktfind_plan options file.now) any old new out out' err err' status
+  EndsAction (Klist options file) = RunsCommand trait (always (klist_plan options file.now)) any old new out out' err err' status
+  EndsAction (Ktfind options file) = RunsCommand trait (always (ktfind_plan options file.now)) any old new out out' err err' status
   EndsAction (Ktedit order file) = RunsScript trait old new out out' err err' status (ktedit_plan order file.now) (ktedit_fairly order) event_in input input'
   EndsAction (Ktcheck order file) = RunsCommand trait (ktcheck_plan order file.now) any old new out out' err err' status
-  EndsAction (Ktremove options file) = RunsCommand trait (λ mode. ktremove_plan options file.now) any old new out out' err err' status
+  EndsAction (Ktremove options file) = RunsCommand trait (always (ktremove_plan options file.now)) any old new out out' err err' status
   EndsAction (Ktutil order) = RunsKtutil trait order (unwrap_or now 0) input input' old new out out' err err' status
   EndsAction (Ccedit file) = RunsScript trait old new out out' err err' status (ccedit_plan file.now) ccedit_fairly cache_line_in input input'
   EndsAction (Ccremove options file) = RunsCcremove trait file.now options old new out out' err err' status (ended_by options now)

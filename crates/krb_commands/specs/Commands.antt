@@ -119,6 +119,10 @@ pub record RunsCommand {F : Type 0} (trait : Ghosts F) (plan : Option ℕ → Co
   pub spared : ending ≡ Err trouble.NoMemory → trait.is_honest old → SameFiles (trait.file old) (trait.file new)
   pub quiet : ending ≡ Err trouble.NoMemory → Shows (ends_by trouble.NoMemory) out out' ending ⊎ Takes end
 
+-- that plan, whatever the mode of the file is
+unfoldable pub always : CommandPlan → Option ℕ → CommandPlan
+always plan mode = plan
+
 -- nothing more holds of what the files answered
 abbrev pub any : List Answer → Type 0
 any answers = Unit {0}

@@ -1,5 +1,5 @@
 -- What files give that are opened.
-use Rattle.std.specs.Prelude.{ℕ, List, is_some, if◌then◌else◌, Option, None, Some, Result, Ok, Err}
+use Rattle.std.specs.Prelude.{is_some, if◌then◌else◌, Option, None, Some, Result, Ok, Err}
 use Rattle.krb_wire.specs.declared.format.Order.{Order}
 use Rattle.krb_walk.specs.Store.{fault_of}
 use Rattle.krb_walk.specs.declared.refusal.Code.{Code}

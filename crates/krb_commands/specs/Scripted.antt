@@ -6,7 +6,7 @@ use Rattle.krb_files.specs.Bytes.{Watch}
 use Rattle.krb_files.specs.Loading.{Answer}
 use Rattle.krb_files.specs.Reader.{Source}
 use Rattle.krb_text.specs.declared.line_fault.LineFault.{LineFault}
-use Rattle.krb_text.specs.Script.{ScriptFault, script_by}
+use Rattle.krb_text.specs.Script.{script_by}
 use Rattle.krb_commands.specs.declared.trouble.Trouble.{Trouble}
 use Rattle.krb_commands.specs.declared.trouble.Trouble.TheVariants.{FaultyLine, NoMemory}
 use Rattle.krb_commands.specs.Commands.{RunsCommand}

@@ -2,7 +2,7 @@
 
 ghost use Rattle.std.specs.Prelude.{◌≡◌, IsFalse, option_map};
 ghost use Rattle.krb_text.specs.Gathered.{Prints};
-ghost use Rattle.krb_commands.specs.Commands.{RunsCommand, any, made_effect};
+ghost use Rattle.krb_commands.specs.Commands.{RunsCommand, always, any, made_effect};
 ghost use Rattle.krb_commands.specs.Effects.{Displays, IsMade};
 ghost use Rattle.krb_commands.specs.Klist.{cache_page, cache_shown, keytab_page, keytab_shown, klist_plan, list_kind, list_options, listing_page, odd_option, odd_with_cache, odd_with_keytab};
 ghost use Rattle.krb_commands.specs.Mistakes.{Reads, mistake_phrase};
@@ -294,6 +294,7 @@ impl<'f, A: Allocator + Copy> Command<A> for ListFile<'f> {
 }
 
 /// Lists the file of that name, and returns the status.
+#[tactic(auto, unfolding(crate::specs::Commands::always))]
 pub fn run_klist<A: Allocator + Copy, F: Files, R: Read, W: Write, E: Write>(
     alloc: A,
     options: &KlistOptions,
@@ -302,7 +303,7 @@ pub fn run_klist<A: Allocator + Copy, F: Files, R: Read, W: Write, E: Write>(
     streams: &mut Streams<R, W, E>,
 ) -> u8
     requires { IsFalse streams.old.out.failed }
-    ensures runs { RunsCommand F.Files (λ mode. klist_plan options.now file.now) any files.old files.new
+    ensures runs { RunsCommand F.Files (always (klist_plan options.now file.now)) any files.old files.new
         streams.old.out streams.new.out streams.old.err streams.new.err result }
     ensures input { streams.new.input ≡ streams.old.input }
 {

@@ -1,7 +1,7 @@
 //! Looks up an entry in a keytab's file.
 
 ghost use Rattle.std.specs.Prelude.{◌≡◌, IsFalse};
-ghost use Rattle.krb_commands.specs.Commands.{RunsCommand, any, text_effect};
+ghost use Rattle.krb_commands.specs.Commands.{RunsCommand, always, any, text_effect};
 ghost use Rattle.krb_commands.specs.Effects.{IsMade};
 ghost use Rattle.krb_commands.specs.Ktfind.{SpellsEntry, find_mistake, finds, ktfind_plan};
 ghost use Rattle.krb_commands.specs.Mistakes.{Reads};
@@ -125,6 +125,7 @@ impl<'f, A: Allocator + Copy, B: Allocator> Command<A> for FindEntry<'f, B> {
 }
 
 /// Looks up an entry in the keytab of that name, prints it, and returns the status.
+#[tactic(auto, unfolding(crate::specs::Commands::always))]
 pub fn run_ktfind<A: Allocator + Copy, B: Allocator, F: Files, R: Read, W: Write, E: Write>(
     alloc: A,
     options: &FindOptions<B>,
@@ -133,7 +134,7 @@ pub fn run_ktfind<A: Allocator + Copy, B: Allocator, F: Files, R: Read, W: Write
     streams: &mut Streams<R, W, E>,
 ) -> u8
     requires { IsFalse streams.old.out.failed }
-    ensures runs { RunsCommand F.Files (λ mode. ktfind_plan options.now file.now) any files.old files.new
+    ensures runs { RunsCommand F.Files (always (ktfind_plan options.now file.now)) any files.old files.new
         streams.old.out streams.new.out streams.old.err streams.new.err result }
     ensures input { streams.new.input ≡ streams.old.input }
 {

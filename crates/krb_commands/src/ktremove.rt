@@ -4,7 +4,7 @@ ghost use Rattle.std.specs.Prelude.{◌≡◌, IfErr, IfOk, IsFalse, None, OnOk,
 ghost use Rattle.std.specs.List.{filter_map};
 ghost use Rattle.krb_text.specs.Etype.{etype_in};
 ghost use Rattle.krb_audit.specs.Selection.{asked};
-ghost use Rattle.krb_commands.specs.Commands.{RunsCommand, any, text_effect};
+ghost use Rattle.krb_commands.specs.Commands.{RunsCommand, always, any, text_effect};
 ghost use Rattle.krb_commands.specs.Effects.{IsMade};
 ghost use Rattle.krb_commands.specs.Ktremove.{IsSpelledKvno, SpellsRemoval, bad_etype, bad_kvno, ktremove_plan, kvno_in, none_verdict, odd_selection, remove_mistake, removes};
 ghost use Rattle.krb_commands.specs.Mistakes.{Reads, mistake_phrase};
@@ -250,6 +250,7 @@ impl<'f, A: Allocator + Copy, B: Allocator> Command<A> for RemoveEntries<'f, B> 
 
 /// Removes from the keytab of that name the entries that are asked for, prints a line for each, and returns
 /// the status.
+#[tactic(auto, unfolding(crate::specs::Commands::always))]
 pub fn run_ktremove<A: Allocator + Copy, B: Allocator, F: Files, R: Read, W: Write, E: Write>(
     alloc: A,
     options: &RemoveOptions<B>,
@@ -258,7 +259,7 @@ pub fn run_ktremove<A: Allocator + Copy, B: Allocator, F: Files, R: Read, W: Wri
     streams: &mut Streams<R, W, E>,
 ) -> u8
     requires { IsFalse streams.old.out.failed }
-    ensures runs { RunsCommand F.Files (λ mode. ktremove_plan options.now file.now) any files.old files.new
+    ensures runs { RunsCommand F.Files (always (ktremove_plan options.now file.now)) any files.old files.new
         streams.old.out streams.new.out streams.old.err streams.new.err result }
     ensures input { streams.new.input ≡ streams.old.input }
 {

@@ -1,4 +1,4 @@
-use Rattle.std.proofs.Common.{◌≡◌, ◌∙◌, inr, ℕ, Bool, false, List, length, sym, ap}
+use Rattle.std.proofs.Common.{rules, ◌≡◌, ◌∙◌, inr, ℕ, Bool, false, List, length, sym, ap}
 use Rattle.std.specs.Prelude.{[], ◌==◌, if◌then◌else◌}
 use Rattle.std.specs.List.{flat_map, list_any}
 use Rattle.krb_ccache.specs.Store.{CacheState, PlacedCredential, image_of, placed_credentials}
@@ -24,4 +24,4 @@ returns g c =
     let o = c.args.command.now.options.now in
     let selected = c.in_ok-selected.ensures in
     inr (removed o c.args.command.now.file.now c.args.cache.state (asked_tickets o.server c.args.command.now.ended_by c.args.cache.state) c.in_ok-selected.selected.places.items c.in_ok-image.image.items c.in_ok-selected.selected.text.items _
-    selected.places selected.text (rw c.deref.ensures.value at c.in_ok-image.ensures) (sym c.is_empty.ensures ∙ c.if-is_empty.false) (c.save_unless.ensures c.args.command.now.file.now))
+    selected.places selected.text (c.in_ok-image.ensures ∙ ap (λ (p : List ℕ). image_of (cache_after c.args.cache.state p)) c.deref.ensures.value) (search rules) (c.save_unless.ensures c.args.command.now.file.now))

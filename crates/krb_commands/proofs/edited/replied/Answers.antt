@@ -1,4 +1,4 @@
-use Rattle.std.proofs.Common.{◌≡◌, ℕ, Bool, true, false, List, map, refl, sym, ap, ◌∙◌}
+use Rattle.std.proofs.Common.{map, sym, ◌∙◌}
 use Rattle.krb_walk.specs.Said.{said}
 use Rattle.krb_text.specs.Reply.{reply_texts_by}
 use Rattle.krb_commands.specs.Sessions.{is_change}
