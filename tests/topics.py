@@ -1,6 +1,5 @@
 """The topics of the tests: what has a table or a function of a certain name, of the modules in the folders beside
 this file and of their TOPICS."""
-from __future__ import annotations
 
 import os
 from functools import cache

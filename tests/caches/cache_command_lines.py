@@ -1,5 +1,4 @@
 """Command lines of `klist` over caches: bundled, repeated and late options, and refused lines."""
-from __future__ import annotations
 
 from dataclasses import replace
 from itertools import permutations

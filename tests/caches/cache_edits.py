@@ -1,5 +1,4 @@
 """Scripts of `ccedit`: the replies and the file that is saved, each wanted text written by hand."""
-from __future__ import annotations
 
 from dataclasses import replace
 

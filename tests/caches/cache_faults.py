@@ -1,5 +1,4 @@
 """Caches with odd headers and damaged ones. What is wanted is written by hand."""
-from __future__ import annotations
 
 from dataclasses import replace
 

@@ -1,5 +1,4 @@
 """Which cache is read: names of all kinds, files that cannot be read, and the greatest size."""
-from __future__ import annotations
 
 from dataclasses import replace
 

@@ -1,5 +1,4 @@
 """Listings of small caches by `klist`. Each wanted text is written by hand from the layout."""
-from __future__ import annotations
 
 from dataclasses import replace
 from functools import partial

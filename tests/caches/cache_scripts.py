@@ -1,5 +1,4 @@
 """Lines of a script over a cache: how they are read, and which faults they have."""
-from __future__ import annotations
 
 from caches.cache_edits import SET, SET_3, SET_AT, edit
 from keytabs.edits import LINE_FAULTS, by_line, faulty_lines

@@ -1,5 +1,4 @@
 """Caches of 16,777,216 bytes that are changed or told as JSON, and scripts as long, worked out by hand."""
-from __future__ import annotations
 
 from keytabs.file_names import LIMIT
 from keytabs.greatest import at_each

@@ -1,5 +1,4 @@
 """Removals by `ccremove`. Places are counted by hand; a ticket has 108 bytes, pa_type's value 136."""
-from __future__ import annotations
 
 import os
 from dataclasses import replace

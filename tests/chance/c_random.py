@@ -1,5 +1,4 @@
 """Random calls of the C library on damaged keytabs and caches, under gcc's sanitizers."""
-from __future__ import annotations
 
 from clients.c_library import SANITIZED, build, is_built
 from peers import corpus

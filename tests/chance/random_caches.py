@@ -1,5 +1,4 @@
 """Random caches: of any credentials, or of values under few names, and with damage."""
-from __future__ import annotations
 
 from collections.abc import Callable
 from dataclasses import replace

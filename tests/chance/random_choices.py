@@ -1,5 +1,4 @@
 """Look-ups, check-ups and removals, beside models of them. Names, versions and times are few, so that many agree."""
-from __future__ import annotations
 
 from collections.abc import Iterator
 from dataclasses import replace

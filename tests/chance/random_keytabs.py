@@ -1,5 +1,4 @@
 """Random keytabs: any images, those that are to be changed, and those of few names, of which many entries agree."""
-from __future__ import annotations
 
 from dataclasses import dataclass, replace
 from random import Random

@@ -1,5 +1,4 @@
 """Random inputs of `ktutil` over random files."""
-from __future__ import annotations
 
 from collections.abc import Iterator
 from functools import partial

@@ -1,5 +1,4 @@
 """Random lines of scripts over a store of either format, made beside the store that they change."""
-from __future__ import annotations
 
 from collections.abc import Callable, Iterable, Iterator
 from dataclasses import dataclass

@@ -1,5 +1,4 @@
 """Listings of keytabs and caches, random ones and ones with damage, beside what the formats say of them."""
-from __future__ import annotations
 
 import json
 import re

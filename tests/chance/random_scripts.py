@@ -4,7 +4,6 @@ Each is made beside the file that it changes, so that its places and walks are m
 thousands of events over one keytab, whose cells `ktedit` keeps a table of, by which it finds holes; `klist`
 and `ktfind` read the saved file from its front.
 """
-from __future__ import annotations
 
 from collections.abc import Iterator
 from functools import partial

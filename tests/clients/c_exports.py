@@ -1,5 +1,4 @@
 """The C library's header and manual page say what its exports are, and what parameters they take."""
-from __future__ import annotations
 
 import glob
 import os

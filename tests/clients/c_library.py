@@ -1,5 +1,4 @@
 """The C library: C programs over it beside `krbfile`, with memory refused, and keys looked for."""
-from __future__ import annotations
 
 import os
 import re

@@ -1,5 +1,4 @@
 """Keytabs that are cut, damaged or at their limit, by Python's module: scripts, and what they print."""
-from __future__ import annotations
 
 from makers.images import HOST, TWO, keytab, old
 

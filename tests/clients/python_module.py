@@ -1,5 +1,4 @@
 """Python's module over the C library: each of its calls, with what it gives written by hand."""
-from __future__ import annotations
 
 import os
 import subprocess

@@ -1,5 +1,4 @@
 """What `ktcheck` finds, by hand. Places are counted from the lengths of the records before."""
-from __future__ import annotations
 
 import os
 import stat

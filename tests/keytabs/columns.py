@@ -1,5 +1,4 @@
 """Listings with times, enctypes and keys. What is wanted is written by hand."""
-from __future__ import annotations
 
 from keytabs.listings import B_LINE, HOST_LINE, case, listed
 from makers.images import B, BIG, HOST, TWO, Entry, hole, keytab, old, record

@@ -1,5 +1,4 @@
 """ktutil with somebody at the other end: each line is answered before the next one is there."""
-from __future__ import annotations
 
 import os
 import pty

@@ -1,5 +1,4 @@
 """Which file is read: names of all kinds, files that cannot be read, and the greatest size."""
-from __future__ import annotations
 
 import os
 import subprocess

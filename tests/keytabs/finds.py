@@ -1,5 +1,4 @@
 """Look-ups by `ktfind`. Places are counted by hand, or from the lengths of the records before."""
-from __future__ import annotations
 
 from keytabs import columns
 from keytabs.file_names import LIMIT, TOO_LARGE

@@ -2,7 +2,6 @@
 
 What is wanted is worked out by hand: most of them repeat one thing.
 """
-from __future__ import annotations
 
 from keytabs.file_names import LIMIT, TOO_LARGE, sized
 from makers.images import HOST, Entry, hole, keytab, record

@@ -1,5 +1,4 @@
 """Keytabs and caches as JSON by `klist --json`. Each wanted text is written by hand from the layout."""
-from __future__ import annotations
 
 from dataclasses import replace
 

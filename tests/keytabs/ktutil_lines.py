@@ -1,5 +1,4 @@
 """Lines of `ktutil`: what they print and save, and what is wrong with them, all written by hand."""
-from __future__ import annotations
 
 from keytabs.edits import C, DAMAGED, by_line
 from keytabs.file_names import LIMIT, sized

@@ -1,5 +1,4 @@
 """Listings of small keytabs by `klist -k`. Each wanted text is written by hand from the layout."""
-from __future__ import annotations
 
 from makers.images import B, BIG, END, HOST, LITTLE, TWO, Entry, hole, keytab, old, record
 from runs.harness import Case, Outcome, message

@@ -1,5 +1,4 @@
 """Removals by `ktremove`. Places are counted by hand, or from the lengths of the records before."""
-from __future__ import annotations
 
 import os
 

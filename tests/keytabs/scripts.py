@@ -1,5 +1,4 @@
 """Lines of a script: how they are read, and which faults they have."""
-from __future__ import annotations
 
 from keytabs.edits import ADD_B, ADD_HOST, LINE_FAULTS, by_line, edit, faulty_lines, refused
 from keytabs.file_names import LIMIT

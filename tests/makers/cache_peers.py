@@ -1,5 +1,4 @@
 """What MIT's klist tells of a cache, and what ours does, in one form."""
-from __future__ import annotations
 
 import re
 import time

@@ -4,7 +4,6 @@ A keytab is the byte 5, a version (1 or 2), and then records, each a signed 32-b
 many bytes. A negative length is a hole, and the length 0 ends the file. A record begins with an
 entry. Numbers are big-endian in version 2, and in the order of whoever wrote the file in version 1.
 """
-from __future__ import annotations
 
 from dataclasses import dataclass
 

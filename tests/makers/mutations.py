@@ -1,5 +1,4 @@
 """Files with damage: in their bits, bytes and numbers, in their length, or from another file."""
-from __future__ import annotations
 
 from collections.abc import Callable
 from random import Random

@@ -1,5 +1,4 @@
 """The files that README and the manual page show at work."""
-from __future__ import annotations
 
 import os
 from contextlib import contextmanager

@@ -1,5 +1,4 @@
 """Lines of a script as they are read: what scripts over keytabs and over caches have in common."""
-from __future__ import annotations
 
 import re
 from collections.abc import Callable

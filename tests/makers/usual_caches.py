@@ -1,5 +1,4 @@
 """The cache of most cases and its parts, and one of version 3."""
-from __future__ import annotations
 
 from dataclasses import replace
 

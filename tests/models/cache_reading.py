@@ -1,5 +1,4 @@
 """What `klist` answers on a credential cache, worked out from the format's rules."""
-from __future__ import annotations
 
 from dataclasses import dataclass
 

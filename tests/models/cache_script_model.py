@@ -1,5 +1,4 @@
 """What `ccedit` does with a script: its lines, the replies to them, and the file that is saved."""
-from __future__ import annotations
 
 from makers.script_lines import WORD_COUNT, LineFault, events_in, name_in, rest_in, walk_event
 from models.cache_model import Cache

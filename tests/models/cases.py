@@ -2,7 +2,6 @@
 
 It is made from bytes, of a file, a script or an input, and from the time at which it runs behind them.
 """
-from __future__ import annotations
 
 from collections.abc import Callable
 from functools import lru_cache, wraps

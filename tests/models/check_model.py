@@ -1,5 +1,4 @@
 """What ktcheck finds, written from its rules."""
-from __future__ import annotations
 
 import os
 

@@ -1,5 +1,4 @@
 """What `klist --json` answers, worked out from the format's rules, as Python's writer of JSON spells it."""
-from __future__ import annotations
 
 import json
 

@@ -2,7 +2,6 @@
 
 It is written from the rules of the format, to say what the program has to answer and to save.
 """
-from __future__ import annotations
 
 from makers.images import BIG, END, Entry, hole, record
 from models.reading import Cell, KeytabEntry, order_of, read_cells, read_entry

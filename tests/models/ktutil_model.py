@@ -1,5 +1,4 @@
 """What `ktutil` does with its lines: what it prints, what it says is wrong, and what it saves."""
-from __future__ import annotations
 
 import re
 from collections.abc import Callable

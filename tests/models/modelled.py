@@ -1,5 +1,4 @@
 """Runs of each command, and what the models say of them: how they end, and where they may end."""
-from __future__ import annotations
 
 from collections.abc import Iterator
 from dataclasses import dataclass, replace

@@ -1,5 +1,4 @@
 """What ktremove does, written from its rules: which entries it removes, what it prints, and the file."""
-from __future__ import annotations
 
 from dataclasses import dataclass
 

@@ -1,5 +1,4 @@
 """What `ktedit` does with a script: its lines, the replies to them, and the file that is saved."""
-from __future__ import annotations
 
 import re
 

@@ -1,5 +1,4 @@
 """What ccremove does, written from its rules: which tickets it removes, what it prints, and the file."""
-from __future__ import annotations
 
 from dataclasses import dataclass
 

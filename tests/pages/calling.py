@@ -1,5 +1,4 @@
 """The pages for callers, `crates/NAME/CALLING.md`: their calls are those of the sources, their code is proved."""
-from __future__ import annotations
 
 import os
 import re

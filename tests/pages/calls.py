@@ -1,5 +1,4 @@
 """docs/CALLS.md has each public call that may be refused, and names clauses and tests that there are."""
-from __future__ import annotations
 
 import glob
 import os

@@ -1,5 +1,4 @@
 """The map has each crate in its place, and each link of a document leads to a file."""
-from __future__ import annotations
 
 import glob
 import os

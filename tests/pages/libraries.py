@@ -1,5 +1,4 @@
 """The program stands on the libraries that it is meant to stand on, and each other one has its reason."""
-from __future__ import annotations
 
 import glob
 import os

@@ -1,5 +1,4 @@
 """The manual page: its form, its commands and options, its words and its examples."""
-from __future__ import annotations
 
 import re
 import shutil

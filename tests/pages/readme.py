@@ -1,5 +1,4 @@
 """README's sessions print what it shows, and its snippets are code that the gate proves and runs."""
-from __future__ import annotations
 
 import os
 import re

@@ -3,7 +3,6 @@
 `wrong` tries them. A body that always answers that it is out of memory has none: the tests that
 docs/CALLS.md names refuse it.
 """
-from __future__ import annotations
 
 from proving import edited
 from runs.harness import Report

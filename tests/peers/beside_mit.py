@@ -1,5 +1,4 @@
 """Files that ktedit changed, as MIT's klist and ktutil read them."""
-from __future__ import annotations
 
 import os
 import re

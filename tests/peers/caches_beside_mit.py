@@ -2,7 +2,6 @@
 
 The KDC listens at an address of this machine alone, for as long as the test runs.
 """
-from __future__ import annotations
 
 import os
 import socket

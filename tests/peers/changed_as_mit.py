@@ -1,5 +1,4 @@
 """Caches that MIT's library changed: the same changes give the same bytes here."""
-from __future__ import annotations
 
 from peers.corpus import files
 from runs.harness import Report, files_in, folder_of, run

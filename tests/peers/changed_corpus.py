@@ -2,7 +2,6 @@
 
 What the change makes of them is what the models say.
 """
-from __future__ import annotations
 
 import time
 from collections.abc import Iterator

@@ -1,5 +1,4 @@
 """Entries that `ktcheck` tells of as hidden: MIT's klist lists those before, and all once it is gone."""
-from __future__ import annotations
 
 import sys
 

@@ -7,7 +7,6 @@ with what stands there afterwards). An output is {"text"} or {"hex"}; what stand
 or the name of a file of `dir` with the same bytes. A word of the line or of the standard input that
 names a file of `dir` has that file copied to where the program runs.
 """
-from __future__ import annotations
 
 import json
 import os

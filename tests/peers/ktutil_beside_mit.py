@@ -1,5 +1,4 @@
 """`ktutil` beside MIT's: the same lines for both, and a keytab that MIT's wrote."""
-from __future__ import annotations
 
 from dataclasses import replace
 

@@ -1,5 +1,4 @@
 """Old entries removed by `kadmin.local ktremove NAME old` and by ours: the files are the same."""
-from __future__ import annotations
 
 from random import Random
 

@@ -3,7 +3,6 @@
 What ours say that they saved is there afterwards, the cache is whole, and MIT's klist lists it as ours
 does.
 """
-from __future__ import annotations
 
 import os
 from random import Random

@@ -2,7 +2,6 @@
 
 The realm and its KDC are those of caches_beside_mit.
 """
-from __future__ import annotations
 
 import time
 from collections.abc import Iterator

@@ -3,7 +3,6 @@
 It goes over the libraries in `crates/*/out/rlib`. Those that `rt ci` left there have no stamp, so the
 commands of `rt` would prove each of them once more.
 """
-from __future__ import annotations
 
 import os
 import re

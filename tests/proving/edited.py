@@ -7,7 +7,6 @@ then not proved, as `wrong CRATE NAME` prints it: an `ensures` of the function, 
 call in it. A loop's invariant is no clause: it serves the proof alone. A function that is proved by hand
 has no clause that is not proved: `refused: FUNCTION proof` says that its proof is refused.
 """
-from __future__ import annotations
 
 import glob
 import os

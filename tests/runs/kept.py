@@ -1,5 +1,4 @@
 """Cases that went wrong, each kept in a folder of its own with a script that runs it again."""
-from __future__ import annotations
 
 import os
 import shutil

@@ -1,5 +1,4 @@
 """What a run may have so much of at most."""
-from __future__ import annotations
 
 import resource
 import signal

@@ -1,5 +1,4 @@
 """Tables of cases: what their rows are made by, and how they are run."""
-from __future__ import annotations
 
 from collections.abc import Callable, Iterable, Iterator
 from dataclasses import dataclass

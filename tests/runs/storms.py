@@ -1,5 +1,4 @@
 """Programs that change one file at the same time."""
-from __future__ import annotations
 
 import signal
 import subprocess

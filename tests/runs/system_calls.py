@@ -1,5 +1,4 @@
 """Runs of the program under strace, which lists its system calls and has chosen ones fail."""
-from __future__ import annotations
 
 import os
 import re

@@ -1,5 +1,4 @@
 """Runs whose error output is a terminal, or which are asked to explain themselves."""
-from __future__ import annotations
 
 import os
 import subprocess

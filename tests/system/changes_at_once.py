@@ -2,7 +2,6 @@
 
 What each says that it saved is there afterwards, and who looks meanwhile sees a whole file.
 """
-from __future__ import annotations
 
 import os
 import tempfile

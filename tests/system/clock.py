@@ -1,5 +1,4 @@
 """Clocks that stand anywhere or fail: the time of a new entry of ktutil, and which tickets have expired."""
-from __future__ import annotations
 
 from dataclasses import replace
 

@@ -1,5 +1,4 @@
 """Saves that fail or are killed at each system call: the file is the old or the new one, whole."""
-from __future__ import annotations
 
 import os
 import signal

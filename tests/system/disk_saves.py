@@ -1,5 +1,4 @@
 """What a save leaves on the disk: the new file's mode, owner and group, links, and nothing else."""
-from __future__ import annotations
 
 import os
 

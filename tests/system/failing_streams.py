@@ -2,7 +2,6 @@
 
 What is wanted is what the models say. A read or write that is interrupted counts as failed.
 """
-from __future__ import annotations
 
 from collections.abc import Iterable, Iterator
 from errno import EACCES, EAGAIN, EINTR, ENOMEM, ENOSPC, errorcode

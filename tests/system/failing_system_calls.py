@@ -3,7 +3,6 @@
 What a failure leads to is told by the step of the work that the call belongs to. That is asked of
 the run itself: how often it reads the list of locks hangs on how many others have.
 """
-from __future__ import annotations
 
 import re
 import signal

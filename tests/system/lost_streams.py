@@ -1,5 +1,4 @@
 """Outputs that take nothing and inputs that give nothing, from a run's start to its end."""
-from __future__ import annotations
 
 import os
 import subprocess

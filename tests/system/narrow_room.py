@@ -4,7 +4,6 @@ On a small stack each run is as it is to be. In little memory it is too, or says
 then a prefix of its text may be printed, and each file is as before or as after the whole run. Where
 a file would take all of the memory, each command has to say so.
 """
-from __future__ import annotations
 
 import resource
 import subprocess

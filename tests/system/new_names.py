@@ -2,7 +2,6 @@
 
 What a killed run left is taken away. All else is left as it is, and then the file is not saved.
 """
-from __future__ import annotations
 
 import os
 from collections.abc import Callable

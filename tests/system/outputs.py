@@ -1,5 +1,4 @@
 """Outputs that take less than the text: what they took is a prefix of it, and the status says so."""
-from __future__ import annotations
 
 import os
 import resource

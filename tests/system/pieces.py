@@ -1,5 +1,4 @@
 """Long listings and JSON go out in pieces. To a socket each write is a message, so its length is seen."""
-from __future__ import annotations
 
 import socket
 import subprocess

@@ -1,5 +1,4 @@
 """A pipe of that name is not opened by a run that is to change the file, so that it does not wait for a writer."""
-from __future__ import annotations
 
 import os
 import threading

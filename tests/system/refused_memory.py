@@ -4,7 +4,6 @@ A run that is refused memory says so, with status 4. klist and ktfind may have p
 their text, ktedit has neither printed nor saved, and ktutil has done its lines up to some line. Help
 is printed, or a prefix of it.
 """
-from __future__ import annotations
 
 from random import Random
 

@@ -1,5 +1,4 @@
 """A save while others change the file, its name or its folder."""
-from __future__ import annotations
 
 import fcntl
 import os

@@ -1,5 +1,4 @@
 """Runs that save a file, and what they leave in its folder."""
-from __future__ import annotations
 
 import os
 import stat

@@ -1,5 +1,4 @@
 """The program that `make static` builds: it runs where there is no C library, nor anything else."""
-from __future__ import annotations
 
 import os
 import shutil

@@ -2,7 +2,6 @@
 
 And runs that stand still since nobody reads what they print: they keep no other from the file.
 """
-from __future__ import annotations
 
 import os
 import signal

@@ -1,5 +1,4 @@
 """The kinds of storms: which commands run at the same time over a file, and what each of them does to it."""
-from __future__ import annotations
 
 from dataclasses import dataclass, replace
 

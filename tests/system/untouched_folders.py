@@ -2,7 +2,6 @@
 
 Those that take one and then have nothing to save leave none.
 """
-from __future__ import annotations
 
 import os
 

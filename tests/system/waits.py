@@ -1,5 +1,4 @@
 """A run waits for who has locked the file or made its new file, and gives up after some ten seconds."""
-from __future__ import annotations
 
 import fcntl
 import os

@@ -1,5 +1,4 @@
 """Command lines: bundled, repeated and late options, help, and lines that are refused."""
-from __future__ import annotations
 
 from itertools import permutations
 

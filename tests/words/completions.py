@@ -1,5 +1,4 @@
 """What the shells offer as a command line is typed: the commands and options that help tells of."""
-from __future__ import annotations
 
 import os
 import re

@@ -1,5 +1,4 @@
 """Each message in words: a pipe has the message alone, a terminal and `--explain` also what it says."""
-from __future__ import annotations
 
 import os
 import socket

@@ -1,5 +1,4 @@
 """Each message about a cache in words, on a pipe, on a terminal and by `--explain`."""
-from __future__ import annotations
 
 from functools import partial
 

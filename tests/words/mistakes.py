@@ -1,5 +1,4 @@
 """Bad command lines: a pipe is told that they are bad, a terminal and `--explain` also what is wrong."""
-from __future__ import annotations
 
 from makers.images import TWO
 from runs.harness import Case, Outcome, Report, differences, folder_of, run

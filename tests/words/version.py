@@ -1,5 +1,4 @@
 """The version, and the toolchain that it names."""
-from __future__ import annotations
 
 import shutil
 import subprocess
