@@ -4,7 +4,7 @@ ghost use Rattle.std.specs.Prelude.{◌≡◌, IsFalse, option_map};
 ghost use Rattle.krb_text.specs.Gathered.{Prints};
 ghost use Rattle.krb_commands.specs.Commands.{RunsCommand, always, any, made_effect};
 ghost use Rattle.krb_commands.specs.Effects.{Displays, IsMade};
-ghost use Rattle.krb_commands.specs.Klist.{cache_page, cache_shown, keytab_page, keytab_shown, klist_plan, list_kind, list_options, listing_page, odd_option, odd_with_cache, odd_with_keytab};
+ghost use Rattle.krb_commands.specs.Klist.{cache_shown, keytab_shown, klist_plan, list_kind, list_options, listing_page, odd_option, odd_with_cache, odd_with_keytab, opened_page};
 ghost use Rattle.krb_commands.specs.Mistakes.{Reads, mistake_phrase};
 ghost use Rattle.krb_commands.specs.Verdicts.{listing_verdict};
 
@@ -232,33 +232,17 @@ impl<A: Allocator + Copy> Show<A> for Listing<A> {
     }
 }
 
-// What is shown of a keytab.
-fn list_keytab_of<'a, A: Allocator>(
+// What is shown of what was opened.
+fn shown<'a, A: Allocator>(
     command: &ListFile<'a>,
-    columns: KtColumns,
-    keytab: Keytab<A>,
+    opened: Opened<A>,
 ) -> Result<Made<A, Listing<A>>, FileTrouble<'a>>
-    ensures { IsMade (Displays command.now.file.now (keytab_page command.now.options.now.json columns command.now.file.now keytab.state))
+    ensures { IsMade (Displays command.now.file.now (opened_page command.now.options.now.json opened command.now.file.now))
         (made_effect listing_page command.now.file.now result) }
 {
     Ok(Made::Shows(Listing {
         json: command.options.json,
-        opened: Opened::Keytab(columns, keytab),
-    }))
-}
-
-// What is shown of a cache.
-fn list_cache_of<'a, A: Allocator>(
-    command: &ListFile<'a>,
-    columns: CcColumns,
-    cache: Ccache<A>,
-) -> Result<Made<A, Listing<A>>, FileTrouble<'a>>
-    ensures { IsMade (Displays command.now.file.now (cache_page command.now.options.now.json columns command.now.file.now cache.state))
-        (made_effect listing_page command.now.file.now result) }
-{
-    Ok(Made::Shows(Listing {
-        json: command.options.json,
-        opened: Opened::Cache(columns, cache),
+        opened,
     }))
 }
 
@@ -283,11 +267,11 @@ impl<'f, A: Allocator + Copy> Command<A> for ListFile<'f> {
         match self.options.kind {
             ListKind::Keytab(columns) => {
                 let keytab = open_listed(alloc, self.options.v1_order, files, self.file)?;
-                list_keytab_of(self, columns, keytab)
+                shown(self, Opened::Keytab(columns, keytab))
             }
             ListKind::Cache(columns) => {
                 let cache = open_cache(alloc, files, self.file)?;
-                list_cache_of(self, columns, cache)
+                shown(self, Opened::Cache(columns, cache))
             }
         }
     }

@@ -87,6 +87,7 @@ fn bad_word<'a>(words: &[&'a str]) -> Option<&'a str>
 }
 
 // The same, by the texts of the words.
+#[tactic(auto, using(crate::proofs::MatchLemmas::found_word))]
 fn first_bad<'a>(words: &[&'a str]) -> Option<&'a str>
     ensures { option_map (λ word. word.now) result
         ≡ find (λ word. is_none (etype_in word)) (map (λ word. word.now) words.now) }
@@ -146,6 +147,7 @@ fn read_etypes(alloc: Global, words: &[&str]) -> Result<Vec<u16>, NoMemory>
 }
 
 // The same, by the texts of the words.
+#[tactic(auto, using(crate::proofs::MatchLemmas::spelled_words))]
 fn etypes_of(alloc: Global, words: &[&str]) -> Result<Vec<u16>, NoMemory>
     ensures { IfOk result (λ etypes. etypes.items ≡ filter_map etype_in (map (λ word. word.now) words.now)) }
 {
