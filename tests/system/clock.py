@@ -21,7 +21,6 @@ KNOWN = [
     ({"FAIL_CLOCK": 1}, "1970-01-01T00:00:00Z"),
 ]
 
-
 # Clocks that are not read as a second of 32 bits.
 UNREAD = ({"CLOCK": 2**32}, {"CLOCK": 2**64 - 1}, {"FAIL_CLOCK": 1})
 
