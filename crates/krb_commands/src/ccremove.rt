@@ -8,7 +8,7 @@ ghost use Rattle.krb_commands.specs.Commands.{text_effect};
 ghost use Rattle.krb_commands.specs.Effects.{IsMade};
 ghost use Rattle.krb_commands.specs.Mistakes.{Reads, mistake_phrase};
 
-use crate::command::{Command, FileTrouble, Made, Output, hold_if, run, save_unless};
+use crate::command::{Command, FileTrouble, Made, Output, hold_if, run};
 use crate::command_line::matches::{Matches, asked_name, first_value, times_given};
 use crate::command_line::mistake::{Mistake, WordFault};
 use crate::command_line::words::{CommandName, CommandWords, DRY_RUN, Word};
@@ -150,8 +150,15 @@ fn remove<'a, A: Allocator + Copy, B: Allocator>(
             verdict: none_verdict(options, selected.is_named),
         }));
     }
+    let text = Output {
+        text: selected.text,
+        verdict: Verdict::Well,
+    };
+    if options.dry_run {
+        return Ok(Made::Shows(text));
+    }
     let image = cut(cache, &selected.places)?;
-    Ok(save_unless(options.dry_run, image, selected.text))
+    Ok(Made::Saves(image, text))
 }
 
 impl<'f, A: Allocator + Copy, B: Allocator> Command<A> for RemoveTickets<'f, B> {

@@ -1,8 +1,8 @@
 //! What a command is, and the driver that runs one.
 
 ghost use Rattle.std.specs.Prelude.{◌≡◌, ℕ, List, IsFalse};
-ghost use Rattle.krb_commands.specs.Commands.{Does, HoldsIf, RunsCommand, ShowsEnd, output_page, made_effect, ready_end, text_effect};
-ghost use Rattle.krb_commands.specs.Effects.{Page, about, saves_unless};
+ghost use Rattle.krb_commands.specs.Commands.{Does, HoldsIf, RunsCommand, ShowsEnd, output_page, made_effect, ready_end};
+ghost use Rattle.krb_commands.specs.Effects.{Page, about};
 
 use crate::streams::Streams;
 use crate::telling::{cause_of, show, tell};
@@ -132,26 +132,6 @@ pub(crate) fn hold_file<F: Files>(held: bool, files: &mut F, file: &str)
 {
     if held {
         files.hold(file);
-    }
-}
-
-/// What saves an image and then prints a text; in a dry run the text is printed alone.
-pub fn save_unless<A: Allocator>(
-    dry_run: bool,
-    image: Vec<u8, A>,
-    text: Vec<u8, A>,
-) -> Made<A, Output<A>>
-    ensures { (file : List ℕ) → text_effect file (Ok result)
-        ≡ saves_unless dry_run file image.items text.items Verdict.Well }
-{
-    let text = Output {
-        text,
-        verdict: Verdict::Well,
-    };
-    if dry_run {
-        Made::Shows(text)
-    } else {
-        Made::Saves(image, text)
     }
 }
 

@@ -9,7 +9,7 @@ ghost use Rattle.krb_commands.specs.Effects.{IsMade};
 ghost use Rattle.krb_commands.specs.Ktremove.{IsSpelledKvno, SpellsRemoval, bad_etype, bad_kvno, ktremove_plan, kvno_in, none_verdict, odd_selection, remove_mistake, removes};
 ghost use Rattle.krb_commands.specs.Mistakes.{Reads, mistake_phrase};
 
-use crate::command::{Command, FileTrouble, Made, Output, hold_if, run, save_unless};
+use crate::command::{Command, FileTrouble, Made, Output, hold_if, run};
 use crate::command_line::matches::{Matches, asked_name, first_value, times_given, v1_order};
 use crate::command_line::mistake::{Mistake, WordFault};
 use crate::command_line::words::{CommandName, CommandWords, DRY_RUN, V1_BIG, Word};
@@ -222,8 +222,15 @@ fn remove<'a, A: Allocator + Copy, B: Allocator>(
             verdict: none_verdict(&options.selection, selected.is_named),
         }));
     }
+    let text = Output {
+        text: selected.text,
+        verdict: Verdict::Well,
+    };
+    if options.dry_run {
+        return Ok(Made::Shows(text));
+    }
     keytab.remove_all(&selected.places);
-    Ok(save_unless(options.dry_run, keytab.into_image(), selected.text))
+    Ok(Made::Saves(keytab.into_image(), text))
 }
 
 impl<'f, A: Allocator + Copy, B: Allocator> Command<A> for RemoveEntries<'f, B> {
