@@ -80,7 +80,7 @@ class Report:
             self.passed += 1
 
     def leaves_out(self, size: int) -> bool:
-        """Whether a case that gives the program so many bytes is left out, which is then counted."""
+        """Whether a case with that much input is left out. One that is left out is counted."""
         is_large = not self.is_proved and size > LARGE
         self.large += is_large
         return is_large

@@ -37,7 +37,7 @@ EXPLAINED = [
 
 
 def cut(wanted: Outcome, part: str, most: int) -> Outcome:
-    """The run where that part goes to what takes so many bytes. That messages are cut changes nothing else."""
+    """The run where that part goes to an output of that many bytes. A cut message changes nothing else."""
     text = getattr(wanted, part)
     return replace(FAILED if part == "out" and most < len(text) else wanted, **{part: text[:most]})
 

@@ -15,20 +15,8 @@ from contextlib import ExitStack, contextmanager
 from runs.harness import Case, Report, differences, folder_of
 from system.disk_faults import mounted
 from system.saving import (
-    ADD,
-    CHANGES,
-    HOLDING_NOTHING,
-    NEW,
-    OLD,
-    SAVED,
-    SAVING_NOTHING,
-    UNSAVED,
-    edit,
-    run_over,
-    tree,
-    tree_faults,
-    unsaved,
-    write,
+    ADD, CHANGES, HOLDING_NOTHING, NEW, OLD, SAVED, SAVING_NOTHING, UNSAVED, edit, run_over, tree, tree_faults,
+    unsaved, write,
 )
 
 # More locks than the system lists at a time, and so many that it lists them slowly.
