@@ -13,6 +13,9 @@ LIBRARY = ("krb_wire", "krb_walk", "krb_cells", "krb_keytab", "krb_ccache",
            "krb_files", "krb_text", "krb_cache_text", "krb_json", "krb_audit", "krb_commands", "krb_disk",
            "wiping")
 
+# The crates whose calls another hands on.
+PARTS = {"krb_commands": ("krb_driver", "krb_readers", "krb_editors", "krb_ktutil")}
+
 # The head of an item that may hold functions, a function, and the end of such an item.
 ITEM = re.compile(r"(?:pub )?(?:unsafe )?(impl|trait)\b(.*)")
 FUNCTION = re.compile(r"( *)(pub )?(?:const )?fn (\w+)")
@@ -67,12 +70,13 @@ def calls_in(text: str, names: set[str], is_open: bool) -> Calls:
 
 
 def calls_of(crate: str) -> Calls:
-    """The public calls of a crate."""
+    """The public calls of a crate, those among them that it hands on."""
     found: Calls = {}
-    source = os.path.join("crates", crate, "src")
-    for path in glob.glob(os.path.join(TOP, source, "**", "*.rt"), recursive=True):
-        below = os.path.relpath(path, os.path.join(TOP, source))
-        found |= calls_in(read(path), shown(crate), below.startswith("laws" + os.sep))
+    for part in (crate, *PARTS.get(crate, ())):
+        source = os.path.join(TOP, "crates", part, "src")
+        for path in glob.glob(os.path.join(source, "**", "*.rt"), recursive=True):
+            is_open = os.path.relpath(path, source).startswith("laws" + os.sep)
+            found |= calls_in(read(path), shown(crate), is_open)
     return found
 
 

@@ -99,13 +99,17 @@ WRONG_BODIES = {
         "saves-other-bytes": "other bytes are saved",
         "saves-under-another-name": "the file is saved under another name",
     },
-    "krb_commands": {
+    "krb_driver": {
+        "saves-the-text": "what is printed is saved in the file's place",
+    },
+    "krb_editors": {
         "a-refused-value-removes-the-old-one": "a configuration value that is refused removes the old one",
         "all-have-expired-without-a-clock": "every ticket has expired where the clock cannot be read",
         "an-input-that-was-read-is-told-as-failed": "an empty input is reported as one that cannot be read",
         "removed-keys-stay-in-the-file": "the removed tickets stay in the file that is saved",
+    },
+    "krb_ktutil": {
         "saves-part": "write_kt saves what it added before a refusal",
-        "saves-the-text": "what is printed is saved in the file's place",
     },
     "krb_c": {
         "tells-the-length-that-was-cut": "a text that does not fit answers the length that was taken",

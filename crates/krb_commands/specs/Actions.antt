@@ -5,24 +5,24 @@ use Rattle.krb_files.specs.Bytes.{Watch}
 use Rattle.krb_files.specs.Reader.{Source}
 use Rattle.krb_commands.specs.declared.action.Action.{Action}
 use Rattle.krb_commands.specs.declared.action.Action.TheVariants.{Ccedit, Ccremove, Klist, Ktcheck, Ktedit, Ktfind, Ktremove, Ktutil, Help}
-use Rattle.krb_commands.specs.declared.command_line.mistake.WordFault.{WordFault}
-use Rattle.krb_commands.specs.declared.command_line.words.CommandName.{CommandName}
-use Rattle.krb_commands.specs.declared.command_line.words.CommandName.TheVariants as name
-use Rattle.krb_commands.specs.declared.verdict.Verdict.TheVariants.{Well}
-use Rattle.krb_commands.specs.Ccedit.{ccedit_fairly, ccedit_plan}
-use Rattle.krb_commands.specs.Ccremove.{RunsCcremove, SpellsTickets, ended_by, ticket_mistake}
-use Rattle.krb_commands.specs.Commands.{RunsCommand, always, any}
-use Rattle.krb_commands.specs.ErrorOutput.{ErrorWatch}
-use Rattle.krb_commands.specs.Klist.{klist_plan, list_options, odd_option}
-use Rattle.krb_commands.specs.Ktcheck.{ktcheck_plan}
-use Rattle.krb_commands.specs.Ktedit.{ktedit_fairly, ktedit_plan}
-use Rattle.krb_commands.specs.Ktfind.{SpellsEntry, find_mistake, ktfind_plan}
-use Rattle.krb_commands.specs.Ktremove.{SpellsRemoval, ktremove_plan, remove_mistake}
-use Rattle.krb_commands.specs.Ktutil.{RunsKtutil}
-use Rattle.krb_commands.specs.Matches.{Matched, v1_order}
-use Rattle.krb_commands.specs.Mistakes.{word_status, word_text}
-use Rattle.krb_commands.specs.Runs.{Run, EndsRun, Says}
-use Rattle.krb_commands.specs.Scripted.{RunsScript}
+use Rattle.krb_driver.specs.declared.command_line.mistake.WordFault.{WordFault}
+use Rattle.krb_driver.specs.declared.command_line.words.CommandName.{CommandName}
+use Rattle.krb_driver.specs.declared.command_line.words.CommandName.TheVariants as name
+use Rattle.krb_driver.specs.declared.verdict.Verdict.TheVariants.{Well}
+use Rattle.krb_editors.specs.Ccedit.{ccedit_fairly, ccedit_plan}
+use Rattle.krb_editors.specs.Ccremove.{RunsCcremove, SpellsTickets, ended_by, ticket_mistake}
+use Rattle.krb_driver.specs.Commands.{RunsCommand, always, any}
+use Rattle.krb_driver.specs.ErrorOutput.{ErrorWatch}
+use Rattle.krb_readers.specs.Klist.{klist_plan, list_options, odd_option}
+use Rattle.krb_readers.specs.Ktcheck.{ktcheck_plan}
+use Rattle.krb_editors.specs.Ktedit.{ktedit_fairly, ktedit_plan}
+use Rattle.krb_readers.specs.Ktfind.{SpellsEntry, find_mistake, ktfind_plan}
+use Rattle.krb_editors.specs.Ktremove.{SpellsRemoval, ktremove_plan, remove_mistake}
+use Rattle.krb_ktutil.specs.Ktutil.{RunsKtutil}
+use Rattle.krb_driver.specs.Matches.{Matched, v1_order}
+use Rattle.krb_driver.specs.Mistakes.{word_status, word_text}
+use Rattle.krb_driver.specs.Runs.{Run, EndsRun, Says}
+use Rattle.krb_editors.specs.Scripted.{RunsScript}
 use Rattle.krb_text.specs.Script.{event_in}
 use Rattle.krb_cache_text.specs.Script.{cache_line_in}
 

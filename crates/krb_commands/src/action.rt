@@ -2,19 +2,12 @@
 
 ghost use Rattle.std.specs.Prelude.{◌≡◌, IfErr, IfOk, None, OnOk};
 ghost use Rattle.krb_commands.specs.Actions.{Asks, line_mistake};
-ghost use Rattle.krb_commands.specs.Mistakes.{IsRefusal, Reads};
+ghost use Rattle.krb_driver.specs.Mistakes.{IsRefusal, Reads};
 
-use crate::ccedit::CCEDIT;
-use crate::ccremove::{CCREMOVE, TicketOptions, ticket_options};
-use crate::command_line::matches::{Matches, v1_order};
-use crate::command_line::mistake::WordFault;
-use crate::command_line::words::{CommandName, CommandWords};
-use crate::klist::{KLIST, KlistOptions, klist_options};
-use crate::ktcheck::KTCHECK;
-use crate::ktedit::KTEDIT;
-use crate::ktfind::{FindOptions, KTFIND, find_options};
-use crate::ktremove::{KTREMOVE, RemoveOptions, remove_options};
-use crate::ktutil::KTUTIL;
+use krb_driver::{CommandName, CommandWords, Matches, WordFault, v1_order};
+use krb_editors::{CCEDIT, CCREMOVE, KTEDIT, KTREMOVE, RemoveOptions, TicketOptions, remove_options, ticket_options};
+use krb_ktutil::KTUTIL;
+use krb_readers::{FindOptions, KLIST, KTCHECK, KTFIND, KlistOptions, find_options, klist_options};
 use krb_wire::Order;
 use std::alloc::Global;
 

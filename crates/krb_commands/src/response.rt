@@ -2,22 +2,13 @@
 
 ghost use Rattle.std.specs.Prelude.{[], None, IsFalse};
 ghost use Rattle.krb_commands.specs.Actions.{EndsAsked, help_run};
-ghost use Rattle.krb_commands.specs.Runs.{EndsRun};
+ghost use Rattle.krb_driver.specs.Runs.{EndsRun};
 
 use crate::action::Action;
-use crate::ccedit::run_ccedit;
-use crate::ccremove::run_ccremove;
-use crate::command_line::mistake::WordFault;
-use crate::klist::run_klist;
-use crate::ktcheck::run_ktcheck;
-use crate::ktedit::run_ktedit;
-use crate::ktfind::run_ktfind;
-use crate::ktremove::run_ktremove;
-use crate::ktutil::run_ktutil;
-use crate::streams::Streams;
-use crate::telling::error_output::ErrorOutput;
-use crate::telling::{show, tell, tell_word_fault};
-use crate::verdict::Verdict;
+use krb_driver::{ErrorOutput, Streams, Verdict, WordFault, show, tell, tell_word_fault};
+use krb_editors::{run_ccedit, run_ccremove, run_ktedit, run_ktremove};
+use krb_ktutil::run_ktutil;
+use krb_readers::{run_klist, run_ktcheck, run_ktfind};
 use krb_files::{Files, Watched};
 use std::alloc::Allocator;
 use std::io::{Read, Write};

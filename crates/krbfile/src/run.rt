@@ -2,7 +2,7 @@
 
 ghost use Rattle.std.specs.Prelude.{ℕ, Option, Result, IsFalse};
 ghost use Rattle.krb_commands.specs.declared.action.Action.{Action};
-ghost use Rattle.krb_commands.specs.declared.command_line.mistake.WordFault.{WordFault};
+ghost use Rattle.krb_driver.specs.declared.command_line.mistake.WordFault.{WordFault};
 ghost use Rattle.krb_commands.specs.Actions.{EndsAsked};
 
 use crate::clock::seconds_now;

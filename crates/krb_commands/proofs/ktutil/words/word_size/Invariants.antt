@@ -1,6 +1,0 @@
-use Rattle.std.proofs.Common.{◌≡◌, ◌+◌, drop}
-use Rattle.krb_commands.specs.KtutilWords.{size_from, word_size}
-use Rattle.krb_commands.proofs.ktutil.words.word_size.Given as goal
-
-abbrev pub invariant-loop-size : goal.invariant-loop-size
-invariant-loop-size l = l.size + size_from (drop l.size l.text) l.is_quoted ≡ word_size l.text

@@ -1,6 +1,0 @@
-use Rattle.krb_commands.specs.Opening.{keytab_in}
-use Rattle.krb_commands.proofs.Making.{opens-by}
-use Rattle.krb_commands.proofs.opening.open_keytab.Goals as goal
-
-pub returns : goal.returns
-returns g c = opens-by g.F.Files c.args.files.now c.args.file.now (keytab_in c.args.v1_order) _ c.give_keytab.new.files c.give_keytab.ensures

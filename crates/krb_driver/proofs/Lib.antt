@@ -1,0 +1,7 @@
+pub mod Faults
+pub mod Pieces
+pub mod Shown
+pub mod Making
+pub mod Running
+pub mod Words
+pub mod MatchLemmas

@@ -1,0 +1,148 @@
+-- How what is made follows a plan.
+use Rattle.std.proofs.Common.{◌≡◌, ◌⊎◌, inl, inr, ◌∙◌, ℕ, Bool, List, [], ◌∷◌, refl, sym, ap, subst}
+use Rattle.std.specs.Prelude.{Option, None, Some, Result, Ok, Err, is_ok}
+use Rattle.std.proofs.lemmas.Bool.{false≢true, true≢false}
+use Rattle.krb_files.specs.declared.files.LoadFault.TheVariants as load
+use Rattle.krb_files.specs.declared.files.Files.{Ghosts}
+use Rattle.krb_driver.specs.declared.trouble.Trouble.{Trouble}
+use Rattle.krb_driver.specs.declared.trouble.Trouble.TheVariants as trouble
+use Rattle.krb_walk.specs.declared.refusal.Code.{Code}
+use Rattle.krb_files.specs.Loading.{Answer}
+use Rattle.krb_files.specs.Plan.{Ends, Holds, Loaded, by}
+use Rattle.krb_driver.specs.Commands.{FairOver, GivesOf, HoldsIf, Makes, MakesFairly, Opens, fair_first, of_file}
+use Rattle.krb_driver.specs.Effects.{CommandPlan, Effect, Fails, IsMade, IsSpent, faults, goes_on, opens}
+use Rattle.krb_driver.specs.Opening.{or_refused, unless_refused}
+use Rattle.krb_files.proofs.PlanLaws.{loaded-none}
+
+-- the effect that a trouble makes
+abbrev fails_of : {X : Type 0} → Result X (List ℕ × Trouble) → Effect
+fails_of (Ok x) = Fails [] trouble.NoMemory
+fails_of (Err met) = Fails met.0 met.1
+
+-- what was given, whatever the file
+abbrev no_file : {X : Type 0} → Result X (List ℕ × Trouble) → Result X Trouble
+no_file (Ok x) = Ok x
+no_file (Err met) = Err met.1
+
+module _ {X : Type 0} (file : List ℕ) (then_ : X → CommandPlan) where
+  -- how a command goes on that opened a file
+  by-opens : (gives : Answer → Result X Trouble) (answer : Answer) (rest : List Answer) → gives (Err load.Failed) ≡ Err trouble.FileNotRead → gives (Err load.NoMemory) ≡ Err trouble.NoMemory
+      → by faults (opens file gives then_) (answer ∷ rest) ≡ by faults (goes_on file (gives answer) then_) rest
+  by-opens gives (Ok bytes) rest failed spent = refl
+  by-opens gives (Err load.Missing) rest failed spent = refl
+  by-opens gives (Err load.TooLarge) rest failed spent = refl
+  by-opens gives (Err load.Failed) rest failed spent = sym (ap (λ (g : Result X Trouble). by faults (goes_on file g then_) rest) failed)
+  by-opens gives (Err load.NoMemory) rest failed spent = sym (ap (λ (g : Result X Trouble). by faults (goes_on file g then_) rest) spent)
+
+  goes-failed : (name : List ℕ) (why : Trouble) (given : Result X Trouble) → Err (name, why) ≡ of_file file given → Fails name why ≡ by faults (goes_on file given then_) []
+  goes-failed name why (Ok x) is = absurd (false≢true (ap is_ok is))
+  goes-failed name why (Err e) is = ap fails_of is
+
+  goes-ok : (x : X) (given : Result X Trouble) → Ok x ≡ of_file file given → goes_on file given then_ ≡ then_ x
+  goes-ok x (Ok y) is = sym (ap (λ (r : Result X (List ℕ × Trouble)). goes_on [] (no_file r) then_) is)
+  goes-ok x (Err e) is = absurd (true≢false (ap is_ok is))
+
+  module _ {F : Type 0} (trait : Ghosts F) (old : F) (gives : Answer → Result X Trouble) where
+    -- some trouble with the file
+    pub makes-failed : (name : List ℕ) (why : Trouble) (new : F) → GivesOf trait old file gives (Err (name, why)) new → Makes trait old (opens file gives then_) (Fails name why) new
+    makes-failed name why new o = record {
+      answers = o.answer ∷ [];
+      loads = (new, (o.loads, loaded-none trait faults (goes_on file (gives o.answer) then_) new));
+      made = elim o.given_is [
+        | inl spent ↦ inl (file, ap fails_of spent)
+        | inr is ↦ inr (goes-failed name why (gives o.answer) is ∙ sym (by-opens gives o.answer [] o.failed o.spent))
+      ];
+    }
+
+    pub makes-opened : (x : X) (effect : Effect) (between new : F) → GivesOf trait old file gives (Ok x) between → Makes trait between (then_ x) effect new → Makes trait old (opens file gives then_) effect new
+    makes-opened x effect between new o m =
+        let goes : goes_on file (gives o.answer) then_ ≡ then_ x = elim o.given_is [
+          | inl spent ↦ absurd (true≢false (ap is_ok spent))
+          | inr is ↦ goes-ok x (gives o.answer) is
+        ] in
+        record {
+          answers = o.answer ∷ m.answers;
+          loads = (between, (o.loads, subst (λ (p : CommandPlan). Loaded trait p between m.answers new) (sym goes) m.loads));
+          made = elim m.made [
+            | inl spent ↦ inl spent
+            | inr is ↦ inr (is ∙ ap (λ (p : CommandPlan). by faults p m.answers) (sym goes) ∙ sym (by-opens gives o.answer m.answers o.failed o.spent))
+          ];
+        }
+
+-- a file was opened
+pub opens-by : {F X : Type 0} (trait : Ghosts F) (old : F) (file : List ℕ) (gives : Answer → Result X Trouble) (given : Result X (List ℕ × Trouble)) (new : F) → GivesOf trait old file gives given new → Opens trait old file gives given new
+opens-by trait old file gives (Ok x) new o = λ then_ effect end made. makes-opened file then_ trait old gives x effect new end o made
+opens-by trait old file gives (Err met) new o = λ then_. makes-failed file then_ trait old gives met.0 met.1 new o
+
+or-refused : {X : Type 0} (file : List ℕ) (k : X) (o : Option Code) → or_refused (λ code. (file, trouble.Refused code)) k o ≡ of_file file (or_refused trouble.Refused k o)
+or-refused file k None = refl
+or-refused file k (Some code) = refl
+
+of-refused : {X : Type 0} (refusal : X → Option Code) (file : List ℕ) (given : Result X Trouble) → unless_refused (λ code. (file, trouble.Refused code)) refusal (of_file file given) ≡ of_file file (unless_refused trouble.Refused refusal given)
+of-refused refusal file (Ok k) = or-refused file k (refusal k)
+of-refused refusal file (Err why) = refl
+
+-- something was given, unless it refuses what a run asks for
+pub gives-unless : {F X : Type 0} (trait : Ghosts F) (old : F) (file : List ℕ) (gives : Answer → Result X Trouble) (refusal : X → Option Code) (given : Result X (List ℕ × Trouble)) (new : F) → GivesOf trait old file gives given new
+    → GivesOf trait old file (λ answer. unless_refused trouble.Refused refusal (gives answer)) (unless_refused (λ code. (file, trouble.Refused code)) refusal given) new
+gives-unless trait old file gives refusal given new o = record {
+  answer = o.answer;
+  loads = o.loads;
+  given_is = elim o.given_is [
+    | inl spent ↦ inl (ap (unless_refused (λ code. (file, trouble.Refused code)) refusal) spent)
+    | inr is ↦ inr (ap (unless_refused (λ code. (file, trouble.Refused code)) refusal) is ∙ of-refused refusal file (gives o.answer))
+  ];
+  failed = ap (unless_refused trouble.Refused refusal) o.failed;
+  spent = ap (unless_refused trouble.Refused refusal) o.spent;
+}
+
+-- a file was held, or not
+pub makes-holds : {F : Type 0} (trait : Ghosts F) (old new : F) (held : Bool) (file : List ℕ) → new ≡ old → HoldsIf trait old held file new
+makes-holds {F = F} trait old new held file is = λ plan effect end made.
+    let m = subst (λ (x : F). Makes trait x plan effect end) is made in
+    record { answers = m.answers; loads = m.loads; made = m.made }
+
+-- what was made without a load
+pub makes-end : {F : Type 0} (trait : Ghosts F) (old : F) (due effect : Effect) → IsMade due effect → Makes trait old (Ends due) effect old
+makes-end trait old due effect made = record { answers = []; loads = (refl, refl); made = made }
+
+abbrev spent_file : {X : Type 0} → List ℕ → Result X (List ℕ × Trouble)
+spent_file file = Err (file, trouble.NoMemory)
+
+gave : {X : Type 0} (Fair : X → Type 0) (file : List ℕ) (x : X) (given : Result X Trouble) → (Ok x ≡ spent_file {X = X} file) ⊎ (Ok x ≡ of_file file given) → Fair x → FairOver Fair given
+gave Fair file x given (inl spent) fair = absurd (true≢false (ap is_ok spent))
+gave {X = X} Fair file x (Ok y) (inr is) fair = subst (λ (r : Result X (List ℕ × Trouble)). FairOver Fair (no_file r)) is fair
+gave Fair file x (Err why) (inr is) fair = tt
+
+gave-none : {X : Type 0} (Fair : X → Type 0) (file name : List ℕ) (why : Trouble) (given : Result X Trouble) → Err (name, why) ≡ of_file file given → FairOver Fair given
+gave-none Fair file name why (Ok x) is = absurd (false≢true (ap is_ok is))
+gave-none Fair file name why (Err e) is = tt
+
+-- of what was opened that was made, and something holds of it
+pub makes-fairly : {F X : Type 0} (trait : Ghosts F) (old : F) (file : List ℕ) (gives : Answer → Result X Trouble) (due : X → Effect) (Fair : X → Type 0) (x : X) (effect : Effect) (new : F)
+    → GivesOf trait old file gives (Ok x) new → IsMade (due x) effect → IsSpent effect ⊎ Fair x → MakesFairly trait old (opens file gives (λ y. Ends (due y))) (fair_first gives Fair) effect new
+unfolding makes-opened
+makes-fairly trait old file gives due Fair x effect new o made fair = record {
+  makes = makes-opened file (λ y. Ends (due y)) trait old gives x effect new new o (makes-end trait new (due x) effect made);
+  fair = elim fair [
+    | inl spent ↦ inl spent
+    | inr fair ↦ inr (gave Fair file x (gives o.answer) o.given_is fair)
+  ];
+}
+
+-- where nothing was opened
+pub fairly-failed : {F X : Type 0} (trait : Ghosts F) (old : F) (file : List ℕ) (gives : Answer → Result X Trouble) (then_ : X → CommandPlan) (Fair : X → Type 0) (name : List ℕ) (why : Trouble) (new : F)
+    → GivesOf trait old file gives (Err (name, why)) new → MakesFairly trait old (opens file gives then_) (fair_first gives Fair) (Fails name why) new
+unfolding makes-failed
+fairly-failed trait old file gives then_ Fair name why new o = record {
+  makes = makes-failed file then_ trait old gives name why new o;
+  fair = elim o.given_is [
+    | inl spent ↦ inl (file, ap fails_of spent)
+    | inr is ↦ inr (gave-none Fair file name why (gives o.answer) is)
+  ];
+}
+
+pub fairly-holds : {F : Type 0} (trait : Ghosts F) (old new end : F) (held : Bool) (file : List ℕ) (plan : CommandPlan) (Fairly : List Answer → Type 0) (effect : Effect) → new ≡ old → MakesFairly trait new plan Fairly effect end → MakesFairly trait old (Holds held file plan) Fairly effect end
+fairly-holds {F = F} trait old new end held file plan Fairly effect is made =
+    let m = subst (λ (x : F). MakesFairly trait x plan Fairly effect end) is made in
+    record { makes = record { answers = m.makes.answers; loads = m.makes.loads; made = m.makes.made }; fair = m.fair }

@@ -1,0 +1,53 @@
+-- What is shown of a run, and what a reader gave.
+use Rattle.std.proofs.Common.{◌≡◌, ◌≢◌, ℕ, ◌<◌, List, [], ◌++◌, refl, sym, ap, subst}
+use Rattle.std.specs.Prelude.{◌+◌, ◌≤◌, ◌||◌, length, Bool, true, false, Option, None, Result, Ok, Err, is_ok, IfSome}
+use Rattle.std.proofs.lemmas.Bool.{true≢false}
+use Rattle.krb_files.specs.declared.files.LoadFault.{LoadFault}
+use Rattle.krb_files.specs.declared.files.LoadFault.TheVariants as load
+use Rattle.krb_files.specs.Bytes.{Watch}
+use Rattle.krb_files.proofs.Prefixes.{AppendsPrefix-none, Appends-nil}
+use Rattle.krb_driver.specs.declared.verdict.Verdict.TheVariants.{Well}
+use Rattle.krb_files.specs.Loading.{most_bytes}
+use Rattle.krb_driver.specs.Input.{GivesInput}
+use Rattle.krb_driver.specs.Runs.{Says, SaysEnd}
+use Rattle.krb_files.specs.declared.cause.Cause.{Cause}
+use Rattle.krb_driver.specs.Words.{ending_text, words_if, ending_words}
+use Rattle.krb_driver.specs.ErrorOutput.{ErrorWatch}
+use Rattle.krb_driver.specs.Troubles.{Ending, ending_message}
+use Rattle.krb_files.specs.Reader.{Source, ConsumesAtMost, is_failed}
+
+-- nothing was to be said
+pub Says-nothing : (w : Watch) → Says w w []
+Says-nothing w = record { prefix = AppendsPrefix-none w.contents []; whole = λ _. Appends-nil w.contents }
+
+-- nor was there anything to explain
+words_if-nothing : (explains : Bool) → words_if explains [] ≡ []
+words_if-nothing true = refl
+words_if-nothing false = refl
+
+-- nothing was to be said of a run that went well
+pub SaysEnd-nothing : (file : List ℕ) (line : Option ℕ) (err : ErrorWatch) → SaysEnd file line (Ok Well) err err
+SaysEnd-nothing file line err = record {
+  cause = None;
+  said = subst (Says err.to err.to) (sym (words_if-nothing err.explains)) (Says-nothing err.to);
+  still = refl;
+}
+
+-- a message was said, with the words that are shown
+pub Says-words : (file : List ℕ) (line : Option ℕ) (cause : Option Cause) (ending : Ending) (err : ErrorWatch) (to : Watch) (words : List ℕ)
+    → Says err.to to (ending_message file ending ++ words) → words ≡ words_if err.explains (ending_words file line cause ending) → Says err.to to (ending_text err.explains file line cause ending)
+Says-words file line cause ending err to words said are = subst (λ (w : List ℕ). Says err.to to (ending_message file ending ++ w)) are said
+
+-- ---- what a reader gave
+
+abbrev pub fault_in : Result (List ℕ) LoadFault → LoadFault
+fault_in (Ok bytes) = load.Missing
+fault_in (Err fault) = fault
+
+pub GivesInput-ok : (reader reader' : Source) (bytes : List ℕ) → IfSome reader.left (λ left. bytes ≡ left) → length bytes ≤ most_bytes → reader'.failed ≡ reader.failed → ConsumesAtMost reader.left reader'.left (most_bytes + 1)
+    → GivesInput reader reader' (Ok bytes)
+GivesInput-ok reader reader' bytes all within failed taken = record { all = all; within = within; too_large = λ e. absurd (true≢false (ap is_ok e)); never = tt; failed = failed; taken = taken }
+
+pub GivesInput-err : (reader reader' : Source) (fault : LoadFault) → (fault ≡ load.TooLarge → IfSome reader.left (λ left. most_bytes < length left)) → fault ≢ load.Missing
+    → reader'.failed ≡ (is_failed fault || reader.failed) → ConsumesAtMost reader.left reader'.left (most_bytes + 1) → GivesInput reader reader' (Err fault)
+GivesInput-err reader reader' fault too_large never failed taken = record { all = tt; within = tt; too_large = λ e. too_large (ap fault_in e); never = never; failed = failed; taken = taken }

@@ -1,0 +1,37 @@
+-- Pieces and the text behind them, what is said without words, and how a run ends that printed replies.
+use Rattle.std.proofs.Common.{◌≡◌, ℕ, Bool, false, List, [], ◌∷◌, ◌++◌, refl, sym, ap, subst, ◌∙◌, append_assoc}
+use Rattle.std.specs.Prelude.{if◌then◌else◌, codes, Option}
+use Rattle.std.specs.List.{list_any}
+use Rattle.krb_walk.specs.declared.fault.FaultKind.{FaultKind}
+use Rattle.krb_walk.specs.declared.refusal.Code.{Code}
+use Rattle.krb_walk.specs.Said.{Said}
+use Rattle.krb_driver.specs.declared.telling.piece.Piece.{Piece}
+use Rattle.krb_driver.specs.declared.verdict.FileKind.{FileKind}
+use Rattle.krb_driver.specs.declared.verdict.Verdict.{Verdict}
+use Rattle.krb_driver.specs.declared.verdict.Verdict.TheVariants.{Well, Replied}
+use Rattle.krb_files.specs.Bytes.{Watch}
+use Rattle.krb_driver.specs.declared.command_line.mistake.BadLine.{BadLine}
+use Rattle.krb_driver.specs.declared.command_line.mistake.WordFault.TheVariants as word
+use Rattle.krb_driver.specs.ErrorOutput.{ErrorWatch}
+use Rattle.krb_driver.specs.Messages.{message}
+use Rattle.krb_driver.specs.Mistakes.{word_text}
+use Rattle.krb_driver.specs.Runs.{Says}
+use Rattle.krb_driver.specs.PieceTexts.{piece_text, pieces_text, pieces_before}
+use Rattle.krb_driver.specs.Told.{is_trouble, codes_told, faults_told, replied_verdict}
+
+pub pieces_text-append : (pieces : List Piece) (rest : List ℕ) → pieces_text pieces ++ rest ≡ pieces_before pieces rest
+pieces_text-append [] rest = refl
+pieces_text-append (p ∷ ps) rest = append_assoc (piece_text p) (pieces_text ps) rest ∙ ap (λ l. piece_text p ++ l) (pieces_text-append ps rest)
+
+-- an end is that of the replies, where what it tells is what they tell
+pub replied_verdict-by : {R : Type 0} (kind : FileKind) (said : R → Said) (replies : List R) (b : Bool) (codes : List (Option Code)) (faults : List (Option FaultKind))
+    → b ≡ list_any (λ r. is_trouble (said r)) replies → codes ≡ codes_told said replies → faults ≡ faults_told said replies
+    → (if b then Replied (record { kind = kind; codes = codes; faults = faults }) else Well) ≡ replied_verdict kind said replies
+replied_verdict-by kind said replies b codes faults told codes_are faults_are =
+    let ends : Bool → List (Option Code) → List (Option FaultKind) → Verdict = λ b codes faults. if b then Replied (record { kind = kind; codes = codes; faults = faults }) else Well in
+    ap (λ (d : Bool). ends d codes faults) told ∙ ap (λ (cs : List (Option Code)). ends (list_any (λ r. is_trouble (said r)) replies) cs faults) codes_are
+    ∙ ap (λ (ks : List (Option FaultKind)). ends (list_any (λ r. is_trouble (said r)) replies) (codes_told said replies) ks) faults_are
+
+-- a bad command line is told without words
+pub Says-alone : (err : ErrorWatch) (to : Watch) (line : BadLine) → err.explains ≡ false → Says err.to to (message (codes "bad command line") ++ []) → Says err.to to (word_text err.explains (word.BadLine line))
+Says-alone err to line hides said = subst (λ (b : Bool). Says err.to to (word_text b (word.BadLine line))) (sym hides) said

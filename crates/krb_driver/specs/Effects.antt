@@ -1,0 +1,79 @@
+-- What a command comes to, and its plan over files.
+use Rattle.std.specs.Prelude.{◌≡◌, ◌⊎◌, ℕ, Bool, true, false, List, Result, Ok, Err}
+use Rattle.krb_files.specs.declared.files.SaveFault.{SaveFault}
+use Rattle.krb_files.specs.Files.{FileMap}
+use Rattle.krb_files.specs.Loading.{Answer}
+use Rattle.krb_files.specs.Plan.{Plan, Ends, Loads, Faults, with_bytes}
+use Rattle.krb_driver.specs.declared.trouble.Trouble.{Trouble}
+use Rattle.krb_driver.specs.declared.trouble.Trouble.TheVariants as trouble
+use Rattle.krb_driver.specs.declared.verdict.Verdict.{Verdict}
+use Rattle.krb_driver.specs.Troubles.{save_trouble}
+
+-- what is shown, how the run ends then, and whether showing it takes memory
+pub record Page : Type 0 where
+  pub out : List ℕ
+  pub verdict : Verdict
+  pub takes : Bool
+
+-- a text that is ready
+abbrev pub text : List ℕ → Verdict → Page
+text out verdict = record { out = out; verdict = verdict; takes = false }
+
+-- what a command comes to, with the file that it is about: some trouble, a page that is shown, or bytes that are saved and a text that is printed then
+pub data Effect : Type 0 where
+  Fails : List ℕ → Trouble → Effect
+  Displays : List ℕ → Page → Effect
+  Saves : List ℕ → List ℕ → List ℕ → Verdict → Effect
+
+-- the file
+abbrev pub about : Effect → List ℕ
+about (Fails file why) = file
+about (Displays file page) = file
+about (Saves file bytes out verdict) = file
+
+abbrev pub faults : Faults Effect
+faults = record { unread = λ file. Fails file trouble.FileNotRead; spent = λ file. Fails file trouble.NoMemory }
+
+-- all that a command does
+abbrev pub CommandPlan : Type 0
+CommandPlan = Plan Effect
+
+-- a command goes on with what a file gave, or some trouble with it ends it
+abbrev pub goes_on : {X : Type 0} → List ℕ → Result X Trouble → (X → CommandPlan) → CommandPlan
+goes_on file (Ok x) then_ = then_ x
+goes_on file (Err why) then_ = Ends (Fails file why)
+
+-- a file is loaded and opened
+abbrev pub opens : {X : Type 0} → List ℕ → (Answer → Result X Trouble) → (X → CommandPlan) → CommandPlan
+opens file gives then_ = Loads file (λ answer. goes_on file (gives answer) then_)
+
+-- bytes are saved and then a text is printed; in a dry run the text is printed alone
+abbrev pub saves_unless : Bool → List ℕ → List ℕ → List ℕ → Verdict → Effect
+saves_unless true file bytes out verdict = Displays file (text out verdict)
+saves_unless false file bytes out verdict = Saves file bytes out verdict
+
+-- what a save comes to by its answer
+abbrev pub saved_end : List ℕ → List ℕ → Verdict → Result (Unit {0}) SaveFault → Effect
+saved_end file out verdict (Ok done) = Displays file (text out verdict)
+saved_end file out verdict (Err fault) = Fails file (save_trouble fault)
+
+-- what an effect comes to where no call fails, and the files after it
+abbrev pub settled : Effect → Effect
+settled (Saves file bytes out verdict) = Displays file (text out verdict)
+settled effect = effect
+
+abbrev pub files_after : FileMap → Effect → FileMap
+files_after files (Saves file bytes out verdict) = with_bytes files file bytes
+files_after files effect = files
+
+-- memory ran out
+abbrev pub IsSpent : Effect → Type 0
+IsSpent effect = (file : List ℕ) × (effect ≡ Fails file trouble.NoMemory)
+
+-- what is due was made, or memory ran out
+abbrev pub IsMade : Effect → Effect → Type 0
+IsMade due effect = IsSpent effect ⊎ (effect ≡ due)
+
+-- a file was not read, or not written
+abbrev pub IsFailure : Effect → Type 0
+IsFailure effect = (file : List ℕ) × ((effect ≡ Fails file trouble.FileNotRead) ⊎ (effect ≡ Fails file trouble.FileNotWritten))

@@ -1,0 +1,16 @@
+-- What the contracts of this crate say.
+pub mod Messages
+pub mod PieceTexts
+pub mod Verdicts
+pub mod Troubles
+pub mod Told
+pub mod Words
+pub mod ErrorOutput
+pub mod Runs
+pub mod Mistakes
+pub mod Matches
+pub mod Loading
+pub mod Opening
+pub mod Effects
+pub mod Commands
+pub mod Input

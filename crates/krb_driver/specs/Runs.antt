@@ -1,0 +1,54 @@
+-- What a run of the program leaves.
+use Rattle.std.specs.Prelude.{◌≡◌, ℕ, List, [], IsTrue, IsFalse, Option, Err}
+use Rattle.std.specs.Io.KnownBytes.{Appends}
+use Rattle.krb_files.specs.declared.cause.Cause.{Cause}
+use Rattle.krb_files.specs.Bytes.{Watch, AppendsPrefix}
+use Rattle.krb_driver.specs.declared.trouble.Trouble.{Trouble}
+use Rattle.krb_driver.specs.declared.trouble.Trouble.TheVariants.{OutputNotWritten, NoMemory}
+use Rattle.krb_driver.specs.ErrorOutput.{ErrorWatch}
+use Rattle.krb_driver.specs.Troubles.{Ending, ending_status}
+use Rattle.krb_driver.specs.Words.{ending_text}
+
+-- what a run prints, and how it ends
+pub record Run : Type 0 where
+  pub out : List ℕ
+  pub ending : Ending
+
+-- a run that prints nothing, for some trouble
+abbrev pub ends_by : Trouble → Run
+ends_by trouble = record { out = []; ending = Err trouble }
+
+-- the text went out and the run ended so; or the output failed, which ended it, and has a prefix of the text
+pub record Shows (due : Run) (out out' : Watch) (ending : Ending) : Type 0 where
+  pub done : IsFalse out'.failed → Appends out.contents out'.contents due.out × (ending ≡ due.ending)
+  pub prefix : AppendsPrefix out.contents out'.contents due.out
+  pub failed : IsTrue out'.failed → ending ≡ Err OutputNotWritten
+  pub still : due.out ≡ [] → out'.failed ≡ out.failed
+
+-- memory ran out before the end of the text
+pub record BreaksOff (due : Run) (out out' : Watch) (ending : Ending) : Type 0 where
+  pub ending_is : ending ≡ Err NoMemory
+  pub well : IsFalse out'.failed
+  pub prefix : AppendsPrefix out.contents out'.contents due.out
+
+-- the whole text was written, unless the writer has failed: then a prefix of it was
+pub record Says (old new : Watch) (text : List ℕ) : Type 0 where
+  pub prefix : AppendsPrefix old.contents new.contents text
+  pub whole : IsFalse new.failed → Appends old.contents new.contents text
+
+-- it is said how a run, or a line of ktutil, ended that names that file, by the words of some cause or of none
+pub record SaysEnd (file : List ℕ) (line : Option ℕ) (ending : Ending) (err err' : ErrorWatch) : Type 0 where
+  pub cause : Option Cause
+  pub said : Says err.to err'.to (ending_text err.explains file line cause ending)
+  pub still : err'.explains ≡ err.explains
+
+-- it is said so, and the status is of that
+pub record Tells (file : List ℕ) (line : Option ℕ) (ending : Ending) (err err' : ErrorWatch) (status : ℕ) : Type 0 where
+  pub says : SaysEnd file line ending err err'
+  pub status_is : status ≡ ending_status ending
+
+-- a run or a line was shown, and its end told
+pub record EndsRun (file : List ℕ) (line : Option ℕ) (due : Run) (out out' : Watch) (err err' : ErrorWatch) (status : ℕ) : Type 0 where
+  pub ending : Ending
+  pub shows : Shows due out out' ending
+  pub told : Tells file line ending err err' status

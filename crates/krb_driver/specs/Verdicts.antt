@@ -1,0 +1,30 @@
+-- How a run ends that did its work: the message, and the status.
+use Rattle.std.specs.Prelude.{ℕ, List, [], if◌then◌else◌, Bool, true, false, Option, None, Some, codes}
+use Rattle.krb_walk.specs.declared.fault.Fault.{Fault}
+use Rattle.krb_walk.specs.declared.refusal.Code.TheVariants.{NotFound}
+use Rattle.krb_walk.specs.Numbers.{code_number}
+use Rattle.krb_driver.specs.declared.verdict.Verdict.{Verdict}
+use Rattle.krb_driver.specs.declared.verdict.Verdict.TheVariants.{Well, Listed, Replied, Found, NothingToRemove}
+use Rattle.krb_driver.specs.Messages.{file_number_message}
+
+-- the end of a listing, which reports a fault
+abbrev pub listing_verdict : Option Fault → Verdict
+listing_verdict None = Well
+listing_verdict (Some fault) = Listed fault
+
+-- the message, of a run over that file
+abbrev pub verdict_message : List ℕ → Verdict → List ℕ
+verdict_message file (NothingToRemove kind) = file_number_message file (codes "refused ") (code_number NotFound) []
+verdict_message file verdict = []
+
+-- the status
+abbrev pub verdict_status : Verdict → ℕ
+verdict_status Well = 0
+verdict_status (Found findings) = if findings.is_wrong then 1 else 0
+verdict_status verdict = 1
+
+-- replies or findings have words of their own
+abbrev pub is_itemized : Verdict → Bool
+is_itemized (Replied told) = true
+is_itemized (Found findings) = true
+is_itemized verdict = false

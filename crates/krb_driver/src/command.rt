@@ -1,0 +1,213 @@
+//! What a command is, and the driver that runs one.
+
+ghost use Rattle.std.specs.Prelude.{◌≡◌, ℕ, List, IsFalse};
+ghost use Rattle.krb_driver.specs.Commands.{Does, HoldsIf, RunsCommand, ShowsEnd, output_page, made_effect, ready_end};
+ghost use Rattle.krb_driver.specs.Effects.{Page, about};
+
+use crate::streams::Streams;
+use crate::telling::{cause_of, show, tell};
+use crate::trouble::Trouble;
+use crate::verdict::Verdict;
+use krb_files::{Files, Watched};
+use krb_wire::NoMemory;
+use std::alloc::Allocator;
+use std::io::{Read, Write};
+
+/// Some trouble, and the file that it is about.
+#[derive(Clone, Copy)]
+pub struct FileTrouble<'a> {
+    pub file: &'a str,
+    pub trouble: Trouble,
+}
+
+impl<'a> From<NoMemory> for FileTrouble<'a> {
+    ghost use Rattle.krb_driver.specs.declared.trouble.Trouble.TheVariants as trouble;
+
+    ghost from_gives = { λ _ met. met.trouble ≡ trouble.NoMemory };
+
+    fn from(_no_memory: NoMemory) -> FileTrouble<'a> {
+        FileTrouble {
+            file: "",
+            trouble: Trouble::NoMemory,
+        }
+    }
+}
+
+/// A text that is ready, and how the run ends that prints it.
+#[derive(Drop)]
+pub struct Output<A: Allocator> {
+    pub text: Vec<u8, A>,
+    pub verdict: Verdict,
+}
+
+/// What a command makes of its files.
+#[derive(Drop)]
+pub enum Made<A: Allocator, S: Drop> {
+    /// Nothing is saved, and this is shown.
+    Shows(S),
+    /// The image is saved, and then the text is printed.
+    Saves(Vec<u8, A>, Output<A>),
+}
+
+// What is shown in the end.
+#[derive(Drop)]
+enum Ready<A: Allocator, S: Drop> {
+    Shows(S),
+    Prints(Output<A>),
+}
+
+/// What a run shows in the end.
+pub trait Show<A: Allocator + Copy>: Drop {
+    ghost use Rattle.std.specs.Prelude.{ℕ, List, IsFalse};
+    ghost use Rattle.krb_driver.specs.Commands.{ShowsPage};
+    ghost use Rattle.krb_driver.specs.Effects.{Page};
+
+    /// The page that it is, of the file of that name.
+    ghost page: { Self → List ℕ → Page };
+
+    /// Shows it.
+    fn show<W: Write>(&self, alloc: A, file: &str, out: &mut Watched<W>) -> Result<Verdict, Trouble>
+        requires { IsFalse out.old.failed }
+        ensures { ShowsPage out.old out.new result (page self.now file.now) };
+}
+
+impl<A: Allocator + Copy> Show<A> for Output<A> {
+    ghost use Rattle.krb_driver.specs.Commands.{output_page};
+
+    ghost page = { λ shown file. output_page shown };
+
+    fn show<W: Write>(
+        &self,
+        alloc: A,
+        file: &str,
+        out: &mut Watched<W>,
+    ) -> Result<Verdict, Trouble> {
+        show(&self.text, Ok(self.verdict), out)
+    }
+}
+
+/// A command: a plan over files, what it makes of them, and the file that it saves.
+pub trait Command<A: Allocator + Copy> {
+    ghost use Rattle.std.specs.Prelude.{◌≡◌, ℕ, List, Option};
+    ghost use Rattle.krb_driver.specs.Commands.{MakesFairly, any, made_effect};
+    ghost use Rattle.krb_driver.specs.Effects.{CommandPlan};
+    ghost use Rattle.krb_files.specs.Loading.{Answer};
+
+    /// What it shows.
+    type Shown: Show<A>;
+
+    /// The file that it is about, and that it saves if it saves one.
+    ghost file: { Self → List ℕ };
+
+    /// All that it does, by the mode of the file that it loads last.
+    ghost plan: { Self → Option ℕ → CommandPlan };
+
+    /// What else holds of what its loads answer.
+    ghost fairly: { Self → List Answer → Type 0 } = { λ _. any };
+
+    /// The name of its file.
+    fn file(&self) -> &str
+        ensures { result.now ≡ file self.now };
+
+    /// Loads its files, holding those that it may change, and makes of them what is to be saved and shown.
+    fn make<F: Files>(
+        &self,
+        alloc: A,
+        files: &mut F,
+    ) -> Result<Made<A, Self::Shown>, FileTrouble<'_>>
+        ensures { MakesFairly F.Files files.old (plan self.now (F.Files.mode files.new)) (fairly self.now)
+            (made_effect Self.Shown.page (file self.now) result) files.new };
+}
+
+/// Holds the file of that name, if that is asked for.
+pub fn hold_if<F: Files>(held: bool, files: &mut F, file: &str)
+    ensures { HoldsIf F.Files files.old held file.now files.new }
+{
+    hold_file(held, files, file);
+}
+
+// Holds it, where nothing is said of a plan.
+pub(crate) fn hold_file<F: Files>(held: bool, files: &mut F, file: &str)
+    ensures { files.new ≡ files.old }
+{
+    if held {
+        files.hold(file);
+    }
+}
+
+// Does what a command plans, up to what is shown.
+fn settle<'a, A: Allocator + Copy, C: Command<A>, F: Files>(
+    alloc: A,
+    command: &'a C,
+    files: &mut F,
+) -> Result<Ready<A, C::Shown>, FileTrouble<'a>>
+    ensures { Does F.Files (C.plan command.now) (C.fairly command.now) files.old files.new
+        (ready_end C.Shown.page (C.file command.now) result) }
+{
+    match command.make(alloc, files) {
+        Ok(Made::Shows(shown)) => Ok(Ready::Shows(shown)),
+        Ok(Made::Saves(image, text)) => {
+            let file = command.file();
+            match files.save(file, &image) {
+                Ok(()) => Ok(Ready::Prints(text)),
+                Err(fault) => Err(FileTrouble {
+                    file,
+                    trouble: Trouble::from(fault),
+                }),
+            }
+        }
+        Err(met) => Err(met),
+    }
+}
+
+// The file that is told of, where a command is about that one.
+fn about<'a, A: Allocator, S: Drop>(
+    ready: &Result<Ready<A, S>, FileTrouble<'a>>,
+    file: &'a str,
+) -> &'a str
+    ensures { (page : S → List ℕ → Page) → result.now ≡ about (ready_end page file.now ready.now) }
+{
+    match ready {
+        Ok(_) => file,
+        Err(met) => met.file,
+    }
+}
+
+// Shows what a command came to.
+fn show_ready<A: Allocator + Copy, S: Show<A>, W: Write>(
+    alloc: A,
+    file: &str,
+    ready: Result<Ready<A, S>, FileTrouble<'_>>,
+    out: &mut Watched<W>,
+) -> Result<Verdict, Trouble>
+    requires { IsFalse out.old.failed }
+    ensures { ShowsEnd out.old out.new result (ready_end S.page file.now ready.entry) }
+{
+    match ready {
+        Ok(Ready::Shows(shown)) => shown.show(alloc, file, out),
+        Ok(Ready::Prints(text)) => text.show(alloc, file, out),
+        Err(met) => Err(met.trouble),
+    }
+}
+
+/// Runs a command, and answers the status. The files are left before anything is shown, as who reads that may
+/// be slow. What goes wrong is said on the error output; a failure of that changes nothing else.
+pub fn run<A: Allocator + Copy, C: Command<A>, F: Files, R: Read, W: Write, E: Write>(
+    alloc: A,
+    command: &C,
+    files: &mut F,
+    streams: &mut Streams<R, W, E>,
+) -> u8
+    requires { IsFalse streams.old.out.failed }
+    ensures runs { RunsCommand F.Files (C.plan command.now) (C.fairly command.now) files.old files.new
+        streams.old.out streams.new.out streams.old.err streams.new.err result }
+    ensures input { streams.new.input ≡ streams.old.input }
+{
+    let ready = settle(alloc, command, files);
+    files.release();
+    let file = command.file();
+    let named = about(&ready, file);
+    let ending = show_ready(alloc, file, ready, &mut streams.out);
+    let cause = cause_of(&ending, files, &streams.out);
+    tell(ending, named.as_bytes(), None, cause, &mut streams.err)
+}

@@ -1,0 +1,28 @@
+//! What a command is, the driver that runs one, and what a run says where it fails.
+#![tactic(auto)]
+
+mod command;
+mod command_line;
+mod loading;
+mod opening;
+mod streams;
+mod telling;
+mod trouble;
+mod verdict;
+
+pub use command::{Command, FileTrouble, Made, Output, Show, hold_file, hold_if, run};
+pub use command_line::matches::{
+    Matches, asked_name, first_value, spelled_name, times_given, v1_order,
+};
+pub use command_line::mistake::{BadLine, Mistake, WordFault};
+pub use command_line::words::{CommandName, CommandWords, DRY_RUN, V1_BIG, Word};
+pub use loading::{NoKeytab, NotKeytab, load_keytab, load_or_new};
+pub use opening::{
+    give_cache, give_or_empty, open_cache, open_keytab, open_listed, open_whole, open_writable,
+};
+pub use streams::Streams;
+pub use telling::error_output::ErrorOutput;
+pub use telling::told::replied_verdict;
+pub use telling::{cause_of, show, tell, tell_word_fault};
+pub use trouble::Trouble;
+pub use verdict::{FileKind, Findings, Verdict};

@@ -1,0 +1,124 @@
+//! From a file's name to the keytab or the cache that it holds.
+
+ghost use Rattle.std.specs.Prelude.{◌≡◌, Err};
+ghost use Rattle.krb_keytab.specs.Store.{open_result};
+ghost use Rattle.krb_driver.specs.declared.loading.NoKeytab.TheVariants.{Load};
+ghost use Rattle.krb_files.specs.Loading.{most_bytes};
+ghost use Rattle.krb_driver.specs.Loading.{Gives, GivesOrRunsOut, begins_as_cache, begins_as_keytab, cache_of, keytab_of, keytab_or_new, not_keytab, result_map, result_map_err};
+
+use crate::trouble::Trouble;
+use krb_ccache::{CcOpenFault, Ccache};
+use krb_files::{Files, LoadFault};
+use krb_keytab::{Keytab, KtOpenFault};
+use krb_wire::{KtFormat, Limits, Order, USUAL_LIMIT};
+use std::alloc::Allocator;
+
+/// Why a file gave no keytab.
+#[derive(Clone, Copy)]
+pub enum NoKeytab {
+    /// It was not loaded, or there was no memory for a new one.
+    Load(LoadFault),
+    /// Its image is no keytab.
+    Open(NotKeytab),
+}
+
+/// Why an image is no keytab, and whether it begins as a cache.
+#[derive(Clone, Copy, PartialEq, Eq)]
+pub struct NotKeytab {
+    pub fault: KtOpenFault,
+    pub is_cache: bool,
+}
+
+/// Why an image is no cache, and whether it begins as a keytab or as a cache of version 1 or 2.
+#[derive(Clone, Copy)]
+pub struct NotCache {
+    pub fault: CcOpenFault,
+    pub is_keytab: bool,
+}
+
+impl From<LoadFault> for NoKeytab {
+    ghost from_gives = { λ fault why. why ≡ Load fault };
+
+    fn from(fault: LoadFault) -> NoKeytab {
+        NoKeytab::Load(fault)
+    }
+}
+
+fn begins_as_cache(image: &[u8]) -> bool
+    ensures { result ≡ begins_as_cache image.now }
+{
+    image.starts_with(&[5, 3]) || image.starts_with(&[5, 4])
+}
+
+fn begins_as_keytab(image: &[u8]) -> bool
+    ensures { result ≡ begins_as_keytab image.now }
+{
+    image.starts_with(&[5, 1]) || image.starts_with(&[5, 2])
+}
+
+fn open<A: Allocator>(v1_order: Order, image: Vec<u8, A>) -> Result<Keytab<A>, NoKeytab>
+    ensures { result_map (λ k. k.state) result
+        ≡ result_map_err (not_keytab image.items) (open_result v1_order most_bytes image.items) }
+{
+    match Keytab::open(image, v1_order, Limits::usual()) {
+        Ok(keytab) => Ok(keytab),
+        Err(refused) => Err(NoKeytab::Open(NotKeytab {
+            fault: refused.why,
+            is_cache: begins_as_cache(&refused.image),
+        })),
+    }
+}
+
+/// The keytab of a file; version 1 has that order.
+pub fn load_keytab<A: Allocator, F: Files>(
+    alloc: A,
+    v1_order: Order,
+    files: &mut F,
+    name: &str,
+) -> Result<Keytab<A>, NoKeytab>
+    ensures { Gives F.Files files.old name.now
+        (keytab_of v1_order) (result_map (λ k. k.state) result) files.new }
+{
+    let image = files.load(alloc, name, USUAL_LIMIT)?;
+    open(v1_order, image)
+}
+
+/// The keytab of a file, or an empty one of version 2 where the file is missing.
+pub fn load_or_new<A: Allocator + Copy, F: Files>(
+    alloc: A,
+    v1_order: Order,
+    files: &mut F,
+    name: &str,
+) -> Result<Keytab<A>, NoKeytab>
+    ensures { GivesOrRunsOut F.Files files.old name.now
+        (keytab_or_new v1_order) (result_map (λ k. k.state) result) files.new }
+{
+    match load_keytab(alloc, v1_order, files, name) {
+        Err(NoKeytab::Load(LoadFault::Missing)) => {
+            match Keytab::create(alloc, KtFormat::V2, Limits::usual()) {
+                Ok(keytab) => Ok(keytab),
+                Err(_) => Err(NoKeytab::Load(LoadFault::NoMemory)),
+            }
+        }
+        given => given,
+    }
+}
+
+/// The cache of a file.
+pub fn load_cache<A: Allocator, F: Files>(
+    alloc: A,
+    files: &mut F,
+    name: &str,
+) -> Result<Ccache<A>, Trouble>
+    ensures { Gives F.Files files.old name.now
+        cache_of (result_map (λ k. k.state) result) files.new }
+{
+    let image = files.load(alloc, name, USUAL_LIMIT)?;
+    match Ccache::open(image, Limits::usual()) {
+        Ok(cache) => Ok(cache),
+        Err(refused) => Err(Trouble::NotACache(NotCache {
+            fault: refused.why,
+            is_keytab: begins_as_keytab(&refused.image),
+        })),
+    }
+}

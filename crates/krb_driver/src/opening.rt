@@ -1,0 +1,185 @@
+//! From a file's name to the keytab or the cache that it holds, or to the trouble with it.
+
+ghost use Rattle.std.specs.Prelude.{◌≡◌, if◌then◌else◌, is_some};
+ghost use Rattle.krb_walk.specs.Store.{fault_of};
+ghost use Rattle.krb_driver.specs.declared.trouble.Trouble.TheVariants.{Refused};
+ghost use Rattle.krb_driver.specs.Commands.{GivesOf, Opens, opened};
+ghost use Rattle.krb_driver.specs.Loading.{cache_of};
+ghost use Rattle.krb_driver.specs.Opening.{cache_refusal, keytab_in, keytab_or_empty, keytab_refusal, listed_in, unless_refused, whole_in, writable_in};
+
+use crate::command::FileTrouble;
+use crate::loading::{load_cache, load_keytab, load_or_new};
+use crate::trouble::Trouble;
+use krb_ccache::{Ccache, Version};
+use krb_files::Files;
+use krb_keytab::Keytab;
+use krb_walk::Code;
+use krb_wire::Order;
+use std::alloc::Allocator;
+
+// The keytab of a file.
+fn give_keytab<'a, A: Allocator, F: Files>(
+    alloc: A,
+    v1_order: Order,
+    files: &mut F,
+    file: &'a str,
+) -> Result<Keytab<A>, FileTrouble<'a>>
+    ensures { GivesOf F.Files files.old file.now (keytab_in v1_order) (opened (λ k. k.state) result) files.new }
+{
+    match load_keytab(alloc, v1_order, files, file) {
+        Ok(keytab) => Ok(keytab),
+        Err(why) => Err(FileTrouble {
+            file,
+            trouble: Trouble::from(why),
+        }),
+    }
+}
+
+/// The keytab of a file.
+pub fn open_keytab<'a, A: Allocator, F: Files>(
+    alloc: A,
+    v1_order: Order,
+    files: &mut F,
+    file: &'a str,
+) -> Result<Keytab<A>, FileTrouble<'a>>
+    ensures { Opens F.Files files.old file.now (keytab_in v1_order) (opened (λ k. k.state) result) files.new }
+{
+    give_keytab(alloc, v1_order, files, file)
+}
+
+// The keytab of a file that is to be listed.
+fn give_listed<'a, A: Allocator, F: Files>(
+    alloc: A,
+    v1_order: Order,
+    files: &mut F,
+    file: &'a str,
+) -> Result<Keytab<A>, FileTrouble<'a>>
+    ensures { GivesOf F.Files files.old file.now (listed_in v1_order) (opened (λ k. k.state) result) files.new }
+{
+    match load_keytab(alloc, v1_order, files, file) {
+        Ok(keytab) => Ok(keytab),
+        Err(why) => Err(FileTrouble {
+            file,
+            trouble: Trouble::of_listed(why),
+        }),
+    }
+}
+
+/// The keytab of a file that is to be listed.
+pub fn open_listed<'a, A: Allocator, F: Files>(
+    alloc: A,
+    v1_order: Order,
+    files: &mut F,
+    file: &'a str,
+) -> Result<Keytab<A>, FileTrouble<'a>>
+    ensures { Opens F.Files files.old file.now (listed_in v1_order) (opened (λ k. k.state) result) files.new }
+{
+    give_listed(alloc, v1_order, files, file)
+}
+
+/// The keytab of a file, or an empty one of version 2 where the file is missing.
+pub fn give_or_empty<'a, A: Allocator + Copy, F: Files>(
+    alloc: A,
+    v1_order: Order,
+    files: &mut F,
+    file: &'a str,
+) -> Result<Keytab<A>, FileTrouble<'a>>
+    ensures { GivesOf F.Files files.old file.now (keytab_or_empty v1_order) (opened (λ k. k.state) result) files.new }
+{
+    match load_or_new(alloc, v1_order, files, file) {
+        Ok(keytab) => Ok(keytab),
+        Err(why) => Err(FileTrouble {
+            file,
+            trouble: Trouble::from(why),
+        }),
+    }
+}
+
+/// The cache of a file.
+pub fn give_cache<'a, A: Allocator, F: Files>(
+    alloc: A,
+    files: &mut F,
+    file: &'a str,
+) -> Result<Ccache<A>, FileTrouble<'a>>
+    ensures { GivesOf F.Files files.old file.now cache_of (opened (λ k. k.state) result) files.new }
+{
+    match load_cache(alloc, files, file) {
+        Ok(cache) => Ok(cache),
+        Err(trouble) => Err(FileTrouble { file, trouble }),
+    }
+}
+
+/// The cache of a file.
+pub fn open_cache<'a, A: Allocator, F: Files>(
+    alloc: A,
+    files: &mut F,
+    file: &'a str,
+) -> Result<Ccache<A>, FileTrouble<'a>>
+    ensures { Opens F.Files files.old file.now cache_of (opened (λ k. k.state) result) files.new }
+{
+    give_cache(alloc, files, file)
+}
+
+// A keytab that is whole.
+fn whole<'a, A: Allocator>(
+    file: &'a str,
+    given: Result<Keytab<A>, FileTrouble<'a>>,
+) -> Result<Keytab<A>, FileTrouble<'a>>
+    ensures { opened (λ k. k.state) result
+        ≡ unless_refused (λ code. (file.now, Refused code)) keytab_refusal (opened (λ k. k.state) given.entry) }
+{
+    match given {
+        Ok(keytab) if keytab.fault().is_some() => Err(FileTrouble {
+            file,
+            trouble: Trouble::Refused(Code::Damaged),
+        }),
+        given => given,
+    }
+}
+
+/// The keytab of a file that is to be changed: it is whole.
+pub fn open_whole<'a, A: Allocator, F: Files>(
+    alloc: A,
+    v1_order: Order,
+    files: &mut F,
+    file: &'a str,
+) -> Result<Keytab<A>, FileTrouble<'a>>
+    ensures { Opens F.Files files.old file.now (whole_in v1_order) (opened (λ k. k.state) result) files.new }
+{
+    let given = give_keytab(alloc, v1_order, files, file);
+    whole(file, given)
+}
+
+// A cache that may be changed: version 3 is read-only, and a damaged one may lose nothing.
+fn writable<'a, A: Allocator>(
+    file: &'a str,
+    given: Result<Ccache<A>, FileTrouble<'a>>,
+) -> Result<Ccache<A>, FileTrouble<'a>>
+    ensures { opened (λ k. k.state) result
+        ≡ unless_refused (λ code. (file.now, Refused code)) cache_refusal (opened (λ k. k.state) given.entry) }
+{
+    let cache = given?;
+    let code = if cache.version() == Version::V3 {
+        Code::ReadOnly
+    } else if cache.fault().is_some() {
+        Code::Damaged
+    } else {
+        return Ok(cache);
+    };
+    Err(FileTrouble {
+        file,
+        trouble: Trouble::Refused(code),
+    })
+}
+
+/// The cache of a file that is to be changed: it is whole, and of version 4.
+pub fn open_writable<'a, A: Allocator, F: Files>(
+    alloc: A,
+    files: &mut F,
+    file: &'a str,
+) -> Result<Ccache<A>, FileTrouble<'a>>
+    ensures { Opens F.Files files.old file.now writable_in (opened (λ k. k.state) result) files.new }
+{
+    let given = give_cache(alloc, files, file);
+    writable(file, given)
+}

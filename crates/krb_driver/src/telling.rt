@@ -1,0 +1,229 @@
+//! What a run shows, and how its end is told.
+
+pub(crate) mod error_output;
+mod found_words;
+mod mistake_words;
+mod piece;
+mod saying;
+pub(crate) mod told;
+mod told_words;
+mod words;
+
+ghost use Rattle.std.specs.Prelude.{◌≡◌, IsFalse, codes};
+ghost use Rattle.krb_keytab.specs.Open.{open_fault_number};
+ghost use Rattle.krb_driver.specs.Messages.{file_message, file_number_message, line_message, message};
+ghost use Rattle.krb_driver.specs.PieceTexts.{pieces_text};
+ghost use Rattle.krb_driver.specs.Runs.{Says, SaysEnd, Shows, Tells};
+ghost use Rattle.krb_driver.specs.Troubles.{ending_message, trouble_message};
+ghost use Rattle.krb_driver.specs.Verdicts.{verdict_message};
+ghost use Rattle.krb_driver.specs.Words.{ending_text};
+
+use crate::loading::NotKeytab;
+use crate::telling::error_output::ErrorOutput;
+use crate::telling::found_words::say_findings;
+use crate::telling::piece::Piece;
+use crate::telling::saying::say;
+use crate::telling::told_words::say_told;
+use crate::telling::words::ending_words;
+use crate::trouble::Trouble;
+use crate::verdict::Verdict;
+use krb_files::{Cause, Files, Watched, put};
+use krb_walk::Code;
+pub use mistake_words::tell_word_fault;
+use std::io::Write;
+
+/// Shows a text, and then ends so; or by an output that failed.
+pub fn show<W: Write>(
+    text: &[u8],
+    ending: Result<Verdict, Trouble>,
+    out: &mut Watched<W>,
+) -> Result<Verdict, Trouble>
+    requires { IsFalse out.old.failed }
+    ensures { Shows (record { out = text.now; ending = ending }) out.old out.new result }
+{
+    put(out, text)?;
+    ending
+}
+
+/// The pieces of a message. What is not needed is empty.
+type Message<'a> = [Piece<'a>; 7];
+
+const NONE: Piece<'static> = Piece::Text("");
+
+// What is said.
+fn message<'a>(what: &'a str) -> Message<'a>
+    ensures { pieces_text result ≡ message what.now }
+{
+    let head = Piece::Text("krbfile: ");
+    let end = Piece::Text("\n");
+    [head, Piece::Text(what), end, NONE, NONE, NONE, NONE]
+}
+
+// What is said of a file.
+fn file_message<'a>(file: &'a [u8], what: &'a str) -> Message<'a>
+    ensures { pieces_text result ≡ file_message file.now what.now }
+{
+    [
+        Piece::Text("krbfile: "),
+        Piece::Name(file),
+        Piece::Text(": "),
+        Piece::Text(what),
+        Piece::Text("\n"),
+        NONE,
+        NONE,
+    ]
+}
+
+// What is said of a file, with a number between two texts.
+fn file_number_message<'a>(
+    file: &'a [u8],
+    before: &'a str,
+    number: u32,
+    after: &'a str,
+) -> Message<'a>
+    ensures { pieces_text result ≡ file_number_message file.now before.now number after.now }
+{
+    [
+        Piece::Text("krbfile: "),
+        Piece::Name(file),
+        Piece::Text(": "),
+        Piece::Text(before),
+        Piece::Number(u64::from(number)),
+        Piece::Text(after),
+        Piece::Text("\n"),
+    ]
+}
+
+// What is said of a line of the input, with a number.
+fn line_message<'a>(line: u64, what: &'a str, number: u32) -> Message<'a>
+    ensures { pieces_text result ≡ line_message line what.now number }
+{
+    [
+        Piece::Text("krbfile: line "),
+        Piece::Number(line),
+        Piece::Text(": "),
+        Piece::Text(what),
+        Piece::Number(u64::from(number)),
+        Piece::Text("\n"),
+        NONE,
+    ]
+}
+
+// That a file is no keytab.
+fn not_keytab_message(file: &[u8], why: NotKeytab) -> Message<'_>
+    ensures { pieces_text result ≡ file_number_message file.now
+        (codes "not a keytab (") (open_fault_number why.fault) (codes ")") }
+{
+    file_number_message(file, "not a keytab (", why.fault.number(), ")")
+}
+
+// What ended a run before its end.
+fn trouble_message(trouble: Trouble, file: &[u8]) -> Message<'_>
+    ensures { pieces_text result ≡ trouble_message file.now trouble }
+{
+    match trouble {
+        Trouble::InputTooLarge => message("input too large"),
+        Trouble::InputNotRead => message("cannot read input"),
+        Trouble::FaultyLine { line, fault } => line_message(line, "fault ", fault.number()),
+        Trouble::LineRefused { line, code } => line_message(line, "refused ", code.number()),
+        Trouble::NoSuchFile => file_message(file, "no such file"),
+        Trouble::FileTooLarge => file_message(file, "file too large"),
+        Trouble::FileNotRead => file_message(file, "cannot read"),
+        Trouble::FileNotWritten => file_message(file, "cannot write"),
+        Trouble::NotAKeytab(why) => not_keytab_message(file, why),
+        Trouble::NotAKeytabToList(why) => not_keytab_message(file, why),
+        Trouble::NotACache(why) => {
+            file_number_message(file, "not a cache (", why.fault.number(), ")")
+        }
+        Trouble::Refused(code) => file_number_message(file, "refused ", code.number(), ""),
+        Trouble::OutputNotWritten => message("cannot write output"),
+        Trouble::ClockNotRead => message("cannot read the clock"),
+        Trouble::NoMemory => message("out of memory"),
+    }
+}
+
+// What a run has to say that did its work.
+fn verdict_message(verdict: Verdict, file: &[u8]) -> Message<'_>
+    ensures { pieces_text result ≡ verdict_message file.now verdict }
+{
+    match verdict {
+        Verdict::NothingToRemove(_) => {
+            file_number_message(file, "refused ", Code::NotFound.number(), "")
+        }
+        _ => [NONE; 7],
+    }
+}
+
+// What is said of an end.
+fn ending_message(ending: Result<Verdict, Trouble>, file: &[u8]) -> Message<'_>
+    ensures { pieces_text result ≡ ending_message file.now ending }
+{
+    match ending {
+        Ok(verdict) => verdict_message(verdict, file),
+        Err(trouble) => trouble_message(trouble, file),
+    }
+}
+
+/// What a run failed with, where a call over a file or a write did.
+pub fn cause_of<F: Files, W: Write>(
+    ending: &Result<Verdict, Trouble>,
+    files: &F,
+    out: &Watched<W>,
+) -> Option<Cause> {
+    match ending {
+        Err(Trouble::OutputNotWritten) => out.cause(),
+        _ => files.cause(),
+    }
+}
+
+// Says how a run ended, with words where they are shown.
+fn say_end<E: Write>(
+    ending: Result<Verdict, Trouble>,
+    file: &[u8],
+    line: Option<u64>,
+    cause: Option<Cause>,
+    err: &mut ErrorOutput<E>,
+)
+    ensures says { SaysEnd file.now line ending err.old err.new }
+    ensures cause { Says err.old.to err.new.to (ending_text err.old.explains file.now line cause ending) }
+{
+    let message = ending_message(ending, file);
+    if !err.explains {
+        say(&mut err.to, &message, &[]);
+        return;
+    }
+    match ending {
+        Ok(Verdict::Replied(told)) => say_told(&mut err.to, &told),
+        Ok(Verdict::Found(findings)) => say_findings(&mut err.to, &findings, file),
+        _ => say(
+            &mut err.to,
+            &message,
+            &ending_words(ending, file, line, cause),
+        ),
+    }
+}
+
+/// Says on `err` how a run, or that line of ktutil, ended that names that file, and returns the status. A
+/// failure of `err` is passed over. The cause is that of the call that failed, if one did.
+pub fn tell<E: Write>(
+    ending: Result<Verdict, Trouble>,
+    file: &[u8],
+    line: Option<u64>,
+    cause: Option<Cause>,
+    err: &mut ErrorOutput<E>,
+) -> u8
+    ensures tells { Tells file.now line ending err.old err.new result }
+    ensures cause { Says err.old.to err.new.to (ending_text err.old.explains file.now line cause ending) }
+{
+    match ending {
+        Ok(Verdict::Well) => 0,
+        Ok(verdict) => {
+            say_end(ending, file, line, cause, err);
+            verdict.status()
+        }
+        Err(trouble) => {
+            say_end(ending, file, line, cause, err);
+            trouble.status()
+        }
+    }
+}

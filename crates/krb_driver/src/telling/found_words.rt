@@ -1,0 +1,77 @@
+//! The words that explain findings.
+
+ghost use Rattle.std.specs.Prelude.{◌≡◌, [], if◌then◌else◌};
+ghost use Rattle.krb_driver.specs.PieceTexts.{piece_text, pieces_text};
+ghost use Rattle.krb_driver.specs.Runs.{Says};
+ghost use Rattle.krb_driver.specs.Words.{found_fault_words, found_words, word_lines};
+
+use crate::telling::piece::Piece;
+use crate::telling::saying::say;
+use crate::telling::words::{Words, listed_words, no_words};
+use crate::verdict::Findings;
+use krb_audit::Told;
+use krb_files::Watched;
+use krb_walk::Fault;
+use std::io::Write;
+
+// A line, if its word was printed.
+fn line_if(is_told: bool, line: &'static str) -> Piece<'static>
+    ensures { piece_text result ≡ (if is_told then line.now else []) }
+{
+    if is_told {
+        Piece::Text(line)
+    } else {
+        Piece::Text("")
+    }
+}
+
+// A line for each word that was printed.
+fn word_lines(told: Told) -> [Piece<'static>; 6]
+    ensures { pieces_text result ≡ word_lines told }
+{
+    [
+        line_if(
+            told.weak,
+            "krbfile: weak: an encryption type that MIT calls weak or deprecated\n",
+        ),
+        line_if(
+            told.hidden,
+            "krbfile: hidden: MIT's programs see no entry from this one on\n",
+        ),
+        line_if(told.same, "krbfile: same: this key stands there twice\n"),
+        line_if(
+            told.clash,
+            "krbfile: clash: two keys for one name, version and type\n",
+        ),
+        line_if(
+            told.old,
+            "krbfile: old: a newer version of this name stands there\n",
+        ),
+        line_if(
+            told.mode,
+            "krbfile: mode: users other than the owner may read or change this file\n",
+        ),
+    ]
+}
+
+// The fault that was found, if one was.
+fn fault_words(file: &[u8], fault: Option<Fault>) -> Words<'_>
+    ensures { pieces_text result ≡ found_fault_words file.now fault }
+{
+    match fault {
+        Some(fault) => listed_words(file, fault),
+        None => no_words(),
+    }
+}
+
+/// Says what the words of findings mean, each once, and the fault, in one write if they have room. A failure
+/// is passed over.
+pub fn say_findings<E: Write>(err: &mut Watched<E>, findings: &Findings, file: &[u8])
+    ensures { Says err.old err.new (found_words file.now findings.now) }
+{
+    say(
+        err,
+        &word_lines(findings.words),
+        &fault_words(file, findings.fault),
+    );
+}

@@ -1,0 +1,32 @@
+//! The pieces of a message.
+
+ghost use Rattle.std.specs.Prelude.{◌≡◌};
+ghost use Rattle.krb_driver.specs.PieceTexts.{shown_byte};
+
+use arrayvec::ArrayVec;
+
+/// A piece of a message.
+#[derive(Clone, Copy)]
+pub enum Piece<'a> {
+    Text(&'a str),
+    /// The name of a file.
+    Name(&'a [u8]),
+    /// In decimal.
+    Number(u64),
+    /// A word of the command line, its bytes that are not printable as `\x` and two digits.
+    Word(&'a str),
+}
+
+/// A byte of a word as it is shown.
+pub fn shown_byte(byte: u8) -> ArrayVec<u8, 4>
+    ensures { result.items ≡ shown_byte byte }
+{
+    let mut shown = ArrayVec::new();
+    if matches!(byte, b' '..=b'~') {
+        shown.push(byte);
+        return shown;
+    }
+    let mut text = *b"\\x..";
+    hex::encode_to_slice(&[byte], &mut text[2..]).unwrap();
+    ArrayVec::from(text)
+}

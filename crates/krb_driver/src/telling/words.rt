@@ -1,0 +1,249 @@
+//! The words that explain what ended a run.
+
+ghost use Rattle.std.specs.Prelude.{◌≡◌, [], ◌++◌, IfOk, IsFalse, codes};
+ghost use Rattle.krb_driver.specs.Messages.{phrase_line, words_line};
+ghost use Rattle.krb_driver.specs.PieceTexts.{piece_text, pieces_text};
+ghost use Rattle.krb_driver.specs.Verdicts.{is_itemized};
+ghost use Rattle.krb_driver.specs.Words.{cache_phrase, cause_words, ending_words, keytab_phrase, line_fault_phrase, list_phrase, listed_words, missing_words, no_cache_phrase, no_keytab_phrase, nothing_phrase, refusal_phrase, trouble_words, verdict_words};
+
+use crate::loading::{NotCache, NotKeytab};
+use crate::telling::piece::Piece;
+use crate::trouble::Trouble;
+use crate::verdict::{FileKind, Verdict};
+use krb_ccache::CcOpenFault;
+use krb_files::Cause;
+use krb_keytab::KtOpenFault;
+use krb_text::LineFault;
+use krb_walk::{Code, Fault};
+
+/// The pieces of words. What is not needed is empty.
+pub type Words<'a> = [Piece<'a>; 9];
+
+const NONE: Piece<'static> = Piece::Text("");
+
+const TOO_LARGE: &str = "it has more than 16,777,216 bytes";
+
+// Words of two pieces, behind the number of ktutil's line.
+fn words<'a>(line: Option<u64>, first: Piece<'a>, second: Piece<'a>) -> Words<'a>
+    ensures { pieces_text result ≡ words_line line
+        (piece_text first.entry ++ (piece_text second.entry ++ codes "\n")) }
+{
+    let end = Piece::Text("\n");
+    match line {
+        None => {
+            let head = Piece::Text("krbfile: ");
+            [head, first, second, end, NONE, NONE, NONE, NONE, NONE]
+        }
+        Some(line) => {
+            let head = Piece::Text("krbfile: line ");
+            let number = Piece::Number(line);
+            let colon = Piece::Text(": ");
+            [head, number, colon, first, second, end, NONE, NONE, NONE]
+        }
+    }
+}
+
+/// None.
+pub fn no_words<'a>() -> Words<'a>
+    ensures { pieces_text result ≡ [] }
+{
+    let none = Piece::Text("");
+    [none; 9]
+}
+
+// A phrase alone.
+fn phrase<'a>(line: Option<u64>, text: &'static str) -> Words<'a>
+    ensures { pieces_text result ≡ phrase_line line text.now }
+{
+    words(line, Piece::Text(text), Piece::Text(""))
+}
+
+// Why a keytab refused something.
+fn keytab_phrase(code: Code) -> &'static str
+    ensures { result.now ≡ keytab_phrase code }
+{
+    match code {
+        Code::Full => "the file would be longer than 16,777,216 bytes",
+        Code::NotAPlace => "no record, hole or end stands at this place",
+        Code::NotLive => "no entry stands at this place",
+        code => code.phrase(),
+    }
+}
+
+// Why a cache refused something.
+fn cache_phrase(code: Code) -> &'static str
+    ensures { result.now ≡ cache_phrase code }
+{
+    match code {
+        Code::NotAPlace => "no credential or end stands at this place",
+        Code::NotLive => "no ticket or configuration entry stands at this place",
+        code => keytab_phrase(code),
+    }
+}
+
+/// Why a file refused something.
+pub fn refusal_phrase(kind: FileKind, code: Code) -> &'static str
+    ensures { result.now ≡ refusal_phrase kind code }
+{
+    match kind {
+        FileKind::Keytab => keytab_phrase(code),
+        FileKind::Cache => cache_phrase(code),
+    }
+}
+
+// Why nothing was removed from a file.
+fn nothing_phrase(kind: FileKind) -> &'static str
+    ensures { result.now ≡ nothing_phrase kind }
+{
+    match kind {
+        FileKind::Keytab => "no entry has what was asked for",
+        FileKind::Cache => "no ticket has what was asked for",
+    }
+}
+
+// Why an image is no keytab.
+fn no_keytab_phrase(why: NotKeytab) -> &'static str
+    ensures { result.now ≡ no_keytab_phrase why.fault why.is_cache }
+{
+    match (why.fault, why.is_cache) {
+        (KtOpenFault::BadVersion, true) => "it begins as a credential cache",
+        (fault, _) => fault.phrase(),
+    }
+}
+
+// The same of a file that is listed as a keytab.
+fn list_phrase(why: NotKeytab) -> &'static str
+    ensures { result.now ≡ list_phrase why.fault why.is_cache }
+{
+    match (why.fault, why.is_cache) {
+        (KtOpenFault::BadVersion, true) => "it begins as a credential cache; list it without -k",
+        _ => no_keytab_phrase(why),
+    }
+}
+
+// Why an image is no cache.
+fn no_cache_phrase(why: NotCache) -> &'static str
+    ensures { result.now ≡ no_cache_phrase why.fault why.is_keytab }
+{
+    match (why.fault, why.is_keytab) {
+        (CcOpenFault::BadVersion, true) => {
+            "it begins as a keytab, or as a cache of version 1 or 2 (not read)"
+        }
+        (fault, _) => fault.phrase(),
+    }
+}
+
+// What is wrong with a line of a script, or of ktutil, whose messages have the line's number.
+fn line_fault_phrase(line: Option<u64>, fault: LineFault) -> &'static str
+    ensures { result.now ≡ line_fault_phrase line fault }
+{
+    match line {
+        None => fault.phrase(),
+        Some(_) => fault.ktutil_phrase(),
+    }
+}
+
+// A file that is missing: ktutil alone has words for it.
+fn missing_words<'a>(line: Option<u64>) -> Words<'a>
+    ensures { pieces_text result ≡ missing_words line }
+{
+    match line {
+        None => no_words(),
+        Some(_) => phrase(line, "no such file"),
+    }
+}
+
+// What a call failed with, where that is known.
+fn cause_words(file: &[u8], line: Option<u64>, cause: Option<Cause>) -> Words<'_>
+    ensures { pieces_text result ≡ cause_words file.now line cause }
+{
+    match cause {
+        None => no_words(),
+        Some(Cause::InTheWay) => words(
+            line,
+            Piece::Name(file),
+            Piece::Text(".krbfile is in the way"),
+        ),
+        Some(Cause::System(number)) => words(
+            line,
+            Piece::Text("error "),
+            Piece::Number(u64::from(number.unsigned_abs())),
+        ),
+        Some(cause) => phrase(line, cause.phrase()),
+    }
+}
+
+/// The fault that a listing tells of, with the file's name, and its phrase.
+pub fn listed_words(file: &[u8], fault: Fault) -> Words<'_>
+    ensures { pieces_text result ≡ listed_words file.now fault }
+{
+    [
+        Piece::Text("krbfile: "),
+        Piece::Name(file),
+        Piece::Text(": fault "),
+        Piece::Number(u64::from(fault.kind.number())),
+        Piece::Text(" at "),
+        Piece::Number(u64::from(fault.place)),
+        Piece::Text("\nkrbfile: "),
+        Piece::Text(fault.kind.phrase()),
+        Piece::Text("\n"),
+    ]
+}
+
+// What explains some trouble, where the run or that line of ktutil names that file.
+fn trouble_words(
+    trouble: Trouble,
+    file: &[u8],
+    line: Option<u64>,
+    cause: Option<Cause>,
+) -> Words<'_>
+    ensures { pieces_text result ≡ trouble_words file.now line cause trouble }
+{
+    match trouble {
+        Trouble::InputTooLarge | Trouble::FileTooLarge => phrase(line, TOO_LARGE),
+        Trouble::FaultyLine { fault, .. } => phrase(line, line_fault_phrase(line, fault)),
+        Trouble::LineRefused { code, .. } | Trouble::Refused(code) => {
+            phrase(line, keytab_phrase(code))
+        }
+        Trouble::NoSuchFile => missing_words(line),
+        Trouble::InputNotRead
+        | Trouble::FileNotRead
+        | Trouble::FileNotWritten
+        | Trouble::OutputNotWritten => cause_words(file, line, cause),
+        Trouble::NotAKeytab(why) => phrase(line, no_keytab_phrase(why)),
+        Trouble::NotAKeytabToList(why) => phrase(line, list_phrase(why)),
+        Trouble::NotACache(why) => phrase(line, no_cache_phrase(why)),
+        Trouble::ClockNotRead => phrase(line, "the clock is before 1970 or after 2106, or failed"),
+        Trouble::NoMemory => no_words(),
+    }
+}
+
+// What explains the end of a run that did its work. Replies and findings have more words than these.
+fn verdict_words(verdict: Verdict, file: &[u8], line: Option<u64>) -> Words<'_>
+    requires { IsFalse (is_itemized verdict) }
+    ensures { pieces_text result ≡ verdict_words file.now line verdict }
+{
+    match verdict {
+        Verdict::Well => no_words(),
+        Verdict::NothingToRemove(kind) => phrase(line, nothing_phrase(kind)),
+        Verdict::Listed(fault) => listed_words(file, fault),
+        Verdict::Replied(_) | Verdict::Found(_) => unreachable!(),
+    }
+}
+
+/// What explains an end, where the run or that line of ktutil names that file. Replies and findings have more
+/// words than these.
+pub fn ending_words(
+    ending: Result<Verdict, Trouble>,
+    file: &[u8],
+    line: Option<u64>,
+    cause: Option<Cause>,
+) -> Words<'_>
+    requires { IfOk ending (λ verdict. IsFalse (is_itemized verdict)) }
+    ensures { pieces_text result ≡ ending_words file.now line cause ending }
+{
+    match ending {
+        Ok(verdict) => verdict_words(verdict, file, line),
+        Err(trouble) => trouble_words(trouble, file, line, cause),
+    }
+}

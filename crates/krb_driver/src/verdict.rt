@@ -1,0 +1,49 @@
+//! How a run ends that did its work.
+
+ghost use Rattle.std.specs.Prelude.{◌≡◌};
+ghost use Rattle.krb_driver.specs.Verdicts.{verdict_status};
+
+use crate::telling::told::Told;
+use krb_walk::Fault;
+
+/// The kind of file that a run changes.
+#[derive(Clone, Copy)]
+pub enum FileKind {
+    Keytab,
+    Cache,
+}
+
+/// What was found about a keytab: which words were printed, the fault, and whether something is wrong.
+#[derive(Clone, Copy)]
+pub struct Findings {
+    pub words: krb_audit::Told,
+    pub fault: Option<Fault>,
+    pub is_wrong: bool,
+}
+
+/// How a run ends that did its work. What it printed may report something that is wrong.
+#[derive(Clone, Copy)]
+pub enum Verdict {
+    Well,
+    /// The listing reports it.
+    Listed(Fault),
+    /// The replies report it.
+    Replied(Told),
+    /// The findings report it.
+    Found(Findings),
+    /// No entry, or no ticket, has what was asked for.
+    NothingToRemove(FileKind),
+}
+
+impl Verdict {
+    /// The status of a run that ends so.
+    pub fn status(self) -> u8
+        ensures { result ≡ verdict_status self }
+    {
+        match self {
+            Verdict::Well => 0,
+            Verdict::Found(findings) => u8::from(findings.is_wrong),
+            _ => 1,
+        }
+    }
+}

@@ -1,0 +1,2 @@
+pub mod SessionReplies
+pub mod CacheEdits

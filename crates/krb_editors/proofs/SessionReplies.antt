@@ -1,0 +1,255 @@
+-- What a session leaves and replies: the format along its events, and the text of the replies.
+use Rattle.std.proofs.Common.{◌≡◌, ℕ, Bool, true, false, List, [], ◌∷◌, ◌++◌, map, refl, sym, ap, subst, ◌∙◌}
+use Rattle.std.specs.Prelude.{if◌then◌else◌, cond, ◌||◌, is_some, nat_lt, length, slice_get, Option, None, Some, Result, Ok, Err, IfOk}
+use Rattle.std.specs.List.{flat_map, list_any}
+use Rattle.krb_wire.specs.declared.format.KtFormat.{KtFormat}
+use Rattle.krb_wire.specs.declared.format.KtFormat.TheVariants.{V2}
+use Rattle.krb_walk.specs.declared.event.Event.{Event}
+use Rattle.krb_walk.specs.declared.event.Event.TheVariants.{Start, Resume, Step, Put, Cut, Rewrite}
+use Rattle.krb_walk.specs.declared.fault.FaultKind.{FaultKind}
+use Rattle.krb_walk.specs.declared.fault.FaultKind.TheVariants.{CutLength, Overrun, BadEntry, BadCredential}
+use Rattle.krb_walk.specs.declared.refusal.Code.{Code}
+use Rattle.krb_walk.specs.declared.refusal.Code.TheVariants as code
+use Rattle.krb_walk.specs.Store.{Store, Record, end_of, fault_of, is_place, live_bytes, next_live}
+use Rattle.krb_walk.specs.Said.{Said, Started, Refused}
+use Rattle.krb_walk.specs.Rules.{Rules}
+use Rattle.krb_walk.specs.Events.{SessionState, reply_to, after, store_after, step_said, stop_said, end_said, put_said, put_store, cut_said, cut_store, rewrite_said}
+use Rattle.krb_walk.specs.History.{history, replies, state_after}
+use Rattle.krb_walk.specs.Ran.{Ran}
+use Rattle.krb_keytab.specs.Changes as keytab
+use Rattle.krb_keytab.specs.Rewrite as keytab_rewrite
+use Rattle.krb_keytab.specs.Store as keytab_store
+use Rattle.krb_keytab.specs.Store.{KeytabState}
+use Rattle.krb_keytab.specs.Placed.{keytab_rules}
+use Rattle.krb_keytab.specs.Form.{fits, written_form}
+use Rattle.krb_ccache.specs.declared.version.Version.{Version}
+use Rattle.krb_ccache.specs.declared.version.Version.TheVariants.{V4}
+use Rattle.krb_ccache.specs.Changes as cache
+use Rattle.krb_ccache.specs.Credential.{is_marked}
+use Rattle.krb_ccache.specs.Placed.{cache_rules}
+use Rattle.krb_ccache.specs.Rewrite as cache_rewrite
+use Rattle.krb_ccache.specs.Store as cache_store
+use Rattle.krb_ccache.specs.Store.{CacheState}
+use Rattle.krb_text.specs.Reply.{reply_text_by, reply_texts_by, format_after_by}
+use Rattle.krb_driver.specs.declared.command.Made.{Made}
+use Rattle.krb_driver.specs.declared.command.Output.{Output}
+use Rattle.krb_driver.specs.declared.verdict.FileKind.{FileKind}
+use Rattle.krb_driver.specs.declared.verdict.Verdict.{Verdict}
+use Rattle.krb_driver.specs.declared.verdict.Verdict.TheVariants.{Well, Replied}
+use Rattle.krb_driver.specs.Commands.{text_effect}
+use Rattle.krb_driver.specs.Effects.{Effect, Displays, Saves, text}
+use Rattle.krb_editors.specs.Sessions.{is_change, new_session, moments, left, replied, session_effect, RunsFairly}
+use Rattle.krb_driver.specs.Told.{is_trouble, tells_code, tells_fault, code_told, fault_told, codes_told, faults_told, replied_verdict}
+
+-- ---- the format after an event
+
+module _ {S F : Type 0} (format : S → F) (rewritten : F) where
+  -- an addition keeps the format
+  abbrev pub PutKeeps : S → Result (ℕ × S) Code → Type 0
+  PutKeeps k (Ok given) = format given.1 ≡ format k
+  PutKeeps k (Err refused) = Unit {0}
+
+  -- a removal keeps it
+  abbrev pub CutKeeps : S → Result S Code → Type 0
+  CutKeeps k (Ok new) = format new ≡ format k
+  CutKeeps k (Err refused) = Unit {0}
+
+  -- a rewrite sets it
+  abbrev pub RewriteSets : Result S Code → Type 0
+  RewriteSets (Ok new) = format new ≡ rewritten
+  RewriteSets (Err refused) = Unit {0}
+
+  put_if : (k : S) (b : Bool) (x y : Result (ℕ × S) Code) → PutKeeps k x → PutKeeps k y → PutKeeps k (if b then x else y)
+  put_if k true x y hx hy = hx
+  put_if k false x y hx hy = hy
+
+  cut_if : (k : S) (b : Bool) (x y : Result S Code) → CutKeeps k x → CutKeeps k y → CutKeeps k (if b then x else y)
+  cut_if k true x y hx hy = hx
+  cut_if k false x y hx hy = hy
+
+  rewrite_if : (b : Bool) (x y : Result S Code) → RewriteSets x → RewriteSets y → RewriteSets (if b then x else y)
+  rewrite_if true x y hx hy = hx
+  rewrite_if false x y hx hy = hy
+
+  -- the format that a reply leaves is that of the store after its event
+  of_put : (k : S) (given : Result (ℕ × S) Code) → PutKeeps k given → format (put_store k given) ≡ format_after_by rewritten (format k) (put_said given)
+  of_put k (Ok given) keeps = keeps
+  of_put k (Err refused) keeps = refl
+
+  of_cut : (k : S) (p : ℕ) (given : Result S Code) → CutKeeps k given → format (cut_store k given) ≡ format_after_by rewritten (format k) (cut_said p given)
+  of_cut k p (Ok new) keeps = keeps
+  of_cut k p (Err refused) keeps = refl
+
+  of_rewrite : (seen : S → Store) (k : S) (given : Result S Code) → RewriteSets given → format (cut_store k given) ≡ format_after_by rewritten (format k) (rewrite_said seen given)
+  of_rewrite seen k (Ok new) sets = sets
+  of_rewrite seen k (Err refused) sets = refl
+
+  -- how the changes of a store treat its format
+  pub record KeepsFormat {I : Type 0} (r : Rules S I) : Type 0 where
+    pub put : (k : S) (item : I) → PutKeeps k (r.put k item)
+    pub cut : (k : S) (p : ℕ) → CutKeeps k (r.cut k p)
+    pub rewrite : (k : S) → RewriteSets (r.rewrite k)
+
+module _ {F : Type 0} (rewritten : F) where
+  abbrev next_format : F → Said → F
+  next_format f said = format_after_by rewritten f said
+
+  of_cond : (f : F) (b : Bool) (x y : Said) → next_format f x ≡ f → next_format f y ≡ f → f ≡ next_format f (cond b x y)
+  of_cond f true x y hx hy = sym hx
+  of_cond f false x y hx hy = sym hy
+
+  of_resume : (f : F) (a b : Bool) (x y z : Said) → next_format f x ≡ f → next_format f y ≡ f → next_format f z ≡ f → f ≡ next_format f (cond a (cond b x y) z)
+  of_resume f true b x y z hx hy hz = of_cond f b x y hx hy
+  of_resume f false b x y z hx hy hz = sym hz
+
+  of_end : (f : F) (w end : ℕ) (fault : Option FaultKind) → f ≡ next_format f (end_said w end fault)
+  of_end f w end None = refl
+  of_end f w end (Some kind) = refl
+
+  of_stop : (f : F) (s : Store) (w : ℕ) (next : Option Record) → f ≡ next_format f (stop_said s w next)
+  of_stop f s w (Some r) = refl
+  of_stop f s w None = of_end f w (end_of s) s.fault
+
+  of_step : (f : F) (s : Store) (w : ℕ) (cursor : Option ℕ) → f ≡ next_format f (step_said s w cursor)
+  of_step f s w None = refl
+  of_step f s w (Some c) = of_stop f s w (next_live s c)
+
+module _ {S I F : Type 0} (r : Rules S I) (format : S → F) (rewritten : F) (keeps : KeepsFormat format rewritten r) where
+  format_of_event : (s : SessionState S) (e : Event I) → format (store_after r s e) ≡ format_after_by rewritten (format s.store) (reply_to r s e)
+  format_of_event s Start = of_cond rewritten (format s.store) (nat_lt (length s.cursors) 1024) (Started (length s.cursors) (r.seen s.store).first) (Refused code.TooManyWalks) refl refl
+  format_of_event s (Resume p) = of_resume rewritten (format s.store) (nat_lt (length s.cursors) 1024) (is_place (r.seen s.store) p) (Started (length s.cursors) p) (Refused code.NotAPlace) (Refused code.TooManyWalks) refl refl refl
+  format_of_event s (Step w) = of_step rewritten (format s.store) (r.seen s.store) w (slice_get s.cursors w)
+  format_of_event s (Put item) = of_put format rewritten s.store (r.put s.store item) (keeps.put s.store item)
+  format_of_event s (Cut p) = of_cut format rewritten s.store p (r.cut s.store p) (keeps.cut s.store p)
+  format_of_event s Rewrite = of_rewrite format rewritten r.seen s.store (r.rewrite s.store) (keeps.rewrite s.store)
+
+  -- the lines of replies, each in the format that the store then had
+  lines_of : (tail_of : F → List ℕ → List ℕ) (s : SessionState S) (events : List (Event I))
+      → flat_map (λ m. reply_text_by tail_of (format m.before.store) m.reply) (history r s events) ≡ reply_texts_by tail_of rewritten (format s.store) (replies (history r s events))
+  lines_of tail_of s [] = refl
+  lines_of tail_of s (e ∷ es) =
+      let next = after r s e in
+      ap (λ (t : List ℕ). reply_text_by tail_of (format s.store) (reply_to r s e) ++ t)
+      (lines_of tail_of next es ∙ ap (λ (f : F). reply_texts_by tail_of rewritten f (replies (history r next es))) (format_of_event s e))
+
+-- ---- keytabs and caches
+
+keytab_into : (k : KeytabState) (bytes : List ℕ) (hole : Option keytab.PlacedCell) → PutKeeps (λ (k : KeytabState). k.format) V2 k (keytab.put_result_into k bytes hole)
+keytab_into k bytes (Some hole) = refl
+keytab_into k bytes None = put_if (λ (k : KeytabState). k.format) V2 k (nat_lt k.limit (length (keytab_store.image_of (keytab.with_last k bytes)))) (Err code.Full) (Ok (end_of (keytab_store.store_of k), keytab.with_last k bytes)) tt refl
+
+pub keytab_keeps : KeepsFormat (λ (k : KeytabState). k.format) V2 keytab_rules
+keytab_keeps =
+    let format : KeytabState → KtFormat = λ k. k.format in
+    record {
+      put = λ k e.
+          let bytes = written_form k.format e in
+          put_if format V2 k (is_some (fault_of (keytab_store.store_of k))) (Err code.Damaged) (if fits k.format e then keytab.put_bytes_result k bytes else Err code.TooLong) tt
+          (put_if format V2 k (fits k.format e) (keytab.put_bytes_result k bytes) (Err code.TooLong) (keytab_into k bytes (keytab.first_hole 2 (length bytes) k.contents.cells)) tt);
+      cut = λ k p.
+          cut_if format V2 k (is_some (fault_of (keytab_store.store_of k))) (Err code.Damaged) (if is_some (live_bytes (keytab_store.store_of k) p) then Ok (keytab.with_hole k p) else Err code.NotLive) tt
+          (cut_if format V2 k (is_some (live_bytes (keytab_store.store_of k) p)) (Ok (keytab.with_hole k p)) (Err code.NotLive) refl tt);
+      rewrite = λ k.
+          let new = keytab_rewrite.rewrite_of k in
+          rewrite_if format V2 (is_some (fault_of (keytab_store.store_of k))) (Err code.Damaged) (if nat_lt k.limit (length (keytab_store.image_of new)) then Err code.Full else Ok new) tt
+          (rewrite_if format V2 (nat_lt k.limit (length (keytab_store.image_of new))) (Err code.Full) (Ok new) tt refl);
+    }
+
+pub cache_keeps : KeepsFormat (λ (k : CacheState). k.version) V4 cache_rules
+cache_keeps =
+    let version : CacheState → Version = λ k. k.version in
+    record {
+      put = λ k c.
+          let full = nat_lt k.limit (length (cache_store.image_of (cache.with_last k c))) in
+          put_if version V4 k (cache.is_read_only k.version) (Err code.ReadOnly) (if is_some (fault_of (cache_store.store_of k)) then Err code.Damaged else (if is_marked c then Err code.Marked else cache.append_result k c)) tt
+          (put_if version V4 k (is_some (fault_of (cache_store.store_of k))) (Err code.Damaged) (if is_marked c then Err code.Marked else cache.append_result k c) tt
+          (put_if version V4 k (is_marked c) (Err code.Marked) (cache.append_result k c) tt
+          (put_if version V4 k full (Err code.Full) (Ok (end_of (cache_store.store_of k), cache.with_last k c)) tt refl)));
+      cut = λ k p.
+          cut_if version V4 k (cache.is_read_only k.version) (Err code.ReadOnly) (if is_some (fault_of (cache_store.store_of k)) then Err code.Damaged else (if is_some (live_bytes (cache_store.store_of k) p) then Ok (cache.with_mark k p) else Err code.NotLive)) tt
+          (cut_if version V4 k (is_some (fault_of (cache_store.store_of k))) (Err code.Damaged) (if is_some (live_bytes (cache_store.store_of k) p) then Ok (cache.with_mark k p) else Err code.NotLive) tt
+          (cut_if version V4 k (is_some (live_bytes (cache_store.store_of k) p)) (Ok (cache.with_mark k p)) (Err code.NotLive) refl tt));
+      rewrite = λ k.
+          let new = cache_rewrite.rewrite_of k in
+          rewrite_if version V4 (is_some (fault_of (cache_store.store_of k))) (Err code.Damaged) (if nat_lt k.limit (length (cache_store.image_of new)) then Err code.Full else Ok new) tt
+          (rewrite_if version V4 (nat_lt k.limit (length (cache_store.image_of new))) (Err code.Full) (Ok new) tt refl);
+    }
+
+-- ---- what was made of a store
+
+pub any_said : {A B : Type 0} (f : A → B) (test : B → Bool) (xs : List A) → list_any (λ x. test (f x)) xs ≡ list_any test (map f xs)
+any_said f test [] = refl
+any_said f test (x ∷ xs) = ap (λ (b : Bool). test (f x) || b) (any_said f test xs)
+
+same_map : {A B : Type 0} (f g : A → B) → ((x : A) → f x ≡ g x) → (xs : List A) → map f xs ≡ map g xs
+same_map f g each [] = refl
+same_map f g each (x ∷ xs) = ap (λ y. y ∷ map f xs) (each x) ∙ ap (λ ys. g x ∷ ys) (same_map f g each xs)
+
+-- how a run ends that printed replies is a function of what they say
+pub replied_said : {A : Type 0} (kind : FileKind) (f : A → Said) (rs : List A) → replied_verdict kind f rs ≡ replied_verdict kind (λ said. said) (map f rs)
+replied_said kind f rs =
+    let ends : Bool → List (Option Code) → List (Option FaultKind) → Verdict = λ b codes faults. if b then Replied (record { kind = kind; codes = codes; faults = faults }) else Well in
+    let code_is : (c : Code) → code_told f rs c ≡ code_told (λ said. said) (map f rs) c = λ c. ap (λ (b : Bool). if b then Some c else None) (any_said f (tells_code c) rs) in
+    let fault_is : (k : FaultKind) → fault_told f rs k ≡ fault_told (λ said. said) (map f rs) k = λ k. ap (λ (b : Bool). if b then Some k else None) (any_said f (tells_fault k) rs) in
+    ap (λ (b : Bool). ends b (codes_told f rs) (faults_told f rs)) (any_said f is_trouble rs)
+    ∙ ap (λ (cs : List (Option Code)). ends (list_any is_trouble (map f rs)) cs (faults_told f rs)) (same_map (code_told f rs) (code_told (λ said. said) (map f rs)) code_is (code.Damaged ∷ code.TooLong ∷ code.Full ∷ code.NotAPlace ∷ code.NotLive ∷ code.NoSuchWalk ∷ code.TooManyWalks ∷ code.ReadOnly ∷ code.NotFound ∷ code.KvnoNotFound ∷ code.Marked ∷ []))
+    ∙ ap (λ (ks : List (Option FaultKind)). ends (list_any is_trouble (map f rs)) (codes_told (λ said. said) (map f rs)) ks) (same_map (fault_told f rs) (fault_told (λ said. said) (map f rs)) fault_is (CutLength ∷ Overrun ∷ BadEntry ∷ BadCredential ∷ []))
+
+-- a session that began new is one of the store
+pub ran_begun : {S I : Type 0} (r : Rules S I) (store : S) (events : List (Event I)) (old new : SessionState S) (told : List Said)
+    → old ≡ new_session store → Ran r old new events [] told → Ran r (new_session store) (state_after r (new_session store) events) events [] told
+ran_begun {S} r store events old new told begins ran =
+    let from_new : Ran r (new_session store) new events [] told = subst (λ (s : SessionState S). Ran r s new events [] told) begins ran in
+    subst (λ (s : SessionState S). Ran r (new_session store) s events [] told) from_new.state from_new
+
+-- every walk is given what is due to it
+pub ran_fair : {S I : Type 0} (r : Rules S I) (store : S) (events : List (Event I)) (told : List Said)
+    → Ran r (new_session store) (state_after r (new_session store) events) events [] told → RunsFairly r store events
+ran_fair r store events told ran = subst (λ (t : List Said). Ran r (new_session store) (state_after r (new_session store) events) events [] t) ran.replies_are ran
+
+-- the same of a session that began new
+pub begun_fair : {S I : Type 0} (r : Rules S I) (store : S) (events : List (Event I)) (old new : SessionState S) (told : List Said)
+    → old ≡ new_session store → Ran r old new events [] told → RunsFairly r store events
+begun_fair r store events old new told begins ran = ran_fair r store events told (ran_begun r store events old new told begins ran)
+
+-- it left the store that the events leave
+pub left_begun : {S I : Type 0} (r : Rules S I) (store : S) (events : List (Event I)) (old new : SessionState S) (told : List Said)
+    → old ≡ new_session store → Ran r old new events [] told → new.store ≡ left r store events
+left_begun {S} r store events old new told begins ran =
+    ap (λ (s : SessionState S). s.store) (ran.state ∙ ap (λ (s : SessionState S). state_after r s events) begins)
+
+module _ (kind : FileKind) (told : List Said) (image lines text_ : List ℕ) (verdict : Verdict) where
+  -- replies that report a change save the image
+  pub replied_saves : list_any is_change told ≡ true → text_ ≡ lines → verdict ≡ replied_verdict kind (λ said. said) told → (file : List ℕ) → Saves file image text_ verdict ≡ replied kind file told image lines
+  replied_saves changed text_is verdict_is file =
+      let due = replied_verdict kind (λ said. said) told in
+      ap (λ (t : List ℕ). Saves file image t verdict) text_is ∙ ap (Saves file image lines) verdict_is
+      ∙ ap (λ (b : Bool). if b then Saves file image lines due else Displays file (text lines due)) (sym changed)
+
+  -- others save nothing
+  pub replied_shows : list_any is_change told ≡ false → text_ ≡ lines → verdict ≡ replied_verdict kind (λ said. said) told → (file : List ℕ) → Displays file (text text_ verdict) ≡ replied kind file told image lines
+  replied_shows changed text_is verdict_is file =
+      let due = replied_verdict kind (λ said. said) told in
+      ap (λ (t : List ℕ). Displays file (text t verdict)) text_is ∙ ap (λ (v : Verdict). Displays file (text lines v)) verdict_is
+      ∙ ap (λ (b : Bool). if b then Saves file image lines due else Displays file (text lines due)) (sym changed)
+
+-- what the replies of a session come to is what the session comes to
+pub session_made : {S I F : Type 0} (kind : FileKind) (r : Rules S I) (image : S → List ℕ) (tail_of : F → List ℕ → List ℕ) (format : S → F) (rewritten : F) → KeepsFormat format rewritten r
+    → (store : S) (events : List (Event I)) (told : List Said) (bytes : List ℕ) → Ran r (new_session store) (state_after r (new_session store) events) events [] told → bytes ≡ image (left r store events)
+    → (file : List ℕ) → replied kind file told bytes (reply_texts_by tail_of rewritten (format store) told) ≡ session_effect kind r image (λ k. reply_text_by tail_of (format k)) file store events
+session_made kind r image tail_of format rewritten keeps store events told bytes ran bytes_are file =
+    let due = replies (moments r store events) in
+    ap (λ (t : List Said). replied kind file t bytes (reply_texts_by tail_of rewritten (format store) t)) ran.replies_are
+    ∙ ap (λ (b : List ℕ). replied kind file due b (reply_texts_by tail_of rewritten (format store) due)) bytes_are
+    ∙ ap (replied kind file due (image (left r store events))) (sym (lines_of r format rewritten keeps tail_of (new_session store) events))
+
+-- what was made is what is due, where that is the same
+pub made_as : {A E : Type 0} (given due : List ℕ → Effect) → ((file : List ℕ) → given file ≡ due file) → (result : Result (Made A (Output A)) E)
+    → IfOk result (λ made. (file : List ℕ) → text_effect file (Ok made) ≡ given file) → IfOk result (λ made. (file : List ℕ) → text_effect file (Ok made) ≡ due file)
+made_as given due same (Ok made) is = λ file. is file ∙ same file
+made_as given due same (Err refused) is = tt
+
+-- that holds, also where something was made
+pub made_so : {X E : Type 0} (P : Type 0) → P → (result : Result X E) → IfOk result (λ made. P)
+made_so P holds (Ok made) = holds
+made_so P holds (Err refused) = tt

@@ -1,0 +1,50 @@
+use Rattle.std.proofs.Common.{◌≡◌, ◌⊎◌, inl, inr, ℕ, List, sym, ap, arith}
+use Rattle.std.specs.Prelude.{Result, Ok, Err}
+use Rattle.std.proofs.lemmas.Result.{err_from_is_err_and}
+use Rattle.krb_text.specs.declared.line_fault.LineFault.{LineFault}
+use Rattle.krb_text.specs.declared.script.ScriptRefusal.{ScriptRefusal}
+use Rattle.krb_text.specs.declared.script.ScriptRefusal.TheVariants as refusal
+use Rattle.krb_text.specs.Script.{ScriptFault, RefusesScript, script_by}
+use Rattle.krb_driver.specs.declared.trouble.Trouble.{Trouble}
+use Rattle.krb_driver.specs.declared.trouble.Trouble.TheVariants.{FaultyLine, NoMemory}
+use Rattle.krb_driver.specs.Loading.{result_map_err}
+use Rattle.krb_editors.specs.Scripted.{lines_in}
+use Rattle.krb_driver.specs.Troubles.{script_trouble}
+use Rattle.krb_driver.proofs.Shown.{GivesInput-err, GivesInput-ok}
+use Rattle.krb_editors.proofs.scripted.read_script.Goals as goal
+
+-- what refuses a script is its first fault, or memory ran out
+refused : {L : Type 0} (reads : List ℕ → Result L LineFault) (text : List ℕ) (why : ScriptRefusal) (given : Result (List L) Trouble) → RefusesScript (script_by reads text) why → given ≡ Err (script_trouble why)
+    → (given ≡ Err NoMemory) ⊎ (given ≡ lines_in reads (Ok text))
+refused reads text (refusal.Fault line kind) given is given_is = rw is (inr given_is)
+refused reads text refusal.NoMemory given is given_is = inl given_is
+
+-- no text was given
+pub returns-in-Err : goal.returns-in-Err
+returns-in-Err g c =
+    let fault = c.in-Err.fault in
+    record {
+      input = Err fault;
+      read = GivesInput-err c.args.input.now c.load.new.reader fault (λ e. c.in-Err.ensures.too_large (ap Err e)) c.in-Err.ensures.never c.in-Err.ensures.failed c.in-Err.ensures.taken;
+      given_is = inr (ap Err c.of_input.ensures);
+    }
+
+-- it gives no lines
+pub returns-in_err-parse_script-in-Ok : goal.returns-in_err-parse_script-in-Ok
+returns-in_err-parse_script-in-Ok g c =
+    let p = err_from_is_err_and c.from_residual.result c.from_residual.ensures.1 in
+    let text = c.in-Ok.text.items in
+    rw p.1 (record {
+      input = Ok text;
+      read = GivesInput-ok c.args.input.now c.load.new.reader text c.in-Ok.ensures.ok (let within = c.in-Ok.ensures.within in let len = c.in-Ok.text.ok.0 in omega (arith, within, len)) c.in-Ok.ensures.failed c.in-Ok.ensures.taken;
+      given_is = refused g.L.ScriptLine.line_in text c.in_err-parse_script-in-Ok.field-0.0 (Err p.0) (rw c.deref.ensures.value at c.in_err-parse_script-in-Ok.ensures.err) (ap Err p.2);
+    })
+
+pub returns-in_ok-parse_script-in-Ok : goal.returns-in_ok-parse_script-in-Ok
+returns-in_ok-parse_script-in-Ok g c =
+    let text = c.in-Ok.text.items in
+    record {
+      input = Ok text;
+      read = GivesInput-ok c.args.input.now c.load.new.reader text c.in-Ok.ensures.ok (let within = c.in-Ok.ensures.within in let len = c.in-Ok.text.ok.0 in omega (arith, within, len)) c.in-Ok.ensures.failed c.in-Ok.ensures.taken;
+      given_is = inr (sym (ap (result_map_err (λ (fault : ScriptFault). FaultyLine fault.line fault.kind)) (rw c.deref.ensures.value at c.in_ok-parse_script-in-Ok.ensures.ok)));
+    }

@@ -1,0 +1,67 @@
+-- What ccedit does.
+use Rattle.std.specs.Prelude.{ℕ, Bool, true, false, List, [], ◌∷◌, ◌++◌}
+use Rattle.std.specs.List.{list_any}
+use Rattle.krb_walk.specs.declared.event.Event.{Event}
+use Rattle.krb_walk.specs.Said.{Said, Refused}
+use Rattle.krb_walk.specs.Events.{SessionState, session_of}
+use Rattle.krb_walk.specs.History.{state_after}
+use Rattle.krb_ccache.specs.Credential.{CredParts}
+use Rattle.krb_ccache.specs.Placed.{cache_rules}
+use Rattle.krb_ccache.specs.SetConfig.{setting_events}
+use Rattle.krb_ccache.specs.Open.{InMemory}
+use Rattle.krb_ccache.specs.Store.{CacheState, image_of}
+use Rattle.krb_files.specs.Loading.{Answer}
+use Rattle.krb_files.specs.Plan.{Ends, Holds}
+use Rattle.krb_cache_text.specs.declared.asked.Asked.TheVariants as asked
+use Rattle.krb_cache_text.specs.Reply.{cache_reply_text}
+use Rattle.krb_cache_text.specs.Script.{CacheLineParts}
+use Rattle.krb_driver.specs.declared.verdict.FileKind.TheVariants.{Cache}
+use Rattle.krb_driver.specs.Commands.{fair_first}
+use Rattle.krb_driver.specs.Effects.{CommandPlan, Effect, opens}
+use Rattle.krb_driver.specs.Loading.{cache_of}
+use Rattle.krb_editors.specs.Sessions as session
+use Rattle.krb_editors.specs.Sessions.{may_change}
+
+-- a reply that tells of a refusal
+abbrev pub is_refusal : Said → Bool
+is_refusal (Refused code) = true
+is_refusal said = false
+
+-- a session over a cache in memory
+abbrev pub cache_session : SessionState InMemory → SessionState CacheState
+cache_session s = session_of (λ k. k.state) s
+
+-- a line that may change a cache
+abbrev pub line_may_change : CacheLineParts → Bool
+line_may_change (asked.Event event) = may_change event
+line_may_change (asked.Setting setting) = true
+
+-- the events that a line asks for when the run reaches it: its event, or those that set its value
+abbrev pub line_events : SessionState CacheState → CacheLineParts → List (Event CredParts)
+line_events s (asked.Event event) = event ∷ []
+line_events s (asked.Setting setting) = setting_events s.store setting
+
+-- those of lines in order, each of them when the run reaches it
+abbrev pub lines_events : SessionState CacheState → List CacheLineParts → List (Event CredParts)
+lines_events s [] = []
+lines_events s (line ∷ lines) = line_events s line ++ lines_events (state_after cache_rules s (line_events s line)) lines
+
+-- the events of lines over a cache in a new session
+abbrev pub cache_events : List CacheLineParts → CacheState → List (Event CredParts)
+cache_events lines cache = lines_events (session.new_session cache) lines
+
+-- what lines come to over the cache of a file: one that they changed is saved
+abbrev pub edits : List CacheLineParts → List ℕ → CacheState → Effect
+edits lines file cache = session.session_effect Cache cache_rules image_of (λ k. cache_reply_text k.version) file cache (cache_events lines cache)
+
+-- lines were run over a cache: every walk is given what is due to it
+abbrev pub RunsFairly : List CacheLineParts → CacheState → Type 0
+RunsFairly lines cache = session.RunsFairly cache_rules cache (cache_events lines cache)
+
+-- the file is held, if a line may change it, and loaded; the lines are run in a session over the cache that it gives
+abbrev pub ccedit_plan : List ℕ → List CacheLineParts → CommandPlan
+ccedit_plan file lines = Holds (list_any line_may_change lines) file (opens file cache_of (λ k. Ends (edits lines file k)))
+
+-- the same holds of the cache that the file gave
+abbrev pub ccedit_fairly : List CacheLineParts → List Answer → Type 0
+ccedit_fairly lines = fair_first cache_of (RunsFairly lines)

@@ -1,0 +1,80 @@
+-- What ccremove does.
+use Rattle.std.specs.Prelude.{◌≡◌, ℕ, Bool, not, List, [], ◌&&◌, ◌||◌, ◌==◌, nat_lt, map, length, slice_get, codes, is_none, if◌then◌else◌, Option, None, Some, option_and_then, Result, Ok, Err}
+use Rattle.std.specs.List.{flat_map, list_any}
+use Rattle.std.specs.Option.{option_or}
+use Rattle.krb_walk.specs.Events.{cut_store}
+use Rattle.krb_ccache.specs.Changes.{without}
+use Rattle.krb_ccache.specs.Rewrite.{rewrite_result}
+use Rattle.krb_ccache.specs.Store.{CacheState, PlacedCredential, image_of, placed_credentials}
+use Rattle.krb_files.specs.declared.files.Files.{Ghosts}
+use Rattle.krb_files.specs.Bytes.{Watch}
+use Rattle.krb_files.specs.Plan.{Ends, Holds}
+use Rattle.krb_audit.specs.Tickets.{asked_tickets, names_ticket, removed_ticket_line}
+use Rattle.krb_editors.specs.declared.ccremove.TicketOptions.{TicketOptions}
+use Rattle.krb_driver.specs.declared.trouble.Trouble.{Trouble}
+use Rattle.krb_driver.specs.declared.trouble.Trouble.TheVariants.{ClockNotRead}
+use Rattle.krb_driver.specs.declared.verdict.FileKind.TheVariants.{Cache}
+use Rattle.krb_driver.specs.declared.verdict.Verdict.{Verdict}
+use Rattle.krb_driver.specs.declared.verdict.Verdict.TheVariants.{Well, NothingToRemove}
+use Rattle.krb_driver.specs.Commands.{RunsCommand, any}
+use Rattle.krb_driver.specs.Effects.{CommandPlan, Effect, Displays, opens, saves_unless, text}
+use Rattle.krb_driver.specs.ErrorOutput.{ErrorWatch}
+use Rattle.krb_driver.specs.Matches.{IsSpelledName, Matched, bad_name}
+use Rattle.krb_driver.specs.Opening.{writable_in}
+use Rattle.krb_editors.specs.Scripted.{EndsBefore}
+
+-- the time at or before which tickets that are asked for end, by the clock, if expired ones are
+abbrev pub clock_time : Option ℕ → Result (Option ℕ) Trouble
+clock_time None = Err ClockNotRead
+clock_time (Some now) = Ok (Some now)
+
+abbrev pub ended_by : {A : Type 0} → TicketOptions A → Option ℕ → Result (Option ℕ) Trouble
+ended_by o now = if o.expired then clock_time now else Ok None
+
+-- the cache rewritten without the tickets at these places, so that their keys are not in the file any more
+abbrev pub cache_after : CacheState → List ℕ → CacheState
+cache_after k places = cut_store (without k places) (rewrite_result (without k places))
+
+-- how a run ends where no ticket is asked for; nothing to do is no failure where expired ones are, of what there is
+abbrev pub none_verdict : {A : Type 0} → TicketOptions A → Bool → Verdict
+none_verdict o named = if o.expired && (is_none o.server || named) then Well else NothingToRemove Cache
+
+-- the places of tickets
+abbrev pub places : List PlacedCredential → List ℕ
+places xs = map (λ x. x.0) xs
+
+module _ {A : Type 0} (o : TicketOptions A) (file : List ℕ) where
+  -- the tickets are removed, if there are some, and a line is printed for each
+  abbrev pub removes : CacheState → List PlacedCredential → Effect
+  removes k xs =
+      if length (places xs) == 0 then Displays file (text [] (none_verdict o (list_any (λ x. names_ticket o.server x.1) (placed_credentials k))))
+      else saves_unless o.dry_run file (image_of (cache_after k (places xs))) (flat_map removed_ticket_line xs) Well
+
+  -- the file is held, unless it is a dry run, and loaded; of the cache that it gives the tickets that are asked for are removed
+  abbrev pub ccremove_plan : Option ℕ → CommandPlan
+  ccremove_plan ended = Holds (not o.dry_run) file (opens file writable_in (λ k. Ends (removes k (asked_tickets o.server ended k))))
+
+module _ {F A : Type 0} (trait : Ghosts F) (file : List ℕ) (o : TicketOptions A) (old new : F) (out out' : Watch) (err err' : ErrorWatch) (status : ℕ) where
+  -- a run of ccremove, where the clock was read, if it is asked for
+  abbrev pub RunsCcremove : Result (Option ℕ) Trouble → Type 0
+  RunsCcremove (Ok ended) = RunsCommand trait (λ mode. ccremove_plan o file ended) any old new out out' err err' status
+  RunsCcremove (Err why) = EndsBefore trait old new out out' err err' status why
+
+-- ---- what the words ask for
+
+-- what is wrong before any word is read: an option is given twice, or nothing selects
+abbrev pub odd_tickets : Matched → Option (List ℕ)
+odd_tickets words =
+    if nat_lt 1 (length (words.values (codes "service"))) then Some (codes "-p is given twice")
+    else (if (length (words.values (codes "service")) == 0) && not (words.flag (codes "expired")) then Some (codes "nothing selects; give -p or --expired")
+    else None)
+
+-- the first mistake of the words
+abbrev pub ticket_mistake : Matched → Option (List ℕ)
+ticket_mistake words = option_or (odd_tickets words) (option_and_then bad_name (slice_get (words.values (codes "service")) 0))
+
+-- each option is what its own word spells
+pub record SpellsTickets {A : Type 0} (words : Matched) (options : TicketOptions A) : Type 0 where
+  pub server : IsSpelledName (slice_get (words.values (codes "service")) 0) options.server
+  pub expired : options.expired ≡ words.flag (codes "expired")
+  pub dry_run : options.dry_run ≡ words.flag (codes "dry-run")

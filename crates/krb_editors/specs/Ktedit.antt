@@ -1,0 +1,33 @@
+-- What ktedit does.
+use Rattle.std.specs.Prelude.{ℕ, List}
+use Rattle.std.specs.List.{list_any}
+use Rattle.krb_wire.specs.declared.format.Order.{Order}
+use Rattle.krb_walk.specs.declared.event.Event.{Event}
+use Rattle.krb_keytab.specs.Entry.{EntryParts}
+use Rattle.krb_keytab.specs.Placed.{keytab_rules}
+use Rattle.krb_keytab.specs.Store.{KeytabState, image_of}
+use Rattle.krb_files.specs.Loading.{Answer}
+use Rattle.krb_files.specs.Plan.{Ends, Holds}
+use Rattle.krb_text.specs.Reply.{reply_text}
+use Rattle.krb_driver.specs.declared.verdict.FileKind.TheVariants.{Keytab}
+use Rattle.krb_driver.specs.Commands.{fair_first}
+use Rattle.krb_driver.specs.Effects.{CommandPlan, Effect, opens}
+use Rattle.krb_driver.specs.Opening.{keytab_or_empty}
+use Rattle.krb_editors.specs.Sessions as session
+use Rattle.krb_editors.specs.Sessions.{may_change}
+
+-- what events come to over the keytab of a file: one that they changed is saved
+abbrev pub edits : List (Event EntryParts) → List ℕ → KeytabState → Effect
+edits events file keytab = session.session_effect Keytab keytab_rules image_of (λ k. reply_text k.format) file keytab events
+
+-- events were run over a keytab: every walk is given what is due to it
+abbrev pub RunsFairly : List (Event EntryParts) → KeytabState → Type 0
+RunsFairly events keytab = session.RunsFairly keytab_rules keytab events
+
+-- the file is held, if an event may change it, and loaded; the events are run in a session over the keytab that it gives
+abbrev pub ktedit_plan : Order → List ℕ → List (Event EntryParts) → CommandPlan
+ktedit_plan order file events = Holds (list_any may_change events) file (opens file (keytab_or_empty order) (λ k. Ends (edits events file k)))
+
+-- the same holds of the keytab that the file gave
+abbrev pub ktedit_fairly : Order → List (Event EntryParts) → List Answer → Type 0
+ktedit_fairly order events = fair_first (keytab_or_empty order) (RunsFairly events)

@@ -1,0 +1,211 @@
+//! Edits a cache's file by a script.
+
+ghost use Rattle.std.specs.Prelude.{◌≡◌, ℕ, List, IfOk, IsFalse, Ok, OnOk, ◌∷◌, [], map};
+ghost use Rattle.krb_walk.specs.declared.event.Event.TheVariants.{Cut};
+ghost use Rattle.krb_walk.specs.Events.{reply_to};
+ghost use Rattle.krb_walk.specs.History.{state_after};
+ghost use Rattle.krb_walk.specs.Ran.{Ran};
+ghost use Rattle.krb_walk.specs.Said.{said};
+ghost use Rattle.krb_ccache.specs.Placed.{cache_rules};
+ghost use Rattle.krb_ccache.specs.SetConfig.{setting_events};
+ghost use Rattle.krb_cache_text.specs.Script.{cache_line_in};
+ghost use Rattle.krb_editors.specs.Ccedit.{RunsFairly, cache_events, cache_session, ccedit_fairly, ccedit_plan, edits, is_refusal, line_events, line_may_change};
+ghost use Rattle.krb_driver.specs.Commands.{text_effect};
+ghost use Rattle.krb_editors.specs.Scripted.{RunsScript};
+ghost use Rattle.krb_editors.specs.Sessions.{left, new_session};
+
+use crate::edited::{may_change, replied};
+use crate::scripted::read_script;
+use krb_driver::{Command, CommandName, CommandWords, FileKind, FileTrouble, Made, Output, Streams, Word, give_cache, hold_file, run, tell};
+use krb_cache_text::{Asked, CacheLine, CcFormat};
+use krb_ccache::{Ccache, Cred, Setting};
+use krb_files::Files;
+use krb_walk::{Event, Reply, Session};
+use krb_wire::NoMemory;
+use std::alloc::Allocator;
+use std::io::{Read, Write};
+
+/// The words of ccedit.
+pub const CCEDIT: CommandWords = CommandWords {
+    command: CommandName::Ccedit,
+    name: "ccedit",
+    about: "Edits a credential cache by a script from the standard input",
+    usage: "krbfile ccedit FILE < SCRIPT",
+    after_help: Some(
+        "\
+Lines of the script, of which empty ones and those that begin with # ask for nothing:
+  start                       A new walk, from the first credential
+  resume PLACE                A new walk, from that place
+  step WALK                   The next credential of that walk
+  cut PLACE                   The removal of the credential at that place
+  config KEY PRINCIPAL VALUE  A configuration value; PRINCIPAL is - for none
+  rewrite                     The cache is written anew, without what was removed",
+    ),
+    words: &[Word::Operand("FILE", "The file to edit")],
+};
+
+/// What ccedit asks for.
+#[derive(Drop)]
+struct EditCache<'f, A: Allocator> {
+    file: &'f str,
+    lines: Vec<CacheLine<A>, A>,
+}
+
+// The removals of what stands at those places.
+fn cuts<A: Allocator + Copy>(alloc: A, places: &[u32]) -> Result<Vec<Event<Cred<A>>, A>, NoMemory>
+    ensures { IfOk result (λ events. events.items ≡ map Cut places.now) }
+{
+    Ok(
+        places
+            .iter()
+            .map(|place| Event::Cut(*place))
+            .collect(alloc)?,
+    )
+}
+
+// Applies an event, and adds its reply. Tells whether it was refused.
+fn apply<A: Allocator + Copy>(
+    session: &mut Session<Ccache<A>, A>,
+    event: &Event<Cred<A>>,
+    replies: &mut Vec<Reply<A>, A>,
+) -> Result<bool, NoMemory>
+    ensures ran { OnOk result (Ran cache_rules (cache_session session.old) (cache_session session.new)
+        (event.now ∷ []) (map said replies.old.items) (map said replies.new.items)) }
+    ensures refused { IfOk result (λ b. b ≡ is_refusal (reply_to cache_rules (cache_session session.old) event.now)) }
+{
+    let reply = session.apply(event)?;
+    let is_refused = matches!(&reply, Reply::Refused(_));
+    replies.push(reply)?;
+    Ok(is_refused)
+}
+
+// Sets a value: adds its entry, and then, where that was not refused, removes each entry that it takes the place of.
+fn set_value<A: Allocator + Copy>(
+    alloc: A,
+    session: &mut Session<Ccache<A>, A>,
+    setting: &Setting<'_>,
+    replies: &mut Vec<Reply<A>, A>,
+) -> Result<(), NoMemory>
+    ensures { OnOk result (Ran cache_rules (cache_session session.old) (cache_session session.new)
+        (setting_events session.old.store.state setting.now) (map said replies.old.items) (map said replies.new.items)) }
+{
+    let entry = session.store().setting_entry(alloc, setting)?;
+    let places = session.store().setting_places(alloc, setting)?;
+    let removals = cuts(alloc, &places)?;
+    let is_refused = apply(session, &Event::Put(entry), replies)?;
+    if is_refused {
+        return Ok(());
+    }
+    Ok(session.run(&removals, replies)?)
+}
+
+// Runs what a line asks for.
+fn run_line<A: Allocator + Copy>(
+    alloc: A,
+    session: &mut Session<Ccache<A>, A>,
+    line: &CacheLine<A>,
+    replies: &mut Vec<Reply<A>, A>,
+) -> Result<(), NoMemory>
+    ensures { OnOk result (Ran cache_rules (cache_session session.old) (cache_session session.new)
+        (line_events (cache_session session.old) line.now) (map said replies.old.items) (map said replies.new.items)) }
+{
+    match line {
+        Asked::Event(event) => {
+            apply(session, event, replies)?;
+            Ok(())
+        }
+        Asked::Setting(setting) => set_value(alloc, session, &setting.as_setting(), replies),
+    }
+}
+
+// Runs lines over a cache in a session.
+fn run_lines<A: Allocator + Copy>(
+    alloc: A,
+    cache: Ccache<A>,
+    lines: &[CacheLine<A>],
+    replies: &mut Vec<Reply<A>, A>,
+) -> Result<Ccache<A>, NoMemory>
+    ensures ran { OnOk result (Ran cache_rules (new_session cache.state)
+        (state_after cache_rules (new_session cache.state) (cache_events lines.now cache.state))
+        (cache_events lines.now cache.state) (map said replies.old.items) (map said replies.new.items)) }
+    ensures left { IfOk result (λ k. k.state ≡ left cache_rules cache.state (cache_events lines.now cache.state)) }
+{
+    let mut session = Session::new(alloc, cache);
+    'lines: for line in lines {
+        run_line(alloc, &mut session, line, replies)?;
+    }
+    Ok(session.into_store())
+}
+
+// Runs lines over a cache, and gathers the lines of the replies.
+fn edit<A: Allocator + Copy>(
+    alloc: A,
+    cache: Ccache<A>,
+    lines: &[CacheLine<A>],
+) -> Result<Made<A, Output<A>>, NoMemory>
+    ensures made { IfOk result (λ made. (file : List ℕ) → text_effect file (Ok made) ≡ edits lines.now file cache.state) }
+    ensures fair { IfOk result (λ made. RunsFairly lines.now cache.state) }
+{
+    let format = CcFormat(cache.version());
+    let mut replies = Vec::new(alloc);
+    let cache = run_lines(alloc, cache, lines, &mut replies)?;
+    replied(alloc, FileKind::Cache, format, &replies, cache.into_image())
+}
+
+// Whether a line may change a cache.
+fn line_may_change<A: Allocator>(line: &CacheLine<A>) -> bool
+    ensures { result ≡ line_may_change line.now }
+{
+    match line {
+        Asked::Event(event) => may_change(event),
+        Asked::Setting(_) => true,
+    }
+}
+
+impl<'f, A: Allocator + Copy> Command<A> for EditCache<'f, A> {
+    ghost use Rattle.krb_editors.specs.Ccedit.{ccedit_fairly, ccedit_plan};
+
+    type Shown = Output<A>;
+
+    ghost file = { λ c. c.file.now };
+
+    ghost plan = { λ c mode. ccedit_plan c.file.now c.lines.items };
+
+    // Every walk is given what is due to it.
+    ghost fairly = { λ c. ccedit_fairly c.lines.items };
+
+    fn file(&self) -> &str {
+        self.file
+    }
+
+    fn make<F: Files>(
+        &self,
+        alloc: A,
+        files: &mut F,
+    ) -> Result<Made<A, Self::Shown>, FileTrouble<'_>> {
+        hold_file(self.lines.iter().any(line_may_change), files, self.file);
+        let cache = give_cache(alloc, files, self.file)?;
+        Ok(edit(alloc, cache, &self.lines)?)
+    }
+}
+
+/// Runs the lines of a script over the cache of that name in one session, saves it where they changed it,
+/// prints the replies, and returns the status.
+pub fn run_ccedit<A: Allocator + Copy, F: Files, R: Read, W: Write, E: Write>(
+    alloc: A,
+    file: &str,
+    files: &mut F,
+    streams: &mut Streams<R, W, E>,
+) -> u8
+    requires { IsFalse streams.old.out.failed }
+    ensures { RunsScript F.Files files.old files.new streams.old.out streams.new.out streams.old.err streams.new.err result
+        (ccedit_plan file.now) ccedit_fairly cache_line_in streams.old.input streams.new.input }
+{
+    match read_script(alloc, &mut streams.input) {
+        Ok(lines) => run(alloc, &EditCache { file, lines }, files, streams),
+        Err(trouble) => {
+            let cause = streams.input.cause();
+            tell(Err(trouble), b"", None, cause, &mut streams.err)
+        }
+    }
+}

@@ -1,0 +1,206 @@
+//! Removes tickets from a cache's file.
+
+ghost use Rattle.std.specs.Prelude.{◌≡◌, IfOk, IsFalse, option_map};
+ghost use Rattle.krb_ccache.specs.Store.{image_of};
+ghost use Rattle.krb_audit.specs.Tickets.{asked_tickets};
+ghost use Rattle.krb_editors.specs.Ccremove.{RunsCcremove, SpellsTickets, cache_after, ended_by, none_verdict, odd_tickets, removes, ticket_mistake};
+ghost use Rattle.krb_driver.specs.Commands.{text_effect};
+ghost use Rattle.krb_driver.specs.Effects.{IsMade};
+ghost use Rattle.krb_driver.specs.Mistakes.{Reads, mistake_phrase};
+
+use krb_driver::{Command, CommandName, CommandWords, DRY_RUN, FileKind, FileTrouble, Made, Matches, Mistake, Output, Streams, Trouble, Verdict, Word, WordFault, asked_name, first_value, hold_if, open_writable, run, tell, times_given};
+use krb_audit::select_tickets;
+use krb_ccache::Ccache;
+use krb_files::Files;
+use krb_walk::Refusal;
+use krb_wire::{NoMemory, Principal};
+use std::alloc::{Allocator, Global};
+use std::io::{Read, Write};
+
+/// The words of ccremove.
+pub const CCREMOVE: CommandWords = CommandWords {
+    command: CommandName::Ccremove,
+    name: "ccremove",
+    about: "Removes tickets from a credential cache",
+    usage: "krbfile ccremove [-n] [-p SERVICE] [--expired] FILE",
+    after_help: None,
+    words: &[
+        DRY_RUN,
+        Word::Valued(
+            "service",
+            'p',
+            "SERVICE",
+            "Tickets for that service, with its realm",
+        ),
+        Word::LongFlag("expired", "Tickets that have ended"),
+        Word::Operand("FILE", "The file to remove from"),
+    ],
+};
+
+/// Which tickets ccremove removes: those of which all holds that is given.
+#[derive(Drop)]
+pub struct TicketOptions<A: Allocator> {
+    /// Their server, as it is printed.
+    pub server: Option<Principal<A>>,
+    /// Those that have ended.
+    pub expired: bool,
+    /// To tell what would be removed, and to save nothing.
+    pub dry_run: bool,
+}
+
+// What is wrong before any word is read: nothing selects, or an option is given twice.
+fn odd_tickets<'a, M: Matches<'a>>(matches: &M) -> Option<Mistake<'a>>
+    ensures { option_map mistake_phrase result ≡ odd_tickets (M.matched matches.now) }
+{
+    let services = times_given(matches, "service");
+    if services > 1 {
+        Some(Mistake::Twice("-p"))
+    } else if services == 0 && !matches.flag("expired") {
+        Some(Mistake::NothingSelects("-p or --expired"))
+    } else {
+        None
+    }
+}
+
+/// What the words of ccremove select: something, and the name has to be read.
+pub fn ticket_options<'a, M: Matches<'a>>(
+    alloc: Global,
+    matches: &M,
+) -> Result<TicketOptions<Global>, WordFault<'a>>
+    ensures { Reads (ticket_mistake (M.matched matches.now)) (SpellsTickets (M.matched matches.now)) result }
+{
+    if let Some(mistake) = odd_tickets(matches) {
+        return Err(WordFault::of(mistake));
+    }
+    Ok(TicketOptions {
+        server: asked_name(alloc, first_value(matches, "service"))?,
+        expired: matches.flag("expired"),
+        dry_run: matches.flag("dry-run"),
+    })
+}
+
+/// What ccremove asks for: tickets that end at or before a time, if there is one.
+#[derive(Clone, Copy)]
+struct RemoveTickets<'f, B: Allocator> {
+    options: &'f TicketOptions<B>,
+    ended_by: Option<u32>,
+    file: &'f str,
+}
+
+// The time at or before which tickets that are asked for end, if expired ones are.
+fn ended_by<B: Allocator>(
+    options: &TicketOptions<B>,
+    now: Option<u32>,
+) -> Result<Option<u32>, Trouble>
+    ensures { result ≡ ended_by options.now now }
+{
+    match now {
+        Some(_) if options.expired => Ok(now),
+        None if options.expired => Err(Trouble::ClockNotRead),
+        _ => Ok(None),
+    }
+}
+
+// The image of a cache that is rewritten without the tickets at those places. One that may be changed refuses no
+// rewrite.
+fn cut<A: Allocator + Copy>(mut cache: Ccache<A>, places: &[u32]) -> Result<Vec<u8, A>, NoMemory>
+    ensures { IfOk result (λ image. image.items ≡ image_of (cache_after cache.state places.now)) }
+{
+    cache.remove_all(places);
+    match cache.rewrite(&mut []) {
+        Err(Refusal::NoMemory) => Err(NoMemory),
+        _ => Ok(cache.into_image()),
+    }
+}
+
+// How a run ends where no ticket is asked for: nothing to do is no failure where expired ones are.
+fn none_verdict<B: Allocator>(options: &TicketOptions<B>, is_named: bool) -> Verdict
+    ensures { result ≡ none_verdict options.now is_named }
+{
+    if options.expired && (options.server.is_none() || is_named) {
+        Verdict::Well
+    } else {
+        Verdict::NothingToRemove(FileKind::Cache)
+    }
+}
+
+// Removes from a cache the tickets that are asked for.
+fn remove<'a, A: Allocator + Copy, B: Allocator>(
+    alloc: A,
+    command: &RemoveTickets<'a, B>,
+    cache: Ccache<A>,
+) -> Result<Made<A, Output<A>>, FileTrouble<'a>>
+    ensures { IsMade (removes command.now.options.now command.now.file.now cache.state
+        (asked_tickets command.now.options.now.server command.now.ended_by cache.state))
+        (text_effect command.now.file.now result) }
+{
+    let options = command.options;
+    let selected = select_tickets(alloc, &cache, &options.server, command.ended_by)?;
+    if selected.places.is_empty() {
+        return Ok(Made::Shows(Output {
+            text: Vec::new(alloc),
+            verdict: none_verdict(options, selected.is_named),
+        }));
+    }
+    let text = Output {
+        text: selected.text,
+        verdict: Verdict::Well,
+    };
+    if options.dry_run {
+        return Ok(Made::Shows(text));
+    }
+    let image = cut(cache, &selected.places)?;
+    Ok(Made::Saves(image, text))
+}
+
+impl<'f, A: Allocator + Copy, B: Allocator> Command<A> for RemoveTickets<'f, B> {
+    ghost use Rattle.krb_editors.specs.Ccremove.{ccremove_plan};
+
+    type Shown = Output<A>;
+
+    ghost file = { λ c. c.file.now };
+
+    ghost plan = { λ c mode. ccremove_plan c.options.now c.file.now c.ended_by };
+
+    fn file(&self) -> &str {
+        self.file
+    }
+
+    fn make<F: Files>(
+        &self,
+        alloc: A,
+        files: &mut F,
+    ) -> Result<Made<A, Self::Shown>, FileTrouble<'_>> {
+        hold_if(!self.options.dry_run, files, self.file);
+        let cache = open_writable(alloc, files, self.file)?;
+        remove(alloc, self, cache)
+    }
+}
+
+/// Removes from the cache of that name the tickets that are asked for and rewrites it, prints a line for each,
+/// and returns the status. It is `now`, in seconds, or the clock was not read.
+pub fn run_ccremove<A: Allocator + Copy, B: Allocator, F: Files, R: Read, W: Write, E: Write>(
+    alloc: A,
+    options: &TicketOptions<B>,
+    now: Option<u32>,
+    file: &str,
+    files: &mut F,
+    streams: &mut Streams<R, W, E>,
+) -> u8
+    requires { IsFalse streams.old.out.failed }
+    ensures runs { RunsCcremove F.Files file.now options.now files.old files.new
+        streams.old.out streams.new.out streams.old.err streams.new.err result (ended_by options.now now) }
+    ensures input { streams.new.input ≡ streams.old.input }
+{
+    match ended_by(options, now) {
+        Ok(ended_by) => {
+            let command = RemoveTickets {
+                options,
+                ended_by,
+                file,
+            };
+            run(alloc, &command, files, streams)
+        }
+        Err(trouble) => tell(Err(trouble), b"", None, None, &mut streams.err),
+    }
+}

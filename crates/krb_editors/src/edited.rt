@@ -1,0 +1,64 @@
+//! What the replies of a session come to.
+
+ghost use Rattle.std.specs.Prelude.{◌≡◌, ℕ, List, IfOk, Ok, map};
+ghost use Rattle.std.specs.List.{list_any};
+ghost use Rattle.krb_walk.specs.Said.{said};
+ghost use Rattle.krb_text.specs.Reply.{reply_texts_by};
+ghost use Rattle.krb_driver.specs.Commands.{text_effect};
+ghost use Rattle.krb_editors.specs.Sessions.{is_change, may_change, replied};
+
+use krb_driver::{FileKind, Made, Output, replied_verdict};
+use krb_text::{RecordFormat, reply_lines};
+use krb_walk::{Event, Reply};
+use krb_wire::NoMemory;
+use std::alloc::Allocator;
+
+/// Whether an event may change a file.
+pub fn may_change<I>(event: &Event<I>) -> bool
+    ensures { result ≡ may_change event.now }
+{
+    match event {
+        Event::Put(_) | Event::Cut(_) | Event::Rewrite => true,
+        Event::Start | Event::Resume(_) | Event::Step(_) => false,
+    }
+}
+
+// Whether a reply reports a change of the file.
+fn is_change<A: Allocator>(reply: &Reply<A>) -> bool
+    ensures { result ≡ is_change (said reply.now) }
+{
+    match reply {
+        Reply::Placed(_) | Reply::Gone(_) | Reply::Rewritten(_) => true,
+        _ => false,
+    }
+}
+
+fn are_changes<A: Allocator>(replies: &[Reply<A>]) -> bool
+    ensures { result ≡ list_any (λ r. is_change (said r)) replies.now }
+{
+    replies.iter().any(is_change)
+}
+
+/// What the replies of a session over a file come to that left that image.
+pub fn replied<A: Allocator + Copy, F: RecordFormat>(
+    alloc: A,
+    kind: FileKind,
+    format: F,
+    replies: &[Reply<A>],
+    image: Vec<u8, A>,
+) -> Result<Made<A, Output<A>>, NoMemory>
+    ensures { IfOk result (λ made. (file : List ℕ) → text_effect file (Ok made)
+        ≡ replied kind file (map said replies.now) image.items (reply_texts_by F.tail_of F.rewritten format (map said replies.now))) }
+{
+    let mut text = Vec::new(alloc);
+    reply_lines(format, replies, &mut text)?;
+    let output = Output {
+        text,
+        verdict: replied_verdict(kind, replies),
+    };
+    if are_changes(replies) {
+        Ok(Made::Saves(image, output))
+    } else {
+        Ok(Made::Shows(output))
+    }
+}

@@ -1,0 +1,123 @@
+//! Edits a keytab's file by a script.
+
+ghost use Rattle.std.specs.Prelude.{◌≡◌, ℕ, List, IfOk, IsFalse, Ok};
+ghost use Rattle.krb_text.specs.Script.{event_in};
+ghost use Rattle.krb_driver.specs.Commands.{text_effect};
+ghost use Rattle.krb_editors.specs.Ktedit.{RunsFairly, edits, ktedit_fairly, ktedit_plan};
+ghost use Rattle.krb_editors.specs.Scripted.{RunsScript};
+
+use crate::edited::{may_change, replied};
+use crate::scripted::read_script;
+use krb_driver::{Command, CommandName, CommandWords, FileKind, FileTrouble, Made, Output, Streams, V1_BIG, Word, give_or_empty, hold_file, run, tell};
+use krb_files::Files;
+use krb_keytab::{Indexed, Keytab, NewEntry};
+use krb_walk::{Event, Session};
+use krb_wire::{NoMemory, Order};
+use std::alloc::Allocator;
+use std::io::{Read, Write};
+
+/// The words of ktedit.
+pub const KTEDIT: CommandWords = CommandWords {
+    command: CommandName::Ktedit,
+    name: "ktedit",
+    about: "Edits a keytab by a script from the standard input",
+    usage: "krbfile ktedit [--v1-big] FILE < SCRIPT",
+    after_help: Some(
+        "\
+Lines of the script, of which empty ones and those that begin with # ask for nothing:
+  start                         A new walk, from the first record
+  resume PLACE                  A new walk, from that place
+  step WALK                     The next record of that walk
+  add KVNO ETYPE TIME KEY NAME  An addition; KEY is hexadecimal, or - for none
+  cut PLACE                     The removal of the record at that place
+  rewrite                       The keytab is written anew, without holes",
+    ),
+    words: &[
+        V1_BIG,
+        Word::Operand("FILE", "The file to edit, made where it is missing"),
+    ],
+};
+
+/// What ktedit asks for.
+#[derive(Drop)]
+struct EditKeytab<'f, A: Allocator> {
+    v1_order: Order,
+    file: &'f str,
+    events: Vec<Event<NewEntry<A>>, A>,
+}
+
+// Runs events over a keytab, by a table of its cells, in a session.
+fn edit<A: Allocator + Copy>(
+    alloc: A,
+    keytab: Keytab<A>,
+    events: &[Event<NewEntry<A>>],
+) -> Result<Made<A, Output<A>>, NoMemory>
+    ensures made { IfOk result (λ made. (file : List ℕ) → text_effect file (Ok made) ≡ edits events.now file keytab.state) }
+    ensures fair { IfOk result (λ made. RunsFairly events.now keytab.state) }
+{
+    let format = keytab.format();
+    let Ok(keytab) = Indexed::of(alloc, keytab) else {
+        return Err(NoMemory);
+    };
+    let mut session = Session::new(alloc, keytab);
+    let mut replies = Vec::new(alloc);
+    session.run(events, &mut replies)?;
+    let image = session.into_store().into_image();
+    replied(alloc, FileKind::Keytab, format, &replies, image)
+}
+
+impl<'f, A: Allocator + Copy> Command<A> for EditKeytab<'f, A> {
+    ghost use Rattle.krb_editors.specs.Ktedit.{ktedit_fairly, ktedit_plan};
+
+    type Shown = Output<A>;
+
+    ghost file = { λ c. c.file.now };
+
+    ghost plan = { λ c mode. ktedit_plan c.v1_order c.file.now c.events.items };
+
+    // Every walk is given what is due to it.
+    ghost fairly = { λ c. ktedit_fairly c.v1_order c.events.items };
+
+    fn file(&self) -> &str {
+        self.file
+    }
+
+    fn make<F: Files>(
+        &self,
+        alloc: A,
+        files: &mut F,
+    ) -> Result<Made<A, Self::Shown>, FileTrouble<'_>> {
+        hold_file(self.events.iter().any(may_change), files, self.file);
+        let keytab = give_or_empty(alloc, self.v1_order, files, self.file)?;
+        Ok(edit(alloc, keytab, &self.events)?)
+    }
+}
+
+/// Runs the events of a script over the keytab of that name in one session, saves it where they changed it,
+/// prints the replies, and returns the status.
+pub fn run_ktedit<A: Allocator + Copy, F: Files, R: Read, W: Write, E: Write>(
+    alloc: A,
+    v1_order: Order,
+    file: &str,
+    files: &mut F,
+    streams: &mut Streams<R, W, E>,
+) -> u8
+    requires { IsFalse streams.old.out.failed }
+    ensures { RunsScript F.Files files.old files.new streams.old.out streams.new.out streams.old.err streams.new.err result
+        (ktedit_plan v1_order file.now) (ktedit_fairly v1_order) event_in streams.old.input streams.new.input }
+{
+    match read_script(alloc, &mut streams.input) {
+        Ok(events) => {
+            let command = EditKeytab {
+                v1_order,
+                file,
+                events,
+            };
+            run(alloc, &command, files, streams)
+        }
+        Err(trouble) => {
+            let cause = streams.input.cause();
+            tell(Err(trouble), b"", None, cause, &mut streams.err)
+        }
+    }
+}

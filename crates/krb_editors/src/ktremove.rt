@@ -1,0 +1,270 @@
+//! Removes entries of a keytab's file.
+
+ghost use Rattle.std.specs.Prelude.{◌≡◌, IfErr, IfOk, IsFalse, None, OnOk, Some, codes, find, is_none, map, option_map};
+ghost use Rattle.std.specs.List.{filter_map};
+ghost use Rattle.krb_text.specs.Etype.{etype_in};
+ghost use Rattle.krb_audit.specs.Selection.{asked};
+ghost use Rattle.krb_driver.specs.Commands.{RunsCommand, always, any, text_effect};
+ghost use Rattle.krb_driver.specs.Effects.{IsMade};
+ghost use Rattle.krb_editors.specs.Ktremove.{IsSpelledKvno, SpellsRemoval, bad_etype, bad_kvno, ktremove_plan, kvno_in, none_verdict, odd_selection, remove_mistake, removes};
+ghost use Rattle.krb_driver.specs.Mistakes.{Reads, mistake_phrase};
+
+use krb_driver::{Command, CommandName, CommandWords, DRY_RUN, FileKind, FileTrouble, Made, Matches, Mistake, Output, Streams, V1_BIG, Verdict, Word, WordFault, asked_name, first_value, hold_if, open_whole, run, times_given, v1_order};
+use krb_audit::{AskedKvno, Selection, select};
+use krb_files::Files;
+use krb_keytab::Keytab;
+use krb_text::{etype_of, parse_u32};
+use krb_wire::{NoMemory, Order};
+use std::alloc::{Allocator, Global};
+use std::io::{Read, Write};
+
+/// The words of ktremove.
+pub const KTREMOVE: CommandWords = CommandWords {
+    command: CommandName::Ktremove,
+    name: "ktremove",
+    about: "Removes entries from a keytab",
+    usage: "krbfile ktremove [--v1-big] [-n] [-p NAME] [-k KVNO|old] [-e ETYPE].. FILE",
+    after_help: None,
+    words: &[
+        DRY_RUN,
+        Word::Valued(
+            "name",
+            'p',
+            "NAME",
+            "Entries of that principal, with its realm",
+        ),
+        Word::Valued(
+            "kvno",
+            'k',
+            "KVNO",
+            "Entries of that version; old: those older than the newest",
+        ),
+        Word::Valued(
+            "etype",
+            'e',
+            "ETYPE",
+            "Entries of that encryption type, by name or number; may be repeated",
+        ),
+        V1_BIG,
+        Word::Operand("FILE", "The file to remove from"),
+    ],
+};
+
+/// What ktremove removes.
+#[derive(Drop)]
+pub struct RemoveOptions<A: Allocator> {
+    pub selection: Selection<A>,
+    /// To tell what would be removed, and to save nothing.
+    pub dry_run: bool,
+    /// The order of a keytab of version 1.
+    pub v1_order: Order,
+}
+
+// The versions that a word asks for.
+fn kvno_of(word: &str) -> Option<AskedKvno>
+    ensures { result ≡ kvno_in word.now }
+{
+    if word == "old" {
+        return Some(AskedKvno::Old);
+    }
+    Some(AskedKvno::Exactly(parse_u32(word.as_bytes())?))
+}
+
+// The first word that is no encryption type.
+fn bad_word<'a>(words: &[&'a str]) -> Option<&'a str>
+    ensures { result ≡ find (λ word. is_none (etype_in word.now)) words.now }
+{
+    words
+        .iter()
+        .copied()
+        .find(|word| etype_of(word.as_bytes()).is_none())
+}
+
+// The same, by the texts of the words.
+#[tactic(auto, using(krb_driver::proofs::MatchLemmas::found_word))]
+fn first_bad<'a>(words: &[&'a str]) -> Option<&'a str>
+    ensures { option_map (λ word. word.now) result
+        ≡ find (λ word. is_none (etype_in word)) (map (λ word. word.now) words.now) }
+{
+    bad_word(words)
+}
+
+// That a word is no encryption type, if one is not.
+fn bad_etype<'a, M: Matches<'a>>(matches: &M) -> Option<Mistake<'a>>
+    ensures { option_map mistake_phrase result ≡ bad_etype ((M.matched matches.now).values (codes "etype")) }
+{
+    Some(Mistake::NoEtype(first_bad(matches.values("etype"))?))
+}
+
+// What is wrong before any word is read: nothing selects, or an option is given twice.
+fn odd_selection<'a, M: Matches<'a>>(matches: &M) -> Option<Mistake<'a>>
+    ensures { option_map mistake_phrase result ≡ odd_selection (M.matched matches.now) }
+{
+    let names = times_given(matches, "name");
+    let kvnos = times_given(matches, "kvno");
+    if names > 1 {
+        Some(Mistake::Twice("-p"))
+    } else if kvnos > 1 {
+        Some(Mistake::Twice("-k"))
+    } else if names == 0 && kvnos == 0 && times_given(matches, "etype") == 0 {
+        Some(Mistake::NothingSelects("-p, -k or -e"))
+    } else {
+        None
+    }
+}
+
+// The versions that a word asks for, if there is a word.
+fn asked_kvno<'a>(word: Option<&'a str>) -> Result<AskedKvno, Mistake<'a>>
+    ensures ok { IfOk result (IsSpelledKvno (option_map (λ word. word.now) word.entry)) }
+    ensures readable { OnOk result (bad_kvno (option_map (λ word. word.now) word.entry) ≡ None) }
+    ensures mistake { IfErr result (λ mistake. bad_kvno (option_map (λ word. word.now) word.entry) ≡ Some (mistake_phrase mistake)) }
+{
+    let Some(word) = word else {
+        return Ok(AskedKvno::Any);
+    };
+    match kvno_of(word) {
+        Some(kvno) => Ok(kvno),
+        None => Err(Mistake::NoVersion(word)),
+    }
+}
+
+// The encryption types that words spell.
+fn read_etypes(alloc: Global, words: &[&str]) -> Result<Vec<u16>, NoMemory>
+    ensures { IfOk result (λ etypes. etypes.items ≡ filter_map (λ word. etype_in word.now) words.now) }
+{
+    Ok(
+        words
+            .iter()
+            .filter_map(|word| etype_of(word.as_bytes()))
+            .collect(alloc)?,
+    )
+}
+
+// The same, by the texts of the words.
+#[tactic(auto, using(krb_driver::proofs::MatchLemmas::spelled_words))]
+fn etypes_of(alloc: Global, words: &[&str]) -> Result<Vec<u16>, NoMemory>
+    ensures { IfOk result (λ etypes. etypes.items ≡ filter_map etype_in (map (λ word. word.now) words.now)) }
+{
+    Ok(read_etypes(alloc, words)?)
+}
+
+/// What the words of ktremove select: something, and each word has to be read.
+pub fn remove_options<'a, M: Matches<'a>>(
+    alloc: Global,
+    matches: &M,
+) -> Result<RemoveOptions<Global>, WordFault<'a>>
+    ensures { Reads (remove_mistake (M.matched matches.now)) (SpellsRemoval (M.matched matches.now)) result }
+{
+    if let Some(mistake) = odd_selection(matches) {
+        return Err(WordFault::of(mistake));
+    }
+    let kvno = match asked_kvno(first_value(matches, "kvno")) {
+        Ok(kvno) => kvno,
+        Err(mistake) => return Err(WordFault::of(mistake)),
+    };
+    if let Some(mistake) = bad_etype(matches) {
+        return Err(WordFault::of(mistake));
+    }
+    let name = asked_name(alloc, first_value(matches, "name"))?;
+    let Ok(enctypes) = etypes_of(alloc, matches.values("etype")) else {
+        return Err(WordFault::NoMemory);
+    };
+    Ok(RemoveOptions {
+        selection: Selection {
+            name,
+            kvno,
+            enctypes,
+        },
+        dry_run: matches.flag("dry-run"),
+        v1_order: v1_order(matches),
+    })
+}
+
+/// What ktremove asks for.
+#[derive(Clone, Copy)]
+struct RemoveEntries<'f, B: Allocator> {
+    options: &'f RemoveOptions<B>,
+    file: &'f str,
+}
+
+// How a run ends where no entry is asked for: nothing to do is no failure where old ones are.
+fn none_verdict<B: Allocator>(selection: &Selection<B>, is_named: bool) -> Verdict
+    ensures { result ≡ none_verdict selection.now is_named }
+{
+    let is_any = selection.name.is_none() && selection.enctypes.is_empty();
+    if selection.kvno == AskedKvno::Old && (is_any || is_named) {
+        Verdict::Well
+    } else {
+        Verdict::NothingToRemove(FileKind::Keytab)
+    }
+}
+
+// Removes from a keytab the entries that are asked for.
+fn remove<'a, A: Allocator + Copy, B: Allocator>(
+    alloc: A,
+    command: &RemoveEntries<'a, B>,
+    mut keytab: Keytab<A>,
+) -> Result<Made<A, Output<A>>, FileTrouble<'a>>
+    ensures { IsMade (removes command.now.options.now command.now.file.now keytab.state (asked command.now.options.now.selection keytab.state))
+        (text_effect command.now.file.now result) }
+{
+    let options = command.options;
+    let selected = select(alloc, &keytab, &options.selection)?;
+    if selected.places.is_empty() {
+        return Ok(Made::Shows(Output {
+            text: Vec::new(alloc),
+            verdict: none_verdict(&options.selection, selected.is_named),
+        }));
+    }
+    let text = Output {
+        text: selected.text,
+        verdict: Verdict::Well,
+    };
+    if options.dry_run {
+        return Ok(Made::Shows(text));
+    }
+    keytab.remove_all(&selected.places);
+    Ok(Made::Saves(keytab.into_image(), text))
+}
+
+impl<'f, A: Allocator + Copy, B: Allocator> Command<A> for RemoveEntries<'f, B> {
+    ghost use Rattle.krb_editors.specs.Ktremove.{ktremove_plan};
+
+    type Shown = Output<A>;
+
+    ghost file = { λ c. c.file.now };
+
+    ghost plan = { λ c mode. ktremove_plan c.options.now c.file.now };
+
+    fn file(&self) -> &str {
+        self.file
+    }
+
+    fn make<F: Files>(
+        &self,
+        alloc: A,
+        files: &mut F,
+    ) -> Result<Made<A, Self::Shown>, FileTrouble<'_>> {
+        hold_if(!self.options.dry_run, files, self.file);
+        let keytab = open_whole(alloc, self.options.v1_order, files, self.file)?;
+        remove(alloc, self, keytab)
+    }
+}
+
+/// Removes from the keytab of that name the entries that are asked for, prints a line for each, and returns
+/// the status.
+#[tactic(auto, unfolding(krb_driver::specs::Commands::always))]
+pub fn run_ktremove<A: Allocator + Copy, B: Allocator, F: Files, R: Read, W: Write, E: Write>(
+    alloc: A,
+    options: &RemoveOptions<B>,
+    file: &str,
+    files: &mut F,
+    streams: &mut Streams<R, W, E>,
+) -> u8
+    requires { IsFalse streams.old.out.failed }
+    ensures runs { RunsCommand F.Files (always (ktremove_plan options.now file.now)) any files.old files.new
+        streams.old.out streams.new.out streams.old.err streams.new.err result }
+    ensures input { streams.new.input ≡ streams.old.input }
+{
+    run(alloc, &RemoveEntries { options, file }, files, streams)
+}

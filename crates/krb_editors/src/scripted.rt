@@ -1,0 +1,24 @@
+//! The lines of a script.
+
+ghost use Rattle.krb_driver.specs.Loading.{result_map};
+ghost use Rattle.krb_editors.specs.Scripted.{GivesLines};
+
+use krb_driver::Trouble;
+use krb_files::{WatchedReader, load};
+use krb_text::{ScriptLine, parse_script};
+use krb_wire::USUAL_LIMIT;
+use std::alloc::Allocator;
+use std::io::Read;
+
+/// The lines of the script that an input gives.
+pub fn read_script<A: Allocator + Copy, L: ScriptLine<A>, R: Read>(
+    alloc: A,
+    input: &mut WatchedReader<R>,
+) -> Result<Vec<L, A>, Trouble>
+    ensures { GivesLines L.line_in input.old input.new (result_map (λ lines. lines.items) result) }
+{
+    match load(alloc, input, USUAL_LIMIT, 0) {
+        Ok(text) => Ok(parse_script(alloc, &text)?),
+        Err(fault) => Err(Trouble::of_input(fault)),
+    }
+}

@@ -1,0 +1,227 @@
+-- What a line of ktutil comes to that was handled by its plan.
+use Rattle.std.proofs.Common.{◌≡◌, ◌≢◌, ◌⊎◌, inl, inr, ◌∙◌, ℕ, ◌≤◌, Bool, true, false, List, [], ◌∷◌, ◌++◌, Option, Some, None, is_some, length, refl, sym, ap, subst, cond, arith}
+use Rattle.std.specs.Prelude.{Result, Ok, Err}
+use Rattle.std.proofs.lemmas.Bool.{true≢false}
+use Rattle.std.proofs.lemmas.List.{append-nil}
+use Rattle.krb_walk.specs.Store.{fault_of}
+use Rattle.krb_walk.specs.declared.refusal.Code.{Code}
+use Rattle.krb_walk.specs.declared.refusal.Code.TheVariants as code
+use Rattle.krb_keytab.specs.Store.{KeytabState, store_of}
+use Rattle.krb_files.specs.declared.files.LoadFault.TheVariants as load
+use Rattle.krb_files.specs.declared.files.SaveFault.{SaveFault}
+use Rattle.krb_files.specs.declared.files.SaveFault.TheVariants as save
+use Rattle.krb_files.specs.declared.files.Files.{Ghosts}
+use Rattle.krb_files.specs.Files.{SameFiles}
+use Rattle.krb_files.specs.Loading.{Answer, SavesFile}
+use Rattle.krb_files.specs.Plan.{Ends, Holds, Loads, by, follow}
+use Rattle.krb_files.proofs.PlanLaws.{comes, count-trans, loaded-lasts, same-trans, with_bytes-set}
+use Rattle.krb_text.specs.declared.line_fault.LineFault.{LineFault}
+use Rattle.krb_ktutil.specs.declared.ktutil.line_end.LineEnd.{LineEnd}
+use Rattle.krb_ktutil.specs.declared.ktutil.line_end.LineEnd.TheVariants as end
+use Rattle.krb_driver.specs.declared.loading.NoKeytab.{NoKeytab}
+use Rattle.krb_driver.specs.declared.loading.NoKeytab.TheVariants.{Load, Open}
+use Rattle.krb_driver.specs.Loading.{keytab_of, keytab_or_new}
+use Rattle.krb_ktutil.specs.KtutilCommand.{Awaited, Command, Skip, ListSlots, ReadFile, WriteFile, AwaitKey, DeleteSlot, ClearList, Quit, command_of}
+use Rattle.krb_ktutil.specs.KtutilPlan.{KtutilState, Outcome, LineEffect, ComesTo, Saves, LinePlan, kept, line_faults, no_keytab_end, save_end, with_entries, with_added, saved_as, stays, written_to, key_line, with_key, command_plan, plan_by, plan_of}
+use Rattle.krb_ktutil.specs.KtutilFiles.{Shows, RunsOut, Settles, Handles}
+use Rattle.krb_ktutil.specs.KtutilHonest.{ShowsDue, FailsBy, FailsCall, HandlesHonestly, Spares, TellsMemory}
+
+-- ---- plans of lines
+
+-- a line that is not done leaves the entries; one that is out of memory tells so, leaves the state and prints nothing
+pub record IsCareful (s : KtutilState) (due : Outcome) : Type 0 where
+  pub entries : due.ending ≢ end.Done → due.state.entries ≡ s.entries
+  pub told : TellsMemory due.ending
+  pub memory : due.ending ≡ end.NoMemory → (due.state ≡ s) × (due.text ≡ [])
+
+-- so is each outcome that a plan comes to without a save
+abbrev Careful : KtutilState → LineEffect → Type 0
+Careful s (ComesTo takes due) = IsCareful s due
+Careful s (Saves name bytes) = Unit {0}
+
+abbrev AllCareful : KtutilState → LinePlan → Type 0
+AllCareful s (Ends effect) = Careful s effect
+AllCareful s (Holds held name plan) = AllCareful s plan
+AllCareful s (Loads name then_) = (answer : Answer) → AllCareful s (then_ answer)
+
+no_keytab-told : (why : NoKeytab) → TellsMemory (no_keytab_end why)
+no_keytab-told (Load load.Missing) = tt
+no_keytab-told (Load load.TooLarge) = tt
+no_keytab-told (Load load.Failed) = tt
+no_keytab-told (Load load.NoMemory) = tt
+no_keytab-told (Open fault) = tt
+
+save-told : (answer : Result (Unit {0}) SaveFault) → TellsMemory (save_end answer)
+save-told (Ok done) = tt
+save-told (Err save.Failed) = tt
+save-told (Err save.NoMemory) = tt
+
+module _ (s : KtutilState) where
+  kept-careful : (ending : LineEnd) → TellsMemory ending → IsCareful s (kept s ending)
+  kept-careful ending told = record { entries = λ _. refl; told = told; memory = λ _. (refl, refl) }
+
+  done-careful : (state : KtutilState) (text : List ℕ) → IsCareful s (record { state = state; text = text; ending = end.Done })
+  done-careful state text = record { entries = λ differ. absurd (differ refl); told = tt; memory = λ is. absurd cc }
+
+  either-careful : (b : Bool) (p q : LineEffect) → Careful s p → Careful s q → Careful s (cond b p q)
+  either-careful true p q first second = first
+  either-careful false p q first second = second
+
+  entries-careful : (given : Result KeytabState NoKeytab) → Careful s (with_entries s given)
+  entries-careful (Ok k) = either-careful (is_some (fault_of (store_of k))) _ _ (kept-careful (end.Refused code.Damaged) tt) (done-careful _ [])
+  entries-careful (Err why) = kept-careful (no_keytab_end why) (no_keytab-told why)
+
+  saved-careful : (name : List ℕ) (added : Result KeytabState Code) → Careful s (saved_as s name added)
+  saved-careful name (Ok k) = tt
+  saved-careful name (Err refused) = kept-careful (end.Refused refused) tt
+
+  written-careful : (name : List ℕ) (given : Result KeytabState NoKeytab) → Careful s (written_to s name given)
+  written-careful name (Ok k) = saved-careful name (with_added s.entries (Ok k))
+  written-careful name (Err why) = kept-careful (no_keytab_end why) (no_keytab-told why)
+
+  command-careful : (command : Result Command LineFault) → AllCareful s (command_plan s command)
+  command-careful (Err fault) = kept-careful (end.Fault fault) tt
+  command-careful (Ok Skip) = done-careful s []
+  command-careful (Ok (ListSlots columns)) = done-careful s _
+  command-careful (Ok (ReadFile name)) = λ answer. entries-careful (keytab_of s.order answer)
+  command-careful (Ok (WriteFile name)) = λ answer. written-careful name (keytab_or_new s.order answer)
+  command-careful (Ok (AwaitKey awaited)) = done-careful _ []
+  command-careful (Ok (DeleteSlot slot)) = done-careful _ []
+  command-careful (Ok ClearList) = done-careful _ []
+  command-careful (Ok Quit) = kept-careful end.Quit tt
+
+  key-careful : (x : Awaited) (now : ℕ) (key : Result (List ℕ) LineFault) → Careful s (with_key s x now key)
+  key-careful x now (Ok key) = done-careful _ []
+  key-careful x now (Err fault) = record { entries = λ _. refl; told = tt; memory = λ is. absurd cc }
+
+  plan-careful : (now : ℕ) (line : List ℕ) (awaited : Option Awaited) → AllCareful s (plan_by s now line awaited)
+  plan-careful now line None = command-careful (command_of line (length s.entries))
+  plan-careful now line (Some x) = key-careful x now (key_line x.enctype line)
+
+  by-careful : (plan : LinePlan) (answers : List Answer) → AllCareful s plan → Careful s (by (line_faults s) plan answers)
+  by-careful (Ends effect) answers careful = careful
+  by-careful (Holds held name plan) answers careful = by-careful plan answers careful
+  by-careful (Loads name then_) [] careful = kept-careful end.NoMemory tt
+  by-careful (Loads name then_) (Ok bytes ∷ answers) careful = by-careful (then_ (Ok bytes)) answers (careful (Ok bytes))
+  by-careful (Loads name then_) (Err load.Missing ∷ answers) careful = by-careful (then_ (Err load.Missing)) answers (careful (Err load.Missing))
+  by-careful (Loads name then_) (Err load.TooLarge ∷ answers) careful = by-careful (then_ (Err load.TooLarge)) answers (careful (Err load.TooLarge))
+  by-careful (Loads name then_) (Err load.Failed ∷ answers) careful = kept-careful (end.Load load.Failed) tt
+  by-careful (Loads name then_) (Err load.NoMemory ∷ answers) careful = kept-careful end.NoMemory tt
+
+-- where no key is awaited a line is a command
+pub plan_of-none : (s : KtutilState) (now : ℕ) (line : List ℕ) (awaited : Option Awaited) → is_some awaited ≡ false → plan_by s now line awaited ≡ command_plan s (command_of line (length s.entries))
+plan_of-none s now line None is = refl
+plan_of-none s now line (Some x) is = absurd (true≢false is)
+
+-- files stay honest, and the count of failures falls nowhere
+abbrev pub Lasts : {F : Type 0} → Ghosts F → F → F → Type 0
+Lasts trait files files' = (trait.is_honest files → trait.is_honest files') × (trait.failure_count files ≤ trait.failure_count files')
+
+module _ {F : Type 0} (trait : Ghosts F) (old new : KtutilState) (out out' : List ℕ) (ending : LineEnd) where
+  -- an outcome that is so was shown
+  abbrev ShowsCareful : Type 0
+  ShowsCareful = (due : Outcome) × IsCareful old due × Shows new out out' ending due
+
+  settles-careful : (effect : LineEffect) (files files' : F) → Careful old effect → Settles trait old new out out' ending effect files files' → ShowsCareful
+  settles-careful (ComesTo takes due) files files' careful settles = (due, careful, settles.1)
+  settles-careful (Saves name bytes) files files' careful settles = (kept old (save_end settles.0), kept-careful old (save_end settles.0) (save-told settles.0), settles.1.1)
+
+  settles-lasts : (effect : LineEffect) (files files' : F) → Settles trait old new out out' ending effect files files' → Lasts trait files files'
+  settles-lasts (ComesTo takes due) files files' settles = subst (λ (x : F). Lasts trait files x) (sym settles.0) (λ h. h, omega arith)
+  settles-lasts (Saves name bytes) files files' settles = (settles.1.0.honest, settles.1.0.count)
+
+  fails-call : (files files' : F) (fault : LineEnd) → SameFiles (trait.file files) (trait.file files') → Shows new out out' ending (kept old fault) → FailsBy trait files files' fault → FailsCall trait files files' old new out out' ending
+  fails-call files files' fault same shows why = record {
+    why = subst (FailsBy trait files files') (sym shows.ending_is) why;
+    state_is = shows.state_is;
+    same = shows.appended ∙ append-nil out;
+    same_files = same;
+  }
+
+  due-spared : (effect : LineEffect) (files files' : F) → ShowsDue trait effect files files' old new out out' ending → ending ≢ end.Done → SameFiles (trait.file files) (trait.file files')
+  due-spared (ComesTo takes due) files files' shows differ = shows.files_are
+  due-spared (Saves name bytes) files files' shows differ = absurd (differ shows.shows.ending_is)
+
+  module _ (files between files' : F) (same : SameFiles (trait.file files) (trait.file between)) (le : trait.failure_count files ≤ trait.failure_count between) (h : trait.is_honest between) where
+    same-then : files' ≡ between → SameFiles (trait.file files) (trait.file files')
+    same-then is = subst (λ (x : F). SameFiles (trait.file files) (trait.file x)) (sym is) same
+
+    saved-comes : (name bytes : List ℕ) (answer : Result (Unit {0}) SaveFault) → SavesFile trait between name bytes answer files' → Shows new out out' ending (kept old (save_end answer))
+        → ShowsDue trait (Saves name bytes) files files' old new out out' ending ⊎ FailsCall trait files files' old new out out' ending
+    saved-comes name bytes (Ok done) saves shows = inl (record { shows = shows; files_are = with_bytes-set (trait.file files) (trait.file between) (trait.file files') name bytes same (saves.sets h) })
+    saved-comes name bytes (Err save.Failed) saves shows =
+        let counted = count-trans (trait.failure_count files) (trait.failure_count between) (trait.failure_count files') le saves.count (saves.failed refl) in
+        inr (fails-call files files' (end.Save save.Failed) (same-trans (trait.file files) (trait.file between) (trait.file files') same (saves.same h)) shows (inl (counted, inr refl)))
+    saved-comes name bytes (Err save.NoMemory) saves shows =
+        inr (fails-call files files' end.NoMemory (same-trans (trait.file files) (trait.file between) (trait.file files') same (saves.same h)) shows (inr refl))
+
+    settles-comes : (effect : LineEffect) → Settles trait old new out out' ending effect between files' → ShowsDue trait effect files files' old new out out' ending ⊎ FailsCall trait files files' old new out out' ending
+    settles-comes (ComesTo takes due) settles = inl (record { shows = settles.1; files_are = same-then settles.0 })
+    settles-comes (Saves name bytes) settles = saved-comes name bytes settles.0 settles.1.0 settles.1.1
+
+    -- a line that ended with its loads
+    stays-fails : (fault : LineEnd) → FailsBy trait files between fault → Settles trait old new out out' ending (stays old fault) between files' → FailsCall trait files files' old new out out' ending
+    stays-fails fault why settles = fails-call files files' fault (same-then settles.0) settles.1 (subst (λ (x : F). FailsBy trait files x fault) (sym settles.0) why)
+
+-- ---- a line that was handled by its plan
+
+module _ {F : Type 0} (trait : Ghosts F) {old new : KtutilState} {out out' : List ℕ} {ending : LineEnd} where
+  handles-careful : (now : ℕ) (line : List ℕ) {files files' : F} → Handles trait (plan_of old now line) files files' old new out out' ending → ShowsCareful trait old new out out' ending
+  handles-careful now line {files' = files'} handles =
+      settles-careful trait old new out out' ending handles.effect handles.between files' (elim handles.made [
+        | inl is ↦ subst (Careful old) (sym is) (by-careful old (plan_of old now line) handles.answers (plan-careful old now line old.awaited))
+        | inr spent ↦ subst (Careful old) (sym spent.1) (kept-careful old end.NoMemory tt)
+      ]) handles.settles
+
+  -- what it tells of memory
+  pub handles_memory : (now : ℕ) (line : List ℕ) {files files' : F} → Handles trait (plan_of old now line) files files' old new out out' ending → TellsMemory ending × (ending ≡ end.NoMemory → RunsOut old new out out' ending)
+  handles_memory now line handles =
+      let shown = handles-careful now line handles in
+      let shows = shown.2 in (
+        subst TellsMemory (sym shows.ending_is) shown.1.told,
+        λ is.
+            let still = shown.1.memory (sym shows.ending_is ∙ is) in
+            record { state_is = shows.state_is ∙ still.0; same = shows.appended ∙ ap (λ (text : List ℕ). out ++ text) still.1 ∙ append-nil out; ending_is = is },
+      )
+
+  pub handles_lasts : {plan : LinePlan} {files files' : F} → Handles trait plan files files' old new out out' ending → Lasts trait files files'
+  handles_lasts {plan = plan} {files = files} {files' = files'} handles =
+      let first = loaded-lasts trait (line_faults old) plan files handles.answers handles.between handles.loads in
+      let second = settles-lasts trait old new out out' ending handles.effect handles.between files' handles.settles in
+      let le = first.count in
+      let le' = second.1 in
+      (λ h. second.0 (first.honest h), omega (arith, le, le'))
+
+  -- over honest files
+  pub handles_honestly : {plan : LinePlan} {files files' : F} → Handles trait plan files files' old new out out' ending → trait.is_honest files → HandlesHonestly trait plan files files' old new out out' ending
+  handles_honestly {plan = plan} {files = files} {files' = files'} handles h =
+      let between = handles.between in
+      let first = loaded-lasts trait (line_faults old) plan files handles.answers between handles.loads in
+      let settle = λ (effect : LineEffect) (is : handles.effect ≡ effect). subst (λ (e : LineEffect). Settles trait old new out out' ending e between files') is handles.settles in
+      let fails = λ (fault : LineEnd) (why : FailsBy trait files between fault) (is : handles.effect ≡ stays old fault).
+      stays-fails trait old new out out' ending files between files' (first.same h) first.count (first.honest h) fault why (settle (stays old fault) is) in
+      record {
+        honest = (handles_lasts handles).0 h;
+        comes = elim handles.made [
+          | inl is ↦ elim (comes trait (line_faults old) plan (trait.file files) files handles.answers between h (λ name. refl) handles.loads) [
+            | inl due ↦ settles-comes trait old new out out' ending files between files' (first.same h) first.count (first.honest h) (follow (trait.file files) plan) (settle (follow (trait.file files) plan) (is ∙ due))
+            | inr other ↦ elim other [
+              | inl failed ↦ inr (fails (end.Load load.Failed) (inl (failed.0, inl refl)) (is ∙ failed.1.1))
+              | inr spent ↦ inr (fails end.NoMemory (inr refl) (is ∙ spent.1))
+            ]
+          ]
+          | inr spent ↦ inr (fails end.NoMemory (inr refl) spent.1)
+        ];
+      }
+
+  -- what it spares
+  pub handles_spares : (now : ℕ) (line : List ℕ) {files files' : F} → Handles trait (plan_of old now line) files files' old new out out' ending → Spares trait files files' old new ending
+  handles_spares now line {files = files} {files' = files'} handles =
+      let shown = handles-careful now line handles in
+      record {
+        entries = λ differ. ap (λ (x : KtutilState). x.entries) shown.2.state_is ∙ shown.1.entries (λ is. differ (shown.2.ending_is ∙ is));
+        files_are = λ h differ. elim (handles_honestly handles h).comes [
+          | inl shows ↦ due-spared trait old new out out' ending (follow (trait.file files) (plan_of old now line)) files files' shows differ
+          | inr fails ↦ fails.same_files
+        ];
+      }

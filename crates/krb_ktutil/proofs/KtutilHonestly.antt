@@ -1,0 +1,217 @@
+-- What the lines of ktutil come to over honest files.
+use Rattle.std.proofs.Common.{◌≡◌, inl, inr, ℕ, ◌+◌, ◌≤◌, Bool, true, false, List, [], ◌∷◌, ◌++◌, length, refl, sym, ap, subst, ◌∙◌, append_assoc, append-nil, arith}
+use Rattle.std.specs.Prelude.{IsTrue, IsFalse, max, if◌then◌else◌, Option, None, Some, IfSome, Err}
+use Rattle.std.specs.Io.KnownBytes.{Appends}
+use Rattle.std.proofs.lemmas.Bool.{false≢true}
+use mathlib.Core.Path.{fun_ext}
+use Rattle.krb_files.specs.declared.files.Files.{Ghosts}
+use Rattle.krb_ktutil.specs.declared.ktutil.line_end.LineEnd.{LineEnd}
+use Rattle.krb_driver.specs.ErrorOutput.{ErrorWatch}
+use Rattle.krb_files.specs.Files.{FileMap, SameFiles}
+use Rattle.krb_files.specs.Plan.{follow}
+use Rattle.krb_files.proofs.PlanLaws.{count-more, count-trans}
+use Rattle.krb_ktutil.specs.KtutilPlan.{KtutilState, Outcome, plan_of}
+use Rattle.krb_ktutil.specs.KtutilHonest.{ShowsDue, HandlesHonestly, line_files, line_outcome}
+use Rattle.krb_files.proofs.Prefixes.{Appends-nil, Appends-trans}
+use Rattle.krb_ktutil.proofs.KtutilDue.{Lasts, handles_honestly, handles_lasts}
+use Rattle.krb_files.specs.declared.files.LoadFault.TheVariants as load
+use Rattle.krb_files.specs.declared.files.LoadFault.{LoadFault}
+use Rattle.krb_driver.specs.declared.trouble.Trouble.TheVariants.{NoMemory}
+use Rattle.krb_ktutil.specs.InputLines.{lines_of}
+use Rattle.krb_ktutil.specs.KtutilTalk.{Talk, ending_of, line_run, named_in, goes_on, AreFirst, Continues, Stops, TalksOver}
+use Rattle.krb_ktutil.specs.KtutilDue.{TalkDue, quiet_run, last_due, due_after, talk_due, GivesLines, LeavesDueUnlessFailed, TalksHonestly}
+use Rattle.krb_driver.specs.Runs.{Run, SaysEnd, EndsRun, ends_by}
+use Rattle.krb_driver.specs.Troubles.{Ending, ending_status, input_trouble, trouble_status}
+use Rattle.krb_driver.proofs.Shown.{SaysEnd-nothing}
+
+-- what a line comes to, by its parts
+outcome_is : (due : Outcome) (state : KtutilState) (text : List ℕ) (ending : LineEnd) → state ≡ due.state → text ≡ due.text → ending ≡ due.ending → due ≡ record { state = state; text = text; ending = ending }
+outcome_is due state text ending state_is text_is ending_is = rw (state_is, text_is, ending_is) refl
+
+-- lines leave honest files honest, and let the count of failures fall nowhere
+talk_lasts : {F : Type 0} (trait : Ghosts F) (now number : ℕ) (lines : List (List ℕ)) (old new : Talk F) → TalksOver trait now number lines old new → Lasts trait old.files new.files
+talk_lasts {F = F} trait now number [] old new talked = subst (λ (t : Talk F). Lasts trait old.files t.files) (sym talked) (λ h. h, omega arith)
+talk_lasts trait now number (line ∷ lines) old new talked =
+    let first = handles_lasts trait talked.1.handles.handled in
+    let others = talk_lasts trait now (number + 1) lines talked.0 new talked.2 in
+    let le = first.1 in
+    let le' = others.1 in
+    (λ h. others.0 (first.0 h), omega (arith, le, le'))
+
+module _ {F : Type 0} (trait : Ghosts F) (now : ℕ) (final : Run) where
+  -- what is due of a line that comes to that, and of those after it, if it goes on
+  abbrev NextDue : ℕ → List ℕ → List (List ℕ) → Bool → Outcome → FileMap → TalkDue
+  NextDue number line more goes due files =
+      if goes then due_after (named_in line) (Some number) (line_run number due.ending due.text) (talk_due final now (number + 1) more due.state files)
+      else last_due (named_in line) (Some number) (line_run number due.ending due.text) files
+
+  due_by : (number : ℕ) (line : List ℕ) (more : List (List ℕ)) (old new : KtutilState) (files files' : F) (text : List ℕ) (ending : LineEnd)
+      → ShowsDue trait (follow (trait.file files) (plan_of old now line)) files files' old new [] text ending → (goes : Bool) → goes_on ending ≡ goes
+      → talk_due final now number (line ∷ more) old (trait.file files) ≡ NextDue number line more goes (record { state = new; text = text; ending = ending }) (trait.file files')
+  due_by number line more old new files files' text ending due goes is =
+      let effect = follow (trait.file files) (plan_of old now line) in
+      let came : Outcome = record { state = new; text = text; ending = ending } in
+      ap (λ (o : Outcome). NextDue number line more (goes_on o.ending) o (line_files (trait.file files) effect)) (outcome_is (line_outcome old effect) new text ending due.shows.state_is due.shows.appended due.shows.ending_is)
+      ∙ ap (NextDue number line more (goes_on ending) came) (sym (fun_ext due.files_are))
+      ∙ ap (λ (b : Bool). NextDue number line more b came (trait.file files')) is
+
+  worst_after : (a b run due status new : ℕ) → new ≡ max b due → b ≡ max a status → status ≡ run → new ≡ max a (max run due)
+  worst_after a b run due status new new_is b_is is = omega (arith, new_is, b_is, is)
+
+  -- a line was handled, and what is due of those after it was left
+  leaves_after : (file : List ℕ) (which : Option ℕ) (run : Run) (status : ℕ) (old mid new : Talk F) (due : TalkDue) → EndsRun file which run old.out mid.out old.err mid.err status → IsFalse mid.out.failed → mid.status ≡ max old.status status
+      → trait.failure_count old.files ≤ trait.failure_count mid.files → trait.failure_count mid.files ≤ trait.failure_count new.files
+      → LeavesDueUnlessFailed trait due mid new → LeavesDueUnlessFailed trait (due_after file which run due) old new
+  leaves_after file which run status old mid new due ends well worst le le' (inl counts) = inl (count-trans (trait.failure_count old.files) (trait.failure_count mid.files) (trait.failure_count new.files) le le' counts)
+  leaves_after file which run status old mid new due ends well worst le le' (inr (inl failed)) = inr (inl failed)
+  leaves_after file which run status old mid new due ends well worst le le' (inr (inr leaves)) =
+      let done = ends.shows.done well in
+      inr (inr (record {
+        files = leaves.files;
+        out = Appends-trans old.out.contents mid.out.contents new.out.contents run.out due.out done.0 leaves.out;
+        err = (mid.err, subst (λ (e : Ending). SaysEnd file which e old.err mid.err) done.1 ends.told.says, leaves.err);
+        status = worst_after old.status mid.status (ending_status run.ending) due.status status new.status leaves.status worst (ends.told.status_is ∙ ap ending_status done.1);
+      }))
+
+  -- a line was handled and goes on
+  line_honestly : (number : ℕ) (line : List ℕ) (more : List (List ℕ)) (old mid new : Talk F) (continues : Continues trait now number line old mid)
+      → HandlesHonestly trait (plan_of old.state now line) old.files mid.files old.state mid.state [] continues.handles.text continues.ending
+      → trait.failure_count old.files ≤ trait.failure_count mid.files → trait.failure_count mid.files ≤ trait.failure_count new.files
+      → LeavesDueUnlessFailed trait (talk_due final now (number + 1) more mid.state (trait.file mid.files)) mid new
+      → LeavesDueUnlessFailed trait (talk_due final now number (line ∷ more) old.state (trait.file old.files)) old new
+  line_honestly number line more old mid new continues honestly le le' rest =
+      let handles = continues.handles in
+      let due = talk_due final now number (line ∷ more) old.state (trait.file old.files) in
+      let run = line_run number continues.ending handles.text in
+      let others = talk_due final now (number + 1) more mid.state (trait.file mid.files) in
+      elim honestly.comes [
+        | inl shows ↦ subst (λ (d : TalkDue). LeavesDueUnlessFailed trait d old new)
+            (sym (due_by number line more old.state mid.state old.files mid.files handles.text continues.ending shows true continues.goes_on))
+            (leaves_after (named_in line) (Some number) run handles.status old mid new others handles.ends continues.well handles.worst le le' rest)
+        | inr fails ↦ elim fails.why [
+          | inl call ↦ inl (count-more (trait.failure_count old.files) (trait.failure_count mid.files) (trait.failure_count new.files) le' call.0)
+          | inr spent ↦ absurd (false≢true (subst (λ (e : LineEnd). IsTrue (goes_on e)) spent continues.goes_on))
+        ]
+      ]
+
+  -- lines were handled, and what is due of those after them was left
+  talk_honestly : (lines : List (List ℕ)) (number : ℕ) (more : List (List ℕ)) (old last new : Talk F) → TalksOver trait now number lines old last → trait.is_honest old.files
+      → trait.failure_count last.files ≤ trait.failure_count new.files
+      → ((next : ℕ) → next ≡ number + length lines → LeavesDueUnlessFailed trait (talk_due final now next more last.state (trait.file last.files)) last new)
+      → LeavesDueUnlessFailed trait (talk_due final now number (lines ++ more) old.state (trait.file old.files)) old new
+  talk_honestly [] number more old last new talked honest le rest =
+      subst (λ (t : Talk F). LeavesDueUnlessFailed trait (talk_due final now number more t.state (trait.file t.files)) t new) talked (rest number (omega arith))
+  talk_honestly (line ∷ lines) number more old last new talked honest le rest =
+      let mid = talked.0 in
+      let honestly = handles_honestly trait talked.1.handles.handled honest in
+      let first = (handles_lasts trait talked.1.handles.handled).1 in
+      let others = (talk_lasts trait now (number + 1) lines mid last talked.2).1 in
+      line_honestly number line (lines ++ more) old mid new talked.1 honestly first (omega (arith, others, le))
+      (talk_honestly lines (number + 1) more mid last new talked.2 honestly.honest le (λ next is. rest next (omega (arith, is))))
+
+  -- a line was the last: it left what was due of it, or the output failed
+  close_by : (file : List ℕ) (which : Option ℕ) (run : Run) (status : ℕ) (last end : Talk F) → EndsRun file which run last.out end.out last.err end.err status → end.status ≡ max last.status status
+      → (failed : Bool) → failed ≡ end.out.failed → LeavesDueUnlessFailed trait (last_due file which run (trait.file end.files)) last end
+  close_by file which run status last end ends worst true is = inr (inl (sym is))
+  close_by file which run status last end ends worst false is =
+      let done = ends.shows.done (sym is) in
+      inr (inr (record {
+        files = λ name. refl;
+        out = done.0;
+        err = (end.err, subst (λ (e : Ending). SaysEnd file which e last.err end.err) done.1 ends.told.says, refl);
+        status = worst ∙ ap (max last.status) (ends.told.status_is ∙ ap ending_status done.1);
+      }))
+
+  stop_honestly : (number : ℕ) (line : List ℕ) (more : List (List ℕ)) (last new : Talk F) (stops : Stops trait now number line last new)
+      → ShowsDue trait (follow (trait.file last.files) (plan_of last.state now line)) last.files new.files last.state new.state [] stops.handles.text stops.ending
+      → LeavesDueUnlessFailed trait (talk_due final now number (line ∷ more) last.state (trait.file last.files)) last new
+  stop_honestly number line more last new stops due =
+      let handles = stops.handles in
+      elim stops.why [
+        | inl not ↦ subst (λ (d : TalkDue). LeavesDueUnlessFailed trait d last new)
+            (sym (due_by number line more last.state new.state last.files new.files handles.text stops.ending due false not))
+            (close_by (named_in line) (Some number) (line_run number stops.ending handles.text) handles.status last new handles.ends handles.worst new.out.failed refl)
+        | inr failed ↦ inr (inl failed)
+      ]
+
+-- a line was the last since memory ran out: what was due of those before it was left, and that is said
+spent_by : {F : Type 0} (trait : Ghosts F) (file : List ℕ) (which : Option ℕ) (run : Run) (status : ℕ) (last end : Talk F) → EndsRun file which run last.out end.out last.err end.err status → end.status ≡ max last.status status → run.out ≡ [] → run.ending ≡ Err NoMemory
+    → SameFiles (trait.file last.files) (trait.file end.files) → (failed : Bool) → failed ≡ end.out.failed → LeavesDueUnlessFailed trait (last_due [] None (ends_by NoMemory) (trait.file last.files)) last end
+spent_by trait file which run status last end ends worst none memory same true is = inr (inl (sym is))
+spent_by trait file which run status last end ends worst none memory same false is =
+    let done = ends.shows.done (sym is) in
+    let spent = done.1 ∙ memory in
+    let says : SaysEnd file which (Err NoMemory) last.err end.err = subst (λ (e : Ending). SaysEnd file which e last.err end.err) spent ends.told.says in
+    inr (inr (record {
+      files = same;
+      out = subst (λ (text : List ℕ). Appends last.out.contents end.out.contents text) none done.0;
+      err = (end.err, record { cause = says.cause; said = says.said; still = says.still }, refl);
+      status = worst ∙ ap (max last.status) (ends.told.status_is ∙ ap ending_status spent);
+    }))
+
+-- the lines that an input has from its first ones and a further one on
+rest_of : (given : Option (List ℕ)) (lines : List (List ℕ)) (line : List ℕ) → AreFirst (lines ++ line ∷ []) given → (more : List (List ℕ)) × GivesLines given (lines ++ line ∷ more) quiet_run
+rest_of None lines line first = ([], record { gives = inl (tt, refl) })
+rest_of (Some bytes) lines line first = (first.0, record { gives = inl (first.1 ∙ append_assoc lines (line ∷ []) first.0, refl) })
+
+-- the lines before it are the first too
+before_last : (given : Option (List ℕ)) (lines : List (List ℕ)) (line : List ℕ) → AreFirst (lines ++ line ∷ []) given → AreFirst lines given
+before_last None lines line first = tt
+before_last (Some bytes) lines line first = (line ∷ first.0, first.1 ∙ append_assoc lines (line ∷ []) first.0)
+
+module _ {F : Type 0} (trait : Ghosts F) (now : ℕ) (given : Option (List ℕ)) (lines : List (List ℕ)) (first last : Talk F) (talked : TalksOver trait now 1 lines first last) where
+  -- what was due after the lines was left
+  leaves_final : (final : Run) (end : Talk F) → GivesLines given (lines ++ []) final → trait.failure_count last.files ≤ trait.failure_count end.files
+      → LeavesDueUnlessFailed trait (last_due [] None final (trait.file last.files)) last end → trait.is_honest first.files → TalksHonestly trait now given first end
+  leaves_final final end gives le leaves honest = record {
+    lines = lines ++ [];
+    final = final;
+    given_lines = gives;
+    leaves = talk_honestly trait now final lines 1 [] first last end talked honest le (λ next is. leaves);
+  }
+
+  pub honest_after : IfSome given (λ bytes. lines_of bytes ≡ lines ++ []) → trait.is_honest first.files → TalksHonestly trait now given first last
+  honest_after all =
+      leaves_final quiet_run last (record { gives = inl (all, refl) }) (omega arith) (inr (inr (record {
+        files = λ name. refl;
+        out = Appends-nil last.out.contents;
+        err = (last.err, SaysEnd-nothing [] None last.err, refl);
+        status = omega arith;
+      })))
+
+  -- no line after these was read
+  GivesLines-unread : (fault : LoadFault) → AreFirst lines given → GivesLines given (lines ++ []) (ends_by (input_trouble fault))
+  GivesLines-unread fault are_first = record { gives = inr (subst (λ (l : List (List ℕ)). AreFirst l given) (sym (append-nil lines)) are_first, (fault, refl)) }
+
+  pub honest_unread : (fault : LoadFault) → AreFirst lines given → (err' : ErrorWatch) (status : ℕ) → SaysEnd [] None (Err (input_trouble fault)) last.err err' → status ≡ max last.status (trouble_status (input_trouble fault)) → trait.is_honest first.files
+      → TalksHonestly trait now given first (record { files = last.files; state = last.state; out = last.out; err = err'; status = status })
+  honest_unread fault are_first err' status said worst =
+      leaves_final (ends_by (input_trouble fault)) (record { files = last.files; state = last.state; out = last.out; err = err'; status = status })
+      (GivesLines-unread fault are_first) (omega arith) (inr (inr (record {
+        files = λ name. refl;
+        out = Appends-nil last.out.contents;
+        err = (err', said, refl);
+        status = worst;
+      })))
+
+  -- a line was the last
+  pub honest_in_line : (line : List ℕ) (end : Talk F) → AreFirst (lines ++ line ∷ []) given → Stops trait now (length lines + 1) line last end → trait.is_honest first.files → TalksHonestly trait now given first end
+  honest_in_line line end are_first stops honest =
+      let rest = rest_of given lines line are_first in
+      let handles = stops.handles in
+      let le = (handles_lasts trait handles.handled).1 in
+      let run = line_run (length lines + 1) stops.ending handles.text in
+      elim (handles_honestly trait handles.handled ((talk_lasts trait now 1 lines first last talked).0 honest)).comes [
+        | inl due ↦ record {
+          lines = lines ++ line ∷ rest.0;
+          final = quiet_run;
+          given_lines = rest.1;
+          leaves = talk_honestly trait now quiet_run lines 1 (line ∷ rest.0) first last end talked honest le
+              (λ next is. let at : length lines + 1 ≡ next = omega (arith, is) in
+              subst (λ (n : ℕ). LeavesDueUnlessFailed trait (talk_due quiet_run now n (line ∷ rest.0) last.state (trait.file last.files)) last end) at (stop_honestly trait now quiet_run (length lines + 1) line rest.0 last end stops due));
+        }
+        | inr fails ↦ leaves_final (ends_by NoMemory) end (GivesLines-unread load.NoMemory (before_last given lines line are_first)) le (elim fails.why [
+          | inl call ↦ inl call.0
+          | inr spent ↦ spent_by trait (named_in line) (Some (length lines + 1)) run handles.status last end handles.ends handles.worst fails.same (ap (ending_of (length lines + 1)) spent) fails.same_files end.out.failed refl
+        ]) honest
+      ]

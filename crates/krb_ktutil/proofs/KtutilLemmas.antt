@@ -1,0 +1,233 @@
+-- The lines of ktutil, one after the other.
+use Rattle.std.proofs.Common.{◌≡◌, ◌≢◌, inl, inr, ℕ, ◌⊎◌, ◌+◌, ◌-◌, ◌<◌, ◌≤◌, Bool, true, false, List, [], ◌∷◌, ◌++◌, length, length-append, take, take-add, drop, refl, sym, ap, subst, ◌∙◌, append_assoc, append-nil, arith}
+use Rattle.std.specs.Prelude.{IsFalse, max, not, slice_range, ◌||◌, ◌&&◌, Option, None, Some, IfSome, Err}
+use Rattle.std.proofs.lemmas.List.{drop_all, take-append-le}
+use Rattle.std.proofs.lemmas.Grind.{flat_map-append}
+use Rattle.std.specs.Io.KnownBytes.{Consumes}
+use Rattle.krb_wire.specs.declared.format.Order.{Order}
+use Rattle.krb_files.specs.declared.files.Files.{Ghosts}
+use Rattle.krb_files.specs.declared.files.LoadFault.{LoadFault}
+use Rattle.krb_files.specs.declared.files.LoadFault.TheVariants.{Missing, TooLarge}
+use Rattle.krb_files.specs.Bytes.{Watch}
+use Rattle.krb_ktutil.specs.declared.ktutil.line_end.LineEnd.{LineEnd}
+use Rattle.krb_driver.specs.ErrorOutput.{ErrorWatch}
+use Rattle.krb_driver.specs.Troubles.{input_trouble, trouble_status}
+use Rattle.krb_ktutil.specs.InputLines.{InputParts, lines_of, with_newlines, HasLines, KeepsLines, TakesLine, EndsInNewline, IsSpent, HasNoMore, HasNone, CutsOff, Grows, IsWithin}
+use Rattle.krb_files.specs.Loading.{most_bytes}
+use Rattle.krb_ktutil.specs.KtutilTalk.{Talk, first_talk, goes_on, AreFirst, Continues, EndsTalk, HandlesLine, Stops, TalksOver}
+use Rattle.krb_ktutil.specs.Ktutil.{HandlesNext, RunsKtutil}
+use Rattle.krb_ktutil.specs.KtutilDue.{TalksHonestly}
+use Rattle.krb_ktutil.proofs.KtutilHonestly.{honest_after, honest_in_line, honest_unread}
+use Rattle.krb_files.specs.Reader.{Source, ConsumesAtMost, is_failed}
+use Rattle.krb_driver.specs.Runs.{SaysEnd}
+use Rattle.krb_files.proofs.Reading.{Consumes-trans}
+
+-- the input, as far as lines of it were handled, has these lines and those that are to come
+abbrev ToCome : Option (List ℕ) → List (List ℕ) → InputParts → Option (List ℕ) → Type 0
+ToCome given lines input left = (more : List (List ℕ)) → HasLines input left more → IfSome given (λ bytes. lines_of bytes ≡ lines ++ more)
+
+-- there are some lines to come
+some_lines : (input : InputParts) (left : Option (List ℕ)) → (lines : List (List ℕ)) × HasLines input left lines
+some_lines input None = ([], tt)
+some_lines input (Some bytes) = (lines_of (drop input.next input.read ++ bytes), refl)
+
+are_first : (given : Option (List ℕ)) (lines more : List (List ℕ)) → IfSome given (λ bytes. lines_of bytes ≡ lines ++ more) → AreFirst lines given
+are_first None lines more is = tt
+are_first (Some bytes) lines more is = (more, is)
+
+ToCome-first : (given : Option (List ℕ)) (lines : List (List ℕ)) (input : InputParts) (left : Option (List ℕ)) → ToCome given lines input left → AreFirst lines given
+ToCome-first given lines input left to_come =
+    let some = some_lines input left in
+    are_first given lines some.0 (to_come some.0 some.1)
+
+line_more : (given : Option (List ℕ)) (lines : List (List ℕ)) (line : List ℕ) (more : List (List ℕ)) → IfSome given (λ bytes. lines_of bytes ≡ lines ++ line ∷ more) → IfSome given (λ bytes. lines_of bytes ≡ (lines ++ line ∷ []) ++ more)
+line_more None lines line more is = tt
+line_more (Some bytes) lines line more is = is ∙ sym (append_assoc lines (line ∷ []) more)
+
+-- one more line was read
+ToCome-line : (given : Option (List ℕ)) (lines : List (List ℕ)) (old new : InputParts) (left left' : Option (List ℕ)) → ToCome given lines old left → TakesLine old new left left' → ToCome given (lines ++ new.line ∷ []) new left'
+ToCome-line given lines old new left left' to_come takes = λ more has. line_more given lines new.line more (to_come (new.line ∷ more) (takes.first more has))
+
+none_more : (given : Option (List ℕ)) (lines : List (List ℕ)) → IfSome given (λ bytes. lines_of bytes ≡ lines ++ []) → IfSome given (λ bytes. lines_of bytes ≡ lines)
+none_more None lines is = tt
+none_more (Some bytes) lines is = is ∙ append-nil lines
+
+-- the lines to come of an input that is spent
+spent_has : (input : InputParts) (left : Option (List ℕ)) → IsSpent input left → HasLines input left []
+spent_has input None spent = tt
+spent_has input (Some ys) spent =
+    let none : drop input.next input.read ≡ [] = (let all = spent.all in drop_all input.next input.read (omega (arith, all))) in
+    let both : drop input.next input.read ++ ys ≡ [] = rw (none, spent.at_end) refl in
+    ap lines_of both
+
+-- where these are all lines there is no other
+no_further : (given : Option (List ℕ)) (lines : List (List ℕ)) (line : List ℕ) → IfSome given (λ bytes. lines_of bytes ≡ lines) → AreFirst (lines ++ line ∷ []) given → IfSome given (λ bytes. lines_of bytes ≡ lines ++ line ∷ [])
+no_further None lines line all first = tt
+no_further (Some bytes) lines line all first =
+    let same : length lines ≡ length ((lines ++ line ∷ []) ++ first.0) = ap length (sym all ∙ first.1) in
+    absurd (omega (arith, same, length-append (lines ++ line ∷ []) first.0, length-append lines (line ∷ [])))
+
+-- one more line with its newline
+newline_more : (lines : List (List ℕ)) (line : List ℕ) → with_newlines (lines ++ line ∷ []) ≡ with_newlines lines ++ (line ++ 10 ∷ [])
+newline_more lines line = flat_map-append (λ l. l ++ 10 ∷ []) lines (line ∷ []) ∙ ap (λ (bs : List ℕ). with_newlines lines ++ bs) (append-nil (line ++ 10 ∷ []))
+
+-- what was read and is in lines is these, each with its newline
+pub record AreEnded (lines : List (List ℕ)) (input : InputParts) : Type 0 where
+  pub within : input.next ≤ 16777216
+  pub read : take input.next input.read ≡ with_newlines lines
+
+-- what was read, and what a reader gave besides
+grown : (given left left' : Option (List ℕ)) (old new : List ℕ) → Consumes given left old → Grows old new left left' → Consumes given left' new
+grown given left left' old new consumes g = subst (Consumes given left') (sym g.read) (Consumes-trans given left left' old g.given consumes g.consumes)
+
+-- more was read than an input may have
+too_long : (given left : Option (List ℕ)) (read : List ℕ) → Consumes given left read → most_bytes < length read → IfSome given (λ bytes. most_bytes < length bytes)
+too_long None left read consumes long = tt
+too_long (Some bytes) None read consumes long = absurd consumes
+too_long (Some bytes) (Some rest) read consumes long = rw consumes (omega (arith, long, length-append read rest))
+
+module _ {F : Type 0} (trait : Ghosts F) (now : ℕ) where
+  -- one more line was handled
+  TalksOver-line : (number : ℕ) (lines : List (List ℕ)) (next : ℕ) (line : List ℕ) (old mid new : Talk F) → TalksOver trait now number lines old mid → next ≡ number + length lines
+      → Continues trait now next line mid new → TalksOver trait now number (lines ++ line ∷ []) old new
+  TalksOver-line number [] next line old mid new talked is continues =
+      let at : next ≡ number = omega (arith, is) in
+      (new, subst (λ (t : Talk F). Continues trait now number line t new) talked (subst (λ (n : ℕ). Continues trait now n line mid new) at continues), refl)
+  TalksOver-line number (first ∷ lines) next line old mid new talked is continues =
+      let after_first : next ≡ number + 1 + length lines = omega (arith, is) in
+      (talked.0, talked.1, TalksOver-line (number + 1) lines next line talked.0 mid new talked.2 after_first continues)
+
+-- the end of a line decides whether another comes, and the output
+pub HandlesNext-by : {F : Type 0} (trait : Ghosts F) (now number : ℕ) (line : List ℕ) (old new : Talk F) (ending : LineEnd) → HandlesLine trait now number line old new ending
+    → (goes failed : Bool) → goes ≡ goes_on ending → failed ≡ new.out.failed → HandlesNext trait now number line old new (goes && not failed)
+HandlesNext-by trait now number line old new ending handles true true goes is = record { ending = ending; handles = handles; why = inr (sym is) }
+HandlesNext-by trait now number line old new ending handles true false goes is = record { ending = ending; handles = handles; goes_on = sym goes; well = sym is }
+HandlesNext-by trait now number line old new ending handles false failed goes is = record { ending = ending; handles = handles; why = inl (sym goes) }
+
+-- lines were handled, and the run goes on
+pub record Underway {F : Type 0} (trait : Ghosts F) (now : ℕ) (given : Option (List ℕ)) (first : Talk F) (input : InputParts) (left : Option (List ℕ)) (number : ℕ) (talk : Talk F) : Type 0 where
+  pub lines : List (List ℕ)
+  pub talked : TalksOver trait now 1 lines first talk
+  pub counted : number ≡ length lines
+  pub to_come : ToCome given lines input left
+  pub consumes : Consumes given left input.read
+  pub within : IsWithin input
+  pub below : number ≤ input.next
+  pub ended : AreEnded lines input ⊎ IfSome given (λ bytes. lines_of bytes ≡ lines)
+  pub well : IsFalse talk.out.failed
+
+-- nothing was read
+abbrev nothing : InputParts
+nothing = record { read = []; line = []; next = 0 }
+
+all_to_come : (given : Option (List ℕ)) → ToCome given [] nothing given
+all_to_come None more has = tt
+all_to_come (Some bytes) more has = has
+
+none_consumed : (given : Option (List ℕ)) → Consumes given given []
+none_consumed None = tt
+none_consumed (Some bytes) = refl
+
+module _ {F : Type 0} (trait : Ghosts F) (now : ℕ) (given : Option (List ℕ)) where
+  pub Underway-first : (first : Talk F) → IsFalse first.out.failed → (input : InputParts) → input ≡ nothing → Underway trait now given first input given 0 first
+  Underway-first first well input is =
+      subst (λ (i : InputParts). Underway trait now given first i given 0 first) (sym is) (record {
+        lines = [];
+        talked = refl;
+        counted = refl;
+        to_come = all_to_come given;
+        consumes = none_consumed given;
+        within = record { next = omega arith; most = omega arith };
+        below = omega arith;
+        ended = inl (record { within = omega arith; read = refl });
+        well = well;
+      })
+
+  pub Underway-line : (first : Talk F) (old new : InputParts) (left left' : Option (List ℕ)) (number : ℕ) (talk talk' : Talk F) → Underway trait now given first old left number talk
+      → TakesLine old new left left' → EndsInNewline old new ⊎ IsSpent new left' → Grows old.read new.read left left' → IsWithin new → Continues trait now (number + 1) new.line talk talk'
+      → Underway trait now given first new left' (number + 1) talk'
+  Underway-line first old new left left' number talk talk' u takes ends grows within continues =
+      let counted = u.counted in
+      let below = u.below in
+      let further = takes.further in
+      record {
+        lines = u.lines ++ new.line ∷ [];
+        talked = TalksOver-line trait now 1 u.lines (number + 1) new.line first talk talk' u.talked (omega (arith, counted)) continues;
+        counted = omega (arith, counted, length-append u.lines (new.line ∷ []));
+        to_come = ToCome-line given u.lines old new left left' u.to_come takes;
+        consumes = grown given left left' old.read new.read u.consumes grows;
+        within = within;
+        below = omega (arith, below, further);
+        ended = elim ends [
+          | inl newline ↦ elim u.ended [
+            | inl before ↦ inl (record {
+              within = newline.within;
+              read = newline.read ∙ ap (λ (bs : List ℕ). bs ++ (new.line ++ 10 ∷ [])) before.read ∙ sym (newline_more u.lines new.line);
+            })
+            | inr all ↦ inr (no_further given u.lines new.line all (ToCome-first given (u.lines ++ new.line ∷ []) new left' (ToCome-line given u.lines old new left left' u.to_come takes)))
+          ]
+          | inr spent ↦ inr (u.to_come (new.line ∷ []) (takes.first [] (spent_has new left' spent)))
+        ];
+        well = continues.well;
+      }
+
+-- what a run has taken of its input
+taken : (given left left' : Option (List ℕ)) (old new : InputParts) → Consumes given left old.read → Grows old.read new.read left left' → IsWithin new → ConsumesAtMost given left' (most_bytes + 1)
+taken given left left' old new consumes grows within = record {
+  taken = new.read;
+  consumes = grown given left left' old.read new.read consumes grows;
+  bound = within.most;
+}
+
+-- of what was read each line that has its newline was handled
+due_of : (lines : List (List ℕ)) (old new : InputParts) (left left' : Option (List ℕ)) → IsWithin old → Grows old.read new.read left left' → HasNoMore old new → AreEnded lines old → CutsOff lines (take most_bytes new.read)
+due_of lines old new left left' within grows no_more ended =
+    let most = ended.within in
+    let sum : most_bytes ≡ old.next + (most_bytes - old.next) = omega (arith, most) in
+    let front : take old.next new.read ≡ take old.next old.read = ap (take old.next) grows.read ∙ take-append-le old.next old.read grows.given within.next in
+    record {
+      rest = slice_range new.read old.next most_bytes;
+      none = subst (λ (n : ℕ). HasNone (slice_range new.read n most_bytes)) no_more.same no_more.none;
+      bytes_are = ap (λ (n : ℕ). take n new.read) sum ∙ take-add old.next (most_bytes - old.next) new.read
+          ∙ ap (λ (bs : List ℕ). bs ++ slice_range new.read old.next most_bytes) (front ∙ ended.read);
+    }
+
+module _ {F : Type 0} (trait : Ghosts F) (now : ℕ) (order : Order) (files : F) (out : Watch) (err : ErrorWatch) (first last : Source) (old new : InputParts) (left : Option (List ℕ)) (number : ℕ) (talk : Talk F)
+    (u : Underway trait now first.left (first_talk order files out err) old left number talk) (grows : Grows old.read new.read left last.left) (within : IsWithin new) where
+  runs : (end : Talk F) → EndsTalk trait now first last u.lines talk end → (trait.is_honest files → TalksHonestly trait now first.left (first_talk order files out err) end) → RunsKtutil trait order now first last files end.files out end.out err end.err end.status
+  runs end ends honest = record { lines = u.lines; last = talk; state = end.state; talked = u.talked; ends = ends; honest = honest; taken = taken first.left left last.left old new u.consumes grows within }
+
+  -- the input has ended
+  pub RunsKtutil-after : HasLines old left [] → last.failed ≡ first.failed → RunsKtutil trait order now first last files talk.files out talk.out err talk.err talk.status
+  RunsKtutil-after has well =
+      runs talk (inl (record { all = none_more first.left u.lines (u.to_come [] has); well = well; same = refl }))
+      (honest_after trait now first.left u.lines (first_talk order files out err) talk u.talked (u.to_come [] has))
+
+  -- a line was the last
+  pub RunsKtutil-in_line : (talk' : Talk F) → TakesLine old new left last.left → last.failed ≡ first.failed → Stops trait now (number + 1) new.line talk talk' → RunsKtutil trait order now first last files talk'.files out talk'.out err talk'.err talk'.status
+  RunsKtutil-in_line talk' takes well stops =
+      let are_first = ToCome-first first.left (u.lines ++ new.line ∷ []) new last.left (ToCome-line first.left u.lines old new left last.left u.to_come takes) in
+      let stopped = subst (λ (n : ℕ). Stops trait now (n + 1) new.line talk talk') u.counted stops in
+      runs talk' (inr (inl (record { line = new.line; well = well; first = are_first; stops = stopped })))
+      (honest_in_line trait now first.left u.lines (first_talk order files out err) talk u.talked new.line talk' are_first stopped)
+
+  -- the input was not read further
+  pub RunsKtutil-unread : (fault : LoadFault) (err' : ErrorWatch) (status : ℕ) → KeepsLines old new left last.left → IsWithin old → HasNoMore old new → last.failed ≡ (is_failed fault || first.failed) → fault ≢ Missing → (fault ≡ TooLarge → most_bytes < length new.read)
+      → SaysEnd [] None (Err (input_trouble fault)) talk.err err' → status ≡ max talk.status (trouble_status (input_trouble fault)) → RunsKtutil trait order now first last files talk.files out talk.out err err' status
+  RunsKtutil-unread fault err' status keeps was no_more failed never too_large said worst =
+      let are_first = ToCome-first first.left u.lines new last.left (λ more has. u.to_come more (keeps more has)) in
+      let consumes = grown first.left left last.left old.read new.read u.consumes grows in
+      runs (record { files = talk.files; state = talk.state; out = talk.out; err = err'; status = status }) (inr (inr (record {
+        fault = fault;
+        failed = failed;
+        read = new.read;
+        consumes = consumes;
+        due = elim u.ended [ inl ended ↦ inl (due_of u.lines old new left last.left was grows no_more ended) | inr all ↦ inr all ];
+        first = are_first;
+        never = never;
+        too_large = λ e. too_long first.left last.left new.read consumes (too_large e);
+        said = said;
+        worst = worst;
+        files = refl;
+        out = refl;
+      }))) (honest_unread trait now first.left u.lines (first_talk order files out err) talk u.talked fault are_first err' status said worst)

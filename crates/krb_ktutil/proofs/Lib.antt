@@ -1,0 +1,9 @@
+pub mod NewlineLemmas
+pub mod InputLemmas
+pub mod WordLemmas
+pub mod KtutilLists
+pub mod KtutilHandles
+pub mod KtutilOptions
+pub mod KtutilDue
+pub mod KtutilHonestly
+pub mod KtutilLemmas

@@ -1,0 +1,156 @@
+-- The first word of a line, and the words after it.
+use Rattle.std.proofs.Common.{◌≡◌, ℕ, zero, suc, ◌<◌, ◌≤◌, Bool, true, false, not, get_or, List, [], ◌∷◌, ◌++◌, length, take, drop, map, refl, sym, ap, subst, ◌∙◌, cond, arith}
+use Rattle.std.specs.Prelude.{filter, ◌==◌, ◌&&◌}
+use Rattle.std.specs.List.{concat, slice_split, onto_first}
+use Rattle.std.proofs.lemmas.Bool.{eqb-true}
+use Rattle.krb_ktutil.specs.KtutilWords.{is_blank, pieces, is_gap, parts, is_word, words, unindented, size_from, word_size}
+
+-- a backslash is no blank
+backslash_is_no_blank : (b : ℕ) → (b == 92) ≡ true → is_blank b ≡ true → false ≡ true
+backslash_is_no_blank b e blank = let same : b ≡ 92 = eqb-true b 92 e in rw same at blank
+
+-- what is split has a first part
+data HasFirst {X : Type 0} : List (List X) → Type 0 where
+  first : (part : List X) (parts : List (List X)) → HasFirst (part ∷ parts)
+
+split_cons : {X : Type 0} (b : Bool) (x : X) (ys : List (List X)) → HasFirst ys → HasFirst (cond b ([] ∷ ys) (onto_first x ys))
+split_cons true x ys h = first [] ys
+split_cons false x (y ∷ ys) h = first (x ∷ y) ys
+split_cons false x [] h = first (x ∷ []) []
+
+split_has_first : {X : Type 0} (p : X → Bool) (xs : List X) → HasFirst (slice_split p xs)
+split_has_first p [] = first [] []
+split_has_first p (x ∷ xs) = split_cons (p x) x (slice_split p xs) (split_has_first p xs)
+
+-- the first part, with bytes put before it
+abbrev pub onto : List ℕ → List (List ℕ) → List (List ℕ)
+onto bytes [] = bytes ∷ []
+onto bytes (part ∷ others) = (bytes ++ part) ∷ others
+
+concat_onto : (x : List ℕ) (ys : List (List (List ℕ))) → HasFirst ys → map concat (onto_first x ys) ≡ onto x (map concat ys)
+concat_onto x (y ∷ ys) h = refl
+concat_onto x [] h = elim h [ ]
+
+-- a piece that is no gap stands before the first part
+parts_more : (x : List ℕ) (xs : List (List ℕ)) → is_gap x ≡ false → map concat (slice_split is_gap (x ∷ xs)) ≡ onto x (map concat (slice_split is_gap xs))
+parts_more x xs e = rw e (concat_onto x (slice_split is_gap xs) (split_has_first is_gap xs))
+
+-- a blank ends an empty part
+parts_blank : (b : ℕ) (bs : List ℕ) → is_blank b ≡ true → parts (b ∷ bs) ≡ [] ∷ parts bs
+parts_blank b [] e = rw e refl
+parts_blank b (c ∷ rest) e = go (b == 92) refl
+  where
+    go : (t : Bool) → (b == 92) ≡ t → map concat (slice_split is_gap (cond t ((b ∷ c ∷ []) ∷ pieces rest) ((b ∷ []) ∷ pieces (c ∷ rest)))) ≡ [] ∷ parts (c ∷ rest)
+    go true t = absurd (cc (backslash_is_no_blank b t e))
+    go false t = rw e refl
+
+-- n bytes stand before the first blank, or to the end
+record FirstPart (text : List ℕ) (n : ℕ) : Type 0 where
+  parts_are : parts text ≡ take n text ∷ drop 1 (parts (drop n text))
+  ends : parts (drop n text) ≡ [] ∷ drop 1 (parts (drop n text))
+  within : n ≤ length text
+
+first_of_one : (b : ℕ) (t : Bool) → is_blank b ≡ t → FirstPart (b ∷ []) (cond t zero (suc zero))
+first_of_one b true e = record { parts_are = rw e refl; ends = rw e refl; within = omega arith }
+first_of_one b false e = record { parts_are = rw e refl; ends = refl; within = omega arith }
+
+first_of_more : (b c : ℕ) (rest : List ℕ) (t u : Bool) → is_blank b ≡ t → (b == 92) ≡ u → FirstPart rest (word_size rest) → FirstPart (c ∷ rest) (word_size (c ∷ rest))
+    → FirstPart (b ∷ c ∷ rest) (cond t zero (suc (size_from (c ∷ rest) u)))
+first_of_more b c rest true true e f quoted plain = let no : false ≡ true = backslash_is_no_blank b f e in absurd (cc)
+first_of_more b c rest true false e f quoted plain = record { parts_are = rw (f, e) refl; ends = rw (f, e) refl; within = omega arith }
+first_of_more b c rest false true e f quoted plain = record {
+  parts_are = rw f (parts_more (b ∷ c ∷ []) (pieces rest) refl ∙ ap (onto (b ∷ c ∷ [])) quoted.parts_are);
+  ends = quoted.ends;
+  within = let h = quoted.within in omega arith;
+}
+first_of_more b c rest false false e f quoted plain = record {
+  parts_are = rw f (parts_more (b ∷ []) (pieces (c ∷ rest)) e ∙ ap (onto (b ∷ [])) plain.parts_are);
+  ends = plain.ends;
+  within = let h = plain.within in omega arith;
+}
+
+first_part : (text : List ℕ) → FirstPart text (word_size text)
+first_part [] = record { parts_are = refl; ends = refl; within = omega arith }
+first_part (b ∷ []) = first_of_one b (is_blank b) refl
+first_part (b ∷ c ∷ rest) = first_of_more b c rest (is_blank b) (b == 92) refl refl (first_part rest) (first_part (c ∷ rest))
+
+-- a word does not end where it begins
+begins : (b : ℕ) (bs : List ℕ) → is_blank b ≡ false → 0 < word_size (b ∷ bs)
+begins b bs e = rw e (omega arith)
+
+-- some bytes of a text are a word
+some_is_word : (text : List ℕ) (n : ℕ) → 0 < n → 0 < length text → is_word (take n text) ≡ true
+some_is_word text zero p q = absurd (omega arith)
+some_is_word [] (suc n) p q = absurd (omega arith)
+some_is_word (b ∷ bs) (suc n) p q = refl
+
+-- blanks before it are no part of a word
+words_blank : (b : ℕ) (bs : List ℕ) → is_blank b ≡ true → words (b ∷ bs) ≡ words bs
+words_blank b bs e = ap (filter is_word) (parts_blank b bs e)
+
+words-unindented-cons : (t : Bool) (b : ℕ) (bs : List ℕ) → is_blank b ≡ t → words (unindented bs) ≡ words bs → words (cond t (unindented bs) (b ∷ bs)) ≡ words (b ∷ bs)
+words-unindented-cons true b bs e rest = rest ∙ sym (words_blank b bs e)
+words-unindented-cons false b bs e rest = refl
+
+words-unindented : (line : List ℕ) → words (unindented line) ≡ words line
+words-unindented [] = refl
+words-unindented (b ∷ bs) = words-unindented-cons (is_blank b) b bs refl (words-unindented bs)
+
+-- a text that begins with no blank
+abbrev BeginsPlain : List ℕ → Type 0
+BeginsPlain [] = Unit {0}
+BeginsPlain (b ∷ bs) = is_blank b ≡ false
+
+unindented_begins-cons : (t : Bool) (b : ℕ) (bs : List ℕ) → is_blank b ≡ t → BeginsPlain (unindented bs) → BeginsPlain (cond t (unindented bs) (b ∷ bs))
+unindented_begins-cons true b bs e rest = rest
+unindented_begins-cons false b bs e rest = e
+
+unindented_begins : (line : List ℕ) → BeginsPlain (unindented line)
+unindented_begins [] = tt
+unindented_begins (b ∷ bs) = unindented_begins-cons (is_blank b) b bs refl (unindented_begins bs)
+
+plain_has_size : (text : List ℕ) → BeginsPlain text → 0 < length text → 0 < word_size text
+plain_has_size [] plain p = absurd (omega arith)
+plain_has_size (b ∷ bs) plain p = begins b bs plain
+
+-- n bytes of a text are the first word of a line
+pub record FirstWord (line text : List ℕ) (n : ℕ) : Type 0 where
+  pub cut : words line ≡ take n text ∷ words (drop n text)
+  pub begun : 0 < n
+  pub within : n ≤ length text
+
+first_word-of : (line text : List ℕ) → words text ≡ words line → BeginsPlain text → 0 < length text → FirstWord line text (word_size text)
+first_word-of line text same plain some =
+    let n = word_size text in
+    let part = first_part text in
+    let begun = plain_has_size text plain some in
+    let here : filter is_word (take n text ∷ drop 1 (parts (drop n text))) ≡ take n text ∷ filter is_word (drop 1 (parts (drop n text))) =
+    rw (some_is_word text n begun some) refl in
+    record {
+      cut = sym same ∙ ap (filter is_word) part.parts_are ∙ here ∙ ap (λ (others : List (List ℕ)). take n text ∷ others) (sym (ap (filter is_word) part.ends));
+      begun = begun;
+      within = part.within;
+    }
+
+pub first_word : (line text : List ℕ) (n : ℕ) → text ≡ unindented line → n ≡ word_size text → 0 < length text → FirstWord line text n
+first_word line text n same size some =
+    rw size (first_word-of line text (ap words same ∙ words-unindented line) (subst BeginsPlain (sym same) (unindented_begins line)) some)
+
+-- a line of blanks has no words
+no_words-of : (line text : List ℕ) → words text ≡ words line → length text ≡ 0 → words line ≡ []
+no_words-of line [] e none = sym e
+no_words-of line (b ∷ bs) e none = absurd (omega arith)
+
+pub no_words : (line text : List ℕ) → text ≡ unindented line → length text ≡ 0 → words line ≡ []
+no_words line text same none = no_words-of line text (ap words same ∙ words-unindented line) none
+
+-- a byte more before the first blank
+size_from-cons : (b : ℕ) (bs : List ℕ) (quoted : Bool) → (not quoted && is_blank b) ≡ false → size_from (b ∷ bs) quoted ≡ suc (size_from bs (not quoted && b == 92))
+size_from-cons b bs true e = refl
+size_from-cons b bs false e = rw e refl
+
+pub size_from-step : (text : List ℕ) (i : ℕ) (quoted : Bool) → i < length text → (not quoted && is_blank (get_or text i 0)) ≡ false
+    → size_from (drop i text) quoted ≡ suc (size_from (drop (suc i) text) (not quoted && get_or text i 0 == 92))
+size_from-step [] i quoted lt e = absurd (omega arith)
+size_from-step (b ∷ bs) zero quoted lt e = size_from-cons b bs quoted e
+size_from-step (b ∷ bs) (suc i) quoted lt e = size_from-step bs i quoted (omega arith) e

@@ -1,0 +1,22 @@
+use Rattle.std.proofs.Common.{refl}
+use Rattle.krb_ktutil.specs.KtutilTalk.{HandlesLine, Talk, goes_on}
+use Rattle.krb_ktutil.proofs.KtutilLemmas.{HandlesNext-by}
+use Rattle.krb_ktutil.proofs.ktutil.Talk.handle.Goals as goal
+
+-- its end decides, and the output
+pub returns-clause-next : goal.returns-clause-next
+returns-clause-next g c =
+    let old : Talk g.row.F.Denot = record { files = c.args.files.now; state = c.args.self.now.ktutil; out = c.args.out.now; err = c.args.err.now; status = c.args.self.now.status } in
+    let new : Talk g.row.F.Denot = record { files = c.line-ending.new.files; state = c.line-ending.new.self; out = c.show-shown.new.out; err = c.tell-status.new.err; status = c.max-self.result } in
+    let handles : HandlesLine g.F.Files c.args.self.now.now c.args.number c.args.line.now old new c.line-ending.result = record {
+      text = c.line-ending.new.out.items;
+      status = c.tell-status.result;
+      handled = rw c.clear.ensures.items at c.line-ending.ensures.handles;
+      ends = record {
+        ending = c.show-shown.result;
+        shows = rw (c.deref.ensures.value, c.ending_of.ensures) at c.show-shown.ensures;
+        told = rw c.file_word.ensures at c.tell-status.ensures.tells;
+      };
+      worst = c.max-self.ensures;
+    } in
+    rw c.goes_on.ensures (HandlesNext-by g.F.Files c.args.self.now.now c.args.number c.args.line.now old new c.line-ending.result handles (goes_on c.line-ending.result) c.has_failed.result refl c.has_failed.ensures)

@@ -1,0 +1,10 @@
+use Rattle.std.proofs.Common.{◌≡◌, length}
+use Rattle.krb_ktutil.specs.KtutilWords.{words}
+use Rattle.krb_ktutil.specs.KtutilCommand.{no_options, options_in}
+use Rattle.krb_ktutil.proofs.ktutil.options.options.Given as goal
+
+abbrev pub invariant-options : goal.invariant-options
+invariant-options l = options_in l.options (words l.rest) ≡ options_in no_options (words l.fn.rest)
+
+abbrev pub decreases-options : goal.decreases-options
+decreases-options l = length l.rest

@@ -1,0 +1,44 @@
+use Rattle.std.proofs.Common.{Bool, ap, refl, ◌∙◌}
+use Rattle.std.specs.Prelude.{◌||◌, max, Err}
+use Rattle.krb_files.specs.Reader.{is_failed}
+use Rattle.krb_ktutil.specs.KtutilTalk.{first_talk}
+use Rattle.krb_driver.specs.Troubles.{trouble_status}
+use Rattle.krb_ktutil.proofs.KtutilLemmas.{Underway-first, Underway-line, RunsKtutil-after, RunsKtutil-in_line, RunsKtutil-unread}
+use Rattle.krb_ktutil.proofs.ktutil.run_ktutil.Goals as goal
+
+pub lines-init : goal.lines-init
+lines-init g c = (
+  c.new-talk.ensures.now,
+  refl,
+  rw (c.new-talk.ensures.state, c.new-talk.ensures.status)
+      (Underway-first g.F.Files c.args.now c.args.streams.now.input.left (first_talk c.args.v1_order c.args.files.now c.args.streams.now.out c.args.streams.now.err) c.requires c.new-lines.result c.new-lines.ensures),
+)
+
+-- the input has ended
+pub returns-in-Ok-false : goal.returns-in-Ok-false
+returns-in-Ok-false g c =
+    let line = rw c.in-Ok-false.field-0-test at c.in-Ok-false.ensures.line in
+    RunsKtutil-after g.F.Files c.args.now c.args.v1_order c.args.files.now c.args.streams.now.out c.args.streams.now.err c.args.streams.now.input c.read_line.new.reader c.lines.lines c.read_line.new.self c.lines.input.left c.lines.number _ c.lines.invariant.2
+    c.in-Ok-false.ensures.grows c.in-Ok-false.ensures.within line (c.in-Ok-false.ensures.failed ∙ c.lines.invariant.1)
+
+-- it could not be read
+pub returns-in-Err : goal.returns-in-Err
+returns-in-Err g c =
+    RunsKtutil-unread g.F.Files c.args.now c.args.v1_order c.args.files.now c.args.streams.now.out c.args.streams.now.err c.args.streams.now.input c.read_line.new.reader c.lines.lines c.read_line.new.self c.lines.input.left c.lines.number _ c.lines.invariant.2
+    c.in-Err.ensures.grows c.in-Err.ensures.within c.in-Err.fault c.tell-status.new.err c.max.result c.in-Err.ensures.err c.lines.invariant.2.within c.in-Err.ensures.no_more (c.in-Err.ensures.failed ∙ ap (λ (b : Bool). is_failed c.in-Err.fault || b) c.lines.invariant.1) c.in-Err.ensures.never (λ e. c.in-Err.ensures.too_large (ap Err e)) (rw c.of_input.ensures at c.tell-status.ensures.tells.says)
+    (c.max.ensures ∙ ap (max c.lines.talk.status) (c.tell-status.ensures.tells.status_is ∙ ap trouble_status c.of_input.ensures))
+
+-- a line was the last
+pub returns-then-not-handle : goal.returns-then-not-handle
+returns-then-not-handle g c =
+    let line = rw c.in-Ok-true.field-0-test at c.in-Ok-true.ensures.line in
+    let stops = rw (c.line.ensures, c.lines.invariant.0) at c.if-not-handle.ensures.next in
+    RunsKtutil-in_line g.F.Files c.args.now c.args.v1_order c.args.files.now c.args.streams.now.out c.args.streams.now.err c.args.streams.now.input c.read_line.new.reader c.lines.lines c.read_line.new.self c.lines.input.left c.lines.number _ c.lines.invariant.2
+    c.in-Ok-true.ensures.grows c.in-Ok-true.ensures.within _ line (c.in-Ok-true.ensures.failed ∙ c.lines.invariant.1) stops
+
+pub lines-preserved : goal.lines-preserved
+lines-preserved g c =
+    let line = rw c.in-Ok-true.field-0-test at c.in-Ok-true.ensures.line in
+    let continues = rw (c.line.ensures, c.lines.invariant.0) at c.if-not-handle.ensures.next in
+    let ended = (rw c.in-Ok-true.field-0-test at c.in-Ok-true.ensures.ended) refl in
+    (c.if-not-handle.ensures.now ∙ c.lines.invariant.0, c.in-Ok-true.ensures.failed ∙ c.lines.invariant.1, Underway-line g.F.Files c.args.now _ _ c.lines.lines c.read_line.new.self _ _ c.lines.number _ _ c.lines.invariant.2 line ended c.in-Ok-true.ensures.grows c.in-Ok-true.ensures.within continues)

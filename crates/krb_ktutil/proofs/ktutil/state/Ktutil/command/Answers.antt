@@ -1,0 +1,22 @@
+use Rattle.std.proofs.Common.{◌≡◌, ◌∙◌, ◌∷◌, [], length, Option, ap, arith, rules, sym}
+use Rattle.std.proofs.lemmas.Grind.{common_steps}
+use Rattle.std.specs.Prelude.{Ok, Err}
+use Rattle.krb_text.specs.declared.line_fault.LineFault.TheVariants.{UnknownWord}
+use Rattle.krb_ktutil.specs.declared.ktutil.verb.Verb.{Verb}
+use Rattle.krb_ktutil.specs.KtutilWords.{words}
+use Rattle.krb_ktutil.specs.KtutilCommand.{Skip, command_by, command_in, command_of}
+use Rattle.krb_ktutil.proofs.KtutilHandles.{handles_stays}
+use Rattle.krb_ktutil.proofs.ktutil.state.Ktutil.command.Goals as goal
+
+pub returns-in_default : goal.returns-in_default
+returns-in_default g c =
+    let none : words c.args.line.now ≡ [] = first_of (search rules, grind (arith, common_steps)) in
+    let skip : command_of c.args.line.now (length c.args.self.now.entries) ≡ Ok Skip = ap (command_in (length c.args.self.now.entries)) none in
+    rw skip (handles_stays g.F.Files)
+
+pub returns-in-None : goal.returns-in-None
+returns-in-None g c =
+    let count = length c.args.self.now.entries in
+    let cut : words c.args.line.now ≡ c.in-Some.word.now ∷ words c.in-Some.rest.now = c.in-Some.ensures.cut in
+    let unknown : command_of c.args.line.now count ≡ Err UnknownWord = ap (command_in count) cut ∙ ap (λ (v : Option Verb). command_by count v (words c.in-Some.rest.now)) (sym c.in-None.ensures) in
+    rw unknown (handles_stays g.F.Files)

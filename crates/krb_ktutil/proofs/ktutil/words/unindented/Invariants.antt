@@ -1,0 +1,12 @@
+use Rattle.std.proofs.Common.{◌≡◌, ◌≤◌, length}
+use Rattle.krb_ktutil.specs.KtutilWords.{unindented}
+use Rattle.krb_ktutil.proofs.ktutil.words.unindented.Given as goal
+
+abbrev pub invariant-loop-rest : goal.invariant-loop-rest
+invariant-loop-rest l = record {
+  same : unindented l.rest ≡ unindented l.fn.text;
+  within : length l.rest ≤ length l.fn.text;
+}
+
+abbrev pub decreases-loop-rest : goal.decreases-loop-rest
+decreases-loop-rest l = length l.rest

@@ -1,0 +1,28 @@
+-- What a run of ktutil leaves.
+use Rattle.std.specs.Prelude.{ℕ, ◌+◌, Bool, true, false, List}
+use Rattle.krb_wire.specs.declared.format.Order.{Order}
+use Rattle.krb_files.specs.declared.files.Files.{Ghosts}
+use Rattle.krb_files.specs.Bytes.{Watch}
+use Rattle.krb_driver.specs.ErrorOutput.{ErrorWatch}
+use Rattle.krb_ktutil.specs.KtutilPlan.{KtutilState}
+use Rattle.krb_files.specs.Loading.{most_bytes}
+use Rattle.krb_ktutil.specs.KtutilTalk.{Talk, first_talk, Continues, Stops, TalksOver, EndsTalk}
+use Rattle.krb_ktutil.specs.KtutilDue.{TalksHonestly}
+use Rattle.krb_files.specs.Reader.{Source, ConsumesAtMost}
+
+-- a run of ktutil: the lines of the input are handled in order, up to one that is the last or to the end
+pub record RunsKtutil {F : Type 0} (trait : Ghosts F) (order : Order) (now : ℕ) (input input' : Source) (old new : F) (out out' : Watch) (err err' : ErrorWatch) (status : ℕ) : Type 0 where
+  pub lines : List (List ℕ)
+  pub last : Talk F
+  pub state : KtutilState
+  pub talked : TalksOver trait now 1 lines (first_talk order old out err) last
+  pub ends : EndsTalk trait now input input' lines last (record { files = new; state = state; out = out'; err = err'; status = status })
+  pub taken : ConsumesAtMost input.left input'.left (most_bytes + 1)
+  pub honest : trait.is_honest old → TalksHonestly trait now input.left (first_talk order old out err) (record { files = new; state = state; out = out'; err = err'; status = status })
+
+-- ---- for private contracts
+
+-- a line was handled, and that tells whether the next one may come
+abbrev pub HandlesNext : {F : Type 0} → Ghosts F → ℕ → ℕ → List ℕ → Talk F → Talk F → Bool → Type 0
+HandlesNext trait now number line old new true = Continues trait now number line old new
+HandlesNext trait now number line old new false = Stops trait now number line old new

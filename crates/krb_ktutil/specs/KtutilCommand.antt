@@ -1,0 +1,187 @@
+-- What a line of ktutil asks for.
+use Rattle.std.specs.Prelude.{ℕ, List, [], ◌∷◌, Bool, true, false, not, ◌||◌, ◌&&◌, nat_lt, nat_le, codes, Option, None, Some, is_none, ok_or, Result, Ok, Err, if◌then◌else◌}
+use Rattle.std.specs.Str.{bytes_eq, is_utf8}
+use Rattle.krb_wire.specs.Spelling.{Parts}
+use Rattle.krb_wire.specs.Reading.{◌>>=◌}
+use Rattle.krb_text.specs.declared.columns.KtColumns.{KtColumns}
+use Rattle.krb_text.specs.declared.line_fault.LineFault.{LineFault}
+use Rattle.krb_text.specs.declared.line_fault.LineFault.TheVariants.{UnknownWord, WordCount, BadSlot, BadFileName}
+use Rattle.krb_ktutil.specs.declared.ktutil.verb.Verb.{Verb}
+use Rattle.krb_ktutil.specs.declared.ktutil.verb.Verb.TheVariants as verb
+use Rattle.krb_text.specs.Word.{number_word, etype_word, name_word}
+use Rattle.krb_ktutil.specs.KtutilWords.{words}
+
+-- an entry whose key and time are still to come
+pub record Awaited : Type 0 where
+  pub principal : Parts
+  pub version : ℕ
+  pub enctype : ℕ
+
+-- what a line asks for
+pub data Command : Type 0 where
+  Skip : Command
+  ListSlots : KtColumns → Command
+  ReadFile : List ℕ → Command
+  WriteFile : List ℕ → Command
+  AwaitKey : Awaited → Command
+  DeleteSlot : ℕ → Command
+  ClearList : Command
+  Quit : Command
+
+-- the word is the command's name, or its short one
+abbrev pub is_either : List ℕ → List ℕ → List ℕ → Bool
+is_either word long short = bytes_eq word long || bytes_eq word short
+
+-- the command of a word
+abbrev pub verb_of : List ℕ → Option Verb
+verb_of word =
+    if is_either word (codes "list") (codes "l") then Some verb.List
+    else (if is_either word (codes "read_kt") (codes "rkt") then Some verb.Read
+    else (if is_either word (codes "write_kt") (codes "wkt") then Some verb.Write
+    else (if is_either word (codes "add_entry") (codes "addent") then Some verb.Add
+    else (if is_either word (codes "delete_entry") (codes "delent") then Some verb.Delete
+    else (if is_either word (codes "clear_list") (codes "clear") then Some verb.Clear
+    else (if is_either word (codes "quit") (codes "q") || bytes_eq word (codes "exit") then Some verb.Quit
+    else None))))))
+
+-- ---- the words after the command
+
+-- what comes of what was read, or the fault where nothing was
+abbrev pub after : {X Y : Type 0} → (X → Result Y LineFault) → Result X LineFault → Result Y LineFault
+after then_ (Ok x) = then_ x
+after then_ (Err fault) = Err fault
+
+-- there are no words
+abbrev pub are_none : List (List ℕ) → Bool
+are_none [] = true
+are_none (word ∷ others) = false
+
+-- the word, where it stands alone
+abbrev pub only : List (List ℕ) → Result (List ℕ) LineFault
+only [] = Err WordCount
+only (word ∷ others) = if are_none others then Ok word else Err WordCount
+
+-- no columns but versions and names
+abbrev pub plain_columns : KtColumns
+plain_columns = record { times = false; etypes = false; keys = false }
+
+-- the columns with one more, which an option asks for
+abbrev pub with_column : KtColumns → List ℕ → Option KtColumns
+with_column columns option =
+    if bytes_eq option (codes "-t") && not columns.times then Some (record columns { times = true })
+    else (if bytes_eq option (codes "-k") && not columns.keys then Some (record columns { keys = true })
+    else (if bytes_eq option (codes "-e") && not columns.etypes then Some (record columns { etypes = true })
+    else None))
+
+-- the columns that options ask for beside those asked for already, each option once at most
+abbrev pub columns_in : KtColumns → List (List ℕ) → Option KtColumns
+columns_in columns [] = Some columns
+columns_in columns (option ∷ options) = with_column columns option >>= λ more. columns_in more options
+
+-- a listing
+abbrev pub listing : List (List ℕ) → Result Command LineFault
+listing words = after (λ columns. Ok (ListSlots columns)) (ok_or (columns_in plain_columns words) WordCount)
+
+-- a file's name, in UTF-8
+abbrev pub file_word : List ℕ → Result (List ℕ) LineFault
+file_word word = if is_utf8 word then Ok word else Err BadFileName
+
+-- something that is done with the file of a name
+abbrev pub on_file : (List ℕ → Command) → List (List ℕ) → Result Command LineFault
+on_file command words = after (λ name. Ok (command name)) (after file_word (only words))
+
+-- a slot, counted from 1, where there are so many
+abbrev pub slot_of : ℕ → ℕ → Result ℕ LineFault
+slot_of count slot = if nat_lt 0 slot && nat_le slot count then Ok slot else Err BadSlot
+
+-- a slot is deleted, where there are so many
+abbrev pub deletion : ℕ → List (List ℕ) → Result Command LineFault
+deletion count words = after (λ slot. Ok (DeleteSlot slot)) (after (slot_of count) (after number_word (only words)))
+
+-- a command with no word after it
+abbrev pub alone : Command → List (List ℕ) → Result Command LineFault
+alone command words = if are_none words then Ok command else Err WordCount
+
+-- what the options of an addition say: whether `-key` stands there, and the words after `-p`, `-k` and `-e`
+pub record AddOptions : Type 0 where
+  pub key : Bool
+  pub name : Option (List ℕ)
+  pub version : Option (List ℕ)
+  pub enctype : Option (List ℕ)
+
+-- no options
+abbrev pub no_options : AddOptions
+no_options = record { key = false; name = None; version = None; enctype = None }
+
+-- the option is `-key`, for the first time
+abbrev pub is_new_key : AddOptions → List ℕ → Bool
+is_new_key given option = bytes_eq option (codes "-key") && not given.key
+
+-- the options with one more, which a word follows
+abbrev pub with_option : AddOptions → List ℕ → List ℕ → Option AddOptions
+with_option given option word =
+    if bytes_eq option (codes "-p") && is_none given.name then Some (record given { name = Some word })
+    else (if bytes_eq option (codes "-k") && is_none given.version then Some (record given { version = Some word })
+    else (if bytes_eq option (codes "-e") && is_none given.enctype then Some (record given { enctype = Some word })
+    else None))
+
+-- the options beside those before them, each once at most
+abbrev pub options_in : AddOptions → List (List ℕ) → Option AddOptions
+options_in given [] = Some given
+options_in given (option ∷ []) =
+    if is_new_key given option then Some (record given { key = true }) else None
+options_in given (option ∷ word ∷ others) =
+    if is_new_key given option then options_in (record given { key = true }) (word ∷ others)
+    else (with_option given option word >>= λ more. options_in more others)
+
+-- the three words of an addition
+pub record AddWords : Type 0 where
+  pub name : List ℕ
+  pub version : List ℕ
+  pub enctype : List ℕ
+
+-- all options stand there
+abbrev pub all_given : AddOptions → Option AddWords
+all_given given =
+    given.name >>= λ name.
+    given.version >>= λ version.
+    given.enctype >>= λ enctype.
+    if given.key then Some (record { name = name; version = version; enctype = enctype }) else None
+
+-- the words of an addition, each option once, in any order
+abbrev pub add_words : List (List ℕ) → Result AddWords LineFault
+add_words words = ok_or (options_in no_options words >>= all_given) WordCount
+
+-- what an addition says: its version, then its enctype, then its name
+abbrev pub awaited_of : AddWords → Result Awaited LineFault
+awaited_of x =
+    after (λ version.
+    after (λ enctype.
+    after (λ principal. Ok (record { principal = principal; version = version; enctype = enctype }))
+    (name_word x.name)) (etype_word x.enctype)) (number_word x.version)
+
+-- an entry is added, once its key is there
+abbrev pub addition : List (List ℕ) → Result Command LineFault
+addition words = after (λ awaited. Ok (AwaitKey awaited)) (after awaited_of (add_words words))
+
+-- ---- a line
+
+-- what a command with these words after it asks for, where there are so many slots
+abbrev pub command_by : ℕ → Option Verb → List (List ℕ) → Result Command LineFault
+command_by count None words = Err UnknownWord
+command_by count (Some verb.List) words = listing words
+command_by count (Some verb.Read) words = on_file ReadFile words
+command_by count (Some verb.Write) words = on_file WriteFile words
+command_by count (Some verb.Add) words = addition words
+command_by count (Some verb.Delete) words = deletion count words
+command_by count (Some verb.Clear) words = alone ClearList words
+command_by count (Some verb.Quit) words = alone Quit words
+
+-- what words ask for; no words ask for nothing
+abbrev pub command_in : ℕ → List (List ℕ) → Result Command LineFault
+command_in count [] = Ok Skip
+command_in count (word ∷ words) = command_by count (verb_of word) words
+
+-- what a line asks for, where there are so many slots
+abbrev pub command_of : List ℕ → ℕ → Result Command LineFault
+command_of line count = command_in count (words line)

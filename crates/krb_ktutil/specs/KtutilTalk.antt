@@ -1,0 +1,129 @@
+-- A run of ktutil, line after line.
+use Rattle.std.specs.Prelude.{◌≡◌, ◌≢◌, ◌⊎◌, ◌||◌, ℕ, ◌+◌, ◌<◌, max, take, Bool, true, false, IsTrue, IsFalse, List, [], ◌∷◌, ◌++◌, length, Option, None, Some, IfSome, Ok, Err}
+use Rattle.krb_wire.specs.declared.format.Order.{Order}
+use Rattle.krb_files.specs.declared.files.Files.{Ghosts}
+use Rattle.krb_files.specs.declared.files.LoadFault.{LoadFault}
+use Rattle.krb_files.specs.declared.files.LoadFault.TheVariants.{Missing, TooLarge}
+use Rattle.std.specs.Io.KnownBytes.{Consumes}
+use Rattle.krb_files.specs.Bytes.{Watch}
+use Rattle.krb_files.specs.Reader.{Source, is_failed}
+use Rattle.krb_ktutil.specs.declared.ktutil.line_end.LineEnd.{LineEnd}
+use Rattle.krb_ktutil.specs.declared.ktutil.line_end.LineEnd.TheVariants as end
+use Rattle.krb_driver.specs.declared.verdict.Verdict.TheVariants.{Well}
+use Rattle.krb_driver.specs.declared.trouble.Trouble.TheVariants as trouble
+use Rattle.krb_driver.specs.ErrorOutput.{ErrorWatch}
+use Rattle.krb_ktutil.specs.KtutilWords.{words, second}
+use Rattle.krb_ktutil.specs.KtutilPlan.{KtutilState, plan_of}
+use Rattle.krb_ktutil.specs.KtutilFiles.{Handles}
+use Rattle.krb_ktutil.specs.InputLines.{CutsOff, lines_of}
+use Rattle.krb_files.specs.Loading.{most_bytes}
+use Rattle.krb_driver.specs.Runs.{Run, SaysEnd, EndsRun}
+use Rattle.krb_driver.specs.Troubles.{Ending, input_trouble, load_trouble, save_trouble, trouble_status}
+
+-- how a line of that number ended
+abbrev pub ending_of : ℕ → LineEnd → Ending
+ending_of number end.Done = Ok Well
+ending_of number end.Quit = Ok Well
+ending_of number (end.Fault fault) = Err (trouble.FaultyLine number fault)
+ending_of number (end.Refused code) = Err (trouble.LineRefused number code)
+ending_of number (end.NotAKeytab why) = Err (trouble.NotAKeytab why)
+ending_of number (end.Load fault) = Err (load_trouble fault)
+ending_of number (end.Save fault) = Err (save_trouble fault)
+ending_of number end.NoMemory = Err trouble.NoMemory
+
+-- a line's text, and then its end
+abbrev pub line_run : ℕ → LineEnd → List ℕ → Run
+line_run number ending text = record { out = text; ending = ending_of number ending }
+
+-- the file that a line may name
+abbrev pub named_in : List ℕ → List ℕ
+named_in line = second (words line)
+
+-- another line may come after one that ended so
+abbrev pub goes_on : LineEnd → Bool
+goes_on end.Quit = false
+goes_on end.NoMemory = false
+goes_on ending = true
+
+-- a run between two lines: the files, the list of entries, the outputs, and the worst status so far
+pub record Talk (F : Type 0) : Type 0 where
+  pub files : F
+  pub state : KtutilState
+  pub out : Watch
+  pub err : ErrorWatch
+  pub status : ℕ
+
+-- a run before its first line
+abbrev pub first_talk : {F : Type 0} → Order → F → Watch → ErrorWatch → Talk F
+first_talk order files out err = record {
+  files = files;
+  state = record { order = order; entries = []; awaited = None };
+  out = out;
+  err = err;
+  status = 0;
+}
+
+-- the first lines of an input
+abbrev pub AreFirst : List (List ℕ) → Option (List ℕ) → Type 0
+AreFirst lines given = IfSome given (λ bytes. (more : List (List ℕ)) × (lines_of bytes ≡ lines ++ more))
+
+module _ {F : Type 0} (trait : Ghosts F) (now : ℕ) where
+  -- a line was handled by its plan: its text went out, it was said how it ended, and the worst status was kept
+  pub record HandlesLine (number : ℕ) (line : List ℕ) (old new : Talk F) (ending : LineEnd) : Type 0 where
+    pub text : List ℕ
+    pub status : ℕ
+    pub handled : Handles trait (plan_of old.state now line) old.files new.files old.state new.state [] text ending
+    pub ends : EndsRun (named_in line) (Some number) (line_run number ending text) old.out new.out old.err new.err status
+    pub worst : new.status ≡ max old.status status
+
+  -- a line was handled, and the next one may come
+  pub record Continues (number : ℕ) (line : List ℕ) (old new : Talk F) : Type 0 where
+    pub ending : LineEnd
+    pub handles : HandlesLine number line old new ending
+    pub goes_on : IsTrue (goes_on ending)
+    pub well : IsFalse new.out.failed
+
+  -- a line was handled, and none comes after it: it quits, or memory ran out, or the output failed
+  pub record Stops (number : ℕ) (line : List ℕ) (old new : Talk F) : Type 0 where
+    pub ending : LineEnd
+    pub handles : HandlesLine number line old new ending
+    pub why : IsFalse (goes_on ending) ⊎ IsTrue new.out.failed
+
+  -- lines were handled one after the other, the first of them with that number
+  abbrev pub TalksOver : ℕ → List (List ℕ) → Talk F → Talk F → Type 0
+  TalksOver number [] old new = new ≡ old
+  TalksOver number (line ∷ lines) old new = (between : Talk F) × Continues number line old between × TalksOver (number + 1) lines between new
+
+  module _ (input input' : Source) (lines : List (List ℕ)) (last end : Talk F) where
+    -- the input has these lines and no more
+    pub record EndsAfterLines : Type 0 where
+      pub all : IfSome input.left (λ bytes. lines_of bytes ≡ lines)
+      pub well : input'.failed ≡ input.failed
+      pub same : end ≡ last
+
+    -- one more line was handled, and was the last
+    pub record EndsInLine : Type 0 where
+      pub line : List ℕ
+      pub first : AreFirst (lines ++ line ∷ []) input.left
+      pub well : input'.failed ≡ input.failed
+      pub stops : Stops (length lines + 1) line last end
+
+    -- no more of the input was read, and it was said why; a line that was cut off is none
+    pub record EndsUnread : Type 0 where
+      pub fault : LoadFault
+      pub first : AreFirst lines input.left
+      pub never : fault ≢ Missing
+      pub too_large : fault ≡ TooLarge → IfSome input.left (λ bytes. most_bytes < length bytes)
+      pub failed : input'.failed ≡ (is_failed fault || input.failed)
+      -- of what was read, as far as an input may go, each line that has its newline was handled
+      pub read : List ℕ
+      pub consumes : Consumes input.left input'.left read
+      pub due : CutsOff lines (take most_bytes read) ⊎ IfSome input.left (λ bytes. lines_of bytes ≡ lines)
+      pub said : SaysEnd [] None (Err (input_trouble fault)) last.err end.err
+      pub worst : end.status ≡ max last.status (trouble_status (input_trouble fault))
+      pub files : end.files ≡ last.files
+      pub out : end.out ≡ last.out
+
+    -- why no line came after these
+    abbrev pub EndsTalk : Type 0
+    EndsTalk = EndsAfterLines ⊎ (EndsInLine ⊎ EndsUnread)

@@ -1,0 +1,10 @@
+-- What the contracts of this crate say.
+pub mod InputLines
+pub mod KtutilWords
+pub mod KtutilCommand
+pub mod KtutilPlan
+pub mod KtutilFiles
+pub mod KtutilHonest
+pub mod KtutilTalk
+pub mod KtutilDue
+pub mod Ktutil

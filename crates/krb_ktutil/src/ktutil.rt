@@ -1,0 +1,158 @@
+//! Runs the lines of ktutil.
+
+ghost use Rattle.std.specs.Prelude.{◌≡◌, ◌&&◌, [], None, IsFalse, not};
+ghost use Rattle.krb_ktutil.specs.Ktutil.{HandlesNext, RunsKtutil};
+ghost use Rattle.krb_ktutil.specs.KtutilTalk.{ending_of, goes_on};
+
+mod addition;
+mod command;
+mod entries;
+mod key;
+mod line_end;
+mod options;
+mod state;
+mod verb;
+mod words;
+
+use crate::input_lines::InputLines;
+use krb_driver::{CommandName, CommandWords, ErrorOutput, Streams, Trouble, V1_BIG, Verdict, cause_of, show, tell};
+use krb_files::{Files, Watched};
+use krb_wire::Order;
+pub use line_end::LineEnd;
+pub use state::Ktutil;
+use std::alloc::Allocator;
+use std::io::{Read, Write};
+pub use words::file_word;
+
+/// The words of ktutil.
+pub const KTUTIL: CommandWords = CommandWords {
+    command: CommandName::Ktutil,
+    name: "ktutil",
+    about: "Edits a list of entries by commands from the standard input",
+    usage: "krbfile ktutil [--v1-big] < COMMANDS",
+    after_help: Some(
+        "\
+Commands, each on a line, and their short names:
+  list, l [-t] [-k] [-e]     Lists the entries, with times, keys, encryption types
+  read_kt, rkt FILE          Adds the entries of the file to the list
+  write_kt, wkt FILE         Adds the list to the file, made where it is missing
+  add_entry, addent -key -p NAME -k KVNO -e ETYPE
+                             Adds an entry; the next line is its key, in hexadecimal
+  delete_entry, delent SLOT  Deletes the entry of that slot
+  clear_list, clear          Empties the list
+  quit, q, exit              Ends",
+    ),
+    words: &[V1_BIG],
+};
+
+/// A run of ktutil between two lines.
+#[derive(Drop)]
+struct Talk<A: Allocator> {
+    ktutil: Ktutil<A>,
+    /// When entries are made.
+    now: u32,
+    /// Room for the text of a line.
+    text: Vec<u8, A>,
+    /// The worst status so far.
+    status: u8,
+}
+
+// Whether another line may come after one that ended so, by the output too.
+fn goes_on(ending: LineEnd, has_out_failed: bool) -> bool
+    ensures { result ≡ (goes_on ending && not has_out_failed) }
+{
+    !matches!(ending, LineEnd::Quit | LineEnd::NoMemory) && !has_out_failed
+}
+
+// How a line of that number ended.
+fn ending_of(number: u64, ending: LineEnd) -> Result<Verdict, Trouble>
+    ensures { result ≡ ending_of number ending }
+{
+    match ending {
+        LineEnd::Done | LineEnd::Quit => Ok(Verdict::Well),
+        LineEnd::Fault(fault) => Err(Trouble::FaultyLine {
+            line: number,
+            fault,
+        }),
+        LineEnd::Refused(code) => Err(Trouble::LineRefused { line: number, code }),
+        LineEnd::NotAKeytab(why) => Err(Trouble::NotAKeytab(why)),
+        LineEnd::Load(fault) => Err(Trouble::from(fault)),
+        LineEnd::Save(fault) => Err(Trouble::from(fault)),
+        LineEnd::NoMemory => Err(Trouble::NoMemory),
+    }
+}
+
+impl<A: Allocator + Copy> Talk<A> {
+    fn new(alloc: A, v1_order: Order, now: u32) -> Talk<A>
+        ensures state { result.ktutil ≡ record { order = v1_order; entries = []; awaited = None } }
+        ensures now { result.now ≡ now }
+        ensures status { result.status ≡ 0 }
+    {
+        Talk {
+            ktutil: Ktutil::new(alloc, v1_order),
+            now,
+            text: Vec::new(alloc),
+            status: 0,
+        }
+    }
+
+    // Handles a line, and answers whether the next one may come.
+    fn handle<F: Files, W: Write, E: Write>(
+        &mut self,
+        number: u64,
+        line: &[u8],
+        files: &mut F,
+        out: &mut Watched<W>,
+        err: &mut ErrorOutput<E>,
+    ) -> bool
+        requires { IsFalse out.old.failed }
+        ensures next { HandlesNext F.Files self.old.now number line.now
+            (record { files = files.old; state = self.old.ktutil; out = out.old; err = err.old; status = self.old.status })
+            (record { files = files.new; state = self.new.ktutil; out = out.new; err = err.new; status = self.new.status })
+            result }
+        ensures now { self.new.now ≡ self.old.now }
+    {
+        self.text.clear();
+        let ending = self.ktutil.line(files, line, self.now, &mut self.text);
+        let shown = show(&self.text, ending_of(number, ending), out);
+        let cause = cause_of(&shown, files, out);
+        let status = tell(shown, file_word(line), Some(number), cause, err);
+        self.status = self.status.max(status);
+        goes_on(ending, out.has_failed())
+    }
+}
+
+/// Handles the lines of the input, each as soon as its end has been read, up to one that quits, and answers
+/// the worst status. The text of a line goes to `out` before the next one is read. Want of memory, a failure
+/// of `out`, and an input that fails or is too large end the run. What goes wrong is said on `err`; a failure
+/// of `err` changes nothing else.
+pub fn run_ktutil<A: Allocator + Copy, F: Files, R: Read, W: Write, E: Write>(
+    alloc: A,
+    v1_order: Order,
+    now: u32,
+    files: &mut F,
+    streams: &mut Streams<R, W, E>,
+) -> u8
+    requires { IsFalse streams.old.out.failed }
+    ensures { RunsKtutil F.Files v1_order now streams.old.input streams.new.input
+        files.old files.new streams.old.out streams.new.out streams.old.err streams.new.err result }
+{
+    let Streams { input, out, err } = streams;
+    let mut lines = InputLines::new(alloc);
+    let mut talk = Talk::new(alloc, v1_order, now);
+    let mut number = 0u64;
+    'lines: loop {
+        match lines.read_line(input) {
+            Ok(true) => {}
+            Ok(false) => return talk.status,
+            Err(fault) => {
+                let status = tell(Err(Trouble::of_input(fault)), b"", None, input.cause(), err);
+                return talk.status.max(status);
+            }
+        }
+        number += 1;
+        if !talk.handle(number, lines.line(), files, out, err) {
+            return talk.status;
+        }
+    }
+}

@@ -1,0 +1,98 @@
+//! What stands after a command.
+
+ghost use Rattle.std.specs.Prelude.{◌≡◌};
+ghost use Rattle.krb_driver.specs.Loading.{result_map};
+ghost use Rattle.krb_ktutil.specs.KtutilWords.{words};
+ghost use Rattle.krb_ktutil.specs.KtutilCommand.{after, are_none, only, file_word, slot_of, plain_columns, with_column, columns_in};
+ghost use Rattle.krb_text.specs.Word.{number_word};
+
+use crate::ktutil::words::next_word;
+use krb_text::{KtColumns, LineFault, number_word};
+
+/// Whether no word stands there.
+pub fn is_bare(rest: &[u8]) -> bool
+    ensures { result ≡ are_none (words rest.now) }
+{
+    next_word(rest).is_none()
+}
+
+// The word, where it stands alone.
+fn only(rest: &[u8]) -> Result<&[u8], LineFault>
+    ensures { result_map (λ word. word.now) result ≡ only (words rest.now) }
+{
+    let (word, after) = next_word(rest).ok_or(LineFault::WordCount)?;
+    if is_bare(after) {
+        Ok(word)
+    } else {
+        Err(LineFault::WordCount)
+    }
+}
+
+fn utf8(word: &[u8]) -> Result<&str, LineFault>
+    ensures { result_map (λ name. name.now) result ≡ file_word word.now }
+{
+    match str::from_utf8(word) {
+        Ok(name) => Ok(name),
+        Err(_) => Err(LineFault::BadFileName),
+    }
+}
+
+/// The name of a file.
+pub fn file_name(rest: &[u8]) -> Result<&str, LineFault>
+    ensures { result_map (λ name. name.now) result ≡ after file_word (only (words rest.now)) }
+{
+    utf8(only(rest)?)
+}
+
+fn checked_slot(slot: u32, count: usize) -> Result<u32, LineFault>
+    ensures { result ≡ slot_of count slot }
+{
+    if 0 < slot && slot as usize <= count {
+        Ok(slot)
+    } else {
+        Err(LineFault::BadSlot)
+    }
+}
+
+/// The slot that is named, counted from 1, where there are so many.
+pub fn slot(rest: &[u8], count: usize) -> Result<u32, LineFault>
+    ensures { result ≡ after (slot_of count) (after number_word (only (words rest.now))) }
+{
+    checked_slot(number_word(only(rest)?)?, count)
+}
+
+fn with_column(columns: KtColumns, option: &[u8]) -> Option<KtColumns>
+    ensures { result ≡ with_column columns option.now }
+{
+    if option == b"-t".as_slice() && !columns.times {
+        Some(KtColumns {
+            times: true,
+            ..columns
+        })
+    } else if option == b"-k".as_slice() && !columns.keys {
+        Some(KtColumns {
+            keys: true,
+            ..columns
+        })
+    } else if option == b"-e".as_slice() && !columns.etypes {
+        Some(KtColumns {
+            etypes: true,
+            ..columns
+        })
+    } else {
+        None
+    }
+}
+
+/// The columns that options ask for.
+pub fn columns(rest: &[u8]) -> Option<KtColumns>
+    ensures { result ≡ columns_in plain_columns (words rest.now) }
+{
+    let mut columns = KtColumns::default();
+    let mut rest = rest;
+    'options: while let Some((option, after)) = next_word(rest) {
+        columns = with_column(columns, option)?;
+        rest = after;
+    }
+    Some(columns)
+}

@@ -1,0 +1,39 @@
+//! Entries that go from a keytab to the list, and from the list to a keytab.
+
+ghost use Rattle.std.specs.Prelude.{◌≡◌, Ok, IfOk, OnOk, IfErr};
+ghost use Rattle.krb_keytab.specs.Store.{entries};
+ghost use Rattle.krb_ktutil.specs.KtutilPlan.{with_added};
+ghost use Rattle.krb_ktutil.specs.KtutilFiles.{RefusesAdded};
+
+use krb_keytab::{Indexed, Keytab, NewEntry};
+use krb_walk::Refusal;
+use krb_wire::NoMemory;
+use std::alloc::Allocator;
+
+/// The entries of a keytab, each with memory of its own.
+pub fn copy_entries<A: Allocator + Copy, B: Allocator>(
+    alloc: A,
+    keytab: &Keytab<B>,
+) -> Result<Vec<NewEntry<A>, A>, NoMemory>
+    ensures { IfOk result (λ copies. copies.items ≡ entries keytab.now.state) }
+{
+    let mut copies = Vec::new(alloc);
+    'entries: for (_, entry) in keytab.entries() {
+        copies.push(entry.copy(alloc)?)?;
+    }
+    Ok(copies)
+}
+
+/// Adds entries to a keytab, one after the other, up to the first that is refused.
+pub fn add_all<A: Allocator, B: Allocator>(
+    keytab: &mut Indexed<B>,
+    entries: &[NewEntry<A>],
+) -> Result<(), Refusal>
+    ensures ok { OnOk result (with_added entries.now (Ok keytab.old.state) ≡ Ok keytab.new.state) }
+    ensures err { IfErr result (RefusesAdded (with_added entries.now (Ok keytab.old.state))) }
+{
+    'entries: for entry in entries {
+        keytab.add(entry)?;
+    }
+    Ok(())
+}

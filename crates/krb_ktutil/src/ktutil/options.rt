@@ -1,0 +1,136 @@
+//! The options of an addition.
+
+ghost use Rattle.std.specs.Prelude.{◌≡◌, ◌<◌, ◌+◌, ◌∷◌, None, IfSome, MatchOption, length};
+ghost use Rattle.krb_ktutil.specs.KtutilWords.{words};
+ghost use Rattle.krb_ktutil.specs.KtutilCommand.{after, no_options, is_new_key, with_option, options_in, add_words, awaited_of};
+ghost use Rattle.krb_text.specs.LineFault.{Reads};
+
+use crate::ktutil::addition::Addition;
+use crate::ktutil::words::next_word;
+use krb_text::{LineFault, LineRefusal, etype_word, name_word, number_word};
+use std::alloc::Allocator;
+use std::marker::Model;
+
+// Whether `-key` stands there, and the words after `-p`, `-k` and `-e`.
+#[derive(Drop)]
+struct AddOptions<'a> {
+    key: bool,
+    name: Option<&'a [u8]>,
+    kvno: Option<&'a [u8]>,
+    etype: Option<&'a [u8]>,
+}
+
+impl<'a> Model for AddOptions<'a> {
+    ghost use Rattle.std.specs.Option.{option_copied};
+    ghost use Rattle.krb_ktutil.specs.KtutilCommand.{AddOptions as Options};
+
+    ghost Value = { Options };
+
+    ghost view = { λ o. record {
+      key = o.key;
+      name = option_copied o.name;
+      version = option_copied o.kvno;
+      enctype = option_copied o.etype;
+    } };
+}
+
+impl<'a> AddOptions<'a> {
+    // The options with one more, which a word follows.
+    fn with(self, option: &[u8], word: &'a [u8]) -> Option<AddOptions<'a>>
+        ensures { result ≡ with_option self.entry option.now word.now }
+    {
+        if option == b"-p".as_slice() && self.name.is_none() {
+            Some(AddOptions {
+                name: Some(word),
+                ..self
+            })
+        } else if option == b"-k".as_slice() && self.kvno.is_none() {
+            Some(AddOptions {
+                kvno: Some(word),
+                ..self
+            })
+        } else if option == b"-e".as_slice() && self.etype.is_none() {
+            Some(AddOptions {
+                etype: Some(word),
+                ..self
+            })
+        } else {
+            None
+        }
+    }
+
+    // Whether an option is `-key`, for the first time.
+    fn is_new_key(&self, option: &[u8]) -> bool
+        ensures { result ≡ is_new_key self.now option.now }
+    {
+        option == b"-key".as_slice() && !self.key
+    }
+
+    // The options with one more, and what stands after it.
+    fn take(self, option: &[u8], after: &'a [u8]) -> Option<(AddOptions<'a>, &'a [u8])>
+        ensures more { MatchOption result (options_in self.entry (option.now ∷ words after.now) ≡ None)
+            (λ x. options_in self.entry (option.now ∷ words after.now) ≡ options_in x.0 (words x.1.now)) }
+        ensures shorter { IfSome result (λ x. length x.1.now < length after.now + 1) }
+    {
+        if self.is_new_key(option) {
+            return Some((AddOptions { key: true, ..self }, after));
+        }
+        let (word, others) = next_word(after)?;
+        Some((self.with(option, word)?, others))
+    }
+}
+
+// The options that words are.
+fn options(rest: &[u8]) -> Option<AddOptions<'_>>
+    ensures { result ≡ options_in no_options (words rest.now) }
+{
+    let mut options = AddOptions {
+        key: false,
+        name: None,
+        kvno: None,
+        etype: None,
+    };
+    let mut rest = rest;
+    'options: while let Some((option, after)) = next_word(rest) {
+        let (more, others) = options.take(option, after)?;
+        options = more;
+        rest = others;
+    }
+    Some(options)
+}
+
+// What three words say of an entry: its version, then its encryption type, then its name.
+fn addition_of<A: Allocator + Copy>(
+    alloc: A,
+    name: &[u8],
+    kvno: &[u8],
+    etype: &[u8],
+) -> Result<Addition<A>, LineRefusal>
+    ensures { Reads (λ x. x) (awaited_of
+        (record { name = name.now; version = kvno.now; enctype = etype.now })) result }
+{
+    let kvno = number_word(kvno)?;
+    let enctype = etype_word(etype)?;
+    let principal = name_word(alloc, name)?;
+    Ok(Addition {
+        principal,
+        kvno,
+        enctype,
+    })
+}
+
+/// An entry whose key is still to come.
+pub fn addition<A: Allocator + Copy>(alloc: A, rest: &[u8]) -> Result<Addition<A>, LineRefusal>
+    ensures { Reads (λ x. x) (after awaited_of (add_words (words rest.now))) result }
+{
+    let options = options(rest).ok_or(LineFault::WordCount)?;
+    let (true, Some(name), Some(kvno), Some(etype)) = (
+        options.key,
+        options.name,
+        options.kvno,
+        options.etype,
+    ) else {
+        return Err(LineFault::WordCount.into());
+    };
+    addition_of(alloc, name, kvno, etype)
+}

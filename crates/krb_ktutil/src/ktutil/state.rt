@@ -1,0 +1,252 @@
+//! The list of entries that the lines of ktutil change.
+
+mod transfer;
+
+ghost use Rattle.std.specs.Prelude.{Some, IsSome, IfSome, ◌≡◌, ◌≤◌, [], None, is_some, length};
+ghost use Rattle.krb_files.specs.Plan.{Ends};
+ghost use Rattle.krb_ktutil.specs.KtutilWords.{words};
+ghost use Rattle.krb_ktutil.specs.KtutilCommand.{ClearList, Quit, alone, listing, addition, deletion, command_by, command_of};
+ghost use Rattle.krb_ktutil.specs.KtutilPlan.{KtutilState, with_key, command_plan, plan_of};
+ghost use Rattle.krb_ktutil.specs.KtutilFiles.{EndsAt, Finishes, Handles, RunsOut};
+ghost use Rattle.krb_ktutil.specs.KtutilHonest.{HandlesHonestly, Spares, TellsMemory};
+
+use crate::ktutil::addition::Addition;
+use crate::ktutil::command::{columns, file_name, is_bare, slot};
+use crate::ktutil::key::key_of;
+use crate::ktutil::line_end::LineEnd;
+use crate::ktutil::options::addition;
+use crate::ktutil::verb::{Verb, verb_of};
+use crate::ktutil::words::next_word;
+use krb_files::Files;
+use krb_keytab::NewEntry;
+use krb_text::{LineFault, LineRefusal, list_slots};
+use krb_wire::Order;
+use std::alloc::Allocator;
+use std::marker::Model;
+
+/// A list of entries, and perhaps an entry that awaits its key.
+#[derive(Drop)]
+pub struct Ktutil<A: Allocator> {
+    alloc: A,
+    v1_order: Order,
+    entries: Vec<NewEntry<A>, A>,
+    awaited: Option<Addition<A>>,
+}
+
+impl<A: Allocator> Model for Ktutil<A> {
+    ghost Value = { KtutilState };
+
+    ghost view = { λ k. record {
+      order = k.v1_order;
+      entries = k.entries.items;
+      awaited = k.awaited;
+    } };
+}
+
+impl<A: Allocator + Copy> Ktutil<A> {
+    /// An empty list. Files of version 1 have that order.
+    pub fn new(alloc: A, v1_order: Order) -> Ktutil<A>
+        ensures { result ≡ record { order = v1_order; entries = []; awaited = None } }
+    {
+        Ktutil {
+            alloc,
+            v1_order,
+            entries: Vec::new(alloc),
+            awaited: None,
+        }
+    }
+
+    /// The entries, in order.
+    pub fn entries(&self) -> &[NewEntry<A>]
+        ensures { result.now ≡ self.now.entries }
+    {
+        &self.entries
+    }
+
+    /// Whether the next line is a key.
+    pub fn pending(&self) -> bool
+        ensures { result ≡ is_some self.now.awaited }
+    {
+        self.awaited.is_some()
+    }
+
+    // Lists the slots.
+    fn list(&self, rest: &[u8], out: &mut Vec<u8, A>) -> LineEnd
+        ensures { EndsAt (command_plan self.now (listing (words rest.now))) self.now self.now
+            out.old.items out.new.items result }
+    {
+        let Some(columns) = columns(rest) else {
+            return LineEnd::Fault(LineFault::WordCount);
+        };
+        match list_slots(self.alloc, &self.entries, columns, out) {
+            Ok(()) => LineEnd::Done,
+            Err(_) => LineEnd::NoMemory,
+        }
+    }
+
+    // Adds the entry that awaits its key, made now.
+    fn add_with_key(&mut self, key: Vec<u8, A>, now: u32) -> LineEnd
+        requires { IsSome self.old.awaited }
+        ensures { IfSome self.old.awaited (λ x.
+            Finishes (Ends (with_key self.old x now (Ok key.items))) self.old self.new result) }
+    {
+        let Ok(()) = self.entries.reserve(1) else {
+            return LineEnd::NoMemory;
+        };
+        let Some(addition) = self.awaited.take() else {
+            unreachable!()
+        };
+        let entry = NewEntry {
+            principal: addition.principal,
+            timestamp: now,
+            kvno: addition.kvno,
+            enctype: addition.enctype,
+            key,
+        };
+        let Ok(()) = self.entries.push(entry) else {
+            unreachable!()
+        };
+        LineEnd::Done
+    }
+
+    // Reads the key that is awaited.
+    fn take_key(&mut self, line: &[u8], now: u32) -> LineEnd
+        requires { IsSome self.old.awaited }
+        ensures { Finishes (plan_of self.old now line.now) self.old self.new result }
+    {
+        let Some(addition) = &self.awaited else {
+            unreachable!()
+        };
+        match key_of(self.alloc, addition.enctype, line) {
+            Ok(key) => self.add_with_key(key, now),
+            Err(LineRefusal::Fault(fault)) => {
+                self.awaited = None;
+                LineEnd::Fault(fault)
+            }
+            Err(LineRefusal::NoMemory) => LineEnd::NoMemory,
+        }
+    }
+
+    // Lets the next line be the key of an entry.
+    fn add(&mut self, rest: &[u8]) -> LineEnd
+        ensures { Finishes (command_plan self.old (addition (words rest.now)))
+            self.old self.new result }
+    {
+        match addition(self.alloc, rest) {
+            Ok(addition) => {
+                self.awaited = Some(addition);
+                LineEnd::Done
+            }
+            Err(LineRefusal::Fault(fault)) => LineEnd::Fault(fault),
+            Err(LineRefusal::NoMemory) => LineEnd::NoMemory,
+        }
+    }
+
+    // Deletes a slot.
+    fn delete(&mut self, rest: &[u8]) -> LineEnd
+        ensures { Finishes (command_plan self.old (deletion (length self.old.entries) (words rest.now)))
+            self.old self.new result }
+    {
+        match slot(rest, self.entries.len()) {
+            Ok(slot) => {
+                let _ = self.entries.remove(slot as usize - 1);
+                LineEnd::Done
+            }
+            Err(fault) => LineEnd::Fault(fault),
+        }
+    }
+
+    // Empties the list.
+    fn clear(&mut self, rest: &[u8]) -> LineEnd
+        ensures { Finishes (command_plan self.old (alone ClearList (words rest.now)))
+            self.old self.new result }
+    {
+        if !is_bare(rest) {
+            return LineEnd::Fault(LineFault::WordCount);
+        }
+        self.entries.clear();
+        LineEnd::Done
+    }
+}
+
+// Ends the lines.
+fn quit(rest: &[u8]) -> LineEnd
+    ensures { (s : KtutilState) → Finishes (command_plan s (alone Quit (words rest.now))) s s result }
+{
+    if is_bare(rest) {
+        LineEnd::Quit
+    } else {
+        LineEnd::Fault(LineFault::WordCount)
+    }
+}
+
+impl<A: Allocator + Copy> Ktutil<A> {
+    // Does what a command asks for, with the words after it.
+    fn run<F: Files>(
+        &mut self,
+        verb: Verb,
+        rest: &[u8],
+        files: &mut F,
+        out: &mut Vec<u8, A>,
+    ) -> LineEnd
+        ensures { Handles F.Files
+            (command_plan self.old (command_by (length self.old.entries) (Some verb) (words rest.now)))
+            files.old files.new self.old self.new out.old.items out.new.items result }
+    {
+        match verb {
+            Verb::List => self.list(rest, out),
+            Verb::Read => match file_name(rest) {
+                Ok(name) => self.read(files, name),
+                Err(fault) => LineEnd::Fault(fault),
+            },
+            Verb::Write => match file_name(rest) {
+                Ok(name) => self.write(files, name),
+                Err(fault) => LineEnd::Fault(fault),
+            },
+            Verb::Add => self.add(rest),
+            Verb::Delete => self.delete(rest),
+            Verb::Clear => self.clear(rest),
+            Verb::Quit => quit(rest),
+        }
+    }
+
+    // Does what a line asks for that is no key.
+    fn command<F: Files>(&mut self, files: &mut F, line: &[u8], out: &mut Vec<u8, A>) -> LineEnd
+        ensures { Handles F.Files (command_plan self.old (command_of line.now (length self.old.entries)))
+            files.old files.new self.old self.new out.old.items out.new.items result }
+    {
+        let Some((word, rest)) = next_word(line) else {
+            return LineEnd::Done;
+        };
+        match verb_of(word) {
+            Some(verb) => self.run(verb, rest, files, out),
+            None => LineEnd::Fault(LineFault::UnknownWord),
+        }
+    }
+
+    /// Does what a line asks for; where a key is awaited, the line is that key. Text is appended to `out`.
+    pub fn line<F: Files>(
+        &mut self,
+        files: &mut F,
+        line: &[u8],
+        now: u32,
+        out: &mut Vec<u8, A>,
+    ) -> LineEnd
+        ensures handles { Handles F.Files (plan_of self.old now line.now)
+            files.old files.new self.old self.new out.old.items out.new.items result }
+        ensures honest { F.Files.is_honest files.old
+            → HandlesHonestly F.Files (plan_of self.old now line.now)
+            files.old files.new self.old self.new out.old.items out.new.items result }
+        ensures spared { Spares F.Files files.old files.new self.old self.new result }
+        // Where memory runs out, also in a file call, that is told, and state and output are as they were.
+        ensures told { TellsMemory result }
+        ensures memory { result ≡ LineEnd.NoMemory
+            → RunsOut self.old self.new out.old.items out.new.items result }
+        ensures count { F.Files.failure_count files.old ≤ F.Files.failure_count files.new }
+    {
+        if self.pending() {
+            return self.take_key(line, now);
+        }
+        self.command(files, line, out)
+    }
+}

@@ -1,0 +1,96 @@
+//! The words of a line: runs of spaces and tabs stand between them, and a backslash keeps the byte
+//! after it in its word.
+
+ghost use Rattle.std.specs.Prelude.{◌≡◌, ◌==◌, ◌&&◌, not, ◌<◌, ◌≤◌, ◌∷◌, [], length, MatchOption};
+ghost use Rattle.krb_ktutil.specs.KtutilWords.{is_blank, unindented, trimmed, word_size, words, second};
+
+fn is_blank(byte: u8) -> bool
+    ensures { result ≡ is_blank byte }
+{
+    byte == b' ' || byte == b'\t'
+}
+
+// A text without the blanks that it begins with.
+fn unindented(text: &[u8]) -> &[u8]
+    ensures same { result.now ≡ unindented text.now }
+    ensures within { length result.now ≤ length text.now }
+{
+    let mut rest = text;
+    while let [byte, after @ ..] = rest {
+        if !is_blank(*byte) {
+            return rest;
+        }
+        rest = after;
+    }
+    rest
+}
+
+// Whether a word ends at a byte, which is quoted or not.
+fn ends_word(is_quoted: bool, byte: u8) -> bool
+    ensures { result ≡ (not is_quoted && is_blank byte) }
+{
+    !is_quoted && is_blank(byte)
+}
+
+// Whether it quotes the byte after it.
+fn quotes_next(is_quoted: bool, byte: u8) -> bool
+    ensures { result ≡ (not is_quoted && byte == 92) }
+{
+    !is_quoted && byte == b'\\'
+}
+
+// How many bytes stand before the first blank.
+fn word_size(text: &[u8]) -> usize
+    ensures { result ≡ word_size text.now }
+{
+    let mut is_quoted = false;
+    for (size, byte) in text.iter().enumerate() {
+        if ends_word(is_quoted, *byte) {
+            return size;
+        }
+        is_quoted = quotes_next(is_quoted, *byte);
+    }
+    text.len()
+}
+
+/// The first word of a line, and the line after it.
+pub fn next_word(line: &[u8]) -> Option<(&[u8], &[u8])>
+    ensures cut { MatchOption result (words line.now ≡ [])
+        (λ x. words line.now ≡ x.0.now ∷ words x.1.now) }
+    ensures shorter { MatchOption result (words line.now ≡ [])
+        (λ x. length x.1.now < length line.now) }
+{
+    let text = unindented(line);
+    if text.is_empty() {
+        return None;
+    }
+    let size = word_size(text);
+    Some(text.split_at(size))
+}
+
+/// A text without the blanks at its ends.
+pub fn trimmed(text: &[u8]) -> &[u8]
+    ensures { result.now ≡ trimmed text.now }
+{
+    let mut rest = unindented(text);
+    while let [before @ .., byte] = rest {
+        if !is_blank(*byte) {
+            return rest;
+        }
+        rest = before;
+    }
+    rest
+}
+
+/// The second word of a line, or nothing. Of a line that names a file this is its name.
+pub fn file_word(line: &[u8]) -> &[u8]
+    ensures { result.now ≡ second (words line.now) }
+{
+    let Some((_, after)) = next_word(line) else {
+        return &[];
+    };
+    match next_word(after) {
+        Some((word, _)) => word,
+        None => &[],
+    }
+}

@@ -1,0 +1,7 @@
+//! ktutil: a list of entries that lines change, read from keytabs and written to them.
+#![tactic(auto)]
+
+mod input_lines;
+mod ktutil;
+
+pub use ktutil::{KTUTIL, Ktutil, LineEnd, file_word, run_ktutil};

@@ -1,0 +1,89 @@
+-- What klist does.
+use Rattle.std.specs.Prelude.{ℕ, List, Bool, true, if◌then◌else◌, codes, Option, None, Some}
+use Rattle.krb_wire.specs.declared.format.Order.{Order}
+use Rattle.krb_walk.specs.Store.{fault_of}
+use Rattle.krb_keytab.specs.Store.{KeytabState, store_of}
+use Rattle.krb_ccache.specs.Store.{CacheState, store_of as cache_store}
+use Rattle.krb_files.specs.Plan.{Ends}
+use Rattle.krb_json.specs.Cache.{cache_json_text}
+use Rattle.krb_json.specs.Keytab.{keytab_json_text}
+use Rattle.krb_text.specs.declared.columns.KtColumns.{KtColumns}
+use Rattle.krb_text.specs.Listing.{list_text}
+use Rattle.krb_cache_text.specs.declared.columns.CcColumns.{CcColumns}
+use Rattle.krb_cache_text.specs.Listing.{cache_text}
+use Rattle.krb_readers.specs.declared.klist.KlistOptions.{KlistOptions}
+use Rattle.krb_readers.specs.declared.klist.ListKind.{ListKind}
+use Rattle.krb_readers.specs.declared.klist.ListKind.TheVariants.{Keytab, Cache}
+use Rattle.krb_readers.specs.declared.klist.Listing.{Listing}
+use Rattle.krb_readers.specs.declared.klist.Opened.{Opened}
+use Rattle.krb_readers.specs.declared.klist.Opened.TheVariants as opened
+use Rattle.krb_driver.specs.Effects.{CommandPlan, Displays, Page, opens}
+use Rattle.krb_driver.specs.Loading.{cache_of}
+use Rattle.krb_driver.specs.Matches.{Matched, v1_order}
+use Rattle.krb_driver.specs.Opening.{listed_in}
+use Rattle.krb_driver.specs.Verdicts.{listing_verdict}
+
+-- what is shown of a keytab: one JSON object, or its listing
+abbrev pub keytab_shown : Bool → KtColumns → List ℕ → KeytabState → List ℕ
+keytab_shown json columns file k = if json then keytab_json_text file columns.keys k else list_text columns file k
+
+-- what is shown of a cache: one JSON object, or its listing
+abbrev pub cache_shown : Bool → CcColumns → List ℕ → CacheState → List ℕ
+cache_shown json columns file k = if json then cache_json_text file k else cache_text columns file k
+
+-- the page of a keytab; where it is damaged the listing reports it
+abbrev pub keytab_page : Bool → KtColumns → List ℕ → KeytabState → Page
+keytab_page json columns file k = record { out = keytab_shown json columns file k; verdict = listing_verdict (fault_of (store_of k)); takes = true }
+
+-- the page of a cache
+abbrev pub cache_page : Bool → CcColumns → List ℕ → CacheState → Page
+cache_page json columns file k = record { out = cache_shown json columns file k; verdict = listing_verdict (fault_of (cache_store k)); takes = true }
+
+-- the page of what was opened
+abbrev pub opened_page : {A : Type 0} → Bool → Opened A → List ℕ → Page
+opened_page json (opened.Keytab columns keytab) file = keytab_page json columns file keytab.state
+opened_page json (opened.Cache columns cache) file = cache_page json columns file cache.state
+
+abbrev pub listing_page : {A : Type 0} → Listing A → List ℕ → Page
+listing_page l file = opened_page l.json l.opened file
+
+-- the file is loaded as that kind, and what it gives is shown
+abbrev pub listing_plan : ListKind → Bool → Order → List ℕ → CommandPlan
+listing_plan (Keytab columns) json order file = opens file (listed_in order) (λ k. Ends (Displays file (keytab_page json columns file k)))
+listing_plan (Cache columns) json order file = opens file cache_of (λ k. Ends (Displays file (cache_page json columns file k)))
+
+abbrev pub klist_plan : KlistOptions → List ℕ → CommandPlan
+klist_plan o file = listing_plan o.kind o.json o.v1_order file
+
+-- ---- what the words ask for
+
+-- the first option that does not go with the word for a keytab
+abbrev pub odd_with_keytab : Matched → Option (List ℕ)
+odd_with_keytab words =
+    if words.flag (codes "cache") then Some (codes "-c does not go with -k")
+    else (if words.flag (codes "flags") then Some (codes "-f does not go with -k")
+    else (if words.flag (codes "configs") then Some (codes "-C does not go with -k")
+    else None))
+
+-- the first option that asks for the word for a keytab
+abbrev pub odd_with_cache : Matched → Option (List ℕ)
+odd_with_cache words =
+    if words.flag (codes "times") then Some (codes "-t is for keytabs; give -k")
+    else (if words.flag (codes "keys") then Some (codes "-K is for keytabs; give -k")
+    else (if words.flag (codes "v1-big") then Some (codes "--v1-big is for keytabs; give -k")
+    else None))
+
+-- what does not go together in the words, if something does not
+abbrev pub odd_option : Matched → Option (List ℕ)
+odd_option words = if words.flag (codes "keytab") then odd_with_keytab words else odd_with_cache words
+
+-- the kind of file: a cache, unless the words name a keytab; each column has a word of its own
+abbrev pub list_kind : Matched → ListKind
+list_kind words =
+    if words.flag (codes "keytab")
+    then Keytab (record { times = words.flag (codes "times"); etypes = words.flag (codes "etypes"); keys = words.flag (codes "keys") })
+    else Cache (record { flags = words.flag (codes "flags"); etypes = words.flag (codes "etypes"); configs = words.flag (codes "configs") })
+
+-- the options of a listing
+abbrev pub list_options : Matched → KlistOptions
+list_options words = record { kind = list_kind words; v1_order = v1_order words; json = words.flag (codes "json") }

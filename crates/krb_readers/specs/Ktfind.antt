@@ -1,0 +1,47 @@
+-- What ktfind does.
+use Rattle.std.specs.Prelude.{◌≡◌, ℕ, List, if◌then◌else◌, codes, Option, None, Some, is_none, Result, Ok, Err}
+use Rattle.krb_wire.specs.NameOf.{name_of}
+use Rattle.krb_wire.specs.Reading.{principal_parts}
+use Rattle.krb_walk.specs.declared.refusal.Code.{Code}
+use Rattle.krb_keytab.specs.Find.{PlacedEntry, find_result}
+use Rattle.krb_keytab.specs.Store.{KeytabState}
+use Rattle.krb_files.specs.Plan.{Ends}
+use Rattle.krb_text.specs.Etype.{etype_in}
+use Rattle.krb_text.specs.Found.{found_line}
+use Rattle.krb_text.specs.Numbers.{number_in}
+use Rattle.krb_readers.specs.declared.ktfind.FindOptions.{FindOptions}
+use Rattle.krb_driver.specs.declared.trouble.Trouble.TheVariants.{Refused}
+use Rattle.krb_driver.specs.declared.verdict.Verdict.TheVariants.{Well}
+use Rattle.krb_driver.specs.Effects.{CommandPlan, Effect, Fails, Displays, opens, text}
+use Rattle.krb_driver.specs.Matches.{Matched, bad_name, v1_order}
+use Rattle.krb_driver.specs.Mistakes.{no_etype, no_version}
+use Rattle.krb_driver.specs.Opening.{keytab_in}
+
+-- the line of an entry that was found, or why none was
+abbrev pub found : List ℕ → Result PlacedEntry Code → Effect
+found file (Ok entry) = Displays file (text (found_line entry) Well)
+found file (Err code) = Fails file (Refused code)
+
+-- an entry is looked up in the keytab of a file
+abbrev pub finds : {A : Type 0} → FindOptions A → List ℕ → KeytabState → Effect
+finds o file k = found file (find_result k (principal_parts o.name) o.kvno o.enctype)
+
+-- the file is loaded, and an entry is looked up in the keytab that it gives
+abbrev pub ktfind_plan : {A : Type 0} → FindOptions A → List ℕ → CommandPlan
+ktfind_plan o file = opens file (keytab_in o.v1_order) (λ k. Ends (finds o file k))
+
+-- ---- what the words ask for
+
+-- the first of the three words that spells no version, no encryption type or no name
+abbrev pub find_mistake : Matched → Option (List ℕ)
+find_mistake words =
+    if is_none (number_in 32 (words.operand (codes "KVNO"))) then Some (no_version (words.operand (codes "KVNO")))
+    else (if is_none (etype_in (words.operand (codes "ETYPE"))) then Some (no_etype (words.operand (codes "ETYPE")))
+    else bad_name (words.operand (codes "NAME")))
+
+-- each option is what its own word spells
+pub record SpellsEntry {A : Type 0} (words : Matched) (options : FindOptions A) : Type 0 where
+  pub kvno : number_in 32 (words.operand (codes "KVNO")) ≡ Some options.kvno
+  pub enctype : etype_in (words.operand (codes "ETYPE")) ≡ Some options.enctype
+  pub name : name_of (words.operand (codes "NAME")) None ≡ Ok (principal_parts options.name)
+  pub v1_order : options.v1_order ≡ v1_order words

@@ -1,0 +1,4 @@
+-- What the contracts of this crate say.
+pub mod Klist
+pub mod Ktfind
+pub mod Ktcheck

@@ -1,0 +1,288 @@
+//! Lists a file.
+
+ghost use Rattle.std.specs.Prelude.{◌≡◌, IsFalse, option_map};
+ghost use Rattle.krb_text.specs.Gathered.{Prints};
+ghost use Rattle.krb_driver.specs.Commands.{RunsCommand, always, any, made_effect};
+ghost use Rattle.krb_driver.specs.Effects.{Displays, IsMade};
+ghost use Rattle.krb_readers.specs.Klist.{cache_shown, keytab_shown, klist_plan, list_kind, list_options, listing_page, odd_option, odd_with_cache, odd_with_keytab, opened_page};
+ghost use Rattle.krb_driver.specs.Mistakes.{Reads, mistake_phrase};
+ghost use Rattle.krb_driver.specs.Verdicts.{listing_verdict};
+
+use krb_driver::{Command, CommandName, CommandWords, FileTrouble, Made, Matches, Mistake, Show, Streams, Trouble, V1_BIG, Verdict, Word, WordFault, open_cache, open_listed, run, v1_order};
+use krb_cache_text::{CcColumns, list_cache};
+use krb_ccache::Ccache;
+use krb_files::{Files, OutFault, Watched};
+use krb_json::{cache_json, keytab_json};
+use krb_keytab::Keytab;
+use krb_text::{KtColumns, list_keytab};
+use krb_walk::Fault;
+use krb_wire::Order;
+use std::alloc::Allocator;
+use std::io::{Read, Write};
+
+/// The words of klist.
+pub const KLIST: CommandWords = CommandWords {
+    command: CommandName::Klist,
+    name: "klist",
+    about: "Lists a keytab or a credential cache",
+    usage: "\
+krbfile klist [-c] [-e] [-f] [-C] [--json] FILE
+       krbfile klist -k [-t] [-K] [-e] [--v1-big] [--json] FILE",
+    after_help: None,
+    words: &[
+        Word::Flag("cache", 'c', "List a credential cache (the default)"),
+        Word::Flag("flags", 'f', "Show the flags of tickets"),
+        Word::Flag("configs", 'C', "Show configuration entries"),
+        Word::Flag("keytab", 'k', "List a keytab"),
+        Word::Flag("times", 't', "Show the times of entries"),
+        Word::Flag("keys", 'K', "Show the keys of entries"),
+        Word::Flag("etypes", 'e', "Show encryption types"),
+        V1_BIG,
+        Word::LongFlag("json", "Print all as one JSON object; keys only with -K"),
+        Word::Operand("FILE", "The file to list"),
+    ],
+};
+
+/// The kind of file that klist lists, and what it shows of it.
+#[derive(Clone, Copy)]
+pub enum ListKind {
+    Keytab(KtColumns),
+    Cache(CcColumns),
+}
+
+/// The options of klist.
+#[derive(Clone, Copy)]
+pub struct KlistOptions {
+    pub kind: ListKind,
+    /// The order of a keytab of version 1.
+    pub v1_order: Order,
+    /// To give all as one JSON object, whatever is shown; of a keytab the keys only where they are.
+    pub json: bool,
+}
+
+// An option that does not go with a keytab.
+fn odd_with_keytab<'a, M: Matches<'a>>(matches: &M) -> Option<Mistake<'a>>
+    ensures { option_map mistake_phrase result ≡ odd_with_keytab (M.matched matches.now) }
+{
+    if matches.flag("cache") {
+        Some(Mistake::DoNotGoTogether("-c", "-k"))
+    } else if matches.flag("flags") {
+        Some(Mistake::DoNotGoTogether("-f", "-k"))
+    } else if matches.flag("configs") {
+        Some(Mistake::DoNotGoTogether("-C", "-k"))
+    } else {
+        None
+    }
+}
+
+// An option that goes with a keytab alone.
+fn odd_with_cache<'a, M: Matches<'a>>(matches: &M) -> Option<Mistake<'a>>
+    ensures { option_map mistake_phrase result ≡ odd_with_cache (M.matched matches.now) }
+{
+    if matches.flag("times") {
+        Some(Mistake::ForKeytabs("-t"))
+    } else if matches.flag("keys") {
+        Some(Mistake::ForKeytabs("-K"))
+    } else if matches.flag("v1-big") {
+        Some(Mistake::ForKeytabs("--v1-big"))
+    } else {
+        None
+    }
+}
+
+// The first option that does not go with the others: each kind of file has options of its own.
+fn odd_option<'a, M: Matches<'a>>(matches: &M) -> Option<Mistake<'a>>
+    ensures { option_map mistake_phrase result ≡ odd_option (M.matched matches.now) }
+{
+    if matches.flag("keytab") {
+        odd_with_keytab(matches)
+    } else {
+        odd_with_cache(matches)
+    }
+}
+
+// The kind of file: a cache, unless the words name a keytab. Each column has a word of its own.
+fn list_kind<'a, M: Matches<'a>>(matches: &M) -> ListKind
+    ensures { result ≡ list_kind (M.matched matches.now) }
+{
+    if matches.flag("keytab") {
+        ListKind::Keytab(KtColumns {
+            times: matches.flag("times"),
+            etypes: matches.flag("etypes"),
+            keys: matches.flag("keys"),
+        })
+    } else {
+        ListKind::Cache(CcColumns {
+            flags: matches.flag("flags"),
+            etypes: matches.flag("etypes"),
+            configs: matches.flag("configs"),
+        })
+    }
+}
+
+/// The options that the words of klist ask for, which have to go together.
+pub fn klist_options<'a, M: Matches<'a>>(matches: &M) -> Result<KlistOptions, WordFault<'a>>
+    ensures { Reads (odd_option (M.matched matches.now)) (λ options. options ≡ list_options (M.matched matches.now)) result }
+{
+    if let Some(mistake) = odd_option(matches) {
+        return Err(WordFault::of(mistake));
+    }
+    Ok(KlistOptions {
+        kind: list_kind(matches),
+        v1_order: v1_order(matches),
+        json: matches.flag("json"),
+    })
+}
+
+/// What klist asks for.
+#[derive(Clone, Copy)]
+struct ListFile<'f> {
+    options: &'f KlistOptions,
+    file: &'f str,
+}
+
+/// What was opened, and what is shown of it.
+#[derive(Drop)]
+pub enum Opened<A: Allocator> {
+    Keytab(KtColumns, Keytab<A>),
+    Cache(CcColumns, Ccache<A>),
+}
+
+/// A listing of what was opened, perhaps as JSON.
+#[derive(Drop)]
+pub struct Listing<A: Allocator> {
+    json: bool,
+    opened: Opened<A>,
+}
+
+// Shows a keytab by those columns, or as JSON.
+fn show_keytab<A: Allocator + Copy, W: Write>(
+    alloc: A,
+    json: bool,
+    columns: KtColumns,
+    file: &str,
+    keytab: &Keytab<A>,
+    out: &mut Watched<W>,
+) -> Result<(), OutFault>
+    requires { IsFalse out.old.failed }
+    ensures { Prints out.old out.new result (keytab_shown json columns file.now keytab.now.state) }
+{
+    if json {
+        keytab_json(alloc, file, keytab, columns.keys, out)
+    } else {
+        list_keytab(alloc, file, keytab, columns, out)
+    }
+}
+
+// Shows a cache by those columns, or as JSON.
+fn show_cache<A: Allocator + Copy, W: Write>(
+    alloc: A,
+    json: bool,
+    columns: CcColumns,
+    file: &str,
+    cache: &Ccache<A>,
+    out: &mut Watched<W>,
+) -> Result<(), OutFault>
+    requires { IsFalse out.old.failed }
+    ensures { Prints out.old out.new result (cache_shown json columns file.now cache.now.state) }
+{
+    if json {
+        cache_json(alloc, file, cache, out)
+    } else {
+        list_cache(alloc, file, cache, columns, out)
+    }
+}
+
+// How a listing ends, which reports a fault.
+fn listing_verdict(fault: Option<Fault>) -> Verdict
+    ensures { result ≡ listing_verdict fault }
+{
+    match fault {
+        Some(fault) => Verdict::Listed(fault),
+        None => Verdict::Well,
+    }
+}
+
+impl<A: Allocator + Copy> Show<A> for Listing<A> {
+    ghost page = { listing_page };
+
+    fn show<W: Write>(
+        &self,
+        alloc: A,
+        file: &str,
+        out: &mut Watched<W>,
+    ) -> Result<Verdict, Trouble> {
+        match &self.opened {
+            Opened::Keytab(columns, keytab) => {
+                show_keytab(alloc, self.json, *columns, file, keytab, out)?;
+                Ok(listing_verdict(keytab.fault()))
+            }
+            Opened::Cache(columns, cache) => {
+                show_cache(alloc, self.json, *columns, file, cache, out)?;
+                Ok(listing_verdict(cache.fault()))
+            }
+        }
+    }
+}
+
+// What is shown of what was opened.
+fn shown<'a, A: Allocator>(
+    command: &ListFile<'a>,
+    opened: Opened<A>,
+) -> Result<Made<A, Listing<A>>, FileTrouble<'a>>
+    ensures { IsMade (Displays command.now.file.now (opened_page command.now.options.now.json opened command.now.file.now))
+        (made_effect listing_page command.now.file.now result) }
+{
+    Ok(Made::Shows(Listing {
+        json: command.options.json,
+        opened,
+    }))
+}
+
+impl<'f, A: Allocator + Copy> Command<A> for ListFile<'f> {
+    ghost use Rattle.krb_readers.specs.Klist.{klist_plan};
+
+    type Shown = Listing<A>;
+
+    ghost file = { λ c. c.file.now };
+
+    ghost plan = { λ c mode. klist_plan c.options.now c.file.now };
+
+    fn file(&self) -> &str {
+        self.file
+    }
+
+    fn make<F: Files>(
+        &self,
+        alloc: A,
+        files: &mut F,
+    ) -> Result<Made<A, Self::Shown>, FileTrouble<'_>> {
+        match self.options.kind {
+            ListKind::Keytab(columns) => {
+                let keytab = open_listed(alloc, self.options.v1_order, files, self.file)?;
+                shown(self, Opened::Keytab(columns, keytab))
+            }
+            ListKind::Cache(columns) => {
+                let cache = open_cache(alloc, files, self.file)?;
+                shown(self, Opened::Cache(columns, cache))
+            }
+        }
+    }
+}
+
+/// Lists the file of that name, and returns the status.
+#[tactic(auto, unfolding(krb_driver::specs::Commands::always))]
+pub fn run_klist<A: Allocator + Copy, F: Files, R: Read, W: Write, E: Write>(
+    alloc: A,
+    options: &KlistOptions,
+    file: &str,
+    files: &mut F,
+    streams: &mut Streams<R, W, E>,
+) -> u8
+    requires { IsFalse streams.old.out.failed }
+    ensures runs { RunsCommand F.Files (always (klist_plan options.now file.now)) any files.old files.new
+        streams.old.out streams.new.out streams.old.err streams.new.err result }
+    ensures input { streams.new.input ≡ streams.old.input }
+{
+    run(alloc, &ListFile { options, file }, files, streams)
+}

@@ -1,0 +1,135 @@
+//! Looks up an entry in a keytab's file.
+
+ghost use Rattle.std.specs.Prelude.{◌≡◌, IsFalse};
+ghost use Rattle.krb_driver.specs.Commands.{RunsCommand, always, any, text_effect};
+ghost use Rattle.krb_driver.specs.Effects.{IsMade};
+ghost use Rattle.krb_readers.specs.Ktfind.{SpellsEntry, find_mistake, finds, ktfind_plan};
+ghost use Rattle.krb_driver.specs.Mistakes.{Reads};
+
+use krb_driver::{Command, CommandName, CommandWords, FileTrouble, Made, Matches, Mistake, Output, Streams, Trouble, V1_BIG, Verdict, Word, WordFault, open_keytab, run, spelled_name, v1_order};
+use krb_files::Files;
+use krb_keytab::Keytab;
+use krb_text::{etype_of, found_text, parse_u32};
+use krb_wire::{Order, Principal};
+use std::alloc::{Allocator, Global};
+use std::io::{Read, Write};
+
+/// The words of ktfind.
+pub const KTFIND: CommandWords = CommandWords {
+    command: CommandName::Ktfind,
+    name: "ktfind",
+    about: "Finds an entry in a keytab",
+    usage: "krbfile ktfind [--v1-big] FILE KVNO ETYPE NAME",
+    after_help: None,
+    words: &[
+        V1_BIG,
+        Word::Operand("FILE", "The file to look in"),
+        Word::Operand("KVNO", "The key version, 0 for the highest"),
+        Word::Operand("ETYPE", "The encryption type by name or number, 0 for any"),
+        Word::Operand("NAME", "The principal, with its realm"),
+    ],
+};
+
+/// What ktfind looks for.
+#[derive(Drop)]
+pub struct FindOptions<A: Allocator> {
+    pub name: Principal<A>,
+    /// 0 asks for the highest.
+    pub kvno: u32,
+    /// 0 asks for any.
+    pub enctype: u16,
+    /// The order of a keytab of version 1.
+    pub v1_order: Order,
+}
+
+/// What the words of ktfind spell: a number, an encryption type and a name with its realm.
+pub fn find_options<'a, M: Matches<'a>>(
+    alloc: Global,
+    matches: &M,
+) -> Result<FindOptions<Global>, WordFault<'a>>
+    ensures { Reads (find_mistake (M.matched matches.now)) (SpellsEntry (M.matched matches.now)) result }
+{
+    let version = matches.operand("KVNO");
+    let Some(kvno) = parse_u32(version.as_bytes()) else {
+        return Err(WordFault::of(Mistake::NoVersion(version)));
+    };
+    let etype = matches.operand("ETYPE");
+    let Some(enctype) = etype_of(etype.as_bytes()) else {
+        return Err(WordFault::of(Mistake::NoEtype(etype)));
+    };
+    Ok(FindOptions {
+        name: spelled_name(alloc, matches.operand("NAME"))?,
+        kvno,
+        enctype,
+        v1_order: v1_order(matches),
+    })
+}
+
+/// What ktfind asks for.
+#[derive(Clone, Copy)]
+struct FindEntry<'f, B: Allocator> {
+    options: &'f FindOptions<B>,
+    file: &'f str,
+}
+
+// The line of the entry that is looked up.
+fn find<'a, A: Allocator, B: Allocator>(
+    alloc: A,
+    command: &FindEntry<'a, B>,
+    keytab: &Keytab<A>,
+) -> Result<Made<A, Output<A>>, FileTrouble<'a>>
+    ensures { IsMade (finds command.now.options.now command.now.file.now keytab.now.state)
+        (text_effect command.now.file.now result) }
+{
+    let options = command.options;
+    match keytab.find(&options.name, options.kvno, options.enctype) {
+        Ok((place, entry)) => Ok(Made::Shows(Output {
+            text: found_text(alloc, place, &entry)?,
+            verdict: Verdict::Well,
+        })),
+        Err(code) => Err(FileTrouble {
+            file: command.file,
+            trouble: Trouble::Refused(code),
+        }),
+    }
+}
+
+impl<'f, A: Allocator + Copy, B: Allocator> Command<A> for FindEntry<'f, B> {
+    ghost use Rattle.krb_readers.specs.Ktfind.{ktfind_plan};
+
+    type Shown = Output<A>;
+
+    ghost file = { λ c. c.file.now };
+
+    ghost plan = { λ c mode. ktfind_plan c.options.now c.file.now };
+
+    fn file(&self) -> &str {
+        self.file
+    }
+
+    fn make<F: Files>(
+        &self,
+        alloc: A,
+        files: &mut F,
+    ) -> Result<Made<A, Self::Shown>, FileTrouble<'_>> {
+        let keytab = open_keytab(alloc, self.options.v1_order, files, self.file)?;
+        find(alloc, self, &keytab)
+    }
+}
+
+/// Looks up an entry in the keytab of that name, prints it, and returns the status.
+#[tactic(auto, unfolding(krb_driver::specs::Commands::always))]
+pub fn run_ktfind<A: Allocator + Copy, B: Allocator, F: Files, R: Read, W: Write, E: Write>(
+    alloc: A,
+    options: &FindOptions<B>,
+    file: &str,
+    files: &mut F,
+    streams: &mut Streams<R, W, E>,
+) -> u8
+    requires { IsFalse streams.old.out.failed }
+    ensures runs { RunsCommand F.Files (always (ktfind_plan options.now file.now)) any files.old files.new
+        streams.old.out streams.new.out streams.old.err streams.new.err result }
+    ensures input { streams.new.input ≡ streams.old.input }
+{
+    run(alloc, &FindEntry { options, file }, files, streams)
+}
