@@ -86,6 +86,7 @@ WRONG_BODIES = {
         "an-inode-is-a-file": "files of one inode on two devices count as one file",
         "forgets-what-was-loaded": "the bytes that were loaded are not compared before the rename",
         "made-for-all": "the new file may be read by all while it is written",
+        "holds-nothing": "what is held is forgotten at once",
         "majors-of-eight-bits": "the major number of a device is cut to 8 bits",
         "owner-and-group-turned-round": "the old file's owner and its group change places in the new one",
         "removes-a-file-of-another-user": "a leftover of another user is removed",
@@ -100,9 +101,11 @@ WRONG_BODIES = {
         "saves-under-another-name": "the file is saved under another name",
     },
     "krb_driver": {
+        "leaves-nothing": "what a command held is never left",
         "saves-the-text": "what is printed is saved in the file's place",
     },
     "krb_editors": {
+        "a-dry-run-holds": "a dry run of ktremove holds the file",
         "a-refused-value-removes-the-old-one": "a configuration value that is refused removes the old one",
         "all-have-expired-without-a-clock": "every ticket has expired where the clock cannot be read",
         "an-input-that-was-read-is-told-as-failed": "an empty input is reported as one that cannot be read",
@@ -110,6 +113,7 @@ WRONG_BODIES = {
     },
     "krb_ktutil": {
         "saves-part": "write_kt saves what it added before a refusal",
+        "writes-what-is-not-held": "write_kt does not hold the file",
     },
     "krb_c": {
         "tells-the-length-that-was-cut": "a text that does not fit answers the length that was taken",

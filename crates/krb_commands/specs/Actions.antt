@@ -20,7 +20,7 @@ use Rattle.krb_readers.specs.Ktfind.{SpellsEntry, find_mistake, ktfind_plan}
 use Rattle.krb_editors.specs.Ktremove.{SpellsRemoval, ktremove_plan, remove_mistake}
 use Rattle.krb_ktutil.specs.Ktutil.{RunsKtutil}
 use Rattle.krb_driver.specs.Matches.{Matched, v1_order}
-use Rattle.krb_driver.specs.Mistakes.{word_status, word_text}
+use Rattle.krb_driver.specs.Mistakes.{MistakeParts, word_status, word_text}
 use Rattle.krb_driver.specs.Runs.{Run, EndsRun, Says}
 use Rattle.krb_editors.specs.Scripted.{RunsScript}
 use Rattle.krb_text.specs.Script.{event_in}
@@ -39,7 +39,7 @@ Asks name.Ktutil words (Ktutil order) = order ≡ v1_order words
 Asks command words action = ⊥
 
 -- the first mistake in the words of that command
-abbrev pub line_mistake : CommandName → Matched → Option (List ℕ)
+abbrev pub line_mistake : CommandName → Matched → Option MistakeParts
 line_mistake name.Klist words = odd_option words
 line_mistake name.Ktfind words = find_mistake words
 line_mistake name.Ktremove words = remove_mistake words

@@ -1,5 +1,5 @@
 -- What a load and a save of a file of a disk may answer.
-use Rattle.std.specs.Prelude.{◌≡◌, ◌==◌, ℕ, ◌≤◌, ◌%◌, bit_and, if◌then◌else◌, List, ◌∷◌, length, Option, None, Some, IsSome, Result, Ok, Err}
+use Rattle.std.specs.Prelude.{◌≡◌, ◌==◌, ℕ, ◌≤◌, ◌%◌, bit_and, if◌then◌else◌, Bool, false, List, ◌∷◌, length, Option, None, Some, IsSome, Result, Ok, Err}
 use Rattle.krb_files.specs.declared.cause.Cause.{Cause}
 use Rattle.krb_files.specs.declared.files.LoadFault.{LoadFault}
 use Rattle.krb_files.specs.declared.files.LoadFault.TheVariants as load
@@ -12,12 +12,17 @@ use Rattle.krb_disk.specs.declared.fault.ReadFault.{ReadFault}
 use Rattle.krb_disk.specs.declared.fault.ReadFault.TheVariants as read
 use Rattle.krb_disk.specs.declared.looks.Found.{Found}
 
--- what contracts see of the files of a disk: how many calls failed, what the last of them failed with, the names and bytes of the saves that made all their calls, the last first, and the permission bits of the file that was loaded last
+-- what contracts see of the files of a disk: how many calls failed, what the last of them failed with, the names and bytes of the saves that made all their calls, the last first, the permission bits of the file that was loaded last, and whether one is held
 pub record Disk : Type 0 where
   pub failures : ℕ
   pub cause : Option Cause
   pub saved : List (List ℕ × List ℕ)
   pub mode : Option ℕ
+  pub is_held : Bool
+
+-- nothing is held any more
+abbrev pub left : Disk → Disk
+left disk = record disk { is_held = false }
 
 -- the permission bits of a plain file
 abbrev pub permissions : Found → Option ℕ
@@ -28,6 +33,7 @@ pub record Fails (old new : Disk) : Type 0 where
   pub counted : CountsFailure old.failures new.failures
   pub told : IsSome new.cause
   pub unsaved : new.saved ≡ old.saved
+  pub held : new.is_held ≡ old.is_held
 
 -- a load that gives no bytes counts the call that failed, if one did, and changes nothing else
 abbrev pub CountsLoad : Disk → ReadFault → Disk → Type 0

@@ -1,19 +1,21 @@
 //! The files of a disk.
 
-ghost use Rattle.std.specs.Prelude.{◌≡◌, ◌≤◌, ◌<◌, [], ◌∷◌, None, OnOk, OnErr, IsSome};
-ghost use Rattle.krb_disk.specs.DiskFiles.{Disk, Fails, CountsLoad, CountsSave, AnswersFromDisk, SavesToDisk};
+ghost use Rattle.std.specs.Prelude.{◌≡◌, ◌≤◌, ◌<◌, true, false, [], ◌∷◌, None, is_some, OnOk, OnErr, IsSome};
+ghost use Rattle.krb_disk.specs.DiskFiles.{Disk, Fails, CountsLoad, CountsSave, AnswersFromDisk, SavesToDisk, left};
 ghost use Rattle.krb_disk.specs.Faults.{load_fault, save_fault};
 
 use crate::calls::Calls;
 use crate::fault::{DiskFault, ReadFault};
 use crate::held::Held;
+use crate::hold::Hold;
 use crate::lock::TakeLock;
 use crate::number::Numbered;
 use crate::owner::SetOwner;
+use crate::read::read_file;
 use krb_files::{Cause, Files, LoadFault, SaveFault};
 use std::alloc::Allocator;
 use std::marker::Model;
-use std::{mem, rt};
+use std::rt;
 
 /// The files of a disk. Nothing is known of what they hold; contracts see how many calls failed, what the last
 /// of them failed with, which saves made all their calls, and the mode of the file that was loaded last. A load reads the whole file. A save makes a new
@@ -26,7 +28,7 @@ pub struct DiskFiles<'a, R: rt::Files + Alloc> {
     cause: Option<Cause>,
     /// The permission bits of the file that was loaded last.
     mode: Option<u32>,
-    held: Held<R>,
+    held: Option<Held<R>>,
 }
 
 impl<'a, R: rt::Files + Alloc> Model for DiskFiles<'a, R> {
@@ -37,6 +39,7 @@ impl<'a, R: rt::Files + Alloc> Model for DiskFiles<'a, R> {
       cause = files.cause;
       saved = files.calls.saved.entries;
       mode = files.mode;
+      is_held = is_some files.held;
     } };
 
     // A failure that was counted has a cause.
@@ -46,14 +49,14 @@ impl<'a, R: rt::Files + Alloc> Model for DiskFiles<'a, R> {
 impl<'a, R: rt::Files + Alloc> DiskFiles<'a, R> {
     /// The files that `rt` reaches, of which no call failed yet.
     pub fn new(rt: &'a R) -> DiskFiles<'a, R>
-        ensures { result ≡ record { failures = 0; cause = None; saved = []; mode = None } }
+        ensures { result ≡ record { failures = 0; cause = None; saved = []; mode = None; is_held = false } }
     {
         DiskFiles {
             calls: Calls::new(rt),
             failures: 0,
             cause: None,
             mode: None,
-            held: Held::Nothing,
+            held: None,
         }
     }
 
@@ -62,6 +65,7 @@ impl<'a, R: rt::Files + Alloc> DiskFiles<'a, R> {
         ensures fails { Fails self.old self.new }
         ensures count { self.old.failures ≤ self.new.failures }
         ensures mode { self.new.mode ≡ self.old.mode }
+        ensures held { self.new.is_held ≡ self.old.is_held }
     {
         self.failures = self.failures.saturating_add(1);
         self.cause = Some(cause);
@@ -96,11 +100,13 @@ where
 
     fn save_held(&mut self, name: &str, bytes: &[u8]) -> Result<(), DiskFault>
         ensures ok { OnOk result (self.new
-            ≡ record self.old { saved = (name.now, bytes.now) ∷ self.old.saved }) }
-        ensures err { OnErr result (self.new ≡ self.old) }
+            ≡ record (left self.old) { saved = (name.now, bytes.now) ∷ self.old.saved }) }
+        ensures err { OnErr result (self.new ≡ left self.old) }
     {
-        let held = mem::replace(&mut self.held, Held::Nothing);
-        let hold = held.into_hold(&self.calls, name)?;
+        let hold = match self.held.take() {
+            Some(held) => held.into_hold(&self.calls, name)?,
+            None => Hold::take(&self.calls, name)?,
+        };
         hold.save(&mut self.calls, bytes)
     }
 }
@@ -117,17 +123,25 @@ where
 
     ghost answers = { λ old _ limit answer new. AnswersFromDisk old new limit answer };
 
-    ghost saves = { λ old name bytes answer new. SavesToDisk old name bytes new answer };
+    ghost saves = { λ old name bytes answer new. SavesToDisk (left old) name bytes new answer };
 
     ghost mode = { λ disk. disk.mode };
 
-    fn hold(&mut self, name: &str) {
+    ghost is_held = { λ disk. disk.is_held };
+
+    fn hold(&mut self, name: &str)
+        ensures { self.new ≡ record self.old { is_held = true } }
+    {
         self.release();
-        self.held = Held::take(&self.calls, name);
+        self.held = Some(Held::take(&self.calls, name));
     }
 
-    fn release(&mut self) {
-        mem::replace(&mut self.held, Held::Nothing).release(&self.calls);
+    fn release(&mut self)
+        ensures { self.new ≡ left self.old }
+    {
+        if let Some(held) = self.held.take() {
+            held.release(&self.calls);
+        }
     }
 
     fn load<A: Allocator>(
@@ -140,7 +154,11 @@ where
         if self.failures == u64::MAX {
             return Err(LoadFault::Failed);
         }
-        match self.held.load(&self.calls, alloc, name, limit) {
+        let loaded = match &mut self.held {
+            Some(held) => held.load(&self.calls, alloc, name, limit),
+            None => read_file(self.calls.looks(), alloc, name, limit, 0),
+        };
+        match loaded {
             Ok((found, bytes)) => {
                 self.mode = found.permissions();
                 Ok(bytes)
@@ -151,6 +169,7 @@ where
 
     fn save(&mut self, name: &str, bytes: &[u8]) -> Result<(), SaveFault> {
         if self.failures == u64::MAX {
+            self.release();
             return Err(SaveFault::Failed);
         }
         match self.save_held(name, bytes) {

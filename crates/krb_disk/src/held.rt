@@ -14,11 +14,9 @@ use krb_files::Cause;
 use std::alloc::Allocator;
 use std::rt;
 
-/// What came of the hold that was asked for last.
+/// What came of a hold that was asked for.
 #[derive(Drop)]
 pub enum Held<R: rt::Files + Alloc> {
-    /// None was asked for, or the file was saved or released.
-    Nothing,
     File(Hold<R>),
     /// Why the file is not held, and cannot be saved.
     Refused(DiskFault),
@@ -88,7 +86,6 @@ where
                 hold.release(calls);
                 Hold::take(calls, name)
             }
-            Held::Nothing => Hold::take(calls, name),
             Held::Refused(fault) => Err(fault),
             Held::Pipe(_) => Err(DiskFault::Failed(Cause::NotAPlainFile)),
         }

@@ -8,7 +8,7 @@ use Rattle.krb_driver.specs.declared.trouble.Trouble.{Trouble}
 use Rattle.krb_driver.specs.declared.trouble.Trouble.TheVariants as trouble
 use Rattle.krb_walk.specs.declared.refusal.Code.{Code}
 use Rattle.krb_files.specs.Loading.{Answer}
-use Rattle.krb_files.specs.Plan.{Ends, Holds, Loaded, by}
+use Rattle.krb_files.specs.Plan.{Ends, HeldIf, Holds, Loaded, by}
 use Rattle.krb_driver.specs.Commands.{FairOver, GivesOf, HoldsIf, Makes, MakesFairly, Opens, fair_first, of_file}
 use Rattle.krb_driver.specs.Effects.{CommandPlan, Effect, Fails, IsMade, IsSpent, faults, goes_on, opens}
 use Rattle.krb_driver.specs.Opening.{or_refused, unless_refused}
@@ -97,10 +97,8 @@ gives-unless trait old file gives refusal given new o = record {
 }
 
 -- a file was held, or not
-pub makes-holds : {F : Type 0} (trait : Ghosts F) (old new : F) (held : Bool) (file : List ℕ) → new ≡ old → HoldsIf trait old held file new
-makes-holds {F = F} trait old new held file is = λ plan effect end made.
-    let m = subst (λ (x : F). Makes trait x plan effect end) is made in
-    record { answers = m.answers; loads = m.loads; made = m.made }
+pub makes-holds : {F : Type 0} (trait : Ghosts F) (old new : F) (held : Bool) (file : List ℕ) → HeldIf trait held old new → HoldsIf trait old held file new
+makes-holds trait old new held file holds = λ plan effect end made. record { answers = made.answers; loads = inr (new, (holds, made.loads)); made = made.made }
 
 -- what was made without a load
 pub makes-end : {F : Type 0} (trait : Ghosts F) (old : F) (due effect : Effect) → IsMade due effect → Makes trait old (Ends due) effect old
@@ -142,7 +140,6 @@ fairly-failed trait old file gives then_ Fair name why new o = record {
   ];
 }
 
-pub fairly-holds : {F : Type 0} (trait : Ghosts F) (old new end : F) (held : Bool) (file : List ℕ) (plan : CommandPlan) (Fairly : List Answer → Type 0) (effect : Effect) → new ≡ old → MakesFairly trait new plan Fairly effect end → MakesFairly trait old (Holds held file plan) Fairly effect end
-fairly-holds {F = F} trait old new end held file plan Fairly effect is made =
-    let m = subst (λ (x : F). MakesFairly trait x plan Fairly effect end) is made in
-    record { makes = record { answers = m.makes.answers; loads = m.makes.loads; made = m.makes.made }; fair = m.fair }
+pub fairly-holds : {F : Type 0} (trait : Ghosts F) (old new end : F) (held : Bool) (file : List ℕ) (plan : CommandPlan) (Fairly : List Answer → Type 0) (effect : Effect) → HeldIf trait held old new → MakesFairly trait new plan Fairly effect end → MakesFairly trait old (Holds held file plan) Fairly effect end
+fairly-holds trait old new end held file plan Fairly effect holds made =
+    record { makes = makes-holds trait old new held file holds plan effect end made.makes; fair = made.fair }

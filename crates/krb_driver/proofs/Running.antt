@@ -1,5 +1,5 @@
 -- What a run of a command keeps.
-use Rattle.std.proofs.Common.{◌≡◌, ◌⊎◌, inl, inr, ◌∙◌, ℕ, ◌≤◌, Bool, true, false, List, [], refl, sym, ap, subst}
+use Rattle.std.proofs.Common.{◌≡◌, ◌⊎◌, inl, inr, ◌∙◌, ℕ, ◌≤◌, Bool, true, false, List, [], refl, sym, ap, subst, arith}
 use Rattle.std.specs.Prelude.{Option, None, Result, Ok, Err, IsTrue}
 use Rattle.std.proofs.lemmas.Bool.{false≢true, true≢false}
 use Rattle.krb_files.specs.declared.files.SaveFault.{SaveFault}
@@ -8,7 +8,7 @@ use Rattle.krb_files.specs.declared.files.Files.{Ghosts}
 use Rattle.krb_files.specs.Bytes.{Watch}
 use Rattle.krb_files.specs.Files.{SameFiles, CountsFailure}
 use Rattle.krb_driver.specs.declared.trouble.Trouble.TheVariants as trouble
-use Rattle.krb_files.specs.Loading.{Answer, SavesFile}
+use Rattle.krb_files.specs.Loading.{Answer, SavesFile, TurnsHold}
 use Rattle.krb_driver.specs.ErrorOutput.{ErrorWatch}
 use Rattle.krb_driver.specs.Runs.{Run, Shows, Tells, ends_by}
 use Rattle.krb_driver.specs.Troubles.{Ending}
@@ -16,7 +16,7 @@ use Rattle.krb_driver.specs.declared.verdict.Verdict.{Verdict}
 use Rattle.krb_files.specs.Plan.{follow}
 use Rattle.krb_driver.specs.Commands.{Does, Keeps, RunsCommand, Settles, ShowsEnd, ShowsPage, Takes}
 use Rattle.krb_driver.specs.Effects.{CommandPlan, Displays, Effect, Fails, Page, Saves, about, faults, files_after, saved_end, settled, text}
-use Rattle.krb_files.proofs.PlanLaws.{comes, count-trans, loaded-lasts, same-trans, with_bytes-set}
+use Rattle.krb_files.proofs.PlanLaws.{comes, count-more, count-trans, loaded-lasts, same-trans, with_bytes-set}
 
 -- memory ran out
 abbrev is_spent : Ending → Bool
@@ -111,16 +111,27 @@ module _ {F : Type 0} (trait : Ghosts F) (plan : Option ℕ → CommandPlan) (Fa
       let lasts = loaded-lasts trait faults p old d.makes.makes.answers d.between d.makes.makes.loads in
       same-trans (trait.file old) (trait.file d.between) (trait.file new) (lasts.same h) (settles-spared out out' ending spent trait d.between new (lasts.honest h) d.effect end d.settles shows)
 
--- a command came to an end, which was shown and told
-pub runs-shown : {F : Type 0} (trait : Ghosts F) (plan : Option ℕ → CommandPlan) (Fairly : List Answer → Type 0) (old new : F) (out out' : Watch) (err err' : ErrorWatch) (status : ℕ) (end : Effect) (ending : Ending)
-    → Does trait plan Fairly old new end → ShowsEnd out out' ending end → Tells (about end) None ending err err' status → RunsCommand trait plan Fairly old new out out' err err' status
-runs-shown trait plan Fairly old new out out' err err' status end ending d shows told = record {
+-- what is left keeps what was done
+keeps-left : {F : Type 0} (trait : Ghosts F) (plan : CommandPlan) (old done new : F) (end : Effect) → TurnsHold trait false done new → Keeps trait plan old done end → Keeps trait plan old new end
+keeps-left trait plan old done new end left (inl due) = inl (due.0, same-trans (files_after (trait.file old) (follow (trait.file old) plan)) (trait.file done) (trait.file new) due.1 left.same)
+keeps-left trait plan old done new end left (inr (inl failed)) =
+    let is = left.count in
+    let counted = count-more (trait.failure_count old) (trait.failure_count done) (trait.failure_count new) (omega (arith, is)) failed.0 in
+    inr (inl (counted, (same-trans (trait.file old) (trait.file done) (trait.file new) failed.1.0 left.same, failed.1.1)))
+keeps-left trait plan old done new end left (inr (inr spent)) = inr (inr (same-trans (trait.file old) (trait.file done) (trait.file new) spent.0 left.same, spent.1))
+
+-- a command came to an end, what it held was left, and the end was shown and told
+pub runs-shown : {F : Type 0} (trait : Ghosts F) (plan : Option ℕ → CommandPlan) (Fairly : List Answer → Type 0) (old done new : F) (out out' : Watch) (err err' : ErrorWatch) (status : ℕ) (end : Effect) (ending : Ending)
+    → Does trait plan Fairly old done end → TurnsHold trait false done new → ShowsEnd out out' ending end → Tells (about end) None ending err err' status → RunsCommand trait plan Fairly old new out out' err err' status
+runs-shown trait plan Fairly old done new out out' err err' status end ending d left shows told = record {
   end = end;
   ending = ending;
+  done = done;
   does = d;
+  left = left;
   shown = shows;
   told = told;
-  honest = does-keeps trait plan Fairly old new end d;
-  spared = λ spent h. does-spared trait plan Fairly old new end d h out out' ending spent shows;
+  honest = λ h. keeps-left trait (plan (trait.mode d.between)) old done new end left (does-keeps trait plan Fairly old done end d h);
+  spared = λ spent h. same-trans (trait.file old) (trait.file done) (trait.file new) (does-spared trait plan Fairly old done end d h out out' ending spent shows) left.same;
   quiet = λ spent. quiet-end out out' ending spent end shows;
 }

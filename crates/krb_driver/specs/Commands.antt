@@ -1,11 +1,11 @@
 -- What a run of a command does.
-use Rattle.std.specs.Prelude.{◌≡◌, ◌⊎◌, ℕ, Bool, List, [], ◌∷◌, Option, None, IsTrue, Result, Ok, Err}
+use Rattle.std.specs.Prelude.{◌≡◌, ◌⊎◌, ℕ, Bool, false, List, [], ◌∷◌, Option, None, IsTrue, Result, Ok, Err}
 use Rattle.krb_files.specs.declared.files.Files.{Ghosts}
 use Rattle.krb_files.specs.declared.files.LoadFault.TheVariants as load
 use Rattle.krb_files.specs.declared.files.SaveFault.{SaveFault}
 use Rattle.krb_files.specs.Bytes.{Watch}
 use Rattle.krb_files.specs.Files.{SameFiles, CountsFailure}
-use Rattle.krb_files.specs.Loading.{Answer, LoadsFile, SavesFile}
+use Rattle.krb_files.specs.Loading.{Answer, LoadsFile, SavesFile, TurnsHold}
 use Rattle.krb_files.specs.Plan.{Holds, Loaded, by, follow}
 use Rattle.krb_driver.specs.declared.command.FileTrouble.{FileTrouble}
 use Rattle.krb_driver.specs.declared.command.Made.{Made}
@@ -106,11 +106,13 @@ abbrev pub Takes : Effect → Type 0
 Takes (Displays file page) = IsTrue page.takes
 Takes effect = ⊥
 
--- a run of a command: what is saved and printed, and how it ends, is one function of what the files answered
+-- a run of a command: what is saved and printed, and how it ends, is one function of what the files answered; nothing is held after it
 pub record RunsCommand {F : Type 0} (trait : Ghosts F) (plan : Option ℕ → CommandPlan) (Fairly : List Answer → Type 0) (old new : F) (out out' : Watch) (err err' : ErrorWatch) (status : ℕ) : Type 0 where
   pub end : Effect
   pub ending : Ending
-  pub does : Does trait plan Fairly old new end
+  pub done : F
+  pub does : Does trait plan Fairly old done end
+  pub left : TurnsHold trait false done new
   pub shown : ShowsEnd out out' ending end
   pub told : Tells (about end) None ending err err' status
   -- over honest files

@@ -1,13 +1,13 @@
 -- What a command line matched, and what the words say that commands share.
-use Rattle.std.specs.Prelude.{◌≡◌, ◌++◌, [], List, ℕ, Bool, if◌then◌else◌, codes, Option, None, Some, Result, Ok, Err}
+use Rattle.std.specs.Prelude.{◌≡◌, List, ℕ, Bool, if◌then◌else◌, codes, Option, None, Some, Result, Ok, Err}
 use Rattle.krb_wire.specs.declared.format.Order.{Order}
 use Rattle.krb_wire.specs.declared.format.Order.TheVariants.{Big, Little}
 use Rattle.krb_wire.specs.declared.name_fault.NameFault.{NameFault}
 use Rattle.krb_wire.specs.declared.principal.Principal.{Principal}
-use Rattle.krb_wire.specs.NameOf.{name_fault_phrase, name_of}
+use Rattle.krb_wire.specs.NameOf.{name_of}
 use Rattle.krb_wire.specs.Reading.{principal_parts}
 use Rattle.krb_wire.specs.Spelling.{Parts}
-use Rattle.krb_driver.specs.Mistakes.{quoted}
+use Rattle.krb_driver.specs.Mistakes.{MistakeParts, BadName}
 
 -- what a command line matched, by the names of its command's words
 pub record Matched : Type 0 where
@@ -20,11 +20,11 @@ abbrev pub v1_order : Matched → Order
 v1_order words = if words.flag (codes "v1-big") then Big else Little
 
 -- a word that names nobody
-abbrev pub bad_parse : List ℕ → Result Parts NameFault → Option (List ℕ)
+abbrev pub bad_parse : List ℕ → Result Parts NameFault → Option MistakeParts
 bad_parse word (Ok name) = None
-bad_parse word (Err fault) = Some (quoted word (codes "\" has ") (name_fault_phrase fault ++ []))
+bad_parse word (Err fault) = Some (BadName word fault)
 
-abbrev pub bad_name : List ℕ → Option (List ℕ)
+abbrev pub bad_name : List ℕ → Option MistakeParts
 bad_name word = bad_parse word (name_of word None)
 
 -- the name that is asked for

@@ -1,6 +1,7 @@
 -- What is said of a command line that was not read.
 use Rattle.std.specs.Borrow.{Bor}
 use Rattle.std.specs.Prelude.{◌≡◌, ℕ, List, [], ◌++◌, Bool, Option, None, Some, option_map, codes, Result, Ok, Err}
+use Rattle.krb_wire.specs.declared.name_fault.NameFault.{NameFault}
 use Rattle.krb_wire.specs.NameOf.{name_fault_phrase}
 use Rattle.krb_driver.specs.declared.command_line.mistake.Mistake.{Mistake}
 use Rattle.krb_driver.specs.declared.command_line.mistake.Mistake.TheVariants as mistake
@@ -18,35 +19,61 @@ mistake_head = codes "krbfile: bad command line\nkrbfile: "
 abbrev pub quoted : List ℕ → List ℕ → List ℕ → List ℕ
 quoted word verb rest = codes "\"" ++ (shown_word word ++ (verb ++ rest))
 
--- what is wrong with a command line, and what stands behind it on its line
-abbrev pub mistake_line : Mistake → List ℕ → List ℕ
-mistake_line mistake.NoCommand rest = codes "no command" ++ rest
-mistake_line (mistake.UnknownCommand word) rest = codes "unknown command " ++ (shown_word word.now ++ rest)
-mistake_line (mistake.UnknownOption word) rest = codes "unknown option " ++ (shown_word word.now ++ rest)
-mistake_line (mistake.UnknownLetter letter) rest = codes "unknown option -" ++ (shown_word letter.now ++ rest)
-mistake_line (mistake.Missing operand) rest = codes "no " ++ (shown_word operand.now ++ rest)
-mistake_line (mistake.LeftOver word) rest = codes "left over: " ++ (shown_word word.now ++ rest)
-mistake_line (mistake.NeedsValue option) rest = shown_word option.now ++ (codes " needs a value" ++ rest)
-mistake_line (mistake.Twice option) rest = shown_word option.now ++ (codes " is given twice" ++ rest)
-mistake_line (mistake.DoNotGoTogether option other) rest = shown_word option.now ++ (codes " does not go with " ++ (shown_word other.now ++ rest))
-mistake_line (mistake.ForKeytabs option) rest = shown_word option.now ++ (codes " is for keytabs; give -k" ++ rest)
-mistake_line (mistake.NoVersion word) rest = quoted word.now (codes "\" is no ") (codes "version" ++ rest)
-mistake_line (mistake.NoEtype word) rest = quoted word.now (codes "\" is no ") (codes "encryption type" ++ rest)
-mistake_line (mistake.BadName word fault) rest = quoted word.now (codes "\" has ") (name_fault_phrase fault ++ rest)
-mistake_line (mistake.NothingSelects options) rest = codes "nothing selects; give " ++ (shown_word options.now ++ rest)
-mistake_line mistake.LateExplain rest = codes "--explain stands before the command" ++ rest
-mistake_line mistake.NotText rest = codes "an argument is not UTF-8" ++ rest
+-- what is wrong with a command line, with its words as texts
+pub data MistakeParts : Type 0 where
+  NoCommand : MistakeParts
+  UnknownCommand : List ℕ → MistakeParts
+  UnknownOption : List ℕ → MistakeParts
+  UnknownLetter : List ℕ → MistakeParts
+  Missing : List ℕ → MistakeParts
+  LeftOver : List ℕ → MistakeParts
+  NeedsValue : List ℕ → MistakeParts
+  Twice : List ℕ → MistakeParts
+  DoNotGoTogether : List ℕ → List ℕ → MistakeParts
+  ForKeytabs : List ℕ → MistakeParts
+  NoVersion : List ℕ → MistakeParts
+  NoEtype : List ℕ → MistakeParts
+  BadName : List ℕ → NameFault → MistakeParts
+  NothingSelects : List ℕ → MistakeParts
+  LateExplain : MistakeParts
+  NotText : MistakeParts
 
--- what is wrong with a command line
-abbrev pub mistake_phrase : Mistake → List ℕ
-mistake_phrase what = mistake_line what []
+abbrev pub mistake_parts : Mistake → MistakeParts
+mistake_parts mistake.NoCommand = NoCommand
+mistake_parts (mistake.UnknownCommand word) = UnknownCommand word.now
+mistake_parts (mistake.UnknownOption word) = UnknownOption word.now
+mistake_parts (mistake.UnknownLetter letter) = UnknownLetter letter.now
+mistake_parts (mistake.Missing operand) = Missing operand.now
+mistake_parts (mistake.LeftOver word) = LeftOver word.now
+mistake_parts (mistake.NeedsValue option) = NeedsValue option.now
+mistake_parts (mistake.Twice option) = Twice option.now
+mistake_parts (mistake.DoNotGoTogether option other) = DoNotGoTogether option.now other.now
+mistake_parts (mistake.ForKeytabs option) = ForKeytabs option.now
+mistake_parts (mistake.NoVersion word) = NoVersion word.now
+mistake_parts (mistake.NoEtype word) = NoEtype word.now
+mistake_parts (mistake.BadName word fault) = BadName word.now fault
+mistake_parts (mistake.NothingSelects options) = NothingSelects options.now
+mistake_parts mistake.LateExplain = LateExplain
+mistake_parts mistake.NotText = NotText
 
--- a word that spells no version, or no encryption type
-abbrev pub no_version : List ℕ → List ℕ
-no_version word = quoted word (codes "\" is no ") (codes "version")
-
-abbrev pub no_etype : List ℕ → List ℕ
-no_etype word = quoted word (codes "\" is no ") (codes "encryption type")
+-- the phrase, and what stands behind it on its line
+abbrev pub mistake_line : MistakeParts → List ℕ → List ℕ
+mistake_line NoCommand rest = codes "no command" ++ rest
+mistake_line (UnknownCommand word) rest = codes "unknown command " ++ (shown_word word ++ rest)
+mistake_line (UnknownOption word) rest = codes "unknown option " ++ (shown_word word ++ rest)
+mistake_line (UnknownLetter letter) rest = codes "unknown option -" ++ (shown_word letter ++ rest)
+mistake_line (Missing operand) rest = codes "no " ++ (shown_word operand ++ rest)
+mistake_line (LeftOver word) rest = codes "left over: " ++ (shown_word word ++ rest)
+mistake_line (NeedsValue option) rest = shown_word option ++ (codes " needs a value" ++ rest)
+mistake_line (Twice option) rest = shown_word option ++ (codes " is given twice" ++ rest)
+mistake_line (DoNotGoTogether option other) rest = shown_word option ++ (codes " does not go with " ++ (shown_word other ++ rest))
+mistake_line (ForKeytabs option) rest = shown_word option ++ (codes " is for keytabs; give -k" ++ rest)
+mistake_line (NoVersion word) rest = quoted word (codes "\" is no ") (codes "version" ++ rest)
+mistake_line (NoEtype word) rest = quoted word (codes "\" is no ") (codes "encryption type" ++ rest)
+mistake_line (BadName word fault) rest = quoted word (codes "\" has ") (name_fault_phrase fault ++ rest)
+mistake_line (NothingSelects options) rest = codes "nothing selects; give " ++ (shown_word options ++ rest)
+mistake_line LateExplain rest = codes "--explain stands before the command" ++ rest
+mistake_line NotText rest = codes "an argument is not UTF-8" ++ rest
 
 -- where more is said
 abbrev pub help_of : Option (List ℕ) → List ℕ
@@ -57,7 +84,7 @@ help_of (Some command) = codes "; see krbfile " ++ (command ++ codes " --help\n"
 
 -- the mistake, and where more is said
 abbrev pub mistake_words : Mistake → Option (List ℕ) → List ℕ
-mistake_words what command = codes "krbfile: " ++ mistake_line what (help_of command)
+mistake_words what command = codes "krbfile: " ++ mistake_line (mistake_parts what) (help_of command)
 
 -- what is said of words that were not read, with words or without
 abbrev pub word_text : Bool → WordFault → List ℕ
@@ -80,16 +107,16 @@ in_command command (word.BadLine line) = word.BadLine (record line { command = S
 in_command command word.NoMemory = word.NoMemory
 
 -- a mistake is the one that words have; memory runs out only where they have none
-abbrev pub IsOf : Option (List ℕ) → WordFault → Type 0
-IsOf found (word.BadLine line) = found ≡ Some (mistake_phrase line.mistake)
+abbrev pub IsOf : Option MistakeParts → WordFault → Type 0
+IsOf found (word.BadLine line) = found ≡ Some (mistake_parts line.mistake)
 IsOf found word.NoMemory = found ≡ None
 
 -- words that have no mistake say that, and of others the mistake is said
-abbrev pub Reads : {X : Type 0} → Option (List ℕ) → (X → Type 0) → Result X WordFault → Type 0
+abbrev pub Reads : {X : Type 0} → Option MistakeParts → (X → Type 0) → Result X WordFault → Type 0
 Reads found Says (Ok x) = (found ≡ None) × Says x
 Reads found Says (Err fault) = IsOf found fault
 
 -- the same of words of that command
-abbrev pub IsRefusal : List ℕ → Option (List ℕ) → WordFault → Type 0
-IsRefusal command found (word.BadLine line) = (found ≡ Some (mistake_phrase line.mistake)) × (option_map (λ name. name.now) line.command ≡ Some command)
+abbrev pub IsRefusal : List ℕ → Option MistakeParts → WordFault → Type 0
+IsRefusal command found (word.BadLine line) = (found ≡ Some (mistake_parts line.mistake)) × (option_map (λ name. name.now) line.command ≡ Some command)
 IsRefusal command found word.NoMemory = found ≡ None

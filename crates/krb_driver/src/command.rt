@@ -1,6 +1,7 @@
 //! What a command is, and the driver that runs one.
 
 ghost use Rattle.std.specs.Prelude.{◌≡◌, ℕ, List, IsFalse};
+ghost use Rattle.krb_files.specs.Plan.{HeldIf};
 ghost use Rattle.krb_driver.specs.Commands.{Does, HoldsIf, RunsCommand, ShowsEnd, output_page, made_effect, ready_end};
 ghost use Rattle.krb_driver.specs.Effects.{Page, about};
 
@@ -120,15 +121,10 @@ pub trait Command<A: Allocator + Copy> {
 }
 
 /// Holds the file of that name, if that is asked for.
+#[tactic(auto, using(crate::proofs::Making::makes-holds))]
 pub fn hold_if<F: Files>(held: bool, files: &mut F, file: &str)
-    ensures { HoldsIf F.Files files.old held file.now files.new }
-{
-    hold_file(held, files, file);
-}
-
-// Holds it, where nothing is said of a plan.
-pub(crate) fn hold_file<F: Files>(held: bool, files: &mut F, file: &str)
-    ensures { files.new ≡ files.old }
+    ensures held { HeldIf F.Files held files.old files.new }
+    ensures plans { HoldsIf F.Files files.old held file.now files.new }
 {
     if held {
         files.hold(file);

@@ -10,7 +10,7 @@ mod telling;
 mod trouble;
 mod verdict;
 
-pub use command::{Command, FileTrouble, Made, Output, Show, hold_file, hold_if, run};
+pub use command::{Command, FileTrouble, Made, Output, Show, hold_if, run};
 pub use command_line::matches::{
     Matches, asked_name, first_value, spelled_name, times_given, v1_order,
 };

@@ -20,6 +20,7 @@ use Rattle.krb_driver.specs.Commands.{RunsCommand, any}
 use Rattle.krb_driver.specs.Effects.{CommandPlan, Effect, Displays, opens, saves_unless, text}
 use Rattle.krb_driver.specs.ErrorOutput.{ErrorWatch}
 use Rattle.krb_driver.specs.Matches.{IsSpelledName, Matched, bad_name}
+use Rattle.krb_driver.specs.Mistakes.{MistakeParts, NothingSelects, Twice}
 use Rattle.krb_driver.specs.Opening.{writable_in}
 use Rattle.krb_editors.specs.Scripted.{EndsBefore}
 
@@ -63,14 +64,14 @@ module _ {F A : Type 0} (trait : Ghosts F) (file : List ℕ) (o : TicketOptions 
 -- ---- what the words ask for
 
 -- what is wrong before any word is read: an option is given twice, or nothing selects
-abbrev pub odd_tickets : Matched → Option (List ℕ)
+abbrev pub odd_tickets : Matched → Option MistakeParts
 odd_tickets words =
-    if nat_lt 1 (length (words.values (codes "service"))) then Some (codes "-p is given twice")
-    else (if (length (words.values (codes "service")) == 0) && not (words.flag (codes "expired")) then Some (codes "nothing selects; give -p or --expired")
+    if nat_lt 1 (length (words.values (codes "service"))) then Some (Twice (codes "-p"))
+    else (if (length (words.values (codes "service")) == 0) && not (words.flag (codes "expired")) then Some (NothingSelects (codes "-p or --expired"))
     else None)
 
 -- the first mistake of the words
-abbrev pub ticket_mistake : Matched → Option (List ℕ)
+abbrev pub ticket_mistake : Matched → Option MistakeParts
 ticket_mistake words = option_or (odd_tickets words) (option_and_then bad_name (slice_get (words.values (codes "service")) 0))
 
 -- each option is what its own word spells

@@ -20,7 +20,7 @@ use Rattle.krb_driver.specs.declared.verdict.Verdict.{Verdict}
 use Rattle.krb_driver.specs.declared.verdict.Verdict.TheVariants.{Well, NothingToRemove}
 use Rattle.krb_driver.specs.Effects.{CommandPlan, Effect, Displays, opens, saves_unless, text}
 use Rattle.krb_driver.specs.Matches.{IsSpelledName, Matched, bad_name, v1_order}
-use Rattle.krb_driver.specs.Mistakes.{no_etype, no_version}
+use Rattle.krb_driver.specs.Mistakes.{MistakeParts, NoEtype, NoVersion, NothingSelects, Twice}
 use Rattle.krb_driver.specs.Opening.{whole_in}
 
 -- old entries are asked for
@@ -53,11 +53,11 @@ ktremove_plan o file = Holds (not o.dry_run) file (opens file (whole_in o.v1_ord
 -- ---- what the words ask for
 
 -- what is wrong before any word is read: an option is given twice, or nothing selects
-abbrev pub odd_selection : Matched → Option (List ℕ)
+abbrev pub odd_selection : Matched → Option MistakeParts
 odd_selection words =
-    if nat_lt 1 (length (words.values (codes "name"))) then Some (codes "-p is given twice")
-    else (if nat_lt 1 (length (words.values (codes "kvno"))) then Some (codes "-k is given twice")
-    else (if (length (words.values (codes "name")) == 0) && ((length (words.values (codes "kvno")) == 0) && (length (words.values (codes "etype")) == 0)) then Some (codes "nothing selects; give -p, -k or -e")
+    if nat_lt 1 (length (words.values (codes "name"))) then Some (Twice (codes "-p"))
+    else (if nat_lt 1 (length (words.values (codes "kvno"))) then Some (Twice (codes "-k"))
+    else (if (length (words.values (codes "name")) == 0) && ((length (words.values (codes "kvno")) == 0) && (length (words.values (codes "etype")) == 0)) then Some (NothingSelects (codes "-p, -k or -e"))
     else None))
 
 -- the versions that a word asks for: `old`, or a number
@@ -65,16 +65,16 @@ abbrev pub kvno_in : List ℕ → Option AskedKvno
 kvno_in word = if bytes_eq word (codes "old") then Some Old else option_map Exactly (number_in 32 word)
 
 -- a word that is no version
-abbrev pub bad_kvno : Option (List ℕ) → Option (List ℕ)
+abbrev pub bad_kvno : Option (List ℕ) → Option MistakeParts
 bad_kvno None = None
-bad_kvno (Some word) = if is_none (kvno_in word) then Some (no_version word) else None
+bad_kvno (Some word) = if is_none (kvno_in word) then Some (NoVersion word) else None
 
 -- the first word that is no encryption type
-abbrev pub bad_etype : List (List ℕ) → Option (List ℕ)
-bad_etype words = option_map no_etype (find (λ word. is_none (etype_in word)) words)
+abbrev pub bad_etype : List (List ℕ) → Option MistakeParts
+bad_etype words = option_map NoEtype (find (λ word. is_none (etype_in word)) words)
 
 -- the first mistake of the words
-abbrev pub remove_mistake : Matched → Option (List ℕ)
+abbrev pub remove_mistake : Matched → Option MistakeParts
 remove_mistake words =
     option_or (odd_selection words)
     (option_or (bad_kvno (slice_get (words.values (codes "kvno")) 0))

@@ -16,7 +16,7 @@ ghost use Rattle.krb_editors.specs.Sessions.{left, new_session};
 
 use crate::edited::{may_change, replied};
 use crate::scripted::read_script;
-use krb_driver::{Command, CommandName, CommandWords, FileKind, FileTrouble, Made, Output, Streams, Word, give_cache, hold_file, run, tell};
+use krb_driver::{Command, CommandName, CommandWords, FileKind, FileTrouble, Made, Output, Streams, Word, give_cache, hold_if, run, tell};
 use krb_cache_text::{Asked, CacheLine, CcFormat};
 use krb_ccache::{Ccache, Cred, Setting};
 use krb_files::Files;
@@ -183,7 +183,7 @@ impl<'f, A: Allocator + Copy> Command<A> for EditCache<'f, A> {
         alloc: A,
         files: &mut F,
     ) -> Result<Made<A, Self::Shown>, FileTrouble<'_>> {
-        hold_file(self.lines.iter().any(line_may_change), files, self.file);
+        hold_if(self.lines.iter().any(line_may_change), files, self.file);
         let cache = give_cache(alloc, files, self.file)?;
         Ok(edit(alloc, cache, &self.lines)?)
     }

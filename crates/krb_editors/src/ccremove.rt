@@ -6,7 +6,7 @@ ghost use Rattle.krb_audit.specs.Tickets.{asked_tickets};
 ghost use Rattle.krb_editors.specs.Ccremove.{RunsCcremove, SpellsTickets, cache_after, ended_by, none_verdict, odd_tickets, removes, ticket_mistake};
 ghost use Rattle.krb_driver.specs.Commands.{text_effect};
 ghost use Rattle.krb_driver.specs.Effects.{IsMade};
-ghost use Rattle.krb_driver.specs.Mistakes.{Reads, mistake_phrase};
+ghost use Rattle.krb_driver.specs.Mistakes.{Reads, mistake_parts};
 
 use krb_driver::{Command, CommandName, CommandWords, DRY_RUN, FileKind, FileTrouble, Made, Matches, Mistake, Output, Streams, Trouble, Verdict, Word, WordFault, asked_name, first_value, hold_if, open_writable, run, tell, times_given};
 use krb_audit::select_tickets;
@@ -50,7 +50,7 @@ pub struct TicketOptions<A: Allocator> {
 
 // What is wrong before any word is read: nothing selects, or an option is given twice.
 fn odd_tickets<'a, M: Matches<'a>>(matches: &M) -> Option<Mistake<'a>>
-    ensures { option_map mistake_phrase result ≡ odd_tickets (M.matched matches.now) }
+    ensures { option_map mistake_parts result ≡ odd_tickets (M.matched matches.now) }
 {
     let services = times_given(matches, "service");
     if services > 1 {

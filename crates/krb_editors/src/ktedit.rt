@@ -8,7 +8,7 @@ ghost use Rattle.krb_editors.specs.Scripted.{RunsScript};
 
 use crate::edited::{may_change, replied};
 use crate::scripted::read_script;
-use krb_driver::{Command, CommandName, CommandWords, FileKind, FileTrouble, Made, Output, Streams, V1_BIG, Word, give_or_empty, hold_file, run, tell};
+use krb_driver::{Command, CommandName, CommandWords, FileKind, FileTrouble, Made, Output, Streams, V1_BIG, Word, give_or_empty, hold_if, run, tell};
 use krb_files::Files;
 use krb_keytab::{Indexed, Keytab, NewEntry};
 use krb_walk::{Event, Session};
@@ -87,7 +87,7 @@ impl<'f, A: Allocator + Copy> Command<A> for EditKeytab<'f, A> {
         alloc: A,
         files: &mut F,
     ) -> Result<Made<A, Self::Shown>, FileTrouble<'_>> {
-        hold_file(self.events.iter().any(may_change), files, self.file);
+        hold_if(self.events.iter().any(may_change), files, self.file);
         let keytab = give_or_empty(alloc, self.v1_order, files, self.file)?;
         Ok(edit(alloc, keytab, &self.events)?)
     }

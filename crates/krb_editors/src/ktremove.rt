@@ -7,7 +7,7 @@ ghost use Rattle.krb_audit.specs.Selection.{asked};
 ghost use Rattle.krb_driver.specs.Commands.{RunsCommand, always, any, text_effect};
 ghost use Rattle.krb_driver.specs.Effects.{IsMade};
 ghost use Rattle.krb_editors.specs.Ktremove.{IsSpelledKvno, SpellsRemoval, bad_etype, bad_kvno, ktremove_plan, kvno_in, none_verdict, odd_selection, remove_mistake, removes};
-ghost use Rattle.krb_driver.specs.Mistakes.{Reads, mistake_phrase};
+ghost use Rattle.krb_driver.specs.Mistakes.{Reads, mistake_parts};
 
 use krb_driver::{Command, CommandName, CommandWords, DRY_RUN, FileKind, FileTrouble, Made, Matches, Mistake, Output, Streams, V1_BIG, Verdict, Word, WordFault, asked_name, first_value, hold_if, open_whole, run, times_given, v1_order};
 use krb_audit::{AskedKvno, Selection, select};
@@ -91,14 +91,14 @@ fn first_bad<'a>(words: &[&'a str]) -> Option<&'a str>
 
 // That a word is no encryption type, if one is not.
 fn bad_etype<'a, M: Matches<'a>>(matches: &M) -> Option<Mistake<'a>>
-    ensures { option_map mistake_phrase result ≡ bad_etype ((M.matched matches.now).values (codes "etype")) }
+    ensures { option_map mistake_parts result ≡ bad_etype ((M.matched matches.now).values (codes "etype")) }
 {
     Some(Mistake::NoEtype(first_bad(matches.values("etype"))?))
 }
 
 // What is wrong before any word is read: nothing selects, or an option is given twice.
 fn odd_selection<'a, M: Matches<'a>>(matches: &M) -> Option<Mistake<'a>>
-    ensures { option_map mistake_phrase result ≡ odd_selection (M.matched matches.now) }
+    ensures { option_map mistake_parts result ≡ odd_selection (M.matched matches.now) }
 {
     let names = times_given(matches, "name");
     let kvnos = times_given(matches, "kvno");
@@ -117,7 +117,7 @@ fn odd_selection<'a, M: Matches<'a>>(matches: &M) -> Option<Mistake<'a>>
 fn asked_kvno<'a>(word: Option<&'a str>) -> Result<AskedKvno, Mistake<'a>>
     ensures ok { IfOk result (IsSpelledKvno (option_map (λ word. word.now) word.entry)) }
     ensures readable { OnOk result (bad_kvno (option_map (λ word. word.now) word.entry) ≡ None) }
-    ensures mistake { IfErr result (λ mistake. bad_kvno (option_map (λ word. word.now) word.entry) ≡ Some (mistake_phrase mistake)) }
+    ensures mistake { IfErr result (λ mistake. bad_kvno (option_map (λ word. word.now) word.entry) ≡ Some (mistake_parts mistake)) }
 {
     let Some(word) = word else {
         return Ok(AskedKvno::Any);

@@ -7,8 +7,8 @@ use Rattle.std.proofs.lemmas.Slice.Eq.{bytes_eq-Decides}
 use Rattle.krb_files.specs.declared.files.LoadFault.TheVariants as load
 use Rattle.krb_files.specs.declared.files.Files.{Ghosts}
 use Rattle.krb_files.specs.Files.{FileMap, SameFiles, SetsFile, CountsFailure, loaded}
-use Rattle.krb_files.specs.Loading.{Answer, LoadsFile, most_bytes}
-use Rattle.krb_files.specs.Plan.{Plan, Ends, Holds, Loads, Faults, by, Loaded, follow, with_bytes}
+use Rattle.krb_files.specs.Loading.{Answer, LoadsFile, TurnsHold, most_bytes}
+use Rattle.krb_files.specs.Plan.{Plan, Ends, Holds, Loads, Faults, HeldIf, Leaves, by, Loaded, follow, with_bytes}
 
 -- ---- files, and counts of failures
 
@@ -51,25 +51,45 @@ module _ {F R : Type 0} (trait : Ghosts F) (faults : Faults R) where
   lasts-none : (old new : F) → new ≡ old → Lasts old new
   lasts-none old new is = subst (λ (x : F). Lasts old x) (sym is) (record { honest = λ h. h; same = λ h name. refl; count = omega arith })
 
-  pub loaded-lasts : (plan : Plan R) (old : F) (answers : List Answer) (new : F) → Loaded trait plan old answers new → Lasts old new
-  loaded-lasts (Ends r) old answers new l = lasts-none old new l.1
-  loaded-lasts (Holds held name plan) old answers new l = loaded-lasts plan old answers new l
-  loaded-lasts (Loads name then_) old [] new l = lasts-none old new l
-  loaded-lasts (Loads name then_) old (answer ∷ answers) new l =
-      let first = l.1.0 in
-      let rest = loaded-lasts (then_ answer) l.0 answers new l.1.1 in
+  pub lasts-trans : (old between new : F) → Lasts old between → Lasts between new → Lasts old new
+  lasts-trans old between new first rest =
       let le = first.count in
       let le' = rest.count in
       record {
         honest = λ h. rest.honest (first.honest h);
-        same = λ h. same-trans (trait.file old) (trait.file l.0) (trait.file new) (first.same h) (rest.same (first.honest h));
+        same = λ h. same-trans (trait.file old) (trait.file between) (trait.file new) (first.same h) (rest.same (first.honest h));
         count = omega (arith, le, le');
       }
+
+  -- so do a hold and its end
+  pub turn-lasts : (held : Bool) (old new : F) → TurnsHold trait held old new → Lasts old new
+  turn-lasts held old new turns =
+      let is = turns.count in
+      record { honest = turns.honest; same = λ h. turns.same; count = omega (arith, is) }
+
+  held-lasts : (held : Bool) (old new : F) → HeldIf trait held old new → Lasts old new
+  held-lasts true old new turns = turn-lasts true old new turns
+  held-lasts false old new is = lasts-none old new is
+
+  pub leaves-lasts : (plan : Plan R) (old new : F) → Leaves trait plan old new → Lasts old new
+  leaves-lasts (Ends r) old new is = lasts-none old new is
+  leaves-lasts (Holds true name plan) old new turns = turn-lasts false old new turns
+  leaves-lasts (Holds false name plan) old new is = lasts-none old new is
+  leaves-lasts (Loads name then_) old new is = lasts-none old new is
+
+  pub loaded-lasts : (plan : Plan R) (old : F) (answers : List Answer) (new : F) → Loaded trait plan old answers new → Lasts old new
+  loaded-lasts (Ends r) old answers new l = lasts-none old new l.1
+  loaded-lasts (Holds held name plan) old answers new (inl none) = lasts-none old new none.1
+  loaded-lasts (Holds held name plan) old answers new (inr l) = lasts-trans old l.0 new (held-lasts held old l.0 l.1.0) (loaded-lasts plan l.0 answers new l.1.1)
+  loaded-lasts (Loads name then_) old [] new l = lasts-none old new l
+  loaded-lasts (Loads name then_) old (answer ∷ answers) new l =
+      let first = l.1.0 in
+      lasts-trans old l.0 new (record { honest = first.honest; same = first.same; count = first.count }) (loaded-lasts (then_ answer) l.0 answers new l.1.1)
 
   -- where no load was done yet
   pub loaded-none : (plan : Plan R) (old : F) → Loaded trait plan old [] old
   loaded-none (Ends r) old = (refl, refl)
-  loaded-none (Holds held name plan) old = loaded-none plan old
+  loaded-none (Holds held name plan) old = inl (refl, refl)
   loaded-none (Loads name then_) old = refl
 
   -- ---- honest files
@@ -114,11 +134,21 @@ module _ {F R : Type 0} (trait : Ghosts F) (faults : Faults R) where
       (subst (λ (r : R). Comes due between new r) (sym (ap (λ (a : Answer). by faults (Loads name then_) (a ∷ answers)) is ∙ by-loaded name then_ answers (before name)))
       (next (subst (λ (a : Answer). Loaded trait (then_ a) between answers new) is l)))
 
+  -- without a load a plan comes to its end, or there was no memory
+  comes-none : (plan : Plan R) (before : FileMap) (old new : F) → Comes (follow before plan) old new (by faults plan [])
+  comes-none (Ends r) before old new = inl refl
+  comes-none (Holds held name plan) before old new = comes-none plan before old new
+  comes-none (Loads name then_) before old new = inr (inr (name, refl))
+
   -- the law: over honest files a plan comes to what is due, or a call failed, or memory ran out
   pub comes : (plan : Plan R) (before : FileMap) (old : F) (answers : List Answer) (new : F) → trait.is_honest old → SameFiles before (trait.file old) → Loaded trait plan old answers new
       → Comes (follow before plan) old new (by faults plan answers)
   comes (Ends r) before old answers new h same l = inl refl
-  comes (Holds held name plan) before old answers new h same l = comes plan before old answers new h same l
+  comes (Holds held name plan) before old answers new h same (inl none) = subst (λ (as : List Answer). Comes (follow before plan) old new (by faults plan as)) (sym none.0) (comes-none plan before old new)
+  comes (Holds held name plan) before old answers new h same (inr l) =
+      let first = held-lasts held old l.0 l.1.0 in
+      comes-later (follow before plan) (by faults plan answers) old l.0 new first.count (loaded-lasts plan l.0 answers new l.1.1).count
+      (comes plan before l.0 answers new (first.honest h) (same-trans before (trait.file old) (trait.file l.0) same (first.same h)) l.1.1)
   comes (Loads name then_) before old [] new h same l = inr (inr (name, refl))
   comes (Loads name then_) before old (answer ∷ answers) new h same l =
       let loads = l.1.0 in

@@ -21,12 +21,17 @@ with_file [] name bytes = (name, bytes) ∷ []
 with_file (file ∷ files) name bytes =
     if bytes_eq file.0 name then (file.0, bytes) ∷ files else file ∷ with_file files name bytes
 
--- files in memory, which call to come fails, counted from 1 with 0 for none, how many failed, and the mode of each file
+-- files in memory, which call to come fails, counted from 1 with 0 for none, how many failed, the mode of each file, and whether one is held
 pub record Memory : Type 0 where
   pub files : List (List ℕ × List ℕ)
   pub failing : ℕ
   pub failures : ℕ
   pub mode : Option ℕ
+  pub is_held : Bool
+
+-- nothing is held any more
+abbrev pub left : Memory → Memory
+left m = record m { is_held = false }
 
 -- the next call fails
 abbrev pub failing_next : Memory → Bool

@@ -1,10 +1,10 @@
 -- Plans over files: what is loaded, one after the other, and what comes of the answers.
-use Rattle.std.specs.Prelude.{◌≡◌, ℕ, Bool, List, [], ◌∷◌, Some, if◌then◌else◌, Err}
+use Rattle.std.specs.Prelude.{◌≡◌, ◌⊎◌, ℕ, Bool, true, false, List, [], ◌∷◌, Some, if◌then◌else◌, Err}
 use Rattle.std.specs.Str.{bytes_eq}
 use Rattle.krb_files.specs.declared.files.Files.{Ghosts}
 use Rattle.krb_files.specs.declared.files.LoadFault.TheVariants as load
 use Rattle.krb_files.specs.Files.{FileMap, loaded}
-use Rattle.krb_files.specs.Loading.{Answer, LoadsFile, most_bytes}
+use Rattle.krb_files.specs.Loading.{Answer, LoadsFile, TurnsHold, most_bytes}
 
 -- what is to be done: an end; a file that is held, if that is asked for; or a load, whose answer decides how to go on
 pub data Plan (R : Type 0) : Type 0 where
@@ -26,12 +26,22 @@ by faults (Loads name then_) (Err load.Failed ∷ answers) = faults.unread name
 by faults (Loads name then_) (Err load.NoMemory ∷ answers) = faults.spent name
 by faults (Loads name then_) (answer ∷ answers) = by faults (then_ answer) answers
 
--- the loads of a plan were done one after the other, or the first of them, and answered so
+-- a file was held, if that is asked for
+abbrev pub HeldIf : {F : Type 0} → Ghosts F → Bool → F → F → Type 0
+HeldIf trait true old new = TurnsHold trait true old new
+HeldIf trait false old new = new ≡ old
+
+-- the loads of a plan were done one after the other, each while the file is held that is to be held then, or the first of them, and answered so
 abbrev pub Loaded : {F R : Type 0} → Ghosts F → Plan R → F → List Answer → F → Type 0
 Loaded trait (Ends r) old answers new = (answers ≡ []) × (new ≡ old)
-Loaded trait (Holds held name plan) old answers new = Loaded trait plan old answers new
+Loaded {F = F} trait (Holds held name plan) old answers new = ((answers ≡ []) × (new ≡ old)) ⊎ ((between : F) × (HeldIf trait held old between × Loaded trait plan between answers new))
 Loaded trait (Loads name then_) old [] new = new ≡ old
 Loaded {F = F} trait (Loads name then_) old (answer ∷ answers) new = (between : F) × (LoadsFile trait old name answer between × Loaded trait (then_ answer) between answers new)
+
+-- what a plan held was left in the end
+abbrev pub Leaves : {F R : Type 0} → Ghosts F → Plan R → F → F → Type 0
+Leaves trait (Holds true name plan) old new = TurnsHold trait false old new
+Leaves trait plan old new = new ≡ old
 
 -- what a plan comes to over files whose bytes are known, where no call fails
 abbrev pub follow : {R : Type 0} → FileMap → Plan R → R

@@ -1,6 +1,6 @@
 //! Files by name.
 
-ghost use Rattle.std.specs.Prelude.{◌≡◌, ◌≤◌, ◌⊎◌, ℕ, ◌-◌, ◌^◌, List, Option, Result, Ok, Err, OnOk, OnErr, IfOk, IfErr, IsErrOf};
+ghost use Rattle.std.specs.Prelude.{◌≡◌, ◌≤◌, ◌⊎◌, ℕ, ◌-◌, ◌^◌, Bool, true, false, List, Option, Result, Ok, Err, OnOk, OnErr, IfOk, IfErr, IsErrOf};
 ghost use Rattle.krb_files.specs.Files.{FileMap, SameFiles, SetsFile, CountsFailure, answer_of, loaded};
 ghost use Rattle.krb_files.specs.Numbers.{load_number, save_number};
 ghost use Rattle.krb_files.specs.Phrases.{load_phrase, save_phrase};
@@ -110,16 +110,25 @@ pub trait Files {
     /// The permission bits of the file that was loaded last, where that is a plain file.
     ghost mode: { Self → Option ℕ };
 
+    /// Whether a file is held.
+    ghost is_held: { Self → Bool };
+
     /// Keeps other programs from changing the file of that name, until it is saved or released. Where that
     /// cannot be done, or another program changes the file all the same, the save fails.
-    fn hold(&mut self, _name: &str)
-        ensures { self.new ≡ self.old }
-    {}
+    fn hold(&mut self, name: &str)
+        ensures held { is_held self.new ≡ true }
+        ensures honest { is_honest self.old → is_honest self.new }
+        ensures same { SameFiles (file self.old) (file self.new) }
+        ensures count { failure_count self.new ≡ failure_count self.old }
+        ensures mode { mode self.new ≡ mode self.old };
 
     /// Leaves the file that is held, if there is one, to other programs.
     fn release(&mut self)
-        ensures { self.new ≡ self.old }
-    {}
+        ensures held { is_held self.new ≡ false }
+        ensures honest { is_honest self.old → is_honest self.new }
+        ensures same { SameFiles (file self.old) (file self.new) }
+        ensures count { failure_count self.new ≡ failure_count self.old }
+        ensures mode { mode self.new ≡ mode self.old };
 
     /// The bytes of a file, if they are at most `limit`.
     fn load<A: Allocator>(
@@ -128,6 +137,7 @@ pub trait Files {
         name: &str,
         limit: u32,
     ) -> Result<Vec<u8, A>, LoadFault>
+        ensures held { is_held self.new ≡ is_held self.old }
         ensures honest { is_honest self.old → is_honest self.new }
         ensures same { is_honest self.old → SameFiles (file self.old) (file self.new) }
         ensures answered { answers self.old name.now limit (answer_of result) self.new }
@@ -144,8 +154,9 @@ pub trait Files {
         ensures count { failure_count self.old ≤ failure_count self.new }
         ensures spent { failure_count self.old ≡ 2 ^ 64 - 1 → IsErrOf result LoadFault.Failed };
 
-    /// Puts the bytes under the name, in place of what stands there.
+    /// Puts the bytes under the name, in place of what stands there. Nothing is held any more.
     fn save(&mut self, name: &str, bytes: &[u8]) -> Result<(), SaveFault>
+        ensures held { is_held self.new ≡ false }
         ensures honest { is_honest self.old → is_honest self.new }
         ensures ok { is_honest self.old
             → OnOk result (SetsFile (file self.old) name.now bytes.now (file self.new)) }

@@ -1,9 +1,9 @@
 //! Files in memory.
 
-ghost use Rattle.std.specs.Prelude.{◌≡◌, ◌⊎◌, ◌↔◌, None, Ok, IfOk, IfErr, IsErrOf, IsTrue, OnOk, OnErr, option_map, position, string_bytes};
+ghost use Rattle.std.specs.Prelude.{◌≡◌, ◌⊎◌, ◌↔◌, true, false, None, Ok, IfOk, IfErr, IsErrOf, IsTrue, OnOk, OnErr, option_map, position, string_bytes};
 ghost use Rattle.std.specs.Str.{bytes_eq};
 ghost use Rattle.krb_files.specs.Files.{SetsFile, loaded};
-ghost use Rattle.krb_files.specs.MemFiles.{Memory, pairs_of, AnswersOf, SavesOf, FaultOf, file_in, with_file, failing_next, after_call};
+ghost use Rattle.krb_files.specs.MemFiles.{Memory, pairs_of, AnswersOf, SavesOf, FaultOf, file_in, with_file, failing_next, after_call, left};
 
 use crate::files::{Files, LoadFault, SaveFault};
 use std::alloc::{AllocError, Allocator};
@@ -17,6 +17,7 @@ pub struct MemFiles<A: Allocator> {
     failing: u64,
     failures: u64,
     mode: Option<u32>,
+    is_held: bool,
 }
 
 impl<A: Allocator> Model for MemFiles<A> {
@@ -27,6 +28,7 @@ impl<A: Allocator> Model for MemFiles<A> {
       failing = m.failing;
       failures = m.failures;
       mode = m.mode;
+      is_held = m.is_held;
     } };
 }
 
@@ -37,6 +39,7 @@ impl<A: Allocator> MemFiles<A> {
         ensures failing { result.failing ≡ 0 }
         ensures failures { result.failures ≡ 0 }
         ensures mode { result.mode ≡ None }
+        ensures held { result.is_held ≡ false }
     {
         MemFiles {
             alloc,
@@ -44,6 +47,7 @@ impl<A: Allocator> MemFiles<A> {
             failing: 0,
             failures: 0,
             mode: None,
+            is_held: false,
         }
     }
 
@@ -147,9 +151,23 @@ impl<A: Allocator + Copy> Files for MemFiles<A> {
         × (after ≡ after_call m) };
 
     ghost saves = { λ m name bytes answer after.
-        SavesOf (failing_next m) (after_call m) name bytes answer after };
+        SavesOf (failing_next m) (after_call (left m)) name bytes answer after };
 
     ghost mode = { λ m. m.mode };
+
+    ghost is_held = { λ m. m.is_held };
+
+    fn hold(&mut self, _name: &str)
+        ensures { self.new ≡ record self.old { is_held = true } }
+    {
+        self.is_held = true;
+    }
+
+    fn release(&mut self)
+        ensures { self.new ≡ left self.old }
+    {
+        self.is_held = false;
+    }
 
     fn load<B: Allocator>(
         &mut self,
@@ -171,13 +189,14 @@ impl<A: Allocator + Copy> Files for MemFiles<A> {
     }
 
     fn save(&mut self, name: &str, bytes: &[u8]) -> Result<(), SaveFault>
-        ensures state { SavesOf (failing_next self.old) (after_call self.old)
+        ensures state { SavesOf (failing_next self.old) (after_call (left self.old))
             name.now bytes.now result self.new }
         ensures failed { IsErrOf result SaveFault.Failed ↔ IsTrue (failing_next self.old) }
         ensures ok { OnOk result
             (SetsFile (file_in self.old.files) name.now bytes.now (file_in self.new.files)) }
         ensures err { OnErr result (self.new.files ≡ self.old.files) }
     {
+        self.is_held = false;
         if self.fails() {
             return Err(SaveFault::Failed);
         }

@@ -14,7 +14,7 @@ use Rattle.krb_files.specs.declared.files.Files.{Ghosts}
 use Rattle.krb_files.specs.Files.{SameFiles}
 use Rattle.krb_files.specs.Loading.{Answer, SavesFile}
 use Rattle.krb_files.specs.Plan.{Ends, Holds, Loads, by, follow}
-use Rattle.krb_files.proofs.PlanLaws.{comes, count-trans, loaded-lasts, same-trans, with_bytes-set}
+use Rattle.krb_files.proofs.PlanLaws.{comes, count-more, count-trans, leaves-lasts, loaded-lasts, same-trans, with_bytes-set}
 use Rattle.krb_text.specs.declared.line_fault.LineFault.{LineFault}
 use Rattle.krb_ktutil.specs.declared.ktutil.line_end.LineEnd.{LineEnd}
 use Rattle.krb_ktutil.specs.declared.ktutil.line_end.LineEnd.TheVariants as end
@@ -24,7 +24,7 @@ use Rattle.krb_driver.specs.Loading.{keytab_of, keytab_or_new}
 use Rattle.krb_ktutil.specs.KtutilCommand.{Awaited, Command, Skip, ListSlots, ReadFile, WriteFile, AwaitKey, DeleteSlot, ClearList, Quit, command_of}
 use Rattle.krb_ktutil.specs.KtutilPlan.{KtutilState, Outcome, LineEffect, ComesTo, Saves, LinePlan, kept, line_faults, no_keytab_end, save_end, with_entries, with_added, saved_as, stays, written_to, key_line, with_key, command_plan, plan_by, plan_of}
 use Rattle.krb_ktutil.specs.KtutilFiles.{Shows, RunsOut, Settles, Handles}
-use Rattle.krb_ktutil.specs.KtutilHonest.{ShowsDue, FailsBy, FailsCall, HandlesHonestly, Spares, TellsMemory}
+use Rattle.krb_ktutil.specs.KtutilHonest.{ShowsDue, FailsBy, FailsCall, HandlesHonestly, Spares, TellsMemory, line_files}
 
 -- ---- plans of lines
 
@@ -167,8 +167,8 @@ module _ {F : Type 0} (trait : Ghosts F) (old new : KtutilState) (out out' : Lis
 
 module _ {F : Type 0} (trait : Ghosts F) {old new : KtutilState} {out out' : List ℕ} {ending : LineEnd} where
   handles-careful : (now : ℕ) (line : List ℕ) {files files' : F} → Handles trait (plan_of old now line) files files' old new out out' ending → ShowsCareful trait old new out out' ending
-  handles-careful now line {files' = files'} handles =
-      settles-careful trait old new out out' ending handles.effect handles.between files' (elim handles.made [
+  handles-careful now line handles =
+      settles-careful trait old new out out' ending handles.effect handles.between handles.done (elim handles.made [
         | inl is ↦ subst (Careful old) (sym is) (by-careful old (plan_of old now line) handles.answers (plan-careful old now line old.awaited))
         | inr spent ↦ subst (Careful old) (sym spent.1) (kept-careful old end.NoMemory tt)
       ]) handles.settles
@@ -187,31 +187,50 @@ module _ {F : Type 0} (trait : Ghosts F) {old new : KtutilState} {out out' : Lis
   pub handles_lasts : {plan : LinePlan} {files files' : F} → Handles trait plan files files' old new out out' ending → Lasts trait files files'
   handles_lasts {plan = plan} {files = files} {files' = files'} handles =
       let first = loaded-lasts trait (line_faults old) plan files handles.answers handles.between handles.loads in
-      let second = settles-lasts trait old new out out' ending handles.effect handles.between files' handles.settles in
+      let second = settles-lasts trait old new out out' ending handles.effect handles.between handles.done handles.settles in
+      let third = leaves-lasts trait (line_faults old) plan handles.done files' handles.leaves in
       let le = first.count in
       let le' = second.1 in
-      (λ h. second.0 (first.honest h), omega (arith, le, le'))
+      let le'' = third.count in
+      (λ h. third.honest (second.0 (first.honest h)), omega (arith, le, le', le''))
+
+  -- what is left keeps what a line came to
+  comes-left : (effect : LineEffect) (files done files' : F) → trait.failure_count done ≤ trait.failure_count files' → SameFiles (trait.file done) (trait.file files')
+      → ShowsDue trait effect files done old new out out' ending ⊎ FailsCall trait files done old new out out' ending → ShowsDue trait effect files files' old new out out' ending ⊎ FailsCall trait files files' old new out out' ending
+  comes-left effect files done files' le same (inl due) = inl (record { shows = due.shows; files_are = same-trans (line_files (trait.file files) effect) (trait.file done) (trait.file files') due.files_are same })
+  comes-left effect files done files' le same (inr fails) = inr (record {
+    why = elim fails.why [
+      | inl call ↦ inl (count-more (trait.failure_count files) (trait.failure_count done) (trait.failure_count files') le call.0, call.1)
+      | inr spent ↦ inr spent
+    ];
+    state_is = fails.state_is;
+    same = fails.same;
+    same_files = same-trans (trait.file files) (trait.file done) (trait.file files') fails.same_files same;
+  })
 
   -- over honest files
   pub handles_honestly : {plan : LinePlan} {files files' : F} → Handles trait plan files files' old new out out' ending → trait.is_honest files → HandlesHonestly trait plan files files' old new out out' ending
   handles_honestly {plan = plan} {files = files} {files' = files'} handles h =
       let between = handles.between in
+      let done = handles.done in
       let first = loaded-lasts trait (line_faults old) plan files handles.answers between handles.loads in
-      let settle = λ (effect : LineEffect) (is : handles.effect ≡ effect). subst (λ (e : LineEffect). Settles trait old new out out' ending e between files') is handles.settles in
+      let settle = λ (effect : LineEffect) (is : handles.effect ≡ effect). subst (λ (e : LineEffect). Settles trait old new out out' ending e between done) is handles.settles in
+      let last = leaves-lasts trait (line_faults old) plan done files' handles.leaves in
+      let honest = (settles-lasts trait old new out out' ending handles.effect between done handles.settles).0 (first.honest h) in
       let fails = λ (fault : LineEnd) (why : FailsBy trait files between fault) (is : handles.effect ≡ stays old fault).
-      stays-fails trait old new out out' ending files between files' (first.same h) first.count (first.honest h) fault why (settle (stays old fault) is) in
+      stays-fails trait old new out out' ending files between done (first.same h) first.count (first.honest h) fault why (settle (stays old fault) is) in
       record {
         honest = (handles_lasts handles).0 h;
-        comes = elim handles.made [
+        comes = comes-left (follow (trait.file files) plan) files done files' last.count (last.same honest) (elim handles.made [
           | inl is ↦ elim (comes trait (line_faults old) plan (trait.file files) files handles.answers between h (λ name. refl) handles.loads) [
-            | inl due ↦ settles-comes trait old new out out' ending files between files' (first.same h) first.count (first.honest h) (follow (trait.file files) plan) (settle (follow (trait.file files) plan) (is ∙ due))
+            | inl due ↦ settles-comes trait old new out out' ending files between done (first.same h) first.count (first.honest h) (follow (trait.file files) plan) (settle (follow (trait.file files) plan) (is ∙ due))
             | inr other ↦ elim other [
               | inl failed ↦ inr (fails (end.Load load.Failed) (inl (failed.0, inl refl)) (is ∙ failed.1.1))
               | inr spent ↦ inr (fails end.NoMemory (inr refl) (is ∙ spent.1))
             ]
           ]
           | inr spent ↦ inr (fails end.NoMemory (inr refl) spent.1)
-        ];
+        ]);
       }
 
   -- what it spares

@@ -9,15 +9,15 @@ use Rattle.krb_keytab.specs.Store.{KeytabState, image_of}
 use Rattle.krb_files.specs.declared.files.LoadFault.TheVariants as load
 use Rattle.krb_files.specs.declared.files.SaveFault.{SaveFault}
 use Rattle.krb_files.specs.declared.files.Files.{Ghosts}
-use Rattle.krb_files.specs.Loading.{Answer, LoadsFile, SavesFile}
+use Rattle.krb_files.specs.Loading.{Answer, LoadsFile, SavesFile, TurnsHold}
 use Rattle.krb_files.specs.Plan.{Ends, Holds, Loads, by}
 use Rattle.krb_text.specs.declared.line_fault.LineFault.{LineFault}
 use Rattle.krb_ktutil.specs.declared.ktutil.line_end.LineEnd.{LineEnd}
 use Rattle.krb_ktutil.specs.declared.ktutil.line_end.LineEnd.TheVariants as end
 use Rattle.krb_driver.specs.declared.loading.NoKeytab.{NoKeytab}
 use Rattle.krb_driver.specs.Loading.{keytab_of, keytab_or_new, Gives, GivesOrRunsOut}
-use Rattle.krb_ktutil.specs.KtutilCommand.{Awaited, AwaitKey, ReadFile, WriteFile, after}
-use Rattle.krb_ktutil.specs.KtutilPlan.{KtutilState, Outcome, LineEffect, ComesTo, Saves, LinePlan, command_plan, kept, line_faults, save_end, saved_as, stays, with_added, with_entries, written_to}
+use Rattle.krb_ktutil.specs.KtutilCommand.{Awaited, AwaitKey, ReadFile, after}
+use Rattle.krb_ktutil.specs.KtutilPlan.{KtutilState, Outcome, LineEffect, ComesTo, Saves, LinePlan, command_plan, kept, line_faults, save_end, saved_as, stays, with_added, with_entries, writing_plan, written_to}
 use Rattle.krb_ktutil.specs.KtutilFiles.{Shows, EndsAt, Finishes, Settles, GoesOn, Handles}
 
 -- there was no memory for an entry that would have awaited its key
@@ -41,10 +41,10 @@ by-loads s name then_ failed spent (Err load.NoMemory) = sym spent
 module _ {F : Type 0} (trait : Ghosts F) where
   -- a plan without files
   pub handles_end : (plan : LinePlan) (files : F) (old new : KtutilState) (out out' : List ℕ) (ending : LineEnd) → EndsAt plan old new out out' ending → Handles trait plan files files old new out out' ending
-  handles_end (Ends (ComesTo takes due)) files old new out out' ending (inl shows) = record { answers = []; between = files; loads = (refl, refl); effect = ComesTo takes due; made = inl refl; settles = (refl, shows) }
+  handles_end (Ends (ComesTo takes due)) files old new out out' ending (inl shows) = record { answers = []; between = files; loads = (refl, refl); effect = ComesTo takes due; made = inl refl; done = files; settles = (refl, shows); leaves = refl }
   handles_end (Ends (ComesTo takes due)) files old new out out' ending (inr out_of) =
       let spent : Shows new out out' ending (kept old end.NoMemory) = record { state_is = out_of.1.state_is; appended = out_of.1.same ∙ sym (append-nil out); ending_is = out_of.1.ending_is } in
-      record { answers = []; between = files; loads = (refl, refl); effect = stays old end.NoMemory; made = inr (out_of.0, refl); settles = (refl, spent) }
+      record { answers = []; between = files; loads = (refl, refl); effect = stays old end.NoMemory; made = inr (out_of.0, refl); done = files; settles = (refl, spent); leaves = refl }
   handles_end (Ends (Saves name bytes)) files old new out out' ending e = absurd e
   handles_end (Holds held name plan) files old new out out' ending e = absurd e
   handles_end (Loads name then_) files old new out out' ending e = absurd e
@@ -53,7 +53,7 @@ module _ {F : Type 0} (trait : Ghosts F) where
   pub handles_stays : {s : KtutilState} {ending : LineEnd} {files : F} {out : List ℕ} → Handles trait (Ends (stays s ending)) files files s s out out ending
   handles_stays {s = s} {ending = ending} {files = files} {out = out} =
       let shows : Shows s out out ending (kept s ending) = record { state_is = refl; appended = sym (append-nil out); ending_is = refl } in
-      record { answers = []; between = files; loads = (refl, refl); effect = stays s ending; made = inl refl; settles = (refl, shows) }
+      record { answers = []; between = files; loads = (refl, refl); effect = stays s ending; made = inl refl; done = files; settles = (refl, shows); leaves = refl }
 
   settles_quiet : (effect : LineEffect) (files files' : F) (old new : KtutilState) (ending : LineEnd) → Settles trait old new [] [] ending effect files files' → (out : List ℕ) → Settles trait old new out out ending effect files files'
   settles_quiet (ComesTo takes due) files files' old new ending settles out = (settles.0, shows_quiet settles.1 out)
@@ -61,13 +61,15 @@ module _ {F : Type 0} (trait : Ghosts F) where
 
   -- a plan that prints nothing
   pub handles_quiet : {plan : LinePlan} {files files' : F} {old new : KtutilState} {ending : LineEnd} → Handles trait plan files files' old new [] [] ending → (out : List ℕ) → Handles trait plan files files' old new out out ending
-  handles_quiet {files' = files'} {old = old} {new = new} {ending = ending} handles out = record {
+  handles_quiet {old = old} {new = new} {ending = ending} handles out = record {
     answers = handles.answers;
     between = handles.between;
     loads = handles.loads;
     effect = handles.effect;
     made = handles.made;
-    settles = settles_quiet handles.effect handles.between files' old new ending handles.settles out;
+    done = handles.done;
+    settles = settles_quiet handles.effect handles.between handles.done old new ending handles.settles out;
+    leaves = handles.leaves;
   }
 
   -- a load, and what was done by its answer
@@ -75,9 +77,9 @@ module _ {F : Type 0} (trait : Ghosts F) where
       → (answer : Answer) (files between files' : F) (ending : LineEnd) → LoadsFile trait files name answer between → GoesOn trait s new ending (then_ answer) between files'
       → Handles trait (Loads name (λ a. Ends (then_ a))) files files' s new [] [] ending
   handles_loaded s new name then_ failed spent answer files between files' ending loads (inl settles) =
-      record { answers = answer ∷ []; between = between; loads = (between, (loads, (refl, refl))); effect = then_ answer; made = inl (sym (by-loads s name then_ failed spent answer)); settles = settles }
+      record { answers = answer ∷ []; between = between; loads = (between, (loads, (refl, refl))); effect = then_ answer; made = inl (sym (by-loads s name then_ failed spent answer)); done = files'; settles = settles; leaves = refl }
   handles_loaded s new name then_ failed spent answer files between files' ending loads (inr settles) =
-      record { answers = answer ∷ []; between = between; loads = (between, (loads, (refl, refl))); effect = stays s end.NoMemory; made = inr (refl, refl); settles = settles }
+      record { answers = answer ∷ []; between = between; loads = (between, (loads, (refl, refl))); effect = stays s end.NoMemory; made = inr (refl, refl); done = files'; settles = settles; leaves = refl }
 
   goes_finished : (effect : LineEffect) (files : F) (old new : KtutilState) (ending : LineEnd) → Finishes (Ends effect) old new ending → GoesOn trait old new ending effect files files
   goes_finished (ComesTo takes due) files old new ending (inl shows) = inl (refl, shows)
@@ -93,10 +95,24 @@ module _ {F : Type 0} (trait : Ghosts F) where
       handles_loaded s new name (λ answer. with_entries s (keytab_of s.order answer)) refl refl gives.answer files between between ending gives.loads
       (goes_finished (with_entries s (keytab_of s.order gives.answer)) between s new ending (subst (λ (r : Result KeytabState NoKeytab). Finishes (Ends (with_entries s r)) s new ending) (sym is) finishes))
 
+  -- the same of a file that was held, and was left then
+  pub handles_held : {s : KtutilState} {name : List ℕ} {then_ : Answer → LinePlan} {ending : LineEnd} (files held done files' : F) → TurnsHold trait true files held → Handles trait (Loads name then_) held done s s [] [] ending → TurnsHold trait false done files'
+      → Handles trait (Holds true name (Loads name then_)) files files' s s [] [] ending
+  handles_held {s = s} {ending = ending} files held done files' holds handles leaves = record {
+    answers = handles.answers;
+    between = handles.between;
+    loads = inr (held, (holds, handles.loads));
+    effect = handles.effect;
+    made = handles.made;
+    done = done;
+    settles = subst (Settles trait s s [] [] ending handles.effect handles.between) (sym handles.leaves) handles.settles;
+    leaves = leaves;
+  }
+
   -- a load whose keytab was written, or that gave none
   pub handles_written : (s : KtutilState) (name : List ℕ) (files between files' : F) (given : Result KeytabState NoKeytab) (ending : LineEnd)
       → (order : Order) → order ≡ s.order → GivesOrRunsOut trait files name (keytab_or_new order) given between → GoesOn trait s s ending (written_to s name given) between files'
-      → Handles trait (command_plan s (Ok (WriteFile name))) files files' s s [] [] ending
+      → Handles trait (writing_plan s name) files files' s s [] [] ending
   handles_written s name files between files' given ending order same_order gives goes =
       let Goes : Result KeytabState NoKeytab → Type 0 = λ r. GoesOn trait s s ending (written_to s name r) between files' in
       handles_loaded s s name (λ answer. written_to s name (keytab_or_new s.order answer)) refl refl gives.answer files between files' ending gives.loads (elim gives.gives [

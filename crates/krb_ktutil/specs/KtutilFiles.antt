@@ -7,7 +7,7 @@ use Rattle.krb_keytab.specs.Store.{KeytabState}
 use Rattle.krb_files.specs.declared.files.SaveFault.{SaveFault}
 use Rattle.krb_files.specs.declared.files.Files.{Ghosts}
 use Rattle.krb_files.specs.Loading.{Answer, SavesFile}
-use Rattle.krb_files.specs.Plan.{Ends, Loaded, by}
+use Rattle.krb_files.specs.Plan.{Ends, Leaves, Loaded, by}
 use Rattle.krb_ktutil.specs.declared.ktutil.line_end.LineEnd.{LineEnd}
 use Rattle.krb_ktutil.specs.declared.ktutil.line_end.LineEnd.TheVariants as end
 use Rattle.krb_ktutil.specs.KtutilPlan.{KtutilState, Outcome, LineEffect, ComesTo, Saves, LinePlan, kept, line_faults, save_end, stays, takes_memory}
@@ -49,11 +49,13 @@ module _ {F : Type 0} (trait : Ghosts F) where
   abbrev pub GoesOn : KtutilState → KtutilState → LineEnd → LineEffect → F → F → Type 0
   GoesOn old new ending effect files files' = Settles old new [] [] ending effect files files' ⊎ Settles old new [] [] ending (stays old end.NoMemory) files files'
 
-  -- a line was handled by its plan, or one that takes memory was out of it before it saved anything
+  -- a line was handled by its plan, or one that takes memory was out of it before it saved anything; what it held was left
   pub record Handles (plan : LinePlan) (files files' : F) (old new : KtutilState) (out out' : List ℕ) (ending : LineEnd) : Type 0 where
     pub answers : List Answer
     pub between : F
     pub loads : Loaded trait plan files answers between
     pub effect : LineEffect
     pub made : (effect ≡ by (line_faults old) plan answers) ⊎ (IsTrue (takes_memory plan) × (effect ≡ stays old end.NoMemory))
-    pub settles : Settles old new out out' ending effect between files'
+    pub done : F
+    pub settles : Settles old new out out' ending effect between done
+    pub leaves : Leaves trait plan done files'

@@ -10,7 +10,7 @@ use Rattle.krb_keytab.specs.Changes.{put_result}
 use Rattle.krb_files.specs.declared.files.LoadFault.TheVariants as load
 use Rattle.krb_files.specs.declared.files.SaveFault.{SaveFault}
 use Rattle.krb_files.specs.declared.files.SaveFault.TheVariants as save
-use Rattle.krb_files.specs.Plan.{Plan, Ends, Loads, Faults}
+use Rattle.krb_files.specs.Plan.{Plan, Ends, Holds, Loads, Faults}
 use Rattle.krb_text.specs.declared.line_fault.LineFault.{LineFault}
 use Rattle.krb_text.specs.declared.line_fault.LineFault.TheVariants.{BadKey}
 use Rattle.krb_ktutil.specs.declared.ktutil.line_end.LineEnd.{LineEnd}
@@ -120,13 +120,17 @@ with_key s x now (Err fault) = stays (record s { awaited = None }) (end.Fault fa
 
 -- ---- a line
 
+-- the list is added to what a file has
+abbrev pub writing_plan : KtutilState → List ℕ → LinePlan
+writing_plan s name = Loads name (λ answer. Ends (written_to s name (keytab_or_new s.order answer)))
+
 -- what is done for a command, or for a faulty line
 abbrev pub command_plan : KtutilState → Result Command LineFault → LinePlan
 command_plan s (Err fault) = Ends (stays s (end.Fault fault))
 command_plan s (Ok Skip) = Ends (becomes s)
 command_plan s (Ok (ListSlots columns)) = Ends (ComesTo true (record { state = s; text = slot_text columns s.entries; ending = end.Done }))
 command_plan s (Ok (ReadFile name)) = Loads name (λ answer. Ends (with_entries s (keytab_of s.order answer)))
-command_plan s (Ok (WriteFile name)) = Loads name (λ answer. Ends (written_to s name (keytab_or_new s.order answer)))
+command_plan s (Ok (WriteFile name)) = Holds true name (writing_plan s name)
 command_plan s (Ok (AwaitKey awaited)) = Ends (grows_to (record s { awaited = Some awaited }))
 command_plan s (Ok (DeleteSlot slot)) = Ends (becomes (record s { entries = remove s.entries (slot - 1) }))
 command_plan s (Ok ClearList) = Ends (becomes (record s { entries = [] }))

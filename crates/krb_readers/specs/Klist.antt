@@ -20,6 +20,7 @@ use Rattle.krb_readers.specs.declared.klist.Opened.TheVariants as opened
 use Rattle.krb_driver.specs.Effects.{CommandPlan, Displays, Page, opens}
 use Rattle.krb_driver.specs.Loading.{cache_of}
 use Rattle.krb_driver.specs.Matches.{Matched, v1_order}
+use Rattle.krb_driver.specs.Mistakes.{MistakeParts, DoNotGoTogether, ForKeytabs}
 use Rattle.krb_driver.specs.Opening.{listed_in}
 use Rattle.krb_driver.specs.Verdicts.{listing_verdict}
 
@@ -58,23 +59,23 @@ klist_plan o file = listing_plan o.kind o.json o.v1_order file
 -- ---- what the words ask for
 
 -- the first option that does not go with the word for a keytab
-abbrev pub odd_with_keytab : Matched → Option (List ℕ)
+abbrev pub odd_with_keytab : Matched → Option MistakeParts
 odd_with_keytab words =
-    if words.flag (codes "cache") then Some (codes "-c does not go with -k")
-    else (if words.flag (codes "flags") then Some (codes "-f does not go with -k")
-    else (if words.flag (codes "configs") then Some (codes "-C does not go with -k")
+    if words.flag (codes "cache") then Some (DoNotGoTogether (codes "-c") (codes "-k"))
+    else (if words.flag (codes "flags") then Some (DoNotGoTogether (codes "-f") (codes "-k"))
+    else (if words.flag (codes "configs") then Some (DoNotGoTogether (codes "-C") (codes "-k"))
     else None))
 
 -- the first option that asks for the word for a keytab
-abbrev pub odd_with_cache : Matched → Option (List ℕ)
+abbrev pub odd_with_cache : Matched → Option MistakeParts
 odd_with_cache words =
-    if words.flag (codes "times") then Some (codes "-t is for keytabs; give -k")
-    else (if words.flag (codes "keys") then Some (codes "-K is for keytabs; give -k")
-    else (if words.flag (codes "v1-big") then Some (codes "--v1-big is for keytabs; give -k")
+    if words.flag (codes "times") then Some (ForKeytabs (codes "-t"))
+    else (if words.flag (codes "keys") then Some (ForKeytabs (codes "-K"))
+    else (if words.flag (codes "v1-big") then Some (ForKeytabs (codes "--v1-big"))
     else None))
 
 -- what does not go together in the words, if something does not
-abbrev pub odd_option : Matched → Option (List ℕ)
+abbrev pub odd_option : Matched → Option MistakeParts
 odd_option words = if words.flag (codes "keytab") then odd_with_keytab words else odd_with_cache words
 
 -- the kind of file: a cache, unless the words name a keytab; each column has a word of its own

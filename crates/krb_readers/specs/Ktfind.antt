@@ -14,7 +14,7 @@ use Rattle.krb_driver.specs.declared.trouble.Trouble.TheVariants.{Refused}
 use Rattle.krb_driver.specs.declared.verdict.Verdict.TheVariants.{Well}
 use Rattle.krb_driver.specs.Effects.{CommandPlan, Effect, Fails, Displays, opens, text}
 use Rattle.krb_driver.specs.Matches.{Matched, bad_name, v1_order}
-use Rattle.krb_driver.specs.Mistakes.{no_etype, no_version}
+use Rattle.krb_driver.specs.Mistakes.{MistakeParts, NoEtype, NoVersion}
 use Rattle.krb_driver.specs.Opening.{keytab_in}
 
 -- the line of an entry that was found, or why none was
@@ -33,10 +33,10 @@ ktfind_plan o file = opens file (keytab_in o.v1_order) (λ k. Ends (finds o file
 -- ---- what the words ask for
 
 -- the first of the three words that spells no version, no encryption type or no name
-abbrev pub find_mistake : Matched → Option (List ℕ)
+abbrev pub find_mistake : Matched → Option MistakeParts
 find_mistake words =
-    if is_none (number_in 32 (words.operand (codes "KVNO"))) then Some (no_version (words.operand (codes "KVNO")))
-    else (if is_none (etype_in (words.operand (codes "ETYPE"))) then Some (no_etype (words.operand (codes "ETYPE")))
+    if is_none (number_in 32 (words.operand (codes "KVNO"))) then Some (NoVersion (words.operand (codes "KVNO")))
+    else (if is_none (etype_in (words.operand (codes "ETYPE"))) then Some (NoEtype (words.operand (codes "ETYPE")))
     else bad_name (words.operand (codes "NAME")))
 
 -- each option is what its own word spells

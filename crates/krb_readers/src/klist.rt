@@ -5,7 +5,7 @@ ghost use Rattle.krb_text.specs.Gathered.{Prints};
 ghost use Rattle.krb_driver.specs.Commands.{RunsCommand, always, any, made_effect};
 ghost use Rattle.krb_driver.specs.Effects.{Displays, IsMade};
 ghost use Rattle.krb_readers.specs.Klist.{cache_shown, keytab_shown, klist_plan, list_kind, list_options, listing_page, odd_option, odd_with_cache, odd_with_keytab, opened_page};
-ghost use Rattle.krb_driver.specs.Mistakes.{Reads, mistake_phrase};
+ghost use Rattle.krb_driver.specs.Mistakes.{Reads, mistake_parts};
 ghost use Rattle.krb_driver.specs.Verdicts.{listing_verdict};
 
 use krb_driver::{Command, CommandName, CommandWords, FileTrouble, Made, Matches, Mistake, Show, Streams, Trouble, V1_BIG, Verdict, Word, WordFault, open_cache, open_listed, run, v1_order};
@@ -62,7 +62,7 @@ pub struct KlistOptions {
 
 // An option that does not go with a keytab.
 fn odd_with_keytab<'a, M: Matches<'a>>(matches: &M) -> Option<Mistake<'a>>
-    ensures { option_map mistake_phrase result ≡ odd_with_keytab (M.matched matches.now) }
+    ensures { option_map mistake_parts result ≡ odd_with_keytab (M.matched matches.now) }
 {
     if matches.flag("cache") {
         Some(Mistake::DoNotGoTogether("-c", "-k"))
@@ -77,7 +77,7 @@ fn odd_with_keytab<'a, M: Matches<'a>>(matches: &M) -> Option<Mistake<'a>>
 
 // An option that goes with a keytab alone.
 fn odd_with_cache<'a, M: Matches<'a>>(matches: &M) -> Option<Mistake<'a>>
-    ensures { option_map mistake_phrase result ≡ odd_with_cache (M.matched matches.now) }
+    ensures { option_map mistake_parts result ≡ odd_with_cache (M.matched matches.now) }
 {
     if matches.flag("times") {
         Some(Mistake::ForKeytabs("-t"))
@@ -92,7 +92,7 @@ fn odd_with_cache<'a, M: Matches<'a>>(matches: &M) -> Option<Mistake<'a>>
 
 // The first option that does not go with the others: each kind of file has options of its own.
 fn odd_option<'a, M: Matches<'a>>(matches: &M) -> Option<Mistake<'a>>
-    ensures { option_map mistake_phrase result ≡ odd_option (M.matched matches.now) }
+    ensures { option_map mistake_parts result ≡ odd_option (M.matched matches.now) }
 {
     if matches.flag("keytab") {
         odd_with_keytab(matches)

@@ -2,7 +2,7 @@
 
 ghost use Rattle.std.specs.Prelude.{◌≡◌, ℕ, List, [], ◌++◌, codes, option_map};
 ghost use Rattle.krb_driver.specs.Messages.{message};
-ghost use Rattle.krb_driver.specs.Mistakes.{help_of, mistake_head, mistake_line, mistake_words, quoted, word_status, word_text};
+ghost use Rattle.krb_driver.specs.Mistakes.{help_of, mistake_head, mistake_line, mistake_parts, mistake_words, quoted, word_status, word_text};
 ghost use Rattle.krb_driver.specs.PieceTexts.{pieces_before, pieces_text, shown_word};
 ghost use Rattle.krb_driver.specs.Runs.{Says};
 
@@ -74,7 +74,7 @@ fn apart<'a>(option: &'a str, other: &'a str) -> Line<'a>
 // A bad command line, and what is wrong with it.
 fn mistake_pieces(mistake: Mistake<'_>) -> Line<'_>
     ensures { (rest : List ℕ) → pieces_before result rest
-        ≡ mistake_head ++ mistake_line mistake.entry rest }
+        ≡ mistake_head ++ mistake_line (mistake_parts mistake.entry) rest }
 {
     match mistake {
         Mistake::NoCommand => alone("no command"),

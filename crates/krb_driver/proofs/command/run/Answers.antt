@@ -1,4 +1,5 @@
-use Rattle.std.proofs.Common.{◌∙◌}
+use Rattle.std.proofs.Common.{◌∙◌, false}
+use Rattle.krb_files.specs.Loading.{TurnsHold}
 use Rattle.krb_driver.specs.Commands.{ready_end}
 use Rattle.krb_driver.proofs.Running.{runs-shown}
 use Rattle.krb_driver.proofs.command.run.Goals as goal
@@ -8,6 +9,13 @@ returns-clause-runs g c =
     let plan = g.C.Command.plan c.args.command.now in
     let page = g.C.Shown.Show.page in
     let end = ready_end page c.file-file.result.now c.settle-ready.result in
-    runs-shown g.F.Files plan (g.C.Command.fairly c.args.command.now) c.args.files.now c.release.new.self c.args.streams.now.out c.show_ready-ending.new.out c.args.streams.now.err c.tell.new.err c.tell.result end c.show_ready-ending.result
-    (rw (c.release.ensures, c.file-file.ensures) c.settle-ready.ensures) c.show_ready-ending.ensures
+    let left : TurnsHold g.F.Files false c.settle-ready.new.files c.release.new.self = record {
+      held_is = c.release.ensures.held;
+      honest = c.release.ensures.honest;
+      same = c.release.ensures.same;
+      count = c.release.ensures.count;
+      mode = c.release.ensures.mode;
+    } in
+    runs-shown g.F.Files plan (g.C.Command.fairly c.args.command.now) c.args.files.now c.settle-ready.new.files c.release.new.self c.args.streams.now.out c.show_ready-ending.new.out c.args.streams.now.err c.tell.new.err c.tell.result end c.show_ready-ending.result
+    (rw c.file-file.ensures c.settle-ready.ensures) left c.show_ready-ending.ensures
     (rw (c.as_bytes.ensures.value ∙ c.about-named.ensures page) at c.tell.ensures.tells)

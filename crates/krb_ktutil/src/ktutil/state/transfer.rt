@@ -2,7 +2,7 @@
 
 ghost use Rattle.std.specs.Prelude.{◌≡◌, [], Ok};
 ghost use Rattle.krb_ktutil.specs.KtutilCommand.{ReadFile, WriteFile};
-ghost use Rattle.krb_ktutil.specs.KtutilPlan.{KtutilState, with_entries, written_to, command_plan};
+ghost use Rattle.krb_ktutil.specs.KtutilPlan.{KtutilState, with_entries, writing_plan, written_to, command_plan};
 ghost use Rattle.krb_ktutil.specs.KtutilFiles.{Finishes, GoesOn, Handles};
 ghost use Rattle.krb_files.specs.Plan.{Ends};
 
@@ -66,7 +66,7 @@ impl<A: Allocator + Copy> Ktutil<A> {
 
     // Adds the list to a file that is held.
     fn write_held<F: Files>(&self, files: &mut F, name: &str) -> LineEnd
-        ensures { Handles F.Files (command_plan self.now (Ok (WriteFile name.now)))
+        ensures { Handles F.Files (writing_plan self.now name.now)
             files.old files.new self.now self.now [] [] result }
     {
         match load_or_new(self.alloc, self.v1_order, files, name) {

@@ -11,6 +11,7 @@ returns-in-Ok-add_all g c =
       answered = rw c.image.ensures.spelled at c.save.ensures.saved;
       failed = c.save.ensures.failed;
       count = c.save.ensures.count;
+      held = c.save.ensures.held;
       honest = c.save.ensures.honest;
       sets = rw c.image.ensures.spelled at c.save.ensures.ok;
       same = c.save.ensures.err;
