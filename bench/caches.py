@@ -4,7 +4,7 @@ import struct
 
 from keytabs import key_of
 
-OFFSET = struct.pack(">HHHii", 12, 1, 8, 0, 0)  # a header with a time offset alone
+OFFSET = struct.pack(">HHHii", 12, 1, 8, 0, 0)  # a header with a time offset only
 INTEGER, OCTETS, SEQUENCE, STRING, TICKET = 0x02, 0x04, 0x30, 0x1B, 0x61  # tags of ASN.1
 
 
@@ -18,26 +18,26 @@ def principal(realm, components):
 
 
 def der(tag, *parts):
-    """A value of ASN.1 that has up to 255 bytes."""
+    """Returns an ASN.1 value of up to 255 bytes."""
     content = b"".join(parts)
     length = bytes([len(content)]) if len(content) < 128 else bytes([0x81, len(content)])
     return bytes([tag]) + length + content
 
 
 def fields(*values):
-    """A sequence whose fields are numbered from 0."""
+    """Returns a sequence whose fields are numbered from 0."""
     return der(SEQUENCE, *(der(0xA0 + number, value) for number, value in enumerate(values)))
 
 
 def ticket(realm, components, cipher):
-    """A ticket as RFC 4120 has it: MIT's klist tells the enctypes of no other."""
+    """Returns a ticket as in RFC 4120: MIT's klist prints the enctypes of no other."""
     name = fields(der(INTEGER, b"\1"), der(SEQUENCE, *(der(STRING, one) for one in components)))
     part = fields(der(INTEGER, b"\x12"), der(INTEGER, b"\3"), der(OCTETS, cipher))
     return der(TICKET, fields(der(INTEGER, b"\5"), der(STRING, realm), name, part))
 
 
 def credential(realm, client, server, number):
-    """A ticket of that server with a key of enctype 18, renewable and forwardable."""
+    """Returns a ticket for that server with a key of enctype 18, renewable and forwardable."""
     names = principal(realm, client) + principal(realm, server)
     start = 1_700_000_000 + number
     times = struct.pack(">IIII", start, start, start + 36_000, start + 604_800)
@@ -49,7 +49,7 @@ def credential(realm, client, server, number):
 
 
 def tickets(count):
-    """Tickets of that many servers."""
+    """Returns tickets for that many servers."""
     realm, client = b"AD.TEST", [b"user"]
     made = [b"\x05\x04" + OFFSET + principal(realm, client)]
     for number in range(count):

@@ -16,7 +16,7 @@ import processes
 from processes import Used
 from tables import MEGA, Table, digits, error, less, ratio, shown
 
-LONGEST = 40  # seconds for one run of MIT's side; it does fewer operations where it would take more
+LONGEST = 40  # seconds for one run of MIT's side; it does fewer operations if it would take longer
 BUDGET = 8  # seconds for the runs of one side in one case, beyond the fewest
 ADDED = 86  # bytes that an added entry takes
 OPENED = (10_000, 65_536, 100_000)  # cells of the keytabs that are opened
@@ -24,24 +24,24 @@ WORDS = (("addition", "removal", "value"), ("store", "removal", "value"))  # of 
 
 
 class Work(NamedTuple):
-    """What a run does to a file."""
+    """A run's changes to a file."""
 
     additions: int = 0
-    removals: Optional[int] = None  # none where no pass over all records is to be made
+    removals: Optional[int] = None  # none if no pass over all records is made
     settings: int = 0
-    keys: int = 0  # under which the values are set, where each has none of its own
-    replaces: bool = False  # whether MIT's library too is asked to remove what is set under a key
+    keys: int = 0  # under which the values are set, if each has none of its own
+    replaces: bool = False  # whether MIT's library also removes what is set under a key
     is_of_cache: bool = False
 
     def words(self, side):
-        """Its words for that side."""
+        """Returns its words for that side."""
         changes = [str(self.additions), "-" if self.removals is None else str(self.removals)]
         values = [str(self.settings), str(self.keys or self.settings or 1)]
         replaces = ["replace"] * (side == "MIT" and self.replaces)
         return [*changes, *values, *replaces] if self.is_of_cache else changes
 
     def none(self):
-        """The run with no operations beside it, which goes through the same records first."""
+        """Returns the run without operations, which passes over the same records first."""
         return Work(removals=None if self.removals is None else 0, is_of_cache=self.is_of_cache)
 
     def count(self):
@@ -59,10 +59,10 @@ class Work(NamedTuple):
 
 
 class Cost(NamedTuple):
-    """What one side needs for each operation: microseconds and instructions."""
+    """The cost of each operation for one side: microseconds and instructions."""
 
     work: Work
-    net: Used  # a run less the run with no operations that stood beside it
+    net: Used  # a run less the run without operations next to it
     error: Used  # of that, the standard error
     whole: Used  # a whole run
     runs: int
@@ -80,7 +80,7 @@ class Bench:
                       "MIT": processes.built(setting.folder, f"mit_{name}", "-lkrb5")}
 
     def over_copy(self, how, side, *words, **more):
-        """What one run answers, over a copy that is on the disk and has the side's name."""
+        """Makes a run by `how` over a copy that is on the disk and has the side's name, and returns its result."""
         file = self.setting.folder / side
         shutil.copyfile(self.made, file)
         with open(file, "rb+") as copy:
@@ -88,18 +88,18 @@ class Bench:
         return how([self.sides[side], str(file), *words], self.setting.env, 100 * LONGEST, **more)
 
     def run(self, side, work):
-        """What one run used."""
+        """Returns what a run used."""
         status, used = self.over_copy(processes.run, side, *work.words(side))
         if status != 0:
             sys.exit(f"bench: {side}, {work}: status {status}")
         return used
 
     def noted(self, how, side, *words):
-        """What a run under valgrind tells."""
+        """Returns what valgrind reports of a run."""
         return self.over_copy(how, side, *words, note=self.setting.folder / "note")
 
     def shortened(self, work):
-        """As many of MIT's operations as LONGEST allows, from how long some few take."""
+        """Returns as many of MIT's operations as LONGEST allows, judged by the time of a few."""
         few = work.fewer(5)
         if few == work:
             return work
@@ -109,9 +109,9 @@ class Bench:
         return work.fewer(max(5, int(BUDGET / 3 / each)))
 
     def measure(self, side, work, fewest, most):
-        """The cost of each operation: beside each run stands one with no operations."""
+        """Returns the cost of each operation: next to each run is one without operations."""
         nets, wholes = [], []
-        self.run(side, work.none())  # for warmth alone
+        self.run(side, work.none())  # only to warm up
         end = time.perf_counter() + BUDGET
         while len(nets) < fewest or (len(nets) < most and time.perf_counter() < end):
             idle, whole = self.run(side, work.none()), self.run(side, work)
@@ -122,14 +122,14 @@ class Bench:
                     each_part(statistics.median, wholes, scale), len(nets))
 
     def counted(self, side, work, runs):
-        """The same of so many runs, with instructions."""
+        """Returns the same for that many runs, with instructions."""
         whole, idle = (self.noted(processes.instructions, side, *one.words(side)) for one in (work, work.none()))
         grown = less(whole, idle)
         return self.measure(side, work, runs, runs)._replace(
             instructions=grown and grown / work.count(), whole_instructions=whole)
 
     def compare(self, work, left):
-        """Ends where the sides leave different files."""
+        """Ends the benchmark if the sides leave different files."""
         for side in self.sides:
             self.run(side, work)
         if left(self.setting.folder / "krbfile") != left(self.setting.folder / "MIT"):
@@ -141,12 +141,12 @@ def each_part(what, used, scale):
 
 
 def named(ours, theirs):
-    """The name of a row; MIT's side may do fewer operations."""
+    """Returns the name of a row; MIT's side may do fewer operations."""
     return f"{ours}" if ours == theirs else f"{ours} (MIT {theirs.count():,})"
 
 
 def edit_cases(quick):
-    """Each keytab, as its entries and that from which on there is room, with what is done to it."""
+    """Yields each keytab, as its entries and the first with room after it, with its operations."""
     counts = (1, 100) if quick else (1, 100, 4_000)
     for entries in (1_000, 10_000) if quick else (1_000, 10_000, 100_000):
         yield entries, entries // 2, [*map(Work, counts), *(Work(0, min(count, entries)) for count in counts)]
@@ -154,7 +154,7 @@ def edit_cases(quick):
 
 
 def edit_costs(bench, quick):
-    """The costs of both sides."""
+    """Yields the costs of both sides."""
     for entries, roomy, works in edit_cases(quick):
         group = f"{entries:,} entries, room from entry {roomy:,} on"
         bench.made.write_bytes(keytabs.holed(entries, roomy))
@@ -166,7 +166,7 @@ def edit_costs(bench, quick):
 
 
 def quotient(ours, error, theirs, blur):
-    """Of two times: a bound where the first is within its error, nothing where the second is."""
+    """Returns the ratio of two times: a bound if the first is within its error, nothing if the second is."""
     if theirs <= 2 * blur:
         return "-"
     if ours > 2 * error:
@@ -175,7 +175,7 @@ def quotient(ours, error, theirs, blur):
 
 
 def edit_cells(ours, theirs):
-    """A row: each operation beside MIT's, and krbfile's whole run for each operation."""
+    """Returns a row: each operation beside MIT's, and krbfile's whole run for each operation."""
     row = [named(ours.work, theirs.work)]
     for part in Used._fields:
         row += [shown(getattr(side.net, part), getattr(side.error, part)) for side in (ours, theirs)]
@@ -184,7 +184,7 @@ def edit_cells(ours, theirs):
 
 
 def edits(setting):
-    """Additions to keytabs and removals from them."""
+    """Returns the table of additions to keytabs and removals from them."""
     costs = list(edit_costs(Bench(setting, "edits"), setting.quick))
     runs = [side.runs for _, *sides in costs for side in sides]
     return Table(["operations", "us", "MIT us", "cpu us", "MIT cpu us", "cpu / MIT's", "run us", "run cpu us"],
@@ -193,7 +193,7 @@ def edits(setting):
 
 
 def cell_cases(quick):
-    """One hole that fits, as many as there are additions, and none: to see an addition at the end of all
+    """Yields one hole that fits, as many as there are additions, and none: an addition at the end of all
     cells, one into a hole, and a removal."""
     some, many = (100, 200) if quick else (1_000, 10_000)
     small, large = (1_000, 10_000) if quick else (10_000, 100_000)
@@ -207,7 +207,7 @@ def cell_cases(quick):
 
 
 def cell_rows(bench, quick):
-    """An operation by each side, over keytabs whose first holes have no room."""
+    """Yields an operation by each side, over keytabs whose first holes have no room."""
     for group, cells, fitting, ours, theirs in cell_cases(quick):
         name = f"{cells:,} cells, {named(ours, theirs)}"
         print(f"{group}: {name}", file=sys.stderr)
@@ -220,13 +220,13 @@ def cell_rows(bench, quick):
 
 
 def cells(setting):
-    """How additions and removals grow with the keytab."""
+    """Returns the table of how additions and removals grow with the keytab."""
     return Table(["operations", "instr", "MIT instr", "cpu us", "MIT cpu us", "MIT's instr / ours"],
                  cell_rows(Bench(setting, "edits"), setting.quick))
 
 
 def opened_rows(bench, quick):
-    """A run that opens the keytab, beside one that only reads and writes its file."""
+    """Yields a run that opens the keytab, beside one that only reads and writes its file."""
     for count in OPENED[: 1 if quick else None]:
         image = keytabs.mixed(count, 0, ADDED)
         bench.made.write_bytes(image)
@@ -239,13 +239,13 @@ def opened_rows(bench, quick):
 
 
 def opened(setting):
-    """What the making of the table of cells takes."""
+    """Returns the table of what building the table of cells costs."""
     return Table(["cells", "instr", "instr / cell", "bytes", "bytes / cell"],
                  opened_rows(Bench(setting, "edits"), setting.quick))
 
 
 def credential_rows(bench, quick):
-    """Stores, removals and values by each side."""
+    """Yields stores, removals and values by each side."""
     many = 100 if quick else 1_000
     works = (Work(many), Work(removals=5), Work(settings=1), Work(settings=many), Work(settings=many, keys=1),
              Work(settings=5, replaces=True))
@@ -263,7 +263,7 @@ def credential_rows(bench, quick):
 
 
 def credentials(setting):
-    """Credentials stored in a cache and removed from it, and values set."""
+    """Returns the table of credentials stored in a cache and removed from it, and of values set."""
     return Table(["operations", "instr each", "MIT instr each", "instr / MIT's", "cpu us", "MIT cpu us",
                   "run instr M", "MIT run instr M"],
                  credential_rows(Bench(setting, "credentials"), setting.quick), ["- medians of 5 runs of each side"])

@@ -2,9 +2,9 @@
 
 import struct
 
-LIMIT = 16_777_216  # what krbfile reads at most
+LIMIT = 16_777_216  # the most that krbfile reads
 HEAD = b"\x05\x02"
-QUOTED = b"/@\\\n\t\b\0"  # the bytes that a printed name quotes
+QUOTED = b"/@\\\n\t\b\0"  # the bytes that are quoted in a printed name
 
 
 def data(value):
@@ -12,7 +12,7 @@ def data(value):
 
 
 def record(realm, components, version, enctype, key):
-    """A record with its length: the entry and its 32-bit version, nothing after it."""
+    """Returns a record with its length: the entry and its 32-bit version, nothing after it."""
     name = struct.pack(">H", len(components)) + data(realm)
     name += b"".join(map(data, components)) + struct.pack(">I", 1)
     rest = struct.pack(">IBH", 1_700_000_000, version % 256, enctype)
@@ -21,12 +21,12 @@ def record(realm, components, version, enctype, key):
 
 
 def key_of(number, length):
-    """Key bytes that differ from entry to entry."""
+    """Returns key bytes that differ from entry to entry."""
     return (number * 0x9E3779B97F4A7C15 % 2**64).to_bytes(8, "big") * (length // 8)
 
 
 def service(number):
-    """The entry of that number: each server has two, enctype 17 with 16 key bytes and 18 with 32."""
+    """Returns the entry of that number: each server has two, enctype 17 with 16 key bytes and 18 with 32."""
     server = number // 2
     host = b"server%05d.ad.test" % server
     enctype, length = ((17, 16), (18, 32))[number % 2]
@@ -35,12 +35,12 @@ def service(number):
 
 
 def services(entries):
-    """That many entries of services."""
+    """Returns that many entries of services."""
     return HEAD + b"".join(map(service, range(entries)))
 
 
 def of_two_versions(entries):
-    """That many entries: services, and then the same services with the next version."""
+    """Returns that many entries: services, and then the same services with the next version."""
     made = [HEAD]
     for number in range(entries):
         server, next_version = number % (entries // 2), number >= entries // 2
@@ -54,7 +54,7 @@ def hole(size):
 
 
 def mixed(cells, fitting, size):
-    """That many cells. Each fourth is a hole, of 1 to SIZE - 1 bytes, and the last FITTING are holes of SIZE."""
+    """Returns that many cells. Each fourth is a hole, of 1 to SIZE - 1 bytes, and the last FITTING holes have SIZE."""
     made = [HEAD]
     for number in range(cells - fitting):
         made.append(hole(number * 7 % (size - 1) + 1) if number % 4 == 3 else service(number))
@@ -62,12 +62,12 @@ def mixed(cells, fitting, size):
 
 
 def last_service(entries):
-    """Any version, the enctype and the name of the last entry of that many services, an even number."""
+    """Returns any version, the enctype and the name of the last entry of that many services, an even number."""
     return ["0", "18", f"host/server{entries // 2 - 1:05d}.ad.test@AD.TEST"]
 
 
 def components(count):
-    """Names of COUNT components of 3 bytes in all, 65,535 at most in each name."""
+    """Returns names of COUNT components of 3 bytes in all, at most 65,535 in each name."""
     made = [HEAD]
     while count > 0:
         here = min(count, 65_535)
@@ -77,25 +77,25 @@ def components(count):
 
 
 def holes(count):
-    """COUNT holes of one byte, with an entry before each tenth of them and one at the end."""
+    """Returns COUNT holes of one byte, with an entry before each tenth of them and one at the end."""
     entry = record(b"R", [b"host", b"a"], 1, 17, bytes(16))
     return HEAD + (entry + hole(1) * (count // 10)) * 10 + entry
 
 
 def quoted(entries):
-    """Entries whose name has 30,000 bytes, each of which is printed as two."""
+    """Returns entries whose name has 30,000 bytes, each of which is printed as two."""
     name = (QUOTED * (30_000 // len(QUOTED) + 1))[:30_000]
     return HEAD + record(b"R", [name], 1, 17, bytes(16)) * entries
 
 
 def empty(entries):
-    """Entries of 17 zero bytes: no components, no realm, no key."""
+    """Returns entries of 17 zero bytes: no components, no realm, no key."""
     return HEAD + (struct.pack(">i", 17) + bytes(17)) * entries
 
 
 def holed(entries, roomy):
-    """Services with a hole after each ten. From the entry ROOMY on one of ten holes has room for
-    what is added; the others are too small."""
+    """Returns services with a hole after each ten. From the entry ROOMY on one of ten holes has room for
+    an added entry; the others are too small."""
     made = [HEAD]
     for number in range(entries):
         made.append(service(number))
@@ -105,7 +105,7 @@ def holed(entries, roomy):
 
 
 def places(image):
-    """The place of each cell."""
+    """Yields the place of each cell."""
     at = len(HEAD)
     while at < len(image):
         yield at

@@ -1,4 +1,4 @@
-"""Look-ups and walks by libkrbfile beside those by MIT's libkrb5, in one process, library.c."""
+"""Look-ups and iteration by libkrbfile beside those by MIT's libkrb5, in one process, library.c."""
 
 import statistics
 import subprocess
@@ -12,19 +12,19 @@ RUNS = 9
 
 
 def names(entries):
-    """Names of services all over a keytab of that many entries."""
+    """Returns names of services from all over a keytab of that many entries."""
     return [f"host/server{number:05}.ad.test@AD.TEST" for number in range(0, entries // 2, max(entries // 20, 1))]
 
 
 def run(program, file, entries, env):
-    """Nanoseconds of each part: open, look-ups of both, walks of both."""
+    """Returns the nanoseconds of each part: open, look-ups of both, iteration of both."""
     words = [program, file, str(LOOKUPS), *names(entries)]
     told = subprocess.run(words, env=env, check=True, capture_output=True, text=True).stdout
     return [int(word) for line in told.splitlines() for word in line.split() if word.isdigit()]
 
 
 def rows(setting):
-    """A row for each size."""
+    """Yields a row for each size."""
     program = processes.built_over_library(setting.folder, "library", "-lkrb5")
     file = setting.folder / "k"
     for entries in (1_000,) if setting.quick else (1_000, 10_000, 100_000):
@@ -36,6 +36,6 @@ def rows(setting):
 
 
 def library(setting):
-    """The table."""
+    """Returns the table."""
     return Table(["entries", "open us", "100 look-ups us", "MIT us", "ours / MIT's", "walk us", "MIT us",
                   "ours / MIT's"], rows(setting))

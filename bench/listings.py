@@ -1,4 +1,4 @@
-"""Our listings beside those of MIT's and of the least program, and our other commands beside our own listing."""
+"""Our listings beside those of MIT's and of a minimal program, and our other commands beside our own listing."""
 
 import os
 import statistics
@@ -14,7 +14,7 @@ LONGEST = 120  # seconds that a run may take; callgrind has ten times as much
 
 
 class Group(NamedTuple):
-    """Files of several sizes, and the words before a file's name: ours, and the other side's where they are others."""
+    """Files of several sizes, and the words before a file's name: ours, and the other side's if they differ."""
 
     name: str
     unit: str
@@ -57,19 +57,19 @@ TABLES = {  # the other side of each table, and its groups
 
 
 def heading(words):
-    """The lines before the first entry or ticket, which our other commands and the least program do not print."""
+    """Returns the lines before the first entry or ticket, which the minimal program and our other commands omit."""
     if "--json" in words or "klist" not in (os.path.basename(words[0]), words[1]):
         return 0
     return 3 if "-k" in words else 4
 
 
 class Cost(NamedTuple):
-    """What one side needs for one file."""
+    """The cost of one side for one file."""
 
     used: list  # by each run
     memory: Optional[int]  # peak resident bytes
     instructions: Optional[int]
-    lines: int  # lines that it listed after the heading
+    lines: int  # lines listed after the heading
 
     def ms(self, part):
         return statistics.median(getattr(one, part) for one in self.used) * 1000
@@ -92,29 +92,29 @@ class Bench:
         }[other]()
 
     def sides(self, group, size):
-        """The words of both sides."""
+        """Returns the words of both sides."""
         others = [*self.programs, *(group.others or group.words)[1:], str(self.file)]
         return [self.setting.krbfile, *group.words, str(self.file), *group.after(size)], others
 
     def call(self, words):
-        """One run with its output in a file: what it used."""
+        """Makes a run with its output in a file, and returns what it used."""
         with open(self.out, "wb") as out:
             return processes.run(words, self.setting.env, LONGEST, stdout=out)[1]
 
     def peak(self, words):
-        """Peak resident bytes, from time(1): a child of Python would count Python's own."""
+        """Returns the peak resident bytes, from time(1): a child of Python would count Python's own."""
         if not os.path.exists("/usr/bin/time"):
             return None
         self.call(["/usr/bin/time", "-q", "-f", "%M", "-o", str(self.note), *words])
         return int(self.note.read_text().split()[-1]) * 1024
 
     def lines(self, words):
-        """How many lines a run prints after its heading."""
+        """Returns how many lines a run prints after its heading."""
         self.call(words)
         return self.out.read_bytes().count(b"\n") - heading(words)
 
     def measure(self, sides, runs):
-        """The costs of both sides on the file that stands; the runs alternate."""
+        """Returns the costs of both sides on the current file; the runs alternate."""
         lines = [self.lines(words) for words in sides]
         used = list(zip(*([self.call(words) for words in sides] for _ in range(runs))))
         return [Cost(*each, processes.instructions(words, self.setting.env, 10 * LONGEST, self.note), count)
@@ -122,7 +122,7 @@ class Bench:
 
 
 def beside(name, size, ours, theirs):
-    """A row of a table: one side beside the other, and how ours grows with the file."""
+    """Returns a row of a table: one side beside the other, and how ours grows with the file."""
     return [
         name, f"{size:,}", *(f"{side.ms(part):.1f}" for part in ("wall", "cpu") for side in (ours, theirs)),
         ratio(ours.ms("cpu"), theirs.ms("cpu")),
@@ -134,7 +134,7 @@ def beside(name, size, ours, theirs):
 
 
 def spread(costs, runs):
-    """How far the runs of a table differ."""
+    """Returns how far the runs of a table differ."""
     spreads = sorted(cost.spread() for cost in costs)
     longer = max((cost.spread() for cost in costs if cost.ms("wall") >= 10), default=0)
     return (f"- medians of {runs} runs of each side; (longest - shortest) / median: "
@@ -143,7 +143,7 @@ def spread(costs, runs):
 
 
 def table(name, setting):
-    """A table of that name."""
+    """Returns a table of that name."""
     other, groups = TABLES[name]
     bench, runs = Bench(setting, other), 3 if setting.quick else 9
     rows, costs = [], []

@@ -1,4 +1,4 @@
-"""Runs of programs: what they use, and the surroundings that MIT's need."""
+"""Runs of programs: what they use, and the environment that MIT's need."""
 
 import os
 import platform
@@ -19,11 +19,11 @@ class Used(NamedTuple):
     """Seconds, or what is made of them."""
 
     wall: float  # from the start of a process to its end
-    cpu: float  # that a processor worked for it, the kernel's part included
+    cpu: float  # of processor time, the kernel's part included
 
 
 class Setting:
-    """A temporary folder, the krbfile that is measured, and whether little is wanted."""
+    """A temporary folder, the krbfile that is measured, and whether a quick run is enough."""
 
     def __init__(self, folder, krbfile, quick):
         self.folder, self.krbfile, self.quick = folder, krbfile, quick
@@ -32,15 +32,15 @@ class Setting:
         self.env = {**os.environ, "KRB5_CONFIG": str(conf), "LC_ALL": "C"}
 
     def listed(self, file):
-        """What krbfile lists of a keytab, but for the times and the file's name."""
+        """Returns krbfile's listing of a keytab, without the times and the file's name."""
         words = [self.krbfile, "klist", "-k", "-K", "-e", str(file)]
         return subprocess.run(words, capture_output=True, check=True).stdout.split(b"\n")[1:]
 
 
 def run(words, env, longest, stdin=subprocess.DEVNULL, stdout=subprocess.DEVNULL, cwd=None):
-    """One run: the status and what it used.
+    """Makes a run, and returns its status and what it used.
 
-    Popen's own timeout would look at the run in steps of up to 50 ms, so a timer kills it.
+    Popen's own timeout would poll the run in steps of up to 50 ms, so a timer kills it.
     """
     start = time.perf_counter()
     started = subprocess.Popen(words, stdin=stdin, stdout=stdout, stderr=subprocess.DEVNULL,
@@ -57,7 +57,7 @@ def run(words, env, longest, stdin=subprocess.DEVNULL, stdout=subprocess.DEVNULL
 
 
 def instructions(words, env, longest, note, **streams):
-    """Instructions that a program executes itself; the kernel's are not counted."""
+    """Returns the instructions that a program executes itself; the kernel's are not counted."""
     if shutil.which("valgrind") is None:
         return None
     grind = ["valgrind", "--tool=callgrind", "--callgrind-out-file=/dev/null", f"--log-file={note}"]
@@ -67,7 +67,7 @@ def instructions(words, env, longest, note, **streams):
 
 
 def heap(words, env, longest, note, **streams):
-    """The most bytes that a program holds at a time of what it takes by malloc."""
+    """Returns the most bytes that a program has allocated by malloc at any time."""
     if shutil.which("valgrind") is None:
         return None
     grind = ["valgrind", "--tool=massif", "--peak-inaccuracy=0.0", f"--massif-out-file={note}"]
@@ -76,7 +76,7 @@ def heap(words, env, longest, note, **streams):
 
 
 def mit(program):
-    """MIT's program of that name on the path, and the version of its klist."""
+    """Returns MIT's program of that name on the path, and the version of its klist."""
     path, klist = shutil.which(program), shutil.which("klist")
     if path is None or klist is None:
         sys.exit(f"bench: no {program}; install MIT's (Debian: krb5-user)")
@@ -87,7 +87,7 @@ def mit(program):
 
 
 def built(folder, name, *more):
-    """The program of NAME.c, built with what else the linker is given."""
+    """Builds NAME.c, with further linker arguments, and returns the program."""
     program = str(Path(folder) / name)
     words = ["cc", "-O2", "-Wall", f"-I{ROOT / 'c'}", "-o", program, HERE / f"{name}.c", *more]
     subprocess.run(words, check=True)
@@ -95,7 +95,7 @@ def built(folder, name, *more):
 
 
 def built_over_library(folder, name, *more):
-    """The program of NAME.c over libkrbfile."""
+    """Builds NAME.c over libkrbfile, and returns the program."""
     library = ROOT / "lib" / "libkrbfile.a"
     if not library.exists():
         sys.exit(f"bench: {library} is not there: make lib builds it")
@@ -110,7 +110,7 @@ def processor():
 
 
 def machine(version, before):
-    """The lines that tell of the machine and of MIT's version, given the load before the runs."""
+    """Returns lines about the machine and MIT's version, given the load before the runs."""
     loads = [" ".join(f"{value:.1f}" for value in load) for load in (before, os.getloadavg())]
     return [
         f"- {time.strftime('%Y-%m-%d')}, {processor()}, {os.cpu_count()} processors, "

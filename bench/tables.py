@@ -15,7 +15,7 @@ def less(whole, part):
 
 
 def error(values):
-    """The standard error of their median, as for normal values, from their middle half."""
+    """Returns the standard error of their median, as for normal values, from their interquartile range."""
     low, _, high = statistics.quantiles(values, n=4)
     return 1.253 * (high - low) / 1.349 / len(values) ** 0.5
 
@@ -25,19 +25,19 @@ def digits(value):
 
 
 def shown(value, error):
-    """A time for each operation; where it is within its error, a bound."""
+    """Returns a time for each operation, or a bound if it is within its error."""
     return digits(value) if value > 2 * error else f"< {digits(max(value, 0) + 2 * error)}"
 
 
 class Table(NamedTuple):
-    """A heading, rows of cells, each with its group, and what is said below."""
+    """A heading, rows of cells, each with its group, and a note below."""
 
     heading: list
     rows: object
     notes: list = []
 
     def text(self):
-        """Markdown, with a line of its own for each group."""
+        """Returns Markdown, with a line for each group."""
         lines = ["| " + " | ".join(self.heading) + " |", "|---" + "|---:" * (len(self.heading) - 1) + "|"]
         group = None
         for of, cells in self.rows:

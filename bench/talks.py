@@ -28,14 +28,14 @@ class Side(NamedTuple):
 
 
 class Cost(NamedTuple):
-    """What one side needs: medians of its runs, and its instructions."""
+    """The cost of one side: medians of its runs, and its instructions."""
 
     used: Used
     instructions: Optional[int]
     operations: int
 
     def micros(self):
-        """Microseconds of an operation, of wall time and of processor time."""
+        """Returns the microseconds of an operation, of wall time and of processor time."""
         return [part * MEGA / self.operations for part in self.used]
 
 
@@ -46,8 +46,8 @@ class Case(NamedTuple):
     name: str
     files: dict
     ours: Side
-    theirs: Optional[Side] = None  # none where MIT's takes too long
-    idle: Optional[Side] = None  # MIT's run with no operations, which is taken off
+    theirs: Optional[Side] = None  # none if MIT's takes too long
+    idle: Optional[Side] = None  # MIT's run without operations, which is subtracted
 
 
 class Bench:
@@ -58,7 +58,7 @@ class Bench:
         self.work, self.note = setting.folder / "work", setting.folder / "note"
 
     def lay(self, files):
-        """Makes the files anew, and sees them on the disk."""
+        """Makes the files from scratch, and syncs them to the disk."""
         shutil.rmtree(self.work, ignore_errors=True)
         self.work.mkdir()
         for name, image in files.items():
@@ -66,7 +66,7 @@ class Bench:
         os.sync()
 
     def run(self, case, side, how=processes.run, **more):
-        """One run through a pipe, by run or by instructions."""
+        """Makes a run through a pipe, by run or by instructions."""
         self.lay(case.files)
         reading, writing = os.pipe()
         with os.fdopen(writing, "wb") as pipe:
@@ -83,7 +83,7 @@ class Bench:
             os.waitpid(pid, 0)
 
     def measure(self, case, side):
-        """The cost of one side."""
+        """Returns the cost of one side."""
         found = []
         while not found or (len(found) < RUNS and sum(one.wall for one in found) < BUDGET):
             status, one = self.run(case, side)
@@ -97,7 +97,7 @@ class Bench:
         return Cost(used, counted, side.operations)
 
     def both(self, case):
-        """The costs of both sides; nothing of MIT's where it takes too long."""
+        """Returns the costs of both sides; none of MIT's if it takes too long."""
         ours = self.measure(case, case.ours)
         if case.theirs is None:
             return ours, None
@@ -113,7 +113,7 @@ class Bench:
 
 
 def copies(krbfile, ktutil, quick):
-    """Keytabs copied by ktutil through a pipe, into new files and into one that has entries."""
+    """Yields keytabs copied by ktutil through a pipe, into new files and into one that has entries."""
     given = b"rkt A\nwkt B\nquit\n"
     for entries in (100, 1_000) if quick else (1_000, 10_000):
         image = keytabs.services(entries)
@@ -128,13 +128,13 @@ def copies(krbfile, ktutil, quick):
 
 
 def added(number):
-    """The line of a script that adds the entry of mit_edits of that number."""
+    """Returns the line of a script that adds the entry of mit_edits of that number."""
     key = "6b" * 32
     return f"add 3 18 1700000000 {key} host/bench{number:05d}.ad.test@AD.TEST"
 
 
 def edits(krbfile, mit_edits, quick):
-    """Additions to a large keytab and removals of its last entries."""
+    """Yields additions to a large keytab and removals of its last entries."""
     entries, count, fewer = (1_000, 100, 10) if quick else (100_000, 1_000, 20)
     image = keytabs.services(entries)
     last = list(keytabs.places(image))[: -count - 1 : -1]
@@ -147,7 +147,7 @@ def edits(krbfile, mit_edits, quick):
 
 
 def cells(case, ours, theirs):
-    """A row: both sides for each operation."""
+    """Returns a row: both sides for each operation."""
     row = [case.name, f"{ours.used.wall * 1000:,.1f}"]
     for part, mine in enumerate(ours.micros()):
         mits = theirs.micros()[part] if theirs else None
@@ -156,7 +156,7 @@ def cells(case, ours, theirs):
 
 
 def rows(setting):
-    """A row for each case."""
+    """Yields a row for each case."""
     bench, ktutil = Bench(setting), processes.mit("ktutil")[0]
     mit_edits = processes.built(setting.folder, "mit_edits", "-lkrb5")
     for case in (*copies(setting.krbfile, ktutil, setting.quick), *edits(setting.krbfile, mit_edits, setting.quick)):
@@ -165,6 +165,6 @@ def rows(setting):
 
 
 def ktutil(setting):
-    """The table."""
+    """Returns the table."""
     return Table(["run", "ms", "us each", "MIT us each", "MIT's / ours", "cpu us each", "MIT cpu us each",
                   "MIT's / ours", "instr each", "MIT instr each"], rows(setting))

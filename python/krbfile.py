@@ -4,10 +4,10 @@
         for entry in keytab:
             print(entry.kvno, entry.name)
 
-Bytes in, bytes out: the caller reads and writes the files. A keytab or a cache may be changed while
-it is walked, and threads may share one. Where the library refuses a call, it raises `KrbfileError`,
-whose `status` is the number in krbfile.h. A number that does not fit raises `OverflowError`, and
-what is no number, no bytes or no text `TypeError`.
+Bytes in, bytes out: the caller reads and writes the files. A keytab or a cache may be changed during
+iteration, and threads may share one. If the library refuses a call, `KrbfileError` is raised: its
+`status` is the number in krbfile.h. A number that does not fit raises `OverflowError`, and an argument
+that is not a number, bytes or text raises `TypeError`.
 """
 from __future__ import annotations
 
@@ -23,12 +23,12 @@ from typing import Any
 
 DONE, END, NOT_FOUND = 0, 2, 39
 
-# A call does not give up the interpreter's lock: most are shorter than that takes.
+# A call keeps the interpreter's lock: releasing it would take longer than most calls.
 _library = ctypes.PyDLL(ctypes.util.find_library("krbfile") or "libkrbfile.so.1")
 
 
 class KrbfileError(Exception):
-    """What the library answered in place of `KRBF_DONE`."""
+    """The library returned `status` instead of `KRBF_DONE`."""
 
     def __init__(self, status: int) -> None:
         phrase = _Bytes()
@@ -41,7 +41,7 @@ class _Bytes(ctypes.Structure):
     _fields_ = [("at", c_void_p), ("len", c_size_t)]
 
     def read(self) -> bytes:
-        """A copy of them."""
+        """Returns a copy of the bytes."""
         return ctypes.string_at(self.at, self.len) if self.len else b""
 
 
@@ -68,7 +68,7 @@ class _Ticket(ctypes.Structure):
 
 @dataclass(frozen=True)
 class Entry:
-    """An entry of a keytab, the place where it stands, and its principal as text and in parts."""
+    """An entry of a keytab: its place, and its principal as text and in parts."""
 
     place: int
     name: bytes
@@ -83,7 +83,7 @@ class Entry:
 
 @dataclass(frozen=True)
 class Ticket:
-    """A ticket or a configuration entry, and where it stands. Times are seconds since 1970."""
+    """A ticket or a configuration entry, and its place. Times are seconds since 1970."""
 
     place: int
     client: bytes
@@ -102,13 +102,13 @@ class Ticket:
 
 
 def _check(status: int) -> None:
-    """Raises unless a call is done."""
+    """Raises `KrbfileError` unless the status is `KRBF_DONE`."""
     if status != DONE:
         raise KrbfileError(status)
 
 
 def _number(kind: Any, value: int) -> Any:
-    """A number as a parameter of C's."""
+    """Returns a number as a C parameter, or raises `OverflowError` if it does not fit."""
     number = index(value)
     if not 0 <= number < 1 << 8 * ctypes.sizeof(kind):
         raise OverflowError(f"{number} does not fit {8 * ctypes.sizeof(kind)} bits")
@@ -116,24 +116,24 @@ def _number(kind: Any, value: int) -> Any:
 
 
 def _sized(data: bytes) -> tuple[c_char_p, c_size_t]:
-    """Bytes as a pointer and a length."""
+    """Returns bytes as a pointer and a length."""
     data = data if isinstance(data, bytes) else bytes(memoryview(data))
     return c_char_p(data), c_size_t(len(data))
 
 
 def _name(name: bytes | str) -> tuple[c_char_p, c_size_t]:
-    """A name, as bytes or a text, as a pointer and a length."""
+    """Returns a name, given as bytes or text, as a pointer and a length."""
     return _sized(name.encode() if isinstance(name, str) else name)
 
 
-# A component in the text of a name: after it comes a slash, or an @ after the last.
+# A component in the text of a name: a slash follows it, or an @ if it is the last.
 _COMPONENT = re.compile(rb"([^\\/@]*(?:\\.[^\\/@]*)*)([/@])", re.DOTALL)
 _ESCAPED = re.compile(rb"\\(.)", re.DOTALL)
 _CONTROLS = {b"0": b"\0", b"b": b"\b", b"n": b"\n", b"t": b"\t"}
 
 
 def _components(name: bytes) -> Iterator[bytes]:
-    """The components of a name's text, in one pass."""
+    """Yields the components of a name's text, in one pass."""
     for component in _COMPONENT.finditer(name):
         yield _ESCAPED.sub(lambda found: _CONTROLS.get(found[1], found[1]), component[1])
         if component[2] == b"@":
@@ -141,9 +141,9 @@ def _components(name: bytes) -> Iterator[bytes]:
 
 
 class _Store:
-    """What keytabs and caches have in common: a handle, its image, and the end of both.
+    """What keytabs and caches share: a handle, the image of its file, and closing it.
 
-    Its lock is held from a call until the bytes that the call shows are copied.
+    The lock is held from a call until the bytes that it returned are copied.
     """
 
     _kind: str
@@ -157,7 +157,7 @@ class _Store:
         raise TypeError(f"a {type(self).__name__} is neither copied nor pickled; its image can be")
 
     def _ask(self, name: str, *words: Any) -> int:
-        """The number that a call answers."""
+        """Makes a call on the handle and returns its status."""
         with self._lock:
             if not self._handle:
                 raise ValueError("it is closed")
@@ -167,24 +167,24 @@ class _Store:
         _check(self._ask(name, *words))
 
     def _shown(self, record: Any, name: str, *words: Any) -> Any:
-        """What a call shows in a record."""
+        """Makes a call that fills a record, and returns a copy of that."""
         with self._lock:
             self._do(name, *words, byref(record))
             return self._read(record)
 
     def _read(self, record: Any) -> Any:
-        """A copy of what a record shows."""
+        """Returns a copy of a record that a call filled."""
         raise NotImplementedError
 
     def _bytes(self, name: str, *words: Any) -> bytes:
-        """A copy of the bytes that a call shows."""
+        """Returns a copy of the bytes that a call returns."""
         found = _Bytes()
         with self._lock:
             self._do(name, *words, byref(found))
             return found.read()
 
     def _text(self, name: str, *words: Any) -> bytes:
-        """A text that a call puts into a room, in a larger one where it is cut off."""
+        """Returns a text that a call writes into a buffer, which grows until the text fits."""
         size, length = 256, c_size_t()
         while True:
             room = ctypes.create_string_buffer(size)
@@ -194,7 +194,7 @@ class _Store:
             size = length.value
 
     def _walk(self, cursor: c_uint32, record: Any) -> Iterator[Any]:
-        """What each step of a walk shows, in one record."""
+        """Yields the record of each step of a cursor, up to the end."""
         while True:
             try:
                 found = self._shown(record, "next", byref(cursor))
@@ -205,7 +205,7 @@ class _Store:
             yield found
 
     def close(self) -> None:
-        """Gives the memory back, cleared. May be called twice."""
+        """Clears and frees the memory. May be called twice."""
         with self._lock:
             getattr(_library, f"krbf_{self._kind}_close")(byref(self._handle))
 
@@ -220,42 +220,42 @@ class _Store:
 
     @property
     def image(self) -> bytes:
-        """The bytes of its file."""
+        """The bytes of the file."""
         return self._bytes("image")
 
     @property
     def fault(self) -> tuple[int, int] | None:
-        """The number of what is wrong, and its place, where something is."""
+        """The kind and the place of the fault, or None."""
         kind, place = c_uint32(), c_uint32()
         self._do("fault", byref(kind), byref(place))
         return (kind.value, place.value) if kind else None
 
     def remove_at(self, place: int) -> None:
-        """Removes what stands there."""
+        """Removes the record at a place."""
         self._do("remove_at", _number(c_uint32, place))
 
     def rewrite(self, cursors: Sequence[int] = ()) -> list[int]:
-        """Writes all anew without what was removed; the places at which walks then go on."""
+        """Rewrites all records without what was removed; returns the cursors carried along."""
         carried = (c_uint32 * len(cursors))(*(_number(c_uint32, cursor) for cursor in cursors))
         self._do("rewrite", carried, c_size_t(len(cursors)))
         return list(carried)
 
 
 class Keytab(_Store):
-    """A keytab. Iterating over it walks its entries, which may be changed meanwhile."""
+    """A keytab. Iterating over it yields its entries; it may be changed meanwhile."""
 
     _kind = "kt"
 
     @classmethod
     def create(cls, limit: int = 0) -> Keytab:
-        """An empty keytab, whose image has at most `limit` bytes (0: 16 MiB)."""
+        """Returns an empty keytab, whose image has at most `limit` bytes (0: 16 MiB)."""
         keytab = cls()
         _check(_library.krbf_kt_create(_number(c_uint32, limit), byref(keytab._handle)))
         return keytab
 
     @classmethod
     def open(cls, image: bytes, *, v1_big: bool = False, limit: int = 0) -> Keytab:
-        """The keytab of an image."""
+        """Returns the keytab of an image."""
         keytab = cls()
         words = (*_sized(image), _number(c_uint32, v1_big), _number(c_uint32, limit))
         _check(_library.krbf_kt_open(*words, byref(keytab._handle)))
@@ -274,14 +274,14 @@ class Keytab(_Store):
         return self._walk(c_uint32(2), _Entry())
 
     def find(self, name: bytes | str, kvno: int = 0, enctype: int = 0) -> Entry:
-        """The entry of a name; version 0 is the highest, enctype 0 any."""
+        """Returns the entry of a name; version 0 means the highest, enctype 0 any."""
         words = (*_name(name), _number(c_uint32, kvno), _number(c_uint16, enctype))
         return self._shown(_Entry(), "find", *words)
 
     def add(
         self, name: bytes | str, kvno: int, enctype: int, key: bytes, timestamp: int = 0
     ) -> int:
-        """Adds an entry, and answers its place."""
+        """Adds an entry and returns its place."""
         place = c_uint32()
         numbers = (_number(c_uint32, timestamp), _number(c_uint32, kvno),
                    _number(c_uint16, enctype))
@@ -290,13 +290,13 @@ class Keytab(_Store):
 
 
 class Cache(_Store):
-    """A credential cache. Iterating over it walks its tickets and configuration entries."""
+    """A credential cache. Iterating over it yields its tickets and configuration entries."""
 
     _kind = "cc"
 
     @classmethod
     def create(cls, principal: bytes | str, limit: int = 0) -> Cache:
-        """An empty cache of a default principal."""
+        """Returns an empty cache with a default principal."""
         cache = cls()
         words = (*_name(principal), _number(c_uint32, limit))
         _check(_library.krbf_cc_create(*words, byref(cache._handle)))
@@ -304,7 +304,7 @@ class Cache(_Store):
 
     @classmethod
     def open(cls, image: bytes, *, limit: int = 0) -> Cache:
-        """The cache of an image."""
+        """Returns the cache of an image."""
         cache = cls()
         words = (*_sized(image), _number(c_uint32, limit))
         _check(_library.krbf_cc_open(*words, byref(cache._handle)))
@@ -331,11 +331,11 @@ class Cache(_Store):
         return self._walk(cursor, _Ticket())
 
     def find(self, server: bytes | str) -> Ticket:
-        """The first ticket for a server."""
+        """Returns the first ticket for a server."""
         return self._shown(_Ticket(), "find", *_name(server))
 
     def store(self, ticket: Ticket) -> int:
-        """Stores a ticket, whose own place is not looked at, and answers where."""
+        """Stores a ticket, ignoring its `place`, and returns the place where it is stored."""
         widths = {"enctype": c_uint16}
         numbers = _Numbers(*(_number(widths.get(name, c_uint32), getattr(ticket, name)).value
                              for name in _NUMBERS))
@@ -346,7 +346,7 @@ class Cache(_Store):
         return place.value
 
     def config(self, key: bytes | str, principal: bytes | str = b"") -> bytes | None:
-        """The value of a key, of a principal or of the whole cache, if it is set."""
+        """Returns the value of a key, for a principal or the whole cache, or None if not set."""
         try:
             return self._bytes("config", *_name(key), *_name(principal))
         except KrbfileError as error:
@@ -355,7 +355,7 @@ class Cache(_Store):
             raise
 
     def set_config(self, key: bytes | str, value: bytes, principal: bytes | str = b"") -> int:
-        """Sets a value, and answers the place of its entry."""
+        """Sets a value and returns the place of its entry."""
         place = c_uint32()
         self._do("set_config", *_name(key), *_name(principal), *_sized(value), byref(place))
         return place.value

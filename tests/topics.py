@@ -1,5 +1,5 @@
-"""The topics of the tests: what has a table or a function of a certain name, of the modules in the folders beside
-this file and of their TOPICS."""
+"""The topics of the tests: the modules in the folders beside this file, and their TOPICS, that have a table or
+a function of a certain name."""
 
 import os
 from functools import cache
@@ -13,7 +13,7 @@ FOLDER = os.path.dirname(os.path.abspath(__file__))
 
 
 def modules() -> dict[str, ModuleType]:
-    """The modules in each folder, by their own names."""
+    """Returns the modules in each folder, by name."""
     found = {}
     for room in sorted(each.name for each in os.scandir(FOLDER) if each.is_dir()):
         for each in iter_modules([os.path.join(FOLDER, room)]):
@@ -23,7 +23,7 @@ def modules() -> dict[str, ModuleType]:
 
 @cache
 def topics(*those: str) -> dict[str, ModuleType | Topic]:
-    """What has one of those, by its own name."""
+    """Returns the topics, by name."""
     found = modules()
     for module in list(found.values()):
         found |= {topic.name: topic for topic in getattr(module, "TOPICS", ())}

@@ -42,7 +42,7 @@ REFUSED: list[str | Line] = [
 # Lines that read a script, which is `start`.
 EDITING = ["ccedit c", "ccedit -- c", "ccedit c --"]
 
-# Lines that remove all tickets, and lines that only tell of them.
+# Lines that remove all tickets, and lines that only report them.
 REMOVING = ["ccremove --expired c", "ccremove c --expired", "ccremove --expired c --expired",
             "ccremove -p krbtgt/R@R c", "ccremove -pkrbtgt/R@R c", "ccremove c -p krbtgt/R@R",
             "ccremove --expired -p krbtgt/R@R -- c"]
@@ -60,18 +60,18 @@ HELP = [
 
 FILES = {"c": USUAL, "k": TWO}
 GONE = printed("removed 40 krbtgt/R@R")
-# What stands under a ticket has one order, whatever that of the options is.
+# The lines below a ticket have one order, whatever that of the options is.
 UNDER = [b"    renew until 1970-01-01T00:00:01Z", FLAGS_LINE, ETYPE_LINE]
 
 
 def listing(letters: str) -> Outcome:
-    """The listing of the usual cache with those columns."""
+    """Returns the listing of the usual cache with those columns."""
     columns = {"f": FLAGS_LINE, "e": ETYPE_LINE, "C": CONFIG_LINE}
     return Outcome(0, listed(b"u@R", TICKET_LINE, *(line for letter, line in columns.items() if letter in letters)))
 
 
 def changing(line: str, wanted: Outcome, after: bytes = USUAL) -> Case:
-    """A line that may change the usual cache, with an input that is a script."""
+    """Returns a line that may change the usual cache, with an input that is a script."""
     return Case(shown(line), words_of(line), wanted, {"c": USUAL}, {"c": after}, b"start")
 
 
@@ -82,7 +82,7 @@ CASES = [
     *(changing(line, GONE) for line in TELLING),
     *(Case(shown(line), words_of(line), listing(letters), {"c": USUAL})
       for letters, lines in TAKEN.items() for line in lines),
-    # A keytab is no cache and a cache no keytab; -e is an option of both.
+    # A keytab is not a cache and a cache not a keytab; -e is an option of both.
     Case("a keytab as a cache", ("klist", "-e", "k"), message(1, "k: not a cache (2)"), FILES),
     Case("a cache as a keytab", ("klist", "-ke", "c"), message(1, "c: not a keytab (2)"), FILES),
     *(over(f"order: {options}", ("klist", *options, "c"), cache(replace(TICKET, renew_till=1)),

@@ -1,4 +1,4 @@
-"""Scripts of `ccedit`: the replies and the file that is saved, each wanted text written by hand."""
+"""Scripts of `ccedit`: the replies and the file that is saved, each expected text written by hand."""
 
 from dataclasses import replace
 
@@ -16,48 +16,48 @@ GAVE_CONFIG = "walk 0 gave 148 next 284 config pa_type(krbtgt/R@R)"
 SET_3 = "config pa_type krbtgt/R@R 3"
 THREE = config(b"pa_type", b"3", b"krbtgt/R@R")
 
-# The usual cache after `config pa_type krbtgt/R@R 3`, what is then told, and what a walk is given.
+# The usual cache after `config pa_type krbtgt/R@R 3`, the replies to that, and what a walk is given.
 SET = cache(TICKET, PA_TYPE.removed(), TICKET.removed(), THREE, fields=FIELDS)
 SET_AT = ["placed 392", "gone 148"]
 GAVE_3 = "walk 0 gave 392 next 528 config pa_type(krbtgt/R@R)"
 
 
 def long_ticket(size: int) -> Credential:
-    """A ticket of that many bytes in all. One of three bytes has 108."""
+    """Returns a ticket of that many bytes in all. One whose ticket field has three bytes takes 108."""
     return replace(TICKET, ticket=bytes(size - 105))
 
 
 def edit(name: str, image: bytes | None, script: bytes | list[str], wanted: Outcome | list[str],
          after: bytes | None = None) -> Case:
-    """A script of `ccedit` over the file `c`, or over none; see `over`."""
+    """Returns a script of `ccedit` over the file `c`, or over none; see `over`."""
     return over(name, "ccedit c", image, wanted, after, script)
 
 
 def given(name: str, cell: Credential, tail: bytes) -> Case:
-    """What a reply tells of what a walk is given."""
+    """Returns a walk whose reply reports a record given to it."""
     line = b"walk 0 at 22\nwalk 0 gave 22 next %d %s\n" % (22 + len(cell.spelled()), tail)
     return edit(f"given, {name}", cache(cell), ["start", "step 0"], Outcome(0, line))
 
 
 def no_room(name: str, room: int, wanted: Outcome | list[str], *script: str,
             after: tuple[Credential, ...] = ()) -> Case:
-    """A value set after a long ticket, which leaves that much room. The old entry has 136 bytes, as the new one has."""
+    """Returns a script that sets a value with that much room left by a long ticket. Both entries have 136 bytes."""
     ticket = long_ticket(LIMIT - 22 - 136 - room)
     return edit(name, cache(ticket, PA_TYPE), [SET_3, *script], wanted, cache(ticket, *after) if after else None)
 
 
 def full() -> Case:
-    """A cache of the greatest size."""
+    """Returns a script over a cache of the greatest size."""
     ticket = long_ticket(LIMIT - 22)
     return edit("no room for a value", cache(ticket), ["config k - v", "cut 22"], refused("refused 3", "gone 22"),
                 cache(ticket.removed()))
 
 
-# The usual cache without its ticket, and as it is written anew.
+# The usual cache without its ticket, and rewritten.
 GONE = cache(TICKET.removed(), PA_TYPE, TICKET.removed(), fields=FIELDS)
 ANEW = cache(TICKET, PA_TYPE, fields=OFFSET)
 
-# What a name is escaped as in a reply.
+# How a reply escapes a name.
 ODD_KEY, ESCAPED = bytes([0, 0x1F, 0x20, 0x5C, 0x7E, 0x7F, 0xFF]), b"\\x00\\x1f \\\\~\\x7f\\xff"
 
 # A value of one byte under `k` has 116 bytes.
@@ -69,7 +69,7 @@ ODD = config_ticket(b"k", name_type=9, client=TYPED)
 LISTS = replace(TICKET, starttime=1, renew_till=2, addresses=((2, b"\x7f\0\0\1"),))
 
 CASES = [
-    # Walks over a cache that nothing changes.
+    # Walks over an unchanged cache.
     edit("a walk to the end and on", USUAL, ["start", *["step 0"] * 4],
          ["walk 0 at 40", GAVE_TICKET, GAVE_CONFIG, "walk 0 end 392", "walk 0 end 392"]),
     edit("no credential", cache(), ["start", "step 0"], ["walk 0 at 22", "walk 0 end 22"]),
@@ -90,7 +90,7 @@ CASES = [
          refused("walk 0 at 392", "walk 0 fault 4 at 392", "refused 4")),
     edit("version 3", VERSION_3, ["start", "step 0", "step 0"],
          ["walk 0 at 20", "walk 0 gave 20 next 130 etype 17 krbtgt/R@R", "walk 0 end 130"]),
-    # What a reply tells of what a walk is given.
+    # How a reply reports what a walk is given.
     given("an enctype without a name", replace(TICKET, enctype=65_535), b"etype 65535 krbtgt/R@R"),
     given("a server's name with quotes", replace(TICKET, server=Name((b"a/b", b"\n\0@"), b"\\R")),
           b"etype 17 a\\/b/\\n\\0\\@@\\\\R"),
@@ -107,7 +107,7 @@ CASES = [
     given("four components", config_ticket(b"a", b"b", b"c"), b"etype 17 krb5_ccache_conf_data/a/b/c@X-CACHECONF:"),
     given("another realm", config_ticket(b"k", realm=b"X-RMED-CONF:"),
           b"etype 17 krb5_ccache_conf_data/k@X-RMED-CONF:"),
-    # Removals: two times are those of a mark, and no other byte changes.
+    # Removals: the two times become those of a mark, and no other byte changes.
     edit("behind a walk", USUAL, ["start", "step 0", "step 0", "cut 40", "step 0"],
          ["walk 0 at 40", GAVE_TICKET, GAVE_CONFIG, "gone 40", "walk 0 end 392"], GONE),
     edit("before a walk", USUAL, ["start", "cut 40", "step 0"], ["walk 0 at 40", "gone 40", GAVE_CONFIG], GONE),
@@ -119,7 +119,7 @@ CASES = [
     edit("removed twice", USUAL, ["cut 40", "cut 40"], refused("gone 40", "refused 5"), GONE),
     edit("some refused, some done", USUAL, ["resume 285", "resume 284", "step 0", "cut 40"],
          refused("refused 4", "walk 0 at 284", "walk 0 end 392", "gone 40"), GONE),
-    # Values that are set: the new one is added, and then each old one goes.
+    # Values that are set: the new one is added, and then each old one is removed.
     edit("a value in place of one", USUAL, [SET_3], SET_AT, SET),
     edit("in place of two, in the order of the file", cache(K_1, TICKET, K_2), ["config k - 3"],
          ["placed 362", "gone 22", "gone 246"], cache(K_1.removed(), TICKET, K_2.removed(), K_3)),
@@ -133,14 +133,14 @@ CASES = [
          cache(TICKET, PA_TYPE.removed(), TICKET.removed(), THREE.removed(), THREE, fields=FIELDS)),
     edit("two settings of one name", cache(), ["config k - 1", "config k - 2"], ["placed 22", "placed 138", "gone 22"],
          cache(K_1.removed(), K_2)),
-    # Walks over a cache in which values are set: a new value stands before each of them.
+    # Walks over a cache in which values are set: a new value is ahead of each of them.
     edit("a walk that has passed the old value", USUAL, ["start", *["step 0"] * 3, SET_3, "step 0", "step 0"],
          ["walk 0 at 40", GAVE_TICKET, GAVE_CONFIG, "walk 0 end 392", *SET_AT, GAVE_3, "walk 0 end 528"], SET),
     edit("a walk that has not come to the old value", USUAL, ["start", "step 0", SET_3, "step 0", "step 0"],
          ["walk 0 at 40", GAVE_TICKET, *SET_AT, GAVE_3, "walk 0 end 528"], SET),
     edit("a walk that stands at the old value", USUAL, ["resume 148", SET_3, "step 0"],
          ["walk 0 at 148", *SET_AT, GAVE_3], SET),
-    # All live credentials anew in version 4, and the walks carried along.
+    # Rewrites all live credentials in version 4, and carries the walks along.
     edit("walks are carried", USUAL,
          ["start", "resume 148", "resume 284", "resume 392", "rewrite", "step 0", "step 1", "step 2", "step 3"],
          ["walk 0 at 40", "walk 1 at 148", "walk 2 at 284", "walk 3 at 392", "rewritten 278",
@@ -157,7 +157,7 @@ CASES = [
          ["walk 0 at 148", "rewritten 34", "walk 0 end 34"], cache(fields=OFFSET)),
     lambda: edit("too long in version 4", cache(default=Name((b"x" * (LIMIT - 19),)), version=3),
                  ["start", "rewrite", "resume 22"], refused(f"walk 0 at {LIMIT}", "refused 3", "refused 4")),
-    # Caches that are not changed: the version stands before the damage.
+    # Caches that are not changed: the version is checked before the damage.
     edit("version 3 is not changed", VERSION_3, ["cut 20", "cut 3", "config k - v"], refused(*["refused 8"] * 3)),
     edit("version 3, damaged", VERSION_3[:129], ["cut 20", "cut 3", "config k - v", "rewrite", "resume 20", "step 0"],
          refused(*["refused 8"] * 3, "refused 1", "walk 0 at 20", "walk 0 fault 4 at 20")),
@@ -169,7 +169,7 @@ CASES = [
                     f"resume {LIMIT - 271}", "step 0"),
     lambda: no_room("just room", 136, [f"placed {LIMIT - 136}", f"gone {LIMIT - 272}"],
                     after=(PA_TYPE.removed(), THREE)),
-    # Files that are missing, too large or none that is a cache.
+    # Files that are missing, too large or not a cache.
     *(edit(f"no file, {line!r}", None, line.encode(), message(1, "c: no such file"))
       for line in ("start\n", "", "config k - v\n")),
     edit("no file, and a faulty line", None, ["frob"], message(1, "line 1: fault 1")),

@@ -1,4 +1,4 @@
-"""Caches with odd headers and damaged ones. What is wanted is written by hand."""
+"""Caches with odd headers and damaged ones. The expected results are written by hand."""
 
 from dataclasses import replace
 
@@ -10,17 +10,17 @@ from runs.rows import over
 
 
 def header(name: str, fields: bytes) -> Case:
-    """A cache with those fields in its header, which they fill."""
+    """Returns a listing of a cache whose header those fields fill."""
     return case(f"header, {name}", cache(TICKET, fields=fields), TICKET_LINE)
 
 
 def no_cache(name: str, image: bytes, why: int) -> Case:
-    """A file that is no cache."""
+    """Returns a listing of a file that is not a cache."""
     return over(f"no cache: {name}", "klist c", image, message(1, f"c: not a cache ({why})"))
 
 
 def front(length: int) -> Case:
-    """The first bytes of the usual cache."""
+    """Returns a listing of the first bytes of the usual cache."""
     name, image = f"the first {length} bytes", USUAL[:length]
     if length < 40:
         return no_cache(name, image, 1 if length < 2 else 4 if length < 22 else 5)
@@ -31,7 +31,7 @@ def front(length: int) -> Case:
 
 
 FIELD = header_field(9, b"\xab\xcd")
-COUNT = 129  # where the count of the ticket's addresses stands
+COUNT = 129  # the place of the count of the ticket's addresses
 
 CASES = [
     # Headers with one time offset, several or none.
@@ -42,7 +42,7 @@ CASES = [
     header("unknown tags", FIELD + header_field(65_535, bytes(40))),
     header("300 fields", b"".join(header_field(tag, b"x" * tag) for tag in range(300))),
     header("a field of 65,531 bytes", header_field(3, bytes(65_531))),
-    # Bytes that begin no credential: what stands before them is listed, what follows is not.
+    # Bytes that do not begin a credential: what precedes them is listed, what follows is not.
     case("a byte after the last credential", USUAL + b"\0", TICKET_LINE, b"fault 4 at 392"),
     case("a byte after the last, -C", USUAL + b"\0", TICKET_LINE, CONFIG_LINE, b"fault 4 at 392", columns="C"),
     case("the greatest count of components", USUAL[:40] + bytes.fromhex("00000001 ffffffff 00000001 52"),
@@ -55,7 +55,7 @@ CASES = [
     case("a credential whose last byte is the next one's first", cache(TICKET.spelled()[:-1], of_host()), TICKET_LINE,
          b"fault 4 at 130"),
     case("a fault after one that was removed", cache(TICKET.removed()) + b"x", b"fault 4 at 130"),
-    # The first bytes of the usual cache, for each number of them.
+    # Each prefix of the usual cache.
     *map(front, range(len(USUAL) + 1)),
     # Other files that do not begin as a cache.
     no_cache("header with a byte left", cache(TICKET, fields=FIELD + b"\0"), 4),

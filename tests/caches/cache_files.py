@@ -14,18 +14,18 @@ TOO_LARGE = message(1, "c: file too large")
 
 
 def sized(size: int) -> bytes:
-    """A cache of that size, whose one ticket is long."""
+    """Returns a cache of that size, with one long ticket."""
     return cache(replace(TICKET, ticket=bytes(size - len(cache(replace(TICKET, ticket=b""))))))
 
 
 def there(name: str) -> Case:
-    """A cache of that name, whatever it looks like."""
+    """Returns a listing of a cache of that name, whatever the name looks like."""
     return over(f"cache name {name!r}", ("klist", "--", name), USUAL,
                 Outcome(0, listed(b"u@R", TICKET_LINE, name=name.encode())))
 
 
 def missing(name: str) -> Case:
-    """A cache that is not there."""
+    """Returns a listing of a missing cache."""
     return over(f"missing cache {name!r}", ("klist", "--", name), None, message(1, f"{name}: no such file"))
 
 
@@ -33,7 +33,7 @@ CASES = [*map(there, NAMES), *map(missing, ("c", "a c", "no/c", "FILE:c", ""))]
 
 
 def sizes() -> list[Case]:
-    """The greatest cache that is read, and one that is a byte longer."""
+    """Returns listings of the greatest cache that is read, and of one that is a byte longer."""
     return [
         over("a cache of 16777216 bytes", "klist -- c", sized(LIMIT), Outcome(0, listed(b"u@R", TICKET_LINE))),
         over("a cache of 16777217 bytes", "klist -- c", sized(LIMIT + 1), TOO_LARGE),
@@ -41,12 +41,12 @@ def sizes() -> list[Case]:
 
 
 def listing(name: str, cells: bytes, *lines: bytes) -> Case:
-    """A listing with configuration entries."""
+    """Returns a listing with configuration entries."""
     return over(name, "klist -C c", cache(cells), Outcome(0, listed(b"u@R", *lines)))
 
 
 def large() -> list[Case]:
-    """Files of some 16,000,000 bytes made of small things, or of what is printed as more."""
+    """Returns listings of files of some 16,000,000 bytes, of small parts, or with a longer printed form."""
     count = 4_000_000
     client = Name((), count=count).spelled() + bytes(4 * count)
     smallest = Credential(Name((), b""), Name((), b""), 0, None, b"", 0, 0, 0, flags=0, ticket=b"")
@@ -61,7 +61,7 @@ def large() -> list[Case]:
 
 
 def check(report: Report, program: str) -> None:
-    """Large files, and those that no table makes."""
+    """Checks large files, and those that are not in a table."""
     check_rows(report, program, [*sizes(), *large()])
     odd = {"d": ODD["d"], "/dev/null": message(1, "/dev/null: not a cache (1)")}
     check_odd_files(report, program, ("klist",), odd)

@@ -1,4 +1,4 @@
-"""Listings of small caches by `klist`. Each wanted text is written by hand from the layout."""
+"""Listings of small caches by `klist`. Each expected text is written by hand from the layout."""
 
 from dataclasses import replace
 from functools import partial
@@ -23,34 +23,34 @@ HOST_LINE = TIMES + b"host/a@R"
 
 
 def case(name: str, image: bytes, *lines: bytes, columns: str = "", default: bytes = b"u@R") -> Case:
-    """A listing of the file `c`. A fault, which its last line reports, makes the status 1."""
+    """Returns a listing of the file `c`. A fault, which its last line reports, makes the status 1."""
     status = 1 if any(line.startswith(b"fault ") for line in lines) else 0
     return over(name, f"klist {'-' if columns else ''}{columns} c", image, Outcome(status, listed(default, *lines)))
 
 
 def ticket(name: str, times: bytes = START + b" " + END, **changed) -> Case:
-    """The ticket with changed fields."""
+    """Returns a listing of the ticket with changed fields."""
     return case(name, cache(replace(TICKET, **changed)), times + b" krbtgt/R@R")
 
 
 def flagged(name: str, flags: int, letters: bytes) -> Case:
-    """The ticket with those flags."""
+    """Returns a listing of the ticket with those flags."""
     return case(f"flags, {name}", cache(replace(TICKET, flags=flags)), TICKET_LINE, b"    Flags: " + letters,
                 columns="f")
 
 
 def named(name: str, those: Name, text: bytes) -> list[Case]:
-    """A server's name, and that of a default principal."""
+    """Returns listings with a name as a server's, and as the default principal."""
     return [case(f"server, {name}", cache(replace(TICKET, server=those)), TIMES + text),
             case(f"default principal, {name}", cache(default=those), default=text)]
 
 
 def configured(name: str, cell: Credential, *lines: bytes) -> Case:
-    """A credential that may be a configuration entry, before the ticket."""
+    """Returns a listing of a credential that may be a configuration entry, before the ticket."""
     return case(f"configuration, {name}", cache(cell, TICKET), *lines, TICKET_LINE, columns="C")
 
 
-# A starttime or a renewal of 0 is none.
+# A starttime or a renewal time of 0 means none.
 TIMED = {second: text for second, text in KNOWN_TIMES.items() if second}
 
 UNTIL = cache(replace(TICKET, renew_till=0x655D2B80))
@@ -66,7 +66,7 @@ ESCAPED = (b"".join(b"\\x%02x" % byte for byte in range(0x20)) + bytes(range(0x2
 OF_CONFIG = TIMES + CONFIG_FIRST
 
 CASES = [
-    # Caches that are as they should be.
+    # Caches without faults.
     case("the usual one", USUAL, TICKET_LINE),
     case("the usual one, -C", USUAL, TICKET_LINE, CONFIG_LINE, columns="C"),
     case("the usual one, -f -e", USUAL, TICKET_LINE, FLAGS_LINE, ETYPE_LINE, columns="fe"),
@@ -81,7 +81,7 @@ CASES = [
     case("a renewable ticket", UNTIL, TICKET_LINE, RENEWED),
     case("a renewable ticket, -f", UNTIL, TICKET_LINE, RENEWED, FLAGS_LINE, columns="f"),
     case("a renewable ticket, -f -e", UNTIL, TICKET_LINE, RENEWED, FLAGS_LINE, ETYPE_LINE, columns="fe"),
-    # Version 3: no header, and an enctype that is written twice, of which the first counts.
+    # Version 3: no header, and an enctype that is written twice; the first one counts.
     case("version 3", VERSION_3, TICKET_LINE, ETYPE_LINE, columns="e"),
     case("version 3 with a configuration entry", cache(PA_TYPE, TICKET, version=3), CONFIG_LINE, TICKET_LINE,
          columns="C"),
@@ -90,7 +90,7 @@ CASES = [
     case("version 3, cut by a byte", VERSION_3[:-1], b"fault 4 at 20"),
     case("version 3 with a credential of version 4", BARE + TICKET.spelled(), b"fault 4 at 20"),
     case("version 4 with a credential of version 3", cache(TICKET.spelled(3)), b"fault 4 at 22"),
-    # What a listing tells of, and what it does not.
+    # What a listing shows, and what it does not.
     ticket("a ticket of another client", client=Name((b"v",), b"S", name_type=9)),
     ticket("a ticket without a key", key=b""),
     ticket("addresses and authorization data", addresses=((2, b"\x7f\0\0\1"), (24, b"")),
@@ -112,7 +112,7 @@ CASES = [
     ticket("mark, the greatest starttime and endtime 0", GREATEST + b" " + NEVER, starttime=2**32 - 1, endtime=0),
     ticket("mark, a smaller authtime", b"2106-02-07T06:28:14Z " + NEVER, authtime=2**32 - 2, endtime=0),
     ticket("mark, endtime 1", GREATEST + b" 1970-01-01T00:00:01Z", authtime=2**32 - 1, endtime=1),
-    # The start is the starttime, or the authtime where that is 0.
+    # The start is the starttime, or the authtime if that is 0.
     ticket("a starttime", b"2023-11-14T22:13:21Z " + END, starttime=1_700_000_001),
     case("known times", cache(*(replace(TICKET, starttime=at, endtime=at, renew_till=at) for at in TIMED)),
          *(line for text in TIMED.values()
@@ -132,7 +132,7 @@ CASES = [
     *named("300 parts", Name((b"x",) * 300), b"/".join([b"x"] * 300) + b"@R"),
     *named("70,000 parts", Name((b"",) * 70_000), b"/" * 69_999 + b"@R"),
     *named("a part of 100,000 bytes", Name((b"y" * 100_000,)), b"y" * 100_000 + b"@R"),
-    # Configuration entries: which they are, and how a key, a principal and a value are escaped.
+    # Configuration entries: which credentials are, and how a key, a principal and a value are escaped.
     configured("a value", config(b"k", b"v"), b"config: k = v"),
     configured("no value", config(b"k", b""), b"config: k = "),
     configured("no key", config(b"", b"v"), b"config:  = v"),

@@ -7,7 +7,7 @@ from makers.cache_images import U, cache, config
 from makers.usual_caches import USUAL
 from runs.harness import Case, message
 
-# Lines, and the fault that each has.
+# Lines, and the fault of each.
 FAULTS = LINE_FAULTS | by_line({
     1: ["add 3 17 0 - b@R", "store", "Config k - v", "config\tk - v", "configk - v"],
     2: ["config", "config ", "config k", "config k ", "config k -", "config k a@R", "config k a", "config  - v",
@@ -21,7 +21,7 @@ FAULTS = LINE_FAULTS | by_line({
 
 
 def value(name: str, line: bytes, key: bytes, data: bytes, principal: bytes | None = None) -> Case:
-    """A line that sets a value in a cache of none."""
+    """Returns a line that sets a value in a cache without one."""
     return edit(name, cache(), line, ["placed 22"], cache(config(key, data, principal)))
 
 
@@ -49,7 +49,7 @@ CASES = [
     value("a principal of empty parts", b"config k /@ v", b"k", b"v", b"/@"),
     value("a principal that is no text", b"config k \xff@\xff v", b"k", b"v", b"\xff@\xff"),
     lambda: value("a long value", b"config k - " + b"x" * 1_000_000, b"k", b"x" * 1_000_000),
-    # Other spellings of a line's words, and lines that are passed over.
+    # Other spellings of a line's words, and lines that are skipped.
     edit("comments, empty lines and no last line end", USUAL, f"\n# x\n#\n\n\n{SET_3}".encode(), SET_AT, SET),
     edit("a line of a setting as a comment", USUAL, ["#config k - v"], []),
     edit("numbers with zeros before them", USUAL, ["resume 0000000148", "step 0000000000"],

@@ -1,4 +1,4 @@
-"""Caches of 16,777,216 bytes that are changed or told as JSON, and scripts as long, worked out by hand."""
+"""Caches of 16,777,216 bytes that are changed or printed as JSON, and scripts as long, computed by hand."""
 
 from keytabs.file_names import LIMIT
 from keytabs.greatest import at_each
@@ -6,26 +6,26 @@ from makers.cache_images import Credential, Name, cache, config
 from runs.harness import Case, Outcome, message
 from runs.rows import over, printed, text
 
-# The smallest ticket: names of nothing, and no byte that is not a length, a time or a flag.
+# The smallest ticket: empty names, and no byte that is not a length, a time or a flag.
 LEAST = Credential(Name((), b"", 0), Name((), b"", 0), 0, None, b"", 0, 0, 0, flags=0, ticket=b"")
 SIZE = 67
 
-# How many of them a cache has room for behind its 22 first bytes, and where they stand.
+# How many of them fit in a cache after its first 22 bytes, and their places.
 COUNT = (LIMIT - 22) // SIZE
 PLACES = range(22, 22 + SIZE * COUNT, SIZE)
 END = 22 + SIZE * COUNT
 
-# The bytes of a value under `k` without the value's own.
+# The bytes of a value under `k` without the value itself.
 BARE = 115
 
 
 def least(cell: Credential = LEAST) -> bytes:
-    """The cache of the most tickets."""
+    """Returns the cache of the most tickets."""
     return cache(cell.spelled() * COUNT)
 
 
 def removals() -> list[Case]:
-    """The most tickets, of which all have expired, or none is of a service."""
+    """Returns removals from the most tickets: all have expired, or none is for a service."""
     every_second = cache((LEAST.spelled() + LEAST.removed().spelled()) * (COUNT // 2))
     long = Name((b"x" * 253,) * 65_000)
     one = Credential(LEAST.client, long, 0, None, b"", 0, 0, 0, flags=0, ticket=b"")
@@ -42,7 +42,7 @@ def removals() -> list[Case]:
 
 
 def json() -> list[Case]:
-    """The most tickets and the longest value, as JSON."""
+    """Returns listings of the most tickets and of the longest value, as JSON."""
     front = b'{"file":"c","kind":"ccache","version":4,"default_principal":"u@R",'
     form = (b'{"place":%d,"client":"@","server":"@","authtime":0,"starttime":0,"endtime":0,"renew_till":0,"flags":"",'
             b'"flags_value":0,"etype":0,"etype_name":null,"is_skey":false,"addresses":0,"ticket_length":0}')
@@ -58,12 +58,12 @@ def json() -> list[Case]:
 
 
 def edit(name: str, image: bytes, script: bytes, wanted: Outcome, after: bytes | None = None) -> Case:
-    """A script of `ccedit` over the file `c`; see `over`."""
+    """Returns a script of `ccedit` over the file `c`; see `over`."""
     return over(f"ccedit, {name}", "ccedit c", image, wanted, after, script)
 
 
 def edits() -> list[Case]:
-    """Short scripts over the most tickets, and long values."""
+    """Returns short scripts over the most tickets, and long values."""
     last = PLACES[-1]
     script = text(["start", "step 0", f"cut {last}", "config k - v", "rewrite", "step 0"])
     replies = ["walk 0 at 22", f"walk 0 gave 22 next {22 + SIZE} etype 0 @", f"gone {last}", "refused 3",
@@ -80,7 +80,7 @@ def edits() -> list[Case]:
 
 
 def long_scripts() -> list[Case]:
-    """The longest scripts over the most tickets. Removals are in the order of the file."""
+    """Returns the longest scripts over the most tickets. Removals are in the order of the file."""
     steps, starts = b"step 0\n" * (LIMIT // 7 - 1), b"start\n" * (LIMIT // 6)
     gave = b"".join(b"walk 0 gave %d next %d etype 0 @\n" % (place, place + SIZE) for place in PLACES)
     ends = b"walk 0 end %d\n" % END * (steps.count(b"\n") - COUNT)
@@ -95,5 +95,5 @@ def long_scripts() -> list[Case]:
 
 
 def cases() -> list[Case]:
-    """All of them."""
+    """Returns all these cases."""
     return [*removals(), *json(), *edits(), *long_scripts()]

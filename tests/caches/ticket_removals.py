@@ -16,14 +16,14 @@ NOT_FOUND = message(1, "c: refused 9")
 DAMAGED = message(1, "c: refused 1")
 READ_ONLY = message(1, "c: refused 8")
 
-# A time that does not come.
+# A time that does not come during a test.
 FUTURE = 2**32 - 1
 
-# The key of each, of which nothing is to be left in the file.
+# The key of each; nothing of it may be left in the file.
 OLD_KEY, NEW_KEY = b"old session key.", b"new session key!"
 
-# A ticket that is over at 40, a value at 148, one that goes on at 284, host/a@R's at 392, which is
-# over, one that was removed at 498, and host/a@R's at 606, which goes on. Those of host/a@R have 106 bytes.
+# An expired ticket at 40, a value at 148, a valid one at 284, an expired one for host/a@R at 392,
+# a removed one at 498, and a valid one for host/a@R at 606. Those for host/a@R have 106 bytes.
 TGT = replace(TICKET, key=OLD_KEY)
 LATER = replace(TICKET, endtime=FUTURE, key=NEW_KEY)
 HOST = of_host(key=OLD_KEY)
@@ -37,27 +37,27 @@ AT_606 = "removed 606 host/a@R"
 
 
 def left(*those: Credential) -> bytes:
-    """A cache that was written anew: its offset is all that its header has."""
+    """Returns a rewritten cache: its header has the offset only."""
     return cache(*those, fields=OFFSET)
 
 
 def remove(name: str, image: bytes, words: str, wanted: Outcome | list[str], after: bytes | None = None) -> Case:
-    """A run of ccremove with these words before the file; see `over`."""
+    """Returns a run of ccremove with these words before the file; see `over`."""
     return over(name, f"ccremove {words} c", image, wanted, after)
 
 
-# What may be asked of any cache.
+# Selectors for any cache.
 ASKED = ("-p krbtgt/R@R", "--expired", "-n -p c@R")
 
 
 def unchanged(name: str, image: bytes, wanted: Outcome) -> list[Case]:
-    """A file that is left as it is, whatever is asked for."""
+    """Returns runs that leave a file unchanged, whatever is selected."""
     return [remove(f"{name}, {words}", image, words, wanted) for words in ASKED]
 
 
 REMOVED = cache(TICKET.removed())
 
-# Configuration entries, one of which has expired, and one that nearly is one.
+# Configuration entries, one of them expired, and a ticket that is nearly one.
 TIMED = config_ticket(b"k", endtime=1)
 OTHER = config(b"k", b"v", client=Name((b"v",)))
 VALUES = cache(PA_TYPE, TIMED, OTHER)
@@ -72,7 +72,7 @@ LISTS = replace(LATER, addresses=((2, b"\x7f\0\0\1"), (24, b"")), authdata=((1, 
 USER = Name((b"u", b""), b"\xff", 9)
 
 CASES = [
-    # What each selector asks for.
+    # The entries that each selector selects.
     remove("of a service", MANY, "-p host/a@R", [AT_392, AT_606], left(TGT, PA_TYPE, LATER)),
     remove("of another", MANY, "-p krbtgt/R@R", [AT_40, AT_284], left(PA_TYPE, HOST, LATER_HOST)),
     remove("expired ones", MANY, "--expired", [AT_40, AT_392], left(PA_TYPE, LATER, LATER_HOST)),
@@ -96,13 +96,13 @@ CASES = [
     remove("removed ones alone", REMOVED, "-p krbtgt/R@R", NOT_FOUND),
     remove("nothing is over of removed ones", REMOVED, "--expired", []),
     remove("expired ones of a removed service", REMOVED, "--expired -p krbtgt/R@R", NOT_FOUND),
-    # Configuration entries are never asked for, whatever their fields are.
+    # Configuration entries are never selected, whatever their fields are.
     remove("a value by its name", USUAL, f"-p {OF_PA_TYPE}", NOT_FOUND),
     remove("expired values by their name", USUAL, f"--expired -p {OF_PA_TYPE}", NOT_FOUND),
     remove("values are not over", VALUES + NEARLY.spelled(), "--expired",
            [f"removed {len(VALUES)} krb5_ccache_conf_data@X-CACHECONF:"], VALUES),
-    # Names that print the same are the same, of whatever type.
-    # A server without components takes 13 bytes, and one with an empty one 17: 28 are krbtgt/R@R's.
+    # Names that print alike are the same, of whatever type.
+    # A server without components takes 13 bytes, and one with an empty one 17; krbtgt/R@R takes 28.
     remove("no components and an empty one", cache(BARE, EMPTY, TICKET), "-p @R", ["removed 22 @R", "removed 115 @R"],
            cache(TICKET)),
     remove("a ticket of another client", cache(replace(TICKET, client=Name((b"v",)))), "-p krbtgt/R@R",
@@ -110,7 +110,7 @@ CASES = [
     remove("a name of another type", cache(TYPED, TICKET), "-p host/a@R", ["removed 22 host/a@R"], cache(TICKET)),
     remove("a name that is no text", cache(ODD, LATER), "--expired",
            Outcome(0, b"removed 22 a\\/b/\\n\xff\xfe@R\\@S\n"), cache(LATER)),
-    # What is left is written anew: no removed ones, and of the header the first offset alone.
+    # What is left is rewritten: no removed ones, and of the header the first offset only.
     remove("all fields of what is left", cache(TICKET, LISTS, TICKET.removed()), "--expired",
            ["removed 22 krbtgt/R@R"], cache(LISTS)),
     remove("a header of two offsets", cache(TICKET, LATER, fields=OFFSET + offset(7, 8) + header_field(1, b"")),
@@ -125,7 +125,7 @@ CASES = [
     remove("a ticket that ends at 0 and is not marked",
            cache(replace(TICKET, endtime=0), replace(LATER, authtime=2**32 - 1)), "--expired",
            ["removed 22 krbtgt/R@R"], cache(replace(LATER, authtime=2**32 - 1))),
-    # Caches of version 3, damaged ones, and files that are no caches: the version comes first.
+    # Caches of version 3, damaged ones, and files that are not caches: the version comes first.
     *unchanged("version 3", VERSION_3, READ_ONLY),
     *unchanged("version 3, damaged", VERSION_3[:-1], READ_ONLY),
     *unchanged("version 3 without a ticket", cache(version=3), READ_ONLY),
@@ -138,7 +138,7 @@ CASES = [
     *(Case(f"{file}, {words}", ("ccremove", *words.split(), file), wanted, {"c": USUAL})
       for file, wanted in (("no", message(1, "no: no such file")), (".", message(3, ".: cannot read")))
       for words in ("--expired", "-p c@R", "-n --expired")),
-    # Lines that are not read.
+    # Lines that are refused.
     *(Case(line, ("ccremove", *line.split()), BAD_LINE, {"c": MANY}) for line in (
         "c", "-n c", "-p", "-p b@R", "--expired", "-n --expired", "-p b@R -p b@R c", "-p b@R -p c@R c",
         "-p b@R c -pb@R", "-p b c", "-p b@R@R c", "-p b@R/ c", "-p b@R\\ c", "-p b@R c more", "-x --expired c",
@@ -148,7 +148,7 @@ CASES = [
 
 
 def check_keys(report: Report, program: str) -> None:
-    """Of the key of a ticket that was removed nothing is left, also of one removed before."""
+    """Checks that nothing is left of the key of a removed ticket, nor of one removed before the run."""
     oldest = b"key from before."
     before = cache(replace(TGT, key=oldest).removed(), TGT, LATER)
     for words, kept in (("-p krbtgt/R@R", []), ("--expired", [NEW_KEY])):
@@ -162,7 +162,7 @@ def check_keys(report: Report, program: str) -> None:
 
 
 def check(report: Report, program: str) -> None:
-    """What stands beside the bytes of a file, and in them."""
+    """Checks the keys in a file, its time and its mode."""
     check_keys(report, program)
     for words in ("--expired", "-p c@R", "-n -p krbtgt/R@R"):
         check_left_alone(report, program, left(LATER), f"ccremove {words} c")

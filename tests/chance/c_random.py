@@ -5,12 +5,12 @@ from peers import corpus
 from runs.harness import Outcome, Report, folder_of, run
 from runs.random_runs import Rounds
 
-# How many calls there are for each number.
+# The number of calls for each seed.
 CALLS = 50
 
 
 def check_rounds(report: Report, _program: str, seeds: range) -> None:
-    """Makes the calls of all numbers in one run, where the library was built."""
+    """Makes the calls of all seeds in one run, if the library was built."""
     if not is_built(report, "random calls of C"):
         return
     keytabs, caches = (dict(corpus.files(kind)) for kind in ("keytab", "ccache"))

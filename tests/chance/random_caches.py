@@ -1,4 +1,4 @@
-"""Random caches: of any credentials, or of values under few names, and with damage."""
+"""Random caches: with any credentials, with values under a few names, and damaged."""
 
 from collections.abc import Callable
 from dataclasses import replace
@@ -15,18 +15,18 @@ from peers import corpus
 # Caches of other programs.
 SAMPLES = corpus.images("ccache")
 
-# Few keys and principals, so that many values are set in place of others.
+# Few keys and principals, so that many values replace others.
 KEYS = [b"k", b"l", b"pa_type", b"\\x00", b"\x00", b"-"]
 PRINCIPALS = [b"-", b"-", b"krbtgt/R@R", b"a@R", b"\\a@R", b"\xff@"]
 
 
 def random_number(random: Random, bits: int) -> int:
-    """A number of that many bits, often the least or the greatest."""
+    """Returns a number of that many bits, often the least or the greatest."""
     return random.choice([0, 2**bits - 1, random.randrange(2**bits), random.randrange(30)])
 
 
 def random_name(random: Random, may_be_config: bool = True) -> Name:
-    """A name, which now and then is that of a configuration entry or nearly so if it may be."""
+    """Returns a name, sometimes of a configuration entry, or close to one, if it may be."""
     parts = [random_bytes(random, 6) for _ in range(random.choice([0, 1, 1, 2, 2, 3]))]
     realm = random_bytes(random, 4)
     if may_be_config and random.random() < 0.3:
@@ -38,13 +38,13 @@ def random_name(random: Random, may_be_config: bool = True) -> Name:
 
 
 def random_list(random: Random) -> tuple[tuple[int, bytes], ...]:
-    """Addresses, or elements of authorization data; mostly none."""
+    """Returns addresses, or elements of authorization data; mostly none."""
     count = random.choice([0, 0, 0, 1, 2, 5])
     return tuple((random.randrange(2**16), random_bytes(random, 9)) for _ in range(count))
 
 
 def random_times(random: Random) -> dict[str, int]:
-    """The four times, some 0; the removed mark and pairs that are nearly it come often."""
+    """Returns the four times, some 0; the removed mark and pairs close to it are frequent."""
     times = [random.choice([0, 1_700_000_000, random_number(random, 32)]) for _ in range(4)]
     if random.random() < 0.3:
         times[0] = random.choice([2**32 - 1] * 4 + [0, 2**32 - 2])
@@ -53,7 +53,7 @@ def random_times(random: Random) -> dict[str, int]:
 
 
 def random_credential(random: Random) -> Credential:
-    """A credential with any fields."""
+    """Returns a credential with any fields."""
     one_flag = random.choice([*FLAGS.values(), 2 ** random.randrange(32)])
     return Credential(
         client=random_name(random),
@@ -72,7 +72,7 @@ def random_credential(random: Random) -> Credential:
 
 
 def random_header(random: Random) -> bytes:
-    """The fields of a header, rarely with bytes that are no field."""
+    """Returns the fields of a header, rarely with bytes that are not a field."""
     fields = random.choices(
         [offset(5, -10), offset(-300, 2**31 - 1), header_field(1, random_bytes(random, 9)),
          header_field(random.randrange(2**16), random_bytes(random, 20))],
@@ -82,7 +82,7 @@ def random_header(random: Random) -> bytes:
 
 
 def random_cache(random: Random) -> bytes:
-    """A cache of up to five credentials."""
+    """Returns a cache of up to five credentials."""
     version = random.choice([3, 4, 4])
     those = [random_credential(random) for _ in range(random.randrange(6))]
     if random.random() < 0.05:
@@ -93,12 +93,12 @@ def random_cache(random: Random) -> bytes:
 
 
 def random_value(random: Random) -> bytes:
-    """A value: any bytes of a line."""
+    """Returns a value: any bytes of a line."""
     return random.randbytes(random.choice([0, 1, 2, 30])).replace(b"\n", b" ")
 
 
 def random_setting(random: Random, default: Name) -> Credential:
-    """A value that is set, now and then by another client, removed, or with more fields."""
+    """Returns a configuration entry, sometimes of another client, removed, or with more fields."""
     client = replace(default, name_type=random.choice([default.name_type, 1, 7]))
     client = random_name(random) if random.random() < 0.1 else client
     principal = random.choice(PRINCIPALS)
@@ -110,7 +110,7 @@ def random_setting(random: Random, default: Name) -> Credential:
 
 
 def filled_cache(random: Random, version: int, makers: list[Callable[[Random], Credential]], most: int) -> bytes:
-    """A sound cache of fewer than that many tickets, and of values under few names."""
+    """Returns a sound cache of fewer than that many tickets, with values under a few names."""
     default = random_name(random, False)
     makers = [*makers, lambda random: random_setting(random, default)]
     cells = [random.choice(makers)(random).spelled(version) for _ in range(random.randrange(most))]
@@ -119,7 +119,7 @@ def filled_cache(random: Random, version: int, makers: list[Callable[[Random], C
 
 
 def with_damage(random: Random, image: bytes, chance: float) -> bytes:
-    """The cache, damaged by that chance, or now and then a damaged sample."""
+    """Returns the cache, damaged with that probability, or sometimes a damaged sample."""
     if random.random() < 0.1:
         return mutated(random, SAMPLES)
     return damaged(random, image, random_cache(random)) if random.random() < chance else image

@@ -1,4 +1,4 @@
-"""Look-ups, check-ups and removals, beside models of them. Names, versions and times are few, so that many agree."""
+"""Look-ups, checks and removals, compared with models of them. Names, versions and times are few, so many agree."""
 
 from collections.abc import Iterator
 from dataclasses import replace
@@ -23,18 +23,18 @@ REMOVED = Choices(names=((b"a", b"R"), (b"a", b"b", b"R"), (b"a/b", b"R"), (b"",
 CHECKED = Choices(REMOVED.names, REMOVED.versions[:5], enctypes=(17, 18, 23), timestamps=(0, 1, 2**32 - 1),
                   keys=(b"", b"x", b"y", b"y"))
 
-# The names of servers, some of which print the same.
+# The names of servers, some of which print alike.
 SERVERS = [Name((b"krbtgt", b"R")), Name((b"host", b"a")), Name((b"host", b"a"), name_type=3),
            Name((b"host/a",)), Name(()), Name((b"",)), Name((b"a\n@",), b"R@S"),
            Name((CONFIG_FIRST, b"k"), CONFIG_REALM), Name((CONFIG_FIRST,), CONFIG_REALM)]
 
-# Times that are over, and that do not come within a test, and one between.
+# Times that have passed, times that do not come during a test, and one between.
 TIMES = [0, 1, 1_700_000_000, 2**31 - 1, 2**31, 2**32 - 1]
 BETWEEN = 1_800_000_000
 
 
 def random_look_up(random: Random) -> Iterator[CaseAt]:
-    """A look-up in a keytab, which is mostly read in its own order."""
+    """Yields a look-up in a keytab, which is mostly read in its own byte order."""
     image, is_big = FOUND.random_keytab(random)
     v1_big = is_big != (random.random() < 0.1)
     kvno, enctype = random.choice([0, *FOUND.versions]), random.choice([0, *FOUND.enctypes])
@@ -42,23 +42,23 @@ def random_look_up(random: Random) -> Iterator[CaseAt]:
 
 
 def kinds_of_look_up(case: Case) -> Iterator[str]:
-    """What kind of answer it is."""
+    """Yields the kind of the result."""
     yield said(case) or "found"
 
 
 def random_check(random: Random) -> Iterator[CaseAt]:
-    """A check of a keytab of some parts."""
+    """Yields a check of a keytab of a few parts."""
     image, is_big = CHECKED.random_keytab(random)
     yield partial(ktcheck, image, v1_big=is_big)
 
 
 def kinds_of_check(case: Case) -> Iterator[str]:
-    """The words that its lines begin with."""
+    """Yields the first words of its lines."""
     yield from {line.split()[0].decode() for line in case.wanted.out.splitlines()}
 
 
 def random_asked(random: Random) -> Asked:
-    """What is asked for, at least something."""
+    """Returns random selectors, at least one."""
     while True:
         name = name_text(random.choice(REMOVED.names)) if random.random() < 0.4 else None
         kvno = random.choice([None, OLD, OLD, random.choice(REMOVED.versions)])
@@ -69,7 +69,7 @@ def random_asked(random: Random) -> Asked:
 
 
 def random_removal(random: Random) -> Iterator[CaseAt]:
-    """A removal from a keytab of some parts, and the same once more over what it left."""
+    """Yields a removal from a keytab of a few parts, and the same again over the file that it left."""
     image, is_big = REMOVED.random_keytab(random)
     asked, is_dry = random_asked(random), random.random() < 0.2
     for _ in range(2):
@@ -79,21 +79,21 @@ def random_removal(random: Random) -> Iterator[CaseAt]:
 
 
 def random_ticket(random: Random) -> Credential:
-    """A ticket for one of the servers."""
+    """Returns a ticket for one of the servers."""
     ticket = replace(random_credential(random), server=random.choice(SERVERS),
                      endtime=random.choice(TIMES))
     return ticket.removed() if random.random() < 0.2 else ticket
 
 
 def random_tickets_asked(random: Random) -> AskedTickets:
-    """What is asked for, at least something."""
+    """Returns random selectors, at least one."""
     server = random.choice(SERVERS)
     service = name_text((*server.components, server.realm)) if random.random() < 0.6 else None
     return AskedTickets(service, service is None or random.random() < 0.4)
 
 
 def random_ticket_removal(random: Random) -> Iterator[CaseAt]:
-    """A removal from a cache, and the same once more over what it left."""
+    """Yields a removal from a cache, and the same again over the file that it left."""
     image = with_damage(random, filled_cache(random, random.choice([3, *[4] * 9]), [random_ticket] * 3, 9), 0.1)
     asked, is_dry = random_tickets_asked(random), random.random() < 0.2
     for _ in range(2):
@@ -103,7 +103,7 @@ def random_ticket_removal(random: Random) -> Iterator[CaseAt]:
 
 
 def kinds_of_removal(case: Case) -> Iterator[str]:
-    """What kind of answer it is."""
+    """Yields the kind of the result."""
     if case.wanted.status:
         yield said(case).split(" (")[0]
     else:

@@ -1,4 +1,4 @@
-"""Random keytabs: any images, those that are to be changed, and those of few names, of which many entries agree."""
+"""Random keytabs: any images, those to be changed, and those of few names, so that many entries share one."""
 
 from dataclasses import dataclass, replace
 from random import Random
@@ -10,18 +10,18 @@ from peers import corpus
 # Keytabs of other programs.
 SAMPLES = corpus.images("keytab")
 
-# Lengths that run past the end, end the file, or are cut.
+# Lengths that run past the end, end the file, or are cut off.
 LENGTHS = [END, b"\0", b"\0\0\0\1", b"\x7f\xff\xff\xff", b"\x80\0\0\0", b"\xff\xff\xff\xff"]
 
 
 def random_bytes(random: Random, most: int) -> bytes:
-    """Bytes of which many are quoted in names."""
+    """Returns bytes, many of which are quoted in names."""
     alphabet = b"/@\\\n\t\b\0abcxyz\xff\xc3\xa9 "
     return bytes(random.choices(alphabet, k=random.randrange(most + 1)))
 
 
 def random_entry(random: Random) -> Entry:
-    """An entry with any fields. Its count of components is mostly the true one."""
+    """Returns an entry with any fields. Its count of components is mostly the true one."""
     return Entry(
         components=tuple(random_bytes(random, 5) for _ in range(random.choice([0, 1, 2, 2, 3]))),
         realm=random_bytes(random, 4),
@@ -36,7 +36,7 @@ def random_entry(random: Random) -> Entry:
 
 
 def any_part(random: Random, version: int, order: str) -> bytes:
-    """A record, a hole or an odd length."""
+    """Returns a record, a hole or an odd length."""
     kind = random.random()
     if kind < 0.7:
         entry = random_entry(random).spelled(version, order)
@@ -51,7 +51,7 @@ def any_part(random: Random, version: int, order: str) -> bytes:
 
 
 def random_image(random: Random) -> bytes:
-    """A keytab of up to five parts, of which a third is damaged."""
+    """Returns a keytab of up to five parts, damaged a third of the time."""
     version = random.choice([1, 2, 2])
     order = random.choice([BIG, LITTLE]) if version == 1 else BIG
     parts = (any_part(random, version, order) for _ in range(random.randrange(6)))
@@ -60,7 +60,7 @@ def random_image(random: Random) -> bytes:
 
 
 def sound_part(random: Random, version: int, order: str) -> bytes:
-    """A record, perhaps with bytes after its entry, or a hole that may have room for an entry."""
+    """Returns a record, perhaps with bytes after its entry, or a hole that may have room for an entry."""
     if random.random() < 0.3:
         return hole(random.randbytes(random.randrange(1, 130)), order)
     data = replace(random_entry(random), count=None).spelled(version, order)
@@ -69,9 +69,9 @@ def sound_part(random: Random, version: int, order: str) -> bytes:
 
 
 def random_keytab(random: Random, most: int = 7) -> tuple[bytes, bool]:
-    """A keytab of at most that many parts, and whether it is read as big-endian.
+    """Returns a keytab of at most that many parts, and whether it is read as big-endian.
 
-    Some are damaged, some no keytabs.
+    Some are damaged, and some are not keytabs.
     """
     v1_big = random.random() < 0.3
     kind = random.random()
@@ -89,7 +89,7 @@ def random_keytab(random: Random, most: int = 7) -> tuple[bytes, bool]:
 
 @dataclass(frozen=True)
 class Choices:
-    """What the fields of entries are chosen from. A name is its components and then a realm."""
+    """What the fields of entries are chosen from. A name is its components followed by a realm."""
 
     names: tuple[tuple[bytes, ...], ...]
     versions: tuple[int, ...]
@@ -98,7 +98,7 @@ class Choices:
     keys: tuple[bytes, ...] = (b"", b"\0", b"\0\0")
 
     def random_part(self, random: Random, version: int, order: str) -> bytes:
-        """A record, a hole, or now and then an odd part."""
+        """Returns a record, a hole, or sometimes an odd part."""
         *components, realm = random.choice(self.names)
         kvno = random.choice(self.versions)
         wide = kvno > 255 or random.random() < 0.5
@@ -120,7 +120,7 @@ class Choices:
         return random.choice([END, b"\0", record(b"\0", order), b"\x7f\xff\xff\xff"])
 
     def random_keytab(self, random: Random) -> tuple[bytes, bool]:
-        """A keytab of some parts, and whether it is big-endian where it is of version 1."""
+        """Returns a keytab of a few parts, and whether it is big-endian if it is of version 1."""
         version, is_big = random.choice([1, 2, 2]), random.random() < 0.5
         order = BIG if version == 2 or is_big else LITTLE
         parts = [self.random_part(random, version, order) for _ in range(random.randrange(12))]

@@ -12,15 +12,15 @@ from models.ktutil_model import SPELLINGS, Ktutil
 from runs.harness import Case
 from runs.random_runs import CaseAt, Topic
 
-# The commands, by how often, and a line of none.
+# The commands, by how frequent they are, and a line that is no command.
 COMMANDS = {Ktutil.list_slots: 4, Ktutil.read_kt: 7, Ktutil.write_kt: 5, Ktutil.add_entry: 5, Ktutil.delete_entry: 3,
             Ktutil.clear_list: 1, Ktutil.quit: 1, None: 1}
 WORDS = {**SPELLINGS, None: (b"", b" \t")}
 
-# Files that are there, may be missing, have no folder, are a folder, or are no text.
+# Files that exist, may be missing, have no folder, or are a folder, and names that are not text.
 NAMES = [*[b"a", b"b", b"c"] * 5, b"d", b"no/k", b".", b"\xff", b"a\\\\", b"\0"]
 
-# The kinds of answers that have to come up.
+# The kinds of results that have to occur.
 KINDS = (
     "slot", "refused 1", "no such file", "cannot read", "cannot write", "not a keytab",
     *(f"fault {number}" for number in range(1, 9)),
@@ -28,7 +28,7 @@ KINDS = (
 
 
 def random_entry_lines(random: Random, word: bytes) -> list[bytes]:
-    """The line of a new entry with its options in any order, and the line of its key."""
+    """Returns the line of a new entry with its options in any order, and the line of its key."""
     etype, key = random_etype_and_key(random)
     if random.random() < 0.1:
         key = random.choice(NO_KEYS)
@@ -41,7 +41,7 @@ def random_entry_lines(random: Random, word: bytes) -> list[bytes]:
 
 
 def random_lines(random: Random) -> list[bytes]:
-    """One command, perhaps a faulty one."""
+    """Returns the lines of one command, perhaps a faulty one."""
     if random.random() < 0.06:
         return [random.choice(list(FAULTS)).encode()]
     command = random.choices(list(COMMANDS), COMMANDS.values())[0]
@@ -59,7 +59,7 @@ def random_lines(random: Random) -> list[bytes]:
 
 
 def random_input(random: Random) -> Iterator[CaseAt]:
-    """An input over some files."""
+    """Yields an input over some files."""
     files = {}
     v1_big = False
     for name in "abc":
@@ -72,7 +72,7 @@ def random_input(random: Random) -> Iterator[CaseAt]:
 
 
 def kinds_of(case: Case) -> Iterator[str]:
-    """The kinds of what a run prints and says."""
+    """Yields the kinds of a run's output and messages."""
     if case.wanted.out:
         yield "slot"
     for line in case.wanted.err.decode("latin-1").splitlines():

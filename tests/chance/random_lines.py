@@ -1,4 +1,4 @@
-"""Random lines of scripts over a store of either format, made beside the store that they change."""
+"""Random lines of scripts over a store of either format, made together with the store that they change."""
 
 from collections.abc import Callable, Iterable, Iterator
 from dataclasses import dataclass
@@ -15,13 +15,13 @@ from runs.random_runs import CaseAt, said
 
 
 def random_number(random: Random) -> str:
-    """A number, now and then with zeros before it."""
+    """Returns a number, sometimes with leading zeros."""
     number = random.choice([0, 1, 3, 255, 256, 300, 1_700_000_000, 2**32 - 1])
     return f"{number:010}" if random.random() < 0.1 else str(number)
 
 
 def random_name(random: Random) -> bytes:
-    """The text of a name, rarely one that is too long."""
+    """Returns the text of a name, rarely one that is too long."""
     parts = [random_bytes(random, 12) for _ in range(random.choice([1, 1, 2, 3]))]
     if random.random() < 0.01:
         parts[0] = b"x" * random.choice([300, 65_535, 65_536])
@@ -32,7 +32,7 @@ def random_name(random: Random) -> bytes:
 
 
 def random_etype_and_key(random: Random) -> tuple[str, str]:
-    """An enctype by number or name, and a key that it takes, in hexadecimal."""
+    """Returns an enctype by number or name, and a key for it, in hexadecimal."""
     number = random.choice([*KEY_SIZES, 0, 1, 999, 65_535])
     size = KEY_SIZES.get(number, random.randrange(40))
     named = number in NAMES and random.random() < 0.4
@@ -42,7 +42,7 @@ def random_etype_and_key(random: Random) -> tuple[str, str]:
 
 
 def random_place(random: Random, store: Store, of_records: bool) -> int:
-    """A place of the store, mostly of a record if so wanted, or now and then another number."""
+    """Returns a place of the store, mostly of a record if `of_records`, or sometimes another number."""
     places, records = store.places(), store.live_places()
     if of_records and records and random.random() < 0.9:
         return random.choice(records)
@@ -52,7 +52,7 @@ def random_place(random: Random, store: Store, of_records: bool) -> int:
 
 
 def walk_line(random: Random, session: Session, kind: str) -> bytes:
-    """A line of that kind, which is no addition."""
+    """Returns a line of that kind, which is not an addition."""
     words = [kind]
     if kind in ("resume", "cut"):
         words.append(str(random_place(random, session.store, kind == "cut")))
@@ -64,15 +64,15 @@ def walk_line(random: Random, session: Session, kind: str) -> bytes:
 
 @dataclass(frozen=True)
 class Scripts:
-    """How scripts over stores of a format are made."""
+    """Makes scripts over stores of a format."""
 
-    # A line that goes on from where a session stands, the event of a line, and lines with a fault.
+    # The next line of a session, the event of a line, and lines with a fault.
     line: Callable[[Random, Session], bytes]
     event: Callable[[bytes], Event]
     faults: Iterable[str]
 
     def random_script(self, random: Random, session: Session) -> bytes:
-        """A script over that session, rarely with very many walks or a faulty line."""
+        """Returns a script over the session, rarely with very many walks or a faulty line."""
         lines = [b"start"] * random.choice([0, 1, 1, 2])
         if random.random() < 0.01:
             lines = [b"start"] * 1_023
@@ -90,7 +90,7 @@ class Scripts:
 
     def in_turn(self, random: Random, image: bytes | None, session_over: Callable[[bytes | None], Session],
                 run: Callable[..., Case]) -> Iterator[CaseAt]:
-        """Up to three scripts in turn over one file, which may be missing at first."""
+        """Yields up to three scripts in turn over one file, which may be missing at first."""
         for _ in range(random.randrange(1, 4)):
             case_at = partial(run, image, self.random_script(random, session_over(image)))
             yield case_at
@@ -98,13 +98,13 @@ class Scripts:
 
 
 def reply_kind(line: bytes) -> str:
-    """The kind of a reply."""
+    """Returns the kind of a reply."""
     words = line.decode("latin-1").split(" ")
     at = {"walk": (0, 2), "refused": (0, 1)}.get(words[0], (0,))
     return " ".join(words[number] for number in at)
 
 
 def kinds_of(case: Case) -> Iterator[str]:
-    """The kinds of a run's lines."""
+    """Yields the kinds of a run's lines."""
     yield from map(reply_kind, case.wanted.out.splitlines())
     yield from filter(None, [said(case).split(" (")[0]])

@@ -1,4 +1,4 @@
-"""Listings of keytabs and caches, random ones and ones with damage, beside what the formats say of them."""
+"""Listings of keytabs and caches, random and damaged, compared with models of the formats."""
 
 import json
 import re
@@ -16,10 +16,10 @@ from runs.random_runs import CaseAt, Topic, said
 
 KEYTABS, CACHES = random_keytabs.SAMPLES, random_caches.SAMPLES
 
-# Names that several of these keytabs have.
+# Names that several of these keytabs share.
 NAMES = [(b"host", b"a", b"R"), (b"host", b"a", b"PEER.TEST"), (b"host", b"a.peer.test", b"PEER.TEST")]
 
-# The lines that each cache is listed by: two of these, of which the second has all columns.
+# The options that each cache is listed with: two of these; the second has all columns.
 LINES = [("c",), ("-c", "c"), ("-e", "c"), ("-f", "c"), ("-C", "c"), ("-cf", "c"), ("c", "-eC")]
 ALL_COLUMNS = ("-c", "-e", "-f", "-C", "c")
 
@@ -32,18 +32,18 @@ OF_JSON = ("keytab", "ccache", "refused", *(f"fault {kind}" for kind in (1, 2, 3
 
 
 def random_columns(random: Random) -> str:
-    """The letters of some columns."""
+    """Returns the letters of some columns."""
     return "".join(letter for letter in "teK" if random.random() < 0.4)
 
 
 def random_listing(random: Random) -> Iterator[CaseAt]:
-    """The listing of a keytab."""
+    """Yields the listing of a keytab."""
     image = random_image(random)
     yield partial(klist, image, columns=random_columns(random), v1_big=random.random() < 0.5)
 
 
 def damaged_keytab(random: Random) -> Iterator[CaseAt]:
-    """A damaged keytab: all columns in both orders of version 1, others, and a look-up."""
+    """Yields listings of a damaged keytab: all columns in both byte orders of version 1, others, and a look-up."""
     image = mutated(random, KEYTABS)
     for v1_big in (False, True):
         yield partial(klist, image, columns="tKe", v1_big=v1_big)
@@ -54,7 +54,7 @@ def damaged_keytab(random: Random) -> Iterator[CaseAt]:
 
 
 def kinds_of_keytab(case: Case) -> Iterator[str]:
-    """The kind of a listing's end, or of its refusal, or of a look-up."""
+    """Yields the kind of a listing's end, or of its refusal, or of a look-up."""
     if case.words[0] == "ktfind":
         yield "found" if case.wanted.out else "not found"
     else:
@@ -63,7 +63,7 @@ def kinds_of_keytab(case: Case) -> Iterator[str]:
 
 
 def cache_image(random: Random) -> bytes:
-    """A cache, of which half are damaged."""
+    """Returns a cache, damaged half of the time."""
     image = random_cache(random)
     if random.random() < 0.08:
         image = random.choice([image[: random.randrange(5)], b"\x05" + random.randbytes(30)])
@@ -71,23 +71,23 @@ def cache_image(random: Random) -> bytes:
 
 
 def cache_listings(random: Random, image: bytes) -> Iterator[CaseAt]:
-    """The listings of a cache."""
+    """Yields the listings of a cache."""
     for words in (random.choice(LINES), ALL_COLUMNS):
         yield partial(klist_cache, image, words=words)
 
 
 def random_cache_listings(random: Random) -> Iterator[CaseAt]:
-    """The listings of a random cache."""
+    """Yields the listings of a random cache."""
     yield from cache_listings(random, cache_image(random))
 
 
 def damaged_cache(random: Random) -> Iterator[CaseAt]:
-    """The listings of a damaged cache."""
+    """Yields the listings of a damaged cache."""
     yield from cache_listings(random, mutated(random, CACHES))
 
 
 def kinds_of_cache(case: Case) -> Iterator[str]:
-    """The kinds of an answer and of its lines."""
+    """Yields the kinds of the result and of its lines."""
     if said(case):
         yield said(case)
         return
@@ -104,7 +104,7 @@ def kinds_of_cache(case: Case) -> Iterator[str]:
 
 
 def random_json(random: Random) -> Iterator[CaseAt]:
-    """A keytab and a cache as JSON, with any options."""
+    """Yields a keytab and a cache as JSON, with any options."""
     image = mutated(random, KEYTABS) if random.random() < 0.5 else random_image(random)
     v1_big, columns = random.random() < 0.5, random_columns(random)
     words = ["--json", "-k" + columns, *big(v1_big)]
@@ -116,7 +116,7 @@ def random_json(random: Random) -> Iterator[CaseAt]:
 
 
 def kinds_of_json(case: Case) -> Iterator[str]:
-    """The kinds of an object."""
+    """Yields the kinds of an object."""
     if not case.wanted.out:
         yield "refused"
         return

@@ -1,8 +1,8 @@
 """Random scripts over random keytabs and caches, up to three in turn over one file, and long ones.
 
-Each is made beside the file that it changes, so that its places and walks are mostly there. A long one has
-thousands of events over one keytab, whose cells `ktedit` keeps a table of, by which it finds holes; `klist`
-and `ktfind` read the saved file from its front.
+Each is made together with the file that it changes, so that most of its places and walks exist. A long
+one has thousands of events over one keytab: `ktedit` finds holes by a table of its cells; `klist` and
+`ktfind` read the saved file from the start.
 """
 
 from collections.abc import Iterator
@@ -45,11 +45,11 @@ from models.walks import Session
 from runs.harness import Case
 from runs.random_runs import CaseAt, Topic
 
-# What a line may be, by how often.
+# The lines of a script, by how frequent they are.
 LINES = {"start": 3, "resume": 3, "step": 12, "add": 6, "cut": 5, "rewrite": 1, "#": 1, "": 1}
 CACHE_LINES = {"start": 3, "resume": 3, "step": 12, "config": 6, "cut": 4, "rewrite": 1, "#": 1, "": 1}
 
-# The kinds of lines that have to come up.
+# The kinds of lines that have to occur.
 REPLIES = ("walk at", "walk gave", "walk end", "walk fault", "placed", "gone", "rewritten")
 OF_KEYTABS = (*REPLIES, *(f"refused {code}" for code in (1, 2, 4, 5, 6, 7)),
               *(f"fault {number}" for number in range(1, 7)), "not a keytab")
@@ -61,7 +61,7 @@ OF_LONG = ("placed", "gone", "walk gave", "walk end", "walk at", "rewritten", "r
 EVENTS = 3_000
 CELLS = [0, 1, 2, 15, 63, 64, 65, 255, 256, 511, 700]
 
-# What one of its events may be, by how often, where the keytab grows and where it shrinks.
+# Its events, by how frequent they are, while the keytab grows and while it shrinks.
 MIXES = [
     {"add": 400, "cut": 100, "step": 100, "resume": 10, "start": 2, "rewrite": 0},
     {"add": 200, "cut": 250, "step": 200, "resume": 20, "start": 5, "rewrite": 1},
@@ -70,12 +70,12 @@ MIXES = [
 
 
 def chosen(random: Random, weights: dict[str, int]) -> str:
-    """One of them, by how often it comes."""
+    """Returns one of them, chosen by its weight."""
     return random.choices(list(weights), weights.values())[0]
 
 
 def random_line(random: Random, session: Session) -> bytes:
-    """A line that goes on from there."""
+    """Returns a line that continues the session."""
     kind = chosen(random, LINES)
     if kind == "add":
         etype, key = random_etype_and_key(random)
@@ -85,13 +85,13 @@ def random_line(random: Random, session: Session) -> bytes:
 
 
 def session_over(v1_big: bool, image: bytes | None) -> KeytabSession:
-    """A session over a keytab, or an empty one where it is none."""
+    """Returns a session over a keytab, or over an empty one if the image is not a keytab."""
     opened = b"\x05\x02" if image is None or no_keytab(image) else image
     return KeytabSession(Keytab(opened, v1_big))
 
 
 def random_runs(random: Random) -> Iterator[CaseAt]:
-    """Scripts over a keytab."""
+    """Yields scripts over a keytab."""
     image, v1_big = random_keytab(random)
     image = None if random.random() < 0.1 else image
     scripts = Scripts(random_line, script_model.event_in, FAULTS)
@@ -99,7 +99,7 @@ def random_runs(random: Random) -> Iterator[CaseAt]:
 
 
 def random_cache_line(random: Random, session: Session) -> bytes:
-    """A line that goes on from there."""
+    """Returns a line that continues the session."""
     kind = chosen(random, CACHE_LINES)
     if kind == "config":
         words = [b"config", random.choice(KEYS), random.choice(PRINCIPALS), random_value(random)]
@@ -108,7 +108,7 @@ def random_cache_line(random: Random, session: Session) -> bytes:
 
 
 def cache_image(random: Random) -> bytes:
-    """A cache, of which some are damaged, and few are none."""
+    """Returns a cache: some are damaged, and a few files are not caches."""
     is_filled = random.random() < 0.8
     image = (filled_cache(random, random.choice([3, 4, 4, 4]), [random_credential], 8) if is_filled
              else random_cache(random))
@@ -118,20 +118,20 @@ def cache_image(random: Random) -> bytes:
 
 
 def cache_session_over(image: bytes | None) -> CacheSession:
-    """A session over a cache, or an empty one where it is none."""
+    """Returns a session over a cache, or over an empty one if the image is not a cache."""
     is_cache = image is not None and not isinstance(read_cache(image), int)
     return CacheSession(Cache(image if is_cache else cache()))
 
 
 def random_cache_runs(random: Random) -> Iterator[CaseAt]:
-    """Scripts over a cache, which now and then is missing."""
+    """Yields scripts over a cache, which is sometimes missing."""
     image = None if random.random() < 0.02 else cache_image(random)
     scripts = Scripts(random_cache_line, cache_script_model.event_in, CACHE_FAULTS)
     yield from scripts.in_turn(random, image, cache_session_over, ccedit)
 
 
 def many_cells(random: Random) -> tuple[bytes, bool]:
-    """A sound keytab, and whether it is read as big-endian."""
+    """Returns a sound keytab, and whether it is read as big-endian."""
     version, v1_big = random.choice([1, 2, 2, 2]), random.random() < 0.5
     order = BIG if version == 2 or v1_big else LITTLE
     parts = [sound_part(random, version, order) for _ in range(random.choice(CELLS))]
@@ -139,7 +139,7 @@ def many_cells(random: Random) -> tuple[bytes, bool]:
 
 
 def addition(random: Random) -> bytes:
-    """A line that adds an entry, of one of many sizes."""
+    """Returns a line that adds an entry of one of many sizes."""
     name = "x" * random.choice([1, 2, random.randrange(1, 30), random.randrange(1, 150)])
     key = random.randbytes(random.randrange(1, 20)).hex()
     kvno, etype = random.randrange(400), random.choice([1, 3])
@@ -147,7 +147,7 @@ def addition(random: Random) -> bytes:
 
 
 def long_line(random: Random, session: KeytabSession, mix: dict[str, int]) -> bytes:
-    """A line that goes on from there."""
+    """Returns a line that continues the session."""
     kind = chosen(random, mix)
     if kind == "add":
         return addition(random)
@@ -157,7 +157,7 @@ def long_line(random: Random, session: KeytabSession, mix: dict[str, int]) -> by
 
 
 def long_script(random: Random, session: KeytabSession) -> bytes:
-    """A script over that session: the keytab grows for a while, or shrinks."""
+    """Returns a script over the session: the keytab grows for a while, or shrinks."""
     lines = [b"start"]
     session.apply(script_model.event_in(lines[0]))
     while len(lines) < EVENTS:
@@ -170,7 +170,7 @@ def long_script(random: Random, session: KeytabSession) -> bytes:
 
 
 def is_word(name: tuple[bytes, ...]) -> bool:
-    """Whether the text of a name is UTF-8, as a word of a command line has to be."""
+    """Whether the text of a name is UTF-8, as an argument has to be."""
     try:
         name_text(name).decode()
     except UnicodeDecodeError:
@@ -179,7 +179,7 @@ def is_word(name: tuple[bytes, ...]) -> bool:
 
 
 def long_runs(random: Random) -> Iterator[CaseAt]:
-    """A script over a keytab, its listing afterwards, and look-ups of entries that it has."""
+    """Yields a script over a keytab, its listing afterwards, and look-ups of its entries."""
     image, v1_big = many_cells(random)
     case_at = partial(ktedit, image, long_script(random, session_over(v1_big, image)), v1_big=v1_big)
     yield case_at
@@ -192,7 +192,7 @@ def long_runs(random: Random) -> Iterator[CaseAt]:
 
 
 def kinds_of_long(case: Case) -> Iterator[str]:
-    """The kinds of a script's replies, or the command that reads."""
+    """Yields the kinds of a script's replies, or the command that reads."""
     yield from map(reply_kind, case.wanted.out.splitlines()) if case.words[0] == "ktedit" else [str(case.words[0])]
 
 

@@ -1,4 +1,4 @@
-"""The C library's header and manual page say what its exports are, and what parameters they take."""
+"""The C library's header and manual page name its exports and their parameters."""
 
 import glob
 import os
@@ -11,7 +11,7 @@ PAGE = os.path.join(TOP, "docs", "krbfile.3")
 EXPORT = re.compile(r'pub extern "C" fn (krbf_\w+)\(([^)]*)\)(?: -> (\w+))?', re.S)
 PROTOTYPE = re.compile(r"^(uint32_t|void) (krbf_\w+)\(([^)]*)\);", re.S | re.M)
 
-# What a parameter of an export is in C. An allocator takes no bytes.
+# The C form of an export's parameter. An allocator takes no bytes.
 IN_C = {
     "Global": [],
     "usize": ["size_t"],
@@ -25,17 +25,17 @@ IN_C = {
     **{f"&mut Krbf{name}": [f"krbf_{name.lower()} *"] for name in ("Bytes", "Entry", "Ticket", "Keytab", "Ccache")},
 }
 
-# A call's answer, and the kinds of its parameters.
+# A call's return type, and the kinds of its parameters.
 Signature = tuple[str, tuple[str, ...]]
 
 
 def parts(text: str) -> list[str]:
-    """What stands between commas."""
+    """Returns the parts between commas."""
     return [" ".join(part.split()) for part in text.split(",") if part.strip()]
 
 
 def exports() -> dict[str, Signature]:
-    """The exports of the sources, by name."""
+    """Returns the exports of the sources, by name."""
     found = {}
     for path in glob.glob(os.path.join(TOP, "crates/krb_c/src/**/*.rt"), recursive=True):
         with open(path, encoding="utf-8") as file:
@@ -47,13 +47,13 @@ def exports() -> dict[str, Signature]:
 
 
 def kind_of(parameter: str) -> str:
-    """The kind of a parameter in the header. Bytes and text are the same to an export."""
+    """Returns the kind of a parameter in the header. Bytes and text are the same to an export."""
     kind = re.sub(r"\w+$", "", parameter).strip()
     return re.sub(r"(uint8_t|char) \*", "bytes *", kind)
 
 
 def prototypes() -> dict[str, Signature]:
-    """The calls of the header, by name."""
+    """Returns the calls of the header, by name."""
     with open(HEADER, encoding="utf-8") as file:
         header = file.read()
     return {
@@ -63,7 +63,7 @@ def prototypes() -> dict[str, Signature]:
 
 
 def shown() -> dict[str, Signature]:
-    """The calls of the manual page's synopsis, by name."""
+    """Returns the calls of the manual page's synopsis, by name."""
     with open(PAGE, encoding="ascii") as file:
         page = file.read()
     return {
@@ -73,7 +73,7 @@ def shown() -> dict[str, Signature]:
 
 
 def check(report: Report, _program: str) -> None:
-    """Runs all of this topic."""
+    """Runs this topic."""
     said, there = prototypes(), exports()
     wrong = sorted(name for name in said.keys() | shown() if said.get(name) != shown().get(name))
     report.check("the synopsis of krbfile(3)", wrong)

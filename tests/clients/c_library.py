@@ -1,4 +1,4 @@
-"""The C library: C programs over it beside `krbfile`, with memory refused, and keys looked for."""
+"""The C library: C programs over it beside `krbfile`, with refused memory, and a search for keys left in memory."""
 
 import os
 import re
@@ -23,7 +23,7 @@ ADDED = "add 200 17 1700000000 000102030405060708090a0b0c0d0e0f c/abi@EXAMPLE.OR
 
 
 def is_built(report: Report, what: str) -> bool:
-    """Whether the library and a C compiler are there; else it is noted that a part is left out."""
+    """Whether the library and a C compiler are there; if not, reports that part as left out."""
     if not os.path.exists(LIBRARY):
         report.skip(what, "there is no C library: make lib builds it")
     elif shutil.which("cc") is None:
@@ -34,7 +34,7 @@ def is_built(report: Report, what: str) -> bool:
 
 
 def build(folder: str, name: str, *words: str, sources: str = SOURCES) -> str:
-    """Builds a C program of the tests with the library, and answers its path."""
+    """Builds a C program of the tests with the library, and returns its path."""
     path = os.path.join(folder, name)
     subprocess.run(["cc", *STRICT, *words, f"-I{TOP}/c", "-o", path,
                     os.path.join(sources, f"{name}.c"), LIBRARY], check=True, timeout=SECONDS)
@@ -42,7 +42,7 @@ def build(folder: str, name: str, *words: str, sources: str = SOURCES) -> str:
 
 
 def symbols(path: str, *words: str) -> set[str]:
-    """The symbols that a library defines for others."""
+    """Returns the symbols that a library exports."""
     listed = subprocess.run(["nm", "-g", "--defined-only", *words, path], check=True,
                             capture_output=True, text=True).stdout
     fields = (line.split() for line in listed.splitlines())
@@ -50,7 +50,7 @@ def symbols(path: str, *words: str) -> set[str]:
 
 
 def check_symbols(report: Report) -> None:
-    """Both libraries show the calls of the header and nothing else; the shared one has its name."""
+    """Checks that both libraries export the calls of the header only, and that the shared one has its name."""
     wanted = set(prototypes())
     for path, words in ((LIBRARY, ()), (SHARED, ("-D",))):
         found = symbols(path, *words)
@@ -62,7 +62,7 @@ def check_symbols(report: Report) -> None:
 
 
 def check_lists(report: Report, program: str, folder: str, name: str, option: str, images: Iterable[bytes]) -> None:
-    """A C program lists what `klist` does, and then looks at what it adds, under gcc's sanitizers."""
+    """Compares a C program's listing with that of `klist`, and then checks what it adds, under gcc's sanitizers."""
     built = build(folder, name, *SANITIZED)
     for image in images:
         with folder_of({"f": image}) as at:
@@ -89,7 +89,7 @@ PROGRAM_RUNS = (
 
 
 def check_example(report: Report, program: str) -> None:
-    """The example of krbfile(3) leaves the keytab that `ktremove` does, and prints no part of one."""
+    """Checks that the example of krbfile(3) leaves the same keytab as `ktremove`, and prints no part of one."""
     with open(os.path.join(TOP, "docs", "krbfile.3"), encoding="ascii") as file:
         source = re.findall(r"^#include <krbfile.*?^\}$", file.read(), re.DOTALL | re.M)
     keytab = SAMPLES["mixed.keytab"]
@@ -105,13 +105,13 @@ def check_example(report: Report, program: str) -> None:
 
 
 def check_memory(report: Report, folder: str) -> None:
-    """Each allocation of each call fails in turn."""
+    """Refuses each allocation of each call in turn."""
     built = build(folder, "refused_memory", "-Wl,--wrap=malloc,--wrap=realloc")
     report.compare("C: each allocation fails in turn", Outcome(0), run(built, (), folder))
 
 
 def check_given(report: Report, folder: str) -> None:
-    """Calls are given no bytes, and bytes that lie in their own keytab or cache."""
+    """Passes calls no bytes, and bytes inside their own keytab or cache."""
     for name in ("no_bytes", "own_bytes"):
         built = build(folder, name, *SANITIZED)
         report.compare(f"C: {name}.c under sanitizers", Outcome(0), run(built, (), folder))
@@ -124,7 +124,7 @@ def check_given(report: Report, folder: str) -> None:
 
 
 def check_keys(report: Report, program: str, folder: str) -> None:
-    """No block that is given back holds a key, in C and in the program."""
+    """Checks that no freed block holds a key, in C and in the program."""
     freed = os.path.join(folder, "freed.so")
     subprocess.run(["cc", "-shared", "-fPIC", "-O2", "-Wall", "-Wextra", "-Werror", "-o", freed,
                     os.path.join(SOURCES, "freed.c")], check=True, timeout=SECONDS)
@@ -147,7 +147,7 @@ def check_keys(report: Report, program: str, folder: str) -> None:
 
 
 def check(report: Report, program: str) -> None:
-    """Runs all of this topic, where the library was built."""
+    """Runs this topic if the library was built."""
     if not is_built(report, "the C library"):
         return
     check_symbols(report)

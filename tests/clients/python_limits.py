@@ -1,9 +1,9 @@
-"""Keytabs that are cut, damaged or at their limit, by Python's module: scripts, and what they print."""
+"""Keytabs that are cut, damaged or at their limit, through Python's module: scripts, and what they print."""
 
 from makers.images import HOST, TWO, keytab, old
 
 # Cut, damaged and limited keytabs: the places and versions of the entries before the fault, the status
-# that ends the walk there, and the fault.
+# that ends the iteration there, and the fault.
 DAMAGED = """
 from itertools import groupby
 from krbfile import Keytab, KrbfileError
@@ -36,7 +36,7 @@ for at in (6, 8, 31):
 print(seen(bytes([5])), seen(bytes([5, 3])), seen(bytes([4, 2])), seen(bytes([5, 2, 0]), limit=2))
 """
 
-# A rewrite that does not fit: version 2 has four bytes more for the type of a name.
+# A rewrite that does not fit: version 2 has four more bytes for the type of a name.
 TOO_LONG = """
 from krbfile import Keytab, KrbfileError
 import sys
@@ -52,7 +52,7 @@ with Keytab.open(image, limit=len(image)) as keytab:
 """
 
 
-# HOST stands at 2, B at 53, and 98 bytes are all.
+# HOST is at 2, B at 53, and the file has 98 bytes.
 SCRIPTS = (
     ("damaged keytabs", DAMAGED, TWO, [
         "0 11",

@@ -1,4 +1,4 @@
-"""Python's module over the C library: each of its calls, with what it gives written by hand."""
+"""Python's module over the C library: each of its calls, with the expected results written by hand."""
 
 import os
 import subprocess
@@ -77,7 +77,7 @@ with Cache.create("a@R", limit=30) as made:
         print(error.status, error, made.image.hex())
 """
 
-# What is no number, no bytes or no text, and numbers that do not fit.
+# Values that are not numbers, bytes or text, and numbers that do not fit.
 REFUSED = """
 from dataclasses import replace
 from krbfile import Cache, Keytab, Ticket
@@ -156,7 +156,7 @@ found = keytab.find("a@R")
 print(found.kvno == 2**32 - 1, found.enctype == 2**16 - 1, found.key, found.timestamp == 2**32 - 1)
 """
 
-# Two threads walk a keytab, and one reads what another moves in memory.
+# Two threads iterate over a keytab, and one reads what another moves in memory.
 THREADS = """
 from krbfile import Keytab
 from threading import Thread
@@ -200,8 +200,8 @@ with Keytab.open(sys.stdin.buffer.read()) as keytab:
 """
 
 
-# What the first two scripts leave. HOST has 51 bytes, B 45: c@R is put where HOST stood. The ticket stands at 22, the
-# value at 130.
+# The keytab and the cache that the first two scripts leave. HOST has 51 bytes, B 45: c@R takes the place of HOST.
+# The ticket is at 22, the value at 130.
 KEYTAB_AFTER = keytab(Entry((b"c",), key=bytes(16), version8=7, version32=7, timestamp=5), B)
 CACHE_AFTER = cache(Credential(server=Name((b"host", b"a")), is_skey=1, second_ticket=b"2"),
                           config(b"pa_type", b"3", b"krbtgt/R@R"))
@@ -238,7 +238,7 @@ SCRIPTS = (
         f"[b'host/a@R'] {CACHE_AFTER.hex()}",
         f"33 the file would be longer than its limit {cache(default=Name((b'a',))).hex()}",
     ]),
-    # How many calls there are, and what they raise.
+    # The number of calls of each kind, and what they raise.
     ("what it refuses", REFUSED, TWO, [
         *3 * ["20 OverflowError"], *3 * ["20 TypeError"], *4 * ["7 TypeError"], *3 * ["10 TypeError"], "6 TypeError",
         "True", "True True b'k' True",
@@ -250,7 +250,7 @@ SCRIPTS = (
 
 
 def check(report: Report, _program: str) -> None:
-    """Runs all of this topic, where the library was built."""
+    """Runs this topic if the library was built."""
     if not os.path.exists(LIBRARY):
         report.skip("Python's module", "there is no C library: make lib builds it")
         return

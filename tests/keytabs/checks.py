@@ -14,7 +14,7 @@ from runs.rows import BAD_LINE, check_rows, over, printed
 # The smallest length that MIT's reader takes for the end.
 LONG = 32_768
 
-# Entries that MIT's programs end before, and some that they list.
+# Entries at which MIT's programs stop, and some that they list.
 ODD = {
     "no components": Entry(()),
     "no components and an empty realm": Entry((), b""),
@@ -42,12 +42,12 @@ EVEN = {
 
 
 def check_up(name: str, image: bytes, *lines: str, status: int = 0, options: str = "") -> Case:
-    """A check of that image, which is its owner's alone."""
+    """Returns a check of that image, readable by its owner only."""
     return over(name, f"ktcheck {options} k", image, printed(*lines, status=status))
 
 
 def hidden() -> list[Case]:
-    """Which entries MIT's programs end before, each between two that they list."""
+    """Returns a check of each entry at which MIT's programs stop, between two that they list."""
     first, last = Entry((b"first",)), Entry((b"last",), key=b"")
     cases = []
     for version, order in ((2, BIG), (1, LITTLE)):
@@ -57,13 +57,13 @@ def hidden() -> list[Case]:
             got = checked(image)
             where = place if name in ODD else place + 4 + len(entry.spelled(version, order))
             told = [line for line in got.out.split(b"\n") if line.startswith(b"hidden ")]
-            # The last one has no key, and is told where none before it is.
+            # The last one has no key, and is reported if none before it is.
             assert [line.split()[1] for line in told] == [b"%d" % where], (name, told)
             cases.append(over(f"hidden, {name}, version {version}", "ktcheck k", image, got))
     return cases
 
 
-# Each record of a@R has 45 bytes. The last version of a name is its newest, and all before are old.
+# Each record of a@R has 45 bytes. The newest version of a name comes last; all before are old.
 WEAK = (1, 2, 3, 4, 6, 8, 16, 23, 24)
 ENCTYPES = (1, 2, 3, 4, 5, 6, 7, 8, 9, 16, 17, 18, 23, 24, 25)
 OF_WEAK = [f"{word} {2 + 45 * at} kvno {each} etype {each} a@R" for at, each in enumerate(ENCTYPES)
@@ -71,9 +71,9 @@ OF_WEAK = [f"{word} {2 + 45 * at} kvno {each} etype {each} a@R" for at, each in 
 
 FILES = {"k": b"xy", "c": b"\x05\x04"}
 
-# They are run where a new file is its owner's alone.
+# They run with new files readable by their owner only.
 ROWS = [
-    # Each word, and what is no finding.
+    # Each word, and entries without findings.
     check_up("nothing", TWO, "entries 2 free 0 holes 0"),
     check_up("no entry", keytab(), "entries 0 free 0 holes 0"),
     check_up("old", FOUR, "old 2 kvno 3 etype 17 host/a@R", "entries 4 free 0 holes 0"),
@@ -101,7 +101,7 @@ ROWS = [
     check_up("version 1, big-endian", old(HOST, B, order=BIG), "entries 2 free 0 holes 0", options="--v1-big"),
     check_up("version 1, big-endian, read as little", old(HOST, B, order=BIG), "fault 2 at 2",
              "entries 0 free 0 holes 0", status=1),
-    # Files that are no keytabs, and command lines that are not read.
+    # Files that are not keytabs, and command lines that are refused.
     Case("k", ("ktcheck", "k"), message(1, "k: not a keytab (2)"), FILES),
     Case("c", ("ktcheck", "c"), message(1, "c: not a keytab (2)"), FILES),
     Case("no file", ("ktcheck", "no"), message(1, "no: no such file"), FILES),
@@ -113,7 +113,7 @@ ROWS = [
 
 
 def check_modes(report: Report, program: str) -> None:
-    """The mode of a plain file, also one behind a link, is told where others may read or write it."""
+    """Checks that the mode of a plain file, also through a link, is reported if others may read or write it."""
     rows = [(0o600, None, 0), (0o400, None, 0), (0o611, None, 0), (0o7711, None, 0),
             (0o640, "640", 0), (0o660, "660", 0), (0o620, "620", 0), (0o604, "604", 1),
             (0o602, "602", 1), (0o644, "644", 1), (0o666, "666", 1), (0o4640, "4640", 0),
@@ -134,7 +134,7 @@ def check_modes(report: Report, program: str) -> None:
 
 
 def check(report: Report, program: str) -> None:
-    """Runs all of this topic."""
+    """Runs this topic."""
     before = os.umask(0o077)
     try:
         check_rows(report, program, [*ROWS, *hidden()])

@@ -1,4 +1,4 @@
-"""Listings with times, enctypes and keys. What is wanted is written by hand."""
+"""Listings with times, enctypes and keys. The expected results are written by hand."""
 
 from keytabs.listings import B_LINE, HOST_LINE, case, listed
 from makers.images import B, BIG, HOST, TWO, Entry, hole, keytab, old, record
@@ -41,7 +41,7 @@ KNOWN_TIMES = {
 
 
 def sample(letters: str) -> bytes:
-    """The listing of TWO with those columns."""
+    """Returns a listing of TWO with those columns."""
     time = TIME if "t" in letters else b""
     etype = ETYPE if "e" in letters else b""
     host, b = (HOST_KEY, B_KEY) if "K" in letters else (b"", b"")
@@ -50,19 +50,19 @@ def sample(letters: str) -> bytes:
 
 
 def of_enctypes(name: str, numbers) -> Case:
-    """Entries of those enctypes."""
+    """Returns a listing of entries of those enctypes."""
     lines = (b"   3 a@R (%s)" % NAMES.get(number, b"etype %d" % number) for number in numbers)
     return case(name, keytab(*(Entry((b"a",), enctype=number, key=b"") for number in numbers)), *lines, letters="e")
 
 
 def of_keys(name: str, *keys: bytes) -> Case:
-    """Entries of those keys."""
+    """Returns a listing of entries of those keys."""
     lines = (b"   3 a@R (0x%s)" % key.hex().encode() for key in keys)
     return case(name, keytab(*(Entry((b"a",), key=key) for key in keys)), *lines, letters="K")
 
 
 def times_of(name: str, texts: dict[int, bytes]) -> Case:
-    """A listing of entries of those times."""
+    """Returns a listing of entries of those times."""
     return case(name, keytab(*(Entry((b"a",), timestamp=second) for second in texts)),
                 *(b"   3 " + text + b" a@R" for text in texts.values()), letters="t")
 
@@ -76,7 +76,7 @@ CASES = [
     # TWO with each set of columns, and no entry at all.
     *(over(f"TWO with {letters!r}", f"klist -k{letters} k", TWO, Outcome(0, sample(letters))) for letters in SETS),
     *(case(f"no entry with {letters!r}", keytab(), letters=letters) for letters in SETS),
-    # Whole lines with all columns, beside what goes wrong in a file.
+    # Whole lines with all columns, with faults of the file.
     case("a wide version and a quoted name",
          keytab(Entry((b"a/b@c\\\n\0",), b"x y", version8=16, version32=10_000, enctype=23, key=b"\xff")),
          b"10000 " + TIME + b"a\\/b\\@c\\\\\\n\\0@x y (arcfour-hmac) (0xff)", letters="teK"),

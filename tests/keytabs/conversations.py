@@ -1,4 +1,4 @@
-"""ktutil with somebody at the other end: each line is answered before the next one is there."""
+"""ktutil with somebody at the other end: each line is handled before the next one arrives."""
 
 import os
 import pty
@@ -17,7 +17,7 @@ LISTED = text(TWO_LISTED)
 
 
 class Talk:
-    """A run of ktutil whose input stays open."""
+    """A run of ktutil with its input left open."""
 
     def __init__(self, program: str, folder: str, stdin: int, input_end: int) -> None:
         self.input_end = input_end
@@ -27,7 +27,7 @@ class Talk:
         os.close(stdin)
 
     def send(self, data: bytes) -> None:
-        """Gives it some bytes."""
+        """Sends it some bytes."""
         os.write(self.input_end, data)
 
     def take(self, count: int, stream) -> bytes:
@@ -47,12 +47,12 @@ class Talk:
             self.found.append(f"{short(heard)} came, not {short(wanted)}")
 
     def hear_nothing(self) -> None:
-        """For a while there is no output."""
+        """Checks that there is no output for a while."""
         if select.select([self.run.stdout, self.run.stderr], [], [], 0.2)[0]:
             self.found.append("something came")
 
     def end(self, wanted: Outcome) -> None:
-        """The run ends by itself, with that and no more."""
+        """Checks that the run ends by itself, with that output and no more."""
         try:
             out, err = self.run.communicate(timeout=SECONDS)
             self.found += differences(wanted, Outcome(self.run.returncode, out or b"", err))
@@ -62,7 +62,7 @@ class Talk:
 
 
 def talk_lines(talk: Talk) -> None:
-    """Lines one by one, one in pieces, and faults in their turn."""
+    """Sends lines one by one, one in pieces, with some faulty ones among them."""
     talk.send(b"l\n")
     talk.hear(NO_SLOTS)
     talk.send(b"rkt k\nl\n")
@@ -76,7 +76,7 @@ def talk_lines(talk: Talk) -> None:
 
 
 def talk_to_quit(talk: Talk) -> None:
-    """The input stays open behind a `quit`."""
+    """Checks that the run ends after a `quit` with its input left open."""
     talk_lines(talk)
     talk.send(b"q\n")
     talk.end(Outcome(1))
@@ -84,7 +84,7 @@ def talk_to_quit(talk: Talk) -> None:
 
 
 def talk_to_end(talk: Talk) -> None:
-    """The input ends in the midst of a line, which is then handled."""
+    """Checks that a last line is handled if the input ends within it."""
     talk_lines(talk)
     talk.send(b"l")
     talk.hear_nothing()
@@ -93,7 +93,7 @@ def talk_to_end(talk: Talk) -> None:
 
 
 def talk_to_nobody(talk: Talk) -> None:
-    """The reader of the output goes away: the run ends at once, though its input stays open."""
+    """Closes the reader of the output: the run ends at once, though its input is still open."""
     talk.send(b"l\n")
     talk.hear(NO_SLOTS)
     talk.run.stdout.close()
@@ -107,7 +107,7 @@ def talk_to_nobody(talk: Talk) -> None:
 
 
 def talk_at_terminal(talk: Talk) -> None:
-    """A terminal gives whole lines, and its end-of-file character ends the input."""
+    """Checks that a terminal gives whole lines, and that its end-of-file character ends the input."""
     talk_lines_at_terminal = (b"l\n", NO_SLOTS), (b"rkt k\nl\n", LISTED)
     for line, wanted in talk_lines_at_terminal:
         talk.send(line)
@@ -118,12 +118,12 @@ def talk_at_terminal(talk: Talk) -> None:
 
 
 def listed_at(now: int) -> bytes:
-    """The listing of an entry that has that time."""
+    """Returns the listing of an entry that has that time."""
     return text(TIMES) + b"   1    3 " + time_text(now) + b" host/a@R\n"
 
 
 def check_start(report: Report, program: str) -> None:
-    """The time of an entry is that of the run's start, however long after it the entry is added."""
+    """Checks that an entry gets the time of the run's start, however long after it the entry is added."""
     before = int(time.time())
     with folder_of({}) as folder:
         talk = Talk(program, folder, *os.pipe())
@@ -141,7 +141,7 @@ def check_start(report: Report, program: str) -> None:
 
 
 def terminal() -> tuple[int, int]:
-    """A terminal without echo: its two ends."""
+    """Returns a terminal without echo: its two ends."""
     master, slave = pty.openpty()
     settings = termios.tcgetattr(slave)
     settings[3] &= ~termios.ECHO
@@ -150,7 +150,7 @@ def terminal() -> tuple[int, int]:
 
 
 def check(report: Report, program: str) -> None:
-    """Runs all of this topic."""
+    """Runs this topic."""
     talks = [
         ("up to quit", os.pipe, talk_to_quit),
         ("up to the end of the input", os.pipe, talk_to_end),

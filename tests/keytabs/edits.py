@@ -1,4 +1,4 @@
-"""Scripts of `ktedit`: the replies and the file that is saved, each wanted text written by hand."""
+"""Scripts of `ktedit`: the replies and the file that is saved, each expected text written by hand."""
 
 from collections.abc import Callable
 
@@ -18,37 +18,37 @@ GAVE_B = "walk 0 gave 53 next 98 kvno 3 etype 17 b@R"
 
 
 def by_line(lines: dict[int, list[str]]) -> dict[str, int]:
-    """The fault of each line, from the lines of each fault."""
+    """Returns the fault of each line, from the lines of each fault."""
     return {line: fault for fault, those in lines.items() for line in those}
 
 
-# Lines that have a fault in a script over a keytab and in one over a cache, and which.
+# Lines that are faulty in a script over a keytab and in one over a cache, and their faults.
 LINE_FAULTS = by_line({
     1: [" ", " start", "Start", "start\r", "start\t", "put 2"],
     2: ["start ", "start 2", "rewrite 2", "resume", "resume 2 ", "resume  2", "step 0 0", "cut"],
     3: ["resume ", "step x", "step -1", "step +1", "cut 0x2", "cut 00000000002", "resume 4294967296"],
 })
 
-# A bad entry stands between two good ones.
+# A bad entry between two good ones.
 DAMAGED = keytab(HOST, record(bytes(10)), B)
 
-# An end mark stands behind an entry, with other bytes after it.
+# An end mark after an entry, with other bytes after it.
 MARKED = keytab(HOST, END, b"\xff" * 20)
 
 
 def refused(*replies: str) -> Outcome:
-    """Replies of which one tells of a refusal or a fault."""
+    """Returns replies, one of which reports a refusal or a fault."""
     return printed(*replies, status=1)
 
 
 def edit(name: str, image: bytes | None, script: bytes | list[str], wanted: Outcome | list[str],
          after: bytes | None = None, options: str = "") -> Case:
-    """A script of `ktedit` over the file `k`, or over none; see `over`."""
+    """Returns a script of `ktedit` over the file `k`, or over none; see `over`."""
     return over(name, f"ktedit {options} k", image, wanted, after, script)
 
 
 def faulty_lines(edit: Callable[..., Case], image: bytes, cut: str, faults: dict[str, int]) -> list[Case]:
-    """Each faulty line after a removal that is not run, the first of two, and one over no image."""
+    """Returns each faulty line after a removal that is not run, the first of two, and one before an empty file."""
     return [
         *(edit(f"faulty line {line!r}", image, [cut, line], message(1, f"line 2: fault {fault}"))
           for line, fault in faults.items()),
@@ -58,28 +58,28 @@ def faulty_lines(edit: Callable[..., Case], image: bytes, cut: str, faults: dict
 
 
 def each_number(edit: Callable[..., Case], name: str, image: bytes, places: tuple[int, ...]) -> Case:
-    """A walk from each number: those that are places, and no other, begin one."""
+    """Returns a walk from each number: those that are places begin one, others do not."""
     numbers = [*range(401), 2**31, 2**32 - 1]
     replies = (f"walk {places.index(it)} at {it}" if it in places else "refused 4" for it in numbers)
     return edit(f"each number, {name}", image, [f"resume {number}" for number in numbers], refused(*replies))
 
 
 def full_of_version_one() -> bytes:
-    """A keytab of version 1 as large as one may be, in which no entry has a 32-bit version."""
+    """Returns a keytab of version 1 of the greatest size, in which no entry has a 32-bit version."""
     front = old(*[Entry(key=bytes(65_535), version32=None)] * 255)
     bare = len(Entry(key=b"", version32=None).spelled(1, LITTLE))
     return front + old(Entry(key=bytes(LIMIT - len(front) - 4 - bare), version32=None))[2:]
 
 
 def file_is_full() -> Case:
-    """A keytab of the greatest size, which takes an entry only in place of another."""
+    """Returns a script over a keytab of the greatest size, which takes an entry only in place of another."""
     large = record(B.spelled() + bytes(LIMIT - 2 - 4 - 47 - 4 - 41))
     return edit("the file is full", keytab(HOST, large), [ADD_B, "cut 2", ADD_B],
                 refused("refused 3", "gone 2", "placed 2"), keytab(record(B.spelled() + bytes(6)), large))
 
 
 CASES = [
-    # Walks over a keytab that nothing changes.
+    # Walks over an unchanged keytab.
     edit("a walk to the end and on", TWO, ["start", *["step 0"] * 4],
          ["walk 0 at 2", GAVE_HOST, GAVE_B, "walk 0 end 98", "walk 0 end 98"]),
     edit("no entry", keytab(), ["start", "step 0"], ["walk 0 at 2", "walk 0 end 2"]),
@@ -100,7 +100,7 @@ CASES = [
          refused("walk 0 at 2", GAVE_HOST, *["walk 0 fault 3 at 53"] * 2)),
     edit("places before a fault", DAMAGED, ["resume 53", "step 0", "resume 67"],
          refused("walk 0 at 53", "walk 0 fault 3 at 53", "refused 4")),
-    # Walks over a keytab that is changed behind them, before them and where they stand.
+    # Walks over a keytab that is changed before, after and at their cursors.
     edit("put behind a walk", TWO, ["start", "step 0", "cut 2", ADD_C, "step 0", "step 0"],
          ["walk 0 at 2", GAVE_HOST, "gone 2", "placed 2", GAVE_B, "walk 0 end 98"],
          keytab(record(C.spelled() + bytes(6)), B)),
@@ -118,7 +118,7 @@ CASES = [
          keytab(47, B)),
     edit("a second run: the walk goes on", TWO, ["cut 53", ADD_C, "resume 53", "step 0", "step 0"],
          ["gone 53", "placed 53", "walk 0 at 53", GAVE_B.replace("b@R", "c@R"), "walk 0 end 98"], keytab(HOST, C)),
-    # Where additions and removals go, and when they are refused.
+    # Where entries are added and removed, and when that is refused.
     edit("the first hole with room", keytab(47, 41), [ADD_B], ["placed 2"],
          keytab(record(B.spelled() + bytes(6)), 41)),
     edit("a hole of just that size", keytab(hole(b"\xff" * 40), hole(b"\xff" * 41), hole(b"\xff" * 41)), [ADD_B],
@@ -135,7 +135,7 @@ CASES = [
     edit("a version of more than 8 bits", None, [ADD_B.replace("add 3", "add 300")], ["placed 2"],
          keytab(Entry((b"b",), key=B.key, version8=44, version32=300))),
     edit("a damaged keytab is not changed", DAMAGED, ["cut 2", ADD_B, "rewrite"], refused(*["refused 1"] * 3)),
-    # All records anew, and the walks carried along.
+    # Rewrites all records, and carries the walks along.
     edit("walks are carried", TWO, ["start", "step 0", "start", "cut 2", "rewrite", "step 0", "step 1"],
          ["walk 0 at 2", GAVE_HOST, "walk 1 at 2", "gone 2", "rewritten 47",
           *(f"walk {number} gave 2 next 47 kvno 3 etype 17 b@R" for number in (0, 1))], keytab(B)),
@@ -154,7 +154,7 @@ CASES = [
     edit("no file", None, ["rewrite"], ["rewritten 2"], keytab()),
     lambda: edit("too long in version 2", full_of_version_one(), ["resume 2", "rewrite", "resume 2"],
                  refused("walk 0 at 2", "refused 3", "walk 1 at 2")),
-    # Files that are missing, damaged, too large or none that is a keytab.
+    # Files that are missing, damaged, too large or not a keytab.
     edit("a new file", None, [ADD_B], ["placed 2"], keytab(B)),
     edit("no file, and nothing to save", None, ["start"], ["walk 0 at 2"]),
     edit("an empty script", TWO, [], []),

@@ -10,7 +10,7 @@ from runs.harness import Case, Outcome, Report, folder_of, message, run
 # The greatest size of a file that is read.
 LIMIT = 16_777_216
 
-# Whoever may not read what root has locked.
+# A user who may not read root's files.
 NOBODY = 65_534
 
 # Each is taken and printed as it is given.
@@ -18,17 +18,17 @@ NAMES = ["k", "two words", "schlüssel-ключ-鍵", "-k", "--v1-big", "-", "a:
 
 
 def sized(size: int) -> bytes:
-    """A keytab of that size: an entry, and a hole up to the end."""
+    """Returns a keytab of that size: an entry, and a hole up to the end."""
     return keytab(HOST, size - len(keytab(HOST)) - 4)
 
 
 def klist(name: str, file: str, wanted: Outcome, files: dict[str, bytes]) -> Case:
-    """A listing of a file of that name, whatever it looks like."""
+    """Returns a listing of a file of that name, whatever the name looks like."""
     return Case(name, ("klist", "-k", "--", file), wanted, files)
 
 
 def there(name: str, file: str, kept: str) -> Case:
-    """A listing of a file that is there."""
+    """Returns a listing of a file that exists."""
     return klist(name, file, Outcome(0, listed(HOST_LINE, B_LINE, name=file.encode())), {kept: TWO})
 
 
@@ -39,14 +39,14 @@ CASES = [
     *(there(f"file name {name!r}", name, name) for name in NAMES),
     *(klist(f"missing file {name!r}", name, message(1, f"{name}: no such file"), {"j": TWO})
       for name in ("k", "a k", "no/k", "")),
-    # The greatest file that is read, one that is a byte longer, and one that is no keytab anyway.
+    # The greatest file that is read, one that is a byte longer, and one that is not a keytab in any case.
     lambda: klist("a file of 16777216 bytes", "k", Outcome(0, listed(HOST_LINE)), {"k": sized(LIMIT)}),
     lambda: klist("a file of 16777217 bytes", "k", TOO_LARGE, {"k": sized(LIMIT + 1)}),
     lambda: klist("a large file that is no keytab", "k", TOO_LARGE, {"k": bytes(LIMIT + 1)}),
 ]
 
 
-# A folder; a file that opens, but whose first byte is never there; one without an end, and one without bytes.
+# A folder; a file that opens, but whose first byte is never there; an endless one, and an empty one.
 ODD = {
     "d": message(3, "d: cannot read"),
     "/proc/self/mem": message(3, "/proc/self/mem: cannot read"),
@@ -56,7 +56,7 @@ ODD = {
 
 
 def check_odd_files(report: Report, program: str, words: tuple[str, ...], odd: dict[str, Outcome]) -> None:
-    """Listings by those words of files that no table makes."""
+    """Checks listings by those words of files that are not in a table."""
     with folder_of({}) as folder:
         os.mkdir(os.path.join(folder, "d"))
         for name, wanted in odd.items():
@@ -67,7 +67,7 @@ def check_odd_files(report: Report, program: str, words: tuple[str, ...], odd: d
 
 
 def check_pipe(report: Report, program: str) -> None:
-    """A keytab that comes piece by piece through a pipe is read to its end."""
+    """Checks that a keytab that arrives in pieces through a pipe is read to its end."""
     pieces = "exec >k; printf '\\005'; sleep 0.1; printf '\\002\\377'; sleep 0.1; printf '\\377'"
     with folder_of({}) as folder:
         os.mkfifo(os.path.join(folder, "k"))
@@ -77,7 +77,7 @@ def check_pipe(report: Report, program: str) -> None:
 
 
 def check_unreadable(report: Report, program: str) -> None:
-    """A file that may not be read. Root reads each file, so root has another run the program."""
+    """Checks a file that may not be read. Root can read every file, so root has another user run the program."""
     options = {}
     if os.geteuid() == 0:
         options = {"user": NOBODY, "group": NOBODY, "extra_groups": []}
@@ -93,7 +93,7 @@ def check_unreadable(report: Report, program: str) -> None:
 
 
 def check(report: Report, program: str) -> None:
-    """Files that no table makes."""
+    """Checks files that are not in a table."""
     check_odd_files(report, program, ("klist", "-k"), ODD)
     check_pipe(report, program)
     check_unreadable(report, program)

@@ -15,7 +15,7 @@ FIVE = Entry(version8=5, version32=5)
 # host/a@R at 2, 53 and 120: version 3 of enctype 17, version 5 of 18, version 5 of 17.
 THREE = keytab(HOST, AES256, FIVE)
 
-# What is found there by a version and an enctype: the first entry of the highest version that is asked for.
+# The entry for a version and an enctype: the first of the highest version that is selected.
 OF_THREE = {
     "0 0": (53, 5, 18), "0 17": (120, 5, 17), "0 aes256-cts-hmac-sha1-96": (53, 5, 18),
     "3 0": (2, 3, 17), "3 17": (2, 3, 17), "5 0": (53, 5, 18), "5 17": (120, 5, 17),
@@ -25,7 +25,7 @@ OF_THREE = {
 
 
 def find(name: str, image: bytes, asked: str, wanted: Outcome | tuple[int, int, int], *options: str) -> Case:
-    """A look-up by a version, an enctype and a name.
+    """Returns a look-up by a version, an enctype and a name.
 
     Wanted is an outcome, or the place, the version and the enctype of an entry that prints with that name.
     """
@@ -35,7 +35,7 @@ def find(name: str, image: bytes, asked: str, wanted: Outcome | tuple[int, int, 
 
 
 def shown(place: int, kvno: int, etype: int, text: str) -> Outcome:
-    """An entry that is found."""
+    """Returns the outcome for an entry that is found."""
     return Outcome(0, f"found {place} kvno {kvno} etype {etype} {text}\n".encode())
 
 
@@ -72,18 +72,18 @@ NAMES: list[tuple[tuple[bytes, ...], bytes, tuple[str, ...]]] = [
 ]
 NAMED = [Entry(components, realm, version8=number, version32=None)
          for number, (components, realm, _) in enumerate(NAMES)]
-# No word means these: a name without components, and one that is no UTF-8.
+# No argument can name these: a name without components, and one that is not UTF-8.
 NAMELESS = [Entry(()), Entry((b"\xff",))]
 ALL_NAMES = keytab(*NAMELESS, *NAMED)
 
 
 def place_of(those: list[Entry], index: int) -> int:
-    """Where an entry stands in a keytab of those."""
+    """Returns the place of an entry in a keytab of those."""
     return 2 + sum(4 + len(entry.spelled()) for entry in those[:index])
 
 
 def named() -> list[Case]:
-    """Each name among all the others, by each of its texts."""
+    """Returns a look-up of each name among all the others, by each of its texts."""
     return [find(f"name {text[:50]!r}", ALL_NAMES, f"0 0 {text}",
                  shown(place_of([*NAMELESS, *NAMED], 2 + number), number, 17, texts[0]))
             for number, (_, _, texts) in enumerate(NAMES) for text in texts]
@@ -94,7 +94,7 @@ NEAR = ["host/b@R", "host/a@S", "host/a@", "hos/a@R", "host/aa@R", "host/a/@R", 
         "a/host@R", "Host/a@R", "host/a@RR", "host/a @R", "host@a", "host/\\0@R", "host/a\\0@R"]
 
 SAME = keytab(HOST, HOST, HOST)
-# Each entry has 47 bytes and its length 4, so they stand at 2, 53 and 104.
+# Each entry has 47 bytes after a length of 4, so they are at 2, 53 and 104.
 FALLING = keytab(*(Entry(version8=number, version32=number) for number in (9, 12, 4)))
 WIDE = keytab(Entry(version8=44, version32=300), Entry(version8=45, version32=None))
 ZERO = keytab(Entry(version8=0, version32=0), Entry(version8=7, version32=0))
@@ -102,14 +102,14 @@ GREATEST = keytab(HOST, Entry(version8=255, version32=2**32 - 1))
 TYPED = keytab(Entry(name_type=0), Entry(name_type=2**32 - 1, version8=4, version32=4))
 HOLES = keytab(hole(B.spelled()), HOST, 3, B)
 
-# A record of a@R with a key of 16 bytes has 45 bytes, its length among them.
+# A record of a@R with a key of 16 bytes has 45 bytes with its length.
 NUMBERS = (0, 1, 16, 17, 18, 19, 20, 23, 25, 26, 65_535)
 OF_NUMBERS = keytab(*(Entry((b"a",), enctype=number) for number in NUMBERS))
 ETYPES = {**{str(number): number for number in NUMBERS},
           **{name.decode(): number for number, name in columns.NAMES.items()}, "0000000018": 18}
 
 CASES = [
-    # Which of several entries of one name is taken.
+    # Which of several entries of one name is found.
     *(find(f"{asked} of three", THREE, f"{asked} host/a@R", wanted) for asked, wanted in OF_THREE.items()),
     find("the first of equals", SAME, "0 0 host/a@R", (2, 3, 17)),
     find("the first of equals by version", SAME, "3 17 host/a@R", (2, 3, 17)),
@@ -129,14 +129,14 @@ CASES = [
       for word, number in ETYPES.items()),
     *(find(f"enctype {number}, which none has", OF_NUMBERS, f"0 {number} a@R", NOT_FOUND)
       for number in (2, 15, 21, 24, 27, 256 + 17, 65_534)),
-    # Names that are there, and some that are not. The type of a name does not count.
+    # Names that exist, and some that do not. The type of a name does not count.
     *named(),
     *(find(f"no name {text!r}", TWO, f"0 0 {text}", NOT_FOUND) for text in NEAR),
     find("no components are not one empty one", keytab(Entry(())), "0 0 @R", NOT_FOUND),
     find("a name of type 0", TYPED, "3 0 host/a@R", (2, 3, 17)),
     find("a name of another type", TYPED, "4 0 host/a@R", (53, 4, 17)),
     find("no entry", keytab(), "0 0 b@R", NOT_FOUND),
-    # Holes, ends, and version 1 in both orders, where host/a@R has 43 bytes, for it has no name type.
+    # Holes, ends, and version 1 in both orders, in which host/a@R has 43 bytes, without a name type.
     find("an entry after holes", HOLES, "0 0 b@R", (105, 3, 17)),
     find("an entry between holes", HOLES, "0 0 host/a@R", (47, 3, 17)),
     find("an entry after the end", keytab(HOST, END, B), "0 0 b@R", NOT_FOUND),
@@ -147,7 +147,7 @@ CASES = [
     find("version 1, big-endian, read as little", old(HOST, B, order=BIG), "0 0 b@R", DAMAGED),
     find("version 1, little-endian, read as big", old(HOST, B), "0 0 b@R", DAMAGED, "--v1-big"),
     find("version 2 under --v1-big", TWO, "0 0 b@R", (53, 3, 17), "--v1-big"),
-    # Damaged files give nothing, even what stands before the fault.
+    # Damaged files give nothing, not even an entry before the fault.
     *(find(f"{kind}, {asked}", image, asked, DAMAGED) for asked in ("0 0 host/a@R", "0 0 x@R", "9 0 host/a@R")
       for kind, image in (("a cut length", TWO + b"\0"), ("a cut record", TWO[:-1]),
                           ("a bad entry", keytab(HOST, record(bytes(10)), B)))),

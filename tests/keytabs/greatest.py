@@ -1,6 +1,6 @@
-"""Files, scripts and inputs of 16,777,216 bytes, made of small things and of large ones.
+"""Files, scripts and inputs of 16,777,216 bytes, made of small parts and of large ones.
 
-What is wanted is worked out by hand: most of them repeat one thing.
+The expected results are computed by hand: most of them repeat one part.
 """
 
 from keytabs.file_names import LIMIT, TOO_LARGE, sized
@@ -9,18 +9,18 @@ from models.check_model import mode_of_files
 from runs.harness import Case, Outcome, message
 from runs.rows import over, printed, text
 
-# The smallest entry that has a component: 23 bytes with its 32-bit version, in a record of 27.
+# The smallest entry with a component: 23 bytes with its 32-bit version, in a record of 27.
 LEAST = Entry((b"",), b"", 1, 0, 0, 0, b"", 0)
 LEAST_RECORD = record(LEAST.spelled())
 LEAST_ADD = b"add 0 0 0 - @\n"
 SIZE = len(LEAST_RECORD)
 
-# How many of them a file has room for, where they stand, and where they end.
+# How many of them fit in a file, their places, and where they end.
 COUNT = (LIMIT - 2) // SIZE
 PLACES = range(2, 2 + SIZE * COUNT, SIZE)
 LAST, END = PLACES[-1], 2 + SIZE * COUNT
 
-# How many holes of a byte a file has room for.
+# How many holes of one byte fit in a file.
 HOLES = (LIMIT - 2) // 5
 
 # The longest component, and how many of 253 bytes one entry of the greatest file has.
@@ -32,43 +32,43 @@ SLOTS_HEADING = b"slot KVNO Principal\n---- ---- ---------\n"
 
 
 def filled(front: bytes) -> bytes:
-    """A keytab that is filled up to the limit with a hole."""
+    """Returns a keytab that is filled up to the limit with a hole."""
     rest = LIMIT - len(front) - 4
     return front + hole(bytes(rest)) if rest > 0 else front
 
 
 def repeated(piece: bytes) -> bytes:
-    """As much of a text as an input may have, with whole pieces alone."""
+    """Returns as many whole copies of a text as an input may have."""
     return piece * (LIMIT // len(piece))
 
 
 def at_each(form: bytes, places: range = PLACES) -> bytes:
-    """A line for each of the places."""
+    """Returns a line for each of the places."""
     return b"".join(form % place for place in places)
 
 
 def least() -> bytes:
-    """The keytab of the most entries that are spelled as they are written."""
+    """Returns the keytab of the most entries that are spelled as they are written."""
     return keytab(LEAST_RECORD * COUNT)
 
 
 def most_holes() -> bytes:
-    """The keytab of the most holes."""
+    """Returns the keytab of the most holes."""
     return keytab(hole(b"x") * HOLES)
 
 
 def of_many() -> bytes:
-    """A keytab of one entry whose components, all quoted in texts, fill a file."""
+    """Returns a keytab of one entry whose components, all quoted in texts, fill a file."""
     return keytab(Entry((b"/" * 253,) * MANY, key=b"", version32=None))
 
 
 def many_quoted(slash: bytes) -> bytes:
-    """The text of those components, where a slash is quoted so."""
+    """Returns the text of those components, with a slash quoted in that way."""
     return b"/".join([slash * 253] * MANY)
 
 
 def listings() -> list[Case]:
-    """Keytabs that are listed."""
+    """Returns listings of keytabs."""
     keys = keytab(*[Entry(key=bytes(LONGEST), version32=None)] * 255)
     lines = (b"   3 host/a@R (0x" + b"00" * LONGEST + b")\n") * 255
     return [
@@ -82,7 +82,7 @@ def listings() -> list[Case]:
 
 
 def json() -> list[Case]:
-    """Keytabs as JSON."""
+    """Returns listings of keytabs as JSON."""
     front, end = b'{"file":"k","kind":"keytab","version":2,"entries":[', b'],"fault":null}\n'
     form = b'{"place":%d,"principal":"@","kvno":0,"etype":0,"etype_name":null,"timestamp":0}'
     long_entry = (b'{"place":2,"principal":"%s@R","kvno":3,"etype":17,'
@@ -97,7 +97,7 @@ def json() -> list[Case]:
 
 
 def checks() -> list[Case]:
-    """Keytabs that are checked. Counts of 0 and above 32,767 hide entries from MIT's programs."""
+    """Returns checks of keytabs. Counts of 0 and above 32,767 hide entries from MIT's programs."""
     mode = mode_of_files()
     told = b"mode %o\n" % mode if mode & 0o66 else b""
     same = at_each(b"same %d 2 kvno 0 etype 0 @\n", PLACES[1:])
@@ -114,7 +114,7 @@ def checks() -> list[Case]:
 
 
 def most_of_one_name() -> Case:
-    """The most entries, of which all but the newest are old. This removal takes more memory."""
+    """Returns a removal from the most entries, all but the newest of which are old. It takes more memory."""
     newer = record(Entry((b"",), b"", 1, 0, 1, 0, b"", 1).spelled())
     return over("the most entries of one name", "ktremove -k old k", least()[:-SIZE] + newer,
                 Outcome(0, at_each(b"removed %d kvno 0 etype 0 @\n", PLACES[:-1])),
@@ -122,18 +122,18 @@ def most_of_one_name() -> Case:
 
 
 def many_long_names() -> Case:
-    """As many names with a long prefix, of which none is old. This too takes more memory."""
+    """Returns a removal from many names with a long prefix, none of which is old. This too takes more memory."""
     return over("as many names with a long prefix", "ktremove -k old k", keytab(
         *(Entry((b"x" * 200, b"%05d" % number), version32=None) for number in range(60_000))), [])
 
 
 def find(name: str, asked: str, image: bytes, wanted: Outcome) -> Case:
-    """A look-up of a name."""
+    """Returns a look-up of a name."""
     return Case(f"ktfind, {name}", ("ktfind", "k", "0", "0", asked), wanted, {"k": image})
 
 
 def finds() -> list[Case]:
-    """Look-ups in keytabs."""
+    """Returns look-ups in keytabs."""
     image = filled(keytab(LEAST_RECORD * (COUNT - 2), HOST))
     long = "x" * LONGEST
     return [
@@ -148,12 +148,12 @@ def finds() -> list[Case]:
 
 
 def edit(name: str, image: bytes | None, script: bytes, wanted: Outcome, after: bytes | None = None) -> Case:
-    """A script of `ktedit` over the file `k`, or over none; see `over`."""
+    """Returns a script of `ktedit` over the file `k`, or over none; see `over`."""
     return over(f"ktedit, {name}", "ktedit k", image, wanted, after, script)
 
 
 def edits() -> list[Case]:
-    """Keytabs that are changed by short scripts."""
+    """Returns short scripts that change keytabs."""
     walked = ["walk 0 at 2", f"walk 0 gave 2 next {2 + SIZE} kvno 0 etype 0 @", f"gone {LAST}", f"placed {LAST}",
               "refused 3", f"gone {LAST}", f"rewritten {LAST}",
               f"walk 0 gave {2 + SIZE} next {2 + 2 * SIZE} kvno 0 etype 0 @"]
@@ -173,7 +173,7 @@ def edits() -> list[Case]:
 
 
 def scripts() -> list[Case]:
-    """The longest scripts of small lines."""
+    """Returns the longest scripts of small lines."""
     starts, adds = repeated(b"start\n"), repeated(LEAST_ADD)
     walks = at_each(b"walk %d at 2\n", range(1024)) + b"refused 7\n" * (starts.count(b"\n") - 1024)
     placed = at_each(b"placed %d\n") + b"refused 3\n" * (adds.count(b"\n") - COUNT)
@@ -186,7 +186,7 @@ def scripts() -> list[Case]:
 
 
 def long_scripts() -> list[Case]:
-    """The longest scripts over a keytab of the most entries."""
+    """Returns the longest scripts over a keytab of the most entries."""
     cuts = at_each(b"cut %d\n")
     adds = LEAST_ADD * min(COUNT, (LIMIT - len(cuts)) // len(LEAST_ADD))
     none, steps = repeated(b"cut 3\n"), repeated(b"step 0\n")[: -len(b"step 0\n")]
@@ -201,12 +201,12 @@ def long_scripts() -> list[Case]:
 
 
 def talk(name: str, given: bytes, wanted: Outcome, files: dict[str, bytes], **after: bytes) -> Case:
-    """An input of ktutil, and the files that it adds or changes."""
+    """Returns a run of ktutil over an input, with the files that it adds or changes."""
     return Case(f"ktutil, {name}", ("ktutil",), wanted, files, {**files, **after}, given)
 
 
 def talks() -> list[Case]:
-    """The longest inputs of ktutil, and the greatest files that it reads and writes."""
+    """Returns runs of ktutil over the longest inputs, and over the greatest files that it reads and writes."""
     most = {"k": least()}
     added = b"addent -key -p @ -k 0 -e 0\n00\n"
     count = LIMIT // len(added) - 1
@@ -224,5 +224,5 @@ def talks() -> list[Case]:
 
 
 def cases() -> list[Case]:
-    """All of them but for removals and for caches, which are elsewhere."""
+    """Returns all these cases except removals and caches, which are elsewhere."""
     return [*listings(), *json(), *checks(), *finds(), *edits(), *scripts(), *long_scripts(), *talks()]

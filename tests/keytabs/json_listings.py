@@ -1,4 +1,4 @@
-"""Keytabs and caches as JSON by `klist --json`. Each wanted text is written by hand from the layout."""
+"""Keytabs and caches as JSON by `klist --json`. Each expected text is written by hand from the layout."""
 
 from dataclasses import replace
 
@@ -24,25 +24,25 @@ PA_TYPE_TEXT = b'{"place":148,"key":"pa_type","principal":"krbtgt/R@R","value":"
 
 
 def keytab_text(*those: bytes, version: int = 2, fault: bytes = b"null") -> bytes:
-    """The text of a keytab of those entries."""
+    """Returns the text of a keytab of those entries."""
     front = b'{"file":"k","kind":"keytab","version":%d,"entries":[' % version
     return front + b",".join(those) + b'],"fault":' + fault + b"}\n"
 
 
 def cache_text(tickets: bytes = b"", config_entries: bytes = b"", version: int = 4,
                default: bytes = b'"default_principal":"u@R"', fault: bytes = b"null") -> bytes:
-    """The text of a cache of those tickets and entries."""
+    """Returns the text of a cache of those tickets and entries."""
     front = b'{"file":"c","kind":"ccache","version":%d,' % version + default
     return b'%s,"tickets":[%s],"config":[%s],"fault":%s}\n' % (front, tickets, config_entries, fault)
 
 
 def case(name: str, line: str, image: bytes, wanted: bytes) -> Case:
-    """A file as JSON. A fault makes the status 1."""
+    """Returns a listing of a file as JSON. A fault makes the status 1."""
     return over(name, line, image, Outcome(0 if wanted.endswith(b'"fault":null}\n') else 1, wanted))
 
 
 def value(name: str, data: bytes, wanted: bytes) -> Case:
-    """A configuration entry of a value."""
+    """Returns a listing of a configuration entry with that value."""
     member = b'{"place":22,"key":"k","principal":null,' + wanted + b"}"
     return case(name, "klist --json c", cache(config(b"k", data)), cache_text(b"", member))
 
@@ -86,7 +86,7 @@ CASES = [
     case("a ticket of a user's own key", "klist --json c", cache(SKEY), cache_text(SKEY_TEXT)),
     case("a cut ticket", "klist --json c", USUAL[:-1],
          cache_text(TICKET_TEXT, PA_TYPE_TEXT, fault=b'{"kind":4,"place":284}')),
-    # Bytes that are escaped, bytes that are not, and bytes that are no UTF-8.
+    # Bytes that are escaped, bytes that are not, and bytes that are not UTF-8.
     value("bytes below 32", bytes(range(32)), b'"value":"' + LOW.encode() + b'"'),
     value("quotes", b'"\\/\x7f', b'"value":"\\"\\\\/\x7f"'),
     value("letters", "é€\U0001f600".encode(), '"value":"é€\U0001f600"'.encode()),
@@ -101,7 +101,7 @@ CASES = [
          cache_text(default=b'"default_principal_hex":"7540fe"')),
     case("a key and a principal that are no UTF-8", "klist --json c", cache(NO_TEXT),
          cache_text(b"", b'{"place":22,"key_hex":"ff","principal_hex":"8061","value":"2"}')),
-    # Nothing is printed where no file is read.
+    # Nothing is printed if no file is read.
     over("no file", "klist --json -k k", None, message(1, "k: no such file")),
     over("no keytab", "klist -k --json k", b"xyz", message(1, "k: not a keytab (2)")),
     over("no cache", "klist --json c", b"", message(1, "c: not a cache (1)")),

@@ -1,4 +1,4 @@
-"""Lines of `ktutil`: what they print and save, and what is wrong with them, all written by hand."""
+"""Lines of `ktutil`: what they print and save, and their errors, all written by hand."""
 
 from keytabs.edits import C, DAMAGED, by_line
 from keytabs.file_names import LIMIT, sized
@@ -22,9 +22,9 @@ ETYPE = " (aes128-cts-hmac-sha1-96)"
 
 def lines(name: str, given: list[str] | bytes, printed: list[str], *said: str, files: dict[str, bytes] | None = None,
           after: dict[str, bytes] | None = None, status: int | None = None, options: tuple[str, ...] = ()) -> Case:
-    """An input, what it prints, its messages, and the files that it adds or changes.
+    """Returns a run over an input, with its output, its messages, and the files that it adds or changes.
 
-    The status is 0, or 1 where something is said.
+    The status is 0, or 1 if there are messages.
     """
     if status is None:
         status = 1 if said else 0
@@ -35,7 +35,7 @@ def lines(name: str, given: list[str] | bytes, printed: list[str], *said: str, f
 
 
 def new_entries(now: int) -> list[Case]:
-    """Entries that are added: their time is that of the program's start."""
+    """Returns runs that add entries: their time is that of the program's start."""
     host = Entry(timestamp=now)
     b = Entry((b"b",), timestamp=now, key=B.key)
     odd = Entry((b"a b\t",), timestamp=now, enctype=1, key=b"\xab", version8=0, version32=0)
@@ -59,7 +59,7 @@ def new_entries(now: int) -> list[Case]:
     ]
 
 
-# Lines that have a fault over a list of two entries, and which.
+# Lines that are faulty over a list of two entries, and their faults.
 FAULTS = by_line({
     1: ["frob", "L", "l\r", "\\l", "list_requests", "?", "ktutil:"],
     2: ["l -x", "l -t -t", "l -te", "l k", "clear 1", "q now", "rkt", "rkt k k", "wkt", "wkt k k", "delent",
@@ -83,7 +83,7 @@ FROM_J = {"j": TWO}
 MIXED = {"k": keytab(5, HOST, END, B)}
 
 CASES = [
-    # Listings, and the list from which entries go.
+    # Listings, and the list after entries are deleted.
     lines("the empty list", ["l", "list -t"], [*HEADING, *TIMES]),
     lines("no input", b"", []),
     lines("a listing", ["rkt k", "l"], TWO_LISTED, files=FILES),
@@ -113,7 +113,7 @@ CASES = [
     lines("lines that are passed over count", ["", " ", "frob", "", "l 1"], [], "line 3: fault 1", "line 5: fault 2"),
     lines("the input ends where a key is awaited", [ADDENT], []),
     lines("the input ends before the end of the line", ADDENT.encode(), []),
-    # Files that are read, and those that give nothing.
+    # Files that are read, and those without entries.
     lines("version 1", ["rkt k", "l"], ONE_LISTED, files={"k": old(HOST)}),
     lines("version 1, big-endian", ["rkt k", "l"], ONE_LISTED, files={"k": old(HOST, order=BIG)},
           options=("--v1-big",)),
@@ -156,7 +156,7 @@ CASES = [
 
 
 def check(report: Report, program: str) -> None:
-    """Entries that are added: what is wanted hangs on the clock."""
+    """Checks added entries, which depend on the clock."""
     for number, case in enumerate(new_entries(0)):
         found = faults_by_clock(program, lambda now, number=number: new_entries(now)[number])
         report.check(case.name, found)

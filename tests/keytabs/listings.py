@@ -1,4 +1,4 @@
-"""Listings of small keytabs by `klist -k`. Each wanted text is written by hand from the layout."""
+"""Listings of small keytabs by `klist -k`. Each expected text is written by hand from the layout."""
 
 from makers.images import B, BIG, END, HOST, LITTLE, TWO, Entry, hole, keytab, old, record
 from runs.harness import Case, Outcome, message
@@ -10,36 +10,36 @@ B_LINE = b"   3 b@R"
 
 
 def listed(*lines: bytes, name: bytes = b"k", letters: str = "") -> bytes:
-    """The text of a listing with those columns: a line for each entry or fault. Times alone change the heading."""
+    """Returns the text of a listing with those columns: a line for each entry or fault. Times change the heading."""
     heads, rule = (b"Timestamp            ", b"-------------------- ") if "t" in letters else (b"", b"")
     first = (b"Keytab name: FILE:" + name, b"KVNO " + heads + b"Principal", b"---- " + rule + b"---------")
     return b"".join(line + b"\n" for line in (*first, *lines))
 
 
 def case(name: str, image: bytes, *lines: bytes, letters: str = "", options: str = "") -> Case:
-    """A listing with those columns. A fault, which its last line reports, makes the status 1."""
+    """Returns a listing with those columns. A fault, which its last line reports, makes the status 1."""
     status = 1 if any(line.startswith(b"fault ") for line in lines) else 0
     return over(name, f"klist -k{letters} {options} k", image, Outcome(status, listed(*lines, letters=letters)))
 
 
 def version(version8: int, after: str, kvno: int) -> Case:
-    """An entry with those bytes after its key."""
+    """Returns a listing of an entry with those bytes after its key."""
     entry = Entry(version8=version8, version32=None).spelled() + bytes.fromhex(after)
     return case(f"version {version8} and then {after!r}", keytab(record(entry)), b"%4d host/a@R" % kvno)
 
 
 def named(name: str, components: tuple[bytes, ...], realm: bytes, told: bytes) -> Case:
-    """An entry of a name."""
+    """Returns a listing of an entry of a name."""
     return case(f"name {name}", keytab(Entry(components, realm)), b"   3 " + told)
 
 
 def after_host(name: str, after: bytes, fault: bytes) -> Case:
-    """A fault after an entry."""
+    """Returns a listing with a fault after an entry."""
     return case(name, keytab(HOST, after), HOST_LINE, fault)
 
 
 def no_keytab(name: str, image: bytes, why: int) -> Case:
-    """A file that does not begin as a keytab."""
+    """Returns a listing of a file that does not begin as a keytab."""
     return over(f"no keytab: {name}", "klist -k k", image, message(1, f"k: not a keytab ({why})"))
 
 
@@ -68,7 +68,7 @@ CASES = [
     case("zeros after an entry without a 32-bit version", keytab(record(Entry(version32=None).spelled() + bytes(20))),
          HOST_LINE),
     case("bytes after the 32-bit version", keytab(record(B.spelled() + b"\xff" * 7)), B_LINE),
-    # The 8-bit version counts, but where a 32-bit one follows the key and is not 0.
+    # The 8-bit version counts, unless a 32-bit one that is not 0 follows the key.
     *(version(version8, after, kvno) for (version8, after), kvno in VERSIONS.items()),
     # Names with odd bytes and odd counts.
     named("with each quoted byte", (QUOTED,), b"R", QUOTES + b"@R"),
@@ -86,7 +86,7 @@ CASES = [
     named("with a component of 65,535 bytes", (b"x" * 65_535,), b"R", b"x" * 65_535 + b"@R"),
     named("with a realm of 40,000 bytes", (b"host", b"a"), b"r" * 40_000, b"host/a@" + b"r" * 40_000),
     case("a key of 40,000 bytes", keytab(Entry(key=bytes(40_000))), HOST_LINE),
-    # Holes are passed over, whatever their bytes, and a length 0 ends the file.
+    # Holes are skipped, whatever their bytes, and a length 0 ends the file.
     case("a hole of zeros", keytab(HOST, 20, B), HOST_LINE, B_LINE),
     case("a hole that holds an entry", keytab(hole(HOST.spelled()), B), B_LINE),
     case("a hole at the end", keytab(B, hole(b"\xff" * 5)), B_LINE),
@@ -94,13 +94,13 @@ CASES = [
     case("a length 0 with junk after it", keytab(HOST, END, b"\xff" * 20), HOST_LINE),
     case("a length 0 with an entry after it", keytab(HOST, END, B), HOST_LINE),
     case("a length 0 at once", keytab(END)),
-    # Records that begin with no entry: fault 3. What stands before them is listed.
+    # Records that do not begin with an entry: fault 3. The entries before them are listed.
     case("a bad entry in the middle", keytab(HOST, record(bytes(10)), B), HOST_LINE, b"fault 3 at 53"),
     case("a bad entry at once", keytab(record(bytes(10)), B), b"fault 3 at 2"),
     case("a bad entry after a hole", keytab(HOST, 10, record(b"x")), HOST_LINE, b"fault 3 at 67"),
     case("a record that ends in its key", keytab(record(Entry(version32=None).spelled()[:-1]), END), b"fault 3 at 2"),
     case("too many components counted", keytab(Entry(count=65_535)), b"fault 3 at 2"),
-    # Lengths that run past the end, fault 2, or are cut, fault 1.
+    # Lengths that run past the end, fault 2, or are cut off, fault 1.
     after_host("a record cut by a byte", B_RECORD[:-1], b"fault 2 at 53"),
     after_host("a record of the greatest length", b"\x7f\xff\xff\xff", b"fault 2 at 53"),
     after_host("a hole of the greatest length", b"\x80\0\0\0" + B_RECORD, b"fault 2 at 53"),
@@ -110,7 +110,7 @@ CASES = [
     after_host("a length of two bytes", b"\0\0", b"fault 1 at 53"),
     after_host("a length of three bytes", b"\xff\xff\xff", b"fault 1 at 53"),
     case("a length of three bytes at once", keytab(b"\0\0\0"), b"fault 1 at 2"),
-    # Version 1 in both orders; it is read as little-endian but for `--v1-big`.
+    # Version 1 in both orders; it is read as little-endian unless `--v1-big` is given.
     case("version 1, little-endian", old(HOST, LATE), HOST_LINE, LATE_LINE),
     case("version 1, big-endian", old(HOST, LATE, order=BIG), HOST_LINE, LATE_LINE, options="--v1-big"),
     case("version 1, big-endian, read as little", old(HOST, LATE, order=BIG), b"fault 2 at 2"),

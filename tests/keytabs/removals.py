@@ -21,17 +21,17 @@ Y = "removed 171 kvno 3 etype 17 b@R"
 
 
 def remove(name: str, image: bytes, words: str, wanted: Outcome | list[str], after: bytes | None = None) -> Case:
-    """A run of ktremove with these words before the file; see `over`."""
+    """Returns a run of ktremove with these words before the file; see `over`."""
     return over(name, f"ktremove {words} k", image, wanted, after)
 
 
 def versioned(kvno: int, seconds: int, enctype: int = 17) -> Entry:
-    """An entry of a@R."""
+    """Returns an entry of a@R."""
     return Entry((b"a",), timestamp=seconds, version8=kvno % 256, enctype=enctype, version32=kvno)
 
 
 def remove_old(name: str, versions: list[tuple[int, int]], gone: list[int]) -> Case:
-    """Which of those versions, each with its time, are old. Each entry has 45 bytes with its length."""
+    """Returns a removal of old versions, given each version with its time. Each entry has 45 bytes with its length."""
     those = [versioned(*each) for each in versions]
     lines = [f"removed {2 + 45 * at} kvno {versions[at][0]} etype 17 a@R" for at in gone]
     after = keytab(*(41 if at in gone else entry for at, entry in enumerate(those)))
@@ -39,7 +39,7 @@ def remove_old(name: str, versions: list[tuple[int, int]], gone: list[int]) -> C
 
 
 def first_cut(image: bytes, order: str) -> bytes:
-    """A keytab of version 1 without host/a@R, which has 43 bytes there, for it has no name type."""
+    """Returns a keytab of version 1 without host/a@R, which has 43 bytes there, without a name type."""
     return image[:2] + hole(bytes(43), order) + image[49:]
 
 
@@ -48,7 +48,7 @@ SIGNED = keytab(B3, Entry((b"=b",)))
 BARE = keytab(Entry((), version8=1, version32=1), Entry((b"",), version8=2, version32=2), B3)
 
 CASES = [
-    # What each selector asks for.
+    # The entries that each selector selects.
     remove("old versions", FOUR, "-k old", [X], keytab(47, AES256, FIVE, B3)),
     remove("old versions of a name", FOUR, "-p host/a@R -k old", [X], keytab(47, AES256, FIVE, B3)),
     remove("of an enctype", FOUR, "-p host/a@R -e 17", [X, X5], keytab(47, AES256, 47, B3)),
@@ -76,7 +76,7 @@ CASES = [
     remove("enctype 0 is no wild card", FOUR, "-e 0", NOT_FOUND),
     remove("a dry run that finds nothing", FOUR, "-n -k 4", NOT_FOUND),
     remove("an empty keytab", keytab(), "-e 17", NOT_FOUND),
-    # Which versions are old: those other than the newest's.
+    # Old versions: those other than the newest entry's.
     remove_old("versions that wrap", [(254, 1), (255, 2), (0, 3)], [0, 1]),
     remove_old("a small one of the same time", [(255, 5), (1, 5)], [0]),
     remove_old("a small one of an earlier time", [(255, 5), (1, 4)], [1]),
@@ -90,13 +90,13 @@ CASES = [
     remove_old("the order of the file", [(3, 3), (200, 2), (250, 1)], [0, 1]),
     remove_old("a version twice", [(4, 1), (5, 1), (4, 9), (5, 9)], [0, 2]),
     remove_old("version 0", [(0, 1), (0, 2)], []),
-    # Names that print the same are the same, of whatever type.
+    # Names that print alike are the same, of whatever type.
     remove("no components and an empty one", BARE, "-p @R",
            ["removed 2 kvno 1 etype 17 @R", "removed 44 kvno 2 etype 17 @R"], keytab(38, 40, B3)),
     remove("they are two names", BARE, "-k old", []),
     remove("a name of another type", keytab(Entry((b"b",), name_type=3), B3), "-p b@R",
            ["removed 2 kvno 3 etype 17 b@R", "removed 47 kvno 3 etype 17 b@R"], keytab(41, 41)),
-    # Holes, ends, and version 1 in both orders. No byte changes but those of the records.
+    # Holes, ends, and version 1 in both orders. Only the bytes of the removed records change.
     remove("unused bytes, a hole and what is after the end",
            keytab(record(HOST.spelled() + b"\xff" * 9), hole(b"junk"), END, b"and more"), "-e 17", [X],
            keytab(56, hole(b"junk"), END, b"and more")),
@@ -104,7 +104,7 @@ CASES = [
     Case("version 1, big-endian", ("ktremove", "--v1-big", "k", "-p", "host/a@R"), Outcome(0, f"{X}\n".encode()),
          {"k": old(HOST, B3, order=BIG)}, {"k": first_cut(old(HOST, B3, order=BIG), BIG)}),
     remove("version 1, big-endian, read as little", old(HOST, B3, order=BIG), "-p host/a@R", DAMAGED),
-    # Damaged files, and those that are no keytabs.
+    # Damaged files, and those that are not keytabs.
     remove("a damaged keytab", TWO[:-1], "-e 17", DAMAGED),
     remove("a damaged keytab, nothing old", TWO[:-1], "-k old", DAMAGED),
     remove("a damaged keytab, a dry run", TWO[:-1], "-n -e 17", DAMAGED),
@@ -113,7 +113,7 @@ CASES = [
     Case("no file", ("ktremove", "-k", "old", "no"), message(1, "no: no such file"), {"k": TWO}),
     Case("no file, a dry run", ("ktremove", "-n", "-k", "old", "no"), message(1, "no: no such file"), {"k": TWO}),
     Case("a folder", ("ktremove", "-k", "old", "."), message(3, ".: cannot read"), {"k": TWO}),
-    # Lines that are not read.
+    # Lines that are refused.
     *(Case(line, ("ktremove", *line.split()), BAD_LINE, {"k": FOUR})
       for line in ("k", "-n k", "-p", "-p b@R", "-k old", "-e 17", "-p b@R -p b@R k", "-k 3 -k 3 k", "-k old -k old k",
                    "-k new k", "-k -1 k", "-k 4294967296 k", "-k Old k", "-k= k", "-e any k", "-e 65536 k",
@@ -124,7 +124,7 @@ CASES = [
 
 
 def check_left_alone(report: Report, program: str, image: bytes, line: str) -> None:
-    """A run that removes nothing leaves the file that its last word names alone, its time too."""
+    """Checks that a run that removes nothing leaves the file named last alone, its time too."""
     words = line.split()
     with folder_of({words[-1]: image}) as folder:
         path = os.path.join(folder, words[-1])
@@ -137,7 +137,7 @@ def check_left_alone(report: Report, program: str, image: bytes, line: str) -> N
 
 
 def check_mode(report: Report, program: str, image: bytes, line: str) -> None:
-    """A run that removes something keeps the mode of the file that its last word names."""
+    """Checks that a run that removes something keeps the mode of the file named last."""
     words = line.split()
     with folder_of({words[-1]: image}) as folder:
         path = os.path.join(folder, words[-1])
@@ -148,7 +148,7 @@ def check_mode(report: Report, program: str, image: bytes, line: str) -> None:
 
 
 def check(report: Report, program: str) -> None:
-    """What stands beside the bytes of a file."""
+    """Checks a file's bytes, time and mode."""
     for words in ("-k old", "-k 4", "-n -e 17"):
         check_left_alone(report, program, keytab(HOST, B3), f"ktremove {words} k")
     check_mode(report, program, FOUR, "ktremove -k old k")

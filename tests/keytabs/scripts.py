@@ -7,7 +7,7 @@ from runs.harness import message
 
 KEY = "101112131415161718191a1b1c1d1e1f"
 
-# Lines, and the fault that each has.
+# Lines, and the fault of each.
 FAULTS = LINE_FAULTS | by_line({
     1: ["frob 1 2 3 4 5 6"],
     2: ["add", f"add 3 17 0 {KEY}"],
@@ -26,7 +26,7 @@ ADD = f"add 3 17 1700000000 {KEY} "
 
 CASES = [
     *faulty_lines(edit, TWO, "cut 2", FAULTS),
-    # Other spellings of a line's words, and lines that are passed over.
+    # Other spellings of a line's words, and lines that are skipped.
     edit("comments, empty lines and no last line end", TWO, b"\n# cut 2\n#\n\n\ncut 53", ["gone 53"],
          keytab(HOST, 41)),
     edit("numbers with zeros before them", TWO, ["resume 0000000053", "step 0000000000"],

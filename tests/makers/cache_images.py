@@ -23,7 +23,7 @@ Typed = tuple[int, bytes]
 
 @dataclass(frozen=True)
 class Name:
-    """A principal. Its count of components is the true one where `count` is None."""
+    """A principal. Its count of components is the true one if `count` is None."""
 
     components: tuple[bytes, ...] = (b"u",)
     realm: bytes = b"R"
@@ -31,7 +31,7 @@ class Name:
     count: int | None = None
 
     def spelled(self) -> bytes:
-        """The name's bytes."""
+        """Returns the name's bytes."""
         count = len(self.components) if self.count is None else self.count
         parts = [number(self.name_type, 4), number(count, 4)]
         return b"".join([*parts, *map(counted32, (self.realm, *self.components))])
@@ -43,7 +43,7 @@ KRBTGT = Name((b"krbtgt", b"R"), name_type=2)
 
 @dataclass(frozen=True)
 class Credential:
-    """The fields of a credential. Version 3 writes the enctype twice, here the same where None."""
+    """The fields of a credential. Version 3 writes the enctype twice; None means the same again."""
 
     client: Name = U
     server: Name = KRBTGT
@@ -62,7 +62,7 @@ class Credential:
     second_ticket: bytes = b""
 
     def spelled(self, version: int = 4) -> bytes:
-        """The credential's bytes."""
+        """Returns the credential's bytes."""
         parts = [self.client.spelled(), self.server.spelled(), number(self.enctype, 2)]
         if version == 3:
             second = self.enctype if self.second_enctype is None else self.second_enctype
@@ -76,17 +76,17 @@ class Credential:
         return b"".join(parts)
 
     def removed(self) -> Credential:
-        """The same with the removed mark."""
+        """Returns the same with the removed mark."""
         return replace(self, **REMOVED)
 
 
 def counted32(data: bytes) -> bytes:
-    """A 32-bit length, and the bytes."""
+    """Returns a 32-bit length, and the bytes."""
     return number(len(data), 4) + data
 
 
 def typed_list(those: tuple[Typed, ...]) -> bytes:
-    """A 32-bit count, and each as its 16-bit type and its data."""
+    """Returns a 32-bit count, and each item as its 16-bit type and its data."""
     spelled = (number(kind, 2) + counted32(data) for kind, data in those)
     return number(len(those), 4) + b"".join(spelled)
 
@@ -94,25 +94,25 @@ def typed_list(those: tuple[Typed, ...]) -> bytes:
 def config(
     key: bytes, value: bytes, principal: bytes | None = None, client: Name = U
 ) -> Credential:
-    """A configuration entry: all fields that hold nothing are zero."""
+    """Returns a configuration entry: all unused fields are zero."""
     after = (key,) if principal is None else (key, principal)
     server = Name((CONFIG_FIRST, *after), CONFIG_REALM)
     return Credential(client, server, 0, key=b"", authtime=0, endtime=0, flags=0, ticket=value)
 
 
 def header_field(tag: int, value: bytes) -> bytes:
-    """A field of a header."""
+    """Returns a field of a header."""
     return number(tag, 2) + counted(value)
 
 
 def offset(seconds: int, micros: int) -> bytes:
-    """The header's field that tells how far the clock of the KDC is ahead."""
+    """Returns the header's field with the KDC's time offset."""
     parts = (value.to_bytes(4, "big", signed=True) for value in (seconds, micros))
     return header_field(1, b"".join(parts))
 
 
 def cache(*cells: Credential | bytes, default: Name = U, fields: bytes = b"", version: int = 4) -> bytes:
-    """A cache of credentials and of other bytes. Version 3 has no header."""
+    """Returns a cache of credentials and of other bytes. Version 3 has no header."""
     header = counted(fields) if version == 4 else b""
     spelled = (cell.spelled(version) if isinstance(cell, Credential) else cell for cell in cells)
     return bytes([5, version]) + header + default.spelled() + b"".join(spelled)

@@ -1,4 +1,4 @@
-"""What MIT's klist tells of a cache, and what ours does, in one form."""
+"""The listings of a cache by MIT's klist and by ours, in one form."""
 
 import re
 import time
@@ -8,7 +8,7 @@ STAMP = rb"\d\d/\d\d/\d\d \d\d:\d\d:\d\d"
 MIT_TICKET = re.compile(rb"(" + STAMP + rb")  (" + STAMP + rb")  (.*)")
 OUR_TICKET = re.compile(rb"(\S{20}) (\S{20}) (.*)")
 
-# What stands under a ticket. MIT's klist puts several on a line, and leaves out what is not there.
+# The lines below a ticket. MIT's klist prints several parts on a line, and omits those that are missing.
 MIT_PARTS = {
     "renew_till": re.compile(rb"renew until (" + STAMP + rb")"),
     "flags": re.compile(rb"Flags: (\w+)"),
@@ -23,7 +23,7 @@ OUR_PARTS = {
 
 @dataclass
 class Shown:
-    """A ticket as a listing shows it; a time as MIT prints it, in UTC."""
+    """A ticket as a listing shows it; times as MIT prints them, in UTC."""
 
     starttime: bytes
     endtime: bytes
@@ -38,7 +38,7 @@ Told = Shown | bytes
 
 
 def as_mit(text: bytes) -> bytes:
-    """A time of ours as MIT prints it."""
+    """Returns a time of ours as MIT prints it."""
     if not text.endswith(b"Z"):
         return text
     then = time.strptime(text.decode(), "%Y-%m-%dT%H:%M:%SZ")
@@ -48,7 +48,7 @@ def as_mit(text: bytes) -> bytes:
 def told(
     listed: bytes, ticket: re.Pattern[bytes], parts: dict[str, re.Pattern[bytes]]
 ) -> list[Told]:
-    """What the lines after the heading tell."""
+    """Returns what the lines after the heading show."""
     found: list[Told] = []
     for line in listed.splitlines()[4:]:
         begun = ticket.fullmatch(line)
@@ -66,10 +66,10 @@ def told(
 
 
 def told_by_mit(listed: bytes) -> list[Told]:
-    """What MIT's klist tells."""
+    """Returns what MIT's klist shows."""
     return told(listed, MIT_TICKET, MIT_PARTS)
 
 
 def told_by_us(listed: bytes) -> list[Told]:
-    """What ours tells."""
+    """Returns what ours shows."""
     return told(listed, OUR_TICKET, OUR_PARTS)

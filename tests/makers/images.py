@@ -1,8 +1,8 @@
 """Keytab images, made from the fields of the format.
 
-A keytab is the byte 5, a version (1 or 2), and then records, each a signed 32-bit length and so
+A keytab is the byte 5, a version (1 or 2), and then records, each a signed 32-bit length and that
 many bytes. A negative length is a hole, and the length 0 ends the file. A record begins with an
-entry. Numbers are big-endian in version 2, and in the order of whoever wrote the file in version 1.
+entry. Numbers are big-endian in version 2, and in the byte order of the writer in version 1.
 """
 
 from dataclasses import dataclass
@@ -10,13 +10,13 @@ from dataclasses import dataclass
 BIG = "big"
 LITTLE = "little"
 
-# The file ends where this length stands.
+# The length that ends the file.
 END = bytes(4)
 
 
 @dataclass(frozen=True)
 class Entry:
-    """The fields of an entry. It has no 32-bit version where that is None."""
+    """The fields of an entry, without a 32-bit version if that is None."""
 
     components: tuple[bytes, ...] = (b"host", b"a")
     realm: bytes = b"R"
@@ -26,11 +26,11 @@ class Entry:
     enctype: int = 17
     key: bytes = bytes(range(16))
     version32: int | None = 3
-    # The count of components that is written, where it is not the true one.
+    # The count of components that is written, if not the true one.
     count: int | None = None
 
     def spelled(self, version: int = 2, order: str = BIG) -> bytes:
-        """The entry's bytes. Version 1 counts the realm as a component, and has no name type."""
+        """Returns the entry's bytes. Version 1 counts the realm as a component, and has no name type."""
         count = self.count
         if count is None:
             count = len(self.components) + (1 if version == 1 else 0)
@@ -51,27 +51,27 @@ B = Entry(components=(b"b",), key=bytes(range(16, 32)))
 
 
 def number(value: int, width: int, order: str = BIG) -> bytes:
-    """An unsigned number of that many bytes."""
+    """Returns an unsigned number in that many bytes."""
     return value.to_bytes(width, order)
 
 
 def counted(data: bytes, order: str = BIG) -> bytes:
-    """A 16-bit length, and the bytes."""
+    """Returns a 16-bit length, and the bytes."""
     return number(len(data), 2, order) + data
 
 
 def record(data: bytes, order: str = BIG) -> bytes:
-    """A record of those bytes after its length."""
+    """Returns a record of those bytes, with its length."""
     return len(data).to_bytes(4, order, signed=True) + data
 
 
 def hole(data: bytes, order: str = BIG) -> bytes:
-    """A hole of those bytes after its length, which is negative."""
+    """Returns a hole of those bytes, with its length, which is negative."""
     return (-len(data)).to_bytes(4, order, signed=True) + data
 
 
 def keytab(*parts: Entry | int | bytes, version: int = 2, order: str = BIG) -> bytes:
-    """A keytab of entries, of holes of zeros where a size stands, and of other bytes."""
+    """Returns a keytab of entries, of holes of zeros given by their sizes, and of other bytes."""
 
     def spelled(part: Entry | int | bytes) -> bytes:
         if isinstance(part, Entry):
@@ -82,7 +82,7 @@ def keytab(*parts: Entry | int | bytes, version: int = 2, order: str = BIG) -> b
 
 
 def old(*parts: Entry | int | bytes, order: str = LITTLE) -> bytes:
-    """A keytab of version 1."""
+    """Returns a keytab of version 1."""
     return keytab(*parts, version=1, order=order)
 
 

@@ -1,42 +1,42 @@
-"""Files with damage: in their bits, bytes and numbers, in their length, or from another file."""
+"""Damaged files: changed in bits, bytes, numbers or length, or by bytes of another file."""
 
 from collections.abc import Callable
 from random import Random
 
 from makers.images import BIG, LITTLE, number
 
-# A change of a file; the second file is one from which bytes may come.
+# A change of a file; bytes may come from the second file.
 Change = Callable[[Random, bytes, bytes], bytes]
 
 
 def span(random: Random, image: bytes) -> tuple[int, int]:
-    """Where some bytes begin and end, mostly few."""
+    """Returns where some bytes begin and end, mostly few."""
     at = random.randrange(len(image))
     return at, min(len(image), at + random.choice([1, 1, 2, 4, 20, 100]))
 
 
 def flip(random: Random, image: bytes, _: bytes) -> bytes:
-    """One bit is another."""
+    """Flips a bit."""
     at = random.randrange(len(image))
     return image[:at] + bytes([image[at] ^ 1 << random.randrange(8)]) + image[at + 1:]
 
 
 def set_byte(random: Random, image: bytes, _: bytes) -> bytes:
-    """One byte is another."""
+    """Replaces a byte by another."""
     at = random.randrange(len(image))
     byte = random.choice([b"\0", b"\1", b"\x7f", b"\x80", b"\xff", random.randbytes(1)])
     return image[:at] + byte + image[at + 1:]
 
 
 def likely_numbers(image: bytes, width: int, order: str) -> list[int]:
-    """The places where a number of that width is small enough to be a count or a length."""
+    """Returns the places of numbers of that width that are small enough to be a count or a length."""
     high = slice(0, width // 2) if order == BIG else slice(width - width // 2, width)
     zeros = bytes(width // 2)
     return [at for at in range(len(image) - width + 1) if image[at : at + width][high] == zeros]
 
 
 def set_number(random: Random, image: bytes, _: bytes) -> bytes:
-    """A count or a length is nothing, a little off, negative, far too great, or up to the end."""
+    """Sets a count or a length to 0, a little off, negative, far too great, or up to the end."""
     width, order = random.choice([2, 4, 4]), random.choice([BIG, BIG, LITTLE])
     places = likely_numbers(image, width, order)
     if not places:
@@ -51,43 +51,43 @@ def set_number(random: Random, image: bytes, _: bytes) -> bytes:
 
 
 def insert(random: Random, image: bytes, _: bytes) -> bytes:
-    """Some bytes more stand in it or after it."""
+    """Inserts some bytes, perhaps at the end."""
     at = random.randrange(len(image) + 1)
     count = random.choice([1, 2, 3, 4, 8, 30])
     return image[:at] + random.choice([bytes(count), random.randbytes(count)]) + image[at:]
 
 
 def remove(random: Random, image: bytes, _: bytes) -> bytes:
-    """Some bytes are missing."""
+    """Removes some bytes."""
     at, to = span(random, image)
     return image[:at] + image[to:]
 
 
 def repeat(random: Random, image: bytes, _: bytes) -> bytes:
-    """Some bytes stand twice."""
+    """Repeats some bytes."""
     at, to = span(random, image)
     return image[:to] + image[at:]
 
 
 def cut(random: Random, image: bytes, _: bytes) -> bytes:
-    """It ends early, now and then at once."""
+    """Cuts the file short, sometimes to nothing."""
     most = min(len(image), 8) if random.random() < 0.1 else len(image)
     return image[: random.randrange(most)]
 
 
 def splice(random: Random, image: bytes, other: bytes) -> bytes:
-    """It goes on as another file."""
+    """Continues the file with the rest of another."""
     return image[: random.randrange(len(image))] + other[random.randrange(len(other)):]
 
 
 def graft(random: Random, image: bytes, other: bytes) -> bytes:
-    """Some bytes of another file stand over its own."""
+    """Overwrites some bytes with those of another file."""
     at, to = span(random, image)
     begin = random.randrange(len(other))
     return image[:at] + other[begin : begin + to - at] + image[to:]
 
 
-# The changes, by how often.
+# The changes, by how frequent they are.
 CHANGES: dict[Change, int] = {
     flip: 3, set_byte: 2, set_number: 6, cut: 2, splice: 2,
     insert: 1, remove: 1, repeat: 1, graft: 1,
@@ -95,7 +95,7 @@ CHANGES: dict[Change, int] = {
 
 
 def damaged(random: Random, image: bytes, other: bytes, most: int = 3) -> bytes:
-    """The file with up to that many changes, mostly one."""
+    """Returns the file with up to that many changes, mostly one."""
     for _ in range(random.choice([1, 1, *range(1, most + 1)])):
         if image:
             change = random.choices(list(CHANGES), CHANGES.values())[0]
@@ -104,6 +104,6 @@ def damaged(random: Random, image: bytes, other: bytes, most: int = 3) -> bytes:
 
 
 def mutated(random: Random, samples: list[bytes]) -> bytes:
-    """One of those files, with changes; now and then without."""
+    """Returns one of those files, with changes, or sometimes without."""
     image = random.choice(samples)
     return image if random.random() < 0.02 else damaged(random, image, random.choice(samples))

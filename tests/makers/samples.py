@@ -1,4 +1,4 @@
-"""The files that README and the manual page show at work."""
+"""The files of the examples in README and the manual page."""
 
 import os
 from contextlib import contextmanager
@@ -9,7 +9,7 @@ from makers.images import B, HOST, TWO, Entry, keytab, old
 from makers.usual_caches import PA_TYPE, TICKET
 from runs.harness import folder_of
 
-# A record that says that it has 47 bytes, of which 20 are there.
+# A record with a length of 47, of which only 20 bytes are there.
 CUT = (47).to_bytes(4, "big") + HOST.spelled()[:20]
 
 SAMPLES = {
@@ -21,14 +21,14 @@ SAMPLES = {
     "damaged.keytab": keytab(HOST, CUT),
     "old.keytab": old(41, HOST, B),
     "krb5cc_0": cache(replace(TICKET, renew_till=1_700_604_800), PA_TYPE),
-    # The ticket of host/a@R has expired, the other has not for long.
+    # The ticket of host/a@R has expired; the other will not for a long time.
     "krb5cc_1": cache(replace(TICKET, endtime=2**32 - 1),
                       replace(TICKET, server=Name((b"host", b"a"))), PA_TYPE),
 }
 
 
 def make(folder: str) -> None:
-    """Makes the files, which are their owner's alone, as the program makes keytabs."""
+    """Makes the files, readable by their owner only, as the program makes keytabs."""
     for name, data in SAMPLES.items():
         path = os.path.join(folder, name)
         with open(path, "wb") as file:
@@ -38,7 +38,7 @@ def make(folder: str) -> None:
 
 @contextmanager
 def folder_of_samples():
-    """A folder that has them, for as long as it is used."""
+    """Yields a folder with the files."""
     with folder_of({}) as folder:
         make(folder)
         yield folder

@@ -1,4 +1,4 @@
-"""Lines of a script as they are read: what scripts over keytabs and over caches have in common."""
+"""Lines of a script as they are read: what scripts over keytabs and over caches share."""
 
 import re
 from collections.abc import Callable
@@ -11,18 +11,18 @@ UNKNOWN_WORD, WORD_COUNT, BAD_NUMBER, BAD_ETYPE, BAD_KEY, BAD_NAME, BAD_SLOT, BA
 
 GREATEST = 2**32 - 1
 
-# How many numbers stand behind each word of a walk or a change.
+# How many numbers follow each word of a walk or a change.
 COUNTS = {b"start": 0, b"rewrite": 0, b"resume": 1, b"step": 1, b"cut": 1}
 
 # A component or a realm in a text, as a pattern.
 PART = rb"(?:[^\\/@]|\\.)*"
 
-# What the byte after a backslash stands for, where not for itself.
+# What the byte after a backslash means, if not itself.
 QUOTED = {b"\\n": b"\n", b"\\t": b"\t", b"\\b": b"\b", b"\\0": b"\0"}
 
 
 class LineFault(Exception):
-    """A line cannot be read."""
+    """The fault of a line."""
 
     def __init__(self, number: int) -> None:
         super().__init__(number)
@@ -30,19 +30,19 @@ class LineFault(Exception):
 
 
 def number_in(word: bytes, most: int = GREATEST, fault: int = BAD_NUMBER) -> int:
-    """One to ten decimal digits with a value up to `most`."""
+    """Returns the value of one to ten decimal digits, at most `most`, or raises `fault`."""
     if not re.fullmatch(rb"[0-9]{1,10}", word) or int(word) > most:
         raise LineFault(fault)
     return int(word)
 
 
 def unquoted(part: bytes) -> bytes:
-    """What a component or a realm in a text stands for."""
+    """Returns a component or a realm without its escapes."""
     return re.sub(rb"\\.", lambda atom: QUOTED.get(atom[0], atom[0][1:]), part, flags=re.DOTALL)
 
 
 def name_in(text: bytes) -> tuple[bytes, ...]:
-    """The components and the realm of a name's text."""
+    """Returns the components and the realm of a name's text."""
     found = re.fullmatch(rb"(%s(?:/%s)*)@(%s)" % (PART, PART, PART), text, re.DOTALL)
     if not found:
         raise LineFault(BAD_NAME)
@@ -51,7 +51,7 @@ def name_in(text: bytes) -> tuple[bytes, ...]:
 
 
 def rest_in(line: bytes, count: int) -> list[bytes]:
-    """The words behind the first, of which the last is the rest of the line: that many."""
+    """Returns the words after the first, `count` in all; the last one is the rest of the line."""
     words = line.split(b" ", count)[1:]
     if len(words) < count:
         raise LineFault(WORD_COUNT)
@@ -59,7 +59,7 @@ def rest_in(line: bytes, count: int) -> list[bytes]:
 
 
 def walk_event(line: bytes) -> Event:
-    """The event of a line that has a word of COUNTS."""
+    """Returns the event of a line that begins with a word of COUNTS."""
     word, *rest = line.split(b" ")
     if word not in COUNTS:
         raise LineFault(UNKNOWN_WORD)
@@ -69,7 +69,7 @@ def walk_event(line: bytes) -> Event:
 
 
 def events_in(script: bytes, event_in: Callable[[bytes], Event]) -> list[Event] | Outcome:
-    """The events of a script, or what is said of its first faulty line."""
+    """Returns the events of a script, or the outcome of its first faulty line."""
     if len(script) > LIMIT:
         return message(1, "input too large")
     events = []

@@ -1,6 +1,6 @@
 """A cache that is changed: its cells, what each change does to them, and the image they spell.
 
-It is written from the rules of the format, to say what the program has to answer and to save.
+It follows the rules of the format, to predict the program's output and the file that it saves.
 """
 from __future__ import annotations
 
@@ -13,7 +13,7 @@ from models.cache_reading import CacheFields, Credential, read_cache
 from models.reading import name_text
 from models.walks import FULL, LIMIT, READ_ONLY, Refused, Store
 
-# The only kind of fault that a cache has.
+# The only kind of fault that a cache can have.
 BAD_CREDENTIAL = 4
 
 
@@ -26,7 +26,7 @@ class Cell:
 
     @cached_property
     def said(self) -> Credential:
-        """What they say."""
+        """The credential, decoded."""
         return CacheFields(self.data).credential(self.version)
 
     @property
@@ -35,18 +35,18 @@ class Cell:
         return not self.said.is_removed()
 
     def front(self) -> int:
-        """How many bytes its two names have, and the first enctype."""
+        """Returns the number of bytes of its two names and the first enctype."""
         rest = CacheFields(self.data)
         for _ in range(2):
             rest.name()
         return len(self.data) - len(rest.data) + 2
 
     def key(self) -> bytes:
-        """The session key."""
+        """Returns the session key."""
         return CacheFields(self.in_version_4().data[self.front():]).counted32()
 
     def freed(self) -> Cell:
-        """The same with the two times of one that was removed; in version 4 alone."""
+        """Returns the same with the two times of the removed mark; in version 4 only."""
         at = self.front()
         rest = CacheFields(self.data[at:])
         rest.counted32()
@@ -55,7 +55,7 @@ class Cell:
         return Cell(self.data[:at] + times + self.data[at + 12:], 4)
 
     def in_version_4(self) -> Cell:
-        """The same in version 4, which has no second enctype."""
+        """Returns the same in version 4, which has no second enctype."""
         skipped = 2 if self.version == 3 else 0
         at = self.front()
         return Cell(self.data[:at] + self.data[at + skipped:], 4)
@@ -77,26 +77,26 @@ class Cache(Store):
         self.fault = (BAD_CREDENTIAL, read.end) if read.is_damaged else None
 
     def image(self) -> bytes:
-        """The bytes of the file."""
+        """Returns the bytes of the file."""
         return b"".join([self.front, *(cell.data for cell in self.cells), self.rest])
 
     def said(self, cell: Cell) -> Credential:
-        """What a credential says."""
+        """Returns the fields of a credential."""
         return cell.said
 
     def keys_of(self, server: bytes) -> list[bytes]:
-        """The session key of each live ticket for a server, by the text of its name."""
+        """Returns the session key of each live ticket for a server, given by the text of its name."""
         live = (cell for cell in self.cells if cell.is_live)
         return [cell.key() for cell in live if name_text(cell.said.server) == server]
 
     def check_writable(self) -> None:
-        """Version 3 refuses each change but a rewrite, and damage refuses that too."""
+        """Refuses a change of a version 3 cache, other than a rewrite, and any change of a damaged one."""
         if self.version == 3:
             raise Refused(READ_ONLY)
         self.check_sound()
 
     def add(self, data: bytes) -> int:
-        """Puts a credential behind all others; its place."""
+        """Adds a credential after all others and returns its place."""
         self.check_writable()
         end = self.places()[-1]
         if end + len(data) > LIMIT:
@@ -105,20 +105,20 @@ class Cache(Store):
         return end
 
     def settings(self, key: bytes, principal: bytes | None) -> list[int]:
-        """The places of the values under a key that the default principal has."""
+        """Returns the places of the values under a key that belong to the default principal."""
         own = [CONFIG_FIRST, key] if principal is None else [CONFIG_FIRST, key, principal]
         return [place for place, said in self.live()
                 if said.is_config() and [*said.server[:-1]] == own and said.client == self.default]
 
     def setting(self, key: bytes, value: bytes, principal: bytes | None) -> bytes:
-        """The bytes of a new value of the default principal."""
+        """Returns the bytes of a new value of the default principal."""
         *components, realm = self.default
         name_type = int.from_bytes(self.default_data[:4], "big")
         client = Name(tuple(components), realm, name_type)
         return config(key, value, principal, client).spelled()
 
     def rewrite(self, cursors: list[int]) -> int:
-        """Writes the live credentials anew in version 4, and carries the cursors along."""
+        """Rewrites the live credentials in version 4, and carries the cursors along."""
         self.check_sound()
         kept = b"".join(header_field(1, value) for value in self.offsets[:1])
         front = b"\x05\x04" + counted(kept) + self.default_data

@@ -1,4 +1,4 @@
-"""What `klist` answers on a credential cache, worked out from the format's rules."""
+"""What `klist` prints for a credential cache, computed from the rules of the format."""
 
 from dataclasses import dataclass
 
@@ -7,7 +7,7 @@ from makers.images import BIG
 from models.reading import Fields, NoEntry, etype_text, name_text, time_text
 from runs.harness import Outcome, message
 
-# The letters of the flags in the order in which they are printed.
+# The letters of the flags, in the order in which they are printed.
 FLAGS = {
     b"F": 0x40000000,
     b"f": 0x20000000,
@@ -30,7 +30,7 @@ HEADING = b"Valid starting       Expires              Service principal"
 
 @dataclass(frozen=True)
 class Credential:
-    """What a credential says. A name is its components and then its realm."""
+    """The fields of a credential. A name is its components followed by its realm."""
 
     client: tuple[bytes, ...]
     server: tuple[bytes, ...]
@@ -50,12 +50,12 @@ class Credential:
         return self.endtime == 0 and self.authtime == 2**32 - 1
 
     def is_config(self) -> bool:
-        """Whether it is a configuration entry, which its server's name alone tells."""
+        """Whether it is a configuration entry, which depends on its server's name alone."""
         *components, realm = self.server
         return realm == CONFIG_REALM and len(components) in (2, 3) and components[0] == CONFIG_FIRST
 
     def lines(self, columns: str) -> list[bytes]:
-        """Its lines of a listing."""
+        """Returns its lines in a listing."""
         if self.is_config():
             return [self.config_line()] if "C" in columns else []
         times = time_text(self.starttime or self.authtime), time_text(self.endtime)
@@ -69,20 +69,20 @@ class Credential:
         return shown
 
     def letters(self) -> bytes:
-        """The letters of its flags."""
+        """Returns the letters of its flags."""
         return b"".join(letter for letter, bit in FLAGS.items() if self.flags & bit)
 
     def config_name(self) -> bytes:
-        """What a configuration entry has its value under."""
+        """Returns the name under which a configuration entry has its value."""
         _, key, *principals, _ = self.server
         return escaped(key) + b"".join(b"(" + escaped(text) + b")" for text in principals)
 
     def config_line(self) -> bytes:
-        """The line of a configuration entry."""
+        """Returns the line of a configuration entry."""
         return b"config: " + self.config_name() + b" = " + escaped(self.ticket)
 
     def tail(self) -> bytes:
-        """The end of a line that tells of one that a walk was given."""
+        """Returns the end of a line that reports a record given to a walk."""
         if self.is_config():
             return b"config " + self.config_name()
         return b"etype %d " % self.enctype + name_text(self.server)
@@ -95,22 +95,22 @@ class CacheFields(Fields):
         super().__init__(data, BIG)
 
     def counted32(self) -> bytes:
-        """The next data after its 32-bit length."""
+        """Returns the next data after its 32-bit length."""
         return self.take(self.number(4))
 
     def name(self) -> tuple[bytes, ...]:
-        """The next principal: its components and then its realm."""
+        """Returns the next principal: its components and then its realm."""
         self.number(4)
         count = self.number(4)
         realm = self.counted32()
         return (*[self.counted32() for _ in range(count)], realm)
 
     def typed_list(self) -> list[Typed]:
-        """The next addresses, or elements of the authorization data."""
+        """Returns the next addresses, or elements of the authorization data."""
         return [(self.number(2), self.counted32()) for _ in range(self.number(4))]
 
     def credential(self, version: int) -> Credential:
-        """The next credential."""
+        """Returns the next credential."""
         client, server, enctype = self.name(), self.name(), self.number(2)
         if version == 3:
             self.number(2)
@@ -123,7 +123,7 @@ class CacheFields(Fields):
                           ticket)
 
     def header(self) -> list[Typed]:
-        """The fields of the header of version 4, which have to fill it: tags and values."""
+        """Returns the tags and values of a version 4 header, whose fields have to fill it."""
         header = CacheFields(self.counted())
         found = []
         while header.data:
@@ -132,7 +132,7 @@ class CacheFields(Fields):
 
 
 def escaped(data: bytes) -> bytes:
-    """Bytes as the line of a configuration entry has them."""
+    """Returns bytes as the line of a configuration entry has them."""
     return b"".join(
         b"\\\\" if byte == 0x5C else bytes([byte]) if 0x20 <= byte <= 0x7E else b"\\x%02x" % byte
         for byte in data
@@ -150,7 +150,7 @@ class Cache:
 
 
 def read_cells(image: bytes, at: int) -> tuple[list[tuple[int, Credential]], int]:
-    """The credentials from a place on, and where the last of them ends."""
+    """Returns the credentials from a place on, and where the last of them ends."""
     cells = []
     while at < len(image):
         rest = CacheFields(image[at:])
@@ -164,7 +164,7 @@ def read_cells(image: bytes, at: int) -> tuple[list[tuple[int, Credential]], int
 
 
 def read_cache(image: bytes) -> Cache | int:
-    """A cache, or the number of the refusal."""
+    """Returns a cache, or the number of the refusal."""
     if len(image) < 2:
         return 1
     if image[0] != 5 or image[1] not in (3, 4):
@@ -184,13 +184,13 @@ def read_cache(image: bytes) -> Cache | int:
 
 
 def listed(default: bytes, *lines: bytes, name: bytes = b"c") -> bytes:
-    """The text of a listing: four first lines, and those of the credentials or of a fault."""
+    """Returns the text of a listing: four first lines, and those of the credentials or of a fault."""
     first = (b"Ticket cache: FILE:" + name, b"Default principal: " + default, b"", HEADING)
     return b"".join(line + b"\n" for line in (*first, *lines))
 
 
 def answer(image: bytes, columns: str = "") -> Outcome:
-    """What `klist` answers on that image, as the file `c`."""
+    """Returns the outcome of `klist` for that image, as the file `c`."""
     cache = read_cache(image)
     if isinstance(cache, int):
         return message(1, f"c: not a cache ({cache})")

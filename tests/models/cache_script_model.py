@@ -1,4 +1,4 @@
-"""What `ccedit` does with a script: its lines, the replies to them, and the file that is saved."""
+"""What `ccedit` does with a script: reads its lines, replies to them, and saves the file."""
 
 from makers.script_lines import WORD_COUNT, LineFault, events_in, name_in, rest_in, walk_event
 from models.cache_model import Cache
@@ -8,7 +8,7 @@ from runs.harness import Outcome, message
 
 
 def setting_in(line: bytes) -> Event:
-    """A line that sets a value: a principal, or `-` for none, is kept as it is written."""
+    """Returns the event of a line that sets a value: a principal, or `-` for none, is kept as it is written."""
     key, principal, value = rest_in(line, 3)
     if key == b"" or principal == b"":
         raise LineFault(WORD_COUNT)
@@ -19,7 +19,7 @@ def setting_in(line: bytes) -> Event:
 
 
 def event_in(line: bytes) -> Event:
-    """The event of a line, or its setting."""
+    """Returns the event of a line, or its setting."""
     return setting_in(line) if line.split(b" ")[0] == b"config" else walk_event(line)
 
 
@@ -29,7 +29,7 @@ class CacheSession(Session):
     store: Cache
 
     def config(self, key: bytes, principal: bytes | None, value: bytes) -> bytes:
-        """A value is added, and then those that stood there are removed, in the order of the file."""
+        """Adds a value, and then removes the values that it replaces, in the order of the file."""
         old = self.store.settings(key, principal)
         place = self.store.add(self.store.setting(key, value, principal))
         self.is_changed = True
@@ -37,7 +37,7 @@ class CacheSession(Session):
 
 
 def no_cache(image: bytes) -> Outcome | None:
-    """What is said of a file `c` that is no cache."""
+    """Returns the refusal of a file `c` that is not a cache, or None."""
     if len(image) > LIMIT:
         return message(1, "c: file too large")
     read = read_cache(image)
@@ -45,7 +45,7 @@ def no_cache(image: bytes) -> Outcome | None:
 
 
 def cache_edited(image: bytes | None, script: bytes) -> tuple[Outcome, bytes | None]:
-    """What `ccedit c` answers to a script, and the file `c` after it; None is no file."""
+    """Returns what `ccedit c` prints for a script, and the file `c` after it; None means no file."""
     events = events_in(script, event_in)
     if isinstance(events, Outcome):
         return events, image

@@ -1,6 +1,6 @@
-"""A run of each command over the file `k` or `c`, with what the models say of it.
+"""A run of each command over the file `k` or `c`, with the model's prediction.
 
-It is made from bytes, of a file, a script or an input, and from the time at which it runs behind them.
+It is made from bytes, of a file, a script or an input, and from the time of the run, which follows them.
 """
 
 from collections.abc import Callable
@@ -18,7 +18,7 @@ from runs.harness import Case, Outcome
 
 
 def timeless(build: Callable[..., Case]) -> Callable[..., Case]:
-    """What makes a case that is the same at any time, which may be told behind its bytes. The last case is kept."""
+    """Wraps a function whose case does not depend on the time, which may follow its bytes. Keeps the last case."""
     made = lru_cache(1)(build)
 
     @wraps(build)
@@ -29,66 +29,66 @@ def timeless(build: Callable[..., Case]) -> Callable[..., Case]:
 
 
 def big(v1_big: bool) -> list[str]:
-    """The option of a keytab whose version 1 is read as big-endian."""
+    """Returns the option that has version 1 read as big-endian."""
     return ["--v1-big"] * v1_big
 
 
 def listing(words: tuple[str | bytes, ...], image: bytes, wanted: Outcome) -> Case:
-    """A run that reads a file, and changes none."""
+    """Returns a run that reads a file, and changes none."""
     return Case(f"{words[0]} {words[1]} of {len(image)} bytes", words, wanted, {"c" if "c" in words else "k": image})
 
 
 def changing(name: str, words: tuple[str | bytes, ...], file: str, images: tuple[bytes | None, bytes | None],
              wanted: Outcome, script: bytes = b"") -> Case:
-    """A run that changes a file; where there is none it is None."""
+    """Returns a run that changes a file; an image of None means no file."""
     before, after = ({} if image is None else {file: image} for image in images)
     return Case(f"{words[0]} {name}", words, wanted, before, after, script)
 
 
 @timeless
 def klist(image: bytes, *, columns: str = "", v1_big: bool = False) -> Case:
-    """A listing of a keytab."""
+    """Returns a listing of a keytab."""
     return listing(("klist", f"-k{columns}", *big(v1_big), "k"), image, reading.answer(image, v1_big, columns))
 
 
 @timeless
 def klist_json(image: bytes, *, words: tuple[str, ...] = ("-kK", "--json")) -> Case:
-    """A keytab as JSON."""
+    """Returns a listing of a keytab as JSON."""
     shows_keys = any(word.startswith("-k") and "K" in word for word in words)
     return listing(("klist", *words, "k"), image, json_model.keytab_json(image, "--v1-big" in words, shows_keys))
 
 
 @timeless
 def klist_cache(image: bytes, *, words: tuple[str, ...] = ("-c", "c")) -> Case:
-    """A listing of a cache by some words, of which `c` is one."""
+    """Returns a listing of a cache by some words, one of which is `c`."""
     columns = "".join(word for word in words if word.startswith("-"))
     return listing(("klist", *words), image, cache_reading.answer(image, columns))
 
 
 @timeless
 def klist_cache_json(image: bytes, *, words: tuple[str, ...] = ("--json",)) -> Case:
-    """A cache as JSON."""
+    """Returns a listing of a cache as JSON."""
     return listing(("klist", *words, "c"), image, json_model.cache_json(image))
 
 
 @timeless
 def ktfind(image: bytes, *, name: tuple[bytes, ...], kvno: int = 0, enctype: int = 0,
            v1_big: bool = False) -> Case:
-    """A look-up of a name."""
+    """Returns a look-up of a name."""
     words = ("ktfind", *big(v1_big), "k", str(kvno), str(enctype), "--", name_text(name))
     return listing(words, image, reading.found(image, v1_big, kvno, enctype, name))
 
 
 @timeless
 def ktcheck(image: bytes, *, v1_big: bool = False) -> Case:
-    """A check of a keytab."""
+    """Returns a check of a keytab."""
     return listing(("ktcheck", *big(v1_big), "k"), image,
                    check_model.checked(image, v1_big, check_model.mode_of_files()))
 
 
 @timeless
 def ktedit(image: bytes | None, script: bytes, *, v1_big: bool = False, name: str = "") -> Case:
-    """A run of a script over a keytab."""
+    """Returns a run of a script over a keytab."""
     wanted, after = edited(image, script, v1_big)
     return changing(name, ("ktedit", *big(v1_big), "k"), "k", (image, after), wanted, script)
 
@@ -96,27 +96,27 @@ def ktedit(image: bytes | None, script: bytes, *, v1_big: bool = False, name: st
 @timeless
 def ktremove(image: bytes, *, asked: Asked, v1_big: bool = False, is_dry: bool = False,
              name: str = "") -> Case:
-    """A removal of entries."""
+    """Returns a removal of entries."""
     wanted, after = removal(image, v1_big, asked)
     words = ("ktremove", *big(v1_big), *["-n"] * is_dry, *asked.words(), "k")
     return changing(name, words, "k", (image, image if is_dry else after), wanted)
 
 
 def ktutil(given: bytes, now: int, *, files: dict[str, bytes], v1_big: bool = False, name: str = "") -> Case:
-    """A run of ktutil."""
+    """Returns a run of ktutil."""
     wanted, after = handled(files, given, now, v1_big)
     return Case(f"ktutil {name}", ("ktutil", *big(v1_big)), wanted, files, after, given)
 
 
 @timeless
 def ccedit(image: bytes | None, script: bytes, *, name: str = "") -> Case:
-    """A run of a script over a cache."""
+    """Returns a run of a script over a cache."""
     wanted, after = cache_edited(image, script)
     return changing(name, ("ccedit", "c"), "c", (image, after), wanted, script)
 
 
 def ccremove(image: bytes, now: int, *, asked: AskedTickets, is_dry: bool = False, name: str = "") -> Case:
-    """A removal of tickets."""
+    """Returns a removal of tickets."""
     wanted, after = ticket_removal(image, asked, now)
     words = ("ccremove", *["-n"] * is_dry, *asked.words(), "c")
     return changing(name, words, "c", (image, image if is_dry else after), wanted)

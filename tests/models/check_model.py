@@ -1,4 +1,4 @@
-"""What ktcheck finds, written from its rules."""
+"""What ktcheck finds, by its rules."""
 
 import os
 
@@ -16,14 +16,14 @@ def is_out(count: int) -> bool:
 
 
 def ends_mit(entry: KeytabEntry) -> bool:
-    """Whether MIT's programs end before an entry."""
+    """Whether MIT's programs stop before an entry."""
     *components, realm = entry.name
     lengths = (len(components), len(realm), *map(len, components), len(entry.key))
     return any(map(is_out, lengths))
 
 
 def lines_of(those: list[tuple[int, KeytabEntry]]) -> list[bytes]:
-    """The lines of what is found about entries, each with its place."""
+    """Returns the lines for what is found about entries, each with its place."""
     newest = newest_versions([entry for _, entry in those])
     lines: list[bytes] = []
     seen: dict[tuple[object, ...], tuple[int, bytes]] = {}
@@ -48,7 +48,7 @@ def lines_of(those: list[tuple[int, KeytabEntry]]) -> list[bytes]:
 
 
 def checked(image: bytes, v1_big: bool = False, mode: int = 0o600) -> Outcome:
-    """What a run over a plain file of that mode answers."""
+    """Returns the outcome of a run over a plain file of that mode."""
     refused = no_keytab(image)
     if refused:
         return refused
@@ -66,7 +66,7 @@ def checked(image: bytes, v1_big: bool = False, mode: int = 0o600) -> Outcome:
 
 
 def mode_of_files() -> int:
-    """The mode of the files that the tests make."""
+    """Returns the mode of the files that the tests make."""
     umask = os.umask(0)
     os.umask(umask)
     return 0o666 & ~umask

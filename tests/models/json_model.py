@@ -1,4 +1,4 @@
-"""What `klist --json` answers, worked out from the format's rules, as Python's writer of JSON spells it."""
+"""What `klist --json` prints, computed from the rules of the format, as Python's JSON encoder spells it."""
 
 import json
 
@@ -7,12 +7,12 @@ from models.cache_reading import Credential, read_cache
 from models.reading import KeytabEntry, name_text, no_keytab, read_image
 from runs.harness import Outcome, message
 
-# A value of JSON.
+# A JSON value.
 Value = None | bool | int | str | list | dict
 
 
 def text_member(name: str, data: bytes) -> dict[str, Value]:
-    """A text under its name; bytes that are not UTF-8 are told in hexadecimal."""
+    """Returns a text under its name; bytes that are not UTF-8 are printed in hexadecimal."""
     try:
         return {name: data.decode()}
     except UnicodeDecodeError:
@@ -20,18 +20,18 @@ def text_member(name: str, data: bytes) -> dict[str, Value]:
 
 
 def etype_members(enctype: int) -> dict[str, Value]:
-    """The number of an enctype, and its name if it has one."""
+    """Returns the number of an enctype, and its name if it has one."""
     name = NAMES.get(enctype)
     return {"etype": enctype, "etype_name": None if name is None else name.decode()}
 
 
 def fault_member(fault: tuple[int, int] | None) -> dict[str, Value]:
-    """The kind and the place of a fault, if there is one."""
+    """Returns the kind and the place of a fault, if there is one."""
     return {"fault": None if fault is None else {"kind": fault[0], "place": fault[1]}}
 
 
 def entry_object(place: int, entry: KeytabEntry, shows_keys: bool) -> dict[str, Value]:
-    """An entry of a keytab."""
+    """Returns an entry of a keytab."""
     return {
         "place": place,
         **text_member("principal", entry.text()),
@@ -43,7 +43,7 @@ def entry_object(place: int, entry: KeytabEntry, shows_keys: bool) -> dict[str, 
 
 
 def ticket_object(place: int, ticket: Credential) -> dict[str, Value]:
-    """A ticket of a cache."""
+    """Returns a ticket of a cache."""
     return {
         "place": place,
         **text_member("client", name_text(ticket.client)),
@@ -62,19 +62,19 @@ def ticket_object(place: int, ticket: Credential) -> dict[str, Value]:
 
 
 def config_object(place: int, entry: Credential) -> dict[str, Value]:
-    """A configuration entry of a cache."""
+    """Returns a configuration entry of a cache."""
     _, key, *principals, _ = entry.server
     about = text_member("principal", principals[0]) if principals else {"principal": None}
     return {"place": place, **text_member("key", key), **about, **text_member("value", entry.ticket)}
 
 
 def spelled(value: Value) -> bytes:
-    """The text of an object, and a newline."""
+    """Returns the text of an object, and a newline."""
     return json.dumps(value, ensure_ascii=False, separators=(",", ":")).encode() + b"\n"
 
 
 def keytab_json(image: bytes, v1_big: bool = False, shows_keys: bool = False) -> Outcome:
-    """What is answered of a keytab, as the file `k`."""
+    """Returns the outcome for a keytab, as the file `k`."""
     refused = no_keytab(image)
     if refused:
         return refused
@@ -90,7 +90,7 @@ def keytab_json(image: bytes, v1_big: bool = False, shows_keys: bool = False) ->
 
 
 def cache_json(image: bytes) -> Outcome:
-    """What is answered of a cache, as the file `c`."""
+    """Returns the outcome for a cache, as the file `c`."""
     cache = read_cache(image)
     if isinstance(cache, int):
         return message(1, f"c: not a cache ({cache})")

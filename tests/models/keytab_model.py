@@ -1,6 +1,6 @@
 """A keytab that is changed: its cells, what each change does to them, and the image they spell.
 
-It is written from the rules of the format, to say what the program has to answer and to save.
+It follows the rules of the format, to predict the program's output and the file that it saves.
 """
 
 from makers.images import BIG, END, Entry, hole, record
@@ -12,7 +12,7 @@ WIDEST = 65_535
 
 
 def spelled(entry: KeytabEntry, version: int, order: str) -> bytes:
-    """An entry as it is written, always with its 32-bit version."""
+    """Returns the bytes of an entry, always with its 32-bit version."""
     *components, realm = entry.name
     kvno = entry.kvno
     fields = Entry(tuple(components), realm, entry.name_type, entry.timestamp, kvno % 256,
@@ -21,13 +21,13 @@ def spelled(entry: KeytabEntry, version: int, order: str) -> bytes:
 
 
 def is_too_long(entry: KeytabEntry, version: int) -> bool:
-    """Whether a length or a count does not fit its 16 bits. Version 1 counts the realm too."""
+    """Whether a length or a count does not fit 16 bits. Version 1 counts the realm too."""
     count = len(entry.name) - (0 if version == 1 else 1)
     return count > WIDEST or any(len(data) > WIDEST for data in (*entry.name, entry.key))
 
 
 class Keytab(Store):
-    """A keytab. The bytes after its cells are an end mark and more, or damage, or nothing."""
+    """A keytab. After its cells come an end mark and more, or damage, or nothing."""
 
     def __init__(self, image: bytes = b"\x05\x02", v1_big: bool = False) -> None:
         self.front, self.order = image[:2], order_of(image, v1_big)
@@ -35,25 +35,25 @@ class Keytab(Store):
         self.rest = image[end:]
 
     def image(self) -> bytes:
-        """The bytes of the file."""
+        """Returns the bytes of the file."""
         spell = {True: record, False: hole}
         cells = (spell[cell.is_live](cell.data, self.order) for cell in self.cells)
         return b"".join([self.front, *cells, self.rest])
 
     def size(self, cell: Cell) -> int:
-        """Its length stands before it."""
+        """Returns the size of a cell with its length field."""
         return 4 + len(cell.data)
 
     def said(self, cell: Cell) -> KeytabEntry:
-        """The entry of a record."""
+        """Returns the entry of a record."""
         return read_entry(cell.data, self.version, self.order)
 
     def entries(self) -> list[KeytabEntry]:
-        """The entry of each record."""
+        """Returns the entry of each record."""
         return [entry for _, entry in self.live()]
 
     def add(self, entry: KeytabEntry) -> int:
-        """Puts an entry into the first hole that takes it, else after the cells; its place."""
+        """Adds an entry in the first hole that it fits, else after the cells, and returns its place."""
         self.check_sound()
         if is_too_long(entry, self.version):
             raise Refused(TOO_LONG)
@@ -71,7 +71,7 @@ class Keytab(Store):
         return end
 
     def rewrite(self, cursors: list[int]) -> int:
-        """Writes the records anew in version 2 without holes, and carries the cursors along."""
+        """Rewrites the records in version 2 without holes, and carries the cursors along."""
         self.check_sound()
         cells = [Cell(spelled(entry, 2, BIG), True) for entry in self.entries()]
         end = self.renew(b"\x05\x02", cells, cursors)

@@ -1,4 +1,4 @@
-"""What `ktutil` does with its lines: what it prints, what it says is wrong, and what it saves."""
+"""What `ktutil` does with its lines: what it prints, its messages, and what it saves."""
 
 import re
 from collections.abc import Callable
@@ -23,7 +23,7 @@ from runs.harness import Outcome
 # The options of a listing, and the letters of their columns.
 COLUMNS = {b"-t": "t", b"-k": "K", b"-e": "e"}
 
-# The greatest length of a file's name.
+# The greatest length of a file name.
 LONGEST_NAME = 255
 
 
@@ -36,18 +36,18 @@ class Failure(Exception):
 
 
 def words_in(line: bytes) -> list[bytes]:
-    """The words of a line: a backslash keeps the byte after it in its word."""
+    """Returns the words of a line: a backslash keeps the byte after it in its word."""
     return re.findall(rb"(?:\\.|[^ \t])+", line, re.DOTALL)
 
 
 def check_count(words: list[bytes], count: int) -> None:
-    """That many words."""
+    """Fails unless there are that many words."""
     if len(words) != count:
         raise LineFault(WORD_COUNT)
 
 
 def file_name(word: bytes) -> str:
-    """The name of a file, which is text."""
+    """Returns the name of a file, which has to be text."""
     try:
         return word.decode()
     except UnicodeDecodeError:
@@ -55,7 +55,7 @@ def file_name(word: bytes) -> str:
 
 
 def slots(entries: list[KeytabEntry], columns: str) -> bytes:
-    """The text of a list."""
+    """Returns the text of a list."""
     time = (b"Timestamp            ", b"-------------------- ") if "t" in columns else (b"", b"")
     lines = [b"slot KVNO %sPrincipal" % time[0], b"---- ---- %s---------" % time[1]]
     lines += [b"%4d " % slot + entry.line(columns) for slot, entry in enumerate(entries, 1)]
@@ -63,7 +63,7 @@ def slots(entries: list[KeytabEntry], columns: str) -> bytes:
 
 
 def options_of_entry(words: list[bytes]) -> dict[bytes, bytes]:
-    """What stands after each option of a new entry. All are there, each once, in any order."""
+    """Returns the value of each option of a new entry. All are required, each once, in any order."""
     found: dict[bytes, bytes] = {}
     left = list(words)
     while left:
@@ -79,7 +79,7 @@ def options_of_entry(words: list[bytes]) -> dict[bytes, bytes]:
 
 
 class Ktutil:
-    """The list, the entry that awaits its key, the files, and what was printed and said."""
+    """The list, the entry whose key is due next, the files, and the output and messages so far."""
 
     def __init__(self, files: dict[str, bytes], now: int, v1_big: bool) -> None:
         self.files = dict(files)
@@ -90,12 +90,12 @@ class Ktutil:
         self.out, self.err, self.status = b"", b"", 0
 
     def say(self, text: bytes, status: int) -> None:
-        """A message on the error output."""
+        """Prints a message to the error output."""
         self.err += b"krbfile: " + text + b"\n"
         self.status = max(self.status, status)
 
     def handle(self, number: int, line: bytes) -> None:
-        """Does what the line of that number says, or says what is wrong with it."""
+        """Does what the line of that number says, or reports its fault."""
         try:
             if self.awaited is None:
                 self.command(words_in(line))
@@ -130,7 +130,7 @@ class Ktutil:
         self.out += slots(self.entries, "".join(COLUMNS[word] for word in words))
 
     def load(self, word: bytes) -> Keytab | None:
-        """The keytab of a file; None where the file is missing."""
+        """Returns the keytab of a file, or None if the file is missing."""
         name = file_name(word)
         if name == "." or "\0" in name or len(word) > LONGEST_NAME:
             raise Failure(word + b": cannot read", 3)
@@ -155,7 +155,7 @@ class Ktutil:
         self.entries += keytab.entries()
 
     def write_kt(self, words: list[bytes]) -> None:
-        """`write_kt`. A name with a slash has a folder that is not there."""
+        """`write_kt`. A name with a slash names a missing folder."""
         check_count(words, 1)
         keytab = self.load(words[0]) or Keytab()
         for entry in self.entries:
@@ -189,7 +189,7 @@ class Ktutil:
         self.is_over = True
 
 
-# What each command's words do.
+# The words of each command.
 SPELLINGS: dict[Callable[[Ktutil, list[bytes]], None], tuple[bytes, ...]] = {
     Ktutil.list_slots: (b"list", b"l"),
     Ktutil.read_kt: (b"read_kt", b"rkt"),
@@ -205,10 +205,10 @@ COMMANDS = {word: command for command, words in SPELLINGS.items() for word in wo
 def handled(
     files: dict[str, bytes], given: bytes, now: int, v1_big: bool = False, is_cut: bool = False
 ) -> tuple[Outcome, dict[str, bytes]]:
-    """What `ktutil` answers to an input, and the files after it.
+    """Returns the outcome of `ktutil` for an input, and the files after it.
 
-    Where the input is cut, since a read failed or it is too large, a piece without a line end is no
-    line.
+    If the input is cut, because a read failed or it is too large, a last piece without a line end is
+    not a line.
     """
     ktutil = Ktutil(files, now, v1_big)
     *lines, last = given[:LIMIT].split(b"\n")

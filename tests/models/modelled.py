@@ -1,4 +1,4 @@
-"""Runs of each command, and what the models say of them: how they end, and where they may end."""
+"""Runs of each command with the models' predictions: how they end, and where they may end early."""
 
 from collections.abc import Iterator
 from dataclasses import dataclass, replace
@@ -16,7 +16,7 @@ from models.ticket_removal_model import Asked as AskedTickets
 from runs.harness import Case, Outcome, message
 from runs.rows import text
 
-# The time of a run's start, which is that of new entries.
+# The time of a run's start, which new entries get.
 NOW = 1_700_000_000
 
 NO_MEMORY = message(4, "out of memory")
@@ -27,7 +27,7 @@ KEYS = {16: bytes(range(16)).hex(), 32: bytes(range(32)).hex()}
 
 @dataclass(frozen=True)
 class Stage:
-    """A point at which a run may end early: what it has printed and said, and the files."""
+    """A point at which a run may end early: its output and messages so far, and the files."""
 
     out: bytes
     err: bytes
@@ -36,20 +36,20 @@ class Stage:
 
 @dataclass(frozen=True)
 class Modelled:
-    """A run as it is to be, and the points at which it may end early."""
+    """A run as the model predicts it, and the points at which it may end early."""
 
     case: Case
     stages: tuple[Stage, ...]
-    # Whether a prefix of the text that follows may be printed beside.
+    # Whether a prefix of the text that follows may be printed too.
     may_print: bool = False
 
     def after(self) -> dict[str, bytes]:
-        """The files after it."""
+        """Returns the files after the run."""
         case = self.case
         return case.files if case.files_after is None else case.files_after
 
     def is_whole(self, got: Outcome, files: dict[str, bytes]) -> bool:
-        """Whether a run is the whole one."""
+        """Whether a run ended as the model predicts a whole run."""
         return (got, files) == (self.case.wanted, self.after())
 
     def ends_early(self, got: Outcome, files: dict[str, bytes], end: Outcome) -> bool:
@@ -65,22 +65,22 @@ class Modelled:
 
 
 def stages_of(files: dict[str, bytes], lines: list[bytes]) -> Iterator[Stage]:
-    """What stands before each line of ktutil, and after the last."""
+    """Yields the state before each line of ktutil, and after the last."""
     for count in range(len(lines) + 1):
         got, after = handled(files, b"".join(lines[:count]), NOW)
         yield Stage(got.out, got.err, after)
 
 
 def modelled(case: Case) -> Modelled:
-    """A run of a command. What prints as it goes may end after a prefix, ktutil before each line and at its end, and
-    all else does nothing where it ends early."""
+    """Returns a run of a command. If it ends early, output that is printed as the run goes may be a prefix, ktutil
+    stops before a line or at its end, and other commands do nothing."""
     is_talk = case.words[0] == "ktutil"
     stages = stages_of(case.files, case.stdin.splitlines(keepends=True)) if is_talk else [Stage(b"", b"", case.files)]
     return Modelled(case, tuple(stages), may_print=case.words[0] in ("klist", "ktfind", "ktcheck"))
 
 
 def mixed_keytab(count: int) -> bytes:
-    """A keytab of entries of many lengths, with a hole behind each fifth."""
+    """Returns a keytab of entries of many lengths, with a hole after every fifth."""
     parts = []
     for number in range(count):
         name = (b"x" * (number % 30), b"%d" % number)
@@ -92,14 +92,14 @@ def mixed_keytab(count: int) -> bytes:
 
 
 def rotated_keytab(count: int) -> bytes:
-    """A keytab of many names, each with two versions of two enctypes."""
+    """Returns a keytab of many names, each with two versions of two enctypes."""
     return keytab(*(Entry((b"x" * (number % 30), b"%d" % number), version8=kvno, version32=kvno,
                            enctype=enctype)
                      for kvno in (1, 2) for number in range(count) for enctype in (17, 18)))
 
 
 def mixed_script(image: bytes, count: int) -> bytes:
-    """Two walks over a keytab that loses and gains that many entries, and is rewritten."""
+    """Returns two walks over a keytab in which that many entries are removed and added, and which is rewritten."""
     records = Keytab(image).live_places()
     lines = ["start", "start"]
     for number in range(count):
@@ -111,7 +111,7 @@ def mixed_script(image: bytes, count: int) -> bytes:
 
 
 def mixed_cache(count: int) -> bytes:
-    """A cache of tickets, configuration entries and removed ones."""
+    """Returns a cache of tickets, configuration entries and removed ones."""
     parts = []
     for number in range(count):
         ticket = replace(TICKET, server=Name((b"x" * (number % 90), b"%d" % number)),
@@ -121,7 +121,7 @@ def mixed_cache(count: int) -> bytes:
 
 
 def mixed_cache_script(image: bytes, count: int) -> bytes:
-    """Two walks over a cache that loses that many tickets, gains values, and is rewritten."""
+    """Returns two walks over a cache in which that many tickets are removed and values set, and which is rewritten."""
     places = Cache(image).live_places()
     lines = ["start", "start"]
     for number in range(count):
@@ -132,7 +132,7 @@ def mixed_cache_script(image: bytes, count: int) -> bytes:
 
 
 def talk(list_columns: str = "-t -k -e") -> bytes:
-    """Lines of ktutil that read `a` and `b`, make `n` and change `a`, some of them at fault."""
+    """Returns lines of ktutil that read `a` and `b`, make `n` and change `a`, some of them faulty."""
     lines = [
         "l", "rkt a", f"l {list_columns}", "addent -key -p new/one@R -k 7 -e 18", KEYS[32],
         "wkt n", "frob", "rkt b", "delent 2", "wkt n", "rkt no", f"l {list_columns}", "clear",
@@ -144,13 +144,13 @@ def talk(list_columns: str = "-t -k -e") -> bytes:
 
 
 def talk_files(count: int) -> dict[str, bytes]:
-    """The files of those lines: `b` has an end mark, `d` is damaged, `n` is not there."""
+    """Returns the files of those lines: `b` has an end mark, `d` is damaged, `n` is missing."""
     marked = old(Entry((b"m",)), Entry((b"n",))) + END + b"xyz"
     return {"a": mixed_keytab(count), "b": marked, "d": DAMAGED}
 
 
 def small() -> list[Modelled]:
-    """Runs of each command over small files."""
+    """Returns runs of each command over small files."""
     image, cache, name = mixed_keytab(12), mixed_cache(4), (b"xxx", b"3", b"R")
     script, cache_script = mixed_script(image, 4), mixed_cache_script(cache, 3)
     return [modelled(case) for case in (
@@ -182,7 +182,7 @@ def small() -> list[Modelled]:
 
 
 def large() -> list[Modelled]:
-    """Runs of each command over larger files."""
+    """Returns runs of each command over larger files."""
     image, cache = mixed_keytab(3_000), mixed_cache(300)
     return [modelled(case) for case in (
         cases.klist(image),

@@ -1,4 +1,4 @@
-"""What `klist -k` and `ktfind` answer on an image, worked out from the format's rules."""
+"""What `klist -k` and `ktfind` print for an image, computed from the rules of the format."""
 from __future__ import annotations
 
 from dataclasses import dataclass
@@ -23,12 +23,12 @@ QUOTES = {
 
 
 class NoEntry(Exception):
-    """A record begins with no entry."""
+    """A record does not begin with an entry."""
 
 
 @dataclass(frozen=True)
 class KeytabEntry:
-    """What an entry says."""
+    """The fields of an entry."""
 
     name: tuple[bytes, ...]  # the components and then the realm
     name_type: int
@@ -38,11 +38,11 @@ class KeytabEntry:
     key: bytes
 
     def text(self) -> bytes:
-        """The text of the name."""
+        """Returns the text of the name."""
         return name_text(self.name)
 
     def line(self, columns: str) -> bytes:
-        """The line of a listing."""
+        """Returns the line in a listing."""
         shown = b"%4d " % self.kvno
         if "t" in columns:
             shown += time_text(self.timestamp) + b" "
@@ -54,7 +54,7 @@ class KeytabEntry:
         return shown
 
     def tail(self) -> bytes:
-        """The end of a line that tells of one entry."""
+        """Returns the end of a line that reports one entry."""
         return b"kvno %d etype %d " % (self.kvno, self.enctype) + self.text()
 
 
@@ -66,7 +66,7 @@ class Cell:
     is_live: bool
 
     def freed(self) -> Cell:
-        """A hole of zeros in its place."""
+        """Returns a hole of zeros of the same size."""
         return Cell(bytes(len(self.data)), False)
 
 
@@ -78,45 +78,45 @@ class Fields:
         self.order = order
 
     def take(self, count: int) -> bytes:
-        """The next bytes."""
+        """Returns the next bytes."""
         if count > len(self.data):
             raise NoEntry
         taken, self.data = self.data[:count], self.data[count:]
         return taken
 
     def number(self, width: int) -> int:
-        """The next unsigned number."""
+        """Returns the next unsigned number."""
         return int.from_bytes(self.take(width), self.order)
 
     def counted(self) -> bytes:
-        """The next data after its 16-bit length."""
+        """Returns the next data after its 16-bit length."""
         return self.take(self.number(2))
 
 
 def quoted(part: bytes) -> bytes:
-    """A component or realm as a name's text has it."""
+    """Returns a component or realm as a name's text has it."""
     return b"".join(QUOTES.get(byte, bytes([byte])) for byte in part)
 
 
 def name_text(name: tuple[bytes, ...]) -> bytes:
-    """The text of a name, which is its components and then its realm."""
+    """Returns the text of a name, which is its components followed by its realm."""
     *components, realm = map(quoted, name)
     return b"/".join(components) + b"@" + realm
 
 
 def time_text(seconds: int) -> bytes:
-    """The text of a time."""
+    """Returns the text of a time."""
     time = FIRST_SECOND + timedelta(seconds=seconds)
     return time.strftime("%Y-%m-%dT%H:%M:%SZ").encode()
 
 
 def etype_text(enctype: int) -> bytes:
-    """The text of an enctype."""
+    """Returns the text of an enctype."""
     return NAMES.get(enctype, b"etype %d" % enctype)
 
 
 def read_entry(data: bytes, version: int, order: str) -> KeytabEntry:
-    """The entry that begins a record."""
+    """Returns the entry at the start of a record."""
     fields = Fields(data, order)
     count = fields.number(2)
     if version == 1:
@@ -136,12 +136,12 @@ def read_entry(data: bytes, version: int, order: str) -> KeytabEntry:
 
 
 def order_of(image: bytes, v1_big: bool) -> str:
-    """The order of a keytab's numbers."""
+    """Returns the byte order of a keytab's numbers."""
     return BIG if image[1] == 2 or v1_big else LITTLE
 
 
 def fault_or_size(image: bytes, at: int, order: str) -> tuple[int, int]:
-    """The fault of the length at that place, or 0, and the length; a length 0 is the end."""
+    """Returns the fault of the length at that place, or 0, and the length; a length 0 is the end."""
     rest = len(image) - at
     if rest < 4:
         return 1, 0
@@ -150,7 +150,7 @@ def fault_or_size(image: bytes, at: int, order: str) -> tuple[int, int]:
 
 
 def no_keytab(image: bytes, name: str = "k") -> Outcome | None:
-    """What is answered of a file that does not begin as a keytab."""
+    """Returns the refusal of a file that does not begin as a keytab, or None."""
     if len(image) < 2:
         return message(1, f"{name}: not a keytab (1)")
     if image[0] != 5 or image[1] not in (1, 2):
@@ -159,7 +159,7 @@ def no_keytab(image: bytes, name: str = "k") -> Outcome | None:
 
 
 def read_cells(image: bytes, v1_big: bool) -> tuple[list[Cell], tuple[int, int] | None, int]:
-    """The cells of a keytab, the kind and place of its fault, and where the cells end."""
+    """Returns the cells of a keytab, the kind and place of its fault, and where the cells end."""
     order = order_of(image, v1_big)
     cells, at = [], 2
     while at < len(image):
@@ -183,7 +183,7 @@ def read_cells(image: bytes, v1_big: bool) -> tuple[list[Cell], tuple[int, int] 
 def read_image(
     image: bytes, v1_big: bool
 ) -> tuple[list[tuple[int, KeytabEntry]], tuple[int, int] | None]:
-    """The entries of a keytab with their places, and the kind and place of its fault."""
+    """Returns the entries of a keytab with their places, and the kind and place of its fault."""
     cells, fault, _ = read_cells(image, v1_big)
     those, at = [], 2
     for cell in cells:
@@ -194,7 +194,7 @@ def read_image(
 
 
 def answer(image: bytes, v1_big: bool, columns: str = "") -> Outcome:
-    """What `klist -k` answers on that image, as the file `k`."""
+    """Returns the outcome of `klist -k` for that image, as the file `k`."""
     refused = no_keytab(image)
     if refused:
         return refused
@@ -206,7 +206,7 @@ def answer(image: bytes, v1_big: bool, columns: str = "") -> Outcome:
 
 
 def found(image: bytes, v1_big: bool, kvno: int, enctype: int, name: tuple[bytes, ...]) -> Outcome:
-    """What `ktfind` answers on that image, as the file `k`."""
+    """Returns the outcome of `ktfind` for that image, as the file `k`."""
     refused = no_keytab(image)
     if refused:
         return refused

@@ -1,4 +1,4 @@
-"""What ktremove does, written from its rules: which entries it removes, what it prints, and the file."""
+"""What ktremove does, by its rules: which entries it removes, what it prints, and the file."""
 
 from dataclasses import dataclass
 
@@ -12,14 +12,14 @@ OLD = "old"
 
 @dataclass(frozen=True)
 class Asked:
-    """What the words ask for. `name` is the text of a name, `kvno` a number or OLD."""
+    """The selectors. `name` is the text of a name, `kvno` a number or OLD."""
 
     name: bytes | None = None
     kvno: int | str | None = None
     etypes: tuple[int, ...] = ()
 
     def words(self) -> list[str | bytes]:
-        """The words that ask for it."""
+        """Returns the options for these selectors."""
         words: list[str | bytes] = [] if self.name is None else ["-p", self.name]
         words += [] if self.kvno is None else ["-k", str(self.kvno)]
         for etype in self.etypes:
@@ -33,7 +33,7 @@ class Asked:
 
 
 def takes_over(newest: KeytabEntry, later: KeytabEntry) -> bool:
-    """Whether a later entry of a name takes the place of the newest so far."""
+    """Whether a later entry of a name replaces the newest so far."""
     small, large = sorted((newest, later), key=lambda entry: entry.kvno)
     if small.kvno < 128 and large.kvno > 240:
         if small.timestamp == large.timestamp:
@@ -43,7 +43,7 @@ def takes_over(newest: KeytabEntry, later: KeytabEntry) -> bool:
 
 
 def newest_versions(entries: list[KeytabEntry]) -> dict[tuple[bytes, ...], int]:
-    """The version of the newest entry of each name."""
+    """Returns the version of the newest entry of each name."""
     newest: dict[tuple[bytes, ...], KeytabEntry] = {}
     for entry in entries:
         if entry.name not in newest or takes_over(newest[entry.name], entry):
@@ -52,7 +52,7 @@ def newest_versions(entries: list[KeytabEntry]) -> dict[tuple[bytes, ...], int]:
 
 
 def removed_by(keytab: Keytab, asked: Asked) -> list[tuple[int, KeytabEntry]]:
-    """The entries that are asked for, with their places."""
+    """Returns the selected entries, with their places."""
     newest = newest_versions(keytab.entries())
     found = []
     for place, entry in keytab.live():
@@ -66,7 +66,7 @@ def removed_by(keytab: Keytab, asked: Asked) -> list[tuple[int, KeytabEntry]]:
 
 
 def removal(image: bytes, v1_big: bool, asked: Asked) -> tuple[Outcome, bytes]:
-    """What a run over the file k answers, and the file afterwards."""
+    """Returns the outcome of a run over the file k, and the file afterwards."""
     refused = no_keytab(image)
     if refused:
         return refused, image

@@ -1,4 +1,4 @@
-"""What `ktedit` does with a script: its lines, the replies to them, and the file that is saved."""
+"""What `ktedit` does with a script: reads its lines, replies to them, and saves the file."""
 
 import re
 
@@ -23,12 +23,12 @@ KEY_SIZES = {16: 24, 17: 16, 18: 32, 19: 16, 20: 32, 23: 16, 25: 16, 26: 32}
 
 
 def etype_in(word: bytes) -> int:
-    """An enctype by its name or number."""
+    """Returns an enctype given by name or number."""
     return ETYPES[word] if word in ETYPES else number_in(word, 65_535, BAD_ETYPE)
 
 
 def key_in(word: bytes, enctype: int) -> bytes:
-    """A key in hexadecimal, as long as its enctype has it."""
+    """Returns a key given in hexadecimal, which has to have the length of its enctype."""
     if not re.fullmatch(rb"([0-9a-fA-F]{2})*", word):
         raise LineFault(BAD_KEY)
     key = bytes.fromhex(word.decode())
@@ -38,7 +38,7 @@ def key_in(word: bytes, enctype: int) -> bytes:
 
 
 def entry_in(words: list[bytes]) -> KeytabEntry:
-    """The entry of the words after `add`."""
+    """Returns the entry of the words after `add`."""
     kvno, enctype = number_in(words[0]), etype_in(words[1])
     timestamp = number_in(words[2])
     key = key_in(b"" if words[3] == b"-" else words[3], enctype)
@@ -46,7 +46,7 @@ def entry_in(words: list[bytes]) -> KeytabEntry:
 
 
 def event_in(line: bytes) -> Event:
-    """The event of a line."""
+    """Returns the event of a line."""
     if line.split(b" ")[0] == b"add":
         return "add", entry_in(rest_in(line, 5))
     return walk_event(line)
@@ -58,7 +58,7 @@ class KeytabSession(Session):
     store: Keytab
 
     def add(self, entry: KeytabEntry) -> bytes:
-        """An entry is added."""
+        """Adds an entry."""
         place = self.store.add(entry)
         self.is_changed = True
         return b"placed %d" % place
@@ -67,7 +67,7 @@ class KeytabSession(Session):
 def edited(
     image: bytes | None, script: bytes, v1_big: bool = False
 ) -> tuple[Outcome, bytes | None]:
-    """What `ktedit k` answers to a script, and the file `k` after it; None is no file."""
+    """Returns what `ktedit k` prints for a script, and the file `k` after it; None means no file."""
     events = events_in(script, event_in)
     if isinstance(events, Outcome):
         return events, image

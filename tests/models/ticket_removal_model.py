@@ -1,4 +1,4 @@
-"""What ccremove does, written from its rules: which tickets it removes, what it prints, and the file."""
+"""What ccremove does, by its rules: which tickets it removes, what it prints, and the file."""
 
 from dataclasses import dataclass
 
@@ -14,13 +14,13 @@ NOT_FOUND = 9
 
 @dataclass(frozen=True)
 class Asked:
-    """What the words ask for. `service` is the text of a name."""
+    """The selectors. `service` is the text of a name."""
 
     service: bytes | None = None
     is_expired: bool = False
 
     def words(self) -> list[str | bytes]:
-        """The words that ask for it."""
+        """Returns the options for these selectors."""
         words: list[str | bytes] = [] if self.service is None else ["-p", self.service]
         return words + ["--expired"] * self.is_expired
 
@@ -29,17 +29,17 @@ class Asked:
         return self.service is None or name_text(ticket.server) == self.service
 
     def is_asked(self, ticket: Credential, now: int) -> bool:
-        """Whether a ticket is asked for."""
+        """Whether a ticket is selected."""
         return self.is_named(ticket) and (not self.is_expired or ticket.endtime <= now)
 
 
 def tickets_of(cache: Cache) -> list[tuple[int, Credential]]:
-    """The tickets with their places: what was not removed and is no configuration entry."""
+    """Returns the tickets with their places: live credentials that are not configuration entries."""
     return [(place, said) for place, said in cache.live() if not said.is_config()]
 
 
 def ticket_removal(image: bytes, asked: Asked, now: int) -> tuple[Outcome, bytes]:
-    """What a run over the file c answers at a time, and the file afterwards."""
+    """Returns the outcome of a run over the file c at a time, and the file afterwards."""
     refused = no_cache(image)
     if refused:
         return refused, image

@@ -1,6 +1,6 @@
-"""Walks over a store of records, and the changes of it: what a session answers, whatever the format.
+"""Walks over a store of records, and changes to it: the replies of a session, whatever the format.
 
-It is written from the rules of a session. What the records are and how they change is the store's.
+It follows the rules of a session. What the records are and how they change is up to the store.
 """
 from __future__ import annotations
 
@@ -22,7 +22,7 @@ Event = tuple
 
 
 class Refused(Exception):
-    """A store or a session refuses something, and is as before."""
+    """A store or a session refuses an event, and is unchanged."""
 
     def __init__(self, code: int) -> None:
         super().__init__(code)
@@ -30,67 +30,67 @@ class Refused(Exception):
 
 
 class Record(Protocol):
-    """What stands at a place: a reply tells of it."""
+    """The record at a place, as a reply reports it."""
 
     def tail(self) -> bytes:
-        """What a reply has behind the places."""
+        """Returns the part of a reply after the places."""
 
 
 class Cell(Protocol):
-    """The bytes of a record, which may be gone."""
+    """The bytes of a record, which may have been removed."""
 
     data: bytes
     is_live: bool
 
     def freed(self) -> Cell:
-        """The same, gone."""
+        """Returns the same cell, removed."""
 
 
 def carried(cursors: list[int], old: list[int], new: list[int]) -> list[int]:
-    """Where cursors stand after a rewrite: old places of records, and new ones with the end."""
+    """Returns the cursors after a rewrite, given the old places of records, and the new ones with the end."""
     return [new[sum(at < cursor for at in old)] for cursor in cursors]
 
 
 class Store:
-    """What stands before the cells, the cells, which touch one another, and the bytes after them."""
+    """The bytes before the cells, the cells, which have no gaps, and the bytes after them."""
 
     front: bytes
     cells: list[Cell]
     rest: bytes
-    # The kind and the place of the fault behind the cells, if there is one.
+    # The kind and the place of the fault after the cells, or None.
     fault: tuple[int, int] | None
 
     @property
     def version(self) -> int:
-        """Which of its formats it has."""
+        """The version of its format."""
         return self.front[1]
 
     def said(self, cell: Cell) -> Record:
-        """What a record says."""
+        """Returns a record, decoded."""
         raise NotImplementedError
 
     def size(self, cell: Cell) -> int:
-        """How many bytes a cell takes."""
+        """Returns the number of bytes of a cell."""
         return len(cell.data)
 
     def places_of(self, front: bytes, cells: list[Cell]) -> list[int]:
-        """The place of each of those cells, and where they end."""
+        """Returns the place of each of those cells, and where they end."""
         return [*accumulate(map(self.size, cells), initial=len(front))]
 
     def places(self) -> list[int]:
-        """The place of each cell, and where they end."""
+        """Returns the place of each cell, and where they end."""
         return self.places_of(self.front, self.cells)
 
     def live(self) -> list[tuple[int, Record]]:
-        """Each record that is there, with its place."""
+        """Returns each live record with its place."""
         return [(place, self.said(cell)) for place, cell in zip(self.places(), self.cells) if cell.is_live]
 
     def live_places(self) -> list[int]:
-        """The place of each of them."""
+        """Returns the place of each live record."""
         return [place for place, cell in zip(self.places(), self.cells) if cell.is_live]
 
     def next_record(self, place: int) -> tuple[int, int, Record] | None:
-        """The place of the first record from a place on, the place after it, and the record."""
+        """Returns the place of the first record from a place on, the place after it, and the record."""
         places = self.places()
         for at, after, cell in zip(places, places[1:], self.cells):
             if at >= place and cell.is_live:
@@ -98,12 +98,12 @@ class Store:
         return None
 
     def check_sound(self) -> None:
-        """A damaged store refuses each change."""
+        """Refuses a change if the store is damaged."""
         if self.fault:
             raise Refused(DAMAGED)
 
     def check_writable(self) -> None:
-        """Whether a change but a rewrite is refused."""
+        """Refuses a change, other than a rewrite, that cannot be made."""
         self.check_sound()
 
     def cut(self, place: int) -> int:
@@ -116,7 +116,7 @@ class Store:
         raise Refused(NOT_LIVE)
 
     def renew(self, front: bytes, cells: list[Cell], cursors: list[int]) -> int:
-        """Takes the records written anew, carries the cursors along, and answers the new end."""
+        """Replaces the cells with rewritten records, carries the cursors along, and returns the new end."""
         places = self.places_of(front, cells)
         if places[-1] > LIMIT:
             raise Refused(FULL)
@@ -135,7 +135,7 @@ class Session:
         self.status = 0
 
     def apply(self, event: Event) -> bytes:
-        """The reply to an event."""
+        """Returns the reply to an event."""
         word, *words = event
         try:
             return getattr(self, word)(*words)
@@ -144,24 +144,24 @@ class Session:
             return b"refused %d" % refused.code
 
     def start(self) -> bytes:
-        """A walk from the first place."""
+        """Starts a walk from the first place."""
         return self.walk_from(self.store.places()[0])
 
     def walk_from(self, place: int) -> bytes:
-        """A walk from a place."""
+        """Starts a walk from a place."""
         if len(self.cursors) == MOST_WALKS:
             raise Refused(TOO_MANY_WALKS)
         self.cursors.append(place)
         return b"walk %d at %d" % (len(self.cursors) - 1, place)
 
     def resume(self, place: int) -> bytes:
-        """A walk from a number, which has to be a place."""
+        """Starts a walk from a number, which has to be a place."""
         if len(self.cursors) < MOST_WALKS and place not in self.store.places():
             raise Refused(NOT_A_PLACE)
         return self.walk_from(place)
 
     def step(self, walk: int) -> bytes:
-        """A walk goes on to the next record, the end or the fault."""
+        """Moves a walk to the next record, the end or the fault."""
         if walk >= len(self.cursors):
             raise Refused(NO_SUCH_WALK)
         told = b"walk %d " % walk
@@ -176,20 +176,20 @@ class Session:
         return told + b"end %d" % self.cursors[walk]
 
     def cut(self, place: int) -> bytes:
-        """The record at a place is removed."""
+        """Removes the record at a place."""
         self.store.cut(place)
         self.is_changed = True
         return b"gone %d" % place
 
     def rewrite(self) -> bytes:
-        """All is written anew."""
+        """Rewrites the store."""
         end = self.store.rewrite(self.cursors)
         self.is_changed = True
         return b"rewritten %d" % end
 
 
 def run_events(session: Session, events: list[Event], before: bytes | None) -> tuple[Outcome, bytes | None]:
-    """What is answered to events, and the file after them; `before` is that before them."""
+    """Returns the outcome of events, and the file after them; `before` is the file before them."""
     replies = [session.apply(event) + b"\n" for event in events]
     after = session.store.image() if session.is_changed else before
     return Outcome(session.status, b"".join(replies)), after

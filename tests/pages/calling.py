@@ -8,24 +8,24 @@ from pages.documents import read
 from pages.readme import lines_of, stands_in
 from runs.harness import TOP, Report
 
-# Crates without a page: what `krb_disk` offers stands on that of `krb_files`.
+# Crates without a page: that of `krb_files` covers what `krb_disk` offers.
 WITHOUT = ("krb_disk",)
 
 
 def page_of(crate: str) -> str:
-    """The path of a crate's page."""
+    """Returns the path of a crate's page."""
     return os.path.join("crates", crate, "CALLING.md")
 
 
 def signature(name: str, contract: str) -> str:
-    """A function on one line, under its name with the type's before it, without its clauses."""
+    """Returns a function on one line, named with its type, without its clauses."""
     head = re.split(r"\n\s*(?:requires|ensures|where|//|\{)|\s*\{|;", contract)[0]
     head = re.sub(r"\s+", " ", head).replace("( ", "(").replace(", )", ")").strip()
     return re.sub(r"^(?:pub )?(?:const )?fn \w+", f"fn {name}", head)
 
 
 def faults_of_calls(crate: str) -> list[str]:
-    """The calls on a page that no crate of the library has so."""
+    """Returns the calls on a page that no crate of the library declares in that form."""
     calls = {**calls_of(crate), **(calls_of("krb_disk") if crate == "krb_files" else {})}
     known = {signature(name, contract) for name, contract in calls.items()}
     lists = re.findall(r"```text\n(.*?)```", read(page_of(crate)), re.DOTALL)
@@ -33,7 +33,7 @@ def faults_of_calls(crate: str) -> list[str]:
 
 
 def faults_of_code(crate: str) -> list[str]:
-    """The pieces of code on a page that do not stand in the file that is named last before."""
+    """Returns the pieces of code on a page that are not in the last file named before them."""
     wrong = []
     parts = re.split(r"```rust\n(.*?)```", read(page_of(crate)), flags=re.DOTALL)
     for at in range(1, len(parts), 2):

@@ -1,4 +1,4 @@
-"""docs/CALLS.md has each public call that may be refused, and names clauses and tests that there are."""
+"""docs/CALLS.md has each public call that may be refused, and names clauses and tests that exist."""
 
 import glob
 import os
@@ -13,10 +13,10 @@ LIBRARY = ("krb_wire", "krb_walk", "krb_cells", "krb_keytab", "krb_ccache",
            "krb_files", "krb_text", "krb_cache_text", "krb_json", "krb_audit", "krb_commands", "krb_disk",
            "wiping")
 
-# The crates whose calls another hands on.
+# The crates whose calls another re-exports.
 PARTS = {"krb_commands": ("krb_driver", "krb_readers", "krb_editors", "krb_ktutil")}
 
-# The head of an item that may hold functions, a function, and the end of such an item.
+# The head of an item that may contain functions, a function, and the end of such an item.
 ITEM = re.compile(r"(?:pub )?(?:unsafe )?(impl|trait)\b(.*)")
 FUNCTION = re.compile(r"( *)(pub )?(?:const )?fn (\w+)")
 
@@ -25,7 +25,7 @@ Calls = dict[str, str]
 
 
 def shown(crate: str) -> set[str]:
-    """What a crate hands on to its users."""
+    """Returns what a crate re-exports."""
     names: set[str] = set()
     root = read(f"crates/{crate}/src/lib.rt")
     for group, name in re.findall(r"pub use [\w:]+::(?:\{([^}]*)\}|(\w+));", root):
@@ -34,7 +34,7 @@ def shown(crate: str) -> set[str]:
 
 
 def owner_of(line: str) -> tuple[str, bool]:
-    """The type or trait of an item, and whether it is a trait. An implementation of a trait has none."""
+    """Returns the name of an item's type or trait, empty if it implements a trait, and whether it is a trait."""
     kind, rest = ITEM.match(line).groups()
     if kind == "impl" and " for " in rest:
         return "", False
@@ -43,7 +43,7 @@ def owner_of(line: str) -> tuple[str, bool]:
 
 
 def contract_from(lines: list[str]) -> str:
-    """The lines of a function up to its body, or to its end where it has none."""
+    """Returns the lines of a function up to its body, or to its end if it has none."""
     for at, line in enumerate(lines):
         if line.strip() in ("{", "{}") or line.endswith((" {", ";")):
             return "\n".join(lines[: at + 1])
@@ -51,7 +51,7 @@ def contract_from(lines: list[str]) -> str:
 
 
 def calls_in(text: str, names: set[str], is_open: bool) -> Calls:
-    """The calls of a file by the names that its crate hands on; of an open module each function is one."""
+    """Returns the calls of a file by the names that its crate re-exports; in an open module each function is one."""
     found: Calls = {}
     owner, is_trait = "", False
     lines = text.split("\n")
@@ -70,7 +70,7 @@ def calls_in(text: str, names: set[str], is_open: bool) -> Calls:
 
 
 def calls_of(crate: str) -> Calls:
-    """The public calls of a crate, those among them that it hands on."""
+    """Returns the public calls of a crate, including those that it re-exports."""
     found: Calls = {}
     for part in (crate, *PARTS.get(crate, ())):
         source = os.path.join(TOP, "crates", part, "src")
@@ -81,7 +81,7 @@ def calls_of(crate: str) -> Calls:
 
 
 def rows_of(crate: str) -> list[list[str]]:
-    """The cells of a crate's rows in both tables: they stand under its name."""
+    """Returns the cells of a crate's rows in both tables, which follow its name."""
     rows: list[list[str]] = []
     above = ""
     for line in read(TABLE).splitlines():
@@ -94,17 +94,17 @@ def rows_of(crate: str) -> list[list[str]]:
 
 
 def quoted(cell: str) -> list[str]:
-    """What stands between backticks."""
+    """Returns the texts between backticks."""
     return re.findall(r"`([^`]+)`", cell)
 
 
 def may_be_refused(contract: str) -> bool:
-    """Whether a call answers what may be none or an error."""
+    """Whether a call returns an `Option` or a `Result`."""
     return re.search(r"-> (?:Option|Result)<", contract) is not None
 
 
 def faults_of_names(calls: Calls, rows: list[list[str]]) -> list[str]:
-    """Each call that may be refused has one row, and each row is of calls."""
+    """Returns the faults of the rows' names: each call that may be refused has one row, and each row is of calls."""
     named = Counter(name for row in rows for name in quoted(row[0]))
     wrong = [f"{name} has no row" for name, contract in sorted(calls.items())
              if may_be_refused(contract) and name not in named]
@@ -113,7 +113,7 @@ def faults_of_names(calls: Calls, rows: list[list[str]]) -> list[str]:
 
 
 def faults_of_clauses(calls: Calls, rows: list[list[str]]) -> list[str]:
-    """The last cell but one of a long row, and the third of a short one, names clauses of each of its calls."""
+    """Returns wrong clauses: a long row's last cell but one, and a short one's third, name clauses of its calls."""
     wrong = []
     for row in rows:
         for name in quoted(row[0]):
@@ -124,7 +124,7 @@ def faults_of_clauses(calls: Calls, rows: list[list[str]]) -> list[str]:
 
 
 def faults_of_tests(crate: str, rows: list[list[str]]) -> list[str]:
-    """The last cell of a long row names tests, each as the file below `crates` and its function."""
+    """Returns wrong tests: the last cell of a long row names them, each as the file below `crates` and its function."""
     wrong = []
     for row in rows:
         for test in quoted(row[5]) if len(row) == 6 else []:

@@ -1,4 +1,4 @@
-"""The map has each crate in its place, and each link of a document leads to a file."""
+"""The map has each crate in its place, and each link in a document leads to a file."""
 
 import glob
 import os
@@ -10,18 +10,18 @@ MAP = os.path.join("docs", "ARCHITECTURE.md")
 
 
 def read(path: str) -> str:
-    """A file of the repository."""
+    """Returns a file of the repository."""
     with open(os.path.join(TOP, path), encoding="utf-8") as file:
         return file.read()
 
 
 def crates() -> list[list[str]]:
-    """The crates of each paragraph of crates.txt."""
+    """Returns the crates of each paragraph of crates.txt."""
     return [re.findall(r"^(\w+)(?: staticlib)?:", part, re.MULTILINE) for part in read("crates.txt").split("\n\n")]
 
 
 def check_map(report: Report) -> None:
-    """The first paragraph's crates are the rows of the map, in order; it names all others below."""
+    """Checks that the first paragraph's crates are the rows of the map, in order; it names all others below."""
     rows = re.findall(r"^\| `(krb\w+)` \|", read(MAP), re.MULTILINE)
     own, *others = crates()
     report.check("the rows of the map", [] if rows == own else [f"{rows}, not {own}"])
@@ -30,7 +30,7 @@ def check_map(report: Report) -> None:
 
 
 def check_links(report: Report) -> None:
-    """Looks for each file."""
+    """Checks that the file of each link exists."""
     pages = [path for pattern in ("docs/*.md", "crates/*/CALLING.md")
              for path in sorted(glob.glob(pattern, root_dir=TOP))]
     for path in ["README.md", *pages]:

@@ -1,4 +1,4 @@
-"""The program stands on the libraries that it is meant to stand on, and each other one has its reason."""
+"""The program uses the libraries that it is meant to use, and each other one has its reason."""
 
 import glob
 import os
@@ -12,18 +12,18 @@ MEANT = ("byteorder", "clap", "hex", "jiff", "thiserror")
 
 
 def uses() -> dict[str, list[str]]:
-    """What each crate uses, by its line of crates.txt."""
+    """Returns the libraries that each crate uses, by its line of crates.txt."""
     lines = re.findall(r"^(\w+)(?: staticlib)?:(.*)$", read("crates.txt"), re.MULTILINE)
     return {crate: below.split() for crate, below in lines}
 
 
 def reached(crate: str, below: dict[str, list[str]]) -> set[str]:
-    """A crate, and those of the repository that it stands on."""
+    """Returns a crate, and the repository's crates that it uses, directly or indirectly."""
     return {crate}.union(*(reached(each, below) for each in below[crate] if each in below))
 
 
 def is_used(library: str, crate: str) -> bool:
-    """Whether a source of the crate names something of the library."""
+    """Whether a source of the crate uses a name of the library."""
     pattern = re.compile(rf"\b{library}::")
     sources = glob.glob(os.path.join(TOP, "crates", crate, "src", "**", "*.rt"), recursive=True)
     return any(pattern.search(read(path)) for path in sources)

@@ -21,7 +21,7 @@ COMMANDS = ("klist", "ktfind", "ktedit", "ktremove", "ktcheck", "ktutil", "ccedi
 
 
 def check_form(report: Report) -> None:
-    """What mandoc says of the page."""
+    """Checks the page by mandoc."""
     if shutil.which("mandoc") is None:
         report.skip("the form of the manual page", "mandoc is not there")
         return
@@ -31,7 +31,7 @@ def check_form(report: Report) -> None:
 
 
 def check_commands(report: Report) -> None:
-    """The page tells of each command, with an example, and of no other."""
+    """Checks that the page describes each command, with an example, and no other."""
     synopsis = read(PAGE).partition("\n.Sh SYNOPSIS\n")[2].partition("\n.Sh ")[0]
     told = set(re.findall(r"^\.Cm (\w+)$", synopsis, re.MULTILINE))
     shown = {command.split()[1] for command, _ in examples()}
@@ -41,7 +41,7 @@ def check_commands(report: Report) -> None:
 
 
 def check_options(report: Report, program: str) -> None:
-    """The page tells of each option that help tells of."""
+    """Checks that the page describes each option that help lists."""
     for command in ("", *COMMANDS):
         missing = [option for option in sorted(told(program, command)[1])
                    if re.search(rf"\bFl {option[1:]}\b", read(PAGE)) is None]
@@ -49,7 +49,7 @@ def check_options(report: Report, program: str) -> None:
 
 
 def check_words(report: Report) -> None:
-    """The page has all words that messages are told in, each on a line or in a column of its own."""
+    """Checks that the page has each word of the messages, on a line or in a column of its own."""
     lines = read(PAGE).replace(".Ar NAME Ns .krbfile", "k.krbfile").splitlines()
     lines = [re.sub(r"^\.Dl |^\.It .* Ta |[:;]$", "", line) for line in lines]
     words = {re.sub(r"^line \d+: |^refused \d+: |^fault \d+: |^(?:weak|hidden|same|clash|old|mode): ", "", words)
@@ -59,20 +59,20 @@ def check_words(report: Report) -> None:
 
 
 def examples() -> Iterator[tuple[str, bytes]]:
-    """The commands of the examples, each with what stands under it."""
+    """Yields the commands of the examples, each with its output."""
     for example in re.findall(r"^\.Bd -literal.*\n((?s:.*?))^\.Ed$", read(PAGE), re.MULTILINE):
         yield parted(example[2:])
 
 
 def check_examples(report: Report, program: str) -> None:
-    """Each example prints what stands there."""
+    """Checks that each example prints the output that is shown."""
     for example in examples():
         with folder_of_samples() as folder:
             check_session(report, program, folder, "example of the manual page", example)
 
 
 def check(report: Report, program: str) -> None:
-    """Runs all of this topic."""
+    """Runs this topic."""
     check_form(report)
     check_commands(report)
     check_options(report, program)

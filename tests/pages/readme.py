@@ -16,17 +16,17 @@ PROVED = "crates/store_tests/src/tests/readme.rt"
 
 
 def lines_of(text: str) -> list[str]:
-    """The lines without their indentation."""
+    """Returns the lines without their indentation."""
     return [line.strip() for line in text.strip().splitlines()]
 
 
 def stands_in(part: list[str], whole: list[str]) -> bool:
-    """Whether some lines stand in others, one after the other."""
+    """Whether some lines occur consecutively in others."""
     return any(whole[at : at + len(part)] == part for at in range(len(whole)))
 
 
 def check_snippets(report: Report) -> None:
-    """Compares each snippet with the test that has it."""
+    """Compares each snippet with the test that contains it."""
     snippets = re.findall(r"```rust\n(.*?)```", read(SHOWN), re.DOTALL)
     proved = lines_of(read(PROVED))
     report.check("README has snippets", [] if snippets else ["none"])
@@ -36,20 +36,20 @@ def check_snippets(report: Report) -> None:
 
 
 def parted(session: str) -> tuple[str, bytes]:
-    """The command of a session, with its input where that stands under it, and what it prints."""
+    """Returns the command of a session, with its input if that follows it, and its output."""
     end = session.find("\nEND\n") + 5 if "<<'END'" in session else session.find("\n") + 1
     return session[:end], session[end:].encode()
 
 
 def sessions() -> Iterator[tuple[str, bytes]]:
-    """The commands of the sessions, each with what it prints."""
+    """Yields the commands of the sessions, each with its output."""
     for part in re.split(r"^    \$ ", read(SHOWN), flags=re.MULTILINE)[1:]:
         lines = takewhile(lambda line: line[:4] in ("", "    "), ("    " + part).splitlines())
         yield parted("\n".join(line[4:] for line in lines).rstrip("\n") + "\n")
 
 
 def lacks(command: str) -> str:
-    """What a session needs that is not there."""
+    """Returns what a session needs that is missing."""
     if "| jq " in command and shutil.which("jq") is None:
         return "jq is not there"
     if not command.startswith(("krbfile ", "printf ")) and not os.path.exists(LIBRARY):
@@ -58,7 +58,7 @@ def lacks(command: str) -> str:
 
 
 def surroundings(programs: str) -> dict[str, str]:
-    """The environment of the sessions: the program and the library are as installed."""
+    """Returns the environment of the sessions: the program and the library are as installed."""
     path = programs + os.pathsep + os.environ["PATH"]
     libraries = os.path.dirname(LIBRARY)
     return {**os.environ, "PATH": path, "CPATH": os.path.join(TOP, "c"), "LIBRARY_PATH": libraries,
@@ -67,7 +67,7 @@ def surroundings(programs: str) -> dict[str, str]:
 
 
 def check_session(report: Report, program: str, folder: str, what: str, session: tuple[str, bytes]) -> None:
-    """Runs a session in a folder. A fault and a key that stands twice end with status 1."""
+    """Runs a session in a folder. A fault, or a key that occurs twice, ends with status 1."""
     command, wanted = session
     with folder_of({}) as programs:
         os.symlink(program, os.path.join(programs, "krbfile"))
@@ -91,6 +91,6 @@ def check_sessions(report: Report, program: str) -> None:
 
 
 def check(report: Report, program: str) -> None:
-    """Runs all of this topic."""
+    """Runs this topic."""
     check_snippets(report)
     check_sessions(report, program)

@@ -1,13 +1,13 @@
 """The wrong bodies that may not be missing, each an edit in its crate's `wrong`.
 
-`wrong` tries them. A body that always answers that it is out of memory has none: the tests that
+`wrong` tries them. A body that always returns out of memory is not among them: the tests that
 docs/CALLS.md names refuse it.
 """
 
 from proving import edited
 from runs.harness import Report
 
-# By crate, the name of each, and what it does wrong.
+# The name of each, by crate, and what it does wrong.
 WRONG_BODIES = {
     "wiping": {
         "clears-too-little": "as many bytes are cleared as the alignment says",
@@ -122,13 +122,13 @@ WRONG_BODIES = {
 
 
 def differences(crate: str, wanted: set[str], found: set[str]) -> list[str]:
-    """What is wrong with the edits of a crate."""
+    """Returns the faults of a crate's edits."""
     return [*(f"no {name}.edit: {WRONG_BODIES[crate][name]}" for name in sorted(wanted - found)),
             *(f"{name}.edit is not in the list" for name in sorted(found - wanted))]
 
 
 def check(report: Report, program: str) -> None:
-    """Looks for each edit. The program is not run."""
+    """Checks that each edit exists. The program is not run."""
     found: dict[str, set[str]] = {}
     for path in edited.paths():
         crate, name = edited.crate_and_name(path)

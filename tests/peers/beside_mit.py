@@ -17,13 +17,13 @@ from models.script_model import KEY_SIZES, edited
 from runs.harness import SECONDS, Report, folder_of, run
 from runs.rows import text
 
-# A line that MIT's klist or ktutil lists an entry by, after its slot if there is one.
+# A line of MIT's klist or ktutil that lists an entry, without its slot.
 LINE = re.compile(
     rb" *(\d+) (\d\d/\d\d/\d\d \d\d:\d\d:\d\d) +(.*)"
     rb" \((?:DEPRECATED:)?(\S+)\)  ?\(0x([0-9a-f]*)\) *"
 )
 
-# Entries of each enctype that has a name, with names that are quoted, and versions of more bits.
+# Entries of each enctype that has a name, with quoted names, and versions of more than 8 bits.
 EACH_ETYPE = [
     f"add {300 * number} {number} {number} {bytes(range(size)).hex()} a\\/b\\@/c d\\n\\\\/e@R\\/S"
     for number, size in KEY_SIZES.items()
@@ -43,25 +43,25 @@ SCRIPTS: list[tuple[str, bytes | None, list[str]]] = [
     ("a version 1 file that is rewritten", OLD, ["cut 2", "rewrite", ADD_B]),
 ]
 
-# What MIT's ktutil prints where it waits for a request, also into a pipe.
+# The prompt of MIT's ktutil, which it prints into a pipe too.
 PROMPT = b"ktutil:  "
 
-# Where they are: those of the KDC may be where the path of a plain user does not lead.
+# Where they are: those of the KDC may be outside a plain user's path.
 PATHS = os.pathsep.join([os.environ.get("PATH", ""), "/usr/sbin", "/usr/local/sbin"])
 
-# The environment of MIT's programs, which need no configuration but where there is a realm.
+# The environment of MIT's programs, which need no configuration except in a realm.
 SURROUNDINGS = {name: value for name, value in os.environ.items() if not name.startswith("KRB5")}
 SURROUNDINGS |= {"KRB5_CONFIG": os.devnull, "PATH": PATHS, "LC_ALL": "C", "TZ": "UTC"}
 
 
 def mit_klist(folder: str, *words: str) -> bytes:
-    """What MIT's klist prints."""
+    """Returns the output of MIT's klist."""
     return subprocess.run(["klist", *words], cwd=folder, env=SURROUNDINGS, capture_output=True, timeout=SECONDS,
                           check=False).stdout
 
 
 def told(entry: KeytabEntry) -> tuple[bytes, ...]:
-    """What a listing with all columns has of an entry."""
+    """Returns an entry as a listing with all columns shows it."""
     then = time.gmtime(entry.timestamp)
     second = time.strftime("%m/%d/%y %H:%M:%S", then).encode()
     return (b"%d" % entry.kvno, second, entry.text(), NAMES[entry.enctype],
@@ -75,14 +75,14 @@ class Mit:
         self.folder = folder
 
     def klist(self, name: str) -> list[tuple[bytes, ...]]:
-        """The entries of a file, as klist lists them."""
+        """Returns the entries of a file, as klist lists them."""
         return self.entries_in(mit_klist(self.folder, "-k", "-t", "-K", "-e", name), rb"")
 
     def ktutil(self, *requests: str) -> list[bytes]:
-        """What ktutil prints after each request. What a request asks for is a line behind it.
+        """Returns what ktutil prints after each request. A line that a request asks for follows it.
 
-        The next request is given where the prompt asks for it. Until then nothing else may lie in
-        the pipe: a request that asks for a line takes all that is there.
+        Each request is written only after a prompt. Nothing else may be in the pipe until then:
+        a request that reads a line takes all that is there.
         """
         with subprocess.Popen(["ktutil"], cwd=self.folder, env=SURROUNDINGS, bufsize=0,
                               stdin=subprocess.PIPE, stdout=subprocess.PIPE,
@@ -95,7 +95,7 @@ class Mit:
         return answers[1:]
 
     def answer(self, started: subprocess.Popen[bytes]) -> bytes:
-        """What ktutil prints up to its prompt."""
+        """Returns what ktutil prints up to its prompt."""
         heard = b""
         while not heard.endswith(PROMPT):
             is_there = select.select([started.stdout], [], [], SECONDS)[0]
@@ -107,12 +107,12 @@ class Mit:
         return heard.removesuffix(PROMPT)
 
     def ktutil_list(self, name: str) -> list[tuple[bytes, ...]]:
-        """The entries of a file, as ktutil lists them."""
+        """Returns the entries of a file, as ktutil lists them."""
         listed = self.ktutil(f"rkt {name}", "l -t -k -e")[1]
         return self.entries_in(listed, rb" *\d+ ")
 
     def entries_in(self, listed: bytes, slot: bytes) -> list[tuple[bytes, ...]]:
-        """The entries of a listing's lines after its heading."""
+        """Returns the entries in the lines after a listing's heading."""
         lines = listed.splitlines()
         headings = [number for number, line in enumerate(lines) if line.startswith(b"----")]
         if not headings:
@@ -125,7 +125,7 @@ class Mit:
 
 
 def check_scripts(report: Report, program: str) -> None:
-    """What ktedit saves has, for MIT's programs, the entries that the model has."""
+    """Checks that MIT's programs read the model's entries from what ktedit saves."""
     for name, image, script in SCRIPTS:
         if image is OLD and sys.byteorder != LITTLE:
             continue
@@ -141,7 +141,7 @@ def check_scripts(report: Report, program: str) -> None:
 
 
 def are_there(report: Report, what: str, tools: tuple[str, ...] = ("klist", "ktutil")) -> bool:
-    """Whether MIT's programs are there; where they are not, that part is left out."""
+    """Whether MIT's programs are installed; if not, reports that part as left out."""
     missing = [name for name in tools if shutil.which(name, path=PATHS) is None]
     if not missing and "klist" in tools and not mit_klist("/", "-V").startswith(b"Kerberos 5 version"):
         missing = ["MIT's klist"]
@@ -151,6 +151,6 @@ def are_there(report: Report, what: str, tools: tuple[str, ...] = ("klist", "ktu
 
 
 def check(report: Report, program: str) -> None:
-    """Runs all of this topic where MIT's programs are there."""
+    """Runs this topic if MIT's programs are installed."""
     if are_there(report, "ktedit beside MIT's programs"):
         check_scripts(report, program)

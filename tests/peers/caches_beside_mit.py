@@ -1,6 +1,6 @@
 """Caches that MIT's kinit and kvno fill in a realm made here, as MIT's klist and ours list them.
 
-The KDC listens at an address of this machine alone, for as long as the test runs.
+The KDC listens on an address of this machine only, while the test runs.
 """
 
 import os
@@ -52,11 +52,11 @@ KDC_CONF = """[kdcdefaults]
 ETYPES = ("aes128-cts-hmac-sha1-96", "aes256-cts-hmac-sha1-96", "aes128-cts-hmac-sha256-128",
           "aes256-cts-hmac-sha384-192", "camellia128-cts-cmac", "camellia256-cts-cmac")
 
-# The principals beside those that a new realm has, as the text of a name has them.
+# The principals beyond those of a new realm, as the text of a name has them.
 HOST, ODD_NAME = "host/a.cache.test", "a\\/b\\@c/d\\\\e"
 PRINCIPALS = ("user", "svc/h", HOST, ODD_NAME)
 
-# The key of the database is that of each of them, for the stash tells it: a keytab serves kinit.
+# The key of the database is the key of each of them, since the stash file has it: a keytab serves kinit.
 KINIT = ("kinit", "-k", "-t", "k")
 USER = (*KINIT, "user")
 
@@ -78,11 +78,11 @@ RANDOM_CACHES = 60
 
 
 class Failed(Exception):
-    """One of MIT's programs did not do what it had to."""
+    """One of MIT's programs failed."""
 
 
 class Realm:
-    """A realm in a folder, whose KDC runs."""
+    """A realm in a folder, with its KDC running."""
 
     def __init__(self, folder: str, port: int) -> None:
         self.folder = folder
@@ -92,16 +92,16 @@ class Realm:
         self.env = SURROUNDINGS | {"KRB5_KDC_PROFILE": os.path.join(folder, "kdc.conf"), "KRB5CCNAME": "FILE:c"}
 
     def write(self, name: str, text: str) -> None:
-        """Makes a file of the folder."""
+        """Writes a file in the folder."""
         with open(os.path.join(self.folder, name), "w", encoding="ascii") as file:
             file.write(text)
 
     def surroundings(self, version: int = 4) -> dict[str, str]:
-        """The environment of a program that makes caches of that version."""
+        """Returns the environment of a program that makes caches of that version."""
         return self.env | {"KRB5_CONFIG": os.path.join(self.folder, f"krb5-{version}.conf")}
 
     def call(self, *words: str, folder: str | None = None, version: int = 4) -> bytes:
-        """The output of a program that has to succeed."""
+        """Runs a program, which has to succeed, and returns its output."""
         done = subprocess.run(words, cwd=folder or self.folder, env=self.surroundings(version),
                               stdin=subprocess.DEVNULL, capture_output=True, timeout=SECONDS,
                               check=False)
@@ -110,11 +110,11 @@ class Realm:
         return done.stdout
 
     def create(self) -> None:
-        """Makes the database."""
+        """Creates the database."""
         self.call("kdb5_util", "create", "-s", "-P", "master", "-r", "CACHE.TEST")
 
     def fill(self, names: tuple[str, ...]) -> None:
-        """Makes the principals of those names, by an edited dump."""
+        """Creates the principals of those names, by an edited dump."""
         head, *lines = self.call("kdb5_util", "dump").decode().splitlines()
         master = next(line for line in lines if "\tK/M@" in line)
         more = [principal_line(master, name) for name in names]
@@ -122,7 +122,7 @@ class Realm:
         self.call("kdb5_util", "load", "-update", "more")
 
     def keytab(self) -> bytes:
-        """A keytab with the key of each principal, which is that of the database."""
+        """Returns a keytab with the key of each principal, which is that of the database."""
         (_, master), = read_image(files_in(self.folder)["stash"], False)[0]
         names = (tuple(part.encode() for part in name.split("/")) for name in ("user", "svc/h"))
         return keytab(*(Entry(name, REALM, enctype=master.enctype, key=master.key, version8=1,
@@ -130,9 +130,9 @@ class Realm:
 
 
 def principal_line(master: str, name: str) -> str:
-    """The line of a dump for a principal with the key of the database, and all session enctypes."""
+    """Returns the dump line of a principal with the key of the database, and all session enctypes."""
     fields = master.split("\t")
-    key = fields[15 + 3 * int(fields[3]):-1]  # after the numbers of the front and the tagged data
+    key = fields[15 + 3 * int(fields[3]):-1]  # after the numbers at its start and the tagged data
     enctypes = b"session_enctypes\0" + ",".join(ETYPES).encode() + b"\0"
     full = name + "@" + REALM.decode()
     front = [*fields[:2], len(full), 1, *fields[4:6], full, 0, *fields[8:15]]
@@ -140,14 +140,14 @@ def principal_line(master: str, name: str) -> str:
 
 
 def free_port() -> int:
-    """A port that nobody listens at."""
+    """Returns a port that nobody listens on."""
     with socket.socket() as listener:
         listener.bind(("127.0.0.1", 0))
         return listener.getsockname()[1]
 
 
 def wait_for(port: int, started: subprocess.Popen[bytes]) -> None:
-    """Waits until the KDC takes connections."""
+    """Waits until the KDC accepts connections."""
     for _ in range(100):
         with socket.socket() as caller:
             if caller.connect_ex(("127.0.0.1", port)) == 0:
@@ -160,7 +160,7 @@ def wait_for(port: int, started: subprocess.Popen[bytes]) -> None:
 
 @contextmanager
 def realm(more: tuple[str, ...] = ()) -> Iterator[Realm]:
-    """A realm with its principals and more of them, whose KDC runs for as long as it is used."""
+    """Yields a realm with its principals and more of them; its KDC runs while it is used."""
     with folder_of({}) as folder:
         port = free_port()
         made = Realm(folder, port)
@@ -176,7 +176,7 @@ def realm(more: tuple[str, ...] = ()) -> Iterator[Realm]:
 
 
 def differences_of(program: str, folder: str, *options: str) -> list[str]:
-    """What MIT's klist and ours tell differently of the cache `c`."""
+    """Returns what differs between the listings of the cache `c` by MIT's klist and ours."""
     ours = run(program, ("klist", *options, "c"), folder)
     theirs = mit_klist(folder, *options, "c")
     heads = [out.splitlines()[:2] for out in (ours.out, theirs)]
@@ -187,7 +187,7 @@ def differences_of(program: str, folder: str, *options: str) -> list[str]:
 
 
 def check_filled(report: Report, program: str, realm_of: Realm) -> None:
-    """Fills each cache by MIT's programs, and lists it."""
+    """Fills each cache with MIT's programs, and lists it."""
     keytab = realm_of.keytab()
     for name, (version, commands) in FILLED.items():
         with folder_of({"k": keytab}) as folder:
@@ -200,7 +200,7 @@ def check_filled(report: Report, program: str, realm_of: Realm) -> None:
 
 
 def random_sound(random: Random) -> bytes:
-    """A cache whose tickets are all of its default principal, none a configuration entry."""
+    """Returns a cache whose tickets all belong to its default principal, none a configuration entry."""
     default = random_name(random, False)
     names = (random_name(random, False) for _ in range(random.randrange(8)))
     those = [replace(random_credential(random), client=default, server=name) for name in names]
@@ -209,8 +209,7 @@ def random_sound(random: Random) -> bytes:
 
 
 def check_random(report: Report, program: str, _: Realm) -> None:
-    """Random caches tell the same but for enctypes, which MIT's klist tells of real tickets alone.
-    """
+    """Compares listings of random caches without enctypes, which MIT's klist prints for real tickets only."""
     wrong = []
     for seed in range(RANDOM_CACHES):
         image = random_sound(Random(seed))
@@ -221,7 +220,7 @@ def check_random(report: Report, program: str, _: Realm) -> None:
 
 
 def check_in_realm(report: Report, what: str, checks: Callable[[Realm], None], more: tuple[str, ...] = ()) -> None:
-    """Makes checks in a realm with its principals and more of them, where MIT's programs are there."""
+    """Makes checks in a realm with its principals and more of them, if MIT's programs are installed."""
     if not are_there(report, what, TOOLS):
         return
     try:
@@ -232,7 +231,7 @@ def check_in_realm(report: Report, what: str, checks: Callable[[Realm], None], m
 
 
 def check(report: Report, program: str) -> None:
-    """Runs all of this topic where MIT's programs are there."""
+    """Runs this topic if MIT's programs are installed."""
 
     def checks(made: Realm) -> None:
         for each in (check_filled, check_random):

@@ -3,7 +3,7 @@
 from peers.corpus import files
 from runs.harness import Report, files_in, folder_of, run
 
-# A value, and where the file that MIT's library set it in ended before and after it.
+# A value, and where the file in which MIT's library set it ended before and after.
 VALUES = (
     ("config k - ", 22, 137),
     ("config sp - a b", 137, 256),
@@ -13,14 +13,14 @@ VALUES = (
 
 
 def changed(program: str, image: bytes, line: str) -> bytes:
-    """What ccedit makes of a cache by a line."""
+    """Returns the cache that ccedit leaves after a line."""
     with folder_of({"c": image}) as folder:
         run(program, ("ccedit", "c"), folder, f"{line}\n".encode())
         return files_in(folder)["c"]
 
 
 def check(report: Report, program: str) -> None:
-    """Removes a ticket, and sets each value behind those before it."""
+    """Removes a ticket, and sets each value after those before it."""
     caches = dict(files("ccache"))
     got = changed(program, caches["lib-removed-before"], "cut 120")
     report.check("a removed ticket as MIT's library marks it", [] if got == caches["lib-removed"] else [got.hex()])

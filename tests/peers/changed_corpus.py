@@ -1,6 +1,6 @@
 """Caches of other programs that ccedit and ccremove change: MIT's klist shows the tickets that are left.
 
-What the change makes of them is what the models say.
+Each change is also compared with the models.
 """
 
 import time
@@ -16,12 +16,12 @@ from peers.beside_mit import are_there, mit_klist
 from peers.corpus import files
 from runs.harness import Case, Report, faults_of, files_in, folder_of, run
 
-# What a value is set by in each of them.
+# Lines that set values in each cache.
 SETTING = b"config fast_avail krbtgt/R@R no\nconfig mine - 1\n"
 
 
 def is_text(name: bytes) -> bool:
-    """Whether a name can be a word of a command line."""
+    """Whether a name can be an argument of a command line."""
     try:
         name.decode()
     except UnicodeDecodeError:
@@ -30,7 +30,7 @@ def is_text(name: bytes) -> bool:
 
 
 def changes(image: bytes) -> Iterator[Case]:
-    """Changes of a cache: each of its places goes, values are set, and each service's tickets go."""
+    """Yields changes of a cache: a removal at each place, values set, and a removal of each service's tickets."""
     yield ccedit(image, b"rewrite\n", name="rewrite")
     yield ccedit(image, SETTING, name="values")
     yield ccedit(image, b"rewrite\n" + SETTING + SETTING, name="values anew")
@@ -45,19 +45,19 @@ def changes(image: bytes) -> Iterator[Case]:
 
 
 def tickets(told: list[Told]) -> list[Shown]:
-    """The tickets that a listing shows."""
+    """Returns the tickets that a listing shows."""
     return [one for one in told if isinstance(one, Shown)]
 
 
 def faults_beside_mit(program: str, folder: str) -> list[str]:
-    """What MIT's klist shows otherwise than ours of the tickets of `c`."""
+    """Returns what MIT's klist shows differently from ours of the tickets in `c`."""
     ours = tickets(told_by_us(run(program, ("klist", "-f", "c"), folder).out))
     theirs = tickets(told_by_mit(mit_klist(folder, "-f", "c")))
     return [] if ours == theirs else [f"MIT's klist shows {theirs}, not {ours}"]
 
 
 def check_change(report: Report, program: str, name: str, case: Case, has_mit: bool) -> None:
-    """Makes a change, and lists what it leaves."""
+    """Makes a change, and compares the listings of the result."""
     with folder_of(case.files) as folder:
         got = run(program, case.words, folder, case.stdin)
         found = faults_of(case, got, files_in(folder))

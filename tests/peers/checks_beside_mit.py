@@ -1,4 +1,4 @@
-"""Entries that `ktcheck` tells of as hidden: MIT's klist lists those before, and all once it is gone."""
+"""Entries that `ktcheck` reports as hidden: MIT's klist lists those before, and all once it is removed."""
 
 import sys
 
@@ -15,12 +15,12 @@ KINDS = ((2, BIG), (1, BIG if sys.byteorder == "big" else LITTLE))
 
 
 def hidden_places(out: bytes) -> list[int]:
-    """The places that a check tells of as hidden."""
+    """Returns the places that a check reports as hidden."""
     return [int(line.split()[1]) for line in out.splitlines() if line.startswith(b"hidden ")]
 
 
 def faults_of(program: str, image: bytes, is_odd: bool) -> list[str]:
-    """What is wrong where the second of three entries may be hidden."""
+    """Returns the faults of a check of a keytab whose second entry of three may be hidden."""
     keytab = Keytab(image)
     options = ("--v1-big",) if image[1] == 1 and sys.byteorder == "big" else ()
     with folder_of({"k": image}) as folder:
@@ -36,7 +36,7 @@ def faults_of(program: str, image: bytes, is_odd: bool) -> list[str]:
 
 
 def check(report: Report, program: str) -> None:
-    """Runs all of this topic where MIT's programs are there."""
+    """Runs this topic if MIT's programs are installed."""
     if not are_there(report, "hidden entries beside MIT's klist"):
         return
     for version, order in KINDS:

@@ -1,9 +1,9 @@
 """Cases over the files in `corpus`, which other programs wrote.
 
 The folder has `cases.jsonl`, one case a line: an object with `id`, `dir` (the folder in it with the
-case's files), `argv` (the program's words), `status`, `stdout`, `stderr`, and perhaps `stdin`,
+case's files), `argv` (the program's arguments), `status`, `stdout`, `stderr`, and perhaps `stdin`,
 `copy` (a pair: a file of `dir`, and its name where the program runs) and `result_file` (names, each
-with what stands there afterwards). An output is {"text"} or {"hex"}; what stands in a file is that,
+with what it contains afterwards). An output is {"text"} or {"hex"}; the contents of a file are that,
 or the name of a file of `dir` with the same bytes. A word of the line or of the standard input that
 names a file of `dir` has that file copied to where the program runs.
 """
@@ -18,29 +18,29 @@ FOLDER = os.path.join(TOP, "tests", "corpus")
 
 
 def given(value: dict) -> bytes:
-    """The bytes of an output or a file."""
+    """Returns the bytes of an output or a file."""
     return value["text"].encode() if "text" in value else bytes.fromhex(value["hex"])
 
 
 def read(path: str) -> bytes:
-    """The bytes of a file."""
+    """Returns the bytes of a file."""
     with open(path, "rb") as file:
         return file.read()
 
 
 def files(kind: str) -> list[tuple[str, bytes]]:
-    """The files of a kind, `keytab` or `ccache`, each with its name."""
+    """Returns the files of a kind, `keytab` or `ccache`, each with its name."""
     folder = os.path.join(FOLDER, kind)
     return [(name, read(os.path.join(folder, name))) for name in sorted(os.listdir(folder))]
 
 
 def images(kind: str) -> list[bytes]:
-    """The bytes of each file of a kind."""
+    """Returns the bytes of each file of a kind."""
     return [image for _, image in files(kind)]
 
 
 def case_of(fields: dict) -> Case:
-    """A case from its line."""
+    """Returns the case in a line."""
     source = os.path.join(FOLDER, fields["dir"])
     stdin = fields.get("stdin") or ""
     files = {}

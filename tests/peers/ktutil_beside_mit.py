@@ -1,4 +1,4 @@
-"""`ktutil` beside MIT's: the same lines for both, and a keytab that MIT's wrote."""
+"""`ktutil` beside MIT's: the same lines for both, and a keytab that MIT's ktutil wrote."""
 
 from dataclasses import replace
 
@@ -11,7 +11,7 @@ from runs.rows import text
 
 
 def untimed(image: bytes) -> list[tuple[bool, int, KeytabEntry | None]]:
-    """The cells of a keytab, and their entries without times."""
+    """Returns the cells of a keytab, and its entries without times."""
     opened = Keytab(image)
     return [
         (cell.is_live, len(cell.data), replace(opened.said(cell), timestamp=0) if cell.is_live else None)
@@ -20,7 +20,7 @@ def untimed(image: bytes) -> list[tuple[bool, int, KeytabEntry | None]]:
 
 
 def check_same_lines(report: Report, program: str) -> None:
-    """The same lines for both ktutils leave the same files, but for times, which MIT makes new."""
+    """Checks that the same lines for both ktutils leave the same files, except for times, which MIT sets."""
     key = bytes(range(32)).hex()
     addent = f"addent -key -p host/z@R -k 300 -e aes256-cts-hmac-sha1-96\n{key}"
     given = ["rkt j", "rkt k", "delent 1", addent, "wkt n", "wkt k", "clear", "wkt n"]
@@ -39,7 +39,7 @@ def check_same_lines(report: Report, program: str) -> None:
 
 
 def check_reads(report: Report, program: str) -> None:
-    """A keytab that MIT's ktutil wrote is read by ours."""
+    """Checks that ours reads a keytab that MIT's ktutil wrote."""
     addent = "addent -key -p host/a@R -k 3 -e aes128-cts-hmac-sha1-96\n" + "00" * 16
     with folder_of({}) as folder:
         Mit(folder).ktutil(addent, "wkt k")
@@ -50,7 +50,7 @@ def check_reads(report: Report, program: str) -> None:
 
 
 def check(report: Report, program: str) -> None:
-    """Runs all of this topic where MIT's programs are there."""
+    """Runs this topic if MIT's programs are installed."""
     if are_there(report, "ktutil beside MIT's"):
         check_same_lines(report, program)
         check_reads(report, program)

@@ -9,10 +9,10 @@ from peers.caches_beside_mit import Failed, Realm
 from runs.harness import Report, differences, files_in, folder_of, run
 from runs.random_runs import ONE_IN
 
-# The tools of MIT's that this needs.
+# MIT's tools that this needs.
 TOOLS = ("kdb5_util", "kadmin.local")
 
-# Names of few texts, and versions on both sides of where they wrap.
+# A few names, and versions on both sides of where they wrap.
 NAMES = ((b"a",), (b"host", b"a"), (b"b",))
 VERSIONS = (1, 2, 126, 127, 128, 129, 239, 240, 241, 242, 254, 255, 256, 257)
 
@@ -20,7 +20,7 @@ KEYTABS = 300
 
 
 def random_entry(random: Random) -> Entry:
-    """An entry with the 32 bits of its version, or with 8 where they are enough."""
+    """Returns an entry with a 32-bit version, or sometimes with 8 bits only, if they suffice."""
     kvno = random.choice(VERSIONS)
     is_wide = kvno > 255 or random.random() < 0.5
     return Entry(random.choice(NAMES), timestamp=1_700_000_000 + random.randrange(3),
@@ -29,7 +29,7 @@ def random_entry(random: Random) -> Entry:
 
 
 def removed_by_mit(realm: Realm, name: bytes, image: bytes) -> bytes:
-    """The file after kadmin.local removed the old entries of a name."""
+    """Returns the file after kadmin.local removed the old entries of a name."""
     with folder_of({"k": image}) as folder:
         words = ("-r", "CACHE.TEST", "ktremove", "-k", "FILE:k", name.decode(), "old")
         realm.call("kadmin.local", *words, folder=folder)
@@ -37,7 +37,7 @@ def removed_by_mit(realm: Realm, name: bytes, image: bytes) -> bytes:
 
 
 def faults_of(program: str, realm: Realm, random: Random) -> list[str]:
-    """What is otherwise than MIT's and the model's in a removal from a random keytab."""
+    """Returns what differs from MIT's and the model's in a removal from a random keytab."""
     those = [random_entry(random) for _ in range(random.randrange(1, 9))]
     image, name = keytab(*those), b"/".join(random.choice(those).components) + b"@R"
     wanted, after = removal(image, False, Asked(name, OLD))
@@ -52,7 +52,7 @@ def faults_of(program: str, realm: Realm, random: Random) -> list[str]:
 
 
 def check(report: Report, program: str) -> None:
-    """Runs all of this topic where MIT's programs are there."""
+    """Runs this topic if MIT's programs are installed."""
     if not are_there(report, "removals beside MIT's kadmin.local", TOOLS):
         return
     wrong: list[str] = []

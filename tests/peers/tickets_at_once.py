@@ -1,6 +1,6 @@
 """Storms over one cache: runs of ccedit and of ccremove beside MIT's kvno, which stores tickets in it.
 
-What ours say that they saved is there afterwards, the cache is whole, and MIT's klist lists it as ours
+What our runs report as saved is there afterwards, the cache is whole, and MIT's klist lists it as ours
 does.
 """
 
@@ -18,13 +18,13 @@ from runs.storms import Run, rage
 EACH = 15
 WITHIN = 0.5
 
-# Services whose tickets go, and those whose tickets come.
+# Services whose tickets are removed, and those whose tickets are added.
 GOING = tuple(f"svc/r{number}" for number in range(EACH))
 COMING = tuple(f"svc/s{number}" for number in range(EACH))
 
 
 def runs_of(program: str) -> list[Run]:
-    """The runs of a storm: ours are refused for what MIT's do meanwhile, if at all."""
+    """Returns the runs of a storm. Ours may be refused, but only because of what MIT's do meanwhile."""
     runs = []
     for number, (going, coming) in enumerate(zip(GOING, COMING, strict=True)):
         name = f"{going}@CACHE.TEST"
@@ -37,12 +37,12 @@ def runs_of(program: str) -> list[Run]:
 
 
 def names_in(image: bytes) -> set[str]:
-    """The services and the keys of a cache."""
+    """Returns the services and the keys of a cache."""
     return {said.tail().split(b" ")[-1].decode() for _, said in Cache(image).live()}
 
 
 def faults_of(runs: list[Run], image: bytes) -> list[str]:
-    """What is wrong with the runs and the cache that they left."""
+    """Returns the faults of the runs and of the cache that they left."""
     if isinstance(read_cache(image), int) or Cache(image).fault:
         return [f"the cache is not whole: {image[-200:]!r}"]
     names = names_in(image)
@@ -51,7 +51,7 @@ def faults_of(runs: list[Run], image: bytes) -> list[str]:
 
 
 def storm(program: str, made: Realm, seed: int) -> list[str]:
-    """What is wrong with a storm."""
+    """Returns the faults of a storm."""
     runs = runs_of(program)
     with folder_of({"k": made.keytab()}) as folder:
         made.call(*USER, folder=folder)
@@ -70,7 +70,7 @@ def storm(program: str, made: Realm, seed: int) -> list[str]:
 
 
 def check_rounds(report: Report, program: str, seeds: range) -> None:
-    """Runs the storms that are made from some numbers, where MIT's programs are there."""
+    """Runs the storms of some seeds, if MIT's programs are installed."""
 
     def checks(made: Realm) -> None:
         for seed in seeds:

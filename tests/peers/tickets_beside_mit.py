@@ -1,4 +1,4 @@
-"""Caches of MIT's kinit and kvno that ccedit and ccremove change: MIT's programs go on working with them.
+"""Caches of MIT's kinit and kvno that ccedit and ccremove change: MIT's programs can still use them.
 
 The realm and its KDC are those of caches_beside_mit.
 """
@@ -26,47 +26,47 @@ class Filled:
         self.found: list[str] = []
 
     def image(self) -> bytes:
-        """The file."""
+        """Returns the bytes of the file."""
         return files_in(self.folder)["c"]
 
     def cache(self) -> Cache:
-        """What it says."""
+        """Returns the cache in the file."""
         return Cache(self.image())
 
     def want(self, what: str, is_so: bool) -> None:
-        """Notes what is not so."""
+        """Records a fault unless the condition is true."""
         self.found += [] if is_so else [what]
 
     def change(self, words: tuple[str, ...], wanted: Outcome, script: bytes = b"") -> None:
-        """A run of ours over the cache, after which MIT's klist and ours list the same."""
+        """Makes a run of ours over the cache, and compares the listings of MIT's klist and ours afterwards."""
         got = run(self.program, (*words, "c"), self.folder, script)
         self.found += differences(wanted, got)
         self.found += differences_of(self.program, self.folder, "-f", "-e", "-C")
 
     def use(self, *words: str, version: int = 4) -> None:
-        """A run of MIT's over the cache, which has to succeed."""
+        """Makes a run of MIT's over the cache, which has to succeed."""
         self.made.call(*words, folder=self.folder, version=version)
 
     def places_of(self, server: bytes) -> list[int]:
-        """The places of the live tickets for a server."""
+        """Returns the places of the live tickets for a server."""
         return [place for place, said in self.cache().live()
                 if said.tail().endswith(b" " + server)]
 
     def remove(self, server: bytes) -> None:
-        """Removes the tickets for a server by ccremove."""
+        """Removes the tickets for a server with ccremove."""
         lines = b"".join(b"removed %d %s\n" % (place, server) for place in self.places_of(server))
         self.want(f"there is no {server!r}", lines != b"")
         self.change(("ccremove", "-p", server.decode()), Outcome(0, lines))
 
     def cut(self, server: bytes) -> None:
-        """Removes the ticket for a server by a script."""
+        """Removes the ticket for a server with a script."""
         place, = self.places_of(server)
         self.change(("ccedit",), Outcome(0, b"gone %d\n" % place), b"cut %d\n" % place)
 
 
 @contextmanager
 def filled(program: str, made: Realm, *commands: tuple[str, ...], version: int = 4) -> Iterator[Filled]:
-    """A cache that some commands of MIT's fill."""
+    """Yields a cache that some commands of MIT's filled."""
     with folder_of({"k": made.keytab()}) as folder:
         one = Filled(program, made, folder)
         for words in commands:
@@ -75,7 +75,7 @@ def filled(program: str, made: Realm, *commands: tuple[str, ...], version: int =
 
 
 def check_removed(report: Report, program: str, made: Realm) -> None:
-    """A ticket that ccremove removed is asked for anew, and nothing of its key is left in the file."""
+    """Checks that a ticket that ccremove removed is requested again, and that the file has nothing of its key."""
     with filled(program, made, USER, ("kvno", HOST, "svc/h")) as one:
         old, = one.cache().keys_of(HOST_TEXT)
         kept = [one.cache().keys_of(server) for server in (TGT, SVC_TEXT)]
@@ -95,7 +95,7 @@ def check_removed(report: Report, program: str, made: Realm) -> None:
 
 
 def check_cut(report: Report, program: str, made: Realm) -> None:
-    """A ticket that ccedit removed is asked for anew too; its key goes with the rewrite."""
+    """Checks that a ticket that ccedit removed is requested again too; a rewrite erases its key."""
     with filled(program, made, USER, ("kvno", HOST)) as one:
         old, = one.cache().keys_of(HOST_TEXT)
         one.cut(HOST_TEXT)
@@ -112,7 +112,7 @@ def check_cut(report: Report, program: str, made: Realm) -> None:
 
 
 def check_expired(report: Report, program: str, made: Realm) -> None:
-    """Tickets that last for a second go once it is over, and values stay."""
+    """Checks that tickets with a lifetime of a second are removed once it is over, and that values stay."""
     with filled(program, made, (*KINIT, "-l", "1s", "user")) as one:
         said = {said.endtime for _, said in one.cache().live() if not said.is_config()}
         values = [place for place, said in one.cache().live() if said.is_config()]
@@ -128,7 +128,7 @@ def check_expired(report: Report, program: str, made: Realm) -> None:
 
 
 def check_values(report: Report, program: str, made: Realm) -> None:
-    """A value that ccedit sets is the one that MIT's klist shows, in place of that of kinit."""
+    """Checks that MIT's klist shows a value that ccedit set, in place of the one that kinit set."""
     with filled(program, made, USER) as one:
         key = b"fast_avail " + TGT
         script = b"config %s no\nconfig mine - 1\n" % key
@@ -143,7 +143,7 @@ def check_values(report: Report, program: str, made: Realm) -> None:
 
 
 def check_version_3(report: Report, program: str, made: Realm) -> None:
-    """A cache of version 3 is refused, and is one of version 4 after a rewrite, which kvno uses."""
+    """Checks that a cache of version 3 is refused, and that kvno uses it as version 4 after a rewrite."""
     with filled(program, made, USER, ("kvno", HOST), version=3) as one:
         before = one.image()
         one.change(("ccremove", "--expired"), Outcome(1, err=b"krbfile: c: refused 8\n"))
@@ -159,7 +159,7 @@ def check_version_3(report: Report, program: str, made: Realm) -> None:
 
 
 def check(report: Report, program: str) -> None:
-    """Runs all of this topic where MIT's programs are there."""
+    """Runs this topic if MIT's programs are installed."""
 
     def checks(made: Realm) -> None:
         for each in (check_removed, check_cut, check_expired, check_values, check_version_3):

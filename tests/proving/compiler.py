@@ -1,7 +1,7 @@
 """The compiler's own command, for the crates of the repository.
 
-It goes over the libraries in `crates/*/out/rlib`. Those that `rt ci` left there have no stamp, so the
-commands of `rt` would prove each of them once more.
+It uses the libraries in `crates/*/out/rlib`. Those that `rt ci` left there have no stamp, so the
+commands of `rt` would prove each of them again.
 """
 
 import os
@@ -13,16 +13,16 @@ from functools import cache
 
 from proving.edited import TOP
 
-# What a check takes at most, in KB.
+# The most memory that a check takes, in KB.
 MEMORY = 3_500_000
 
-# How a check names a goal that is left open in a function with answers, and those in one without.
+# How a check names an open goal: in a function that returns a value, and in one that does not.
 OPEN_GOAL = re.compile(r"note: \S+: it is not proved that .*?\(`([\w-]+)`\)")
 NOT_FOUND = re.compile(r"; `search` did not prove (.*)")
 VERDICT = re.compile(r"fn \w+::(\S+): (.*)")
 # A function that is proved by hand has no open goals: its proof is refused.
 BY_HAND = re.compile(r"\./proofs/(\S+)/Proof\.antt:\S+ error: ")
-# A goal's name has the branch that it comes from; the clause's name does not.
+# A goal's name has its branch in it; the clause's name does not.
 GOAL = re.compile(r"(returns|.*?-requires)(?:-.*?)??(-clause-[\w-]+)?")
 ENDED = re.compile(r"^only=\d+ proved=\d+$", re.M)
 REJECTED = re.compile(r"^(?:error\b.*|(?:\./)?src/\S+: error.*)", re.M)
@@ -30,7 +30,7 @@ REJECTED = re.compile(r"^(?:error\b.*|(?:\./)?src/\S+: error.*)", re.M)
 
 @dataclass(frozen=True)
 class Answer:
-    """What a check says: the functions that are proved, those that are not with their open clauses, and why it ended before."""
+    """The output of a check: the proved functions, the others with their open clauses, and why it ended early."""
 
     proved: set[str]
     clauses: dict[str, list[str]]
@@ -38,7 +38,7 @@ class Answer:
 
 
 def at_once(jobs: int) -> int:
-    """How many checks run at once: as asked for, as far as the memory has room for them."""
+    """Returns how many checks run at once: at most `jobs`, and as many as fit in memory."""
     with open("/proc/meminfo", encoding="ascii") as file:
         free = int(re.search(r"MemAvailable:\s+(\d+)", file.read())[1])
     return max(1, min(jobs, free // MEMORY))
@@ -46,14 +46,14 @@ def at_once(jobs: int) -> int:
 
 @cache
 def kit() -> str:
-    """The folder of the toolchain."""
+    """Returns the folder of the toolchain."""
     said = subprocess.run(["rt", "doc"], stdout=subprocess.PIPE, text=True, check=True).stdout
     return os.path.dirname(said.strip())
 
 
 @cache
 def crates() -> dict[str, tuple[str, list[str]]]:
-    """The kind of each crate, empty or `staticlib`, and the libraries that it uses."""
+    """Returns the kind of each crate, empty or `staticlib`, and the libraries that it uses."""
     found = {}
     with open(os.path.join(TOP, "crates.txt"), encoding="utf-8") as file:
         for line in file:
@@ -65,31 +65,31 @@ def crates() -> dict[str, tuple[str, list[str]]]:
 
 
 def library(crate: str) -> str:
-    """The folder of a library, of the repository or of the toolchain."""
+    """Returns the folder of a library, of the repository or of the toolchain."""
     if crate in crates():
         return os.path.join(TOP, "crates", crate, "out", "rlib", f"{crate}.rlib")
     return os.path.join(kit(), "rlibs", f"{crate}.rlib")
 
 
 def below(crate: str) -> set[str]:
-    """The repository's libraries that a crate uses, and those that they use."""
+    """Returns the repository's libraries that a crate uses, directly or indirectly."""
     used = [it for it in crates()[crate][1] if it in crates()]
     return {*used, *(lower for it in used for lower in below(it))}
 
 
 def root_of(crate: str) -> str:
-    """The root file of a crate, from its folder on."""
+    """Returns the root file of a crate, relative to its folder."""
     is_program = os.path.exists(os.path.join(TOP, "crates", crate, "src", "main.rt"))
     return "src/main.rt" if is_program else "src/lib.rt"
 
 
 def is_library(crate: str) -> bool:
-    """Whether a crate is one that others use, and nothing is linked of."""
+    """Whether a crate is used by others only: nothing is linked from it."""
     return not crates()[crate][0] and root_of(crate) == "src/lib.rt"
 
 
 def command(verb: str, crate: str, jobs: int) -> list[str]:
-    """The words that check or build a crate, in its folder or in a copy of that."""
+    """Returns the command that checks or builds a crate, in its folder or in a copy of it."""
     kind, uses = crates()[crate]
     words = [os.path.join(kit(), "bin", "rattle"), verb, "--crate-name", crate, root_of(crate)]
     for it in dict.fromkeys(["std", *uses]):
@@ -103,19 +103,19 @@ def command(verb: str, crate: str, jobs: int) -> list[str]:
 
 
 def clause_of(goal: str) -> str:
-    """The name of the clause that a goal is of. A loop's goals keep their names."""
+    """Returns the name of the clause that a goal belongs to. A loop's goals keep their names."""
     found = GOAL.fullmatch(goal)
     return found[1] + (found[2] or "") if found else goal
 
 
 def proved_in(said: str) -> set[str]:
-    """The functions that are proved."""
+    """Returns the functions that are proved."""
     verdicts = filter(None, map(VERDICT.match, said.splitlines()))
     return {verdict[1] for verdict in verdicts if verdict[2] == "proved"}
 
 
 def clauses_of(said: str) -> dict[str, list[str]]:
-    """The open clauses of each function that is not proved. Their goals stand before its verdict, or in it."""
+    """Returns the open clauses of each function that is not proved. Its goals come before its verdict, or in it."""
     found, before, by_hand = {}, [], set()
     for line in said.splitlines():
         goal, verdict, refused = OPEN_GOAL.match(line), VERDICT.match(line), BY_HAND.match(line)
@@ -134,7 +134,7 @@ def clauses_of(said: str) -> dict[str, list[str]]:
 
 
 def check_functions(crate: str, folder: str, only: Iterable[str], kept: str) -> Answer:
-    """Checks functions of the crate in a folder. What is proved is kept in another, for later checks of the crate."""
+    """Checks functions of the crate in a folder. Stores what is proved in `kept`, for later checks of the crate."""
     words = [*command("check", crate, 1), "--incremental", kept]
     for function in only:
         words += ["--only", function]

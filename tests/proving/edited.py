@@ -1,11 +1,11 @@
 """Reads the edits of `crates/NAME/wrong`, and applies one to a copy of its crate.
 
 An edit has lines `file: PATH`, and after each any number of pairs `old: TEXT` and `new: TEXT`. The old
-text is in that file once, and further pairs apply to what the earlier ones made. `only: FUNCTION`
-names a function to check, by its path below the crate. `refused: FUNCTION CLAUSE` says which clause is
+text occurs once in that file, and later pairs apply to what the earlier ones made. `only: FUNCTION`
+names a function to check, by its path below the crate. `refused: FUNCTION CLAUSE` names a clause that is
 then not proved, as `wrong CRATE NAME` prints it: an `ensures` of the function, or a `requires` of a
-call in it. A loop's invariant is no clause: it serves the proof alone. A function that is proved by hand
-has no clause that is not proved: `refused: FUNCTION proof` says that its proof is refused.
+call in it. A loop invariant is not a clause: it only serves the proof. A function that is proved by hand
+has no unproved clause: `refused: FUNCTION proof` means that its proof is refused.
 """
 
 import glob
@@ -25,12 +25,12 @@ CLAUSE = re.compile(r"([\w:]+) ((?:returns|[\w-]+-requires)(?:-clause-[\w-]+)?|p
 
 
 class BadEdit(Exception):
-    """Says why an edit cannot be tried."""
+    """The reason why an edit cannot be tried."""
 
 
 @dataclass(frozen=True)
 class Pair:
-    """A text of a file, and the one that takes its place."""
+    """A text in a file, and its replacement."""
 
     path: str
     old: str
@@ -52,18 +52,18 @@ class Edit:
 
 
 def paths() -> list[str]:
-    """The file of each edit."""
+    """Returns the path of each edit."""
     return sorted(glob.glob(os.path.join(TOP, "crates", "*", "wrong", "*.edit")))
 
 
 def crate_and_name(path: str) -> tuple[str, str]:
-    """The crate and the name of the edit in a file."""
+    """Returns the crate and the name of the edit in a file."""
     crate = os.path.basename(os.path.dirname(os.path.dirname(path)))
     return crate, os.path.basename(path).removesuffix(".edit")
 
 
 def pairs_of(lines: list[tuple[str, str]]) -> tuple[Pair, ...]:
-    """The pairs that lines of a word and a text spell."""
+    """Returns the pairs in lines, each a word and a text."""
     found, path, old = [], None, None
     for word, text in lines:
         if word == "file":
@@ -79,7 +79,7 @@ def pairs_of(lines: list[tuple[str, str]]) -> tuple[Pair, ...]:
 
 
 def read(path: str) -> Edit:
-    """The edit in a file."""
+    """Returns the edit in a file."""
     with open(path, encoding="utf-8") as file:
         split = [line.rstrip("\n").partition(":") for line in file]
     lines = [(word, text.removeprefix(" ")) for word, _, text in split]
@@ -100,7 +100,7 @@ def copy_crate(crate: str, folder: str) -> None:
 
 
 def apply(pairs: tuple[Pair, ...], folder: str) -> None:
-    """Makes the changes of an edit to the copy of its crate in a folder."""
+    """Applies an edit to the copy of its crate in a folder."""
     for pair in pairs:
         path = os.path.join(folder, pair.path)
         with open(path, encoding="utf-8") as file:

@@ -1,4 +1,4 @@
-"""Runs the program on a case in a folder of its own, and says what differs from what is wanted."""
+"""Runs the program on a case in a folder of its own, and reports what differs from the expected result."""
 from __future__ import annotations
 
 import os
@@ -15,13 +15,13 @@ TOP = os.path.dirname(os.path.dirname(os.path.dirname(os.path.abspath(__file__))
 # Longer than any run takes.
 SECONDS = 60
 
-# Over more bytes than this, a program of which nothing is proved takes longer: it checks each access to memory.
+# With more input bytes than this, an unproved program takes longer: it checks each access to memory.
 LARGE = 1_000_000
 
 
 @dataclass(frozen=True)
 class Outcome:
-    """What a run leaves: its status (negative: the signal that ended it), and what it wrote."""
+    """The result of a run: its status (negative: the signal that ended it), and what it wrote."""
 
     status: int
     out: bytes = b""
@@ -29,24 +29,24 @@ class Outcome:
 
 
 def message(status: int, text: str) -> Outcome:
-    """A run that only says what is wrong."""
+    """Returns the outcome of a run that only prints an error."""
     return Outcome(status, err=f"krbfile: {text}\n".encode())
 
 
 @dataclass(frozen=True)
 class Case:
-    """The program's words, what is wanted, and the files that lie where it runs."""
+    """The program's words, the expected result, and the files in its folder."""
 
     name: str
     words: tuple[str | bytes, ...]
     wanted: Outcome
     files: dict[str, bytes] = field(default_factory=dict)
-    # The files after the run, where they are not those before it.
+    # The files after the run, if they differ from those before it.
     files_after: dict[str, bytes] | None = None
     stdin: bytes = b""
 
     def size(self) -> int:
-        """The bytes that it gives the program."""
+        """Returns the number of bytes that it gives the program."""
         return len(self.stdin) + sum(map(len, self.files.values()))
 
     def check(self, report: Report, program: str) -> None:
@@ -61,7 +61,7 @@ class Case:
 
 
 class Report:
-    """Counts what passed and failed, and prints a line for each failure, behind the topic's name."""
+    """Counts what passed and failed, and prints a line for each failure, after the topic's name."""
 
     def __init__(self, is_proved: bool = True, topic: str = "") -> None:
         self.is_proved = is_proved
@@ -72,7 +72,7 @@ class Report:
         self.left_out: list[str] = []
 
     def check(self, name: str, faults: list[str]) -> None:
-        """Counts one case, which failed where there are faults."""
+        """Counts one case, which failed if there are faults."""
         if faults:
             self.failed += 1
             print(f"{self.front}{name}: {'; '.join(faults)}", flush=True)
@@ -86,22 +86,22 @@ class Report:
         return is_large
 
     def add(self, other: Report) -> None:
-        """Takes in what another report counted."""
+        """Adds what another report counted."""
         self.passed += other.passed
         self.failed += other.failed
         self.large += other.large
         self.left_out += other.left_out
 
     def compare(self, name: str, wanted: Outcome, got: Outcome) -> None:
-        """Counts one case, which failed where the outcomes differ."""
+        """Counts one case, which failed if the outcomes differ."""
         self.check(name, differences(wanted, got))
 
     def skip(self, what: str, why: str) -> None:
-        """Notes that a part is left out."""
+        """Records that a part is left out."""
         self.left_out.append(f"{what}: left out, since {why}")
 
     def summary(self) -> str:
-        """What was left out, a line each, and the counts."""
+        """Returns what was left out, a line each, and the counts."""
         if self.large:
             self.skip(f"cases of over {LARGE:,} bytes, {self.large} in all",
                       "the program is not proved, and takes long")
@@ -109,14 +109,14 @@ class Report:
 
 
 def short(data: bytes) -> str:
-    """Bytes as a message shows them."""
+    """Returns bytes as a message shows them."""
     if len(data) <= 300:
         return repr(data)
     return f"{data[:140]!r} ... {data[-140:]!r} ({len(data)} bytes)"
 
 
 def differences(wanted: Outcome, got: Outcome) -> list[str]:
-    """What two outcomes differ in, one text each."""
+    """Returns what differs between two outcomes, one text each."""
     found = []
     if got.status != wanted.status:
         found.append(f"status {got.status}, not {wanted.status}")
@@ -128,7 +128,7 @@ def differences(wanted: Outcome, got: Outcome) -> list[str]:
 
 
 def files_in(folder: str) -> dict[str, bytes]:
-    """The files below a folder, by their paths from it."""
+    """Returns the files below a folder, by relative path."""
     found = {}
     for at, _, names in os.walk(folder):
         for name in names:
@@ -140,7 +140,7 @@ def files_in(folder: str) -> dict[str, bytes]:
 
 @contextmanager
 def folder_of(files: dict[str, bytes]):
-    """A folder that has those files, for as long as it is used."""
+    """Yields a folder that has those files."""
     with tempfile.TemporaryDirectory(prefix="krbfile-") as folder:
         for name, data in files.items():
             with open(os.path.join(folder, name), "wb") as file:
@@ -149,20 +149,20 @@ def folder_of(files: dict[str, bytes]):
 
 
 def run(program: str, words, folder: str, stdin: bytes = b"", **options) -> Outcome:
-    """One run in that folder. Both outputs are taken, but for one that `options` send elsewhere."""
+    """Makes a run in that folder. Both outputs are captured, except one that `options` redirect."""
     options = {"stdout": subprocess.PIPE, "stderr": subprocess.PIPE, **options}
     done = subprocess.run([program, *words], cwd=folder, input=stdin, timeout=SECONDS, **options)
     return Outcome(done.returncode, done.stdout or b"", done.stderr or b"")
 
 
 def run_case(program: str, case: Case, **options) -> tuple[Outcome, dict[str, bytes]]:
-    """Runs a case in a folder of its own; the files that lie there afterwards."""
+    """Runs a case in a folder of its own, and returns its outcome and the files that are there afterwards."""
     with folder_of(case.files) as folder:
         return run(program, case.words, folder, case.stdin, **options), files_in(folder)
 
 
 def faults_of(case: Case, got: Outcome, after: dict[str, bytes]) -> list[str]:
-    """What is wrong with a run of a case, and with the files afterwards."""
+    """Returns the faults of a run of a case, and of the files afterwards."""
     found = differences(case.wanted, got)
     wanted = case.files if case.files_after is None else case.files_after
     for name in sorted(set(after) | set(wanted)):
@@ -172,7 +172,7 @@ def faults_of(case: Case, got: Outcome, after: dict[str, bytes]) -> list[str]:
 
 
 def faults_by_clock(program: str, case_at: Callable[[int], Case]) -> list[str]:
-    """What is wrong with a run that hangs on the clock: the program took its time while it ran."""
+    """Returns the faults of a run that depends on the clock: the program read the time while it ran."""
     before = int(time.time())
     got = run_case(program, case_at(before))
     tried = [faults_of(case_at(now), *got) for now in range(before, int(time.time()) + 1)]

@@ -7,12 +7,12 @@ from shlex import quote
 
 from runs.harness import Case
 
-# Where all of them lie.
+# The folder of all of them.
 FOLDER = os.path.join(tempfile.gettempdir(), "krbfile-kept")
 
 
 def script(folder: str, case: Case, program: str) -> bytes:
-    """The script that runs a case in a copy of its files."""
+    """Returns the script that runs a case in a copy of its files."""
     words = [os.fsencode(word) for word in (program, *case.words)]
     line = b" ".join(os.fsencode(quote(os.fsdecode(word))) for word in words)
     folder = quote(folder)
@@ -21,7 +21,7 @@ def script(folder: str, case: Case, program: str) -> bytes:
 
 
 def keep(name: str, case: Case, program: str) -> str:
-    """Keeps the files of a case as they are before it runs; the line that runs it again."""
+    """Keeps the files of a case as they are before it runs, and returns the line that runs it again."""
     folder = os.path.join(FOLDER, name.replace(" ", "-"))
     shutil.rmtree(folder, ignore_errors=True)
     os.makedirs(os.path.join(folder, "files"))

@@ -1,4 +1,4 @@
-"""What a run may have so much of at most."""
+"""Resource limits of a run."""
 
 import resource
 import signal
@@ -6,7 +6,7 @@ from collections.abc import Callable
 
 
 def limit(kind: int, most: int) -> Callable[[], None]:
-    """What lets a run have so much of a kind. A write that would pass the limit of a file is cut."""
+    """Returns a function that limits a resource. A write that would exceed the limit of a file is cut."""
 
     def before_run() -> None:
         signal.signal(signal.SIGXFSZ, signal.SIG_IGN)

@@ -1,4 +1,4 @@
-"""Runs of the program under a preloaded C library (preload.c) that lets chosen calls fail."""
+"""Runs of the program under a preloaded library (preload.c) that lets chosen C library calls fail."""
 from __future__ import annotations
 
 import os
@@ -34,7 +34,7 @@ class Line:
 
 @dataclass(frozen=True)
 class Counted:
-    """A run, the files after it, its requests for memory, and its calls that were not granted."""
+    """A run, the files after it, its allocations, and the number of its calls that failed or moved nothing."""
 
     outcome: Outcome
     files: dict[str, bytes]
@@ -51,16 +51,16 @@ class Preloaded:
         self.files = files
 
     def over(self, files: dict[str, bytes]) -> Preloaded:
-        """The same over other files."""
+        """Returns the same over other files."""
         return Preloaded(self.program, self.library, files)
 
     def run(self, line: Line, **settings: int) -> Counted | None:
-        """One run with the settings that preload.c tells of; None where it was not loaded."""
+        """Makes a run with the settings that preload.c describes; None if that was not loaded."""
         with folder_of(self.files) as folder:
             return self.run_in(folder, line, **settings)
 
     def run_in(self, folder: str, line: Line, **settings: int) -> Counted | None:
-        """One run in a folder, with those settings."""
+        """Makes a run in a folder, with those settings."""
         with tempfile.NamedTemporaryFile() as counts:
             env = {"LD_PRELOAD": self.library, "PRELOAD_COUNTS": counts.name}
             env.update((name, str(value)) for name, value in settings.items())
@@ -72,7 +72,7 @@ class Preloaded:
 
 
 def built_library(folder: str) -> str | None:
-    """The library, built by the C compiler that is there; None where there is none."""
+    """Returns the library, built by the installed C compiler, or None if there is none."""
     compilers = map(shutil.which, (os.environ.get("CC") or "cc", "gcc", "clang"))
     compiler = next((path for path in compilers if path), None)
     if compiler is None:
@@ -86,7 +86,7 @@ def built_library(folder: str) -> str | None:
 def preloaded(
     report: Report, program: str, what: str, files: dict[str, bytes]
 ) -> Iterator[Preloaded | None]:
-    """The program with the library under it; None where that cannot be had, which is reported."""
+    """Yields the program with the library under it, or None, with a report, if that cannot be had."""
     with tempfile.TemporaryDirectory() as top:
         library = built_library(top)
         made = Preloaded(program, library, files) if library else None

@@ -1,4 +1,4 @@
-"""Random cases beside what a model says of them, each made from a number.
+"""Random cases compared with a model, each made from a number.
 
 The cases of one number run in turn. In a long run several processes share the numbers of a topic. A
 case that goes wrong is made smaller, and kept.
@@ -18,34 +18,34 @@ from random import Random
 from runs.harness import SECONDS, Case, Report, faults_by_clock
 from runs.kept import keep
 
-# A case as it is at a time: what makes it of bytes, and these, of which a part may be left out.
+# A case at a given time: a function and its bytes, parts of which may be left out.
 CaseAt = partial
 Cases = Callable[[Random], Iterator[CaseAt]]
 
-# How often each kind of answer has to come up.
+# How often each kind of result has to occur.
 FEWEST = 3
 
 # How many processes run for each processor: one waits for its program while another works.
 FOR_EACH = 3
 
-# A program of which nothing is proved is slow: it runs one number in so many.
+# An unproved program is slow: it runs one of this many numbers.
 ONE_IN = 10
 
 # How many numbers a process takes at once, and how many wrong cases of a topic are kept.
 AT_ONCE = 10
 MOST_KEPT = 10
 
-# For how many seconds a smaller case that goes wrong is looked for.
+# For how many seconds a smaller case that goes wrong is searched for.
 SEARCH = 20
 
 
 def said(case: Case) -> str:
-    """The last words of what a run has to say."""
+    """Returns the last words of a run's message."""
     return case.wanted.err.decode().split(": ")[-1].strip()
 
 
 def smaller(case_at: CaseAt) -> Iterator[CaseAt]:
-    """The case with a part of its bytes left out, larger parts first."""
+    """Yields the case with a part of its bytes left out, larger parts first."""
     for nth, data in enumerate(case_at.args):
         size = len(data or b"") // 2
         while size:
@@ -57,7 +57,7 @@ def smaller(case_at: CaseAt) -> Iterator[CaseAt]:
 
 @dataclass(frozen=True)
 class Wrong:
-    """A case that went wrong: its number, which of the number's cases it is, and its faults."""
+    """A case that went wrong: its number, its index among the number's cases, and its faults."""
 
     number: int
     nth: int
@@ -67,14 +67,14 @@ class Wrong:
 
 @dataclass
 class Tried:
-    """What came of some numbers."""
+    """The results of some numbers."""
 
     runs: int = 0
     seen: Counter[str] = field(default_factory=Counter)
     wrong: list[Wrong] = field(default_factory=list)
 
     def add(self, other: Tried) -> None:
-        """Takes in what came of other numbers."""
+        """Adds the results of other numbers."""
         self.runs += other.runs
         self.seen.update(other.seen)
         self.wrong += other.wrong
@@ -87,17 +87,17 @@ class Topic:
     title: str
     # The cases that a random source makes, in turn.
     cases: Cases
-    # The kinds of a case's answers, and those that have to come up.
+    # The kinds of a case's results, and those that have to occur.
     kinds_of: Callable[[Case], Iterator[str]]
     kinds: tuple[str, ...]
     # How many numbers a short run takes.
     usual: int
-    # A long run takes its count divided by this many numbers.
+    # A long run takes its count divided by this.
     share: int = 1
 
     @property
     def name(self) -> str:
-        """The word for it on a command line."""
+        """Its name on a command line."""
         return self.title.replace(" ", "_")
 
     def try_numbers(self, program: str, numbers: range) -> Tried:
@@ -117,14 +117,14 @@ class Topic:
             tried.wrong.append(Wrong(number, nth, case_at, faults))
 
     def faults_of(self, program: str, case_at: CaseAt) -> list[str]:
-        """What is wrong with a run of a case, which has to end."""
+        """Returns the faults of a run of a case, which has to end."""
         try:
             return faults_by_clock(program, case_at)
         except subprocess.TimeoutExpired:
             return [f"no end in {SECONDS} seconds"]
 
     def smallest(self, program: str, wrong: Wrong) -> Wrong:
-        """A wrong case of which no part can be left out, as far as was looked."""
+        """Returns a wrong case from which no part can be left out, as far as the search went."""
         end = time.monotonic() + SEARCH
         tries = smaller(wrong.case_at)
         while time.monotonic() < end and (case_at := next(tries, None)):
@@ -144,7 +144,7 @@ class Topic:
         return tried
 
     def judge(self, report: Report, program: str, tried: Tried, count: int) -> None:
-        """Reports what came of so many numbers."""
+        """Reports the results of that many numbers."""
         report.passed += tried.runs - len(tried.wrong)
         self.tell_wrong(report, program, sorted(tried.wrong, key=lambda one: (one.number, one.nth)))
         if count >= self.usual:
@@ -152,7 +152,7 @@ class Topic:
             report.check(f"{self.title}: each kind", missing)
 
     def tell_wrong(self, report: Report, program: str, wrong: list[Wrong]) -> None:
-        """Keeps the first wrong cases, made smaller, and says how each is run again."""
+        """Keeps the first wrong cases, made smaller, and reports how to run each again."""
         for one in (self.smallest(program, each) for each in wrong[:MOST_KEPT]):
             again = keep(f"{self.title} {one.number} {one.nth}", one.case_at(0), program)
             report.check(f"{self.title}, number {one.number}", [again, *one.faults])
@@ -166,7 +166,7 @@ class Topic:
         self.judge(report, program, self.try_numbers(program, range(count)), count)
 
     def check_long(self, program: str, seed: int, count: int) -> Report:
-        """Runs many numbers, from a seed on, and answers what came of them."""
+        """Runs many numbers, from a seed on, and returns their results."""
         report = Report()
         numbers = range(seed, seed + max(1, count // self.share))
         self.judge(report, program, self.try_on_all_processors(program, numbers), len(numbers))
@@ -175,10 +175,10 @@ class Topic:
 
 @dataclass(frozen=True)
 class Rounds:
-    """What is checked in rounds, each made from a number, which take long and report by themselves."""
+    """Checks in rounds, each made from a number, which take long and report by themselves."""
 
     check_rounds: Callable[[Report, str, range], None]
-    # A long run takes its count divided by this many numbers.
+    # A long run takes its count divided by this.
     share: int
     # How many numbers a short run takes.
     usual: int = 0

@@ -1,39 +1,39 @@
-"""Tables of cases: what their rows are made by, and how they are run."""
+"""Tables of cases: how their rows are made, and how they are run."""
 
 from collections.abc import Callable, Iterable, Iterator
 from dataclasses import dataclass
 
 from runs.harness import Case, Outcome, Report, differences, folder_of, message, run
 
-# A line is its words, after the program's name. Where blanks part them, a row has it as one text.
+# A line is the words after the program's name. If blanks separate them, a row has it as one text.
 Line = tuple[str | bytes, ...]
 
 BAD_LINE = message(2, "bad command line")
 
 
 def words_of(line: str | Line) -> Line:
-    """The words of a line."""
+    """Returns the words of a line."""
     return tuple(line.split()) if isinstance(line, str) else line
 
 
 def shown(line: str | Line) -> str:
-    """A line as a message shows it."""
+    """Returns a line as a message shows it."""
     return " ".join(word if isinstance(word, str) and word else repr(word) for word in ("krbfile", *words_of(line)))
 
 
 def text(lines: Iterable[str]) -> bytes:
-    """Lines, each with its end."""
+    """Returns lines, each with its end."""
     return "".join(line + "\n" for line in lines).encode()
 
 
 def printed(*lines: str, status: int = 0) -> Outcome:
-    """A run that prints those lines."""
+    """Returns a run that prints those lines."""
     return Outcome(status, text(lines))
 
 
 def over(name: str, line: str | Line, image: bytes | None, wanted: Outcome | list[str],
          after: bytes | None = None, given: bytes | list[str] = b"") -> Case:
-    """A run over the file that its last word names, or over none, with that input.
+    """Returns a run over the file that its last word names, or over none, with that input.
 
     Wanted are lines that it prints, or an outcome. With no `after` the file stays as it is.
     """
@@ -45,13 +45,13 @@ def over(name: str, line: str | Line, image: bytes | None, wanted: Outcome | lis
 
 @dataclass(frozen=True)
 class Help:
-    """A line that prints help, which goes to the output, and words that it has."""
+    """A line that prints help, on the output, and words that it has."""
 
     line: str
     told: tuple[bytes, ...]
 
     def check(self, report: Report, program: str) -> None:
-        """Runs it. The last line of help ends."""
+        """Runs it. Help ends with a newline."""
         with folder_of({}) as folder:
             got = run(program, self.line.split(), folder)
         found = differences(Outcome(0, got.out), got)
@@ -61,12 +61,12 @@ class Help:
         report.check(f"help: {shown(self.line)}", found)
 
 
-# A row is checked as a case is. One of large files is a function, which makes it as it is run.
+# A row is checked as a case is. One of large files is a function, which makes it when it is run.
 Row = Case | Help | Callable[[], Case]
 
 
 def made(rows: Iterable[Row]) -> Iterator[Case | Help]:
-    """The rows, each made."""
+    """Returns the rows, each made."""
     return (row() if callable(row) else row for row in rows)
 
 

@@ -9,16 +9,16 @@ from random import Random
 
 from runs.harness import SECONDS
 
-# A run that is refused has waited for another for this many seconds, or it says something else.
+# A run that is refused has waited for another for this many seconds, or failed for another reason.
 LEAST_WAIT = 9
 
-# A run that reads no input begins where its shell has read a line.
+# A run that reads no input starts when its shell has read a line.
 WAITS = ("sh", "-c", 'read -r line; exec "$0" "$@"')
 
 
 @dataclass
 class Run:
-    """A run of a storm, of what has a name. It waits for its input, so all of them begin when they are told."""
+    """A run of a storm that adds or removes a name. It waits for its input, so that all begin together."""
 
     name: str
     line: tuple[str, ...]
@@ -31,7 +31,7 @@ class Run:
     started: subprocess.Popen[bytes] = field(init=False)
 
     def start(self, folder: str, env: dict[str, str]) -> None:
-        """Starts it, where it then waits."""
+        """Starts it; it then waits."""
         line = self.line if self.text else (*WAITS, *self.line)
         self.started = subprocess.Popen(line, cwd=folder, env=env, stdin=subprocess.PIPE, stdout=subprocess.PIPE,
                                         stderr=subprocess.STDOUT)
@@ -49,18 +49,18 @@ class Run:
         self.seconds += time.monotonic()
 
     def saves(self) -> bool:
-        """Whether it says that it saved. MIT's ktutil ends with status 0 also where it failed."""
+        """Whether it reports that it saved. MIT's ktutil ends with status 0 even if it failed."""
         return self.started.returncode == 0 and not (self.is_mits and b" while " in self.said)
 
     def end_is_told(self, beside_mit: bool) -> bool:
-        """Whether it ended as it may: it saves, was killed, or was refused for good reason."""
+        """Whether it ended as it may: it saved, was killed, or was refused for good reason."""
         status = self.started.returncode
         was_killed = self.is_killed and status == -signal.SIGKILL
         has_waited = self.seconds > LEAST_WAIT and status == 3
         return status == 0 or was_killed or has_waited or (beside_mit and status in (1, 3))
 
     def faults(self, names: Collection[str], beside_mit: bool) -> list[str]:
-        """What is wrong with it, where the file has those names after all runs."""
+        """Returns its faults, given the names that the file has after all runs."""
         # MIT's may write into a file that has lost its name, and is not judged.
         if self.is_mits:
             return []
@@ -74,7 +74,7 @@ class Run:
 
 
 def deeds(runs: list[Run], random: Random, within: float) -> list[tuple[float, Callable[[], None]]]:
-    """When each run begins, within so many seconds, and when some are killed, in seconds from now on."""
+    """Returns when each run begins, within that many seconds, and when some are killed, in seconds from now."""
     found = []
     for each in runs:
         at = random.random() * within
@@ -86,7 +86,7 @@ def deeds(runs: list[Run], random: Random, within: float) -> list[tuple[float, C
 
 
 def rage(runs: list[Run], random: Random, within: float) -> None:
-    """Lets runs that wait begin, and waits for their ends."""
+    """Lets waiting runs begin, and waits for their ends."""
     started = time.monotonic()
     for at, do in deeds(runs, random, within):
         time.sleep(max(0, started + at - time.monotonic()))

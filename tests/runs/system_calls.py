@@ -1,4 +1,4 @@
-"""Runs of the program under strace, which lists its system calls and has chosen ones fail."""
+"""Runs of the program under strace, which lists its system calls and lets chosen ones fail."""
 
 import os
 import re
@@ -17,7 +17,7 @@ from runs.preload import Line
 # A line of a trace that begins a system call.
 CALL = re.compile(r"(\w+)\(")
 
-# The calls by which a run reaches its files.
+# The calls by which a run accesses its files.
 CALLS = (
     "open,openat,read,pread64,write,pwrite64,writev,close,statx,fstat,newfstatat,lstat,stat,"
     "readlink,readlinkat,ftruncate,chown,fchown,lchown,fchownat,chmod,fchmod,fchmodat,fsync,"
@@ -27,14 +27,14 @@ CALLS = (
 
 @dataclass(frozen=True)
 class Call:
-    """A system call of a run: its name, which of that name it is, from 1 on, and its trace."""
+    """A system call of a run: its name, its number among those of that name, from 1 on, and its trace."""
 
     name: str
     nth: int
     line: str
 
     def to(self, fate: str) -> tuple[str, str]:
-        """The options of strace that let it end so."""
+        """Returns the options of strace that end the call in that way."""
         return ("-e", f"inject={self.name}:{fate}:when={self.nth}")
 
     def __str__(self) -> str:
@@ -42,7 +42,7 @@ class Call:
 
 
 def traced(program: str, line: Line, folder: str, *options: str) -> tuple[Outcome, list[str]]:
-    """A run under strace, and the lines of its trace."""
+    """Makes a run under strace, and returns its outcome and the lines of its trace."""
     with tempfile.NamedTemporaryFile("r", errors="replace") as trace:
         words = ("-o", trace.name, "-e", "quiet=all", "-e", f"trace={CALLS}", *options, program,
                  *line.words)
@@ -51,7 +51,7 @@ def traced(program: str, line: Line, folder: str, *options: str) -> tuple[Outcom
 
 
 def calls_of(lines: list[str], first: str) -> Iterator[Call]:
-    """The calls of a trace from the first that has one text in it."""
+    """Yields the calls of a trace from the first that contains a text."""
     counts: Counter[str] = Counter()
     is_begun = False
     for line in lines:
@@ -66,14 +66,14 @@ def calls_of(lines: list[str], first: str) -> Iterator[Call]:
 
 @dataclass(frozen=True)
 class Halt:
-    """A system call behind which a run stands still: its names, which one, and of what paths."""
+    """A system call after which a run is halted: its names, which one, and of what paths."""
 
     calls: str
     nth: int = 1
     paths: tuple[str, ...] = ()
 
     def options(self) -> list[str]:
-        """The options of strace that halt a run there."""
+        """Returns the options of strace that halt a run there."""
         inject = f"inject={self.calls}:signal=STOP:when={self.nth}"
         paths = [word for path in self.paths for word in ("-P", path)]
         return ["-e", "quiet=all", "-e", f"trace={self.calls}", "-e", inject, *paths]
@@ -82,7 +82,7 @@ class Halt:
 def halted(
     program: str, line: Line, folder: str, halt: Halt, change: Callable[[str], None]
 ) -> Outcome:
-    """A run that stands still somewhere until a change is made in its folder, and then goes on."""
+    """Makes a run that is halted somewhere until a change is made in its folder, and then goes on."""
     with tempfile.NamedTemporaryFile() as trace:
         words = ["strace", "-f", "-o", trace.name, *halt.options(), program, *line.words]
         with subprocess.Popen(words, cwd=folder, stdin=subprocess.PIPE, stdout=subprocess.PIPE,
@@ -104,7 +104,7 @@ def halted(
 def check_traced(
     report: Report, program: str, what: str, *checks: Callable[[Report, str], None]
 ) -> None:
-    """Makes checks that need strace. Where it is not there, what they are is noted as left out."""
+    """Makes checks that need strace. If it is not installed, reports them as left out."""
     if shutil.which("strace") is None:
         report.skip(what, "there is no strace")
         return

@@ -1,4 +1,4 @@
-"""Runs whose error output is a terminal, or which are asked to explain themselves."""
+"""Runs whose error output is a terminal, or which are given `--explain`."""
 
 import os
 import subprocess
@@ -10,7 +10,7 @@ EXPLAIN = "--explain"
 
 
 def all_of(end: int) -> bytes:
-    """What a terminal was written, once nobody has its other end open."""
+    """Returns what was written to a terminal, once nobody has its other end open."""
     parts = []
     with suppress(OSError):
         while part := os.read(end, 65_536):
@@ -19,7 +19,7 @@ def all_of(end: int) -> bytes:
 
 
 def run_on_terminal(program: str, words, folder: str, stdin: bytes = b"") -> Outcome:
-    """A run whose error output is a terminal. What it writes there has to fit the terminal's buffer."""
+    """Makes a run whose error output is a terminal. What it writes there has to fit the terminal's buffer."""
     ours, theirs = os.openpty()
     try:
         done = subprocess.run([program, *words], cwd=folder, input=stdin, stdout=subprocess.PIPE,
@@ -33,6 +33,6 @@ def run_on_terminal(program: str, words, folder: str, stdin: bytes = b"") -> Out
 
 
 def runs_with_words(program: str, words, folder: str, stdin: bytes = b""):
-    """The two ways to be told in words, each with its outcome."""
+    """Makes a run in both ways that explain messages, and yields each with its outcome."""
     yield "on a terminal", run_on_terminal(program, words, folder, stdin)
     yield EXPLAIN, run(program, (EXPLAIN, *words), folder, stdin)

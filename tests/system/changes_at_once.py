@@ -1,6 +1,6 @@
-"""Storms: many programs that change one file at the same time, half of which are killed in some.
+"""Storms: many programs that change one file at the same time; in some, half of them are killed.
 
-What each says that it saved is there afterwards, and who looks meanwhile sees a whole file.
+What each reports as saved is there afterwards, and readers meanwhile see a whole file.
 """
 
 import os
@@ -16,7 +16,7 @@ from runs.storms import Run, rage
 from system.saving import tree, write
 from system.storm_kinds import KINDS, MANY, Kind, change, removes
 
-# The names by which the runs call the file, and what lies in the folder at the end.
+# The names by which the runs call the file, and the contents of the folder at the end.
 PATHS = ("k", "./k", "link")
 LEFT = {"k", "link"}
 
@@ -49,7 +49,7 @@ class Storm:
             each.start(folder, SURROUNDINGS)
 
     def look(self, path: str, is_over: threading.Event) -> None:
-        """Looks at the file until all is over."""
+        """Reads the file repeatedly until all programs have ended."""
         while not is_over.wait(0.0002):
             try:
                 with open(path, "rb") as file:
@@ -58,7 +58,7 @@ class Storm:
                 pass
 
     def rage(self, folder: str) -> None:
-        """Lets the programs run to their ends, and looks at the file meanwhile."""
+        """Lets the programs run to their ends, and reads the file meanwhile."""
         is_over = threading.Event()
         looks = threading.Thread(target=self.look, args=(os.path.join(folder, "k"), is_over),
                                  daemon=True)
@@ -68,7 +68,7 @@ class Storm:
         looks.join()
 
     def judge_file(self, folder: str) -> None:
-        """Judges the file at the end: each change that was saved is there, and no entry twice."""
+        """Judges the file at the end: each saved change is there, and no entry twice."""
         found = tree(folder)
         names = self.kind.names(found.get("k", b""))
         if names is None:
@@ -82,7 +82,7 @@ class Storm:
             self.found.append(f"{sorted(found)} are left")
 
     def judge_looks(self) -> None:
-        """Judges what was seen meanwhile. An entry of MIT's may have been seen half made."""
+        """Judges what was seen meanwhile. An entry of MIT's may have been seen half written."""
         for image in self.seen:
             is_whole = self.kind.names(image) is not None
             is_bad = self.kind.is_no_file(image) if self.kind.with_mit else not is_whole
@@ -90,7 +90,7 @@ class Storm:
                 self.found.append(f"{image[:40]}, {len(image)} bytes, was seen")
 
     def judge_next(self, folder: str) -> None:
-        """What was left keeps no later run from the file, which also takes it away."""
+        """Checks that stale files do not stop a later run, which also removes them."""
         command = self.kind.command(0)
         name = "last" if removes(command) else "new"
         words, text = change(command, name)
@@ -103,7 +103,7 @@ class Storm:
 
 
 def storm(program: str, kind: Kind, seed: int) -> Storm:
-    """One storm, and what is wrong with it."""
+    """Runs a storm, and returns its faults."""
     made = Storm(program, kind, seed)
     files = {} if kind.over_none else {"k": kind.image()}
     if kind.kills:
@@ -119,7 +119,7 @@ def storm(program: str, kind: Kind, seed: int) -> Storm:
 
 
 def check_rounds(report: Report, program: str, seeds: range) -> None:
-    """Runs the storms of each kind that are made from some numbers."""
+    """Runs the storms of each kind from some seeds."""
     has_mit = are_there(report, "changes beside MIT's ktutil")
     for kind in KINDS:
         if has_mit or not kind.with_mit:

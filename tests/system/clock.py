@@ -1,4 +1,4 @@
-"""Clocks that stand anywhere or fail: the time of a new entry of ktutil, and which tickets have expired."""
+"""Clocks at any time or that fail: the time of a new entry of ktutil, and which tickets have expired."""
 
 from dataclasses import replace
 
@@ -12,7 +12,7 @@ from runs.terminal import EXPLAIN
 
 LINE = Line(("ktutil",), text([ADDENT, KEY, "l -t"]))
 
-# Settings of the clock, and the time that is listed: 0 where the seconds do not fit 32 bits.
+# Settings of the clock, and the time that is listed: 0 if the seconds do not fit 32 bits.
 KNOWN = [
     ({"CLOCK": 1_700_000_000}, "2023-11-14T22:13:20Z"),
     ({"CLOCK": 2**32 - 1}, "2106-02-07T06:28:15Z"),
@@ -21,22 +21,22 @@ KNOWN = [
     ({"FAIL_CLOCK": 1}, "1970-01-01T00:00:00Z"),
 ]
 
-# Clocks that are not read as a second of 32 bits.
+# Clocks that cannot be read as seconds of 32 bits.
 UNREAD = ({"CLOCK": 2**32}, {"CLOCK": 2**64 - 1}, {"FAIL_CLOCK": 1})
 
-# What is said of them.
+# The messages about them.
 NO_CLOCK = message(3, "cannot read the clock")
 EXPLAINED = Outcome(3, err=NO_CLOCK.err
                     + b"krbfile: the clock is before 1970 or after 2106, or failed\n")
 
-# A ticket ends at each of these seconds, and the first one that is left at a time is that of its index.
+# A ticket ends at each of these seconds; the first one that is left at a time is that of its index.
 ENDS = (0, 1, 1_700_000_000, 2**31, 2**32 - 2, 2**32 - 1)
 LEFT = ((1, 2), (1_699_999_999, 2), (1_700_000_000, 3), (1_700_000_001, 3), (2**31 - 1, 3), (2**31, 4),
         (2**32 - 2, 5), (2**32 - 1, 6))
 
 
 def check_expired(report: Report, under: Preloaded) -> None:
-    """Tickets have expired from the second on at which they end, whatever the header's offset is."""
+    """Checks that tickets have expired from the second in which they end, whatever the header's offset is."""
     tickets = [replace(TICKET, endtime=end) for end in ENDS]
     line = Line(("ccremove", "--expired", "c"))
     for fields in (b"", offset(1_000_000_000, 0), offset(-1_000_000_000, 0)):
@@ -52,7 +52,7 @@ def check_expired(report: Report, under: Preloaded) -> None:
 
 
 def check_unread(report: Report, under: Preloaded) -> None:
-    """A clock that cannot be read is told before the file is looked at, and only where it is asked for."""
+    """Checks that an unreadable clock is reported before the file is read, and only if the clock is needed."""
     over = under.over({"c": USUAL})
     for setting in UNREAD:
         for words in (("--expired", "c"), ("-n", "--expired", "c"), ("--expired", "no"),
@@ -69,7 +69,7 @@ def check_unread(report: Report, under: Preloaded) -> None:
 
 
 def check(report: Report, program: str) -> None:
-    """Runs all of this topic."""
+    """Runs this topic."""
     with preloaded(report, program, "the clock", {}) as under:
         if under is None:
             return

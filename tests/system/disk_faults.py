@@ -28,30 +28,30 @@ from system.saving import (
 
 LINE = Line(("ktedit", "k"), SCRIPT)
 
-# The file to which the link `k` leads, and the new one beside it.
+# The file to which the link `k` leads, and the new one in the same folder.
 TARGET = "file"
 NEW_NAME = "file.krbfile"
 REMAINS = b"remains"
 
-# The mode of that file. Until it is set the new one is its owner's alone.
+# The mode of that file. Until it is set only the owner may read the new one.
 MODE = 0o640
 
 UNPRINTED = message(3, "cannot write output")
 KILLED = Outcome(-signal.SIGKILL)
 
-# What the file is after each outcome of a run in which one call failed.
+# The contents of the file after each outcome of a run in which one call failed.
 WANTED = {SAVED: NEW, UNREAD: OLD, UNSAVED: OLD, UNPRINTED: NEW}
 
 
 def place(folder: str) -> None:
-    """Makes a link to a file, and beside this what an earlier save left."""
+    """Makes a link to a file, and a stale file from an earlier save."""
     write(os.path.join(folder, TARGET), OLD, MODE)
     write(os.path.join(folder, NEW_NAME), REMAINS)
     os.symlink(TARGET, os.path.join(folder, "k"))
 
 
 def calls_of_run(program: str) -> list[Call]:
-    """The calls from the first that names the file; none where they cannot be told."""
+    """Returns the calls from the first that names the file, or none if they cannot be traced."""
     with folder_of({}) as folder:
         place(folder)
         outcome, lines = traced(program, LINE, folder)
@@ -59,18 +59,18 @@ def calls_of_run(program: str) -> list[Call]:
 
 
 def faults_of_failure(folder: str, outcome: Outcome) -> list[str]:
-    """What is wrong after a run in which one call failed."""
+    """Returns the faults after a run in which one call failed."""
     if outcome not in WANTED:
         return [f"{outcome}"]
     wanted = {"k": TARGET, TARGET: WANTED[outcome]}
-    # A run that fails early does not come to what an earlier save left.
+    # A run that fails early does not reach the stale file of an earlier save.
     if WANTED[outcome] == OLD and tree(folder) == {**wanted, NEW_NAME: REMAINS}:
         return []
     return tree_faults(wanted, folder)
 
 
 def faults_of_kill(program: str, folder: str, outcome: Outcome) -> list[str]:
-    """What is wrong after a run that was killed, or ended before, and after the next."""
+    """Returns the faults after a run that was killed, or ended before, and after the next."""
     faults = [] if outcome == SAVED else differences(KILLED, outcome)
     found = tree(folder)
     if found["k"] != TARGET or found[TARGET] not in (OLD, NEW):
@@ -83,7 +83,7 @@ def faults_of_kill(program: str, folder: str, outcome: Outcome) -> list[str]:
 
 
 def check_calls(report: Report, program: str) -> None:
-    """Each call fails in turn, and then the run is killed at each."""
+    """Lets each call fail in turn, and then kills the run at each."""
     calls = calls_of_run(program)
     names = {call.name for call in calls}
     report.check("the calls of a save", [] if {"fsync", "rename"} <= names else [f"{names}"])
@@ -103,7 +103,7 @@ def check_calls(report: Report, program: str) -> None:
 
 @contextmanager
 def mounted(folder: str, *words: str) -> Iterator[bool]:
-    """Something that is mounted there, or false where it cannot be."""
+    """Mounts something there; yields whether that was possible."""
     mount = subprocess.run(["mount", *words, folder], check=False, capture_output=True)
     try:
         yield mount.returncode == 0
@@ -113,7 +113,7 @@ def mounted(folder: str, *words: str) -> Iterator[bool]:
 
 
 def check_full_disk(report: Report, program: str) -> None:
-    """A disk that has room for the old file and for another's `k.new`, which both stay."""
+    """Checks a disk that has room for the old file and for another's `k.new`, which both stay."""
     talk = b"rkt k.new\nwkt k\n"
     for files, size in (({"k": OLD}, 4), ({"k": OLD, "k.new": NEW}, 8)):
         with folder_of({}) as folder, mounted(
@@ -132,7 +132,7 @@ def check_full_disk(report: Report, program: str) -> None:
 
 
 def check_fixed(report: Report, program: str) -> None:
-    """A file that is mounted over itself is not replaced, nor any on a read-only disk."""
+    """Checks that a file that is mounted over itself is not replaced, nor any on a read-only disk."""
     with folder_of({"k": OLD}) as folder:
         path = os.path.join(folder, "k")
         with mounted(path, "--bind", path) as is_mounted:
@@ -153,7 +153,7 @@ def check_fixed(report: Report, program: str) -> None:
 
 
 def check_owner(report: Report, program: str) -> None:
-    """An owner that may not be given narrows the mode; any other failure to give it is one."""
+    """Checks that an owner who may not be set narrows the mode; any other failure of fchown refuses the save."""
     narrow = ("EPERM", "EACCES", "ENOSYS", "EOPNOTSUPP", "EINVAL")
     me = os.geteuid()
     old = Owned(0o644, USER, GROUP) if me == 0 else Owned(0o644, me, os.getegid())
@@ -175,7 +175,7 @@ def check_owner(report: Report, program: str) -> None:
 
 
 def check_lock(report: Report, program: str) -> None:
-    """Where there are no locks, who made the new file may save, and one that was left stays."""
+    """Checks that without locks the run that made the new file may save, and that a stale one stays."""
     for error in ("EOPNOTSUPP", "ENOSYS", "ENOLCK", "EIO"):
         for left in ({}, {"k.krbfile": b"left"}):
             is_saved = error in ("EOPNOTSUPP", "ENOSYS") and not left
@@ -187,7 +187,7 @@ def check_lock(report: Report, program: str) -> None:
 
 
 def check_no_proc(report: Report, program: str) -> None:
-    """Without /proc a save is made, and beside a new file only the file's owner is known."""
+    """Checks that a save works without /proc, but then accepts a stale file of the file's own owner only."""
     fail = "inject=?openat,?open,?statx,?newfstatat,?stat:error=ENOENT"
     left = {"k.krbfile": b"left"}
     cases = [("/proc/locks", {}, os.geteuid(), SAVED), ("/proc/self", left, os.geteuid(), SAVED),
@@ -203,7 +203,7 @@ def check_no_proc(report: Report, program: str) -> None:
 
 
 def check(report: Report, program: str) -> None:
-    """Runs all of this topic."""
+    """Runs this topic."""
     check_traced(report, program, "system calls that fail",
                  check_calls, check_owner, check_lock, check_no_proc)
     check_full_disk(report, program)

@@ -36,7 +36,7 @@ MODES = (0o400, 0o600, 0o640, 0o664, 0o604, 0o6755)
 
 
 def check_owned(report: Report, name: str, program: str, old: Owned, new: Owned, case: Case = ADD, **options) -> None:
-    """A save over a file of that mode, owner and group, in a folder of whoever makes the run."""
+    """Checks a save over a file of that mode, owner and group, in a folder of the user who makes the run."""
     with folder_of(case.files) as folder:
         path = os.path.join(folder, case.words[-1])
         os.chown(folder, options.get("user", -1), options.get("group", -1))
@@ -50,7 +50,7 @@ def check_owned(report: Report, name: str, program: str, old: Owned, new: Owned,
 
 
 def check_new_files(report: Report, program: str) -> None:
-    """A file that was not there is its owner's alone, whatever the umask."""
+    """Checks that a new file is readable by its owner only, whatever the umask."""
     for umask in (0, 0o022, 0o077, 0o777):
         with folder_of({}) as folder:
             faults = differences(SAVED, edit(program, folder, umask=umask))
@@ -62,7 +62,7 @@ def check_new_files(report: Report, program: str) -> None:
 
 
 def check_own_files(report: Report, program: str) -> None:
-    """Who owns a file, and is in its group, saves it with its mode."""
+    """Checks that an owner who is in a file's group saves it with its mode."""
     for case in CHANGES:
         for mode in MODES:
             here = Owned(mode, os.geteuid(), os.getegid())
@@ -70,7 +70,7 @@ def check_own_files(report: Report, program: str) -> None:
 
 
 def check_others_files(report: Report, program: str) -> None:
-    """Root keeps owner and group; who cannot gives no user more than the old file did."""
+    """Checks that root keeps owner and group, and that others give no user more rights than the old file did."""
     if os.geteuid() != 0 or as_another(program) is None:
         report.skip("files of others", "none but root may make them, or start the program")
         return
@@ -80,7 +80,7 @@ def check_others_files(report: Report, program: str) -> None:
             check_owned(report, "a user's file saved by root", program, theirs, theirs, case)
         inside = as_user((GROUP,))
         check_owned(report, "a user's file in one of its groups", program, theirs, theirs, **inside)
-    # What stays where the owner is lost, the group, or both.
+    # The mode that is left if the owner is lost, the group, or both.
     for old, new in ((0o6664, 0o664), (0o264, 0o220), (0o666, 0o666), (0o474, 0o444)):
         after = Owned(new, USER, GROUP)
         old_file = Owned(old, 0, GROUP)
@@ -94,7 +94,7 @@ def check_others_files(report: Report, program: str) -> None:
 
 
 def links_to(*links: tuple[str, str], data: bytes | None = OLD, target: str = "t/k") -> Place:
-    """Two folders, links of these names and texts, and a file unless there are no bytes."""
+    """Returns a place with two folders, links of these names and texts, and a file unless `data` is None."""
 
     def place(folder: str) -> None:
         for below in ("t", "u"):
@@ -108,13 +108,13 @@ def links_to(*links: tuple[str, str], data: bytes | None = OLD, target: str = "t
 
 
 def long_chain(count: int) -> list[tuple[str, str]]:
-    """A chain of that many links, from `k` to `t/k`."""
+    """Returns a chain of that many links, from `k` to `t/k`."""
     names = ["k", *(f"k{number}" for number in range(1, count)), "t/k"]
     return [*zip(names, names[1:])]
 
 
 def check_links(report: Report, program: str) -> None:
-    """The file at the end of links is replaced or made, and each link stays."""
+    """Checks that the file at the end of links is replaced or made, and that each link stays."""
     chain = (("k", "u/a"), ("u/a", "../u/b"), ("u/b", "FOLDER/t/k"))
     cases = [
         ("a relative link", links_to(("k", "t/k"))),
@@ -135,7 +135,7 @@ def check_links(report: Report, program: str) -> None:
 
 
 def check_hard_links(report: Report, program: str) -> None:
-    """A link is followed, a hard link is broken, what a killed run left goes, and all else stays."""
+    """Checks that a link is followed, a hard link is broken, a stale file is removed, and all else stays."""
     for case in CHANGES:
         (name, before), (after,) = *case.files.items(), case.files_after.values()
         with folder_of({"file": before, "file.krbfile": b"left", "file.new": b"strange"}) as folder:
@@ -148,7 +148,7 @@ def check_hard_links(report: Report, program: str) -> None:
 
 
 def check_broken_links(report: Report, program: str) -> None:
-    """Links that lead to no place for a file."""
+    """Checks links that lead to no place for a file."""
     cases = [
         ("a link into no folder", links_to(("k", "no/k")), UNSAVED),
         ("a link to no folder", links_to(("k", "no/"), data=None), UNSAVED),
@@ -164,7 +164,7 @@ def check_broken_links(report: Report, program: str) -> None:
 
 
 def check_removed(report: Report, program: str) -> None:
-    """A file that is open and has lost its name is not saved; one that has got another name is."""
+    """Checks that an open file that has lost its name is not saved, and that one with another name is."""
     cases = [
         ("rm d", {}, UNSAVED),
         ("rm d; echo >'d (deleted)'", {"d (deleted)": b"\n"}, UNSAVED),
@@ -183,9 +183,9 @@ def check_removed(report: Report, program: str) -> None:
 
 
 def check_locked_folder(report: Report, program: str) -> None:
-    """A folder in which no file may be made. What saves nothing needs no right to make one.
+    """Checks a folder in which no file may be made. What saves nothing needs no right to make one.
 
-    Root may make files in each, so another runs the program.
+    Root may make files in each, so another user runs the program.
     """
     options = as_another(program)
     if options is None:
@@ -206,7 +206,7 @@ def check_locked_folder(report: Report, program: str) -> None:
 
 
 def check(report: Report, program: str) -> None:
-    """Runs all of this topic."""
+    """Runs this topic."""
     check_new_files(report, program)
     check_own_files(report, program)
     check_others_files(report, program)

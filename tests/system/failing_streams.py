@@ -1,6 +1,6 @@
 """Each read and each write of each command fails, by several errors, or moves few bytes.
 
-What is wanted is what the models say. A read or write that is interrupted counts as failed.
+The expected results are those of the models. An interrupted read or write counts as failed.
 """
 
 from collections.abc import Iterable, Iterator
@@ -21,7 +21,7 @@ FEW = 60
 
 NO_OUTPUT = message(3, "cannot write output")
 
-# What may fail in a run that reads a file, in one that saves it, and in one that takes an input too.
+# What may fail in a run that reads a file, in one that saves it, and in one that also reads an input.
 OF_READER = ("FAIL_READ", "FAIL_WRITE", "ZERO_WRITE")
 OF_REMOVER = (*OF_READER, "FAIL_SAVE", "ZERO_SAVE")
 OF_EDITOR = ("FAIL_INPUT", *OF_REMOVER)
@@ -31,7 +31,7 @@ End = tuple[Outcome, dict[str, bytes]]
 
 
 class FailingFiles(dict):
-    """Files of which one load or one save fails, the nth of its kind."""
+    """Files of which the nth load or the nth save fails."""
 
     def __init__(self, files: dict[str, bytes], load: int = 0, save: int = 0) -> None:
         super().__init__(files)
@@ -51,7 +51,7 @@ class FailingFiles(dict):
 
 
 def talk_with(run: Modelled, **failing: int) -> End:
-    """What ktutil answers where one load or save fails."""
+    """Returns the outcome of ktutil if one load or save fails."""
     ktutil = Ktutil({}, NOW, False)
     ktutil.files = FailingFiles(run.case.files, **failing)
     for number, line in enumerate(run.case.stdin.splitlines(), 1):
@@ -60,13 +60,13 @@ def talk_with(run: Modelled, **failing: int) -> End:
 
 
 class Ends:
-    """How a run ends where a read, or a write to a file, fails."""
+    """How a run ends if a read, or a write to a file, fails."""
 
     def __init__(self, run: Modelled) -> None:
         self.run = run
 
     def talks(self, kind: str) -> Iterator[End]:
-        """What ktutil answers for each load or save that fails."""
+        """Yields the outcome of ktutil for each load or save that fails."""
         whole = (self.run.case.wanted, self.run.after())
         nth = 1
         while (end := talk_with(self.run, **{kind: nth})) != whole:
@@ -91,7 +91,7 @@ class Ends:
         return [(message(3, f"{words[-1]}: cannot write"), self.run.case.files)]
 
     def of_input(self, given: int) -> End:
-        """How it ends where its input fails after that many bytes."""
+        """Returns how it ends if its input fails after that many bytes."""
         case = self.run.case
         if case.words[0] == "ktutil":
             return handled(case.files, case.stdin[:given], NOW, is_cut=True)
@@ -103,7 +103,7 @@ class Ends:
         if setting == "FAIL_INPUT":
             return end == self.of_input(given)
         if setting == "FAIL_READ":
-            # A file that is to be saved is read once more before.
+            # A file that is to be saved is read again before.
             return end in self.of_loads or end in self.of_saves
         if setting in ("FAIL_SAVE", "ZERO_SAVE"):
             return end in self.of_saves
@@ -111,7 +111,7 @@ class Ends:
 
 
 def ends_in_output(run: Modelled, got: Counted) -> bool:
-    """Whether a run ended as its output failed: a prefix was printed, and a script is saved."""
+    """Whether a run ended because its output failed: a prefix was printed, and a script is saved."""
     is_talk = run.case.words[0] == "ktutil"
     stages = run.stages if is_talk else (Stage(b"", b"", run.after()),)
     printing = Modelled(run.case, stages, may_print=True)
@@ -121,7 +121,7 @@ def ends_in_output(run: Modelled, got: Counted) -> bool:
 def faults_of_call(
     over: Preloaded, ends: Ends, setting: str, nth: int, most: int, error: int
 ) -> tuple[list[str], bool]:
-    """What is wrong where that call fails, and whether it was made."""
+    """Returns the faults of a run in which that call fails, and whether the call was made."""
     run = ends.run
     settings = {setting: nth, "MOST": most, "ERROR": error}
     got = over.run(Line(run.case.words, run.case.stdin), CLOCK=NOW, **settings)
@@ -141,7 +141,7 @@ OF_LARGE = ((WHOLE, EINTR), (20_000, EACCES))
 def check_setting(
     report: Report, over: Preloaded, ends: Ends, setting: str, ways: Iterable[tuple[int, int]]
 ) -> None:
-    """Each call of a kind fails in each way."""
+    """Lets each call of a kind fail in each way."""
     for most, error in ways:
         faults = []
         for nth in range(1, MOST_CALLS):
@@ -154,14 +154,14 @@ def check_setting(
 
 
 def settings_of(run: Modelled) -> tuple[str, ...]:
-    """What may fail in a run."""
+    """Returns what may fail in a run."""
     if run.case.words[0] in ("ktedit", "ktutil", "ccedit"):
         return OF_EDITOR
     return OF_REMOVER if run.case.words[0] in ("ktremove", "ccremove") else OF_READER
 
 
 def check_few_bytes(report: Report, over: Preloaded, run: Modelled, most: int) -> None:
-    """Reads and writes of at most that many bytes change nothing."""
+    """Checks that reads and writes of at most that many bytes change nothing."""
     got = over.run(Line(run.case.words, run.case.stdin), CLOCK=NOW, MOST=most)
     is_whole = run.is_whole(got.outcome, got.files)
     faults = [] if is_whole else [*differences(run.case.wanted, got.outcome), "or other files"]
@@ -169,7 +169,7 @@ def check_few_bytes(report: Report, over: Preloaded, run: Modelled, most: int) -
 
 
 def check(report: Report, program: str) -> None:
-    """Runs all of this topic."""
+    """Runs this topic."""
     with preloaded(report, program, "failing streams", {}) as under:
         if under is None:
             return
@@ -184,7 +184,7 @@ def check(report: Report, program: str) -> None:
 
 
 def check_rounds(report: Report, program: str, seeds: range) -> None:
-    """Lets calls fail that numbers choose, of runs over larger files too."""
+    """Lets calls fail that the seeds choose, of runs over larger files too."""
     with preloaded(report, program, "failing streams", {}) as under:
         those = [Ends(run) for run in [*small(), *large()]]
         for seed in seeds if under else ():

@@ -1,7 +1,7 @@
 """Each system call of each command fails, by several errors, and is the last of its run.
 
-What a failure leads to is told by the step of the work that the call belongs to. That is asked of
-the run itself: how often it reads the list of locks hangs on how many others have.
+The effect of a failure depends on the step of the work that the call belongs to. The run's own trace
+shows that: how often it reads the list of locks depends on how many others have.
 """
 
 import re
@@ -21,53 +21,53 @@ from system.failing_streams import Ends, ends_in_output
 
 ERRORS = ("EIO", "ENOSPC", "EACCES", "EPERM", "EINTR", "ENOMEM")
 
-# The calls that are made again where they were interrupted. Reads and writes are not.
+# The calls that are repeated if they were interrupted. Reads and writes are not.
 REPEATED = ("open", "openat", "flock", "fchmod", "fsync")
 
 # How often the list of locks is read.
 READINGS = 5
 
-# The errors of fchown that say that the owner may not be given: the mode is narrowed.
+# The errors of fchown that mean that the owner may not be set: the mode is narrowed.
 NOT_PERMITTED = ("EACCES", "EPERM")
 
 
 @dataclass(frozen=True)
 class Step:
-    """A step of a run: the trace of its calls, what fails with them, and which of its kind."""
+    """A step of a run: the pattern of its calls, what fails with them, and which of its kind it is."""
 
     pattern: str
     fails: str
     nth: int = 1
 
 
-# A call that did not fail, and one that has no place among the steps.
+# The step of a run without a failed call, and of a call that belongs to no step.
 NONE, UNKNOWN = Step("", ""), Step("", "unknown")
 
 
 def load(name: str, nth: int = 1) -> list[Step]:
-    """The steps of a load."""
+    """Returns the steps of a load."""
     patterns = (rf'open.*"{name}", O_RDONLY', r"\w*stat\w*\(\d", r"read\([1-9]")
     return [*(Step(pattern, "load", nth) for pattern in patterns), Step(r"close", "")]
 
 
 def looked(path: str) -> list[Step]:
-    """The steps of a look at a file of the system, which is not needed."""
+    """Returns the steps of reading a file of the system, which is not required."""
     patterns = (rf'open.*"{path}"', r"\w*stat\w*\(\d", r"read\([1-9]", r"close")
     return [Step(pattern, "list") for pattern in patterns]
 
 
 def listed() -> list[Step]:
-    """The steps of a look at the locks. That there is none is what several readings in a row say."""
+    """Returns the steps of reading the locks. Only several readings in a row show that there are none."""
     return looked("/proc/locks") * READINGS
 
 
 def needed(nth: int, *patterns: str) -> list[Step]:
-    """Steps without which there is no save."""
+    """Returns steps that a save requires."""
     return [Step(pattern, "save", nth) for pattern in patterns]
 
 
 def hold(name: str, nth: int = 1) -> list[Step]:
-    """The steps of a hold, without which a file is loaded and not saved. The new file is its owner's alone."""
+    """Returns the steps of a hold; without it a file is loaded and not saved. Only the owner may read the new file."""
     stat = rf'\w*stat\w*\(.*"{name}"'
     made = needed(nth, stat, r"open.*O_CREAT\|O_EXCL\b.*, 0600\)", r"flock", r"\w*stat\w*\(\d",
                   rf'\w*stat\w*\(.*"{name}\.krbfile"', r"fcntl")
@@ -76,7 +76,7 @@ def hold(name: str, nth: int = 1) -> list[Step]:
 
 
 def save(name: str, nth: int = 1, is_new: bool = False) -> list[Step]:
-    """The steps of a save. Where the folder cannot be synced it is made."""
+    """Returns the steps of a save. It is done even if the folder cannot be synced."""
     stat = rf'\w*stat\w*\(.*"{name}'
     owner = [] if is_new else [Step(r"fchown", "owner", nth), *needed(nth, r"\w*stat\w*\(\d")]
     made = needed(nth, r"fchmod", r"fsync", r"\w*stat\w*\(\d", stat + r'\.krbfile"', stat + '"')
@@ -95,7 +95,7 @@ TALKED = [READ, *load("j"), PRINT, *hold("k"), *load("k", 2), *save("k"), *hold(
 
 
 def runs() -> list[tuple[Modelled, list[Step]]]:
-    """Runs and their steps."""
+    """Returns runs and their steps."""
     add = b"add 3 17 0 000102030405060708090a0b0c0d0e0f host/a@R\n"
     config = b"start\ncut 40\nconfig pa_type krbtgt/R@R 3\n"
     change_k, change_c = ([*hold(name), *load(name), *save(name), PRINT] for name in "kc")
@@ -114,7 +114,7 @@ def runs() -> list[tuple[Modelled, list[Step]]]:
 
 
 def steps_of(calls: list[Call], steps: list[Step]) -> list[tuple[Call, Step]] | None:
-    """Each call with its step. A step may have several calls, or none; None where one has none."""
+    """Returns each call with its step. A step may have several calls, or none; None if a call has no step."""
     left = list(steps)
     found = []
     for call in calls:
@@ -127,7 +127,7 @@ def steps_of(calls: list[Call], steps: list[Step]) -> list[tuple[Call, Step]] | 
 
 
 def failed_step(trace: list[str], first: str, steps: list[Step]) -> Step:
-    """The step of the call that failed in a run; NONE where it came to no such call."""
+    """Returns the step of the call that failed in a run, or NONE if no call failed."""
     calls = [*calls_of(trace, first)]
     for number, call in enumerate(calls, 1):
         if call.line.endswith("(INJECTED)"):
@@ -137,7 +137,7 @@ def failed_step(trace: list[str], first: str, steps: list[Step]) -> Step:
 
 
 def is_end_of_step(ends: Ends, step: Step, got: Counted) -> bool:
-    """Whether a run ended as it has to where a call of that step fails."""
+    """Whether a run ended as it has to if a call of that step fails."""
     end = (got.outcome, got.files)
     if step.fails == "input":
         return end in (ends.of_input(0), ends.of_input(len(ends.run.case.stdin)))
@@ -150,7 +150,7 @@ def is_end_of_step(ends: Ends, step: Step, got: Counted) -> bool:
 def faults_of_failure(
     ends: Ends, call: Call, step: Step, error: str, got: Counted
 ) -> list[str]:
-    """What is wrong with a run in which a call of that step failed."""
+    """Returns the faults of a run in which a call of that step failed."""
     if step == UNKNOWN:
         return ["it is the call of no step"]
     is_narrowed = step.fails == "owner" and error in NOT_PERMITTED
@@ -163,7 +163,7 @@ def faults_of_failure(
 
 
 def faults_of_kill(run: Modelled, got: Counted) -> list[str]:
-    """What is wrong with a run that was killed, or ended before. New files may lie beside."""
+    """Returns the faults of a run that was killed, or ended before. Other new files are allowed."""
     if run.is_whole(got.outcome, got.files):
         return []
     files = {name: data for name, data in got.files.items() if not name.endswith(".krbfile")}
@@ -173,7 +173,7 @@ def faults_of_kill(run: Modelled, got: Counted) -> list[str]:
 
 
 def traced_run(program: str, run: Modelled, *options: str) -> tuple[Counted, list[str]]:
-    """One run under strace."""
+    """Makes a run under strace."""
     with folder_of(run.case.files) as folder:
         line = Line(run.case.words, run.case.stdin)
         outcome, trace = traced(program, line, folder, *options)
@@ -181,14 +181,14 @@ def traced_run(program: str, run: Modelled, *options: str) -> tuple[Counted, lis
 
 
 def first_text(run: Modelled, steps: list[Step]) -> str:
-    """What stands in the first call of a run's work: it reads the input, or names the file."""
+    """Returns text in the first call of a run's work, which reads the input, or names the file."""
     if READ in steps:
         return "read(0"
     return next(f'"{word}"' for word in run.case.words if word in run.case.files)
 
 
 def hasty_renames(calls: list[Call], run: Modelled) -> list[str]:
-    """The renames over a file before which the locks were not read often enough since the new file was synced."""
+    """Returns the renames over a file before which the locks were not read often enough after the last fsync."""
     found, readings = [], 0
     for call in calls:
         readings = 0 if call.line.startswith("fsync") else readings + ('"/proc/locks"' in call.line)
@@ -199,7 +199,7 @@ def hasty_renames(calls: list[Call], run: Modelled) -> list[str]:
 
 
 def check_run(report: Report, program: str, run: Modelled, steps: list[Step]) -> None:
-    """Each call of a run fails, and is its last."""
+    """Lets each call of a run fail, and kills the run at each."""
     got, trace = traced_run(program, run)
     first = first_text(run, steps)
     calls = [*calls_of(trace, first)]
@@ -219,11 +219,11 @@ def check_run(report: Report, program: str, run: Modelled, steps: list[Step]) ->
 
 
 def check_runs(report: Report, program: str) -> None:
-    """Each call of each run fails, and is its last."""
+    """Lets each call of each run fail, and kills the run at each."""
     for run, steps in runs():
         check_run(report, program, run, steps)
 
 
 def check(report: Report, program: str) -> None:
-    """Runs all of this topic."""
+    """Runs this topic."""
     check_traced(report, program, "system calls that fail", check_runs)

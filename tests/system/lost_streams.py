@@ -18,12 +18,12 @@ NO_INPUT = message(3, "cannot read input")
 FILES = {"k": TWO, "j": keytab(HOST), "n": keytab(B)}
 TALKS = (b"rkt j\nl\nwkt k\n", b"rkt j\ndelent 1\n", b"frob\nrkt k\nrkt j\nwkt n\n")
 
-# Runs whose output is help, which no model has.
+# Runs that print help, which the models do not cover.
 HELP = (("--help",), ("klist", "--help"))
 
 
 def runs() -> list[Modelled]:
-    """Runs of each command that do not hang on the clock, and a line that is not read."""
+    """Returns runs of each command that do not depend on the clock, and a line that is refused."""
     talks = (ktutil(given, 0, files=FILES, name=f"{given[:4]}") for given in TALKS)
     others = (*CHANGES, *HOLDING_NOTHING, *SAVING_NOTHING, *talks, Case("frob", ("frob",), BAD_LINE))
     timeless = (one for one in small() if one.case.words[0] not in ("ccremove", "ktutil"))
@@ -31,7 +31,7 @@ def runs() -> list[Modelled]:
 
 
 def is_met(run: Modelled, stream: str, got: Outcome, files: dict[str, bytes]) -> bool:
-    """Whether a run ended as it has to without that output. A lost one is not missed where nothing goes to it."""
+    """Whether a run ended as it has to without that output. It does not matter if nothing is written to it."""
     if stream == "stdout" and run.case.wanted.out:
         return ends_in_output(run, Counted(got, files, 0, 0))
     wanted = run.case.wanted if stream == "stdout" else replace(run.case.wanted, err=b"")
@@ -55,7 +55,7 @@ def check_lost(report: Report, program: str, stream: str) -> None:
 
 
 def check_lost_input(report: Report, program: str, words: tuple[str, ...]) -> None:
-    """An input that is a folder, or closed."""
+    """Checks an input that is a folder, or closed."""
     with folder_of(FILES) as folder:
         for name, close in (("a folder", None), ("closed", lambda: os.close(0))):
             opened = os.open(folder, os.O_RDONLY)
@@ -67,7 +67,7 @@ def check_lost_input(report: Report, program: str, words: tuple[str, ...]) -> No
 
 
 def check(report: Report, program: str) -> None:
-    """Runs all of this topic."""
+    """Runs this topic."""
     check_lost(report, program, "stdout")
     check_lost(report, program, "stderr")
     for words in (("ktedit", "k"), ("ktutil",), ("ccedit", "c")):

@@ -1,8 +1,8 @@
-"""The greatest files and inputs, run in plenty of room, on a small stack, and in little memory.
+"""The greatest files and inputs, run in plenty of memory, on a small stack, and in little memory.
 
-On a small stack each run is as it is to be. In little memory it is too, or says that there is none:
-then a prefix of its text may be printed, and each file is as before or as after the whole run. Where
-a file would take all of the memory, each command has to say so.
+On a small stack each run ends as usual. In little memory it does too, or reports that it is out of
+memory: then a prefix of its text may be printed, and each file is as before or as after the whole run. If
+a file would take all of the memory, each command has to report that.
 """
 
 import resource
@@ -25,12 +25,12 @@ SPACE = 64 * 1024 * 1024
 # itself takes up to more than any run does.
 LEAST_POWER, MOST_POWER = 22, 30
 
-# The commands that print nothing before all is ready.
+# The commands that print nothing before their output is complete.
 GATHERING = ("ktcheck", "ktedit", "ktremove", "ccedit", "ccremove")
 
 
 def is_early(case: Case, got: Outcome, after: dict[str, bytes]) -> bool:
-    """Whether a run said that there is no memory, after a part of what it does."""
+    """Whether a run ended out of memory, after a part of what it does."""
     if got.status != NO_MEMORY.status or not got.err.endswith(NO_MEMORY.err):
         return False
     last = case.files if case.files_after is None else case.files_after
@@ -43,12 +43,12 @@ def is_early(case: Case, got: Outcome, after: dict[str, bytes]) -> bool:
 
 
 def all_cases() -> list[Case]:
-    """Those of keytabs, scripts and ktutil, and those of caches."""
+    """Returns the cases of keytabs, scripts and ktutil, and those of caches."""
     return [*cases(), *cache_files.sizes(), *cache_files.large(), *greatest_caches.cases()]
 
 
 def faults_in(program: str, case: Case, kind: int, most: int) -> list[str]:
-    """What is wrong with a run of a case that may have so much of a kind."""
+    """Returns the faults of a run of a case that may have at most that much of a resource."""
     try:
         got, after = run_case(program, case, preexec_fn=limit(kind, most))
     except subprocess.TimeoutExpired:
@@ -58,7 +58,7 @@ def faults_in(program: str, case: Case, kind: int, most: int) -> list[str]:
 
 
 def without_room() -> list[Case]:
-    """A run of each command over a file of as many bytes as there is memory."""
+    """Returns a run of each command over a file of as many bytes as there is memory."""
     lines = {("klist", "-k", "k"): b"", ("ktfind", "k", "0", "0", "b@R"): b"",
              ("ktedit", "k"): b"start\n", ("ktutil",): b"rkt k\n",
              ("ktremove", "-k", "3", "k"): b"", ("ktcheck", "k"): b"", ("klist", "c"): b"",
@@ -69,7 +69,7 @@ def without_room() -> list[Case]:
 
 
 def check(report: Report, program: str) -> None:
-    """Runs all of this topic."""
+    """Runs this topic."""
     for case in [*cases(), *greatest_caches.cases()]:
         case.check(report, program)
     for case in without_room():
@@ -83,7 +83,7 @@ def check(report: Report, program: str) -> None:
 
 
 def check_rounds(report: Report, program: str, seeds: range) -> None:
-    """Runs cases in amounts of memory that numbers choose."""
+    """Runs cases in amounts of memory that the seeds choose."""
     those = all_cases()
     for random in map(Random, seeds):
         case, most = random.choice(those), int(2 ** random.uniform(LEAST_POWER, MOST_POWER))

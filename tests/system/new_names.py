@@ -1,6 +1,6 @@
-"""What stands beside a file under the name of its new file, and names that no file is saved under.
+"""What exists under the name of a new file, and names under which no file is saved.
 
-What a killed run left is taken away. All else is left as it is, and then the file is not saved.
+A stale file of a killed run is removed. Anything else stays as it is, and then the file is not saved.
 """
 
 import os
@@ -31,20 +31,20 @@ STRANGER = 1234
 
 NEW_FILE = "k.krbfile"
 
-# Makes something under a path.
+# Makes something at a path.
 Make = Callable[[str], None]
 
-# What a walk through a keytab without entries prints.
+# The output of a walk over a keytab without entries.
 WALKED = Outcome(0, b"walk 0 at 2\nwalk 0 end 2\n")
 
 
 def beside(path: str, name: str) -> str:
-    """Another path in the same folder."""
+    """Returns another path in the same folder."""
     return os.path.join(os.path.dirname(path), name)
 
 
 def own(path: str) -> str:
-    """The file whose new file has that path."""
+    """Returns the file whose new file has that path."""
     return path.removesuffix(".krbfile")
 
 
@@ -55,7 +55,7 @@ def filled(path: str) -> None:
 
 
 def owned_by(owner: int, mode: int = 0o600) -> Make:
-    """What makes a file of that owner."""
+    """Returns a function that makes a file of that owner."""
 
     def make(path: str) -> None:
         write(path, b"strange", mode)
@@ -79,7 +79,7 @@ STRANGE: list[tuple[str, Make]] = [
 
 
 def stands(folder: str) -> dict[str, tuple[object, ...]]:
-    """What stands in a folder, with owners, modes and times."""
+    """Returns the contents of a folder, with owners, modes and times."""
     found = {}
     for name, data in tree(folder).items():
         own = os.lstat(os.path.join(folder, name))
@@ -90,7 +90,7 @@ def stands(folder: str) -> dict[str, tuple[object, ...]]:
 def faults_in_the_way(
     program: str, make: Make, mode: int, owner: int | None, case: Case = ADD, **options: object
 ) -> list[str]:
-    """What is wrong with a run while something stands in the way, in a folder of that mode."""
+    """Returns the faults of a run with something in place of its new file, in a folder of that mode."""
     with folder_of({"other": b"other"}) as folder:
         path = os.path.join(folder, case.words[-1])
         if owner is not None:
@@ -106,7 +106,7 @@ def faults_in_the_way(
 
 
 def check_strange(report: Report, program: str) -> None:
-    """What no killed run of this user, or of the file's owner, left: it is not touched."""
+    """Checks that what no killed run of this user, or of the file's owner, left is not touched."""
     root, user = os.geteuid() == 0, as_another(program)
     cases = [(f"{name}: {case.name}", make, 0o700, os.geteuid(), {"case": case})
              for name, make in STRANGE for case in CHANGES]
@@ -130,7 +130,7 @@ def check_strange(report: Report, program: str) -> None:
 
 
 def check_leftovers(report: Report, program: str) -> None:
-    """What a killed run left is taken away."""
+    """Checks that stale files of killed runs are removed."""
     root, user, me = os.geteuid() == 0, as_another(program), os.geteuid()
     cases = [("to be written", {"k": OLD}, owned_by(me), me, {}),
              ("to be read", {"k": OLD}, owned_by(me, 0o400), me, {}),
@@ -154,7 +154,7 @@ def check_leftovers(report: Report, program: str) -> None:
 
 
 def check_strangers(report: Report, program: str) -> None:
-    """A stranger's `k.new` is left as it is."""
+    """Checks that a stranger's `k.new` stays as it is."""
     runs = [(("ktedit", "k"), b"cut 2\n"), (("ktutil",), b"rkt k.new\nwkt k\n")]
     makes: list[tuple[str, Make]] = [
         ("a keytab", lambda path: write(path, keytab(B))),
@@ -177,7 +177,7 @@ def check_strangers(report: Report, program: str) -> None:
 
 
 def check_own_names(report: Report, program: str) -> None:
-    """A file with the name of a new one is walked through, and not changed, also by a link."""
+    """Checks that a file with the name of a new one can be walked over, but not changed, also through a link."""
     for name in (NEW_FILE, ".krbfile", "k.krbfile.krbfile", "./k.krbfile", "link", "dangling"):
         path = "t.krbfile" if name == "link" else os.path.normpath(name)
         is_there = name != "dangling"
@@ -196,7 +196,7 @@ def check_own_names(report: Report, program: str) -> None:
 
 
 def check_places(report: Report, program: str) -> None:
-    """Names under which no file can be saved, and the longest that can be."""
+    """Checks names under which no file can be saved, and the longest that can be."""
     longest = "x" * (255 - len(".krbfile"))
     cases = [
         ("k", SAVED),
@@ -218,7 +218,7 @@ def check_places(report: Report, program: str) -> None:
 
 
 def check_no_names(report: Report, program: str) -> None:
-    """Files with the name of a new one, and with one that is too long for a new one, are not changed."""
+    """Checks that files with the name of a new one, or a name too long for a new one, are not changed."""
     for case in CHANGES:
         for name in (f"{case.words[-1]}.krbfile", "x" * 248):
             with folder_of({name: data for data in case.files.values()}) as folder:
@@ -229,7 +229,7 @@ def check_no_names(report: Report, program: str) -> None:
 
 
 def check(report: Report, program: str) -> None:
-    """Runs all of this topic."""
+    """Runs this topic."""
     if os.geteuid() != 0 or as_another(program) is None:
         report.skip("new files of others", "none but root may make them, or start the program")
     check_strange(report, program)

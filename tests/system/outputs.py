@@ -1,4 +1,4 @@
-"""Outputs that take less than the text: what they took is a prefix of it, and the status says so."""
+"""Outputs that take less than the text: what they took is a prefix of it, and the status shows the failure."""
 
 import os
 import resource
@@ -17,15 +17,15 @@ FAILED = message(3, "cannot write output")
 
 KLIST = case("a listing", TWO, HOST_LINE, B_LINE)
 
-# More than a pipe holds: 300 lines of 1000 bytes.
+# More than a pipe takes: 300 lines of 1000 bytes.
 LONG_NAME = b"x" * 992
 LONG = case("a long listing", keytab(*[Entry((LONG_NAME,))] * 300), *[b"   3 " + LONG_NAME + b"@R"] * 300)
 
-# Three lines at fault with others between, and an answer of 1.
+# Three faulty lines with others between, and a status of 1.
 FAULTY = lines("faults between lists", ["frob", "rkt k", "delent 9", "l", "rkt n", "l"], TWO_LISTED * 2,
                "line 1: fault 1", "line 3: fault 7", "n: no such file", files={"k": TWO})
 
-# Messages with the words behind them.
+# Messages with their explanations.
 EXPLAINED = [
     Case("a look-up that finds nothing", (EXPLAIN, "ktfind", "k", "0", "0", "c@R"),
          Outcome(1, err=b"krbfile: k: refused 9\n"
@@ -37,13 +37,13 @@ EXPLAINED = [
 
 
 def cut(wanted: Outcome, part: str, most: int) -> Outcome:
-    """The run where that part goes to an output of that many bytes. A cut message changes nothing else."""
+    """Returns the outcome if that part goes to an output of that many bytes. A cut message changes nothing else."""
     text = getattr(wanted, part)
     return replace(FAILED if part == "out" and most < len(text) else wanted, **{part: text[:most]})
 
 
 def check_each_byte(report: Report, program: str, case: Case, stream: str, part: str) -> None:
-    """That output takes each number of bytes up to those of the text. The write that passes them is cut."""
+    """Checks each number of bytes that the output takes, up to those of the text. The write that exceeds it is cut."""
     with folder_of(case.files) as folder:
         path = os.path.join(folder, stream)
         for most in range(len(getattr(case.wanted, part)) + 1):
@@ -56,13 +56,13 @@ def check_each_byte(report: Report, program: str, case: Case, stream: str, part:
 
 
 def piped(program: str, case: Case, folder: str, **more) -> subprocess.Popen[bytes]:
-    """A run whose outputs are pipes."""
+    """Makes a run whose outputs are pipes."""
     return subprocess.Popen([program, *case.words], cwd=folder, stdin=subprocess.DEVNULL, stdout=subprocess.PIPE,
                             stderr=subprocess.PIPE, **more)
 
 
 def check_closed_pipe(report: Report, program: str, taken: int, action: signal.Handlers) -> None:
-    """A reader that goes away after some bytes: the write fails, for the program ignores SIGPIPE in each case."""
+    """Closes the reader after some bytes: the write fails, since the program ignores SIGPIPE in each case."""
     with folder_of(LONG.files) as folder:
         with piped(program, LONG, folder, preexec_fn=lambda: signal.signal(signal.SIGPIPE, action)) as started:
             out = started.stdout.read(taken)
@@ -73,7 +73,7 @@ def check_closed_pipe(report: Report, program: str, taken: int, action: signal.H
 
 
 def check(report: Report, program: str) -> None:
-    """Runs all of this topic."""
+    """Runs this topic."""
     check_each_byte(report, program, KLIST, "stdout", "out")
     for case in (FAULTY, *EXPLAINED):
         check_each_byte(report, program, case, "stderr", "err")

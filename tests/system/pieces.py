@@ -1,4 +1,4 @@
-"""Long listings and JSON go out in pieces. To a socket each write is a message, so its length is seen."""
+"""Long listings and JSON are written in pieces. On a socket each write is a message, which shows its length."""
 
 import socket
 import subprocess
@@ -7,13 +7,13 @@ from models.cases import klist, klist_cache, klist_cache_json, klist_json
 from models.modelled import mixed_cache, mixed_keytab
 from runs.harness import SECONDS, Case, Outcome, Report, differences, folder_of
 
-# A write of what was gathered has one line or element more at most, of which none has 2,000 bytes here. No message is
+# A buffered write has at most one more line or element, none of which has 2,000 bytes here. No message is
 # longer than a write may be.
 LONGEST, MESSAGE = 32_768 + 2_000, 1 << 20
 
 
 def pieces_of(program: str, case: Case) -> tuple[Outcome, list[int]]:
-    """A run whose output is a socket, and the length of each write."""
+    """Makes a run whose output is a socket, and returns the length of each write."""
     ours, theirs = socket.socketpair(socket.AF_UNIX, socket.SOCK_SEQPACKET)
     with folder_of(case.files) as folder, ours, subprocess.Popen(
         [program, *case.words], cwd=folder, stdin=subprocess.DEVNULL, stdout=theirs,

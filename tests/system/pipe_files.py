@@ -1,4 +1,4 @@
-"""A pipe of that name is not opened by a run that is to change the file, so that it does not wait for a writer."""
+"""A run that is to change a file does not open a pipe of that name, so that it does not wait for a writer."""
 
 import os
 import threading
@@ -11,7 +11,7 @@ from system.saving import OLD, SCRIPT, tree_faults
 
 ADDENT = b"addent -key -p a@R -k 1 -e 17\n000102030405060708090a0b0c0d0e0f\n"
 
-# Runs that are to change what has their last name: their words, their input, and where words are told.
+# Runs that are to change the file named last: their words, their input, and where explanations are printed.
 RUNS = (
     (("ktedit", "k"), SCRIPT, "k", ""),
     (("ktremove", "-k", "3", "k"), b"", "k", ""),
@@ -24,7 +24,7 @@ RUNS = (
 
 @contextmanager
 def fed(path: str) -> Iterator[list[bool]]:
-    """A pipe that gives a keytab to who opens it to read, which is noted."""
+    """Yields a pipe that gives a keytab to who opens it to read, and records that it was opened."""
     opened: list[bool] = []
 
     def feed() -> None:
@@ -43,7 +43,7 @@ def fed(path: str) -> Iterator[list[bool]]:
 
 
 def check(report: Report, program: str) -> None:
-    """Runs all of this topic."""
+    """Runs this topic."""
     for words, stdin, name, place in RUNS:
         said = f"krbfile: {name}: cannot read\nkrbfile: {place}not a plain file\n"
         with folder_of({}) as folder:

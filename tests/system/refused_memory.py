@@ -1,7 +1,7 @@
-"""Each request for memory of each command refused, once and from it on, beside the models.
+"""Refuses each allocation of each command, once and from it on, and compares with the models.
 
-A run that is refused memory says so, with status 4. klist and ktfind may have printed a prefix of
-their text, ktedit has neither printed nor saved, and ktutil has done its lines up to some line. Help
+A run that is out of memory reports so, with status 4. klist and ktfind may have printed a prefix of
+their text, ktedit has neither printed nor saved, and ktutil has handled its lines up to some line. Help
 is printed, or a prefix of it.
 """
 
@@ -12,17 +12,17 @@ from runs.harness import Case, Report, differences, message
 from runs.preload import Counted, Line, Preloaded, preloaded
 from runs.random_runs import Rounds
 
-# How many requests of a run are refused: over small files all that there are, and over larger ones
+# How many allocations of a run are refused: over small files all of them, and over larger ones
 # some.
 FEW = 5_000
 SOME = 45
 
-# The settings that refuse one request, and those that refuse all from it on.
+# The settings that refuse one allocation, and those that refuse all from it on.
 WAYS = {"once": {}, "from it on": {"REFUSE_LASTS": 1}}
 
 
 def spread(requests: int, most: int) -> list[int]:
-    """Numbers of requests: all, or the first, the last and some between."""
+    """Returns numbers of allocations: all, or the first, the last and some between."""
     if requests <= most:
         return [*range(1, requests + 1)]
     third = most // 3
@@ -32,7 +32,7 @@ def spread(requests: int, most: int) -> list[int]:
 
 
 def faults_of(run: Modelled, nth: int, got: Counted) -> list[str]:
-    """What is wrong with a run that was refused its nth request."""
+    """Returns the faults of a run whose nth allocation was refused."""
     if got.failures == 0:
         return [f"at {nth} nothing is refused"]
     # A program that is refused memory once may do without it.
@@ -45,7 +45,7 @@ def faults_of(run: Modelled, nth: int, got: Counted) -> list[str]:
 
 
 def check_run(report: Report, under: Preloaded, run: Modelled, numbers) -> None:
-    """Refuses the requests whose numbers are chosen from how many there are, in both ways."""
+    """Refuses the allocations whose numbers are chosen from how many there are, in both ways."""
     over = under.over(run.case.files)
     line = Line(run.case.words, run.case.stdin)
     whole = over.run(line, CLOCK=NOW)
@@ -64,7 +64,7 @@ def check_run(report: Report, under: Preloaded, run: Modelled, numbers) -> None:
 
 
 def command_lines(under: Preloaded) -> list[Modelled]:
-    """Runs that ask for help, or that are not read. Help is what it is where nothing is refused."""
+    """Returns runs that print help, or that are refused. Help is the same as without refused allocations."""
     asked = (("--help",), ("klist", "--help"))
     wanted = [(words, under.run(Line(words)).outcome) for words in asked]
     unread = message(2, "bad command line")
@@ -74,7 +74,7 @@ def command_lines(under: Preloaded) -> list[Modelled]:
 
 
 def check(report: Report, program: str) -> None:
-    """Runs all of this topic."""
+    """Runs this topic."""
     with preloaded(report, program, "memory that is refused", {}) as under:
         if under is None:
             return
@@ -87,7 +87,7 @@ def check(report: Report, program: str) -> None:
 
 
 def check_rounds(report: Report, program: str, seeds: range) -> None:
-    """Refuses requests over larger files, as many of each run as there are numbers, which the first chooses."""
+    """Refuses allocations over larger files, as many per run as there are seeds, chosen by the first seed."""
     random = Random(seeds.start)
     with preloaded(report, program, "memory that is refused", {}) as under:
         for run in large() if under else ():

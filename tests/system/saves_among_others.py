@@ -17,7 +17,7 @@ from system.saving import NEW, OLD, SAVED, SCRIPT, UNSAVED, Place, tree, tree_fa
 # A user who is not root.
 USER = 1234
 
-# The calls behind which a run stands still, by a word for them.
+# The calls after which a run is halted, each under a name.
 HALTS = {
     "look": Halt("?statx,?newfstatat,?lstat,?lstat64", paths=("file",)),
     "making": Halt("openat", paths=("k.krbfile",)),
@@ -29,12 +29,12 @@ HALTS = {
 
 
 def edited_while(program: str, folder: str, call: str, change: Place) -> Outcome:
-    """A run that adds an entry, and stands still behind a system call while a change is made."""
+    """Makes a run that adds an entry, and halts it after a system call while a change is made."""
     return halted(program, Line(("ktedit", "k"), SCRIPT), folder, HALTS[call], change)
 
 
 def named(name: str, make: Callable[[str], None]) -> Place:
-    """Makes something beside, which then takes that name."""
+    """Returns a change that makes a file under another name and renames it to that name."""
 
     def change(folder: str) -> None:
         make(os.path.join(folder, "spare"))
@@ -44,11 +44,11 @@ def named(name: str, make: Callable[[str], None]) -> Place:
 
 
 def at_name(do: Callable[[str], None]) -> Place:
-    """Does something to what has the name."""
+    """Returns a change of the file `k`."""
     return lambda folder: do(os.path.join(folder, "k"))
 
 
-# What takes the place of the file after it was opened to be loaded, and whether there was one.
+# What replaces the file after it was opened to be loaded, and whether there was one.
 REPLACED: list[tuple[str, bool, Place]] = [
     ("another file of the same bytes", True, named("k", lambda path: write(path, OLD))),
     ("a link to another file", True, named("k", lambda path: os.symlink("other", path))),
@@ -61,7 +61,7 @@ REPLACED: list[tuple[str, bool, Place]] = [
     ("a link as new file", True, named("k.krbfile", lambda path: os.symlink("other", path))),
 ]
 
-# What is changed of the file after it was loaded. The last may be changed by root alone.
+# What changes in the file after it was loaded. Only root may make the last ones.
 CHANGED: list[tuple[str, bool, Place]] = [
     ("another mode", True, at_name(lambda path: os.chmod(path, 0o640))),
     ("no bytes", True, at_name(lambda path: write(path, b""))),
@@ -73,7 +73,7 @@ CHANGED: list[tuple[str, bool, Place]] = [
 
 
 def known(folder: str) -> dict[str, object]:
-    """What stands in a folder, with owners and modes; a new file of ours is not counted."""
+    """Returns the contents of a folder, with owners and modes, except a new file of ours."""
     found: dict[str, object] = {}
     for name, data in tree(folder).items():
         if not (name == "k.krbfile" and data in (b"", NEW)):
@@ -83,7 +83,7 @@ def known(folder: str) -> dict[str, object]:
 
 
 def check_change(report: Report, program: str, call: str, of: tuple[str, bool, Place]) -> None:
-    """A change behind that call of a run: the file stays as it is, and what took its name too."""
+    """Makes a change after that call of a run: the file stays as it is, and so does what took its name."""
     what, is_there, change = of
     with folder_of({"old": OLD, "other": b"other"}) as folder:
         if is_there:
@@ -101,7 +101,7 @@ def check_change(report: Report, program: str, call: str, of: tuple[str, bool, P
 
 
 def check_changes(report: Report, program: str) -> None:
-    """A file that is not as it was loaded is not saved."""
+    """Checks that a file that changed since it was loaded is not saved."""
     for call in ("opening", "writing", "syncing"):
         for of in REPLACED:
             check_change(report, program, call, of)
@@ -111,7 +111,7 @@ def check_changes(report: Report, program: str) -> None:
 
 
 def check_led_elsewhere(report: Report, program: str) -> None:
-    """A link that gives way: the file that was loaded is saved, and no other gets its keys."""
+    """Checks a link that changes: the file that was loaded is saved, and no other gets its keys."""
     places = {"another link": lambda path: os.symlink("other", path),
               "a file": lambda path: write(path, OLD, 0o644)}
     for call in ("opening", "writing", "syncing"):
@@ -125,7 +125,7 @@ def check_led_elsewhere(report: Report, program: str) -> None:
 
 
 def check_led(report: Report, program: str) -> None:
-    """A file that others save, make or remove while a link to it is followed is saved."""
+    """Checks that a file that others save, make or remove while a link to it is followed is saved."""
     changes = [
         ("another file", {"file": OLD}, named("file", lambda path: write(path, OLD))),
         ("a file where none was", {}, named("file", lambda path: write(path, OLD))),
@@ -140,7 +140,7 @@ def check_led(report: Report, program: str) -> None:
 
 
 def check_crossed(report: Report, program: str) -> None:
-    """A run that is overtaken while it makes its new file, or looks at one that was left."""
+    """Checks a run that is overtaken while it makes its new file, or looks at a stale one."""
     wanted, image = edited(keytab(B), SCRIPT)
     for call, files in (("making", {}), ("making", {"k.krbfile": b"left"}),
                         ("finding", {"k.krbfile": b"left"})):
@@ -156,7 +156,7 @@ def check_crossed(report: Report, program: str) -> None:
 
 
 def check_crossed_hold(report: Report, program: str) -> None:
-    """A run that finds a new file which was left, and in its place by then one that is held."""
+    """Checks a run that finds a stale new file, in whose place there is then one that is held."""
     with folder_of({"k": OLD, "k.krbfile": b"left"}) as folder:
         held = []
 
@@ -180,6 +180,6 @@ def check_crossed_hold(report: Report, program: str) -> None:
 
 
 def check(report: Report, program: str) -> None:
-    """Runs all of this topic."""
+    """Runs this topic."""
     check_traced(report, program, "files that are changed meanwhile", check_changes,
                  check_led_elsewhere, check_led, check_crossed, check_crossed_hold)

@@ -26,7 +26,7 @@ GROUP = 54_321
 
 Place = Callable[[str], None]
 
-# Runs that change a file, those that take no hold, and those that take one and then have nothing to save. None hangs
+# Runs that change a file, those that take no hold, and those that take one and then have nothing to save. None depends
 # on the clock.
 ADD = ktedit(OLD, SCRIPT, name="adds")
 TGT, NONE = Asked(b"krbtgt/R@R"), Asked(b"b@R")
@@ -40,29 +40,29 @@ SAVING_NOTHING = (ccedit(USUAL, b"cut 3\n", name="is refused"), ccremove(USUAL, 
 
 
 def run_over(program: str, case: Case, folder: str, name: str = "", **options: object) -> Outcome:
-    """A run of a case over the file of that name, by itself the case's."""
+    """Makes a run of a case over the file of that name, by default the case's."""
     return run(program, (*case.words[:-1], name or case.words[-1]), folder, case.stdin, **options)
 
 
 def unsaved(case: Case, name: str = "") -> Outcome:
-    """What is said where that file is not saved."""
+    """Returns the outcome if that file is not saved."""
     return message(3, f"{name or case.words[-1]}: cannot write")
 
 
 def edit(
     program: str, folder: str, name: str = "k", script: bytes = SCRIPT, **options: object
 ) -> Outcome:
-    """One run of a script, by itself one that adds an entry, over the file of that name."""
+    """Makes a run of a script, by default one that adds an entry, over the file of that name."""
     return run(program, ("ktedit", name), folder, script, **options)
 
 
 def as_user(groups: tuple[int, ...] = ()) -> dict[str, object]:
-    """The options of a run by a user who is not root, in these groups beside the user's own."""
+    """Returns the options of a run by a user who is not root, in these groups and the user's own."""
     return {"user": USER, "group": USER, "extra_groups": list(groups)}
 
 
 def as_another(program: str) -> dict[str, object] | None:
-    """The options of a run by who is not root; None where that user may not start the program."""
+    """Returns the options of a run by a user who is not root, or None if that user may not start the program."""
     if os.geteuid() != 0:
         return {}
     try:
@@ -73,14 +73,14 @@ def as_another(program: str) -> dict[str, object] | None:
 
 
 def write(path: str, data: bytes, mode: int = 0o600) -> None:
-    """Makes a file of that mode."""
+    """Writes a file of that mode."""
     with open(path, "wb") as file:
         file.write(data)
     os.chmod(path, mode)
 
 
 def tree(folder: str) -> dict[str, object]:
-    """What is below a folder, by path: bytes of files, texts of links, and the kind of all else."""
+    """Returns the contents of a folder, by path: bytes of files, texts of links, and the kind of all else."""
     found: dict[str, object] = {}
     for at, folders, files in os.walk(folder):
         for name in (*folders, *files):
@@ -98,7 +98,7 @@ def tree(folder: str) -> dict[str, object]:
 
 
 def tree_faults(wanted: dict[str, object], folder: str) -> list[str]:
-    """What below a folder is not as wanted."""
+    """Returns what differs in a folder from the expected contents."""
     got = tree(folder)
     names = sorted(set(wanted) | set(got))
     return [f"{name} is {got.get(name)!r}" for name in names if got.get(name) != wanted.get(name)]
@@ -114,6 +114,6 @@ class Owned:
 
 
 def owned(path: str) -> Owned:
-    """Those of a file."""
+    """Returns the mode, owner and group of a file."""
     found = os.stat(path)
     return Owned(stat.S_IMODE(found.st_mode), found.st_uid, found.st_gid)

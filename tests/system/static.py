@@ -1,4 +1,4 @@
-"""The program that `make static` builds: it runs where there is no C library, nor anything else."""
+"""The program that `make static` builds: it runs in a root without a C library or anything else."""
 
 import os
 import shutil
@@ -16,7 +16,7 @@ INTERPRETER = 3
 
 
 def header_kinds(program: str) -> list[int]:
-    """The kinds of the program headers of a 64-bit ELF file."""
+    """Returns the kinds of the program headers of a 64-bit ELF file."""
     with open(program, "rb") as file:
         start = file.read(64)
         (table,) = struct.unpack_from("<Q", start, 32)
@@ -27,7 +27,7 @@ def header_kinds(program: str) -> list[int]:
 
 
 def run_alone(words: tuple[str, ...]) -> Outcome:
-    """A run in a root that has the program and a keytab `k` alone."""
+    """Makes a run in a root that contains only the program and a keytab `k`."""
     with folder_of({"k": TWO}) as root:
         shutil.copy(PROGRAM, os.path.join(root, "krbfile"))
         done = subprocess.run(["unshare", "--map-root-user", "chroot", root, "/krbfile", *words],
@@ -44,7 +44,7 @@ def may_change_root() -> bool:
 
 
 def check(report: Report, program: str) -> None:
-    """Runs all of this topic, over the static program alone."""
+    """Runs this topic, over the static program only."""
     if not os.access(PROGRAM, os.X_OK):
         report.skip("the static program", "there is none: make static builds it")
         return

@@ -1,6 +1,6 @@
-"""Runs that are stopped and continued, as by a shell: they go on as if nothing had been.
+"""Runs that are stopped and continued, as by a shell: they go on as if nothing had happened.
 
-And runs that stand still since nobody reads what they print: they keep no other from the file.
+And runs that are blocked because nobody reads their output: they keep no other run from the file.
 """
 
 import os
@@ -19,7 +19,7 @@ from runs.rows import text
 from system.saving import NEW, OLD, SAVED, SCRIPT, edit, tree_faults, write
 from system.outputs import LONG, piped
 
-# How long a run has to come to where it waits.
+# How long a run has to reach the point where it waits.
 MOMENT = 0.05
 
 
@@ -32,7 +32,7 @@ def stop(pid: int) -> None:
 
 
 def check_talk(report: Report, program: str, name: str, opened) -> None:
-    """ktutil, while it waits for a line."""
+    """Stops ktutil while it waits for a line."""
     with folder_of({"k": TWO}) as folder:
         talk = Talk(program, folder, *opened())
         lines = ((b"l\n", NO_SLOTS), (b"rkt k\nl\n", LISTED), (b"clear\nl\n", NO_SLOTS))
@@ -47,7 +47,7 @@ def check_talk(report: Report, program: str, name: str, opened) -> None:
 
 
 def check_full_pipe(report: Report, program: str) -> None:
-    """klist, while it waits for a reader of its output."""
+    """Stops klist while it waits for a reader of its output."""
     with folder_of(LONG.files) as folder, piped(program, LONG, folder) as started:
         stop(started.pid)
         out, err = started.communicate(timeout=SECONDS)
@@ -57,7 +57,7 @@ def check_full_pipe(report: Report, program: str) -> None:
 
 @contextmanager
 def full_pipe() -> Iterator[int]:
-    """The end of a pipe that is full, and that nobody reads."""
+    """Yields the end of a pipe that is full, and that nobody reads."""
     taken, given = os.pipe()
     os.set_blocking(given, False)
     with open(taken, "rb"), open(given, "wb", buffering=0) as end:
@@ -75,7 +75,7 @@ def waits_for(process: subprocess.Popen[bytes], stream: int) -> bool:
 
 
 def check_unread(report: Report, program: str) -> None:
-    """While nobody reads what a run prints, another run changes the file."""
+    """Checks that while nobody reads a run's output, another run can change the file."""
     cases = [(1, "ktedit k", SCRIPT, OLD), (1, "ktedit k", b"cut 3\n", OLD),
              (2, "ktedit k", SCRIPT, b"other"), (2, "ktutil", b"rkt j\nwkt k\n", b"other"),
              (2, "ktutil", b"rkt j\nwkt k\n", TWO[:-1])]
@@ -98,7 +98,7 @@ def check_unread(report: Report, program: str) -> None:
 
 
 def check_idle(report: Report, program: str) -> None:
-    """While ktutil waits for its next line, another run changes the file that it wrote."""
+    """Checks that while ktutil waits for its next line, another run can change the file that it wrote."""
     wanted, image = edited(keytab(B), SCRIPT)
     with folder_of({"j": keytab(B), "k": OLD, "x": b"other"}) as folder:
         talk = Talk(program, folder, *os.pipe())
@@ -115,7 +115,7 @@ def check_idle(report: Report, program: str) -> None:
 
 
 def check(report: Report, program: str) -> None:
-    """Runs all of this topic."""
+    """Runs this topic."""
     check_talk(report, program, "a pipe", os.pipe)
     check_talk(report, program, "a terminal", terminal)
     check_full_pipe(report, program)

@@ -16,12 +16,12 @@ KEY = "000102030405060708090a0b0c0d0e0f"
 
 
 def removes(command: str) -> bool:
-    """Whether a command removes what is there at first. Others add theirs."""
+    """Whether a command removes what is there at first. Others add."""
     return command.endswith("remove")
 
 
 def change(command: str, name: str, path: str = "k") -> tuple[tuple[str, ...], str]:
-    """The words of a run that adds or removes what has that name, and its input."""
+    """Returns the words and the input of a run that adds or removes a name."""
     if removes(command):
         return (command, "-p", f"{name}@R", path), ""
     if command == "ccedit":
@@ -32,7 +32,7 @@ def change(command: str, name: str, path: str = "k") -> tuple[tuple[str, ...], s
 
 
 def names_of_keytab(image: bytes) -> list[str] | None:
-    """The first components of the names in a keytab; none where it is not whole."""
+    """Returns the first components of the names in a keytab, or None if it is not whole."""
     if no_keytab(image):
         return None
     those, fault = read_image(image, False)
@@ -40,7 +40,7 @@ def names_of_keytab(image: bytes) -> list[str] | None:
 
 
 def names_of_cache(image: bytes) -> list[str] | None:
-    """The first components of a cache's servers, or the keys of its values; none where it is not whole."""
+    """Returns the first components of a cache's servers, or the keys of its values, or None if it is not whole."""
     if isinstance(read_cache(image), int):
         return None
     made = Cache(image)
@@ -49,7 +49,7 @@ def names_of_cache(image: bytes) -> list[str] | None:
 
 @dataclass(frozen=True)
 class Kind:
-    """A kind of storm: the commands of ours in turn, and what else it is than one over a file."""
+    """A kind of storm: the commands of ours in turn, and how it differs from one over a plain file."""
 
     commands: tuple[str, ...]
     over_none: bool = False
@@ -63,11 +63,11 @@ class Kind:
         return self.commands[0].startswith("cc")
 
     def command(self, number: int) -> str:
-        """The command of the run of that number."""
+        """Returns the command of the run of that number."""
         return self.commands[number % len(self.commands)]
 
     def image(self) -> bytes:
-        """The file at first, where there is one."""
+        """Returns the initial file, or None if there is none."""
         has_removals = any(map(removes, self.commands))
         names = [f"h{number}" for number in range(MANY)] + ["last"] if has_removals else []
         components = [(name.encode(),) for name in names]
@@ -77,11 +77,11 @@ class Kind:
         return keytab(*map(Entry, components)) if names else keytab()
 
     def names(self, image: bytes) -> list[str] | None:
-        """The names that the file has; none where it is not whole."""
+        """Returns the names that the file has, or None if it is not whole."""
         return names_of_cache(image) if self.is_of_caches else names_of_keytab(image)
 
     def is_no_file(self, image: bytes) -> bool:
-        """Whether an image is no keytab, or no cache, at all."""
+        """Whether an image is not a keytab, or not a cache, at all."""
         if self.is_of_caches:
             return isinstance(read_cache(image), int)
         return no_keytab(image) is not None

@@ -1,4 +1,4 @@
-"""Runs that change nothing take no hold: they make no file beside theirs, not even one that they take away again.
+"""Runs that change nothing take no hold: they create no file next to theirs, not even a temporary one.
 
 Those that take one and then have nothing to save leave none.
 """
@@ -25,7 +25,7 @@ CASES = (
 
 
 def check(report: Report, program: str) -> None:
-    """Runs all of this topic."""
+    """Runs this topic."""
     for case in (*CASES, *SAVING_NOTHING):
         with folder_of(case.files) as folder:
             os.utime(folder, (1, 1))

@@ -1,4 +1,4 @@
-"""A run waits for who has locked the file or made its new file, and gives up after some ten seconds."""
+"""A run waits for whoever has locked the file or made its new file, and gives up after some ten seconds."""
 
 import fcntl
 import os
@@ -19,14 +19,14 @@ from system.saving import (
     unsaved, write,
 )
 
-# More locks than the system lists at a time, and so many that it lists them slowly.
+# More locks than fit in one read of the system's list, and enough of them to make the list slow.
 MANY = 300
 MOST = 10_000
 
-# A run that gives up ends between these many seconds, however busy the machine is.
+# A run that gives up takes this many seconds, however busy the machine is.
 LEAST_WAIT, LONGEST_WAIT = 9, 20
 
-# What needs no hold ends within so many seconds.
+# What needs no hold ends within this many seconds.
 AT_ONCE = 3
 
 # Runs that wait at the same time, and for how many seconds.
@@ -48,12 +48,12 @@ with open(sys.argv[1], "wb") as file:
 
 
 def ofd_lock(file, kind: int) -> None:
-    """Locks a file by its open description, as MIT's programs do."""
+    """Locks a file by an open file description lock, as MIT's programs do."""
     fcntl.fcntl(file, fcntl.F_OFD_SETLK, struct.pack("hhqqixxxx", kind, os.SEEK_SET, 0, 0, 0))
 
 
 def faults_of_waiting(program: str, folder: str, end: Callable[[], None], case: Case = ADD) -> list[str]:
-    """What is wrong with a run that has to wait until something ends, which it does in a moment."""
+    """Returns the faults of a run that has to wait until `end`, which is called after a moment."""
     has_ended = threading.Event()
 
     def end_it() -> None:
@@ -69,7 +69,7 @@ def faults_of_waiting(program: str, folder: str, end: Callable[[], None], case: 
 
 
 def check_locks(report: Report, program: str) -> None:
-    """A run waits for another's new file, and for who has locked the file to write in it."""
+    """Checks that a run waits for another's new file, and for whoever has locked the file to write to it."""
     locks = [
         (".krbfile", "another run's lock", lambda file: fcntl.flock(file, fcntl.LOCK_EX)),
         ("", "a lock of a program", lambda file: fcntl.lockf(file, fcntl.LOCK_EX)),
@@ -91,7 +91,7 @@ def check_locks(report: Report, program: str) -> None:
 
 
 def check_many_locks(report: Report, program: str) -> None:
-    """A run finds a lock in a list of locks that is too long for one read."""
+    """Checks that a run finds a lock in a list of locks that is too long for one read."""
     with folder_of({"k": OLD}) as folder, ExitStack() as stack:
         for number in range(MANY):
             if number == MANY // 2:
@@ -103,7 +103,7 @@ def check_many_locks(report: Report, program: str) -> None:
 
 
 def check_waiting_locks(report: Report, program: str) -> None:
-    """A run waits also for a program that itself waits to lock the file, until that gives up."""
+    """Checks that a run also waits for a program that is waiting to lock the file, until that gives up."""
     words = (sys.executable, "-c", WAITER, "k")
     with folder_of({"k": OLD}) as folder:
         path = os.path.join(folder, "k")
@@ -123,7 +123,7 @@ def is_waited_for(path: str) -> bool:
 
 
 def faults_of_giving_up(program: str, folder: str) -> list[str]:
-    """What is wrong with a run that waits for what does not end."""
+    """Returns the faults of a run that waits for a lock that stays."""
     wanted = tree(folder)
     started = time.monotonic()
     faults = differences(UNSAVED, edit(program, folder)) + tree_faults(wanted, folder)
@@ -134,7 +134,7 @@ def faults_of_giving_up(program: str, folder: str) -> list[str]:
 
 
 def faults_while_held(program: str, case: Case) -> list[str]:
-    """What is wrong with a run while another holds the cache."""
+    """Returns the faults of a run while another holds the cache."""
     files = {**case.files, "c.krbfile": b"other"}
     with folder_of(files) as folder, open(os.path.join(folder, "c.krbfile"), "rb") as file:
         fcntl.flock(file, fcntl.LOCK_EX)
@@ -147,7 +147,7 @@ def faults_while_held(program: str, case: Case) -> list[str]:
 
 
 def check_held(report: Report, program: str) -> None:
-    """While another run holds the cache: what needs no hold does not wait, and no save is made."""
+    """Checks that while another run holds the cache, what needs no hold does not wait, and nothing is saved."""
     cases = (*HOLDING_NOTHING, *SAVING_NOTHING, CHANGES[2])
     with ThreadPoolExecutor(len(cases)) as pool:
         for case, faults in zip(cases, pool.map(faults_while_held, [program] * len(cases), cases)):
@@ -155,7 +155,7 @@ def check_held(report: Report, program: str) -> None:
 
 
 def check_lasting_locks(report: Report, program: str) -> None:
-    """Locks that stay: each save is refused after some ten seconds, however many locks others have."""
+    """Checks that each save is refused after some ten seconds of a lock that stays, however many locks others have."""
     for others in (0, MOST):
         with ExitStack() as stack:
             ours = stack.enter_context(tempfile.TemporaryFile())
@@ -175,7 +175,7 @@ def check_lasting_locks(report: Report, program: str) -> None:
 
 @contextmanager
 def on_last_processor() -> Iterator[None]:
-    """What is done meanwhile is done on the last processor."""
+    """Runs the body on the last processor."""
     those = os.sched_getaffinity(0)
     os.sched_setaffinity(0, {max(those)})
     yield
@@ -184,7 +184,7 @@ def on_last_processor() -> Iterator[None]:
 
 @contextmanager
 def changing_locks() -> Iterator[None]:
-    """Two programs whose locks come and go."""
+    """Runs two programs whose locks come and go."""
     with tempfile.TemporaryDirectory() as folder, ExitStack() as stack:
         for name in ("one", "other"):
             words = (sys.executable, "-c", CHANGER, os.path.join(folder, name))
@@ -195,7 +195,7 @@ def changing_locks() -> Iterator[None]:
 
 
 def check_changing_locks(report: Report, program: str) -> None:
-    """A lock that is held all the time is waited for by each run, while other locks come and go."""
+    """Checks that each run waits for a lock that is held all the time, while other locks come and go."""
     with ExitStack() as stack, ThreadPoolExecutor(RUNS) as pool:
         folders = [stack.enter_context(folder_of({"k": OLD})) for _ in range(RUNS)]
         held = [stack.enter_context(open(os.path.join(folder, "k"), "r+b")) for folder in folders]
@@ -215,7 +215,7 @@ def check_changing_locks(report: Report, program: str) -> None:
 
 
 def check_other_disk(report: Report, program: str) -> None:
-    """A lock is waited for on the file's own disk alone, not on a file of the same number elsewhere."""
+    """Checks that a lock counts only on the file's own disk, not on a file of the same number elsewhere."""
     with folder_of({}) as here, folder_of({}) as there, ExitStack() as stack:
         are_mounted = [stack.enter_context(mounted(folder, "-t", "tmpfs", "krbfile"))
                        for folder in (here, there)]
@@ -237,7 +237,7 @@ def check_other_disk(report: Report, program: str) -> None:
 
 
 def check(report: Report, program: str) -> None:
-    """Runs all of this topic."""
+    """Runs this topic."""
     if os.path.exists("/proc/locks"):
         check_locks(report, program)
         check_many_locks(report, program)

@@ -21,16 +21,16 @@ REFUSED: list[str | Line] = [
     ("",), ("klist", "-k", "k", ""), ("ktfind", "k", "0", "0", "b@R", ""),
     ("klist", "-k", b"\xff"), ("klist", "-k", "k", b"\xff"), (b"\xff", "-k", "k"), ("klist", b"-k\xff", "k"),
     ("ktfind", b"\xff", "0", "0", "b@R"), ("ktfind", "k", "0", "0", b"b\xff@R"), ("ktedit", b"\xff"),
-    # Words that are no version: not one to ten digits, or over 32 bits.
+    # Words that are not a version: not one to ten digits, or over 32 bits.
     *(("ktfind", "k", word, "0", "b@R") for word in (
         "", "x", "-1", "+1", " 1", "1 ", "3.0", "0x3", "1e3", "1_0", "\u0663", "00000000003", "4294967296",
         "9999999999", "99999999999")),
-    # Words that are no enctype: no name of the table, in its letters, nor one to ten digits that fit 16 bits.
+    # Words that are not an enctype: neither a name of the table, in its case, nor one to ten digits that fit 16 bits.
     *(("ktfind", "k", "0", word, "b@R") for word in (
         "", "x", "any", "-1", "+17", " 17", "0x11", "65536", "4294967313", "00000000017", "AES128-CTS-HMAC-SHA1-96",
         "aes128-cts-hmac-sha1-9", "aes128-cts-hmac-sha1-96 ", "aes128-cts", "rc4-hmac", "etype 17", "etype 1",
         "17,18")),
-    # Texts that are no name with a realm.
+    # Texts that are not a name with a realm.
     *(("ktfind", "k", "0", "0", word) for word in (
         "", "b", "host/a", "b\\@R", "\\", "b@R\\", "b\\", "b@R@S", "b@R@", "@@", "b@R/x", "b@/")),
 ]
@@ -80,12 +80,12 @@ HELP = [
 
 
 def case(line: str | Line, wanted: Outcome) -> Case:
-    """A line beside a file `k`, with an input that is a script."""
+    """Returns a line beside a file `k`, with an input that is a script."""
     return Case(shown(line), words_of(line), wanted, {"k": TWO}, stdin=b"start")
 
 
 def talk(line: str | Line, wanted: Outcome) -> Case:
-    """A line of ktutil, with an input that has no command."""
+    """Returns a line of ktutil, with an input that has no command."""
     return Case(shown(line), words_of(line), wanted, stdin=b"frob")
 
 

@@ -1,4 +1,4 @@
-"""What the shells offer as a command line is typed: the commands and options that help tells of."""
+"""What the shells complete on a command line: the commands and options that help lists."""
 
 import os
 import re
@@ -17,18 +17,18 @@ ETYPES = {name.decode() for name in NAMES.values()}
 
 
 def read(path: str) -> str:
-    """A file's text."""
+    """Returns a file's text."""
     with open(path, encoding="ascii") as file:
         return file.read()
 
 
 def part(text: str, heading: str) -> str:
-    """The lines of help under a heading."""
+    """Returns the lines of help under a heading."""
     return text.partition(f"\n{heading}:\n")[2].partition("\n\n")[0]
 
 
 def told(program: str, command: str) -> tuple[set[str], set[str]]:
-    """The commands and the options that the help of a command tells of, or of no command."""
+    """Returns the commands and the options that the help of a command, or of none, lists."""
     with folder_of({}) as folder:
         text = run(program, [*command.split(), "--help"], folder).out.decode()
     commands = set(re.findall(r"^  (\w+)", part(text, "Commands"), re.MULTILINE))
@@ -37,7 +37,7 @@ def told(program: str, command: str) -> tuple[set[str], set[str]]:
 
 
 def by_bash(*words: str) -> set[str]:
-    """What bash offers for the last word of a line."""
+    """Returns the words that bash completes the last word of a line to."""
     script = 'source "$0"; COMP_WORDS=("$@"); COMP_CWORD=$(($# - 1)); _krbfile; ' \
              'printf "%s\\n" "${COMPREPLY[@]}"'
     done = subprocess.run(["bash", "-c", script, BASH, "krbfile", *words], capture_output=True,
@@ -46,7 +46,7 @@ def by_bash(*words: str) -> set[str]:
 
 
 def by_zsh(command: str) -> set[str]:
-    """The options that the text for zsh has for a command, or for none."""
+    """Returns the options that the text for zsh has for a command, or for none."""
     text = read(ZSH)
     case = rf"^ +{command}\)\n(?s:(.*?));;" if command else r"^_arguments -C ((?:.*\\\n)*.*)"
     own = re.search(case, text, re.MULTILINE).group(1)
@@ -56,7 +56,7 @@ def by_zsh(command: str) -> set[str]:
 
 
 def by_fish(command: str) -> set[str]:
-    """The options that the text for fish has for a command, or for none."""
+    """Returns the options that the text for fish has for a command, or for none."""
     found = set()
     for line in re.findall("^complete .*", read(FISH), re.MULTILINE):
         where = re.search(r"-n '?__fish_(?:use_subcommand|seen_subcommand_from ([^']*))", line)
@@ -67,7 +67,7 @@ def by_fish(command: str) -> set[str]:
 
 
 def compare(report: Report, name: str, wanted: set[str], got: set[str]) -> None:
-    """Reports what is offered and not there, or there and not offered."""
+    """Reports words that are completed and do not exist, and those that exist and are not completed."""
     report.check(f"completion: {name}", sorted(wanted ^ got))
 
 
@@ -93,7 +93,7 @@ def check_bash(report: Report, program: str) -> None:
 
 
 def check_texts(report: Report, program: str) -> None:
-    """Reads the texts for zsh and fish, which need not be there."""
+    """Reads the texts for zsh and fish, which need not be installed."""
     commands, options = told(program, "")
     compare(report, "options in zsh", options, by_zsh(""))
     compare(report, "options in fish", options, by_fish(""))
@@ -111,7 +111,7 @@ def check_texts(report: Report, program: str) -> None:
 
 
 def check_spelling(report: Report) -> None:
-    """Lets each shell that is there read its file."""
+    """Has each installed shell read its file."""
     for shell, path in (("bash", BASH), ("zsh", ZSH), ("fish", FISH)):
         if shutil.which(shell) is None:
             report.skip(f"what {shell} says of its completions", f"{shell} is not there")
@@ -121,7 +121,7 @@ def check_spelling(report: Report) -> None:
 
 
 def check(report: Report, program: str) -> None:
-    """Runs all of this topic."""
+    """Runs this topic."""
     check_bash(report, program)
     check_texts(report, program)
     check_spelling(report)

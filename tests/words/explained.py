@@ -1,4 +1,4 @@
-"""Each message in words: a pipe has the message alone, a terminal and `--explain` also what it says."""
+"""Each message with its explanation: a pipe gets the message alone, a terminal and `--explain` also the explanation."""
 
 import os
 import socket
@@ -23,7 +23,7 @@ CUT = TWO + b"\0\0\0"
 
 @dataclass(frozen=True)
 class Told:
-    """A run, the messages on its error output, and beside each the words that follow it, if any do."""
+    """A run, and the messages on its error output, each with its explanation or an empty text."""
 
     name: str
     words: Line
@@ -31,18 +31,18 @@ class Told:
     files: dict[str, bytes]
     stdin: bytes = b""
     status: int = 1
-    # The output, where it is known.
+    # The output, if it is known.
     out: bytes | None = None
-    # What is done to the folder before.
+    # A change to the folder before the run.
     setting: Callable[[str], None] = lambda folder: None
 
     def wanted(self, explained: bool, out: bytes) -> Outcome:
-        """The run with that output."""
+        """Returns the expected outcome with that output."""
         lines = [line for one in self.said for line in (one if explained else one[:1]) if line]
         return Outcome(self.status, out, "".join(f"krbfile: {line}\n" for line in lines).encode())
 
     def check(self, report: Report, program: str) -> None:
-        """Runs it on a pipe and with words: all but the words is the same."""
+        """Runs it on a pipe and with explanations: everything else is the same."""
         if report.leaves_out(len(self.stdin) + sum(map(len, self.files.values()))):
             return
         with folder_of(self.files) as folder:
@@ -55,41 +55,41 @@ class Told:
 
 
 def told(name: str, line: str | Line, image: bytes | None, *said: tuple[str, str], file: str = "k", **more) -> Told:
-    """A run over that file, or over none."""
+    """Returns a run over that file, or over none."""
     return Told(name, words_of(line), said, {} if image is None else {file: image}, **more)
 
 
 def found(name: str, words: str, image: bytes, mode: int, *fault: str, status: int = 1) -> Told:
-    """A check-up: the words that were printed are explained, each once, and then the fault."""
+    """Returns a run of ktcheck: each printed word is explained once, and then the fault."""
     return told(f"ktcheck: {name}", "ktcheck k", image, *(("", f"{word}: {MEANINGS[word]}") for word in words.split()),
                 *(("", line) for line in fault), status=status,
                 setting=lambda folder: os.chmod(os.path.join(folder, "k"), mode))
 
 
 def faulty(line: str, number: int, phrase: str) -> Told:
-    """A line of a script that is faulty."""
+    """Returns a run over a faulty line of a script."""
     return told(f"ktedit: {line!r}", "ktedit k", TWO, (f"line 2: fault {number}", phrase),
                 stdin=f"start\n{line}\n".encode())
 
 
 def faulty_talk(line: str, number: int, phrase: str) -> Told:
-    """A line of ktutil that is faulty: the words have its number."""
+    """Returns a run over a faulty line of ktutil: the explanation has its number."""
     return told(f"ktutil: {line!r}", "ktutil", TWO, (f"line 2: fault {number}", f"line 2: {phrase}"),
                 stdin=f"l\n{line}\n".encode(errors="surrogateescape"))
 
 
 def first_of_each(faults: dict[str, int]) -> dict[int, str]:
-    """A line of each fault."""
+    """Returns a line of each fault."""
     return {fault: line for line, fault in reversed(faults.items())}
 
 
 def unread(name: str, file: str, phrase: str, **more) -> Told:
-    """A file that is not read."""
+    """Returns a run over a file that is not read."""
     return told(f"unread: {name}", ("klist", "-k", file), TWO, (f"{file}: cannot read", phrase), status=3, **more)
 
 
 def unsaved(name: str, file: str, phrase: str, **more) -> Told:
-    """A file that is not saved."""
+    """Returns a run over a file that is not saved."""
     return told(f"unsaved: {name}", ("ktedit", file), None, (f"{file}: cannot write", phrase), stdin=ADD, status=3,
                 **more)
 
@@ -101,12 +101,12 @@ def socket_in(folder: str) -> None:
 
 
 def in_the_way(folder: str) -> None:
-    """Makes something that stands where the new file of `k` would."""
+    """Makes something in the place of the new file of `k`."""
     os.mkdir(os.path.join(folder, "k.krbfile"))
 
 
 def link(target: str | bytes) -> Callable[[str], None]:
-    """Makes a link `l` to that."""
+    """Returns a function that makes a link `l` to a target."""
     return lambda folder: os.symlink(target, os.path.join(os.fsencode(folder), b"l"))
 
 
@@ -123,7 +123,7 @@ MEANINGS = {
     "old": "a newer version of this name stands there",
     "mode": "users other than the owner may read or change this file",
 }
-# The words for each fault of a line: of a script, and of ktutil.
+# The explanation of each fault of a line: of a script, and of ktutil.
 PHRASES = {
     1: "unknown first word",
     2: "words are missing or left over",
@@ -141,7 +141,7 @@ WEAK = Entry((b"",), enctype=23)
 ALL_WORDS = keytab(WEAK, WEAK, Entry((b"",), enctype=23, key=bytes(16)), Entry((b"",), version8=4, version32=4))
 
 CASES = [
-    # Files that are no keytabs, for each command.
+    # Files that are not keytabs, for each command.
     told("klist -k of 05", "klist -k k", b"\x05", ("k: not a keytab (1)", "it has fewer than two bytes")),
     told("klist -k of 0503", "klist -k k", b"\x05\x03", LISTED_CACHE),
     told("klist -k of 0504", "klist -k k", b"\x05\x04", LISTED_CACHE),
@@ -152,7 +152,7 @@ CASES = [
     told("ktremove from a cache", "ktremove -k old k", b"\x05\x04", IS_CACHE),
     told("ktcheck of a cache", "ktcheck k", b"\x05\x04", IS_CACHE),
     told("rkt of a cache", "ktutil", b"\x05\x04", (IS_CACHE[0], f"line 1: {IS_CACHE[1]}"), stdin=b"rkt k\n"),
-    # Look-ups and lines of ktutil that are refused.
+    # Refused look-ups and lines of ktutil.
     told("ktfind of no entry", "ktfind k 0 0 c@R", TWO, ("k: refused 9", "no entry of this name and encryption type")),
     told("ktfind of no version", "ktfind k 4 0 b@R", TWO,
          ("k: refused 10", "this name and encryption type have no such version")),
@@ -167,14 +167,14 @@ CASES = [
     lambda: told("wkt to a full file", "ktutil",
                  keytab(record(HOST.spelled() + bytes(LIMIT - 6 - len(HOST.spelled())))),
                  ("line 3: refused 3", "line 3: the file would be longer than 16,777,216 bytes"), stdin=WRITE),
-    # Check-ups.
+    # Checks.
     found("nothing", "", keytab(HOST), 0o600, status=0),
     found("a group that may read", "mode", keytab(HOST), 0o640, status=0),
     found("a damaged file", "", keytab(HOST, b"\0\0\0"), 0o600, "k: fault 1 at 53", "the file ends within a length"),
     found("the same key", "same", keytab(HOST, HOST), 0o600),
     found("all words", "weak hidden same clash old mode", ALL_WORDS, 0o644),
     found("an old version", "old", keytab(HOST, Entry(version8=4, version32=4)), 0o600, status=0),
-    # Lines of scripts and of ktutil that are faulty.
+    # Faulty lines of scripts and of ktutil.
     *(faulty(line, number, PHRASES[number]) for number, line in first_of_each(FAULTS).items()),
     *(faulty_talk(line, number, TALK_PHRASES[number]) for number, line in first_of_each(TALK_FAULTS).items()),
     faulty_talk("rkt \udcff", 8, "the file's name is not UTF-8"),
@@ -202,13 +202,13 @@ CASES = [
     told("wkt to a name of saves", "ktutil", None,
          ("k.krbfile: cannot write", "line 1: a name that ends in .krbfile is kept for saves"),
          stdin=b"wkt k.krbfile\n", status=3),
-    # Damaged files: the fault stands in the listing, and where words are shown on the error output too.
+    # Damaged files: the fault is in the listing, and with explanations on the error output too.
     told("listed: fault 1", "klist -k k", CUT, ("", "k: fault 1 at 98"), ("", "the file ends within a length")),
     told("listed: fault 2", "klist -k k", TWO + b"\x7f\xff\xff\xff", ("", "k: fault 2 at 98"),
          ("", "a record or a hole is longer than the rest of the file")),
     told("listed: fault 3", "klist -k k", keytab(record(bytes(3))), ("", "k: fault 3 at 2"),
          ("", "a record holds no entry")),
-    # Replies of ktedit: each number that was told is explained once, refusals before faults.
+    # Replies of ktedit: each number that occurs is explained once, refusals before faults.
     told("replies: places", "ktedit k", TWO, ("", "refused 4: no record, hole or end stands at this place"),
          ("", "refused 5: no entry stands at this place"), ("", "refused 6: no such walk"),
          stdin=b"step 7\ncut 3\nresume 3\ncut 4\nstep 7\n"),
@@ -220,7 +220,7 @@ CASES = [
 
 
 def check(report: Report, program: str) -> None:
-    """An input and an output that fail."""
+    """Checks an input and an output that fail."""
     rows = [
         (("klist", "-k", "k"), "> /dev/full", "cannot write output", "no space left"),
         (("ktutil",), "< .", "cannot read input", "is a directory"),

@@ -1,4 +1,4 @@
-"""Each message about a cache in words, on a pipe, on a terminal and by `--explain`."""
+"""Each message about a cache with its explanation, on a pipe, on a terminal and by `--explain`."""
 
 from functools import partial
 
@@ -20,30 +20,30 @@ CUT = USUAL + b"\0"
 
 
 def no_cache(image: bytes, number: int, phrase: str) -> list[Told]:
-    """A file that is no cache, as each command tells it."""
+    """Returns runs of each command over a file that is not a cache."""
     return [told(f"{line} of {image.hex()}", f"{line} k", image, (f"k: not a cache ({number})", phrase), stdin=stdin)
             for line, stdin in (("klist", b""), *CHANGING)]
 
 
 def refused(name: str, line: str, image: bytes, number: int, phrase: str) -> Told:
-    """A removal that is refused."""
+    """Returns a refused removal."""
     return told(f"ccremove: {name}", f"ccremove {line} c", image, (f"c: refused {number}", phrase), file="c")
 
 
 def faulty(line: str, number: int, phrase: str) -> Told:
-    """A line of a script that is faulty."""
+    """Returns a run over a faulty line of a script."""
     return told(f"ccedit: {line!r}", "ccedit c", USUAL, (f"line 2: fault {number}", phrase), file="c",
                 stdin=f"start\n{line}\n".encode())
 
 
 def replies(name: str, image: bytes, script: bytes, *phrases: str) -> Told:
-    """Replies of ccedit: each number that was told is explained once, refusals before faults."""
+    """Returns a run of ccedit: each number in the replies is explained once, refusals before faults."""
     return told(f"replies of ccedit: {name}", "ccedit c", image, *(("", phrase) for phrase in phrases), file="c",
                 stdin=script)
 
 
 def files(line: str, stdin: bytes) -> list[Told]:
-    """Files that are not read or not saved."""
+    """Returns runs over files that are not read or not saved."""
     way = {"stdin": stdin, "status": 3}
     return [
         told(f"{line}: no file", f"{line} c", None, ("c: no such file", ""), stdin=stdin),
@@ -56,13 +56,13 @@ def files(line: str, stdin: bytes) -> list[Told]:
 
 
 def large(line: str, stdin: bytes) -> Told:
-    """A file that is too large."""
+    """Returns a run over a file that is too large."""
     return told(f"{line}: a large file", f"{line} c", bytes(LIMIT + 1), ("c: file too large", LARGE), file="c",
                 stdin=stdin)
 
 
 CASES = [
-    # Files that are no caches, and a damaged one, as a listing tells them.
+    # Files that are not caches, and a damaged one, as a listing reports them.
     *no_cache(b"", 1, "it has fewer than two bytes"),
     *no_cache(b"\x05\x01", 2, OLD),
     *no_cache(b"\x05\x02", 2, OLD),
@@ -70,13 +70,13 @@ CASES = [
     *no_cache(b"\x05\x04\x00", 4, "its header is damaged"),
     *no_cache(b"\x05\x03", 5, "it has no default principal"),
     told("listed: fault 4 at 392", "klist k", CUT, ("", "k: fault 4 at 392"), ("", FAULT)),
-    # Removals that are refused.
+    # Refused removals.
     refused("of nothing", "-p c@R", USUAL, 9, "no ticket has what was asked for"),
     refused("of nothing that has expired", "-p c@R --expired", USUAL, 9, "no ticket has what was asked for"),
     refused("from a damaged file", "--expired", CUT, 1, DAMAGED),
     refused("from version 3", "--expired", VERSION_3, 8, READ_ONLY),
     told("ccremove: nothing to do", "ccremove --expired c", cache(), file="c", status=0),
-    # Lines of scripts that are faulty.
+    # Faulty lines of scripts.
     *(faulty(line, number, PHRASES[number]) for number, line in first_of_each(FAULTS).items()),
     # Files that are not read or not saved.
     *(each for line, stdin in CHANGING for each in files(line, stdin)),

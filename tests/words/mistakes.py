@@ -1,4 +1,4 @@
-"""Bad command lines: a pipe is told that they are bad, a terminal and `--explain` also what is wrong."""
+"""Bad command lines: on a pipe only the message is printed, on a terminal and with `--explain` also what is wrong."""
 
 from makers.images import TWO
 from runs.harness import Case, Outcome, Report, differences, folder_of, run
@@ -9,7 +9,7 @@ from words.explained import Told
 
 MESSAGE = b"krbfile: bad command line\n"
 
-# What is wrong, and lines of which that is told. The help of the command of a line, if it has one, says more.
+# What is wrong, and lines with that mistake. If the line has a command, that command's help says more.
 MISTAKES: dict[str, list[str | Line]] = {
     "no command": [""],
     "unknown command frob": ["frob", "help frob"],
@@ -68,18 +68,18 @@ COMMANDS = ("klist", "ktfind", "ktedit", "ktremove", "ktcheck", "ktutil", "ccedi
 
 
 def mistake(line: str | Line, phrase: str) -> Told:
-    """A line, beside a file `k`, and what is wrong with it."""
+    """Returns a line, beside a file `k`, and what is wrong with it."""
     return Told(shown(line), words_of(line), (("bad command line", phrase),), {"k": TWO}, status=2, out=b"")
 
 
 def help_for(line: str | Line) -> str:
-    """The line that prints the help which says more."""
+    """Returns the command that prints the help which says more."""
     command = next(iter(words_of(line)), "")
     return f"krbfile {command} --help" if command in COMMANDS else "krbfile --help"
 
 
 def explained(line: str, phrase: str) -> Case:
-    """A line behind a first `--explain`."""
+    """Returns a line after a first `--explain`."""
     words = (EXPLAIN, *line.split())
     return Case(shown(words), words, Outcome(2, err=MESSAGE + f"krbfile: {phrase}\n".encode()), {"k": TWO})
 
@@ -94,7 +94,7 @@ CASES = [
 
 
 def check_others(report: Report, program: str) -> None:
-    """Every other line that is refused is told to be wrong in one more line."""
+    """Checks that each other refused line is explained in one more line."""
     with folder_of({"k": TWO}) as folder:
         for line in REFUSED:
             got = run(program, (EXPLAIN, *words_of(line)), folder)
@@ -106,7 +106,7 @@ def check_others(report: Report, program: str) -> None:
 
 
 def check_good_lines(report: Report, program: str) -> None:
-    """Where nothing goes wrong, words change nothing."""
+    """Checks that explanations change nothing if nothing goes wrong."""
     with folder_of({"k": TWO}) as folder:
         for words in (("klist", "-k", "k"), ("--version",), ("help", "klist"), ("klist", "--help"),
                       ("klist", "-k", "--", "k")):
@@ -122,6 +122,6 @@ def check_good_lines(report: Report, program: str) -> None:
 
 
 def check(report: Report, program: str) -> None:
-    """Lines that other topics have."""
+    """Runs the lines of other topics."""
     check_others(report, program)
     check_good_lines(report, program)

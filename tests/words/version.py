@@ -8,7 +8,7 @@ from runs.rows import BAD_LINE, printed
 
 TOOLCHAIN = "logic dac8208d650f15bf"
 
-# No version is asked for behind a command.
+# `--version` is not an option of a command.
 CASES = [
     *(Case(line, tuple(line.split()), printed(f"krbfile 1.0 (rattle {TOOLCHAIN})"))
       for line in ("--version", "-V", "--version klist", "-V klist -x")),
@@ -19,7 +19,7 @@ CASES = [
 
 
 def check(report: Report, _: str) -> None:
-    """Compares the name with what the toolchain says of itself, behind the name of its kit."""
+    """Compares the toolchain's name with what it prints of itself, after the name of its kit."""
     if shutil.which("rt") is None:
         report.skip("the toolchain of the version", "rt is not there")
         return

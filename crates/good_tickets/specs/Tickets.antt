@@ -6,7 +6,7 @@ use Rattle.krb_ccache.specs.Config.{is_config}
 use Rattle.krb_ccache.specs.Credential.{CredParts}
 use Rattle.krb_ccache.specs.Store.{PlacedCredential}
 
--- from when on a ticket is valid: without a start time from the authentication on
+-- when a ticket becomes valid: its authtime if it has no start time
 abbrev pub start_of : CredParts → ℕ
 start_of c = if c.times.starttime == 0 then c.times.authtime else c.times.starttime
 
@@ -14,6 +14,6 @@ start_of c = if c.times.starttime == 0 then c.times.authtime else c.times.startt
 abbrev pub is_good : ℕ → CredParts → Bool
 is_good now c = nat_le (start_of c) now && nat_lt now c.times.endtime && not (is_config c)
 
--- the services of those that are good, each on a line
+-- the services of the tickets that are good, each on a line
 abbrev pub good_tickets : ℕ → List PlacedCredential → List ℕ
 good_tickets now xs = flat_map (λ x. name_text x.1.server ++ codes "\n") (filter (λ x. is_good now x.1) xs)

@@ -1,4 +1,4 @@
--- Holes are few, and small together.
+-- Bounds on the number of holes and on their total size.
 use Rattle.std.proofs.Common.{◌≡◌, ℕ, ◌+◌, ◌≤◌, arith, List, [], ◌∷◌, length, map, sym, ap, ◌∙◌}
 use Rattle.std.specs.List.{fold, sum_by}
 use Rattle.krb_walk.specs.Store.{end_from}
@@ -6,7 +6,7 @@ use Rattle.krb_keytab.specs.Cells.{Cell, Live, Free, size}
 use Rattle.krb_keytab.specs.Store.{store_cell}
 use Rattle.krb_audit.specs.Report.{holes}
 
--- sizes that are added to a number
+-- a number plus the sizes of cells
 abbrev pub added : ℕ → List Cell → ℕ
 added n cells = fold (λ m c. m + size c) n cells
 
@@ -14,7 +14,7 @@ pub added_ge : (n : ℕ) (cells : List Cell) → n ≤ added n cells
 added_ge n [] = omega arith
 added_ge n (c ∷ cs) = let others = added_ge (n + size c) cs in omega (arith, others)
 
--- all holes lie between the first place and the end
+-- the holes fit between the first place and the end
 holes_within : (at n : ℕ) (cells : List Cell) → added n (holes cells) + at ≤ n + end_from at (map store_cell cells)
 holes_within at n [] = omega arith
 holes_within at n (Live b ∷ cs) = let others = holes_within (at + (4 + length b)) n cs in omega (arith, others)

@@ -1,4 +1,4 @@
--- What is found, when one entry more is listed.
+-- What is found when one more entry is checked.
 use Rattle.std.proofs.Common.{◌≡◌, ℕ, suc, ◌+◌, ◌≤◌, arith, Bool, cond, List, [], ◌∷◌, ◌++◌, length, length-append, map, Option, Some, None, refl, sym, ap, ◌∙◌, append_assoc}
 use Rattle.std.specs.Prelude.{◌&&◌, ◌||◌, not, find, option_map, slice_get}
 use Rattle.std.specs.List.{flat_map, filter_map, cons_option, list_any}
@@ -27,7 +27,7 @@ use Rattle.krb_audit.proofs.Numbers.{entry_here, numbered_at, numbered_before}
 
 -- ---- words
 
--- the words of two
+-- the words of either
 abbrev pub joined : Told → Told → Told
 joined t u = record {
   weak = t.weak || u.weak;
@@ -67,7 +67,7 @@ none_listed k rest b t start is known none = record {
   told = ap (λ u. joined u (told_of (marked_after k [] rest))) none ∙ ap (λ xs. told_of (marked_after k [] xs)) is;
 }
 
--- what the next entry has to give
+-- what the check of the next entry must return, and what must be known after it
 abbrev pub Gives : {A : Type 0} → KeytabState → PlacedEntry → Before A → Marks → Before A → Type 0
 Gives k x b m c = (before rest : List PlacedEntry) → IsBefore k before b → placed_entries k ≡ before ++ x ∷ rest → (m ≡ marks_of k before x) × IsBefore k (before ++ x ∷ []) c
 
@@ -87,22 +87,22 @@ one_listed k x rest b c m t u start text new h gives told lines =
 
 -- ---- the next entry
 
--- the entry whose number is how many stand before it
+-- an entry's number is the number of entries before it
 pub entry_at_count : (all before : List PlacedEntry) (x : PlacedEntry) (rest : List PlacedEntry) (n : ℕ) → all ≡ before ++ x ∷ rest → n ≡ length before → slice_get all n ≡ Some x
 entry_at_count all before x rest n is count = ap (slice_get all) count ∙ ap (λ xs. slice_get xs (length before)) is ∙ entry_here before x rest
 
--- a key is that of an entry
+-- the key is that of the entry
 abbrev pub IsKeyOf : Key → List PlacedEntry → PlacedEntry → Type 0
 IsKeyOf key all x = key ≡ key_of all x
 
--- its key
+-- the next entry's key
 pub key_here : (all : List PlacedEntry) (x : PlacedEntry) (n first version enctype : ℕ) (found : Option ℕ) → slice_get all n ≡ Some x → found ≡ (slice_get all n >>= λ y. first_number y.1.principal all) → first ≡ unwrap_or found 0
     → version ≡ x.1.version → enctype ≡ x.1.enctype → IsKeyOf (first, version, enctype) all x
 key_here all x n first version enctype found here is first_is version_is enctype_is =
     let number : first ≡ unwrap_or (first_number x.1.principal all) 0 = first_is ∙ ap (λ o. unwrap_or o 0) (is ∙ ap (λ o. o >>= λ y. first_number y.1.principal all) here) in
     λ i. (number i, version_is i, enctype_is i)
 
--- what a place and a secret are to an entry that has the key
+-- what an entry with this secret key reports of an earlier one, from its place and secret key
 abbrev pub alike_to : List ℕ → ℕ × List ℕ → Alike
 alike_to secret v = record { place = v.0; has_same_key = bytes_eq v.1 secret }
 
@@ -110,14 +110,14 @@ alike_mapped : (x : PlacedEntry) (o : Option PlacedEntry) → option_map (alike_
 alike_mapped x None = refl
 alike_mapped x (Some y) = refl
 
--- what the first entry of its key is to it
+-- what it reports of the first entry of its key
 pub alike_here : (all before : List PlacedEntry) (x : PlacedEntry) (rest : List PlacedEntry) (look : Key → Option (ℕ × List ℕ)) → all ≡ before ++ x ∷ rest → AreFirsts all before look
     → option_map (alike_to x.1.key) (look (key_of all x)) ≡ option_map (as_alike x) (find (is_alike x) before)
 alike_here all before x rest look is firsts =
     ap (option_map (alike_to x.1.key)) (firsts (key_of all x) ∙ ap (option_map (λ y. (y.0, y.1.key))) (first_of_alike all x before (numbered_at all before x rest is) (numbered_before all before (x ∷ rest) is)))
     ∙ alike_mapped x (find (is_alike x) before)
 
--- whether MIT's programs end before one of these entries or the next
+-- whether MIT's programs stop before one of these entries or the next
 pub ended_here : (before : List PlacedEntry) (x : PlacedEntry) (had : Bool) → had ≡ list_any (λ y. ends_mit y.1) before → (had || ends_mit x.1) ≡ list_any (λ y. ends_mit y.1) (before ++ x ∷ [])
 ended_here before x had is =
     ap (λ (b : Bool). b || ends_mit x.1) is ∙ ap (λ (b : Bool). list_any (λ y. ends_mit y.1) before || b) (sym (or-false (ends_mit x.1)))
@@ -134,20 +134,20 @@ marks_here k before x rest look key secret alike weak hidden old had is firsts k
     alike_is ∙ ap (λ (s : List ℕ). option_map (alike_to s) (look key)) secret_is ∙ ap (λ (l : Key). option_map (alike_to x.1.key) (look l)) key_is ∙ alike_here (placed_entries k) before x rest look is firsts in
     λ i. record { weak = weak_is i; hidden = hides i; alike = like i; old = old_is i }
 
--- what is kept, by the key and the secret of the entry
+-- what the map has afterwards, by the entry's key and secret key
 kept_here : (look new : Key → Option (ℕ × List ℕ)) (key other : Key) (place : ℕ) (secret this : List ℕ) → key ≡ other → secret ≡ this → ((k : Key) → new k ≡ cond (same_key key k) (Some (unwrap_or (look key) (place, secret))) (look k))
     → (k : Key) → new k ≡ cond (same_key other k) (Some (unwrap_or (look other) (place, this))) (look k)
 kept_here look new key other place secret this key_is secret_is puts k =
     puts k ∙ ap (λ (l : Key). cond (same_key l k) (Some (unwrap_or (look l) (place, secret))) (look k)) key_is
     ∙ ap (λ (s : List ℕ). cond (same_key other k) (Some (unwrap_or (look other) (place, s))) (look k)) secret_is
 
--- the firsts after it
+-- the first entries after it
 pub firsts_here : (all before : List PlacedEntry) (x : PlacedEntry) (look new : Key → Option (ℕ × List ℕ)) (key : Key) (secret : List ℕ) → AreFirsts all before look → IsKeyOf key all x → secret ≡ x.1.key
     → ((k : Key) → new k ≡ cond (same_key key k) (Some (unwrap_or (look key) (x.0, secret))) (look k)) → AreFirsts all (before ++ x ∷ []) new
 firsts_here all before x look new key secret firsts key_is secret_is puts =
     one_more all before x look new firsts (kept_here look new key (key_of all x) x.0 secret x.1.key key_is secret_is puts)
 
--- how many stand before the next
+-- the number of entries before the next one
 pub count_here : (before : List PlacedEntry) (x : PlacedEntry) (n : ℕ) → n ≡ length before → n + 1 ≡ length (before ++ x ∷ [])
 count_here before x n is = omega (arith, is, length-append before (x ∷ []))
 
@@ -172,7 +172,7 @@ entries_few k =
     let stand = standing_count 2 k.contents.cells in
     omega (arith, of_records, of_cells, stand)
 
--- one more is counted
+-- one more entry is counted
 pub next_counts : (k : KeytabState) (before rest : List PlacedEntry) (x : PlacedEntry) (next : List PlacedEntry) (n : ℕ) → placed_entries k ≡ before ++ rest → rest ≡ x ∷ next → n ≡ length before → n + 1 ≤ length k.contents.cells
 next_counts k before rest x next n all is count =
     let sum = length-append before rest in

@@ -1,4 +1,4 @@
--- The number of the first entry of a name, and its newest entry, as one entry more is considered.
+-- The number of the first entry of a name, and its newest entry, when one more entry is added.
 use Rattle.std.proofs.Common.{◌≡◌, ℕ, zero, suc, ◌+◌, ◌<◌, ◌≤◌, Bool, true, false, cond, List, [], ◌∷◌, ◌++◌, length, Option, Some, None, refl, sym, ap, ◌∙◌, arith}
 use Rattle.std.specs.Prelude.{filter, slice_get, unwrap_or}
 use Rattle.std.specs.Cmp.{IsEquivalence}
@@ -38,7 +38,7 @@ first_from-append n p (y ∷ ys) x =
     append_by (have_same_name p y.1.principal) n (first_from (n + 1) p ys) (first_from (n + 1) p (ys ++ x ∷ [])) (cond (have_same_name p x.1.principal) (Some (n + suc (length ys))) None)
     (first_from-append (n + 1) p ys x ∙ ap (λ (m : ℕ). or_else (first_from (n + 1) p ys) (cond (have_same_name p x.1.principal) (Some m) None)) e)
 
--- a number is one of theirs
+-- the number of a first entry is one of the entries' numbers
 within_by : (b : Bool) (n i len : ℕ) (others : Option ℕ) → cond b (Some n) others ≡ Some i → (others ≡ Some i → (n + 1 ≤ i) × (i < n + 1 + len)) → (n ≤ i) × (i < n + suc len)
 within_by true n i len others e ih = let is : n ≡ i = some_is n i e in (omega arith, omega arith)
 within_by false n i len others e ih = let h = ih e in (omega (arith, h.0), omega (arith, h.1))
@@ -47,14 +47,14 @@ pub first_within : (n : ℕ) (p : Parts) (xs : List PlacedEntry) (i : ℕ) → f
 first_within n p [] i e = absurd cc
 first_within n p (x ∷ xs) i e = within_by (have_same_name p x.1.principal) n i (length xs) (first_from (n + 1) p xs) e (λ h. first_within (n + 1) p xs i h)
 
--- the same name has the same first entry
+-- names that are the same have the same first entry
 pub first_alike : (n : ℕ) (p q : Parts) (xs : List PlacedEntry) → have_same_name p q ≡ true → first_from n p xs ≡ first_from n q xs
 first_alike n p q [] e = refl
 first_alike n p q (x ∷ xs) e =
     ap (λ (b : Bool). cond b (Some n) (first_from (n + 1) p xs)) (same_equiv.congr p q x.1.principal e)
     ∙ ap (λ (o : Option ℕ). cond (have_same_name q x.1.principal) (Some n) o) (first_alike (n + 1) p q xs e)
 
--- names of one entry are the same
+-- two names that are both the name of an entry are the same
 both_of : (p q r : Parts) → have_same_name p r ≡ true → have_same_name q r ≡ true → have_same_name p q ≡ true
 both_of p q r ep eq = same_equiv.congr p r q ep ∙ same_equiv.symm r q ∙ eq
 
@@ -77,7 +77,7 @@ present_by : (b : Bool) (n : ℕ) (others : Option ℕ) → ((j : ℕ) × (other
 present_by true n others h = (n, refl)
 present_by false n others h = h
 
--- each entry's name has a first one
+-- each entry's name has a first entry
 pub first_present : (n : ℕ) (xs : List PlacedEntry) (i : ℕ) (x : PlacedEntry) → slice_get xs i ≡ Some x → (j : ℕ) × (first_from n x.1.principal xs ≡ Some j)
 first_present n [] i x e = absurd cc
 first_present n (y ∷ ys) zero x e =
@@ -85,14 +85,14 @@ first_present n (y ∷ ys) zero x e =
     (n, ap (λ (b : Bool). cond b (Some n) (first_from (n + 1) x.1.principal ys)) (ap (λ (z : PlacedEntry). have_same_name x.1.principal z.1.principal) is ∙ same_equiv.refl x.1.principal))
 first_present n (y ∷ ys) (suc i) x e = present_by (have_same_name x.1.principal y.1.principal) n (first_from (n + 1) x.1.principal ys) (first_present (n + 1) ys i x e)
 
--- the first number, or the next one
+-- the number of the first entry, or the next number
 or_next : (b : Bool) (o o' : Option ℕ) (n first : ℕ) → first ≡ unwrap_or o' n → (b ≡ true → o ≡ o') → or_else o (cond b (Some n) None) ≡ cond b (Some first) o
 or_next true o None n first is alike = ap (λ (x : Option ℕ). or_else x (Some n)) (alike refl) ∙ ap (λ (m : ℕ). Some m) (sym is)
 or_next true o (Some m) n first is alike = ap (λ (x : Option ℕ). or_else x (Some n)) (alike refl) ∙ ap (λ (m : ℕ). Some m) (sym is)
 or_next false None o' n first is alike = refl
 or_next false (Some m) o' n first is alike = refl
 
--- with one entry more, its name has that number, and the others theirs
+-- with one more entry, its name has that number, and other names keep theirs
 pub first_next : (p : Parts) (xs : List PlacedEntry) (x : PlacedEntry) (first : ℕ) → first ≡ unwrap_or (first_number x.1.principal xs) (length xs) → first_number p (xs ++ x ∷ []) ≡ cond (have_same_name p x.1.principal) (Some first) (first_number p xs)
 first_next p xs x first is =
     let n : 0 + length xs ≡ length xs = omega arith in
@@ -110,7 +110,7 @@ by_name : (b : Bool) (ys : List PlacedEntry) (x : PlacedEntry) → newest_from N
 by_name true ys x = newest_from-append None ys x
 by_name false ys x = ap (newest_from None) (append-nil ys)
 
--- with one entry more, it may be the newest of its name, and the others have theirs
+-- with one more entry, it may be the newest of its name, and other names keep theirs
 pub newest_next : (p : Parts) (xs : List PlacedEntry) (x : PlacedEntry) → newest p (xs ++ x ∷ []) ≡ cond (have_same_name p x.1.principal) (newer (newest p xs) x.1) (newest p xs)
 newest_next p xs x =
     ap (newest_from None) (filter-append (λ (y : PlacedEntry). have_same_name p y.1.principal) xs (x ∷ []))

@@ -1,4 +1,4 @@
--- The first entry of a key, when one entry more is considered.
+-- The first entry of a key, when one more entry is added.
 use Rattle.std.proofs.Common.{◌≡◌, ℕ, arith, Bool, true, false, cond, List, [], ◌∷◌, ◌++◌, Option, Some, None, refl, sym, ap, ◌∙◌}
 use Rattle.std.specs.Prelude.{◌&&◌, ◌==◌, find, option_map}
 use Rattle.std.specs.Option.{option_or, unwrap_or}
@@ -31,7 +31,7 @@ unsigned_is m n e = grind arith
 unsigned_same : (m n : ℕ) → m ≡ n → (m == n) ≡ true
 unsigned_same m n e = grind arith
 
--- the same key is one key
+-- keys that are the same are equal
 key_is : (k l : Key) → same_key k l ≡ true → k ≡ l
 key_is k l e =
     let enctypes = and_both (k.0 == l.0 && k.1 == l.1) (k.2 == l.2) e in
@@ -48,7 +48,7 @@ alike_by : (s v e : Bool) → ((s && v) && e) ≡ (s && (v && e))
 alike_by true v e = refl
 alike_by false v e = refl
 
--- numbers are the same where names are
+-- two entries' numbers are equal iff their names are the same
 number_test : (all : List PlacedEntry) (x y : PlacedEntry) → IsNumbered all x → IsNumbered all y → (unwrap_or (first_number x.1.principal all) 0 == unwrap_or (first_number y.1.principal all) 0) ≡ have_same_name x.1.principal y.1.principal
 number_test all x y one other =
     let i = is_some_has (first_number x.1.principal all) one in
@@ -57,7 +57,7 @@ number_test all x y one other =
     ap (λ o. unwrap_or o 0 == unwrap_or (first_number y.1.principal all) 0) i.1 ∙ ap (λ o. i.0 == unwrap_or o 0) j.1
     ∙ same_bool (i.0 == j.0) (have_same_name x.1.principal y.1.principal) (λ e. by.0 (unsigned_is i.0 j.0 e)) (λ e. unsigned_same i.0 j.0 (by.1 e))
 
--- keys are the same where entries are alike
+-- two entries' keys are the same iff the entries are alike
 key_alike : (all : List PlacedEntry) (x y : PlacedEntry) → IsNumbered all x → IsNumbered all y → same_key (key_of all x) (key_of all y) ≡ is_alike x y
 key_alike all x y one other =
     ap (λ (s : Bool). (s && x.1.version == y.1.version) && x.1.enctype == y.1.enctype) (number_test all x y one other)
@@ -73,7 +73,7 @@ pub first_of_alike : (all : List PlacedEntry) (x : PlacedEntry) (xs : List Place
 first_of_alike all x [] one others = refl
 first_of_alike all x (y ∷ ys) one others = find_head _ _ y ys (key_alike all x y one others.0) (first_of_alike all x ys one others.1)
 
--- the place and the secret of an entry
+-- the place and the secret key of an entry
 abbrev first_of : PlacedEntry → ℕ × List ℕ
 first_of x = (x.0, x.1.key)
 
@@ -88,11 +88,11 @@ there : (o : Option PlacedEntry) → option_map first_of o ≡ option_map first_
 there None = refl
 there (Some y) = refl
 
--- the first of a key, where one entry more may have it
+-- the first entry of a key, if one more entry may have it
 whole : (p : PlacedEntry → Bool) (xs : List PlacedEntry) (x : PlacedEntry) (b : Bool) → p x ≡ b → option_map first_of (option_or (find p xs) (cond b (Some x) None)) ≡ option_map first_of (find p (xs ++ x ∷ []))
 whole p xs x b e = ap (option_map first_of) (ap (option_or (find p xs)) (sym (last_of p x b e)) ∙ sym (find-append p xs (x ∷ [])))
 
--- a key is the same both ways, or neither
+-- two keys are the same in both orders, or in neither
 other_key : (k l : Key) (b : Bool) → same_key k l ≡ b → same_key l k ≡ false → b ≡ false
 other_key k l false g e = refl
 other_key k l true g e = let clash : true ≡ false = sym (key_same l) ∙ ap (same_key l) (sym (key_is k l g)) ∙ e in absurd cc
@@ -109,7 +109,7 @@ more_by all xs x look k false firsts e =
     let is : p x ≡ false = other_key k (key_of all x) (p x) refl e in
     firsts k ∙ there (find p xs) ∙ whole p xs x false is
 
--- with one entry more
+-- with one more entry, the map has the first entries
 pub one_more : (all xs : List PlacedEntry) (x : PlacedEntry) (look new : Key → Option (ℕ × List ℕ)) → AreFirsts all xs look
     → ((k : Key) → new k ≡ cond (same_key (key_of all x) k) (Some (unwrap_or (look (key_of all x)) (x.0, x.1.key))) (look k)) → AreFirsts all (xs ++ x ∷ []) new
 one_more all xs x look new firsts puts k = puts k ∙ more_by all xs x look k (same_key (key_of all x) k) firsts refl

@@ -1,4 +1,4 @@
--- What is kept of some entries, and of one more.
+-- What is kept of some entries, when one more is added.
 use Rattle.std.proofs.Common.{◌≡◌, ℕ, zero, suc, ◌<◌, ◌==◌, Bool, true, false, cond, List, [], ◌∷◌, ◌++◌, length, Option, Some, None, refl, sym, ap, ◌∙◌, arith, inl, inr}
 use Rattle.std.specs.Prelude.{slice_get, unwrap_or, option_map}
 use Rattle.std.proofs.lemmas.List.{length-append}
@@ -31,13 +31,13 @@ get_last xs y i e = ap (slice_get (xs ++ y ∷ [])) e ∙ get_seam xs y []
 
 -- ---- numbers
 
--- what `renew` gives of stamps
+-- what `renew` does to stamps
 pub record Renews (old new : List Stamp) (first : ℕ) (x : EntryParts) : Type 0 where
   pub count : length new ≡ length old
   pub here : (e : EntryParts) → slice_get old first ≡ Some (stamp_of e) → slice_get new first ≡ Some (stamp_of (cond (is_newer e x) x e))
   pub others : (i : ℕ) → (i == first) ≡ false → slice_get new i ≡ slice_get old i
 
--- a name that had a first entry keeps it
+-- a name that has a first entry keeps it
 kept_by : (b : Bool) (o : Option ℕ) (first j : ℕ) → o ≡ Some j → (b ≡ true → first ≡ j) → cond b (Some first) o ≡ Some j
 kept_by true o first j e same = ap (λ (n : ℕ). Some n) (same refl)
 kept_by false o first j e same = e
@@ -85,7 +85,7 @@ unstamped : (o : Option EntryParts) → option_map stamp_of o ≡ None → o ≡
 unstamped None h = refl
 unstamped (Some e) h = absurd cc
 
--- the name of the entry, which had none before
+-- the stamp of the new entry's name, if the name had no entry before
 of_new : (p : Parts) (xs : List PlacedEntry) (x : PlacedEntry) (stamps new : List Stamp) (first : ℕ) → length stamps ≡ length xs → (first_number p xs >>= slice_get stamps) ≡ newest_stamp p xs → Renews (stamps ++ stamp_of x.1 ∷ []) new first x.1
     → first ≡ length xs → first_number p xs ≡ None → slice_get new first ≡ option_map stamp_of (newer (newest p xs) x.1)
 of_new p xs x stamps new first len kept renews is none =
@@ -94,7 +94,7 @@ of_new p xs x stamps new first len kept renews is none =
     ∙ ap (λ (e : EntryParts). Some (stamp_of e)) (cond_same (is_newer x.1 x.1) x.1)
     ∙ sym (ap (λ (o : Option EntryParts). option_map stamp_of (newer o x.1)) no_newest)
 
--- which had one
+-- the same, if the name had one
 of_old : (p : Parts) (xs : List PlacedEntry) (x : PlacedEntry) (stamps new : List Stamp) (first : ℕ) → length stamps ≡ length xs → (first_number p xs >>= slice_get stamps) ≡ newest_stamp p xs → Renews (stamps ++ stamp_of x.1 ∷ []) new first x.1
     → first_number p xs ≡ Some first → slice_get new first ≡ option_map stamp_of (newer (newest p xs) x.1)
 of_old p xs x stamps new first len kept renews some =
@@ -110,7 +110,7 @@ of_name : (p : Parts) (xs : List PlacedEntry) (x : PlacedEntry) (stamps new : Li
 of_name p xs x stamps new first None len kept renews was is = of_new p xs x stamps new first len kept renews is was
 of_name p xs x stamps new first (Some j) len kept renews was is = of_old p xs x stamps new first len kept renews (was ∙ ap (λ (n : ℕ). Some n) (sym is))
 
--- another name keeps its stamp
+-- another name has another number, so it keeps its stamp
 apart : (p : Parts) (xs : List PlacedEntry) (x : PlacedEntry) (first j : ℕ) (o : Option ℕ) → first_number x.1.principal xs ≡ o → first ≡ unwrap_or o (length xs) → have_same_name p x.1.principal ≡ false → first_number p xs ≡ Some j → j ≡ first → ⊥
 apart p xs x first j None was is other some e = (let w = (first_within 0 p xs j some).1 in absurd (omega (arith, w, is, e)))
 apart p xs x first j (Some k) was is other some e =

@@ -30,11 +30,11 @@ use Rattle.krb_audit.specs.Hash.{hash_of}
 use Rattle.krb_audit.proofs.FirstNumbers.{same_equiv, first_next}
 use Rattle.krb_audit.proofs.NameBytes.{same_bytes}
 
--- what a map from names' bytes has for bytes
+-- look-up of a name's bytes in a map
 abbrev found : BTreeMap HashedName ℕ → List ℕ → Option ℕ
 found m bytes = get_by (to_name bytes) m
 
--- bytes with their number
+-- a name's bytes with their hash
 abbrev hashed : List ℕ → HashedName
 hashed bytes = (hash_of bytes, record { ref_ptr = (0, 0); now = bytes })
 
@@ -46,14 +46,14 @@ untied Less c e = refl
 untied Equal c e = e
 untied Greater c e = refl
 
--- equal numbers and equal bytes are equal bytes
+-- bytes compare equal together with their hashes iff the bytes are equal
 numbers_agree : (a b : List ℕ) (t : Bool) → bytes_eq a b ≡ t → is_eq (ordering_then (nat_cmp (hash_of a) (hash_of b)) (slice_cmp nat_cmp a b)) ≡ t
 numbers_agree a b true e =
     let same : a ≡ b = (bytes_eq-Decides a b).0 e in
     tied (nat_cmp (hash_of a) (hash_of b)) (slice_cmp nat_cmp a b) (ap (λ (x : List ℕ). nat_cmp (hash_of a) (hash_of x)) (sym same) ∙ tied_itself nat_cmp_total (hash_of a)) ∙ is_eq-slice_cmp a b ∙ e
 numbers_agree a b false e = untied (nat_cmp (hash_of a) (hash_of b)) (slice_cmp nat_cmp a b) (is_eq-slice_cmp a b ∙ e)
 
--- what the map has for bytes after a change at others
+-- look-up of bytes after an insertion
 found_next : (m n : BTreeMap HashedName ℕ) (hash : ℕ) (name : Bor (List ℕ)) (w : ℕ) → hash ≡ hash_of name.now → Updates name_cmp m n (hash, name) (Some w) → (q : List ℕ) → found n q ≡ cond (bytes_eq name.now q) (Some w) (found m q)
 found_next m n hash name w is updates q =
     updates.0 (hashed q)
@@ -67,7 +67,7 @@ on_ok (Err e) f h = tt
 pub known_none : {A : Type 0} (f : KtFormat) (names : Names A) → names.numbers.entries ≡ [] → AreKept [] names.versions.firsts.items names.versions.stamps.items → IsKnown f [] names
 known_none f names none kept = record { numbers = λ p fits. rw none refl; kept = kept }
 
--- the number that the name's bytes have is that of its first entry, or the next
+-- the number found for a name's bytes is that of its first entry, or the next number
 pub first_is : {A : Type 0} (f : KtFormat) (xs : List PlacedEntry) (e : EntryParts) (names : Names A) (hash : ℕ) (name : Bor (List ℕ)) (next first : ℕ) → IsKnown f xs names → FitsKt f e.principal → hash ≡ hash_of name.now → name.now ≡ kt_name f e.principal → next ≡ length xs
     → first ≡ unwrap_or (get name_cmp names.numbers (hash, name)) next
     → first ≡ unwrap_or (first_number e.principal xs) (length xs)

@@ -1,4 +1,4 @@
--- The bytes that spell a name without its type tell which name it is.
+-- The bytes that encode a name without its type determine the name.
 use Rattle.std.proofs.Common.{◌≡◌, ℕ, ◌+◌, List, [], ◌∷◌, ◌++◌, length, take, Some, None, refl, sym, ap, subst, ◌∙◌, append_assoc, arith}
 use Rattle.std.specs.List.{flat_map}
 use Rattle.std.specs.Int.{w16, w32}
@@ -17,7 +17,7 @@ use Rattle.krb_wire.proofs.Principals.{kt_principal_again}
 use Rattle.krb_keytab.specs.Entry.{EntryParts, Spells}
 use Rattle.krb_audit.specs.Names.{kt_name, type_len}
 
--- a name is spelled by these bytes and its type
+-- a name is encoded by these bytes and its type
 with_type : (f : KtFormat) (p : Parts) → kt_principal f p ≡ kt_name f p ++ name_type_field f p.name_type
 with_type f p =
     let o = order_of f in
@@ -63,7 +63,7 @@ is_read f e bytes s none =
     let o = opens f e bytes s in
     no_none (e.principal, o.rest) (sym none ∙ o.read)
 
--- how long the parts are
+-- the lengths of a record's parts add up
 pub lengths : (f : KtFormat) (e : EntryParts) (bytes : List ℕ) (p : Parts) (rest : List ℕ) → Spells f e bytes → kt_principal_at f bytes ≡ Some (p, rest) → length bytes ≡ length (kt_name f e.principal) + (type_len f + length rest)
 lengths f e bytes p rest s read =
     let o : Opens f bytes e.principal = opens f e bytes s in
@@ -74,7 +74,7 @@ lengths f e bytes p rest s read =
     let whole = ap length o.parts in
     omega (arith, whole, rest_is, length-append (kt_name f e.principal) (name_type_field f e.principal.name_type ++ o.rest), length-append (name_type_field f e.principal.name_type) o.rest, type_length f e.principal.name_type)
 
--- the bytes before the type
+-- the bytes before the type are those of the name
 pub name_taken : (f : KtFormat) (e : EntryParts) (bytes : List ℕ) (n : ℕ) → Spells f e bytes → n ≡ length (kt_name f e.principal) → take n bytes ≡ kt_name f e.principal
 name_taken f e bytes n s is =
     let o = opens f e bytes s in
@@ -101,7 +101,7 @@ named_alike : (f : KtFormat) (p q : Parts) → p.realm ≡ q.realm → p.compone
 named_alike f p q realm components = ap (λ (c : List (List ℕ)). digits (order_of f) w16 (count_field f (length c)) ++ (data16 (order_of f) p.realm ++ flat_map (data16 (order_of f)) c)) components
     ∙ ap (λ (r : List ℕ). digits (order_of f) w16 (count_field f (length q.components)) ++ (data16 (order_of f) r ++ flat_map (data16 (order_of f)) q.components)) realm
 
--- two names are the same exactly where these bytes are
+-- two names are the same iff these bytes are equal
 pub same_bytes : (f : KtFormat) (p q : Parts) → FitsKt f p → FitsKt f q → bytes_eq (kt_name f p) (kt_name f q) ≡ have_same_name p q
 same_bytes f p q fp fq = same_name_is p q (bytes_eq (kt_name f p) (kt_name f q))
     (λ e. let is = told f p q fp fq ((bytes_eq-Decides (kt_name f p) (kt_name f q)).0 e) in (ap (λ (x : Parts). x.realm) is, ap (λ (x : Parts). x.components) is))

@@ -28,7 +28,7 @@ newer_is (Some a) later e is = elim (one_of_two (is_newer a later) a later e (so
   | inr same ↦ inr same
 ]
 
--- what is found was found before, or is one of the entries
+-- the entry is the newest so far, or is one of the entries and has the name
 abbrev Found : Parts → Option EntryParts → List PlacedEntry → EntryParts → Type 0
 Found name o xs e = (o ≡ Some e) ⊎ HasEntry xs name e
 

@@ -1,4 +1,4 @@
--- Entries that stand among others have numbers, which tell their names apart.
+-- Entries in a list have numbers, which are different iff their names are.
 use Rattle.std.proofs.Common.{◌≡◌, ℕ, List, [], ◌∷◌, ◌++◌, length, Some, refl, sym, ap, subst, ◌∙◌, append_assoc, true}
 use Rattle.std.specs.Prelude.{Option, IsSome, slice_get}
 use Rattle.std.specs.List.{AllByRecursion}
@@ -8,19 +8,19 @@ use Rattle.krb_keytab.specs.Find.{PlacedEntry}
 use Rattle.krb_audit.specs.Stamps.{first_number}
 use Rattle.krb_audit.proofs.FirstNumbers.{first_alike, first_present, first_tells}
 
--- names of entries are the same exactly where their numbers are
+-- names of entries are the same iff their numbers are equal
 pub names_by_number : (p q : Parts) (xs : List PlacedEntry) (i j : ℕ) → first_number p xs ≡ Some i → first_number q xs ≡ Some j → (i ≡ j → have_same_name p q ≡ true) × (have_same_name p q ≡ true → i ≡ j)
 names_by_number p q xs i j e g = (
   λ same. first_tells 0 p q xs j (e ∙ ap Some same) g,
   λ same. (let is : Some i ≡ Some j = sym e ∙ first_alike 0 p q xs same ∙ g in cc),
 )
 
--- the entry whose number is how many stand before it
+-- an entry's index is the number of entries before it
 pub entry_here : (before : List PlacedEntry) (x : PlacedEntry) (rest : List PlacedEntry) → slice_get (before ++ x ∷ rest) (length before) ≡ Some x
 entry_here [] x rest = refl
 entry_here (y ∷ ys) x rest = entry_here ys x rest
 
--- the name of an entry has a number among all
+-- the name of an entry has a number: that of its first entry among all
 abbrev pub IsNumbered : List PlacedEntry → PlacedEntry → Type 0
 IsNumbered all x = IsSome (first_number x.1.principal all)
 
@@ -36,7 +36,7 @@ numbered_front pre (x ∷ xs) rest = (
   subst (λ all. AllByRecursion (IsNumbered all) xs) (append_assoc pre (x ∷ []) (xs ++ rest)) (numbered_front (pre ++ x ∷ []) xs rest),
 )
 
--- those before others have numbers
+-- all entries before others have numbers
 pub numbered_before : (all before rest : List PlacedEntry) → all ≡ before ++ rest → AllByRecursion (IsNumbered all) before
 numbered_before all before rest is = subst (λ xs. AllByRecursion (IsNumbered xs) before) (sym is) (numbered_front [] before rest)
 

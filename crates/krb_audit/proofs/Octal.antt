@@ -1,4 +1,4 @@
--- One octal digit more.
+-- One more octal digit.
 use Rattle.std.proofs.Common.{◌≡◌, ◌≢◌, ℕ, zero, suc, ◌+◌, ◌-◌, ◌/◌, ◌%◌, arith, Bool, false, cond, [], ◌∷◌, ◌++◌, refl, sym, ap, ◌∙◌}
 use Rattle.std.specs.Prelude.{◌==◌}
 use Rattle.krb_audit.specs.Report.{octal}

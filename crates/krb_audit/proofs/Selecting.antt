@@ -1,4 +1,4 @@
--- The entries that are asked for, one after the other.
+-- The selected entries, one after the other.
 use Rattle.std.proofs.Common.{◌≡◌, ℕ, suc, ◌+◌, ◌^◌, ◌<◌, ◌≤◌, Bool, true, false, cond, List, [], ◌∷◌, ◌++◌, length, map, Option, Some, None, Result, Ok, Err, refl, sym, ap, ◌∙◌, append_assoc, append-nil, arith}
 use Rattle.std.specs.Prelude.{◌&&◌, ◌||◌, slice_get, OnOk, option_map}
 use Rattle.std.specs.List.{flat_map, list_any, cons_option}
@@ -35,7 +35,7 @@ or_true false = refl
 
 -- ---- one entry more
 
--- an entry is asked for
+-- an entry is selected
 abbrev pub is_asked : {A : Type 0} → Selection A → List PlacedEntry → PlacedEntry → Bool
 is_asked s xs x = is_named s x.1 && has_asked_kvno s.kvno xs x.1
 
@@ -45,7 +45,7 @@ among_next s xs ys x b e = filter-append (λ (y : PlacedEntry). is_asked s xs y)
 named_next : {A : Type 0} (s : Selection A) (ys : List PlacedEntry) (x : PlacedEntry) → list_any (λ (y : PlacedEntry). is_named s y.1) (ys ++ x ∷ []) ≡ (list_any (λ (y : PlacedEntry). is_named s y.1) ys || is_named s x.1)
 named_next s ys x = list_any-append (λ (y : PlacedEntry). is_named s y.1) ys (x ∷ []) ∙ ap (λ (b : Bool). list_any (λ (y : PlacedEntry). is_named s y.1) ys || b) (sym (or_false (is_named s x.1)))
 
--- it is not asked for
+-- the next entry is not selected
 pub skips : {A B : Type 0} (s : Selection A) (xs ys : List PlacedEntry) (x : PlacedEntry) (old new : Selected B) → is_asked s xs x ≡ false → new.places.items ≡ old.places.items → new.text.items ≡ old.text.items → new.is_named ≡ (old.is_named || is_named s x.1) → SelectsOf s xs ys old → SelectsOf s xs (ys ++ x ∷ []) new
 skips s xs ys x old new not_so places text named h =
     let same : asked_among s xs ys ≡ asked_among s xs (ys ++ x ∷ []) = sym (among_next s xs ys x false not_so ∙ append-nil (asked_among s xs ys)) in
@@ -55,7 +55,7 @@ skips s xs ys x old new not_so places text named h =
       is_named = named ∙ ap (λ (b : Bool). b || is_named s x.1) h.is_named ∙ sym (named_next s ys x);
     }
 
--- it is asked for
+-- the next entry is selected
 pub takes : {A B : Type 0} (s : Selection A) (xs ys : List PlacedEntry) (x : PlacedEntry) (old new : Selected B) → is_asked s xs x ≡ true → new.places.items ≡ old.places.items ++ x.0 ∷ [] → new.text.items ≡ old.text.items ++ removed_line x → new.is_named ≡ (old.is_named || is_named s x.1) → SelectsOf s xs ys old → SelectsOf s xs (ys ++ x ∷ []) new
 takes s xs ys x old new is places text named h =
     let more : asked_among s xs ys ++ x ∷ [] ≡ asked_among s xs (ys ++ x ∷ []) = sym (among_next s xs ys x true is) in
@@ -68,7 +68,7 @@ takes s xs ys x old new is places text named h =
 
 -- ---- all entries
 
--- the next entry stands at the number
+-- the next entry is the one with index `number`
 pub stands : {A B : Type 0} (s : Selection A) (xs old rest : List PlacedEntry) (number : ℕ) (x : PlacedEntry) (selected : Selected B) → SelectsUpTo s xs old number selected → old ≡ x ∷ rest → slice_get xs number ≡ Some x
 stands s xs old rest number x selected l is =
     ap (slice_get xs) l.numbered ∙ ap (λ (ys : List PlacedEntry). slice_get ys (length l.before)) (sym (ap (λ (ys : List PlacedEntry). l.before ++ ys) (sym is) ∙ l.all)) ∙ get_seam l.before x rest
@@ -86,7 +86,7 @@ count_first : (at : ℕ) (o : Option EntryParts) (xs : List PlacedEntry) (n : �
 count_first at None xs n le = omega (arith, le)
 count_first at (Some e) xs n le = omega (arith, le)
 
--- no more entries than cells
+-- there are no more entries than cells
 entry_count : (f : KtFormat) (at : ℕ) (cs : List Cell) → length (entries_in f at cs) ≤ length cs
 entry_count f at [] = omega arith
 entry_count f at (Live b ∷ cs) = count_first at (entry_at f b) (entries_in f (at + (4 + length b)) cs) (length cs) (entry_count f (at + (4 + length b)) cs)

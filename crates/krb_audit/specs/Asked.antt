@@ -1,4 +1,4 @@
--- What is asked for, as it is kept while the entries of a keytab are gone through.
+-- A selection, prepared for a pass over the entries of a keytab.
 use Rattle.std.specs.Prelude.{◌≡◌, ℕ, List, ◌++◌, length, Bool, true, ◌&&◌, filter, map, Option, None, Some, option_map}
 use Rattle.std.specs.List.{flat_map, list_any}
 use Rattle.std.specs.Str.{bytes_eq}
@@ -21,24 +21,24 @@ use Rattle.krb_audit.specs.Stamps.{AreKept}
 
 -- ---- names
 
--- the text of the name that is asked for
+-- the selected name as it is printed, if one is given
 abbrev pub asked_text : {A : Type 0} → Option (Principal A) → Option (List ℕ)
 asked_text name = option_map (λ n. name_text (principal_parts n)) name
 
--- a name has that text, if there is one
+-- a name prints as that text, if there is one
 abbrev pub has_text : Option (List ℕ) → Parts → Bool
 has_text None p = true
 has_text (Some text) p = bytes_eq (name_text p) text
 
 -- ---- versions
 
--- the versions that they were
+-- the `AskedKvno` that they were prepared from
 abbrev pub kvno_of : {A : Type 0} → AskedVersions A → AskedKvno
 kvno_of Each = Any
 kvno_of (This version) = Exactly version
 kvno_of (OtherThan newest) = Old
 
--- what is kept to know the old ones is that of the entries
+-- what is kept to find the old entries matches the entries
 abbrev pub AreVersions : {A : Type 0} → List PlacedEntry → AskedVersions A → Type 0
 AreVersions xs Each = Unit {0}
 AreVersions xs (This version) = Unit {0}
@@ -46,23 +46,23 @@ AreVersions xs (OtherThan newest) = AreKept xs newest.firsts.items newest.stamps
 
 -- ---- both, and what was selected
 
--- what is asked for among the entries
+-- a selection is prepared for the entries
 pub record IsAsked {A B : Type 0} (xs : List PlacedEntry) (asked : Asked A B) : Type 0 where
   pub name : option_map vec_items asked.name.asked ≡ asked_text asked.selection.now.name
   pub kvno : kvno_of asked.versions ≡ asked.selection.now.kvno
   pub versions : AreVersions xs asked.versions
 
--- some of the entries, of which those that are asked for were selected
+-- those of some of the entries that are selected; old is decided over all entries `xs`
 abbrev pub asked_among : {A : Type 0} → Selection A → List PlacedEntry → List PlacedEntry → List PlacedEntry
 asked_among s xs some = filter (λ x. is_named s x.1 && has_asked_kvno s.kvno xs x.1) some
 
--- those of some of the entries were selected
+-- the selected ones of some of the entries were added
 pub record SelectsOf {A B : Type 0} (s : Selection A) (xs some : List PlacedEntry) (selected : Selected B) : Type 0 where
   pub places : selected.places.items ≡ map (λ x. x.0) (asked_among s xs some)
   pub text : selected.text.items ≡ flat_map removed_line (asked_among s xs some)
   pub is_named : selected.is_named ≡ list_any (λ x. is_named s x.1) some
 
--- those of the first entries were selected, and others are still to come
+-- the selected ones of the first entries were added, and the others are still to come
 pub record SelectsUpTo {A B : Type 0} (s : Selection A) (xs rest : List PlacedEntry) (number : ℕ) (selected : Selected B) : Type 0 where
   pub before : List PlacedEntry
   pub selects : SelectsOf s xs before selected

@@ -1,4 +1,4 @@
--- What is asked for, as it is kept while the tickets of a cache are gone through.
+-- The criteria for tickets, prepared for a pass over the credentials of a cache.
 use Rattle.std.specs.Prelude.{◌≡◌, ℕ, List, ◌++◌, Bool, not, ◌&&◌, ◌||◌, filter, map, Option}
 use Rattle.std.specs.List.{flat_map, list_any}
 use Rattle.krb_wire.specs.declared.principal.Principal.{Principal}
@@ -10,19 +10,19 @@ use Rattle.krb_audit.specs.TicketText.{TicketText}
 use Rattle.krb_audit.specs.Asked.{asked_text, has_text}
 use Rattle.krb_audit.specs.Tickets.{has_ended_by, removed_ticket_line}
 
--- the text of a server's name, and the second
+-- the server's name as it is printed, and the end time, each if it is given
 abbrev pub ticket_text : {A : Type 0} → Option (Principal A) → Option ℕ → TicketText
 ticket_text server ended_by = record { server = asked_text server; ended_by = ended_by }
 
--- a credential is a ticket, and its server has that text
+-- a credential is a ticket, and its server prints as that text, if there is one
 abbrev pub has_server : TicketText → CredParts → Bool
 has_server t c = not (is_config c) && has_text t.server c.server
 
--- those of some credentials that are asked for
+-- the selected tickets among some credentials
 abbrev pub tickets_among : TicketText → List PlacedCredential → List PlacedCredential
 tickets_among t xs = filter (λ x. has_server t x.1 && has_ended_by t.ended_by x.1) xs
 
--- those that were selected, with those still to come, are those of all
+-- the tickets added so far, with those selected among the rest, are those selected among all
 pub record SelectsSoFar {A : Type 0} (t : TicketText) (rest all : List PlacedCredential) (selected : SelectedTickets A) : Type 0 where
   pub places : selected.places.items ++ map (λ x. x.0) (tickets_among t rest) ≡ map (λ x. x.0) (tickets_among t all)
   pub text : selected.text.items ++ flat_map removed_ticket_line (tickets_among t rest) ≡ flat_map removed_ticket_line (tickets_among t all)

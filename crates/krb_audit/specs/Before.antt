@@ -8,7 +8,7 @@ use Rattle.krb_audit.specs.Findings.{ends_mit}
 use Rattle.krb_audit.specs.Firsts.{AreFirsts, looked}
 use Rattle.krb_audit.specs.Stamps.{AreKept}
 
--- what is known of a keytab, where these of its entries stand before
+-- what is known of a keytab before an entry, if these are the entries before it
 pub record IsBefore {A : Type 0} (k : KeytabState) (xs : List PlacedEntry) (b : Before A) : Type 0 where
   pub newest : AreKept (placed_entries k) b.newest.firsts.items b.newest.stamps.items
   pub firsts : AreFirsts (placed_entries k) xs (looked b.firsts)

@@ -15,21 +15,21 @@ use Rattle.krb_audit.specs.Newest.{is_old}
 abbrev pub is_out : ℕ → Bool
 is_out n = n == 0 || nat_lt 32767 n
 
--- MIT's programs end silently before this entry
+-- MIT's programs silently stop before this entry
 abbrev pub ends_mit : EntryParts → Bool
 ends_mit e =
     is_out (length e.principal.components)
     || (is_out (length e.principal.realm) || (list_any (λ c. is_out (length c)) e.principal.components || is_out (length e.key)))
 
--- the second entry has the name, the version and the enctype of the first
+-- the second entry has the name, the kvno and the enctype of the first
 abbrev pub is_alike : PlacedEntry → PlacedEntry → Bool
 is_alike x y = have_same_name x.1.principal y.1.principal && (x.1.version == y.1.version && x.1.enctype == y.1.enctype)
 
--- what an entry is to a later one that is alike: its place, and whether it has the same key
+-- what a later entry `x` that is alike reports of an entry `y`: its place, and whether it has the same key
 abbrev pub as_alike : PlacedEntry → PlacedEntry → Alike
 as_alike x y = record { place = y.0; has_same_key = bytes_eq y.1.key x.1.key }
 
--- what is found about an entry of a keytab, by those that stand before it
+-- what is found about an entry of a keytab, if `before` are the entries before it
 abbrev pub marks_of : KeytabState → List PlacedEntry → PlacedEntry → Marks
 marks_of k before x = record {
   weak = is_weak x.1.enctype;
@@ -42,7 +42,7 @@ marks_of k before x = record {
 abbrev pub Marked : Type 0
 Marked = PlacedEntry × Marks
 
--- some entries, with what is found about each, where others stand before them
+-- some entries, with what is found about each, if `before` are the entries before them
 abbrev pub marked_after : KeytabState → List PlacedEntry → List PlacedEntry → List Marked
 marked_after k before [] = []
 marked_after k before (x ∷ xs) = (x, marks_of k before x) ∷ marked_after k (before ++ x ∷ []) xs

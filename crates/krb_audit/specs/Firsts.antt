@@ -1,4 +1,4 @@
--- The first entries of each name, version and enctype, as a map has them.
+-- The first entry of each name, kvno and enctype, in a map.
 use Rattle.std.specs.Prelude.{◌≡◌, ℕ, List, find, Bool, ◌&&◌, ◌==◌, Option, option_map}
 use Rattle.std.specs.BTreeMap.{get}
 use Rattle.std.specs.Option.{unwrap_or}
@@ -8,7 +8,7 @@ use Rattle.krb_keytab.specs.Find.{PlacedEntry}
 use Rattle.krb_audit.specs.declared.firsts.Firsts.{Firsts}
 use Rattle.krb_audit.specs.Stamps.{first_number}
 
--- the number of the first entry of a name, a version and an enctype
+-- a name, as the number of its first entry, a kvno and an enctype
 abbrev pub Key : Type 0
 Key = ℕ × ℕ × ℕ
 
@@ -16,7 +16,7 @@ Key = ℕ × ℕ × ℕ
 abbrev pub key_of : List PlacedEntry → PlacedEntry → Key
 key_of all x = (unwrap_or (first_number x.1.principal all) 0, x.1.version, x.1.enctype)
 
--- it is the same
+-- two keys are the same
 abbrev pub same_key : Key → Key → Bool
 same_key k l = (k.0 == l.0 && k.1 == l.1) && k.2 == l.2
 
@@ -24,10 +24,10 @@ same_key k l = (k.0 == l.0 && k.1 == l.1) && k.2 == l.2
 abbrev pub key_cmp : Key → Key → Ordering
 key_cmp k l = ordering_then (ordering_then (nat_cmp k.0 l.0) (nat_cmp k.1 l.1)) (nat_cmp k.2 l.2)
 
--- the place and the secret that are kept for a key
+-- the place and the secret key that the map has for a key
 abbrev pub looked : {A : Type 0} → Firsts A → Key → Option (ℕ × List ℕ)
 looked firsts k = option_map (λ v. (v.0, v.1.now)) (get key_cmp firsts.map k)
 
--- for each key the place and the secret of the first of the entries that has it
+-- for each key, the place and the secret key of the first entry among `xs` that has it
 abbrev pub AreFirsts : List PlacedEntry → List PlacedEntry → (Key → Option (ℕ × List ℕ)) → Type 0
 AreFirsts all xs look = (k : Key) → look k ≡ option_map (λ x. (x.0, x.1.key)) (find (λ x. same_key k (key_of all x)) xs)

@@ -16,24 +16,24 @@ use Rattle.krb_audit.specs.Hash.{hash_of}
 use Rattle.krb_audit.specs.Names.{kt_name}
 use Rattle.krb_audit.specs.Stamps.{first_number, AreKept}
 
--- the bytes of a name with their number
+-- the bytes of a name, with their hash
 abbrev pub HashedName : Type 0
 HashedName = ℕ × Bor (List ℕ)
 
--- how they are ordered: by their numbers first
+-- their order: by hash, then by bytes
 abbrev pub name_cmp : HashedName → HashedName → Ordering
 name_cmp x y = ordering_then (nat_cmp x.0 y.0) (slice_cmp nat_cmp x.1.now y.1.now)
 
--- how a name compares to them
+-- how a name's bytes compare to them
 abbrev pub to_name : List ℕ → HashedName → Ordering
 to_name name y = ordering_then (nat_cmp (hash_of name) y.0) (slice_cmp nat_cmp name y.1.now)
 
--- each name has the number of its first entry, and what is to be kept of the entries is kept
+-- each name has the number of its first entry, and the newest entry of each name is kept
 pub record IsKnown {A : Type 0} (f : KtFormat) (xs : List PlacedEntry) (names : Names A) : Type 0 where
   pub numbers : (p : Parts) → FitsKt f p → get_by (to_name (kt_name f p)) names.numbers ≡ first_number p xs
   pub kept : AreKept xs names.versions.firsts.items names.versions.stamps.items
 
--- it is known of some entries, and those of these cells are still to come
+-- that is known of the entries so far, and the entries of these cells are still to come
 pub record IsKnownUpTo {A : Type 0} (f : KtFormat) (k : KeytabState) (cells : CellsFrom) (names : Names A) : Type 0 where
   pub before : List PlacedEntry
   pub known : IsKnown f before names

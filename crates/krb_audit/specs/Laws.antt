@@ -7,7 +7,7 @@ use Rattle.krb_keytab.specs.Entry.{EntryParts}
 use Rattle.krb_keytab.specs.Find.{PlacedEntry}
 use Rattle.krb_audit.specs.Newest.{newest, is_old}
 
--- an entry of that name stands somewhere among entries
+-- the entry is one of the entries, at some place, and has that name
 abbrev pub HasEntry : List PlacedEntry → Parts → EntryParts → Type 0
 HasEntry xs name e = (place : ℕ) × Contains xs (place, e) × (have_same_name name e.principal ≡ true)
 

@@ -5,23 +5,23 @@ use Rattle.krb_wire.specs.SameName.{have_same_name}
 use Rattle.krb_keytab.specs.Entry.{EntryParts}
 use Rattle.krb_keytab.specs.Find.{PlacedEntry}
 
--- of two versions the small one is the later: they have wrapped around between them
+-- of two kvnos the small one is the later: the kvno has wrapped around between them
 abbrev pub has_wrapped : ℕ → ℕ → Bool
 has_wrapped small large = nat_lt small 128 && nat_lt 240 large
 
--- a later entry of a name takes the place of the newest so far: its version is greater, or where versions have wrapped its time counts (MIT krb5, kt_file.c, more_recent)
+-- a later entry replaces the newest: its kvno is greater, or across a wrap its time counts (MIT kt_file.c, more_recent)
 abbrev pub is_newer : EntryParts → EntryParts → Bool
 is_newer newest later =
     if has_wrapped later.version newest.version then not (nat_lt later.timestamp newest.timestamp)
     else (if has_wrapped newest.version later.version then nat_lt newest.timestamp later.timestamp
     else nat_lt newest.version later.version)
 
--- the newest of two, where there was one before
+-- the newer of two, or the only one
 abbrev pub newer : Option EntryParts → EntryParts → Option EntryParts
 newer None later = Some later
 newer (Some newest) later = Some (if is_newer newest later then later else newest)
 
--- the newest of entries, found in their order
+-- the newest of some entries, taken in order, and of the newest so far
 abbrev pub newest_from : Option EntryParts → List PlacedEntry → Option EntryParts
 newest_from so_far [] = so_far
 newest_from so_far (x ∷ xs) = newest_from (newer so_far x.1) xs
@@ -30,11 +30,11 @@ newest_from so_far (x ∷ xs) = newest_from (newer so_far x.1) xs
 abbrev pub newest : Parts → List PlacedEntry → Option EntryParts
 newest name xs = newest_from None (filter (λ x. have_same_name name x.1.principal) xs)
 
--- its version is another
+-- an entry's kvno is not that of the newest, if there is a newest
 abbrev pub has_other_version : EntryParts → Option EntryParts → Bool
 has_other_version e None = false
 has_other_version e (Some newest) = not (e.version == newest.version)
 
--- an entry is old among entries: its version is not that of the newest entry of its name
+-- an entry is old: its kvno is not that of the newest entry of its name
 abbrev pub is_old : List PlacedEntry → EntryParts → Bool
 is_old xs e = has_other_version e (newest e.principal xs)

@@ -1,4 +1,4 @@
--- The lines that tell what is found, and which of them are told.
+-- The lines that report findings, and the words that they begin with.
 use Rattle.std.specs.Prelude.{ℕ, zero, suc, ◌+◌, ◌/◌, ◌%◌, bit_and, List, [], ◌∷◌, ◌++◌, length, filter, sum_by, codes, decimal, Bool, true, false, not, ◌||◌, ◌==◌, if◌then◌else◌, Option, None, Some, is_some}
 use Rattle.std.specs.List.{flat_map, list_any}
 use Rattle.krb_walk.specs.Store.{fault_of}
@@ -14,11 +14,11 @@ use Rattle.krb_audit.specs.Findings.{Marked, marked}
 
 -- ---- lines of entries
 
--- the line of an entry that a word tells of, if it does
+-- a word and the entry's place and tail, if it is reported
 abbrev pub line_if : Bool → List ℕ → PlacedEntry → List ℕ
 line_if is_told word x = if is_told then placed_line word x else []
 
--- how an entry is told that has an earlier one's name, version and enctype
+-- the word for an entry that has an earlier one's name, kvno and enctype
 abbrev pub alike_word : Bool → List ℕ
 alike_word has_same_key = if has_same_key then codes "same " else codes "clash "
 
@@ -35,16 +35,16 @@ mark_lines m =
 
 -- ---- the mode, and the count
 
--- at most so many octal digits of a number, without leading zeros
+-- a number in octal without leading zeros: at most its last `places` digits
 abbrev pub octal : ℕ → ℕ → List ℕ
 octal zero n = []
 octal (suc places) n = if n == 0 then [] else octal places (n / 8) ++ (48 + n % 8) ∷ []
 
--- others than its owner may read or write a file of this mode
+-- group or others may read or write a file of this mode
 abbrev pub is_open : ℕ → Bool
 is_open mode = not (bit_and mode 0o66 == 0)
 
--- all may
+-- others may read or write it
 abbrev pub is_open_to_all : ℕ → Bool
 is_open_to_all mode = not (bit_and mode 0o6 == 0)
 
@@ -53,7 +53,7 @@ abbrev pub has_mode : (ℕ → Bool) → Option ℕ → Bool
 has_mode holds None = false
 has_mode holds (Some mode) = holds mode
 
--- the line of a mode, by its twelve low bits, if it is to be told
+-- the line of a mode, which has its twelve low bits, if group or others may read or write
 abbrev pub mode_line : Option ℕ → List ℕ
 mode_line None = []
 mode_line (Some mode) = if is_open mode then codes "mode " ++ (octal 4 (mode % 0o10000) ++ codes "\n") else []
@@ -67,14 +67,14 @@ is_hole (Free b) = true
 abbrev pub holes : List Cell → List Cell
 holes cells = filter is_hole cells
 
--- how many entries there are, the sizes of the holes together, and how many holes there are
+-- the number of entries, the total size of the holes, and the number of holes
 abbrev pub count_line : KeytabState → List ℕ
 count_line k =
     codes "entries " ++ (decimal (length (placed_entries k))
     ++ (codes " free " ++ (decimal (sum_by size (holes k.contents.cells))
     ++ (codes " holes " ++ (decimal (length (holes k.contents.cells)) ++ codes "\n")))))
 
--- ---- which words are told
+-- ---- which words are reported
 
 -- an alike entry has the same key
 abbrev pub is_same : Option Alike → Bool
@@ -86,7 +86,7 @@ abbrev pub is_clash : Option Alike → Bool
 is_clash None = false
 is_clash (Some a) = not a.has_same_key
 
--- which words the lines of entries have
+-- which words the lines of entries begin with
 abbrev pub told_of : List Marked → Told
 told_of ms = record {
   weak = list_any (λ m. m.1.weak) ms;
@@ -97,7 +97,7 @@ told_of ms = record {
   mode = false;
 }
 
--- those, and those of one entry more
+-- those words, and those of one more entry
 abbrev pub with_marks : Told → Marks → Told
 with_marks t m = record t {
   weak = t.weak || m.weak;
@@ -107,21 +107,21 @@ with_marks t m = record t {
   old = t.old || m.old;
 }
 
--- which words all lines have
+-- which words the lines of entries and of the mode begin with
 abbrev pub told : Option ℕ → KeytabState → Told
 told mode k = record (told_of (marked k)) { mode = has_mode is_open mode }
 
--- some of them tell of an entry that has something wrong
+-- one of the words reports something wrong with an entry
 abbrev pub tells_wrong : Told → Bool
 tells_wrong t = t.weak || (t.hidden || (t.same || t.clash))
 
--- a line tells of something that is wrong
+-- a line reports something wrong
 abbrev pub is_wrong : Option ℕ → KeytabState → Bool
 is_wrong mode k = tells_wrong (told_of (marked k)) || (is_some (fault_of (store_of k)) || has_mode is_open_to_all mode)
 
 -- ---- all of it
 
--- what is found about a keytab, where a plain file that has it has this mode
+-- the report on a keytab, whose file has this mode if it is a plain file
 abbrev pub report : Option ℕ → KeytabState → List ℕ
 report mode k =
     mode_line mode ++ (flat_map mark_lines (marked k) ++ (fault_line (fault_of (store_of k)) ++ count_line k))

@@ -1,4 +1,4 @@
--- Which entries of a keytab are asked for.
+-- Which entries of a keytab are selected.
 use Rattle.std.specs.Prelude.{◌≡◌, ℕ, List, [], ◌∷◌, Bool, true, ◌&&◌, ◌==◌, nat_eq, filter, map, Option, None, Some}
 use Rattle.std.specs.List.{flat_map, list_any}
 use Rattle.std.specs.Str.{bytes_eq}
@@ -16,35 +16,35 @@ use Rattle.krb_audit.specs.declared.selection.Selection.{Selection}
 use Rattle.krb_audit.specs.declared.asked.Selected.{Selected}
 use Rattle.krb_audit.specs.Newest.{is_old}
 
--- a name prints as the one that is asked for, if one is
+-- a name prints as the selected one, if one is given
 abbrev pub has_asked_name : {A : Type 0} → Option (Principal A) → Parts → Bool
 has_asked_name None p = true
 has_asked_name (Some name) p = bytes_eq (name_text p) (name_text (principal_parts name))
 
--- an enctype is one of those that are asked for, if some are
+-- an enctype is one of the selected ones, if any are given
 abbrev pub has_asked_enctype : List ℕ → ℕ → Bool
 has_asked_enctype [] enctype = true
 has_asked_enctype (asked ∷ others) enctype = list_any (nat_eq enctype) (asked ∷ others)
 
--- an entry has the name and the enctype that are asked for
+-- an entry has the selected name and a selected enctype
 abbrev pub is_named : {A : Type 0} → Selection A → EntryParts → Bool
 is_named s e = has_asked_name s.name e.principal && has_asked_enctype s.enctypes.items e.enctype
 
--- an entry among others has a version that is asked for
+-- an entry of the entries `xs` has a selected kvno
 abbrev pub has_asked_kvno : AskedKvno → List PlacedEntry → EntryParts → Bool
 has_asked_kvno Any xs e = true
 has_asked_kvno (Exactly version) xs e = e.version == version
 has_asked_kvno Old xs e = is_old xs e
 
--- those of the entries that are asked for
+-- those of the entries that are selected
 abbrev pub asked_of : {A : Type 0} → Selection A → List PlacedEntry → List PlacedEntry
 asked_of s xs = filter (λ x. is_named s x.1 && has_asked_kvno s.kvno xs x.1) xs
 
--- the entries of a keytab that are asked for, in file order
+-- the entries of a keytab that are selected, in file order
 abbrev pub asked : {A : Type 0} → Selection A → KeytabState → List PlacedEntry
 asked s k = asked_of s (placed_entries k)
 
--- they were selected
+-- the result is these entries: their places, their lines, and whether some entry has the name and enctype
 pub record Selects {A B : Type 0} (s : Selection A) (k : KeytabState) (selected : Selected B) : Type 0 where
   pub places : selected.places.items ≡ map (λ x. x.0) (asked s k)
   pub text : selected.text.items ≡ flat_map removed_line (asked s k)

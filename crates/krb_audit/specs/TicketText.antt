@@ -1,4 +1,4 @@
--- Which tickets are asked for, by the text of a name.
+-- Which tickets are selected, by the text of a name.
 use Rattle.std.specs.Prelude.{ℕ, List, Option}
 
 -- the text that the server's name prints as, and the second by which the ticket has ended, each if it is given

@@ -1,4 +1,4 @@
--- Which tickets of a cache are asked for.
+-- Which tickets of a cache are selected.
 use Rattle.std.specs.Prelude.{◌≡◌, ℕ, List, ◌++◌, decimal, codes, Bool, true, not, ◌&&◌, nat_le, filter, map, Option, None, Some}
 use Rattle.std.specs.List.{flat_map, list_any}
 use Rattle.krb_wire.specs.declared.principal.Principal.{Principal}
@@ -9,24 +9,24 @@ use Rattle.krb_ccache.specs.Store.{CacheState, PlacedCredential, placed_credenti
 use Rattle.krb_audit.specs.declared.tickets.SelectedTickets.{SelectedTickets}
 use Rattle.krb_audit.specs.Selection.{has_asked_name}
 
--- a credential is a ticket, and its server has the name that is asked for
+-- a credential is a ticket, and its server prints as the selected name, if one is given
 abbrev pub names_ticket : {A : Type 0} → Option (Principal A) → CredParts → Bool
 names_ticket server c = not (is_config c) && has_asked_name server c.server
 
--- a credential has ended by a second, if one is given
+-- a credential's end time is at or before a second, if one is given
 abbrev pub has_ended_by : Option ℕ → CredParts → Bool
 has_ended_by None c = true
 has_ended_by (Some now) c = nat_le c.times.endtime now
 
--- the tickets of a cache that are asked for, in file order
+-- the tickets of a cache that are selected, in file order
 abbrev pub asked_tickets : {A : Type 0} → Option (Principal A) → Option ℕ → CacheState → List PlacedCredential
 asked_tickets server ended_by k = filter (λ x. names_ticket server x.1 && has_ended_by ended_by x.1) (placed_credentials k)
 
--- the line of a ticket that was removed
+-- the line that reports a ticket removed
 abbrev pub removed_ticket_line : PlacedCredential → List ℕ
 removed_ticket_line x = codes "removed " ++ (decimal x.0 ++ (codes " " ++ (name_text x.1.server ++ codes "\n")))
 
--- they were selected
+-- the result is these tickets: their places, their lines, and whether some ticket has the server
 pub record SelectsTickets {A B : Type 0} (server : Option (Principal A)) (ended_by : Option ℕ) (k : CacheState) (selected : SelectedTickets B) : Type 0 where
   pub places : selected.places.items ≡ map (λ x. x.0) (asked_tickets server ended_by k)
   pub text : selected.text.items ≡ flat_map removed_ticket_line (asked_tickets server ended_by k)

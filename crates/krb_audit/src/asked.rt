@@ -1,4 +1,4 @@
-//! The entries that are asked for.
+//! Selects entries of a keytab.
 
 ghost use Rattle.std.specs.Prelude.{◌≡◌, ℕ, ◌++◌, ◌∷◌, [], List, slice_get, IfOk, OnOk, Some};
 ghost use Rattle.krb_keytab.specs.Find.{PlacedEntry, placed_entries};
@@ -14,19 +14,19 @@ use krb_text::append_placed;
 use krb_wire::NoMemory;
 use std::alloc::Allocator;
 
-/// The entries of a keytab that are asked for.
+/// The entries of a keytab that a `Selection` selects.
 #[derive(Drop)]
 pub struct Selected<A: Allocator> {
     /// The places of their records, in file order.
     pub places: Vec<u32, A>,
-    /// A line for each that tells of its removal.
+    /// A line for each that reports its removal.
     pub text: Vec<u8, A>,
-    /// Whether some entry has the name and the enctype that are asked for, of whatever version.
+    /// True if some entry has the selected name and enctype, whatever its kvno.
     pub is_named: bool,
 }
 
 impl<A: Allocator> Selected<A> {
-    // Selects an entry.
+    // Adds an entry.
     fn add(&mut self, place: u32, entry: &EntryView<'_>) -> Result<(), NoMemory>
         ensures places { OnOk result (self.new.places.items ≡ self.old.places.items ++ place ∷ []) }
         ensures text { OnOk result (self.new.text.items
@@ -44,7 +44,7 @@ fn has_asked_enctype(asked: &[u16], enctype: u16) -> bool
     asked.is_empty() || asked.contains(&enctype)
 }
 
-// What is asked for among the entries of a keytab.
+// A selection, prepared for the entries of a keytab.
 #[derive(Drop)]
 struct Asked<'s, A: Allocator, B: Allocator> {
     selection: &'s Selection<B>,
@@ -70,7 +70,7 @@ impl<'s, A: Allocator + Copy, B: Allocator> Asked<'s, A, B> {
         })
     }
 
-    // Whether an entry has the name and the enctype that are asked for.
+    // Returns whether an entry has the selected name and enctype.
     fn names(&mut self, entry: &EntryView<'_>) -> Result<bool, NoMemory>
         ensures selection { self.new.selection ≡ self.old.selection }
         ensures asked { (xs : List PlacedEntry) → IsAsked xs self.old → IsAsked xs self.new }
@@ -83,7 +83,7 @@ impl<'s, A: Allocator + Copy, B: Allocator> Asked<'s, A, B> {
         self.name.is_of(entry.principal())
     }
 
-    // Selects the next entry where it is asked for.
+    // Adds the next entry if it is selected.
     fn consider(
         &mut self,
         number: usize,
@@ -114,7 +114,7 @@ impl<'s, A: Allocator + Copy, B: Allocator> Asked<'s, A, B> {
     }
 }
 
-/// Selects the entries of a keytab that are asked for. The time is n log n in the bytes of the keytab.
+/// Returns the entries of a keytab that `selection` selects. Takes time n log n in the bytes of the keytab.
 pub fn select<A: Allocator + Copy, B: Allocator>(
     alloc: A,
     keytab: &Keytab<A>,
@@ -128,7 +128,7 @@ pub fn select<A: Allocator + Copy, B: Allocator>(
         text: Vec::new(alloc),
         is_named: false,
     };
-    // There are few: the number of an entry fits.
+    // Bounds the number of entries, so that `number` does not overflow.
     let _count = keytab.cell_count();
     let mut number = 0;
     'entries: for (place, entry) in keytab.entries() {

@@ -1,4 +1,4 @@
-//! The name that is asked for.
+//! The selected name.
 
 ghost use Rattle.std.specs.Prelude.{◌≡◌, IfOk, option_map};
 ghost use Rattle.std.specs.Vec.{vec_items};
@@ -9,14 +9,14 @@ ghost use Rattle.krb_audit.specs.Asked.{asked_text, has_text};
 use krb_wire::{NoMemory, Principal, PrincipalView, write_name};
 use std::alloc::Allocator;
 
-/// The name that is asked for, if one is, as it is printed, and room to print others.
+/// The selected name as it is printed, if one is given, and a buffer to print others.
 #[derive(Drop)]
 pub struct AskedName<A: Allocator> {
     asked: Option<Vec<u8, A>>,
     printed: Vec<u8, A>,
 }
 
-// A name as it is printed.
+// Returns a name as it is printed.
 fn text_of<A: Allocator, B: Allocator>(
     alloc: A,
     name: &Principal<B>,
@@ -44,7 +44,7 @@ impl<A: Allocator + Copy> AskedName<A> {
 }
 
 impl<A: Allocator> AskedName<A> {
-    /// Whether a name prints as the one that is asked for.
+    /// Returns whether a name prints as the selected one. True if none is given.
     pub fn is_of(&mut self, name: &PrincipalView<'_>) -> Result<bool, NoMemory>
         ensures kept { self.new.asked ≡ self.old.asked }
         ensures is { IfOk result (λ b. b ≡ has_text (option_map vec_items self.old.asked) name.now) }

@@ -1,4 +1,4 @@
-//! The tickets that are asked for.
+//! The criteria by which tickets are selected.
 
 ghost use Rattle.std.specs.Prelude.{◌≡◌, IfOk};
 ghost use Rattle.krb_audit.specs.AskedTickets.{has_server, ticket_text};
@@ -10,7 +10,7 @@ use krb_wire::{NoMemory, Principal};
 use std::alloc::Allocator;
 use std::marker::Model;
 
-/// Which tickets are asked for: those of which all holds that is given.
+/// Which tickets are selected: those that meet all criteria given.
 #[derive(Drop)]
 pub struct AskedTickets<A: Allocator> {
     server: AskedName<A>,
@@ -41,7 +41,7 @@ impl<A: Allocator + Copy> AskedTickets<A> {
 }
 
 impl<A: Allocator> AskedTickets<A> {
-    /// Whether a credential is a ticket, and its server has the name that is asked for.
+    /// Returns whether a credential is a ticket whose server prints as the selected name, if one is given.
     pub fn names(&mut self, credential: &CredView<'_>) -> Result<bool, NoMemory>
         ensures kept { self.new ≡ self.old }
         ensures named { IfOk result (λ b. b ≡ has_server self.old credential.now) }
@@ -52,7 +52,7 @@ impl<A: Allocator> AskedTickets<A> {
         self.server.is_of(credential.server())
     }
 
-    /// Whether a credential has ended by the second that is asked for.
+    /// Returns whether a credential's end time is at or before the given second. True if none is given.
     pub fn has_ended(&self, credential: &CredView<'_>) -> bool
         ensures { result ≡ has_ended_by self.now.ended_by credential.now }
     {

@@ -1,4 +1,4 @@
-//! The versions that are asked for.
+//! The selected kvnos.
 
 ghost use Rattle.std.specs.Prelude.{◌≡◌, ℕ, List, slice_get, IfOk, Some};
 ghost use Rattle.krb_keytab.specs.Find.{PlacedEntry, placed_entries};
@@ -11,7 +11,7 @@ use krb_keytab::Keytab;
 use krb_wire::NoMemory;
 use std::alloc::Allocator;
 
-/// The versions that are asked for among the entries of a keytab.
+/// The selected kvnos, prepared for the entries of a keytab.
 #[derive(Drop)]
 pub enum AskedVersions<A: Allocator> {
     Each,
@@ -33,7 +33,7 @@ impl<A: Allocator + Copy> AskedVersions<A> {
 }
 
 impl<A: Allocator> AskedVersions<A> {
-    /// Whether the entry with that number and that version is asked for.
+    /// Returns whether entry `number`, whose kvno is `version`, has a selected kvno.
     pub fn has(&self, number: usize, version: u32) -> bool
         ensures { (xs : List PlacedEntry) (x : PlacedEntry) → AreVersions xs self.now
             → slice_get xs number ≡ Some x → x.1.version ≡ version

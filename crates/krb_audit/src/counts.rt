@@ -1,4 +1,4 @@
-//! How many entries and holes a keytab has.
+//! Counts the entries and holes of a keytab.
 
 ghost use Rattle.std.specs.Prelude.{◌≡◌, ◌++◌, OnOk, ◌+◌, length, sum_by};
 ghost use Rattle.krb_keytab.specs.Cells.{size};
@@ -10,7 +10,7 @@ use krb_text::{append_byte, append_labelled};
 use krb_wire::NoMemory;
 use std::alloc::Allocator;
 
-/// How many holes there are, and their sizes together.
+/// The number of holes, and their total size.
 #[derive(Clone, Copy)]
 struct Holes {
     count: u32,
@@ -33,7 +33,7 @@ fn count_holes<A: Allocator>(keytab: &Keytab<A>) -> Holes
     holes
 }
 
-/// Appends the line that counts them.
+/// Appends the line with the number of entries, the total size of the holes, and their number.
 pub fn append_counts<A: Allocator, B: Allocator>(
     entries: u32,
     keytab: &Keytab<B>,

@@ -1,4 +1,4 @@
-//! What an administrator should know of a keytab.
+//! Checks a keytab for what an administrator should know.
 
 ghost use Rattle.std.specs.Prelude.{◌≡◌, ◌+◌, ◌<◌, ◌^◌, ◌∷◌, ◌++◌, ◌&&◌, ◌||◌, [], List, length, not, OnOk, IfOk};
 ghost use Rattle.std.specs.List.{flat_map};
@@ -20,36 +20,36 @@ use krb_text::{append_fault_line, is_weak};
 use krb_wire::NoMemory;
 use std::alloc::Allocator;
 
-/// What was found about a keytab.
+/// What a check of a keytab found.
 #[derive(Drop)]
 pub struct CheckUp<A: Allocator> {
-    /// A line for each finding, and one that counts entries and holes.
+    /// A line for each finding, and a line that counts entries and holes.
     pub text: Vec<u8, A>,
-    /// Which words the lines have.
+    /// Which words the lines begin with.
     pub told: Told,
-    /// Whether one of them tells of something that is wrong.
+    /// True if one of them reports something wrong.
     pub is_wrong: bool,
 }
 
-/// What is known before an entry, to tell what is found about it.
+/// What is known before an entry is checked.
 #[derive(Drop)]
 struct Before<'a, A: Allocator> {
     newest: NewestVersions<A>,
     firsts: Firsts<'a, A>,
-    /// How many entries stand before it.
+    /// The number of entries before it.
     count: u32,
-    /// Whether MIT's programs end before one of them.
+    /// True if MIT's programs stop before one of them.
     has_ended: bool,
 }
 
-// Whether something holds that did not hold before.
+// Returns whether it holds and did not hold before.
 fn is_first(holds: bool, held: bool) -> bool
     ensures { result ≡ (holds && not held) }
 {
     holds && !held
 }
 
-// Whether it holds, or held before.
+// Returns whether it holds, or held before.
 fn either(held: bool, holds: bool) -> bool
     ensures { result ≡ (held || holds) }
 {
@@ -57,7 +57,7 @@ fn either(held: bool, holds: bool) -> bool
 }
 
 impl<'a, A: Allocator + Copy> Before<'a, A> {
-    // Before the first entry of a keytab.
+    // Returns what is known before the first entry of a keytab.
     fn first<B: Allocator>(alloc: A, keytab: &Keytab<B>) -> Result<Before<'a, A>, NoMemory>
         ensures { IfOk result (IsBefore keytab.now.state []) }
     {
@@ -69,7 +69,7 @@ impl<'a, A: Allocator + Copy> Before<'a, A> {
         })
     }
 
-    // What is found about the next entry.
+    // Returns what is found about the next entry, and adds the entry to those before the next.
     fn marks(&mut self, place: u32, entry: &EntryView<'a>) -> Result<Marks, NoMemory>
         requires { self.old.count + 1 < 2 ^ 32 }
         ensures marks { (k : KeytabState) (before rest : List PlacedEntry) → IsBefore k before self.old
@@ -97,7 +97,7 @@ impl<'a, A: Allocator + Copy> Before<'a, A> {
     }
 }
 
-// Appends the lines of all entries, and answers which words they have and how many entries there are.
+// Appends the lines of all entries. Returns which words they begin with, and the number of entries.
 fn append_marks<A: Allocator + Copy, B: Allocator>(
     alloc: A,
     keytab: &Keytab<B>,
@@ -118,8 +118,7 @@ fn append_marks<A: Allocator + Copy, B: Allocator>(
     Ok((told, before.count))
 }
 
-/// Finds what an administrator should know of a keytab, and of the mode of the plain file that has it. The time is
-/// n log n in the bytes of the keytab.
+/// Checks a keytab and, if it is given, the `mode` of its plain file. Takes time n log n in the bytes of the keytab.
 pub fn check_up<A: Allocator + Copy, B: Allocator>(
     alloc: A,
     mode: Option<u32>,

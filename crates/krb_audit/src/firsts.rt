@@ -1,4 +1,4 @@
-//! The first entry of each name, version and enctype.
+//! The first entry of each name, kvno and enctype.
 
 ghost use Rattle.std.specs.Prelude.{◌≡◌, None, Some, OnOk, IfOk, option_map, if◌then◌else◌};
 ghost use Rattle.std.specs.Option.{unwrap_or};
@@ -10,17 +10,17 @@ use krb_wire::NoMemory;
 use std::alloc::Allocator;
 use std::collections::BTreeMap;
 
-/// The number of the first entry of a name, a version and an enctype.
+/// A name, as the number of its first entry, a kvno and an enctype.
 pub type Key = (usize, u32, u16);
 
-/// The place and the secret of the first entry of each key.
+/// Maps each `Key` to the place and the secret key of its first entry.
 #[derive(Drop)]
 pub struct Firsts<'a, A: Allocator> {
     map: BTreeMap<Key, (u32, &'a [u8]), A>,
 }
 
 impl<'a, A: Allocator + Copy> Firsts<'a, A> {
-    /// Before any entry.
+    /// Returns an empty map.
     pub fn new(alloc: A) -> Firsts<'a, A>
         ensures { (k : Key) → looked result k ≡ None }
     {
@@ -29,7 +29,7 @@ impl<'a, A: Allocator + Copy> Firsts<'a, A> {
         }
     }
 
-    /// Takes up the next entry of a key, and answers what the first is to it, if there was one.
+    /// Adds the next entry of `key`. Returns how the first one compares to it, or `None` if it is the first.
     pub fn consider(
         &mut self,
         key: Key,
@@ -44,7 +44,7 @@ impl<'a, A: Allocator + Copy> Firsts<'a, A> {
         let Some(first) = self.map.insert(key, (place, secret))? else {
             return Ok(None);
         };
-        // The first one stays.
+        // The first entry stays in the map.
         let (first_place, first_secret) = first;
         let _ = self.map.insert(key, first)?;
         Ok(Some(Alike {

@@ -1,9 +1,9 @@
-//! A number that tells most names apart.
+//! A hash of names.
 
 ghost use Rattle.std.specs.Prelude.{◌≡◌};
 ghost use Rattle.krb_audit.specs.Hash.{hash_of};
 
-/// A number made of the bytes of a name: names with other numbers are not compared byte by byte.
+/// Returns a hash of a name's bytes. Names with different hashes are not compared byte by byte.
 #[tactic(auto, using(std::proofs::lemmas::List::Sums::fold_more), unfolding(crate::specs::Hash::hash_of))]
 pub fn hash_of(name: &[u8]) -> u64
     ensures { result ≡ hash_of name.now }

@@ -1,5 +1,5 @@
-//! What an administrator asks of a whole keytab: which of its entries are old, and which are asked for; and which
-//! tickets of a cache are.
+//! Checks and selections over a whole keytab: what is wrong with it, which entries are old, and which are selected;
+//! and selections of a cache's tickets.
 #![tactic(auto)]
 
 mod asked;

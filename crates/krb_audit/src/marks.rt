@@ -1,4 +1,4 @@
-//! What is found about an entry, as lines.
+//! Findings about an entry, and their lines.
 
 ghost use Rattle.std.specs.Prelude.{◌≡◌, ◌++◌, OnOk};
 ghost use Rattle.krb_audit.specs.Report.{alike_line, alike_word, line_if, mark_lines};
@@ -8,7 +8,7 @@ use krb_text::{append_labelled, append_placed};
 use krb_wire::NoMemory;
 use std::alloc::Allocator;
 
-/// The first of the entries before one that has its name, version and enctype.
+/// The first earlier entry that has an entry's name, kvno and enctype.
 #[derive(Clone, Copy, Debug, PartialEq, Eq)]
 pub struct Alike {
     pub place: u32,
@@ -20,10 +20,10 @@ pub struct Alike {
 pub struct Marks {
     /// Its enctype is weak.
     pub weak: bool,
-    /// It is the first that MIT's programs do not see.
+    /// It is the first that MIT's programs do not read.
     pub hidden: bool,
     pub alike: Option<Alike>,
-    /// There is a newer version of its name.
+    /// Its kvno is not that of the newest entry of its name.
     pub old: bool,
 }
 
@@ -64,7 +64,7 @@ fn append_alike<A: Allocator>(
 }
 
 impl Marks {
-    /// Appends the lines of the entry.
+    /// Appends the lines of the findings about the entry at `place`.
     pub fn append<A: Allocator>(
         self,
         place: u32,

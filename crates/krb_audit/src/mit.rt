@@ -1,4 +1,4 @@
-//! What MIT's programs make of an entry.
+//! Where MIT's programs stop reading a keytab.
 
 ghost use Rattle.std.specs.Prelude.{◌≡◌, length, List, ℕ};
 ghost use Rattle.std.specs.List.{list_any};
@@ -8,10 +8,10 @@ use krb_keytab::EntryView;
 use krb_wire::{Components, Name};
 use std::alloc::Allocator;
 
-/// The greatest count, and length, with which they read an entry.
+/// The largest count or length with which MIT's programs read an entry.
 const MOST: usize = 32_767;
 
-// Whether they read no entry with such a count or length.
+// Returns whether MIT's programs read no entry with such a count or length.
 fn is_out(count: usize) -> bool
     ensures { result ≡ is_out count }
 {
@@ -29,7 +29,7 @@ fn has_such<A: Allocator>(components: Components<'_, A>) -> bool
     false
 }
 
-/// Whether they end silently before an entry.
+/// Returns whether MIT's programs silently stop before an entry.
 pub fn ends_mit(entry: &EntryView<'_>) -> bool
     ensures { result ≡ ends_mit entry.now }
 {

@@ -1,4 +1,4 @@
-//! The mode of a file.
+//! File modes.
 
 ghost use Rattle.std.specs.Prelude.{◌≡◌, ◌++◌, OnOk, ◌%◌};
 ghost use Rattle.krb_audit.specs.Report.{has_mode, is_open, is_open_to_all, mode_line, octal};
@@ -7,14 +7,14 @@ use krb_text::{append, append_byte};
 use krb_wire::NoMemory;
 use std::alloc::Allocator;
 
-// Whether others than its owner may read or write a file of that mode.
+// Returns whether group or others may read or write a file of that mode.
 fn is_open(mode: u32) -> bool
     ensures { result ≡ is_open mode }
 {
     mode & 0o66 != 0
 }
 
-/// Whether the mode of a plain file is told.
+/// Returns whether the mode is reported: group or others may read or write the plain file.
 pub fn is_open_file(mode: Option<u32>) -> bool
     ensures { result ≡ has_mode is_open mode }
 {
@@ -24,7 +24,7 @@ pub fn is_open_file(mode: Option<u32>) -> bool
     }
 }
 
-/// Whether all may read or write a plain file.
+/// Returns whether others may read or write the plain file.
 pub fn is_open_to_all(mode: Option<u32>) -> bool
     ensures { result ≡ has_mode is_open_to_all mode }
 {
@@ -34,7 +34,7 @@ pub fn is_open_to_all(mode: Option<u32>) -> bool
     }
 }
 
-// Appends at most so many octal digits of a number, without leading zeros.
+// Appends a number in octal without leading zeros: at most its last `places` digits.
 fn append_octal<A: Allocator>(
     places: u32,
     number: u32,
@@ -49,7 +49,7 @@ fn append_octal<A: Allocator>(
     append_byte(b'0' + (number % 8) as u8, out)
 }
 
-/// Appends the line of a mode, if it is told.
+/// Appends the line of the mode, if it is reported.
 pub fn append_mode<A: Allocator>(mode: Option<u32>, out: &mut Vec<u8, A>) -> Result<(), NoMemory>
     ensures { OnOk result (out.new.items ≡ out.old.items ++ mode_line mode) }
 {

@@ -1,4 +1,4 @@
-//! The name of an entry, as the bytes of its record spell it.
+//! The bytes of a record that encode its entry's name.
 
 ghost use Rattle.std.specs.Prelude.{◌≡◌, IfSome, Some, None};
 ghost use Rattle.krb_wire.specs.Reading.{Gives};
@@ -9,18 +9,18 @@ ghost use Rattle.krb_audit.specs.Names.{kt_name, type_len};
 use krb_keytab::{EntryView, read_entry};
 use krb_wire::{KtFormat, split_kt_principal};
 
-// How many bytes a name type takes.
+// Returns the size of a name type in bytes: 0 if the format has none.
 fn name_type_len(format: KtFormat) -> usize
     ensures { result ≡ type_len format }
 {
     if format.has_name_type() { 4 } else { 0 }
 }
 
-/// The entry that a record's bytes spell, and those of them that spell its name without the type.
+/// Returns those bytes of a record that encode its entry's name without the name type, and the entry.
 pub fn named_entry(format: KtFormat, bytes: &[u8]) -> Option<(&[u8], EntryView<'_>)>
     ensures entry { Gives (λ x. x.1) result (entry_at format bytes.now) }
     ensures name { IfSome result (λ x. x.0.now ≡ kt_name format x.1.principal) }
-    // Names that fit are the same where these bytes are.
+    // Names that fit are the same iff these bytes are.
     ensures fits { IfSome result (λ x. FitsKt format x.1.principal) }
 {
     let entry = read_entry(format, bytes)?;

@@ -1,4 +1,4 @@
-//! The newest versions of the names in a keytab.
+//! The newest entry of each name in a keytab.
 
 ghost use Rattle.std.specs.Prelude.{◌≡◌, ℕ, ◌==◌, ◌++◌, ◌∷◌, [], List, length, slice_get, IfOk, OnOk, Some, None, false, unwrap_or, if◌then◌else◌};
 ghost use Rattle.krb_keytab.specs.Entry.{EntryParts};
@@ -17,16 +17,16 @@ use krb_wire::{KtFormat, NoMemory};
 use std::alloc::Allocator;
 use std::collections::BTreeMap;
 
-/// What is kept of the entries of a keytab, by their numbers in file order.
+/// The newest entry of each name in a keytab. Entries are numbered from 0 in file order.
 #[derive(Drop)]
 pub struct NewestVersions<A: Allocator> {
-    // For each entry the number of the first entry of its name.
+    // For each entry, the number of the first entry of its name.
     firsts: Vec<usize, A>,
-    // For each that is the first of its name the stamp of the newest.
+    // For each entry that is the first of its name, the stamp of the newest.
     stamps: Vec<Stamp, A>,
 }
 
-// Puts a stamp in the place of an older one.
+// Replaces the stamp of entry `first` if `stamp` is newer.
 fn renew(stamps: &mut [Stamp], first: usize, stamp: Stamp)
     ensures count { length stamps.new ≡ length stamps.old }
     ensures newest { (e l : EntryParts) → slice_get stamps.old first ≡ Some (stamp_of e)
@@ -41,7 +41,7 @@ fn renew(stamps: &mut [Stamp], first: usize, stamp: Stamp)
 }
 
 impl<A: Allocator> NewestVersions<A> {
-    // Before any entry.
+    // Returns what is known before any entry.
     fn none(alloc: A) -> NewestVersions<A>
     where
         A: Copy,
@@ -53,7 +53,7 @@ impl<A: Allocator> NewestVersions<A> {
         }
     }
 
-    // Keeps the next entry.
+    // Adds the next entry; `first` is the number of the first entry of its name.
     fn keep(&mut self, first: usize, stamp: Stamp) -> Result<(), NoMemory>
         ensures { (xs : List PlacedEntry) (x : PlacedEntry)
             → AreKept xs self.old.firsts.items self.old.stamps.items
@@ -67,7 +67,7 @@ impl<A: Allocator> NewestVersions<A> {
         Ok(())
     }
 
-    /// Those of the entries of a keytab.
+    /// Finds the newest entry of each name in `keytab`.
     pub fn of<B: Allocator>(alloc: A, keytab: &Keytab<B>) -> Result<NewestVersions<A>, NoMemory>
     where
         A: Copy,
@@ -87,7 +87,7 @@ impl<A: Allocator> NewestVersions<A> {
         Ok(names.versions)
     }
 
-    /// The number of the first entry that has the name of the entry with that number.
+    /// Returns the number of the first entry that has the name of entry `number`, or `None` if there is no such entry.
     pub fn first(&self, number: usize) -> Option<usize>
         ensures { (xs : List PlacedEntry) → AreKept xs self.now.firsts.items self.now.stamps.items
             → result ≡ first_at xs number }
@@ -95,7 +95,7 @@ impl<A: Allocator> NewestVersions<A> {
         self.firsts.get(number).copied()
     }
 
-    /// The stamp of the newest entry that has the name of the entry with that number.
+    /// Returns the stamp of the newest entry that has the name of entry `number`, or `None` if there is no such entry.
     pub fn newest(&self, number: usize) -> Option<Stamp>
         ensures { (xs : List PlacedEntry) → AreKept xs self.now.firsts.items self.now.stamps.items
             → result ≡ newest_at xs number }
@@ -104,7 +104,7 @@ impl<A: Allocator> NewestVersions<A> {
         self.stamps.get(first).copied()
     }
 
-    /// Whether the entry with that number and that version is old.
+    /// Returns whether entry `number`, whose kvno is `kvno`, is old.
     pub fn is_old(&self, number: usize, kvno: u32) -> bool
         ensures { (xs : List PlacedEntry) (x : PlacedEntry)
             → AreKept xs self.now.firsts.items self.now.stamps.items
@@ -117,7 +117,7 @@ impl<A: Allocator> NewestVersions<A> {
     }
 }
 
-// The number of a name: the next one, unless it has one.
+// Returns the number of a name. A new name gets the number `next`.
 fn number_of<'a, A: Allocator + Clone>(
     numbers: &mut BTreeMap<(u64, &'a [u8]), usize, A>,
     name: (u64, &'a [u8]),
@@ -130,7 +130,7 @@ fn number_of<'a, A: Allocator + Clone>(
     Ok(*numbers.entry(name)?.or_insert(next))
 }
 
-// The names of the entries so far, with their numbers, and what is kept of the entries.
+// The names of the entries so far, each with the number of its first entry, and the newest entries.
 #[derive(Drop)]
 struct Names<'a, A: Allocator> {
     numbers: BTreeMap<(u64, &'a [u8]), usize, A>,
@@ -138,7 +138,7 @@ struct Names<'a, A: Allocator> {
 }
 
 impl<'a, A: Allocator + Copy> Names<'a, A> {
-    // Considers the next record.
+    // Adds the entry of the next record.
     fn consider(&mut self, format: KtFormat, bytes: &'a [u8]) -> Result<(), NoMemory>
         ensures { (xs : List PlacedEntry) (place : ℕ) (e : EntryParts)
             → entry_at format bytes.now ≡ Some e → IsKnown format xs self.old

@@ -1,23 +1,23 @@
-//! Which entries are asked for.
+//! Selections of entries.
 
 use krb_wire::Principal;
 use std::alloc::Allocator;
 
-/// Which versions are asked for.
+/// Which kvnos are selected.
 #[derive(Clone, Copy, Debug, PartialEq, Eq)]
 pub enum AskedKvno {
     Any,
     Exactly(u32),
-    /// Those other than the version of the newest entry of their name.
+    /// Any kvno other than that of the newest entry of the name.
     Old,
 }
 
-/// Which entries are asked for: those of which all holds that is given.
+/// Which entries are selected: those that meet all criteria given.
 #[derive(Drop)]
 pub struct Selection<A: Allocator> {
-    /// The name, as it is printed.
+    /// The name; names are compared as they are printed. `None` selects any.
     pub name: Option<Principal<A>>,
     pub kvno: AskedKvno,
-    /// The enctypes; none at all ask for any.
+    /// The enctypes; an empty list selects any.
     pub enctypes: Vec<u16, A>,
 }

@@ -1,4 +1,4 @@
-//! What tells which of two entries of a name is the newer one.
+//! Which of two entries of a name is the newer one.
 
 ghost use Rattle.std.specs.Prelude.{◌≡◌};
 ghost use Rattle.krb_keytab.specs.Entry.{EntryParts};
@@ -7,7 +7,7 @@ ghost use Rattle.krb_audit.specs.Stamps.{stamp_of};
 
 use krb_keytab::EntryView;
 
-/// The version of an entry and its time.
+/// The kvno and the timestamp of an entry.
 #[derive(Clone, Copy, Debug)]
 pub struct Stamp {
     pub kvno: u32,
@@ -21,7 +21,7 @@ fn has_wrapped(small: u32, large: u32) -> bool
 }
 
 impl Stamp {
-    /// That of an entry.
+    /// Returns the stamp of an entry.
     pub fn of(entry: &EntryView<'_>) -> Stamp
         ensures { result ≡ stamp_of entry.now }
     {
@@ -31,7 +31,7 @@ impl Stamp {
         }
     }
 
-    /// Whether a later entry of the name takes the place of the newest so far.
+    /// Returns whether a later entry of the name replaces this one as the newest.
     pub fn is_older_than(self, later: Stamp) -> bool
         ensures { (e l : EntryParts) → self ≡ stamp_of e → later ≡ stamp_of l
             → result ≡ is_newer e l }

@@ -1,4 +1,4 @@
-//! The tickets of a cache that are asked for.
+//! Selects tickets of a cache.
 
 ghost use Rattle.std.specs.Prelude.{◌≡◌, ◌++◌, ◌∷◌, [], List, IfOk, OnOk};
 ghost use Rattle.krb_ccache.specs.Store.{PlacedCredential};
@@ -11,7 +11,7 @@ use krb_text::{append_byte, append_labelled};
 use krb_wire::{NoMemory, Principal, write_name};
 use std::alloc::Allocator;
 
-// Appends the line of a ticket that was removed from a place.
+// Appends the line that reports the removal of the ticket at `place`.
 fn append_removed<A: Allocator>(
     place: u32,
     ticket: &CredView<'_>,
@@ -25,19 +25,19 @@ fn append_removed<A: Allocator>(
     append_byte(b'\n', out)
 }
 
-/// The tickets of a cache that are asked for.
+/// The selected tickets of a cache.
 #[derive(Drop)]
 pub struct SelectedTickets<A: Allocator> {
     /// Their places, in file order.
     pub places: Vec<u32, A>,
-    /// A line for each that tells of its removal.
+    /// A line for each that reports its removal.
     pub text: Vec<u8, A>,
-    /// Whether some ticket's server prints as the one that is asked for, or none is asked for and there is a ticket.
+    /// True if some ticket's server prints as the given one, or if none is given and there is a ticket.
     pub is_named: bool,
 }
 
 impl<A: Allocator> SelectedTickets<A> {
-    // Selects a ticket.
+    // Adds a ticket.
     fn add(&mut self, place: u32, ticket: &CredView<'_>) -> Result<(), NoMemory>
         ensures places { OnOk result (self.new.places.items ≡ self.old.places.items ++ place ∷ []) }
         ensures text { OnOk result (self.new.text.items
@@ -48,7 +48,7 @@ impl<A: Allocator> SelectedTickets<A> {
         append_removed(place, ticket, &mut self.text)
     }
 
-    // Selects the next credential where it is a ticket that is asked for.
+    // Adds the next credential if it is a selected ticket.
     fn consider<B: Allocator>(
         &mut self,
         asked: &mut AskedTickets<B>,
@@ -71,8 +71,8 @@ impl<A: Allocator> SelectedTickets<A> {
     }
 }
 
-/// Selects the tickets of a cache that are asked for, by the name of their server, as it is printed, and by the second
-/// by which they have ended. All that is given holds of each. One pass.
+/// Returns the tickets of a cache whose server prints as `server`, if it is given, and whose end time is at or before
+/// `ended_by`, if it is given. Takes one pass.
 pub fn select_tickets<A: Allocator + Copy, B: Allocator>(
     alloc: A,
     cache: &Ccache<A>,

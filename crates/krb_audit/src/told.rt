@@ -1,11 +1,11 @@
-//! Which words the lines of findings have.
+//! The words of findings.
 
 ghost use Rattle.std.specs.Prelude.{◌≡◌, []};
 ghost use Rattle.krb_audit.specs.Report.{is_clash, is_same, told_of, tells_wrong, with_marks};
 
 use crate::marks::{Alike, Marks};
 
-/// Which words the lines of findings have.
+/// Which of these words lines of findings begin with.
 #[derive(Clone, Copy, Debug, Default, PartialEq, Eq)]
 pub struct Told {
     pub weak: bool,
@@ -29,7 +29,7 @@ fn is_clash(alike: Option<Alike>) -> bool
 }
 
 impl Told {
-    /// None.
+    /// Returns a `Told` with no words.
     pub(crate) fn none() -> Told
         ensures { result ≡ told_of [] }
     {
@@ -43,14 +43,14 @@ impl Told {
         }
     }
 
-    /// These, and that of the mode if it is told.
+    /// Returns these words, and `mode` if the mode is reported.
     pub(crate) fn with_mode(self, mode: bool) -> Told
         ensures { result ≡ record self { mode = mode } }
     {
         Told { mode, ..self }
     }
 
-    /// Those of one entry more.
+    /// Returns these words and those of one more entry.
     pub(crate) fn with(self, marks: Marks) -> Told
         ensures { result ≡ with_marks self marks }
     {
@@ -64,7 +64,7 @@ impl Told {
         }
     }
 
-    /// Whether an entry has something that is wrong.
+    /// Returns whether some entry has something wrong.
     pub(crate) fn is_wrong(self) -> bool
         ensures { result ≡ tells_wrong self }
     {

@@ -1,4 +1,4 @@
--- A live credential is read where it stands: the cache of an image was read from it.
+-- A live credential is read in place: the cache of an image was read from it.
 use Rattle.std.proofs.Common.{◌≡◌, ℕ, ◌+◌, Bool, true, false, cond, List, [], ◌∷◌, ◌++◌, length, drop, Option, Some, None, Result, Ok, Err, refl, sym, ap, subst, ◌∙◌, arith}
 use Rattle.std.specs.Prelude.{◌==◌, nat_lt, option_map, find}
 use Rattle.std.specs.List.{AllByRecursion}
@@ -83,7 +83,7 @@ found_cell : (v : Version) (at p : ℕ) (cs : List CredParts) (x : CredParts) �
 found_cell v at p [] x sound e = absurd cc
 found_cell v at p (c ∷ cs) x sound e = found_by v at p c x cs (at == p) (λ f. found_cell v (at + length (credential v c)) p cs x sound.1 f) sound.0 e
 
--- the credential that stands at a place is the one that its bytes begin with
+-- the credential at a place is the one that its bytes begin with
 pub record IsReadThere (k : CacheState) (p : ℕ) (bytes : List ℕ) : Type 0 where
   pub cell : CredParts
   pub there : credential_at_place k p ≡ Some cell

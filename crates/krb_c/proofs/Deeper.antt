@@ -1,4 +1,4 @@
--- What is refused after the length and the version of an image is its header or its default principal.
+-- After the length and the version of an image, only its header or its default principal is refused.
 use Rattle.std.proofs.Common.{ℕ, List, Option, Some, None, refl, inl, inr}
 use Rattle.std.specs.Prelude.{IfErr}
 use Rattle.krb_wire.specs.Spelling.{Parts}

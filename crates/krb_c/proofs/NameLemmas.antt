@@ -1,4 +1,4 @@
--- A text that was not read as a name is answered as it is refused.
+-- A text that was not read as a name is refused with the status that says why.
 use Rattle.std.proofs.Common.{◌≡◌, refl, subst, inl, inr}
 use Rattle.std.specs.Prelude.{◌⊎◌, ℕ, Result, Ok, Err, IsOk}
 use Rattle.krb_wire.specs.declared.name_fault.NameFault.{NameFault}

@@ -1,4 +1,4 @@
--- What stands behind a handle may go to another thread: its memory may be given back there.
+-- What is behind a handle may go to another thread: its memory may be freed there.
 use denote.Param.Send.{IsSend, EachSend, Frees, sendable, recorded_send, enum_send}
 use denote.Enum.Declared.{shape}
 use Rattle.std.proofs.Crossing as heap

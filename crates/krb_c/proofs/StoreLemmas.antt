@@ -1,4 +1,4 @@
--- What is known of a store behind a handle, and what a refusal says.
+-- What is known of a store behind a handle, and the status of a refusal.
 use Rattle.std.proofs.Common.{◌≡◌, ℕ, Option, Some, None, Result, Ok, Err, sym, ap, subst, ◌∙◌, inl, inr, refl}
 use Rattle.std.specs.Prelude.{IfSome, IfOk, OnOk, List, [], ◌∷◌, true}
 use Rattle.krb_walk.specs.declared.refusal.Code.{Code}
@@ -27,7 +27,7 @@ known_after s c p n sound is =
       place = ap (λ r. is_place s (stop_cursor (end_of s) r)) (sym live.next) ∙ stop_place s c;
     }
 
--- a place stays one where cells stay where they are
+-- a place stays one if the cells stay where they are
 kept_by : (s new : Store) (next : Option ℕ) → Extends s new → IfSome next (IsPlace s) → AreKnown new None next
 kept_by s new None more h = record { stands = tt; place = tt }
 kept_by s new (Some p) more h = record { stands = tt; place = place_kept s new p more h }
@@ -52,7 +52,7 @@ places_all s (p ∷ ps) e =
     let both = and_both (is_place s p) (are_places s ps) e in
     (both.0, places_all s ps both.1)
 
--- a refusal has its status, and leaves the place and what there was
+-- a refusal has its status, and changes neither the place nor the store
 pub refused : {S : Type 0} → (given : Result (ℕ × S) Code) (old new : S) (why : Refusal) (status place : ℕ)
     → PutGives given old (Err why) new → status ≡ refusal_status why → Adds given old status place place new
 refused given old new (ByCode code) status place gives is = inl (rw gives.0 (is, refl, gives.1))

@@ -1,4 +1,4 @@
--- What calls say of what stands behind a handle.
+-- What calls do with what is behind a handle.
 use Rattle.std.specs.Prelude.{◌≡◌, Option, Some, None, IsSomeAnd, option_and_then}
 use Rattle.krb_keytab.specs.Store.{KeytabState}
 use Rattle.krb_ccache.specs.Store.{CacheState}
@@ -13,11 +13,11 @@ keytab_of kt = option_and_then keytab_in kt.held
 abbrev pub cache_of : Handle → Option CacheState
 cache_of cc = option_and_then cache_in cc.held
 
--- what stands behind it stays the same, and P holds of it
+-- what is behind it stays the same, and P holds of it
 abbrev pub Looks : {S : Type 0} → Option S → Option S → (S → Type 0) → Type 0
 Looks old new P = (new ≡ old) × IsSomeAnd old P
 
--- something stands behind it before and after the call, and P holds of both
+-- something is behind it before and after the call, and P holds of both
 abbrev pub Over : {S : Type 0} → Option S → Option S → (S → S → Type 0) → Type 0
 Over None new P = ⊥
 Over (Some old) None P = ⊥

@@ -1,4 +1,4 @@
--- Changes of a cache that C asks for.
+-- Storing a credential for C.
 use Rattle.std.specs.Prelude.{ℕ, List, [], Bool, ◌&&◌, nat_lt, None, Result, Ok, Err, if◌then◌else◌}
 use Rattle.krb_wire.specs.Spelling.{Parts}
 use Rattle.krb_wire.specs.NameOf.{name_of}
@@ -20,7 +20,7 @@ pub record AskedParts : Type 0 where
   pub second_ticket : List ℕ
   pub numbers : KrbfNumbers
 
--- the same, one by one
+-- the same, from the arguments of a call
 abbrev pub asked_of : List ℕ → List ℕ → List ℕ → List ℕ → List ℕ → KrbfNumbers → AskedParts
 asked_of client server key ticket second_ticket numbers = record { client = client; server = server; key = key; ticket = ticket; second_ticket = second_ticket; numbers = numbers }
 
@@ -28,7 +28,7 @@ asked_of client server key ticket second_ticket numbers = record { client = clie
 abbrev pub numbers_fit : KrbfNumbers → Bool
 numbers_fit n = nat_lt n.enctype 65536 && nat_lt n.is_skey 2
 
--- the credential between two names, without addresses and authorization data
+-- the credential of a client and a server, without addresses and authorization data
 abbrev pub credential_between : AskedParts → Parts → Parts → CredParts
 credential_between a client server = record {
   client = client;
@@ -43,18 +43,18 @@ credential_between a client server = record {
   second_ticket = a.second_ticket;
 }
 
--- the same, or 32 where a number does not fit
+-- the same, or 32 if a number does not fit
 abbrev pub with_parts : AskedParts → Parts → Parts → Result CredParts ℕ
 with_parts a client server = if numbers_fit a.numbers then Ok (credential_between a client server) else Err 32
 
--- ---- what an addition answers
+-- ---- what an addition returns
 
 -- the credential is stored, or refused
 abbrev pub StoresOr : Result CredParts ℕ → CacheState → ℕ → ℕ → ℕ → CacheState → Type 0
 StoresOr (Ok c) old status place new_place new = AddsOr (put_result old c) old status place new_place new
 StoresOr (Err why) old status place new_place new = Refuses why old status place new_place new
 
--- the credential that is asked for is stored: the client's text is looked at first, then the server's, and then the numbers
+-- the credential of these parts is stored: the client's text is checked first, then the server's, and then the numbers
 abbrev pub Stores : AskedParts → CacheState → ℕ → ℕ → ℕ → CacheState → Type 0
 Stores a old status place new_place new =
     let Refused : ℕ → Type 0 = λ why. Refuses why old status place new_place new in

@@ -5,11 +5,11 @@ use Rattle.krb_ccache.specs.Config.{is_config}
 use Rattle.krb_c.specs.declared.cache.ticket.KrbfTicket.{KrbfTicket}
 use Rattle.krb_c.specs.Shown.{AreShown}
 
--- 1 where it is so, and else 0
+-- 1 if true, else 0
 abbrev pub flag : Bool → ℕ
 flag b = if b then 1 else 0
 
--- what C sees is the credential at a place: its numbers, and where its bytes lie
+-- what C sees is the credential at a place: its numbers, and where its bytes are
 pub record Shows (seen : KrbfTicket) (at : ℕ) (c : CredParts) : Type 0 where
   pub place : seen.place ≡ at
   pub enctype : seen.enctype ≡ c.key.enctype

@@ -9,6 +9,6 @@ abbrev pub are_places : Store → List ℕ → Bool
 are_places s [] = true
 are_places s (p ∷ ps) = is_place s p && are_places s ps
 
--- what a rewrite gives with cursors: first each of them has to be a place
+-- the result of a rewrite with cursors: refused first if one of them is not a place
 abbrev pub with_cursors : {S : Type 0} → Store → List ℕ → Result S Code → Result S Code
 with_cursors s cursors given = if are_places s cursors then given else Err NotAPlace

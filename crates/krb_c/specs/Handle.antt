@@ -1,4 +1,4 @@
--- What the handle owns: where something stands behind it, the same as a `Box<Held>`.
+-- What the handle owns: if something is behind it, the same as a `Box<Held>`.
 use base.Fml.{Fml, feq}
 use base.Stored.{Coded}
 use denote.RawPtr.{Ptr, null_ptr}
@@ -9,11 +9,11 @@ use Rattle.std.specs.Global.{Global}
 use Rattle.std_heap.specs.contracts.GlobalAllocator.TheImpl.{ghosts}
 use Rattle.krb_c.specs.contracts.held.Held.{the_row}
 
--- nothing where it is empty, and then its pointer is null; else a box at its pointer
+-- nothing if it is empty, and then its pointer is null; else a box at its pointer
 abbrev pub handle_owns : Global → Ptr → Option the_row.Denot → Fml
 handle_owns alloc ptr None = feq Ptr ptr null_ptr
 handle_owns alloc ptr (Some held) = box_owns (ghosts.dealloc_token alloc) the_row ptr held
 
--- how the type of what stands behind it is coded
+-- how the type of what is behind it is coded
 abbrev pub held_coded : Coded (Option the_row.Denot)
 held_coded = coded_option the_row.coded

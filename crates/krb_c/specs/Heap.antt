@@ -1,4 +1,4 @@
--- The allocator of all that stands behind a handle.
+-- The allocator of all that is behind a handle.
 use mir.Syntax.{impl, tnil, dnil}
 use mathlib.Core.List.{[]}
 use denote.RattleType.{RattleType}

@@ -1,4 +1,4 @@
--- What stands behind a handle, and what is written through a reference to it.
+-- What is behind a handle, and what is written through a reference to it.
 use mathlib.Core.List.{List, [], ◌∷◌}
 use denote.RattleType.{RattleType}
 use denote.Enum.Declared.{shape}
@@ -30,10 +30,10 @@ abbrev second : List (List RattleType) → RattleType
 second ((other ∷ []) ∷ (row ∷ []) ∷ []) = row
 second rows = the_row
 
--- it ends as the last keytab behind r
+-- its final value is the keytab that r ends with
 abbrev pub LendsKeytab : MutBor Held → MutBor KeytabInMemory → Fml
 LendsKeytab held r = Lends the_row (first (shape the_type).variants) held r Keytab
 
--- it ends as the last cache behind r
+-- its final value is the cache that r ends with
 abbrev pub LendsCache : MutBor Held → MutBor CacheInMemory → Fml
 LendsCache held r = Lends the_row (second (shape the_type).variants) held r Cache

@@ -1,4 +1,4 @@
--- What an addition to a keytab answers.
+-- What an addition to a keytab returns.
 use Rattle.std.specs.Prelude.{◌≡◌, ℕ, List, Some, Result, IfOk}
 use Rattle.krb_wire.specs.Spelling.{Parts}
 use Rattle.krb_wire.specs.declared.name_fault.NameFault.{NameFault}
@@ -13,11 +13,11 @@ use Rattle.krb_c.specs.Text.{ByName}
 abbrev pub entry_with : ℕ → ℕ → ℕ → List ℕ → Parts → EntryParts
 entry_with timestamp kvno enctype key name = record { principal = name; timestamp = timestamp; version = kvno; enctype = enctype; key = key }
 
--- the entry that was added is read at its place, as the format keeps it
+-- the entry that was added is read back at its place, as the format keeps it
 abbrev pub ReadsBack : KeytabState → Result Parts NameFault → (Parts → EntryParts) → ℕ → KeytabState → Type 0
 ReadsBack old named entry place new = IfOk named (λ name. entry_at_place new place ≡ Some (read_back old.format (entry name)))
 
--- an addition of what a text names
+-- an addition of an entry of the name in a text
 abbrev pub AddsNamed : KeytabState → Result Parts NameFault → (Parts → EntryParts) → ℕ → ℕ → ℕ → KeytabState → Type 0
 AddsNamed old named entry status place new_place new =
     ByName (λ name. AddsOr (put_result old (entry name)) old status place new_place new) (λ why. Refuses why old status place new_place new) named

@@ -1,4 +1,4 @@
--- Which keytab is opened for C, and which is made.
+-- Which keytab is opened for C, and which is created.
 use Rattle.std.specs.Prelude.{◌≡◌, ◌⊎◌, ℕ, zero, suc, List, Option, Some, None, IsOk}
 use Rattle.krb_wire.specs.declared.format.Order.{Order}
 use Rattle.krb_wire.specs.declared.format.Order.TheVariants.{Big, Little}
@@ -9,12 +9,12 @@ use Rattle.krb_c.specs.Behind.{keytab_of}
 use Rattle.krb_c.specs.Opens.{OpensNone, Opens}
 use Rattle.krb_c.specs.Status.{kt_open_status}
 
--- the order of the numbers of version 1: 0 is little-endian
+-- the byte order of version 1: 0 is little-endian
 abbrev pub order_of_flag : ℕ → Order
 order_of_flag zero = Little
 order_of_flag (suc n) = Big
 
--- the keytab of an image is opened with a limit, if it is one: else 13
+-- the keytab of an image is opened with a limit; 13 if it is not a limit
 abbrev pub OpensImage : ℕ → List ℕ → Option ℕ → ℕ → Handle → Type 0
 OpensImage v1_big image (Some limit) status kt = Opens kt_open_status (open_result (order_of_flag v1_big) limit image) status (keytab_of kt) kt
 OpensImage v1_big image None status kt = OpensNone 13 status kt
@@ -24,7 +24,7 @@ abbrev pub IsKeytab : ℕ → List ℕ → Option ℕ → Type 0
 IsKeytab v1_big image (Some limit) = IsOk (open_result (order_of_flag v1_big) limit image)
 IsKeytab v1_big image None = ⊥
 
--- a keytab of version 2 without entries is made with a limit, if it is one: else 13
+-- a keytab of version 2 without entries is created with a limit; 13 if it is not a limit
 abbrev pub Makes : Option ℕ → ℕ → Handle → Type 0
 Makes (Some limit) status kt = ((status ≡ 0) × (keytab_of kt ≡ Some (empty V2 limit))) ⊎ OpensNone 1 status kt
 Makes None status kt = OpensNone 13 status kt

@@ -1,4 +1,4 @@
--- What the contracts of this crate say.
+-- The definitions that the contracts of this crate use.
 pub mod Status
 pub mod Held
 pub mod Handle

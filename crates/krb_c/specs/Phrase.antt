@@ -1,4 +1,4 @@
--- What a status is, in words.
+-- The phrase of a status.
 use Rattle.std.specs.Prelude.{◌≡◌, ℕ, ◌==◌, List, codes, Option, Some, None, option_map, if◌then◌else◌}
 use Rattle.std.specs.Option.{option_or}
 use Rattle.krb_wire.specs.declared.name_fault.NameFault.{NameFault}
@@ -30,13 +30,13 @@ name_fault_of n =
     else if n == 22 then Some fault.LoneBackslash else if n == 23 then Some fault.SecondAt
     else if n == 24 then Some fault.SlashInRealm else None
 
--- the fault of an image that keytabs and caches have alike, or caches alone, by its status
+-- the fault of an image, by its status: one that keytabs and caches share, or that only caches have
 abbrev pub open_fault_of : ℕ → Option CcOpenFault
 open_fault_of n =
     if n == 11 then Some opening.TooShort else if n == 13 then Some opening.TooLarge
     else if n == 14 then Some opening.BadHeader else if n == 15 then Some opening.BadDefault else None
 
--- the phrase of what only C is answered, and of a version, which keytabs and caches have not alike
+-- the phrase of a status that is returned only to C, and of a bad version, whose phrases differ for keytabs and caches
 abbrev pub own_phrase : ℕ → Option (List ℕ)
 own_phrase n =
     if n == 0 then Some (codes "done") else if n == 2 then Some (codes "the walk is at its end")
@@ -48,7 +48,7 @@ phrase_of n =
     option_or (option_map code_phrase (code_of n)) (option_or (option_map name_fault_phrase (name_fault_of n))
     (option_or (option_map open_fault_phrase (open_fault_of n)) (own_phrase n)))
 
--- what C is shown of a phrase: 39 where there is none
+-- what C is shown of a phrase: 39 if there is none
 abbrev pub ShowsPhrase : Option (List ℕ) → ℕ → KrbfBytes → KrbfBytes → Type 0
 ShowsPhrase (Some phrase) answer bytes new_bytes = (answer ≡ 0) × AreShown new_bytes phrase
 ShowsPhrase None answer bytes new_bytes = (answer ≡ 39) × (new_bytes ≡ bytes)

@@ -4,7 +4,7 @@ use Rattle.krb_walk.specs.declared.stop.Stop.{Stop}
 use Rattle.krb_walk.specs.declared.stop.Stop.TheVariants.{Live, End, Fault}
 use Rattle.krb_walk.specs.Store.{Store, IsPlace, is_place, live_bytes, stop_at}
 
--- what is remembered of a store: where a live cell stands, and a place
+-- what is remembered of a store: the place of a live cell, and a place
 pub record AreKnown (s : Store) (given next : Option ℕ) : Type 0 where
   pub stands : IfSome given (λ p. IsSome (live_bytes s p))
   pub place : IfSome next (IsPlace s)
@@ -17,7 +17,7 @@ module _ {Record Shown : Type 0} (at_place : ℕ → Option Record) (Shows : Sho
   StepsTo (End next) status cursor new_cursor seen new_seen = (status ≡ 2) × (new_cursor ≡ cursor) × (new_seen ≡ seen)
   StepsTo (Fault fault) status cursor new_cursor seen new_seen = (status ≡ 31) × (new_cursor ≡ cursor) × (new_seen ≡ seen)
 
-  -- a step of a walk: 34 where the cursor is no place
+  -- a step of a walk: 34 if the cursor is not a place
   abbrev pub StepsFrom : Bool → Stop → ℕ → ℕ → ℕ → Shown → Shown → Type 0
   StepsFrom true stop status cursor new_cursor seen new_seen = StepsTo stop status cursor new_cursor seen new_seen
   StepsFrom false stop status cursor new_cursor seen new_seen = (status ≡ 34) × (new_cursor ≡ cursor) × (new_seen ≡ seen)

@@ -1,11 +1,11 @@
-//! Bytes that C reads where they lie.
+//! Bytes that C reads in place.
 
 ghost use Rattle.krb_c.specs.Shown.{AreShown};
 
 use std::ptr;
 
-/// A pointer to the first byte, and their number. They lie in the memory of a keytab or a cache, until it is
-/// changed or closed.
+/// A pointer to the first byte, and the number of bytes. They are in the memory of a keytab or a cache, and valid until
+/// it is changed or closed.
 #[repr(C)]
 #[derive(Drop)]
 pub struct KrbfBytes {
@@ -13,7 +13,7 @@ pub struct KrbfBytes {
     pub len: usize,
 }
 
-/// Where bytes lie; where there are none, the pointer is null.
+/// Returns the pointer and the number of bytes. The pointer is null if there are none.
 pub fn bytes_of(bytes: &[u8]) -> KrbfBytes
     ensures { AreShown result bytes.now }
 {

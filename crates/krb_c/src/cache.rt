@@ -20,7 +20,7 @@ use krb_ccache::{Ccache, CredView};
 pub type HeldCache = Walked<Ccache<Heap>>;
 
 impl Walked<Ccache<Heap>> {
-    /// The live credential at a place. It reads from the front, but not for the credential that was given last.
+    /// Returns the live credential at `place`, or `None`. Scans from the start, except for the credential given last.
     pub fn cred_at(&self, place: u32) -> Option<CredView<'_>>
         ensures { result ≡ credential_at_place self.now.state place }
     {

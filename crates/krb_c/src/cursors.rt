@@ -5,7 +5,7 @@ ghost use Rattle.krb_c.specs.Cursors.{are_places};
 
 use krb_walk::Placed;
 
-/// Whether each cursor is a place of the store.
+/// True if each cursor is a place of the store.
 pub fn are_places<P: Placed>(store: &P, cursors: &[u32]) -> bool
     ensures { result ≡ are_places (P.rules.seen (P.state_of store.now)) cursors.now }
 {

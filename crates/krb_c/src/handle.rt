@@ -12,7 +12,7 @@ use std::alloc::Global;
 use std::marker::Model;
 use std::{mem, ptr};
 
-/// A keytab or a cache behind a pointer, or nothing: then the handle is empty. What calls answered tells C which.
+/// A keytab or a cache behind a pointer, or nothing: then the handle is empty. C knows which by what calls returned.
 #[repr(C)]
 #[derive(Drop)]
 pub struct Handle {
@@ -26,7 +26,7 @@ impl Model for Handle {
 }
 
 impl Handle {
-    // An empty handle, whose pointer is null.
+    // Returns an empty handle, whose pointer is null.
     fn none_at(ptr: *mut u8, alloc: Global) -> Handle
         requires { ptr ≡ null_ptr }
         ensures { result.held ≡ None }
@@ -44,7 +44,7 @@ impl Handle {
         }
     }
 
-    // The parts of the box that it is a handle of; none where it is empty, as its pointer tells.
+    // Returns the parts of the box behind it, or `None` if it is empty: then its pointer is null.
     fn parts(self) -> Option<Parts<Held, Global>>
         ensures { self.held ≡ option_map (λ p. p.value) result }
     {
@@ -59,21 +59,21 @@ impl Handle {
         }
     }
 
-    // The null pointer.
+    // Returns the null pointer.
     fn nowhere() -> *mut u8
         ensures { result ≡ null_ptr }
     {
         ptr::null_mut()
     }
 
-    /// An empty handle.
+    /// Returns an empty handle.
     pub fn none(alloc: Global) -> Handle
         ensures { result.held ≡ None }
     {
         Handle::none_at(Handle::nowhere(), alloc)
     }
 
-    // Takes the parts out of it, if it is not empty.
+    // Takes the parts out of it, and leaves it empty. `None` if it was.
     fn take_parts(&mut self, alloc: Global) -> Option<Parts<Held, Global>>
         ensures taken { self.old.held ≡ option_map (λ p. p.value) result }
         ensures left { self.new.held ≡ None }
@@ -81,7 +81,7 @@ impl Handle {
         mem::replace(self, Handle::none(alloc)).parts()
     }
 
-    /// Takes the box out of it.
+    /// Takes the box out of it, and leaves it empty.
     pub fn take(&mut self, alloc: Global) -> Box<Held, Global>
         requires { IsSome self.old.held }
         ensures taken { self.old.held ≡ Some result.value }
@@ -93,7 +93,7 @@ impl Handle {
         }
     }
 
-    /// Puts a box into it, where it is empty.
+    /// Puts a box into an empty handle.
     pub fn put(&mut self, held: Box<Held, Global>)
         requires { self.old.held ≡ None }
         ensures { self.new.held ≡ Some held.value }
@@ -101,7 +101,7 @@ impl Handle {
         *self = Handle::of_parts(Parts::of(held));
     }
 
-    /// Puts what it is to hold into it, where it is empty.
+    /// Puts a keytab or a cache into an empty handle, and returns `DONE` or `NO_MEMORY`.
     pub fn fill(&mut self, alloc: Global, held: Held) -> u32
         requires { self.old.held ≡ None }
         ensures { ((result ≡ 0) × (self.new.held ≡ Some held)) ⊎ ((result ≡ 1) × (self.new.held ≡ None)) }
@@ -115,7 +115,7 @@ impl Handle {
         }
     }
 
-    /// Frees what it is a handle of, which leaves it empty. Of an empty one there is nothing to free.
+    /// Frees what is behind it, and leaves it empty. An empty one stays so.
     pub fn free(&mut self, alloc: Global)
         ensures { self.new.held ≡ None }
     {
@@ -125,10 +125,10 @@ impl Handle {
     }
 }
 
-/// A handle of a keytab.
+/// A handle to a keytab.
 pub type KrbfKeytab = Handle;
 
-/// A handle of a cache.
+/// A handle to a cache.
 pub type KrbfCcache = Handle;
 
 /// Takes the box out of a handle for a call, and puts it back.
@@ -143,5 +143,5 @@ macro_rules! with_held {
 
 pub(crate) use with_held;
 
-// What it owns is in the heap, which any thread may give back.
+// What it owns is in the heap, and any thread may free it.
 unsafe impl Send for Handle {}

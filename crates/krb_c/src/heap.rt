@@ -1,4 +1,4 @@
-//! Where the library takes its memory from.
+//! The allocator of the library.
 
 ghost use Rattle.std.specs.Prelude.{◌≡◌, IfOk, IfErr};
 
@@ -6,15 +6,15 @@ use crate::status::NO_MEMORY;
 use std::alloc::Global;
 use wiping::Wiping;
 
-/// The allocator of all that stands behind a handle: the C library's heap, to which no key goes back.
+/// The allocator of all that is behind a handle: the C library's heap, wiped on free, so that no key goes back to it.
 pub type Heap = Wiping<Global>;
 
-/// That allocator.
+/// Returns that allocator.
 pub fn heap(alloc: Global) -> Heap {
     Wiping::new(alloc)
 }
 
-/// A copy of bytes that C gives. They may lie in the keytab or the cache that is to be changed.
+/// Returns a copy of bytes from C. They may be in the keytab or the cache that is to be changed.
 pub fn copied(alloc: Global, bytes: &[u8]) -> Result<Vec<u8, Heap>, u32>
     ensures ok { IfOk result (λ v. v.items ≡ bytes.now) }
     ensures err { IfErr result (λ s. s ≡ 1) }

@@ -1,4 +1,4 @@
-//! What stands behind a handle.
+//! What is behind a handle.
 
 ghost use Rattle.std.specs.Prelude.{◌≡◌, Some, IsSome};
 ghost use Rattle.std.specs.Borrow.{sem};
@@ -15,7 +15,7 @@ pub enum Held {
 }
 
 impl Held {
-    /// The keytab that it is.
+    /// Returns the keytab that it is.
     pub fn keytab(&mut self) -> &mut HeldKeytab
         requires { IsSome (keytab_in self.old) }
         ensures* writes_back { sem 𝓛 (LendsKeytab self.entry result) }
@@ -27,7 +27,7 @@ impl Held {
         }
     }
 
-    /// The cache that it is.
+    /// Returns the cache that it is.
     pub fn cache(&mut self) -> &mut HeldCache
         requires { IsSome (cache_in self.old) }
         ensures* writes_back { sem 𝓛 (LendsCache self.entry result) }

@@ -10,5 +10,5 @@ use crate::heap::Heap;
 use crate::walked::Walked;
 use krb_keytab::Indexed;
 
-/// A keytab in memory, with a table of its cells: an addition and a removal take no pass.
+/// A keytab in memory, with a table of its cells: adding and removing take no pass over them.
 pub type HeldKeytab = Walked<Indexed<Heap>>;

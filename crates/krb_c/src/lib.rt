@@ -1,5 +1,5 @@
-//! Keytabs and credential caches for programs in C: the calls of the static library, over those of krb_keytab and
-//! krb_ccache. c/krbfile.h declares them.
+//! Keytabs and credential caches for programs in C: the functions of the static library, over the calls of krb_keytab
+//! and krb_ccache. c/krbfile.h declares them.
 #![tactic(auto)]
 
 mod bytes;

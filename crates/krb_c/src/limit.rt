@@ -1,11 +1,11 @@
-//! The greatest length of an image.
+//! The limit on the length of an image.
 
 ghost use Rattle.std.specs.Prelude.{◌≡◌};
 ghost use Rattle.krb_c.specs.Limit.{limit_of};
 
 use krb_wire::Limits;
 
-/// The limit that C asks for, where it is one: 0 asks for the usual one.
+/// Returns the limits for a number from C, or `None` if it is no limit. 0 means the usual limit.
 pub fn limits_of(limit: u32) -> Option<Limits>
     ensures { result ≡ limit_of limit }
 {

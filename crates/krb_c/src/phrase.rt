@@ -1,4 +1,4 @@
-//! What a status is, in words.
+//! The phrase of a status.
 
 ghost use Rattle.std.specs.Prelude.{◌≡◌};
 ghost use Rattle.krb_wire.specs.Reading.{Gives};
@@ -10,7 +10,7 @@ use krb_ccache::CcOpenFault;
 use krb_walk::Code;
 use krb_wire::NameFault;
 
-// The code of a refusal.
+// Returns the code of a refusal, or `None` if the status is another.
 fn code_of(status: u32) -> Option<Code>
     ensures { result ≡ code_of status }
 {
@@ -30,7 +30,7 @@ fn code_of(status: u32) -> Option<Code>
     }
 }
 
-// The fault of a name.
+// Returns the fault of a name, or `None` if the status is another.
 fn name_fault_of(status: u32) -> Option<NameFault>
     ensures { result ≡ name_fault_of status }
 {
@@ -44,7 +44,7 @@ fn name_fault_of(status: u32) -> Option<NameFault>
     }
 }
 
-// The fault of an image.
+// Returns the fault of an image, or `None` if the status is another.
 fn open_fault_of(status: u32) -> Option<CcOpenFault>
     ensures { result ≡ open_fault_of status }
 {
@@ -57,7 +57,7 @@ fn open_fault_of(status: u32) -> Option<CcOpenFault>
     }
 }
 
-// The phrase of a status that is no code and no fault.
+// Returns the phrase of a status that is neither a code nor a fault.
 fn own_phrase(status: u32) -> Option<&'static str>
     ensures { Gives (λ phrase. phrase.now) result (own_phrase status) }
 {
@@ -69,7 +69,7 @@ fn own_phrase(status: u32) -> Option<&'static str>
     }
 }
 
-// The phrase of a status.
+// Returns the phrase of a status, or `None` if it has none.
 fn phrase_of(status: u32) -> Option<&'static str>
     ensures { Gives (λ phrase. phrase.now) result (phrase_of status) }
 {
@@ -85,7 +85,7 @@ fn phrase_of(status: u32) -> Option<&'static str>
     own_phrase(status)
 }
 
-/// Shows what a status is, in words.
+/// Shows the phrase of a status: what it means, in words.
 #[unsafe(no_mangle)]
 pub extern "C" fn krbf_phrase(status: u32, phrase: &mut KrbfBytes) -> u32
     ensures { ShowsPhrase (phrase_of status) result phrase.old phrase.new }

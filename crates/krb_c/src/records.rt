@@ -21,7 +21,7 @@ pub trait Records: Placed {
     /// What C sees is the record at a place.
     ghost Shows: { Self.Shown → ℕ → Record → Type 0 };
 
-    /// The record of the live cell at a place. It reads that one.
+    /// Returns the record of the live cell at `place`. Reads no other record.
     fn shown_at(&self, place: u32) -> Self::Shown
         requires { IsSome (live_bytes (Self.rules.seen (Self.state_of self.now)) place) }
         ensures { IsSomeAnd (record_at self.now place) (Shows result place) };

@@ -1,4 +1,4 @@
-//! The numbers that calls answer.
+//! The status codes that calls return.
 
 ghost use Rattle.std.specs.Prelude.{◌≡◌, ◌<◌};
 ghost use Rattle.krb_c.specs.Status.{kt_open_status, cc_open_status, name_status, code_status, refusal_status, kind_number};
@@ -8,7 +8,7 @@ use krb_keytab::KtOpenFault;
 use krb_walk::{Code, Fault, Refusal};
 use krb_wire::NameFault;
 
-/// It is done.
+/// Success.
 pub const DONE: u32 = 0;
 
 /// Out of memory.
@@ -17,10 +17,10 @@ pub const NO_MEMORY: u32 = 1;
 /// A walk is at its end.
 pub const AT_END: u32 = 2;
 
-/// An image is longer than the limit, or this is no limit.
+/// An image is longer than the limit, or the limit is not valid.
 pub const TOO_LARGE: u32 = 13;
 
-/// Why an image is no keytab.
+/// Returns the status for an image that is not a keytab.
 pub fn of_kt_open(why: KtOpenFault) -> u32
     ensures is { result ≡ kt_open_status why }
     ensures failed { 0 < result }
@@ -28,7 +28,7 @@ pub fn of_kt_open(why: KtOpenFault) -> u32
     10 + why.number()
 }
 
-/// Why an image is no cache.
+/// Returns the status for an image that is not a cache.
 pub fn of_cc_open(why: CcOpenFault) -> u32
     ensures is { result ≡ cc_open_status why }
     ensures failed { 0 < result }
@@ -36,7 +36,7 @@ pub fn of_cc_open(why: CcOpenFault) -> u32
     10 + why.number()
 }
 
-/// What is wrong with the text of a name.
+/// Returns the status for a text that is not a name, or `NO_MEMORY`.
 pub fn of_name(fault: NameFault) -> u32
     ensures is { result ≡ name_status fault }
     ensures failed { 0 < result }
@@ -50,7 +50,7 @@ pub fn of_name(fault: NameFault) -> u32
     }
 }
 
-/// Why a store refuses.
+/// Returns the status for the code of a refusal.
 pub fn of_code(code: Code) -> u32
     ensures is { result ≡ code_status code }
     ensures failed { 0 < result }
@@ -58,7 +58,7 @@ pub fn of_code(code: Code) -> u32
     30 + code.number()
 }
 
-/// A refusal, or a failed allocation.
+/// Returns the status for a refusal or a failed allocation.
 pub fn of_refusal(refusal: Refusal) -> u32
     ensures is { result ≡ refusal_status refusal }
     ensures failed { 0 < result }
@@ -69,7 +69,7 @@ pub fn of_refusal(refusal: Refusal) -> u32
     }
 }
 
-/// The number of what is wrong after the last sound cell: 0 where nothing is.
+/// Returns the number of the fault after the last sound cell: 0 if there is none.
 pub fn kind_of(fault: Option<Fault>) -> u32
     ensures { result ≡ kind_number fault }
 {

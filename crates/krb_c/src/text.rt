@@ -1,4 +1,4 @@
-//! Names as text: those that C gives, and those that go into a room of C's.
+//! Names as text: parsing those from C, and writing those into a buffer of C.
 
 ghost use Rattle.std.specs.Prelude.{◌≡◌, ◌<◌, Ok, None, IfOk, IfErr};
 ghost use Rattle.krb_wire.specs.Reading.{principal_parts};
@@ -11,7 +11,7 @@ use crate::status::{DONE, NO_MEMORY, of_name};
 use krb_wire::{Name, NoMemory, Principal, parse_name, write_name};
 use std::alloc::Global;
 
-/// The name that a text has.
+/// Returns the name of a text, or the status that says why it has none.
 #[tactic(auto, using(crate::proofs::NameLemmas::fault_told))]
 pub fn read_name(alloc: Global, text: &[u8]) -> Result<Principal<Heap>, u32>
     ensures ok { IfOk result (λ name. name_of text.now None ≡ Ok (principal_parts name)) }
@@ -24,7 +24,7 @@ pub fn read_name(alloc: Global, text: &[u8]) -> Result<Principal<Heap>, u32>
     }
 }
 
-// A name as text.
+// Returns the text of a name.
 fn text_of<N: Name>(alloc: Global, name: &N) -> Result<Vec<u8, Heap>, NoMemory>
     ensures { IfOk result (λ text. text.items ≡ name_text (N.parts name.now)) }
 {
@@ -33,7 +33,7 @@ fn text_of<N: Name>(alloc: Global, name: &N) -> Result<Vec<u8, Heap>, NoMemory>
     Ok(text)
 }
 
-// Puts as much of a text into a room as it takes.
+// Copies as much of a text as fits into the buffer `room`.
 fn put_text(room: &mut [u8], text: &[u8])
     ensures { room.new ≡ in_room room.old text.now }
 {
@@ -41,7 +41,7 @@ fn put_text(room: &mut [u8], text: &[u8])
     room[..len].copy_from_slice(&text[..len]);
 }
 
-/// Puts as much of a name's text into a room as it takes, and tells the length of the whole.
+/// Copies as much of a name's text as fits into the buffer `room`, and reports the length of the whole text.
 pub fn tell_name<N: Name>(alloc: Global, name: &N, room: &mut [u8], len: &mut usize) -> u32
     ensures { Tells (name_text (N.parts name.now)) result room.old room.new len.old len.new }
 {

@@ -1,4 +1,4 @@
-//! What stands behind a handle: a store, and where a walk stands in it.
+//! What is behind a handle: a store, and where a walk is in it.
 
 ghost use Rattle.std.specs.Prelude.{◌≡◌, ◌⊎◌, Ok, map};
 ghost use Rattle.krb_walk.specs.Ranks.{carry};
@@ -12,12 +12,12 @@ use crate::status::{AT_END, DONE, of_code, of_refusal};
 use krb_walk::{Code, Stop};
 use std::marker::Model;
 
-/// A store in memory, and where a walk stands in it, which then goes on without a look for its place. Contracts see
-/// the store.
+/// A store in memory, and where a walk is in it, so that its next step need not search for its place. Contracts see the
+/// store.
 #[derive(Drop)]
 pub struct Walked<S: Records> {
     pub(crate) store: S,
-    // The place of the record that a walk was given last.
+    // The place of the record last given to a walk.
     pub(crate) given: Option<u32>,
     // The place after it. That record may have been removed since.
     pub(crate) next: Option<u32>,
@@ -34,7 +34,7 @@ impl<S: Records> Model for Walked<S> {
 }
 
 impl<S: Records> Walked<S> {
-    /// A store, of which no place is known.
+    /// Returns a store, with no place known.
     pub fn of(store: S) -> Walked<S>
         ensures { result ≡ store }
     {
@@ -45,14 +45,14 @@ impl<S: Records> Walked<S> {
         }
     }
 
-    /// The store.
+    /// Returns the store.
     pub fn store(&self) -> &S
         ensures { result.now ≡ self.now }
     {
         &self.store
     }
 
-    /// Shows the first record at or after a cursor, and moves the cursor after it.
+    /// Shows the first record at or after the cursor, and moves the cursor past it.
     pub fn step(&mut self, cursor: &mut u32, shown: &mut S::Shown) -> u32
         ensures same { self.new ≡ self.old }
         ensures steps { StepsOver (S.record_at self.old) S.Shows (S.rules.seen (S.state_of self.old))
@@ -75,7 +75,7 @@ impl<S: Records> Walked<S> {
         }
     }
 
-    /// Adds a record, and tells its place. Places stay what they are.
+    /// Adds a record, and reports its place. Places stay valid.
     #[tactic(auto, using(crate::proofs::StoreLemmas::kept_by_put, crate::proofs::StoreLemmas::refused))]
     pub fn put(&mut self, item: &S::Item, place: &mut u32) -> u32
         ensures adds { Adds (S.rules.put (S.state_of self.old) item.now) (S.state_of self.old)
@@ -92,7 +92,7 @@ impl<S: Records> Walked<S> {
         }
     }
 
-    /// Removes the record at a place. Places stay what they are.
+    /// Removes the record at `place`. Places stay valid.
     #[tactic(auto, using(crate::proofs::StoreLemmas::kept_by_cut))]
     pub fn remove(&mut self, place: u32) -> u32
         ensures { Changes (S.rules.cut (S.state_of self.old) place) (S.state_of self.old) result (S.state_of self.new) }
@@ -104,7 +104,7 @@ impl<S: Records> Walked<S> {
         }
     }
 
-    /// Writes the records anew, and carries the cursors, each of which has to be a place.
+    /// Rewrites the store, and moves the cursors along. Each cursor has to be a place.
     #[tactic(auto, using(crate::proofs::StoreLemmas::places_all))]
     pub fn rewrite(&mut self, cursors: &mut [u32]) -> u32
         ensures rewrites { Rewrites (with_cursors (S.rules.seen (S.state_of self.old)) cursors.old

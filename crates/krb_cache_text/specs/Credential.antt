@@ -10,31 +10,31 @@ use Rattle.krb_text.specs.Flags.{flag_letters_of}
 use Rattle.krb_cache_text.specs.declared.columns.CcColumns.{CcColumns}
 use Rattle.krb_cache_text.specs.Escape.{escaped_text}
 
--- when a ticket becomes valid: where that is not said, when the client was authenticated
+-- when a ticket becomes valid: its authtime if it has no start time
 abbrev pub valid_from : Times → ℕ
 valid_from t = if t.starttime == 0 then t.authtime else t.starttime
 
--- an instant and a space
+-- a time and a space
 abbrev pub instant : ℕ → List ℕ
 instant seconds = time_text_of seconds ++ codes " "
 
--- from when to when a ticket is valid
+-- when a ticket becomes valid and when it expires
 abbrev pub validity : Times → List ℕ
 validity t = instant (valid_from t) ++ instant t.endtime
 
--- from when to when a ticket is valid, and what it is for
+-- the line with the start time, the end time and the server of a ticket
 unfoldable pub ticket_line : CredParts → List ℕ
 ticket_line c = validity c.times ++ (name_text c.server ++ codes "\n")
 
--- until when it can be renewed, if it can be
+-- the line that says until when a ticket can be renewed, if it can be
 unfoldable pub renew_line : ℕ → List ℕ
 renew_line seconds = if seconds == 0 then [] else codes "    renew until " ++ (time_text_of seconds ++ codes "\n")
 
--- its flags, if they are shown
+-- the line with the flags of a ticket, if they are shown
 unfoldable pub flags_line : Bool → ℕ → List ℕ
 flags_line is_shown flags = if is_shown then codes "    Flags: " ++ (flag_letters_of flags ++ codes "\n") else []
 
--- the encryption type of its key, if that is shown
+-- the line with the enctype of a session key, if that is shown
 unfoldable pub etype_line : Bool → ℕ → List ℕ
 etype_line is_shown etype = if is_shown then codes "    Etype: " ++ (etype_text_of etype ++ codes "\n") else []
 
@@ -47,11 +47,11 @@ abbrev pub about : Option (List ℕ) → List ℕ
 about None = []
 about (Some text) = codes "(" ++ (escaped_text text ++ codes ")")
 
--- the line of a configuration entry: what its value is held under, and the value
+-- the line of a configuration entry: its name and its value
 unfoldable pub config_line : ConfigParts → List ℕ → List ℕ
 config_line name value = codes "config: " ++ (escaped_text name.key ++ (about name.principal ++ (codes " = " ++ (escaped_text value ++ codes "\n"))))
 
--- the lines of a ticket, or of a configuration entry, if those are shown
+-- the lines of a ticket, or that of a configuration entry if those are shown
 abbrev pub lines_by : Option ConfigParts → CcColumns → CredParts → List ℕ
 lines_by None columns c = ticket_lines columns c
 lines_by (Some name) columns c = if columns.configs then config_line name c.ticket else []

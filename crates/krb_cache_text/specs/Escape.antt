@@ -3,7 +3,7 @@ use Rattle.std.specs.Prelude.{ℕ, ◌==◌, List, [], ◌∷◌, ◌++◌, code
 use Rattle.std.specs.List.{flat_map}
 use Rattle.hex.specs.Hex.{encode_lower}
 
--- from the space to `~`
+-- a byte from the space to `~`
 abbrev pub is_printable : ℕ → Bool
 is_printable b = nat_le 32 b && nat_le b 126
 
@@ -11,6 +11,6 @@ is_printable b = nat_le 32 b && nat_le b 126
 abbrev pub escaped : ℕ → List ℕ
 escaped b = if b == 92 then codes "\\\\" else (if is_printable b then b ∷ [] else codes "\\x" ++ encode_lower (b ∷ []))
 
--- each byte so, in order
+-- each byte escaped, in order
 abbrev pub escaped_text : List ℕ → List ℕ
 escaped_text bytes = flat_map escaped bytes

@@ -1,4 +1,4 @@
--- Scripts of a cache: lines that ask for events, and for configuration values to be set.
+-- Scripts of a cache: lines for events, and for configuration values to set.
 use Rattle.std.specs.Prelude.{ℕ, ◌==◌, ◌||◌, List, [], ◌∷◌, length, codes, if◌then◌else◌, bytes_eq, Option, None, Some, ok_or, Result, Ok, Err}
 use Rattle.std.specs.List.{join_with_byte}
 use Rattle.krb_ccache.specs.Credential.{CredParts}
@@ -11,11 +11,11 @@ use Rattle.krb_text.specs.Script.{◌>>=◌, made, common_event}
 use Rattle.krb_cache_text.specs.declared.asked.Asked.{Asked}
 use Rattle.krb_cache_text.specs.declared.asked.Asked.TheVariants as asked
 
--- what a line asks for
+-- the request in a line
 abbrev pub CacheLineParts : Type 0
 CacheLineParts = Asked CredParts SettingParts
 
--- the principal of a word, where `-` stands for none
+-- the principal in a word; `-` means none
 abbrev pub principal_of : List ℕ → Option (List ℕ)
 principal_of word = if bytes_eq word (codes "-") then None else Some word
 
@@ -28,24 +28,24 @@ setting_of (key ∷ principal ∷ value ∷ more) =
     if (length key == 0) || (length principal == 0) then None
     else Some (record { key = key; principal = principal_of principal; value = join_with_byte 32 (value ∷ more) })
 
--- a principal is a name with its realm, or there is none
+-- a principal is absent, or a name with its realm
 abbrev pub checked : Option (List ℕ) → Result (Unit {0}) LineFault
 checked None = Ok tt
 checked (Some text) = made (λ name. tt) (name_word text)
 
--- a setting once its principal is checked, which stays as it was written
+-- a setting whose principal is checked, and stays as it was written
 abbrev pub checked_setting : SettingParts → Result SettingParts LineFault
 checked_setting setting = made (λ done. setting) (checked setting.principal)
 
--- the setting of the words after `config`
+-- the setting in the words after `config`
 abbrev pub setting_in : List (List ℕ) → Result SettingParts LineFault
 setting_in words = ok_or (setting_of words) WordCount >>= checked_setting
 
--- what words ask for, or the first fault
+-- the request in the words of a line, or the first fault
 abbrev pub cache_line_of : List (List ℕ) → Result CacheLineParts LineFault
 cache_line_of [] = Err UnknownWord
 cache_line_of (word ∷ words) = if bytes_eq word (codes "config") then made asked.Setting (setting_in words) else made asked.Event (common_event word words)
 
--- what a line asks for, or its first fault; words are separated by single spaces
+-- the request in a line, or its first fault; words are separated by single spaces
 abbrev pub cache_line_in : List ℕ → Result CacheLineParts LineFault
 cache_line_in line = cache_line_of (pieces 32 line)

@@ -1,8 +1,8 @@
-//! What scripts ask for beside events.
+//! The requests in the lines of a script.
 
 use krb_walk::Event;
 
-/// What a line of a script asks for: an event, or a value to be set.
+/// The request in a line of a script: an event, or a value to set.
 #[derive(Drop)]
 pub enum Asked<I, S> {
     Event(Event<I>),

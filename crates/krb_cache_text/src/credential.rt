@@ -1,4 +1,4 @@
-//! The lines of a credential. Where an allocation failed, some of them may stand there.
+//! The lines of a credential. If an allocation failed, some of them may have been appended.
 
 ghost use Rattle.std.specs.Prelude.{◌≡◌, ◌++◌, OnOk, option_copied};
 ghost use Rattle.krb_wire.specs.Text.{AppendedPart};
@@ -12,7 +12,7 @@ use krb_text::{LastTime, append, append_byte, etype_text, flag_letters};
 use krb_wire::{NoMemory, write_name};
 use std::alloc::Allocator;
 
-/// The last of each kind of time: among the tickets of a cache all end at the same time, as a rule.
+/// The last time of each kind: the tickets of a cache mostly end at the same time.
 #[derive(Drop)]
 pub struct LastTimes {
     start: LastTime,
@@ -21,7 +21,7 @@ pub struct LastTimes {
 }
 
 impl LastTimes {
-    /// Before the first ticket.
+    /// Returns the times before the first ticket: none.
     pub fn new() -> LastTimes {
         LastTimes {
             start: LastTime::new(),
@@ -31,7 +31,7 @@ impl LastTimes {
     }
 }
 
-// When a ticket becomes valid: where that is not said, when the client was authenticated.
+// Returns when a ticket becomes valid: its authtime if it has no start time.
 fn valid_from(credential: &CredView<'_>) -> u32
     ensures { result ≡ valid_from credential.now.times }
 {
@@ -52,7 +52,7 @@ fn append_instant<A: Allocator>(
     append_byte(b' ', out)
 }
 
-// From when to when a ticket is valid.
+// Appends when a ticket becomes valid and when it expires.
 fn append_validity<A: Allocator>(
     last: &mut LastTimes,
     credential: &CredView<'_>,
@@ -64,7 +64,7 @@ fn append_validity<A: Allocator>(
     append_instant(&mut last.end, credential.endtime(), out)
 }
 
-// From when to when a ticket is valid, and what it is for.
+// Appends the line with the start time, the end time and the server of a ticket.
 #[tactic(auto, unfolding(crate::specs::Credential::ticket_line))]
 fn append_ticket<A: Allocator>(
     last: &mut LastTimes,
@@ -78,7 +78,7 @@ fn append_ticket<A: Allocator>(
     append_byte(b'\n', out)
 }
 
-// Until when it can be renewed, if it can be.
+// Appends the line that says until when a ticket can be renewed, if it can be.
 #[tactic(auto, unfolding(crate::specs::Credential::renew_line))]
 fn append_renewal<A: Allocator>(
     last: &mut LastTime,
@@ -95,7 +95,7 @@ fn append_renewal<A: Allocator>(
     append_byte(b'\n', out)
 }
 
-// Its flags, if they are shown.
+// Appends the line with the flags of a ticket, if they are shown.
 #[tactic(auto, unfolding(crate::specs::Credential::flags_line))]
 fn append_flags<A: Allocator>(
     is_shown: bool,
@@ -112,7 +112,7 @@ fn append_flags<A: Allocator>(
     append_byte(b'\n', out)
 }
 
-// The encryption type of its key, if that is shown.
+// Appends the line with the enctype of a session key, if that is shown.
 #[tactic(auto, unfolding(crate::specs::Credential::etype_line))]
 fn append_etype<A: Allocator>(
     is_shown: bool,
@@ -175,7 +175,7 @@ fn append_config<A: Allocator>(
     append_byte(b'\n', out)
 }
 
-/// Appends the lines of a credential: those of a ticket, or that of a configuration entry, if those are shown.
+/// Appends the lines of a credential: those of a ticket, or that of a configuration entry if those are shown.
 pub fn append_credential<A: Allocator>(
     columns: CcColumns,
     last: &mut LastTimes,

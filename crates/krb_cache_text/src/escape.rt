@@ -9,7 +9,7 @@ use krb_text::{append, append_byte};
 use krb_wire::NoMemory;
 use std::alloc::Allocator;
 
-// `\x` and the two hexadecimal digits of a byte.
+// Returns `\x` and the two hexadecimal digits of a byte.
 fn hexadecimal(byte: u8) -> [u8; 4]
     ensures { result ≡ codes "\\x" ++ encode_lower (byte ∷ []) }
 {

@@ -1,4 +1,4 @@
-//! The lines that ask for events of a cache, and for its configuration values.
+//! The lines of a script of a cache: events, and configuration values to set.
 
 ghost use Rattle.krb_text.specs.LineFault.{Reads};
 ghost use Rattle.krb_cache_text.specs.Script.{cache_line_in};
@@ -9,10 +9,10 @@ use krb_ccache::Cred;
 use krb_text::{LineFault, LineRefusal, ScriptLine, Words, common_event};
 use std::alloc::Allocator;
 
-/// What a line of a cache's script asks for.
+/// The request in a line of a script of a cache.
 pub type CacheLine<A> = Asked<Cred<A>, OwnedSetting<A>>;
 
-// What a line asks for.
+// Returns the request in a line.
 fn parse_cache_line<A: Allocator + Copy>(alloc: A, line: &[u8]) -> Result<CacheLine<A>, LineRefusal>
     ensures { Reads (λ asked. asked) (cache_line_in line.now) result }
 {

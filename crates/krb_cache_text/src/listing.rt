@@ -32,7 +32,7 @@ fn append_heading<N: Name, A: Allocator>(
     )
 }
 
-// The lines of all credentials.
+// Prints the lines of all credentials, gathered into large writes.
 fn list_credentials<A: Allocator, B: Allocator, W: Write>(
     cache: &Ccache<B>,
     columns: CcColumns,
@@ -51,8 +51,8 @@ fn list_credentials<A: Allocator, B: Allocator, W: Write>(
     Ok(())
 }
 
-/// Writes the listing of a cache under that name: whose it is, the lines of each credential in file order, and
-/// where the image is damaged its fault. It is gathered into large writes; where one fails, what went out is a
+/// Prints the listing of a cache with this file name: the default principal, the lines of each credential in file
+/// order, and the fault of a damaged image. Gathers the text into large writes; if one fails, what went out is a
 /// prefix of the text.
 pub fn list_cache<A: Allocator, B: Allocator, W: Write>(
     alloc: A,

@@ -1,4 +1,4 @@
-//! The ends of the lines of a cache's records.
+//! The ends of the lines of cache records.
 
 ghost use Rattle.krb_wire.specs.Text.{AppendedPart};
 ghost use Rattle.krb_ccache.specs.declared.version.Version.TheVariants.{V4};

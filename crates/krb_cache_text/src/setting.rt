@@ -1,4 +1,4 @@
-//! The words of a configuration value.
+//! The words of a configuration value in a script.
 
 ghost use Rattle.std.specs.Prelude.{◌≡◌, IfOk, Some, option_copied};
 ghost use Rattle.krb_text.specs.LineFault.{Reads};
@@ -10,7 +10,7 @@ use krb_wire::NoMemory;
 use std::alloc::Allocator;
 use std::marker::Model;
 
-/// A configuration value to be set, with memory of its own.
+/// An owned configuration value to set.
 #[derive(Drop)]
 pub struct OwnedSetting<A: Allocator> {
     pub key: Vec<u8, A>,
@@ -32,7 +32,7 @@ impl<A: Allocator> Model for OwnedSetting<A> {
 }
 
 impl<A: Allocator> OwnedSetting<A> {
-    /// The same, as a cache takes it.
+    /// Returns the setting in the borrowed form that a cache takes.
     pub fn as_setting(&self) -> Setting<'_>
         ensures { result ≡ self.now }
     {
@@ -48,7 +48,7 @@ impl<A: Allocator> OwnedSetting<A> {
     }
 }
 
-// The principal of a word, where `-` stands for none.
+// Returns the principal in a word; `-` means none.
 fn principal_of(word: &[u8]) -> Option<&[u8]>
     ensures { option_copied result ≡ principal_of word.now }
 {
@@ -59,7 +59,7 @@ fn principal_of(word: &[u8]) -> Option<&[u8]>
     }
 }
 
-// Two words, neither of them empty, and a rest.
+// Returns the setting in two words, neither of them empty, and the rest of the line.
 fn setting_of(mut words: Words<'_>) -> Option<Setting<'_>>
     ensures { result ≡ setting_of words.entry }
 {
@@ -76,7 +76,7 @@ fn setting_of(mut words: Words<'_>) -> Option<Setting<'_>>
     })
 }
 
-// Refuses what is no name with its realm.
+// Refuses a text that is not a name with its realm.
 fn check_name<A: Allocator + Copy>(alloc: A, text: &[u8]) -> Result<(), LineRefusal>
     ensures { Reads (λ done. done) (checked (Some text.now)) result }
 {
@@ -84,7 +84,7 @@ fn check_name<A: Allocator + Copy>(alloc: A, text: &[u8]) -> Result<(), LineRefu
     Ok(())
 }
 
-// Refuses a principal that is no name with its realm.
+// Refuses a principal that is not a name with its realm.
 fn check<A: Allocator + Copy>(alloc: A, principal: Option<&[u8]>) -> Result<(), LineRefusal>
     ensures { Reads (λ done. done) (checked (option_copied principal.entry)) result }
 {
@@ -113,7 +113,7 @@ fn copy_setting<A: Allocator + Copy>(
     })
 }
 
-// The same with memory of its own, if its principal is none or a name.
+// Returns an owned copy of the setting, if its principal is absent or a name with its realm.
 fn owned_setting<A: Allocator + Copy>(
     alloc: A,
     setting: Setting<'_>,
@@ -124,7 +124,7 @@ fn owned_setting<A: Allocator + Copy>(
     Ok(copy_setting(alloc, &setting)?)
 }
 
-/// The setting of the words after `config`.
+/// Returns the setting in the words after `config`, or what is wrong with them.
 pub fn parse_setting<A: Allocator + Copy>(
     alloc: A,
     words: Words<'_>,

@@ -1,4 +1,4 @@
--- The image of a cache is kept as that cache.
+-- The cache that an image holds is readable, and the image of a readable cache holds it.
 use Rattle.std.proofs.Common.{◌≡◌, ℕ, ◌+◌, ◌≤◌, List, [], ◌∷◌, ◌++◌, length, drop, map, Option, Some, None, refl, sym, ap, subst, ◌∙◌, length-append, arith}
 use Rattle.std.specs.List.{flat_map, AllByRecursion}
 use Rattle.std.proofs.lemmas.List.{append-nil, drop_at, drop-drop, length-drop}
@@ -25,7 +25,7 @@ use Rattle.krb_ccache.proofs.CellLemmas.{credentials_are, end_is, all_cells}
 use Rattle.krb_ccache.proofs.PlaceLemmas.{header_is, name_is}
 use Rattle.krb_ccache.proofs.ImageLemmas.{image_parts, end_held}
 
--- a cache whose parts are read where they are spelled, and whose image is not too long
+-- a cache whose parts are read back from their spelling, and whose image is not longer than the limit
 pub record IsReadable (k : CacheState) : Type 0 where
   pub header : (rest : List ℕ) → header_at k.version (header k.version k.header ++ rest) ≡ Some (k.header, rest)
   pub principal : FitsCc k.principal
@@ -36,12 +36,12 @@ pub record IsReadable (k : CacheState) : Type 0 where
 
 -- ---- what is held is kept
 
--- fields that fill a header are read before anything
+-- fields that fill a header are read back, whatever follows
 header_by : (text : List ℕ) (xs : List Field) (rest : List ℕ) → IsShort text → fields_in text ≡ Some xs → header_at V4 (data16 Big text ++ rest) ≡ Some (xs, rest)
 unfolding header_at
 header_by text xs rest short filled = rw ((data16_field Big).again text rest short, filled) refl
 
--- so is a header that was read
+-- a header that was read is read back, whatever follows
 header_front : (v : Version) (bytes : List ℕ) (x : List Field × List ℕ) (rest : List ℕ) → IsBytes bytes → header_at v bytes ≡ Some x → header_at v (header v x.0 ++ rest) ≡ Some (x.0, rest)
 unfolding header_at
 header_front V3 bytes x rest fits e = subst (λ (y : List Field × List ℕ). header_at V3 rest ≡ Some (y.0, rest)) (some_is ([], bytes) x e) refl
@@ -61,7 +61,7 @@ cell_by bytes (Some x) c rest e =
     ap (λ y. Some (y, x.1)) first ∙ ap (λ (r : List ℕ). Some (c, r)) left
 cell_by bytes None c rest e = absurd cc
 
--- what is read where it is spelled fits
+-- credentials that are read back from their spelling fit
 pub all_fit : (v : Version) (cs : List CredParts) → AllByRecursion (IsCell (credentials_format v)) cs → IsBytes (flat_map (credential v) cs) → AllByRecursion (FitsCredential v) cs
 all_fit v [] sound fits = tt
 all_fit v (c ∷ cs) sound fits =
@@ -88,11 +88,11 @@ image_readable h image fits is =
 
 -- ---- what is kept is held
 
--- where the parts of a cache stand
+-- where the parts of a cache are in its image
 abbrev pub places_of : CacheState → Places
 places_of k = record { principal = 2 + length (header k.version k.header); first = first_place k; end = end_of (store_of k) }
 
--- what is known of it
+-- the layout of the image of a cache
 abbrev pub layout_of : CacheState → Layout
 layout_of k = record { version = k.version; limit = k.limit; places = places_of k }
 
@@ -138,12 +138,12 @@ readable_image k kept fits =
           ∙ ap (λ (c : Contents CredParts (List ℕ)). record { version = v; limit = k.limit; header = k.header; principal = k.principal; contents = c }) same;
     }
 
--- bytes that are the image of a kept cache, with what is known of it
+-- the image of a readable cache, with its layout, holds that cache
 pub holds : (k : CacheState) (h : Layout) (image : List ℕ) → IsReadable k → IsBytes image → image ≡ image_of k → h ≡ layout_of k → Holds h image k
 holds k h image kept fits is known =
     subst (λ (b : List ℕ). Holds h b k) (sym is) (subst (λ (x : Layout). Holds x (image_of k) k) (sym known) (readable_image k kept (subst IsBytes is fits)))
 
--- what is known of an image is what is known of its cache
+-- the layout of an image is that of the cache that it holds
 pub layout_is : (h : Layout) (image : List ℕ) → IsBytes image → IsImage h image → h ≡ layout_of (cache_of h image)
 layout_is h image fits is =
     let v = h.version in

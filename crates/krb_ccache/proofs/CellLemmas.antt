@@ -1,4 +1,4 @@
--- The credentials of bytes, one after the other.
+-- The credentials that bytes begin with, one after the other.
 use Rattle.std.proofs.Common.{◌++◌, take, drop, Option, ◌≡◌, ℕ, ◌+◌, List, [], ◌∷◌, length, map, ap, ◌∙◌, length-append, arith, ◌-◌, ◌^◌, ◌<◌, ◌≤◌, Some, None, refl, sym}
 use Rattle.std.specs.List.{flat_map, AllByRecursion}
 use Rattle.std.proofs.lemmas.List.{take_at, drop_at}
@@ -28,17 +28,17 @@ credentials_seen v = record {
   none = refl;
 }
 
--- credentials that begin at a place end so many bytes after it
+-- credentials that begin at a place end there plus the length of their spelling
 pub end_is : (v : Version) (at : ℕ) (cs : List CredParts) → end_from at (map (store_cell v) cs) ≡ at + length (flat_map (credential v) cs)
 end_is v at [] = omega arith
 end_is v at (c ∷ cs) =
     end_is v (at + length (credential v c)) cs ∙ omega (arith, ap length (flat_map-cons (credential v) c cs), length-append (credential v c) (flat_map (credential v) cs))
 
--- one credential that was read from the front
+-- one credential was read from the front
 pub read_one : (v : Version) (bytes : List ℕ) (c : CredParts) (after : List ℕ) → IsBytes bytes → credential_at v bytes ≡ Some (c, after) → ReadsOne (credentials_format v) bytes c after
 read_one v bytes c after fits e = reads_one (credential_field v) bytes c after fits e
 
--- fewer bytes are left
+-- fewer bytes are left after it
 pub read_left : (v : Version) (bytes : List ℕ) (c : CredParts) (after : List ℕ) → IsBytes bytes → credential_at v bytes ≡ Some (c, after) → IsBytes after × (length after < length bytes)
 read_left v bytes c after fits e = let r = read_one v bytes c after fits e in let len = r.len in let some = r.some in (r.fits, omega (arith, len, some))
 
@@ -46,7 +46,7 @@ read_left v bytes c after fits e = let r = read_one v bytes c after fits e in le
 pub read_none : (v : Version) (bytes : List ℕ) → IsBytes bytes → credential_at v bytes ≡ None → contents (credentials_format v) bytes ≡ record { cells = []; end = bytes }
 read_none v bytes fits e = reads_none (credential_field v) bytes fits e
 
--- so the store has it first
+-- a credential that was read is the first cell of the store
 pub cell_first : (v : Version) (bytes : List ℕ) (c : CredParts) (after : List ℕ) (live : Option (List ℕ)) → IsBytes bytes → credential_at v bytes ≡ Some (c, after) → live ≡ live_by (is_marked c) (take (length bytes - length after) bytes)
     → seen_in (credentials_format v) (store_cell v) bytes ≡ record { width = length bytes - length after; live = live } ∷ seen_in (credentials_format v) (store_cell v) (drop (length bytes - length after) bytes)
 cell_first v bytes c after live fits e is_live =
@@ -62,7 +62,7 @@ cell_first v bytes c after live fits e is_live =
     ∙ ap (λ (m : ℕ). record { width = m; live = live_by (is_marked c) (credential v c) } ∷ others) width
     ∙ ap (λ (o : Option (List ℕ)). record { width = n; live = o } ∷ others) (sym (is_live ∙ ap (live_by (is_marked c)) taken))
 
--- it is the first of those of the bytes
+-- a credential that was read is the first of those that the bytes begin with
 pub begins : (v : Version) (place : ℕ) (bytes : List ℕ) (c : CredParts) (after : List ℕ) (old : CredentialsFrom) → ReadsOne (credentials_format v) bytes c after → place + length bytes ≤ 2 ^ 30
     → ◌≡◌ {A = CredentialsFrom} (record { version = v; place = place; cells = (contents (credentials_format v) bytes).cells }) old → BeginsWithCredential old place c (record { version = v; place = place + (length bytes - length after); cells = (contents (credentials_format v) after).cells })
 begins v place bytes c after old r small is =
@@ -77,7 +77,7 @@ begins v place bytes c after old r small is =
       small = omega (arith, len, small);
     }
 
--- one is left fewer
+-- one credential fewer is left
 pub fewer_left : (old new : CredentialsFrom) (at : ℕ) (c : CredParts) → BeginsWithCredential old at c new → length new.cells < length old.cells
 fewer_left old new at c b = omega (arith, ap length b.cells)
 

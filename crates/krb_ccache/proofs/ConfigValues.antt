@@ -1,4 +1,4 @@
--- After a value is set, exactly one live entry is asked for.
+-- After a value is set, exactly one live entry matches.
 use Rattle.std.proofs.Common.{◌≡◌, ℕ, ◌+◌, ◌≤◌, Bool, true, false, List, [], ◌∷◌, ◌++◌, length, map, Option, Some, None, Result, Ok, refl, sym, ap, subst, ◌∙◌, arith}
 use Rattle.std.specs.Prelude.{filter, find, option_map, not, ◌==◌, ◌&&◌}
 use Rattle.std.specs.Str.{bytes_eq}
@@ -28,16 +28,16 @@ same_bytes b = (bytes_eq-Decides b b).1 refl
 name_same : (p : Parts) → have_same_name p p ≡ true
 name_same p = sym (same_name_is p p true (λ e. (refl, refl)) (λ realm components. refl))
 
--- the entry of a value is asked for
+-- the entry of a value matches
 match_by : (owner : Parts) (key : List ℕ) (text : Option (List ℕ)) (value : List ℕ) → is_match (record { owner = owner; key = key; principal = text }) (config_entry owner key text value) ≡ true
 match_by owner key None value = rw (same_bytes key, name_same owner) refl
 match_by owner key (Some t) value = rw (same_bytes key, same_bytes t, name_same owner) refl
 
--- the live credentials that are asked for, with their places
+-- the live credentials that match, with their places
 abbrev matches_from : Version → QueryParts → ℕ → List CredParts → List PlacedCredential
 matches_from v q at cs = filter (λ x. is_match q x.1) (filter is_live (placed_from v at cs))
 
--- those of a cache
+-- the matches in a cache
 abbrev matches_in : QueryParts → CacheState → List PlacedCredential
 matches_in q k = matches_from k.version q (first_place k) k.contents.cells
 
@@ -52,13 +52,13 @@ passed v q at c cs false true m e none = absurd cc
 
 -- ---- the first of them
 
--- it stands at its place, and a mark on it leaves those after it
+-- the first match is at its place, and a mark on it leaves the matches after it
 record IsFirst (v : Version) (q : QueryParts) (at : ℕ) (cs : List CredParts) (p : ℕ) (c : CredParts) (rest : List PlacedCredential) : Type 0 where
   pub from : at ≤ p
   pub there : live_of (find (λ x. x.0 == p) (placed_from v at cs)) ≡ Some c
   pub left : matches_from v q at (add_mark_at v at p cs) ≡ rest
 
--- it is the first credential
+-- the first match is the first credential
 first_here : (v : Version) (q : QueryParts) (at p : ℕ) (c : CredParts) (cs : List CredParts) (rest : List PlacedCredential) → at ≡ p → is_marked c ≡ false → matches_from v q (at + length (credential v c)) cs ≡ rest → IsFirst v q at (c ∷ cs) p c rest
 first_here v q at p c cs rest is live others =
     let next = at + length (credential v c) in
@@ -75,7 +75,7 @@ first_here v q at p c cs rest is live others =
           ∙ ap (λ (n : ℕ). matches_from v q (at + n) cs) (marked_len v c) ∙ others;
     }
 
--- it comes after the first credential
+-- the first match comes after the first credential
 first_after : (v : Version) (q : QueryParts) (at p : ℕ) (c d : CredParts) (cs : List CredParts) (rest : List PlacedCredential) → ((xs : List CredParts) → matches_from v q at (d ∷ xs) ≡ matches_from v q (at + length (credential v d)) xs)
     → IsFirst v q (at + length (credential v d)) cs p c rest → IsFirst v q at (d ∷ cs) p c rest
 first_after v q at p c d cs rest skips first =
@@ -112,7 +112,7 @@ cut_there k p c version whole there =
     let writes : is_read_only k.version ≡ false = ap is_read_only version in
     rw (writes, whole, live) refl
 
--- those after them are left
+-- the matches after them are left
 cut_matches : (q : QueryParts) (k : CacheState) (xs ys : List PlacedCredential) → k.version ≡ V4 → k.contents.end ≡ [] → matches_in q k ≡ xs ++ ys
     → (matches_in q (without k (map (λ x. x.0) xs)) ≡ ys) × ((without k (map (λ x. x.0) xs)).principal ≡ k.principal)
 cut_matches q k [] ys version whole is = (is, refl)
@@ -129,7 +129,7 @@ placed_last : (v : Version) (at : ℕ) (cs : List CredParts) (c : CredParts) →
 placed_last v at [] c = refl
 placed_last v at (d ∷ cs) c = ap (λ (xs : List PlacedCredential). (at, d) ∷ xs) (placed_last v (at + length (credential v d)) cs c)
 
--- it comes after the others
+-- the new entry is the last match
 match_last : (q : QueryParts) (k : CacheState) (c : CredParts) → is_marked c ≡ false → is_match q c ≡ true → matches_in q (with_last k c) ≡ matches_in q k ++ (end_of (store_of k), c) ∷ []
 match_last q k c live asked =
     let asks : PlacedCredential → Bool = λ x. is_match q x.1 in
@@ -152,14 +152,14 @@ found_by p x xs y false e ih is =
     let next : find p (x ∷ xs) ≡ find p xs = rw e refl in
     next ∙ ih (sym passed ∙ is)
 
--- the only one is the first
+-- the only match is the first
 only_first : (p : PlacedCredential → Bool) (xs : List PlacedCredential) (y : PlacedCredential) → filter p xs ≡ y ∷ [] → find p xs ≡ Some y
 only_first p [] y is = absurd cc
 only_first p (x ∷ xs) y is = found_by p x xs y (p x) refl (only_first p xs y) is
 
 -- ---- after a value was set
 
--- it is held, by the entry at that place
+-- the value is held by the entry at that place
 pub record IsSet (k new : CacheState) (key : List ℕ) (text : Option (List ℕ)) (value : List ℕ) (place : ℕ) : Type 0 where
   pub holds : HoldsConfig new key text value place
   pub there : credential_at_place new place ≡ Some (config_entry k.principal key text value)

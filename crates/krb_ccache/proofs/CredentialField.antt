@@ -1,4 +1,4 @@
--- A credential that is read is the credential that was written, and what was written is read again.
+-- A credential is spelled by the bytes that it is read from, and is read back from its spelling.
 use Rattle.std.proofs.Common.{◌≡◌, ℕ, List, [], ◌∷◌, ◌++◌, Some, refl, sym, ap, subst, ◌∙◌, append_assoc}
 use Rattle.krb_wire.specs.declared.format.Order.TheVariants.{Big}
 use Rattle.krb_wire.specs.Spelling.{data32, cc_principal}
@@ -85,7 +85,7 @@ credential_field v = record {
   nonempty = λ c. some_more (cc_principal c.client) _ (cc_principal_field.nonempty c.client);
 }
 
--- what has the same spelling is the same credential
+-- credentials that fit and have the same spelling are the same
 pub same_spelling : (v : Version) (c d : CredParts) → FitsCredential v c → FitsCredential v d → credential v c ≡ credential v d → c ≡ d
 same_spelling v c d fit_c fit_d same =
     let read : Some (c, []) ≡ Some (d, []) = sym (credential_again v c [] fit_c) ∙ ap (λ (b : List ℕ). credential_at v (b ++ [])) same ∙ credential_again v d [] fit_d in

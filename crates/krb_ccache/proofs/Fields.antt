@@ -1,4 +1,4 @@
--- A credential that is read is the credential that was written, and what was written is read again.
+-- Each field of a credential is spelled by the bytes that it is read from, and is read back from its spelling.
 use Rattle.std.proofs.Common.{◌≡◌, ℕ, ◌^◌, ◌<◌, List, [], ◌∷◌, ◌++◌, length, Option, Some, refl, sym, ap, subst, ◌∙◌, append_assoc, length-append, arith}
 use Rattle.std.specs.List.{flat_map}
 use Rattle.std.specs.Int.{Width, w16, w32}
@@ -14,7 +14,7 @@ use Rattle.krb_ccache.specs.declared.version.Version.TheVariants.{V3, V4}
 use Rattle.krb_ccache.specs.declared.credential.times.Times.{Times}
 use Rattle.krb_ccache.specs.Credential.{TypedData, Key, number32, typed_data, typed_list, second_enctype_field, key, times, FitsTypedData, FitsTypedList, FitsSecondEnctype, FitsKey, FitsTimes, typed_data_at, typed_list_at, second_enctype_at, key_at, times_at}
 
--- a number of so many bits
+-- a number of a given width
 pub number_field : (w : Width) (limit : ℕ) → IsWide Big w limit → (0 < length (digits Big w 0)) → IsField (number_at Big w) (digits Big w) (λ n. n < limit)
 number_field w limit wide some = record {
   takes = λ bytes x fits e. number_takes Big w limit wide bytes x.0 x.1 fits e;
@@ -41,15 +41,15 @@ byte_field = record {
   nonempty = λ n. omega arith;
 }
 
--- the first of two parts, before what follows
+-- two parts before what follows, regrouped by `append_assoc`
 pub part_first : (a b rest all : List ℕ) → b ++ rest ≡ all → (a ++ b) ++ rest ≡ a ++ all
 part_first a b rest all e = append_assoc a b rest ∙ ap (λ (t : List ℕ). a ++ t) e
 
--- more than nothing, before what follows
+-- a list that begins with a nonempty one is nonempty
 pub some_more : (a b : List ℕ) → 0 < length a → 0 < length (a ++ b)
 some_more a b some = omega (arith, some, length-append a b)
 
--- a field that was read first, and the steps after it
+-- a field is read first, and then the steps after it are done
 pub step : {A B R : Type 0} {read : List ℕ → Option (A × List ℕ)} {spell : A → List ℕ} {Fits : A → Type 0} → IsField read spell Fits → (bytes : List ℕ) (f : A × List ℕ → Option B) (y : B) → IsBytes bytes → (read bytes >>= f) ≡ Some y
     → ((a : A) (rest : List ℕ) → Takes bytes (spell a) rest → Fits a → f (a, rest) ≡ Some y → R) → R
 step {read = read} field bytes f y fits e others =

@@ -1,4 +1,4 @@
--- A header that is read is the header that was written.
+-- A header is spelled by the bytes that it is read from.
 use Rattle.std.proofs.Common.{◌≡◌, ℕ, zero, suc, ◌<◌, List, [], ◌∷◌, ◌++◌, length, Some, refl, ap, subst, ◌∙◌, append_assoc, arith, Option, None}
 use Rattle.std.specs.Prelude.{is_some, ◌==◌}
 use Rattle.std.specs.List.{flat_map, filter_map, cons_option}
@@ -64,7 +64,7 @@ IsBytes-front [] b fits i = omega arith
 IsBytes-front (x ∷ a) b fits zero = fits 0
 IsBytes-front (x ∷ a) b fits (suc i) = IsBytes-front a b (λ j. fits (suc j)) i
 
--- the header spells what it takes
+-- a header spells the bytes that it is read from
 pub header_takes : (v : Version) (bytes : List ℕ) (x : List Field × List ℕ) → IsBytes bytes → header_at v bytes ≡ Some x → Takes bytes (header v x.0) x.1
 unfolding header_at
 header_takes V3 bytes x fits e = subst (λ (y : List Field × List ℕ). Takes bytes [] y.1) (some_is ([], bytes) x e) (record { parts = refl; rest_fits = fits })
@@ -101,7 +101,7 @@ field_shrinks bytes x after fits e = let r = reads_one field_field bytes x after
 pub field_left : (bytes : List ℕ) (x : Field) (after : List ℕ) → IsBytes bytes → field_at bytes ≡ Some (x, after) → IsBytes after
 field_left bytes x after fits e = (reads_one field_field bytes x after fits e).fits
 
--- the first offset among the fields of bytes
+-- the first offset among the fields that the bytes begin with
 abbrev pub offset_among : List ℕ → Option Offset
 offset_among bytes = first_of (filter_map offset_of (contents fields_format bytes).cells)
 

@@ -1,4 +1,4 @@
--- What is known of an image that is a cache.
+-- Facts about an image that is a cache.
 use Rattle.std.proofs.Common.{◌≡◌, ◌≢◌, ℕ, ◌+◌, ◌-◌, ◌≤◌, List, [], ◌∷◌, ◌++◌, length, get_or, take, drop, map, Some, None, refl, ap, subst, ◌∙◌, length-append, arith, Ok, false}
 use Rattle.std.specs.Prelude.{nat_lt}
 use Rattle.std.specs.List.{flat_map}
@@ -33,7 +33,7 @@ headed [] le = absurd (omega arith)
 headed (a ∷ []) le = absurd (omega arith)
 headed (a ∷ b ∷ bs) le = refl
 
--- where the parts stand, and what they spell
+-- where the parts of an image are, and what they spell
 pub record ImageParts (h : Layout) (image : List ℕ) : Type 0 where
   pub first : h.places.first ≡ first_place (cache_of h image)
   pub spells : image ≡ image_of (cache_of h image)
@@ -75,7 +75,7 @@ image_parts h image fits is =
 pub end_held : (h : Layout) (image : List ℕ) → ImageParts h image → IsImage h image → h.places.end ≡ end_of (store_of (cache_of h image))
 end_held h image p is = is.parts.end ∙ ap (λ (n : ℕ). end_from n (map (store_cell h.version) (contents (credentials_format h.version) (drop h.places.first image)).cells)) p.first
 
--- where nothing stands after the last credential, they end with the image
+-- if nothing follows the last credential, it ends with the image
 pub image_end : (h : Layout) (image : List ℕ) (k : CacheState) → IsBytes image → IsImage h image → cache_of h image ≡ k → k.contents.end ≡ [] → length image ≡ h.places.end
 image_end h image k fits is same whole =
     let total = (image_parts h image fits is).total in
@@ -116,7 +116,7 @@ image_credentials h image bytes k fits is same is_bytes =
       small = omega (arith, ahead, within, limit_fits, end, ap length is_bytes, length-take (h.places.end - h.places.first) (drop h.places.first image));
     })
 
--- they are cells
+-- the credentials of an image are cells
 pub image_cells : (v : Version) (bytes : List ℕ) (k : CacheState) (first : ℕ) → IsBytes bytes → v ≡ k.version → AreCredentials k first bytes → AreCells (seen_in (credentials_format v) (store_cell v)) bytes
 image_cells v bytes k first fits is are =
     are_cells (credentials_format v) (store_cell v) bytes (credentials_seen v) fits (ap (λ (w : Version). (contents (credentials_format w) bytes).end) is ∙ ap (λ (c : Contents CredParts (List ℕ)). c.end) are.contents)

@@ -1,4 +1,4 @@
--- A cache with one credential more.
+-- A cache with a credential appended.
 use Rattle.std.proofs.Common.{◌≡◌, ℕ, ◌+◌, ◌<◌, ◌≤◌, Bool, true, false, Result, Ok, Err, List, [], ◌∷◌, ◌++◌, length, replicate, refl, sym, ap, subst, ◌∙◌, append_assoc, length-append, arith, map, Some}
 use Rattle.std.specs.Prelude.{nat_lt, IfOk, ◌==◌, find}
 use Rattle.std.proofs.lemmas.Bool.{lt-ltb, le-ltb}
@@ -26,7 +26,7 @@ use Rattle.krb_ccache.proofs.MarkLemmas.{splice_part}
 use Rattle.krb_ccache.proofs.MarkImage.{front_of, front_len, front_first}
 use Rattle.krb_ccache.proofs.CredentialField.{credential_field}
 
--- bytes that were put over zeros at the end
+-- bytes written over zeros at the end are appended
 pub put_last : (old new text : List ℕ) (n at to : ℕ) → at ≡ length old → to ≡ at + length text → n ≡ length text → new ≡ splice (old ++ replicate n 0) at to text → new ≡ old ++ text
 put_last old new text n at to is_at is_to is_n put =
     let zeros = replicate {A = ℕ} n 0 in
@@ -36,7 +36,7 @@ put_last old new text n at to is_at is_to is_n put =
 group : (x a c : List ℕ) → x ++ ((a ++ (c ++ [])) ++ []) ≡ (x ++ (a ++ [])) ++ c
 group x a c = simp (append_assoc, append-nil)
 
--- the image with it, where nothing stands after the last
+-- the image with the credential appended, if nothing follows the last one
 pub last_spelled : (k : CacheState) (c : CredParts) → k.contents.end ≡ [] → image_of (with_last k c) ≡ image_of k ++ credential k.version c
 last_spelled k c whole =
     let f = credential k.version in
@@ -66,7 +66,7 @@ last_end k c =
     let cs = k.contents.cells in
     omega (arith, end_is k.version (first_place k) (cs ++ c ∷ []), end_is k.version (first_place k) cs, ap length (flat_map-append f cs (c ∷ [])), length-append (flat_map f cs) (f c ++ []), length-append (f c) [])
 
--- a cache of version 4 that its last credential ends, by the layout of its image
+-- a version 4 cache with nothing after its last credential, and the layout of its image
 pub record IsAppendable (h : Layout) (k : CacheState) : Type 0 where
   pub readable : IsReadable k
   pub layout : h ≡ layout_of k
@@ -92,7 +92,7 @@ last_len h k c a =
     ap length (last_spelled k c a.whole) ∙ length-append (image_of k) (credential k.version c) ∙ ap (λ (n : ℕ). n + length (credential k.version c)) (appendable_len h k a)
     ∙ ap (λ (v : Version). h.places.end + length (credential v c)) a.version
 
--- with the credential it is the cache of the new image
+-- the new image holds the cache with the credential appended
 pub last_holds : (h : Layout) (k : CacheState) (new : List ℕ) (c : CredParts) (len end : ℕ) → IsAppendable h k → IsBytes new → FitsCredential V4 c → len ≡ length (credential V4 c) → h.places.end + len ≤ h.limit → end ≡ h.places.end + len → new ≡ image_of k ++ credential V4 c
     → Holds (record { version = h.version; limit = h.limit; places = record { principal = h.places.principal; first = h.places.first; end = end } }) new (with_last k c)
 last_holds h k new c len end a new_fits fit is_len room is_end put =
@@ -131,7 +131,7 @@ pub append_puts : (k new : CacheState) (c : CredParts) (result : Result ℕ Refu
 append_puts k new c (Ok p) gives puts = subst (λ (x : ℕ × CacheState). Puts (store_of k) (store_of x.1) x.0) (append_pair k new c p gives) puts
 append_puts k new c (Err e) gives puts = tt
 
--- ---- where it stands
+-- ---- where it is
 
 found_last : (v : Version) (at p : ℕ) (cs : List CredParts) (c : CredParts) → p ≡ end_from at (map (store_cell v) cs) → find (λ x. x.0 == p) (placed_from v at (cs ++ c ∷ [])) ≡ Some (p, c)
 found_last v at p [] c is =
@@ -148,7 +148,7 @@ found_last v at p (d ∷ cs) c is =
 last_there : (k : CacheState) (c : CredParts) → is_marked c ≡ false → credential_at_place (with_last k c) (end_of (store_of k)) ≡ Some c
 last_there k c live = ap live_of (found_last k.version (first_place k) (end_of (store_of k)) k.contents.cells c refl) ∙ rw live refl
 
--- it stands at its place
+-- an added credential is at the place that was returned
 pub put_there : (k old new : CacheState) (c : CredParts) (result : Result ℕ Refusal) → is_marked c ≡ false → PutGives (append_result k c) old result new → IfOk result (λ p. credential_at_place new p ≡ Some c)
 put_there k old new c (Ok p) live gives = subst (λ (x : ℕ × CacheState). credential_at_place x.1 x.0 ≡ Some c) (append_pair k new c p gives) (last_there k c live)
 put_there k old new c (Err e) live gives = tt

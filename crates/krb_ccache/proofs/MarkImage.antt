@@ -1,4 +1,4 @@
--- The image of a cache whose credentials are replaced by others of their lengths.
+-- The image of a cache after a credential in it is marked, which keeps its length.
 use Rattle.std.proofs.Common.{◌≡◌, ℕ, ◌+◌, ◌≤◌, List, [], ◌∷◌, ◌++◌, length, drop, Some, refl, sym, ap, subst, ◌∙◌, append_assoc, length-append, arith}
 use Rattle.std.specs.List.{flat_map, splice, AllByRecursion}
 use Rattle.std.proofs.lemmas.Grind.{flat_map-append}
@@ -33,7 +33,7 @@ front_first k = ap (λ (b : List ℕ). 5 ∷ version_byte k.version ∷ b) (sym 
 group : (x a c b end : List ℕ) → x ++ ((a ++ (c ++ b)) ++ end) ≡ (x ++ a) ++ (c ++ (b ++ end))
 group x a c b end = simp append_assoc
 
--- credentials, one of them and others
+-- the image, split around one of its credentials
 texts : (k : CacheState) (before after : List CredParts) (c : CredParts) (end : List ℕ) → k.contents ≡ record { cells = before ++ c ∷ after; end = end }
     → image_of k ≡ (front_of k ++ flat_map (credential k.version) before) ++ (credential k.version c ++ (flat_map (credential k.version) after ++ end))
 texts k before after c end is =
@@ -52,7 +52,7 @@ pub all_here : (P : CredParts → Type 0) (before after : List CredParts) (c : C
 all_here P [] after c all = all.0
 all_here P (x ∷ before) after c all = all_here P before after c all.1
 
--- a mark keeps a credential's numbers in their range
+-- a mark keeps the numbers of a credential in their ranges
 pub fits_marked : (v : Version) (c : CredParts) → FitsCredential v c → FitsCredential v (add_mark c)
 fits_marked v c fit = record {
   client = fit.client;
@@ -67,7 +67,7 @@ fits_marked v c fit = record {
   second_ticket = fit.second_ticket;
 }
 
--- a live credential in an image
+-- a live credential at a place of an image
 pub record LiveIn (h : Layout) (image : List ℕ) (place : ℕ) (c : CredParts) : Type 0 where
   pub stands : StandsAt h.version (first_place (cache_of h image)) (cache_of h image).contents.cells place c
   pub within : place ≤ length image
@@ -102,7 +102,7 @@ same_text v before after c =
     let b = flat_map f after in
     ap length (flat_map-append f before (add_mark c ∷ after)) ∙ omega (arith, length-append a (f (add_mark c) ++ b), length-append a (f c ++ b), length-append (f (add_mark c)) b, length-append (f c) b, marked_len v c) ∙ sym (ap length (flat_map-append f before (c ∷ after)))
 
--- it was marked
+-- the image with the credential marked holds the cache with the mark
 pub marked_held : (h : Layout) (image new : List ℕ) (place : ℕ) (c : CredParts) → IsBytes image → IsBytes new → IsImage h image → LiveIn h image place c
     → new ≡ splice image place (place + length (credential h.version c)) (credential h.version (add_mark c)) → Holds h new (with_mark (cache_of h image) place)
 marked_held h image new place c fits new_fits is live written =

@@ -20,15 +20,15 @@ use Rattle.krb_ccache.proofs.CellLemmas.{end_is}
 
 -- ---- one credential
 
--- what stands before the times of a credential
+-- what is before the times of a credential
 abbrev pub before_times : Version → CredParts → List ℕ
 before_times v c = cc_principal c.client ++ (cc_principal c.server ++ key v c.key)
 
--- what stands after them
+-- what is after them
 abbrev pub after_times : CredParts → List ℕ
 after_times c = (c.is_skey ∷ []) ++ (number32 c.flags ++ (typed_list c.addresses ++ (typed_list c.authdata ++ (data32 Big c.ticket ++ data32 Big c.second_ticket))))
 
--- the two times that a mark writes, between what it leaves
+-- the spelling of a credential with these two times, which a mark writes
 abbrev with_times : Version → CredParts → ℕ → ℕ → List ℕ
 with_times v c authtime endtime = before_times v c ++ (number32 authtime ++ (number32 c.times.starttime ++ (number32 endtime ++ (number32 c.times.renew_till ++ after_times c))))
 
@@ -45,14 +45,14 @@ as_marked v c = as_times v (add_mark c)
 pub marked_len : (v : Version) (c : CredParts) → length (credential v (add_mark c)) ≡ length (credential v c)
 marked_len v c = ap length (as_marked v c) ∙ omega (arith, length-append (before_times v c) (number32 4294967295 ++ (number32 c.times.starttime ++ (number32 0 ++ (number32 c.times.renew_till ++ after_times c)))), length-append (before_times v c) (number32 c.times.authtime ++ (number32 c.times.starttime ++ (number32 c.times.endtime ++ (number32 c.times.renew_till ++ after_times c))))) ∙ sym (ap length (as_times v c))
 
--- bytes put over others of their number
+-- a splice over a part of a list replaces that part
 pub splice_part : (a x y b : List ℕ) (i j : ℕ) → i ≡ length a → j ≡ i + length x → splice (a ++ (x ++ b)) i j y ≡ a ++ (y ++ b)
 splice_part a x y b i j is_i is_j =
     let front : take i (a ++ (x ++ b)) ≡ a = take_at a (x ++ b) i (sym is_i) in
     let back : drop j (a ++ (x ++ b)) ≡ b = ap (λ (n : ℕ). drop n (a ++ (x ++ b))) (is_j ∙ ap (λ (n : ℕ). n + length x) is_i) ∙ sym (drop-drop (length x) (length a) (a ++ (x ++ b))) ∙ ap (drop (length x)) (drop_at a (x ++ b) (length a) refl) ∙ drop_at x b (length x) refl in
     rw (front, back) refl
 
--- where the times stand
+-- the times follow the names and the key
 times_after : (v : Version) (c : CredParts) (rest : List ℕ) → FitsCredential v c → times_from v (before_times v c ++ rest) ≡ Some rest
 unfolding times_from
 times_after v c rest fits =
@@ -97,7 +97,7 @@ group_three a f s t = simp append_assoc
 group_back : (p f a s e r b rest : List ℕ) → ((p ++ f) ++ a) ++ s ++ (e ++ (r ++ (b ++ rest))) ≡ p ++ ((f ++ (a ++ (s ++ (e ++ (r ++ b))))) ++ rest)
 group_back p f a s e r b rest = simp append_assoc
 
--- the two times were written
+-- writing the two times marks the credential
 pub marked_is : (v : Version) (image mid new : List ℕ) (place at i j k : ℕ) (c : CredParts) (rest : List ℕ) → AroundTimes v image place c rest → place ≤ length image → at ≡ place + length (before_times v c) → i ≡ at + 4 → j ≡ at + 8 → k ≡ j + 4
     → mid ≡ splice image at i (number32 4294967295) → new ≡ splice mid j k (number32 0) → new ≡ splice image place (place + length (credential v c)) (credential v (add_mark c))
 marked_is v image mid new place at i j k c rest w le is_at is_i is_j is_k first second =
@@ -125,7 +125,7 @@ marked_is v image mid new place at i j k c rest w le is_at is_i is_j is_k first 
 
 -- ---- a credential among others
 
--- a live credential stands at a place
+-- a live credential is at a place
 pub record StandsAt (v : Version) (at : ℕ) (cs : List CredParts) (p : ℕ) (c : CredParts) : Type 0 where
   pub before : List CredParts
   pub after : List CredParts
@@ -157,7 +157,7 @@ stands v at p (d ∷ cs) c is = stands_cons v at p d cs c (at == p) refl (stands
 pub unmarked_by : (v : Version) (at p : ℕ) (c : CredParts) (cs : List CredParts) → (at == p) ≡ false → add_mark_at v at p (c ∷ cs) ≡ c ∷ add_mark_at v (at + length (credential v c)) p cs
 unmarked_by v at p c cs e = rw e refl
 
--- those after the place stay
+-- a mark leaves the credentials after its place unchanged
 pub unmarked_after : (v : Version) (at p : ℕ) (cs : List CredParts) → p < at → add_mark_at v at p cs ≡ cs
 unmarked_after v at p [] lt = refl
 unmarked_after v at p (c ∷ cs) lt =

@@ -1,4 +1,4 @@
--- Credentials that are written anew.
+-- The new texts of credentials in a rewrite.
 use Rattle.std.proofs.Common.{◌≡◌, ℕ, ◌+◌, ◌-◌, ◌<◌, ◌≤◌, Bool, true, false, List, [], ◌∷◌, ◌++◌, length, take, drop, Some, None, refl, sym, ap, ◌∙◌, append_assoc, length-append, arith}
 use Rattle.std.specs.List.{flat_map}
 use Rattle.std.specs.Int.{w16}
@@ -38,7 +38,7 @@ live_text c e = rw e refl
 
 -- ---- the second enctype
 
--- what stands before it, and after it
+-- what is before it, and after it
 abbrev pub before_second : CredParts → List ℕ
 before_second c = cc_principal c.client ++ (cc_principal c.server ++ digits Big w16 c.key.enctype)
 
@@ -66,7 +66,7 @@ after_first c rest fits =
     ap after_first_enctype (append_assoc a (b ++ e) rest ∙ ap (λ (t : List ℕ). a ++ t) (append_assoc b e rest))
     ∙ rw (cc_principal_field.again c.client (b ++ (e ++ rest)) fits.client, cc_principal_field.again c.server (e ++ rest) fits.server, field16.again c.key.enctype rest fits.key.enctype) refl
 
--- a version 3 credential around its second enctype
+-- the parts of a version 3 credential around its second enctype
 pub record AroundSecondEnctype (text : List ℕ) (c : CredParts) (rest : List ℕ) : Type 0 where
   pub left : List ℕ
   pub is_left : after_first_enctype text ≡ Some left
@@ -94,7 +94,7 @@ around_second text c rest fits e =
 pub whole_without : (c : CredParts) (a b : List ℕ) → a ≡ before_second c → b ≡ after_second c ++ [] → a ++ b ≡ credential V4 (in_version_4 c)
 whole_without c a b is_a is_b = rw (is_a, is_b) (ap (λ (t : List ℕ). before_second c ++ t) (append-nil (after_second c)) ∙ two_parts c)
 
--- a version 4 credential is written as it stands
+-- a version 4 credential is written unchanged
 pub whole_same : (text : List ℕ) (c : CredParts) → IsBytes text → credential_at V4 text ≡ Some (c, []) → text ≡ credential V4 (in_version_4 c)
 whole_same text c fits e = ((credential_field V4).takes text (c, []) fits e).0.parts ∙ append-nil (credential V4 c)
 

@@ -4,11 +4,11 @@ use Rattle.std.specs.Borrow.{MutBor}
 use Rattle.krb_wire.specs.declared.pen.Pen.{Pen}
 use Rattle.krb_wire.specs.Pen.{IsAt, HasRoom, Puts}
 
--- the first part has room
+-- there is room for the first part
 pub first_room : (pen : Pen) (text a rest : List ℕ) → text ≡ a ++ rest → HasRoom pen text → HasRoom pen a
 first_room pen text a rest cut room = omega (arith, room, ap length cut, length-append a rest)
 
--- and once it is written, so have the others
+-- once it is written, there is room for the others
 pub rest_room : (old new : Pen) (text a rest : List ℕ) → text ≡ a ++ rest → HasRoom old text → Puts old new a → HasRoom new rest
 rest_room old new text a rest cut room puts =
     let place = puts.place in

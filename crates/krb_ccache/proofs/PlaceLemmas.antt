@@ -1,4 +1,4 @@
--- Where the parts of an image stand.
+-- Where the parts of an image are.
 use Rattle.std.proofs.Common.{◌≡◌, ℕ, ◌+◌, ◌-◌, ◌≤◌, List, [], ◌++◌, length, take, drop, Option, Some, None, Ok, Err, refl, sym, ap, subst, ◌∙◌, append_assoc, length-append, arith}
 use Rattle.std.specs.Prelude.{option_map, unwrap_or}
 use Rattle.std.specs.List.{flat_map}
@@ -33,7 +33,7 @@ len_end v bytes fits e = ap (λ (k : Contents CredParts (List ℕ)). length (fla
 
 -- ---- what is left of an image
 
--- bytes that an image ends with
+-- an image ends with these bytes
 pub record EndsWith (image after : List ℕ) : Type 0 where
   pub before : List ℕ
   pub parts : image ≡ before ++ after
@@ -47,7 +47,7 @@ tail_is image after e =
 after_takes : (image a text b : List ℕ) → EndsWith image a → Takes a text b → EndsWith image b
 after_takes image a text b e t = record { before = e.before ++ text; parts = e.parts ∙ ap (λ (x : List ℕ). e.before ++ x) t.parts ∙ sym (append_assoc e.before text b) }
 
--- a header that was passed was read
+-- a header that was skipped was read
 pub record PassedHeader (v : Version) (rest after : List ℕ) : Type 0 where
   pub fields : List Field
   pub read : header_at v rest ≡ Some (fields, after)
@@ -69,7 +69,7 @@ no_header v rest limit e = ap (open_header v limit) (none_by (header_at v rest) 
 pub no_default : (v : Version) (rest after : List ℕ) (limit : ℕ) → header_end v rest ≡ Some after → cc_principal_at after ≡ None → open_header v limit (header_at v rest) ≡ Err BadDefault
 no_default v rest after limit e none = let p = passed v rest after e in ap (open_header v limit) p.read ∙ ap (open_default v limit p.fields) none
 
--- what was read before the credentials
+-- an image ends with what is left after its version, after its header and after its default principal
 pub record IsFront (v : Version) (image rest after cells : List ℕ) : Type 0 where
   pub rest_ends : EndsWith image rest
   pub after_ends : EndsWith image after
@@ -112,6 +112,6 @@ places_are v image rest after p cells n fits is_rest passes read is_n le =
       end_within = omega (arith, lc, le);
     }
 
--- such an image is opened as what it holds
+-- an image with these places opens as the cache that it holds
 pub opens : (v : Version) (limit : ℕ) (image : List ℕ) (places : Places) → ArePlaces v image places → open_header v limit (header_at v (drop 2 image)) ≡ Ok (cache_of (record { version = v; limit = limit; places = places }) image)
 opens v limit image places are = ap (open_header v limit) are.header ∙ ap (open_default v limit (header_in v image)) are.principal

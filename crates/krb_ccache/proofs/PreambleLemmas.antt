@@ -25,7 +25,7 @@ pub offset_text : (offset : Option Offset) (o : Offset) (s m : ℕ) → offset �
     → digits Big w16 12 ++ (digits Big w16 1 ++ (digits Big w16 8 ++ (number32 s ++ number32 m))) ≡ header V4 (new_header offset)
 offset_text offset o s m is is_s is_m = rw (is, is_s, is_m) refl
 
--- a new header is read before anything
+-- the fields of a new header fit, so it is read back, whatever follows
 fits_new : (offset : Option Offset) → FitsHeader V4 (new_header offset)
 fits_new None = (tt, omega arith)
 fits_new (Some o) = ((record { tag = omega arith; value = omega arith }, tt), omega arith)
@@ -50,7 +50,7 @@ empty_readable p offset limit fit fits within small =
       limit_fits = small;
     }
 
--- what was written is held as the new cache
+-- the written preamble is an image that holds the new cache
 pub empty_held : (p : Parts) (offset : Option Offset) (limit : ℕ) (image : List ℕ) (principal first : ℕ) → FitsCc p → IsBytes image → image ≡ new_preamble p offset → length (new_preamble p offset) ≤ limit → limit ≤ 1073741824
     → principal ≡ 2 + length (header V4 (new_header offset)) → first ≡ length (new_preamble p offset)
     → Holds (record { version = V4; limit = limit; places = record { principal = principal; first = first; end = first } }) image (empty_cache p offset limit)

@@ -14,7 +14,7 @@ pub removals_leave : (k : CacheState) (cursors places : List ℕ) → (state_aft
 removals_leave k cursors [] = refl
 removals_leave k cursors (p ∷ ps) = removals_leave (cut_store k (cut_result k p)) cursors ps
 
--- an addition and the removals after it
+-- the events of a setting leave what the addition and the removals after it leave
 pub setting_leaves : (k : CacheState) (cursors : List ℕ) (s : SettingParts) (given : Result (ℕ × CacheState) Code)
     → (state_after cache_rules (record { store = put_store k given; cursors = cursors }) (if is_refused given then [] else map Cut (match_places k s))).store ≡ put_store k (then_without (match_places k s) given)
 setting_leaves k cursors s (Ok given) = removals_leave given.1 cursors (match_places k s)

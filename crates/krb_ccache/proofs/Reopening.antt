@@ -1,4 +1,4 @@
--- A cache is what its image is opened as.
+-- Opening the image of a cache gives that cache again.
 use Rattle.std.proofs.Common.{◌≡◌, ℕ, false, List, [], ◌∷◌, ◌++◌, length, Some, None, Ok, refl, sym, ap, subst, ◌∙◌, arith}
 use Rattle.std.specs.Prelude.{nat_lt}
 use Rattle.std.specs.List.{flat_map, AllByRecursion}
@@ -28,7 +28,7 @@ all_fields : (xs : List Field) → AllByRecursion FitsField xs → AllByRecursio
 all_fields [] fit = tt
 all_fields (x ∷ xs) fit = (unframed_cell field_field x fit.0, all_fields xs fit.1)
 
--- the fields of a header fill it
+-- fields that fit fill their spelling
 fields_again : (xs : List Field) → AllByRecursion FitsField xs → IsBytes (flat_map field xs) → fields_in (flat_map field xs) ≡ Some xs
 fields_again xs fit fits =
     let k : Contents Field (List ℕ) = record { cells = xs; end = [] } in

@@ -1,4 +1,4 @@
--- A cache that is written anew: its image, its store, and where cursors go.
+-- A rewritten cache: its image, its store, and where cursors go.
 use Rattle.std.proofs.Common.{◌≡◌, ℕ, suc, ◌+◌, ◌≤◌, Bool, true, false, cond, Result, Ok, Err, Some, None, List, [], ◌∷◌, ◌++◌, length, map, refl, sym, ap, subst, ◌∙◌, append_assoc, length-append, arith, ◌-◌, take}
 use Rattle.std.specs.Prelude.{nat_lt, is_some, not, filter, drop, Option, IfOk}
 use Rattle.std.specs.List.{flat_map, AllByRecursion}
@@ -148,7 +148,7 @@ rewrites_store k whole = record {
 
 -- ---- its live credentials
 
--- those that bear no mark
+-- the credentials without the removed mark
 abbrev live : List CredParts → List CredParts
 live cs = filter (λ c. not (is_marked c)) cs
 
@@ -176,13 +176,13 @@ credentials_kept k =
     unplaced_live V4 (first_place (rewrite_of k)) (new_cells k.contents.cells) ∙ live_version_4 k.contents.cells
     ∙ ap (map in_version_4) (sym (unplaced_live k.version (first_place k) k.contents.cells))
 
--- what a rewrite gives
+-- a rewrite that is not refused gives the rewritten cache
 made_is : (k new : CacheState) (damaged full : Bool) → cond {A = Result CacheState Code} damaged (Err code.Damaged) (cond full (Err code.Full) (Ok (rewrite_of k))) ≡ Ok new → rewrite_of k ≡ new
 made_is k new true full made = absurd cc
 made_is k new false true made = absurd cc
 made_is k new false false made = cc
 
--- it has the same live credentials
+-- the rewritten cache has the same live credentials, as version 4 has them
 pub rewritten_keeps : (k new : CacheState) → rewrite_result k ≡ Ok new → live_credentials new ≡ map in_version_4 (live_credentials k)
 rewritten_keeps k new made =
     ap live_credentials (sym (made_is k new (is_some (fault_of (store_of k))) (nat_lt k.limit (length (image_of (rewrite_of k)))) made)) ∙ credentials_kept k
@@ -192,7 +192,7 @@ rewritten_keeps k new made =
 pub readable_by : (h : Layout) (image : List ℕ) (k : CacheState) → IsBytes image → IsImage h image → cache_of h image ≡ k → IsReadable k
 readable_by h image k fits is same = subst IsReadable same (image_readable h image fits is)
 
--- what is written anew, from what was read
+-- what a rewrite writes, from what was read
 pub record IsNewImage (h : Layout) (cells : List ℕ) (p : Parts) (o : Option Offset) (k : CacheState) : Type 0 where
   pub front : new_preamble p o ≡ new_preamble k.principal (offset_in k.header)
   pub spelled : image_of (rewrite_of k) ≡ new_preamble p o ++ new_texts h.version cells
@@ -213,7 +213,7 @@ is_new_image h image bytes cells p o k same is_bytes is_cells is_p is_o =
       limit = ap (λ (s : CacheState). s.limit) (sym same);
     }
 
--- the new image is kept, and is what a rewrite leaves
+-- the new image holds the rewritten cache
 pub new_image_held : (h : Layout) (image new : List ℕ) (k : CacheState) (front first len : ℕ) → IsBytes image → IsImage h image → cache_of h image ≡ k → IsBytes new → new ≡ image_of (rewrite_of k)
     → front ≡ length (header V4 (new_header (offset_in k.header))) → first ≡ length (new_preamble k.principal (offset_in k.header)) → len ≡ length (image_of (rewrite_of k)) → len ≤ k.limit
     → Holds (record { version = V4; limit = h.limit; places = record { principal = 2 + front; first = first; end = len } }) new (rewrite_of k)
@@ -223,7 +223,7 @@ new_image_held h image new k front first len fits is same new_fits spelled is_fr
 
 -- ---- cursors
 
--- an image that is replaced: its credentials are this store
+-- the credentials of the image that is replaced are this store
 pub record IsOldStore (v : Version) (image : List ℕ) (first end : ℕ) (k : CacheState) : Type 0 where
   pub ahead : first ≤ end
   pub are : AreCells (seen_in (credentials_format v) (store_cell v)) (take (end - first) (drop first image))
@@ -245,7 +245,7 @@ old_store h image bytes k is_bytes fits is same no_fault =
           ∙ ap (λ (y : Option FaultKind). record { first = first_place k; cells = map (store_cell k.version) k.contents.cells; fault = y }) (sym no_fault);
     })
 
--- what was answered, told in another way
+-- the items of a result equal each list that is equal to theirs
 pub ok_same : {X E : Type 0} (result : Result X E) (items : X → List ℕ) (a b : List ℕ) → a ≡ b → IfOk result (λ v. items v ≡ a) → IfOk result (λ v. items v ≡ b)
 ok_same (Ok v) items a b same is = is ∙ same
 ok_same (Err e) items a b same is = tt

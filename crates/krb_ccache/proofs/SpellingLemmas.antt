@@ -13,7 +13,7 @@ use Rattle.krb_ccache.specs.declared.credential.times.Times.{Times}
 
 -- ---- what fits
 
--- a name whose length is told
+-- a name that has a length fits
 pub told_fits : (p : Parts) → true ≡ has_cc_len p → p.name_type < 2 ^ 32 → FitsCc p
 told_fits p e lt =
     let l = long_lengths_of p (and_both (cc_name_fits p) _ (sym e)).0 in
@@ -23,7 +23,7 @@ told_fits p e lt =
 pub fits_told : (p : Parts) → FitsCc p → cc_name_fits p ≡ true
 fits_told p fit = long_lengths_fit p (record { count = fit.count; realm = fit.realm; components = fit.components })
 
--- each item takes a byte at least
+-- each item takes at least a byte
 items_le : (xs : List TypedData) → length xs ≤ length (flat_map typed_data xs)
 items_le [] = omega arith
 items_le (x ∷ xs) = omega (arith, items_le xs, ap length (flat_map-cons typed_data x xs), length-append (typed_data x) (flat_map typed_data xs), length-append (digits Big w16 x.kind) (data32 Big x.bytes), (wide16 Big).len x.kind)
@@ -43,7 +43,7 @@ in_four c =
     ap (λ (b : List ℕ). cc_principal c.client ++ (cc_principal c.server ++ b))
     (append_assoc k (t ++ (s ++ f)) rest ∙ ap (λ (b : List ℕ). k ++ b) (append_assoc t (s ++ f) rest ∙ ap (λ (b : List ℕ). t ++ b) (append_assoc s f rest)))
 
--- the names are those of the same credential
+-- the same, with the names of an equal credential
 pub four_is : (c d : CredParts) → d ≡ c → cc_principal d.client ++ (cc_principal d.server ++ (middle_text c ++ lists_text c)) ≡ credential V4 c
 four_is c d same = ap (λ (x : CredParts). cc_principal x.client ++ (cc_principal x.server ++ (middle_text c ++ lists_text c))) same ∙ in_four c
 
@@ -71,12 +71,12 @@ lists_len c =
     let tickets = data32 Big c.ticket ++ data32 Big c.second_ticket in
     omega (arith, length-append (typed_list c.addresses) (typed_list c.authdata ++ tickets), length-append (typed_list c.authdata) tickets, length-append (data32 Big c.ticket) (data32 Big c.second_ticket), list_len c.addresses, list_len c.authdata, data_len c.ticket, data_len c.second_ticket)
 
--- what an item and those after it take
+-- the length of an item and those after it
 pub items_len : (xs : List TypedData) (x : TypedData) (others : List TypedData) → xs ≡ x ∷ others → length (flat_map typed_data xs) ≡ 6 + length x.bytes + length (flat_map typed_data others)
 items_len xs x others is =
     omega (arith, ap (λ (ys : List TypedData). length (flat_map typed_data ys)) is, length-append (typed_data x) (flat_map typed_data others), length-append (digits Big w16 x.kind) (data32 Big x.bytes), (wide16 Big).len x.kind, data_len x.bytes)
 
--- the lengths of its fields and of what is no item of a list
+-- the lengths of its parts without the items of its lists; 43 is that of the fixed fields
 abbrev pub lens_of : CredParts → List ℕ
 lens_of c = 43 ∷ length (cc_principal c.client) ∷ length (cc_principal c.server) ∷ length c.key.bytes ∷ length c.ticket ∷ length c.second_ticket ∷ []
 
@@ -86,9 +86,9 @@ credential_len c =
     let rest = middle_text c ++ lists_text c in
     omega (arith, ap length (in_four c), length-append (cc_principal c.client) (server ++ rest), length-append server rest, length-append (middle_text c) (lists_text c), middle_len c, lists_len c)
 
--- ---- its length, told of the same credential, seen from inside
+-- ---- its length, by the fields of an equal credential
 
--- a call that gives up has found it too long
+-- the clause of a call that returns `None`
 pub none_told : {r : Option ℕ} {P : Type 0} → r ≡ None → P → IfNone r P
 none_told {P = P} e p = subst (λ (o : Option ℕ). IfNone o P) (sym e) p
 
@@ -98,7 +98,7 @@ client_too_long c d most same le long = omega (arith, le, long, ap (λ (x : Cred
 pub server_too_long : (c d : CredParts) (most : ℕ) → d ≡ c → most ≤ 2 ^ 30 → 2 ^ 32 ≤ length (cc_principal d.server) → most < length (credential V4 c)
 server_too_long c d most same le long = omega (arith, le, long, ap (λ (x : CredParts). length (cc_principal x.server)) same, credential_len c)
 
--- the lengths that are told are its own
+-- the lengths that are added up are its own
 pub lens_told : (c d : CredParts) (client server key ticket second : ℕ) → d ≡ c → client ≡ length (cc_principal d.client) → server ≡ length (cc_principal d.server) → key ≡ length d.key.bytes → ticket ≡ length d.ticket → second ≡ length d.second_ticket
     → sum (43 ∷ client ∷ server ∷ key ∷ ticket ∷ second ∷ []) ≡ sum (lens_of d)
 lens_told c d client server key ticket second same is_client is_server is_key is_ticket is_second = rw (is_client, is_server, is_key, is_ticket, is_second) refl
@@ -106,7 +106,7 @@ lens_told c d client server key ticket second same is_client is_server is_key is
 pub lens_too_long : (c d : CredParts) (most len : ℕ) → d ≡ c → len ≡ sum (lens_of d) → most < len → most < length (credential V4 c)
 lens_too_long c d most len same is long = omega (arith, long, is, ap (λ (x : CredParts). sum (lens_of x)) same, credential_len c)
 
--- what stands outside its lists fits, and leaves room for them
+-- what is outside its lists takes `len` bytes, which are at most `most`
 pub record LensTold (c d : CredParts) (most len : ℕ) : Type 0 where
   pub same : d ≡ c
   pub lens : len ≡ sum (lens_of d)
@@ -122,12 +122,12 @@ pub authdata_too_long : (c d : CredParts) (most len room : ℕ) (xs ys : List Ty
 authdata_too_long c d most len room xs ys t is_xs is_ys left long =
     omega (arith, left, long, t.within, ap (λ (x : List TypedData). length (flat_map typed_data x)) is_xs, ap (λ (x : List TypedData). length (flat_map typed_data x)) is_ys, told_len c d most len t)
 
--- all of it fits
+-- the room that it takes is its length
 pub room_told : (c d : CredParts) (most len room left : ℕ) (xs ys : List TypedData) → LensTold c d most len → xs ≡ d.addresses → ys ≡ d.authdata → room + length (flat_map typed_data xs) ≡ most - len → left + length (flat_map typed_data ys) ≡ room → most - left ≡ length (credential V4 c)
 room_told c d most len room left xs ys t is_xs is_ys first second =
     omega (arith, first, second, t.within, ap (λ (x : List TypedData). length (flat_map typed_data x)) is_xs, ap (λ (x : List TypedData). length (flat_map typed_data x)) is_ys, told_len c d most len t)
 
--- ---- what was written is told of the same credential, seen from inside
+-- ---- what was written, by the fields of an equal credential
 
 pub middle_is : (c d : CredParts) (bytes : List ℕ) (t : Times) → d ≡ c → bytes ≡ d.key.bytes → t ≡ c.times → key V4 (plain_key d.key.enctype bytes) ++ (times t ++ ((d.is_skey ∷ []) ++ number32 d.flags)) ≡ middle_text c
 middle_is c d bytes t same is_bytes is_times =
@@ -139,7 +139,7 @@ middle_is c d bytes t same is_bytes is_times =
 pub lists_is : (c d : CredParts) (xs ys : List TypedData) (t u : List ℕ) → d ≡ c → xs ≡ d.addresses → ys ≡ d.authdata → t ≡ d.ticket → u ≡ d.second_ticket → typed_list xs ++ (typed_list ys ++ (data32 Big t ++ data32 Big u)) ≡ lists_text c
 lists_is c d xs ys t u same is_xs is_ys is_t is_u = rw (is_xs, is_ys, is_t, is_u) (ap lists_text same)
 
--- the names, the key, the lists and the tickets of a credential, seen from inside, fit
+-- the names, the key, the lists and the tickets of a credential fit
 pub record PartsFit (d : CredParts) : Type 0 where
   pub client : true ≡ has_cc_len d.client
   pub server : true ≡ has_cc_len d.server
@@ -152,7 +152,7 @@ pub record PartsFit (d : CredParts) : Type 0 where
   pub ticket : IsLong d.ticket
   pub second_ticket : IsLong d.second_ticket
 
--- so they do where it is told how long they are
+-- they fit if their lengths add up to at most `most`
 pub told_parts : (c d : CredParts) (most len room left : ℕ) (xs ys : List TypedData) → LensTold c d most len → most ≤ 2 ^ 30 → xs ≡ d.addresses → ys ≡ d.authdata → room + length (flat_map typed_data xs) ≡ most - len → left + length (flat_map typed_data ys) ≡ room
     → true ≡ has_cc_len d.client → true ≡ has_cc_len d.server → d.key.second_enctype ≡ 0 → AllByRecursion FitsTypedData xs → AllByRecursion FitsTypedData ys → PartsFit d
 told_parts c d most len room left xs ys t small is_xs is_ys first second client server one_enctype address element =

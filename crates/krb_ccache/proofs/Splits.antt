@@ -16,12 +16,12 @@ use Rattle.krb_ccache.specs.Credential.{CredParts, credential, credential_at, is
 use Rattle.krb_ccache.specs.Store.{CacheState, PlacedCredential, credentials_format, store_cell, store_of, first_place, live_by, if_live, live_of, placed_from, credential_at_place}
 use Rattle.krb_ccache.proofs.CellLemmas.{credentials_are, read_none}
 
--- no bytes begin with no credential
+-- the empty list begins with no credential
 pub no_credential : (v : Version) → credential_at v [] ≡ None
 unfolding credential_at
 no_credential v = rw no_cc_principal refl
 
--- the bytes of credentials, without what follows them
+-- the credentials of an image, by their bytes alone, without what follows them
 pub bare_at : (v : Version) (image rest : List ℕ) (at end : ℕ) (cs : List CredParts) → IsBytes image → drop at image ≡ flat_map (credential v) cs ++ rest → AllByRecursion (IsCell (credentials_format v)) cs → end ≡ at + length (flat_map (credential v) cs)
     → contents (credentials_format v) (take (end - at) (drop at image)) ≡ record { cells = cs; end = [] }
 bare_at v image rest at end cs fits parts sound is_end =
@@ -48,7 +48,7 @@ live_cons v at p c cs true e ih =
     ap (bytes_from at (map (store_cell v) (c ∷ cs))) (sym same) ∙ here ∙ live_by_is v c (is_marked c) refl ∙ sym (ap (λ (o : Option PlacedCredential). option_map (credential v) (live_of o)) found)
 live_cons v at p c cs false e ih = rw e ih
 
--- its bytes are those of the store
+-- its bytes are the live bytes of the store at that place
 pub live_is : (v : Version) (at p : ℕ) (cs : List CredParts) → bytes_from at (map (store_cell v) cs) p ≡ option_map (credential v) (live_of (find (λ x. x.0 == p) (placed_from v at cs)))
 live_is v at p [] = refl
 live_is v at p (c ∷ cs) = live_cons v at p c cs (at == p) refl (live_is v (at + length (credential v c)) p cs)

@@ -1,4 +1,4 @@
--- An addition to a cache, and a removal from it, change one cell of the store that it is.
+-- An addition to a cache, and a removal from it, change one cell of its store.
 use Rattle.std.proofs.Common.{◌≡◌, ℕ, ◌<◌, Bool, true, false, List, [], ◌∷◌, ◌++◌, length, map, Option, Some, None, inr, refl, sym, ap, ◌∙◌}
 use Rattle.std.specs.Prelude.{is_some, option_map, IsSome}
 use Rattle.std.specs.List.{AllByRecursion}
@@ -81,7 +81,7 @@ mark_gone k p c there =
     ∙ ap (bytes_from (first_place k) (map seen s.before ++ record { width = length (credential v (add_mark c)); live = None } ∷ map seen s.after)) s.place
     ∙ bytes_here (first_place k) (length (credential v (add_mark c))) None (map seen s.before) (map seen s.after) (cells_wide v s.before)
 
--- where a credential was marked is still a place
+-- the place of a credential that was marked is still a place
 pub mark_place : (k : CacheState) (p : ℕ) → IsSome (credential_at_place k p) → IsPlace (store_of (with_mark k p)) p
 mark_place k p live =
     let t = is_some_has (credential_at_place k p) live in
@@ -98,7 +98,7 @@ there_by : (v : Version) (o : Option CredParts) → is_some (option_map (credent
 there_by v (Some c) h = (c, refl)
 there_by v None h = absurd cc
 
--- a credential stands where live bytes do
+-- a live credential is where live bytes are
 pub live_there : (k : CacheState) (p : ℕ) → is_some (live_bytes (store_of k) p) ≡ true → (c : CredParts) × (credential_at_place k p ≡ Some c)
 live_there k p h = there_by k.version (credential_at_place k p) (sym (ap is_some (live_is k.version (first_place k) p k.contents.cells)) ∙ h)
 

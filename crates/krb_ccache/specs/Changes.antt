@@ -1,4 +1,4 @@
--- Making a cache, adding a credential to it, and removing one. A cache is a store for walks: `store_of` is how it is seen, `put_result` what an addition gives, and `cut_result` what a removal gives.
+-- What creating a cache (`create_result`), adding a credential (`put_result`) and removing one (`cut_result`) give.
 use Rattle.std.specs.Prelude.{◌≡◌, ℕ, ◌+◌, ◌≤◌, List, [], ◌∷◌, ◌++◌, length, map, Option, Some, None, is_some, Result, Ok, Err, IsOk, Bool, true, false, nat_lt, ◌==◌, if◌then◌else◌}
 use Rattle.std.specs.Int.{w32, cast_unsigned}
 use Rattle.krb_wire.specs.Spelling.{Parts, cc_principal}
@@ -16,7 +16,7 @@ use Rattle.krb_ccache.specs.Header.{Field, header}
 use Rattle.krb_ccache.specs.Store.{CacheState, first_place, placed_from, image_of, store_of}
 use Rattle.krb_ccache.specs.Open.{InMemory}
 
--- a cache of version 3 refuses additions and removals
+-- a cache of this version refuses additions and removals: version 3 does
 abbrev pub is_read_only : Version → Bool
 is_read_only V3 = true
 is_read_only V4 = false
@@ -28,7 +28,7 @@ abbrev pub new_header : Option Offset → List Field
 new_header None = []
 new_header (Some o) = record { tag = 1; value = number32 (cast_unsigned w32 o.seconds) ++ number32 (cast_unsigned w32 o.micros) } ∷ []
 
--- the preamble of a version 4 image: all that stands before the credentials
+-- the preamble of a version 4 image: all that is before the credentials
 abbrev pub new_preamble : Parts → Option Offset → List ℕ
 new_preamble p offset = 5 ∷ 4 ∷ (header V4 (new_header offset) ++ cc_principal p)
 
@@ -42,13 +42,13 @@ empty_cache principal offset limit = record {
   contents = record { cells = []; end = [] };
 }
 
--- what making a cache gives: a limit that its image would pass refuses it
+-- what creating a cache gives: it is refused if its image would be longer than the limit
 abbrev pub create_result : Parts → Option Offset → ℕ → Result CacheState Code
 create_result principal offset limit =
     if nat_lt limit (length (image_of (empty_cache principal offset limit))) then Err code.Full
     else Ok (empty_cache principal offset limit)
 
--- it is refused as it is said, and memory is asked for only where nothing refuses
+-- a refusal by code is the given one, and memory runs out only if nothing refuses
 abbrev pub RefusesAs : {S : Type 0} → Result S Code → Refusal → Type 0
 RefusesAs given (ByCode refused) = given ≡ Err refused
 RefusesAs given NoMemory = IsOk given
@@ -63,35 +63,35 @@ add_mark c = record c { times = marked_times c.times }
 abbrev pub add_mark_at : Version → ℕ → ℕ → List CredParts → List CredParts
 add_mark_at v at p cs = map (λ x. if x.0 == p then add_mark x.1 else x.1) (placed_from v at cs)
 
--- the cache, where the credential at a place is marked and all else is as it was
+-- the cache with the credential at a place marked, and all else unchanged
 abbrev pub with_mark : CacheState → ℕ → CacheState
 with_mark k p = record k { contents = record { cells = add_mark_at k.version (first_place k) p k.contents.cells; end = k.contents.end } }
 
--- what a removal gives: version 3 refuses it, then a damaged cache, and then each number where no live credential stands
+-- what a removal gives: version 3 refuses it, then a damaged cache, then each place without a live credential
 abbrev pub cut_result : CacheState → ℕ → Result CacheState Code
 cut_result k p =
     if is_read_only k.version then Err code.ReadOnly
     else (if is_some (fault_of (store_of k)) then Err code.Damaged
     else (if is_some (live_bytes (store_of k) p) then Ok (with_mark k p) else Err code.NotLive))
 
--- what removals at these places leave, one after the other: one that is refused changes nothing
+-- what removals at these places, one after the other, leave: a refused one changes nothing
 abbrev pub without : CacheState → List ℕ → CacheState
 without k [] = k
 without k (p ∷ ps) = without (cut_store k (cut_result k p)) ps
 
 -- ---- adding
 
--- the cache with one credential more after its last
+-- the cache with a credential appended
 abbrev pub with_last : CacheState → CredParts → CacheState
 with_last k c = record k { contents = record { cells = k.contents.cells ++ c ∷ []; end = k.contents.end } }
 
--- the addition of a credential after the last: refused where the image would be longer than the limit
+-- what appending a credential gives: it is refused if the image would be longer than the limit
 abbrev pub append_result : CacheState → CredParts → Result (ℕ × CacheState) Code
 append_result k c =
     if nat_lt k.limit (length (image_of (with_last k c))) then Err code.Full
     else Ok (end_of (store_of k), with_last k c)
 
--- what an addition gives, the place of the credential and the cache with it: version 3 refuses it, then a damaged cache, and then a credential that has the removed mark
+-- what an addition gives: version 3 refuses it, then a damaged cache, then a credential that has the removed mark
 abbrev pub put_result : CacheState → CredParts → Result (ℕ × CacheState) Code
 put_result k c =
     if is_read_only k.version then Err code.ReadOnly
@@ -103,10 +103,10 @@ abbrev pub is_refused : Result (ℕ × CacheState) Code → Bool
 is_refused (Ok given) = false
 is_refused (Err refused) = true
 
--- an addition takes no memory where it is refused
+-- an addition takes no memory if it is refused
 abbrev pub takes_none : CacheState → CredParts → Bool
 takes_none k c = is_refused (put_result k c)
 
--- a cache in memory has room for one credential more
+-- a cache in memory has room for one more credential
 abbrev pub HasRoomFor : InMemory → CredParts → Type 0
 HasRoomFor k c = length (image_of k.state) + length (credential V4 c) ≤ k.room

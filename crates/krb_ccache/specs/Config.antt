@@ -1,4 +1,4 @@
--- Configuration entries: credentials that hold a value under a key, and perhaps a principal's text (MIT krb5, "Credential cache file format", section "Credential cache configuration entries").
+-- Configuration entries (MIT krb5, "Credential cache file format", section "Credential cache configuration entries").
 use Rattle.std.specs.Prelude.{ℕ, Bool, true, false, ◌&&◌, List, [], ◌∷◌, Option, Some, None, is_some, option_map, find, codes, option_copied, if◌then◌else◌}
 use Rattle.std.specs.Str.{bytes_eq}
 use Rattle.krb_wire.specs.Spelling.{Parts}
@@ -7,49 +7,49 @@ use Rattle.krb_ccache.specs.declared.config.ConfigName.{ConfigName}
 use Rattle.krb_ccache.specs.Credential.{CredParts}
 use Rattle.krb_ccache.specs.Store.{CacheState, PlacedCredential, placed_credentials}
 
--- what a value is held under: a key, and perhaps a principal's text
+-- the name of a configuration entry: a key, and optionally a principal's text
 pub record ConfigParts : Type 0 where
   pub key : List ℕ
   pub principal : Option (List ℕ)
 
--- the same of a name that borrows from a credential
+-- the parts of a name that is borrowed from a credential
 abbrev pub config_parts : ConfigName → ConfigParts
 config_parts x = record { key = x.key.now; principal = option_copied x.principal }
 
--- what a configuration entry is looked up by: its owner, and what it holds its value under
+-- a query for a configuration entry: its owner and its name
 pub record QueryParts : Type 0 where
   pub owner : Parts
   pub key : List ℕ
   pub principal : Option (List ℕ)
 
--- the components after the first: one, or two
+-- the name in the components after the first, which are one or two
 abbrev pub config_under : List (List ℕ) → Option ConfigParts
 config_under [] = None
 config_under (key ∷ []) = Some (record { key = key; principal = None })
 config_under (key ∷ text ∷ []) = Some (record { key = key; principal = Some text })
 config_under (key ∷ text ∷ other ∷ others) = None
 
--- the components of a configuration entry: the first is `krb5_ccache_conf_data`
+-- the name in the components of a configuration entry: the first is `krb5_ccache_conf_data`
 abbrev pub config_among : List (List ℕ) → Option ConfigParts
 config_among [] = None
 config_among (first ∷ others) = if bytes_eq first (codes "krb5_ccache_conf_data") then config_under others else None
 
--- what the server of a configuration entry names; no other field is looked at
+-- the name in the server of a configuration entry; no other field matters
 abbrev pub config_name : Parts → Option ConfigParts
 config_name p = if bytes_eq p.realm (codes "X-CACHECONF:") then config_among p.components else None
 
--- it is a configuration entry
+-- a credential is a configuration entry
 abbrev pub is_config : CredParts → Bool
 is_config c = is_some (config_name c.server)
 
--- the same principal's text, or none on both sides
+-- the same principal's text, or none in both
 abbrev pub same_text : Option (List ℕ) → Option (List ℕ) → Bool
 same_text None None = true
 same_text (Some a) (Some b) = bytes_eq a b
 same_text None (Some b) = false
 same_text (Some a) None = false
 
--- it is held under that key and principal
+-- there is a name, and it has that key and principal
 abbrev pub is_under : List ℕ → Option (List ℕ) → Option ConfigParts → Bool
 is_under key text None = false
 is_under key text (Some x) = bytes_eq x.key key && same_text x.principal text
@@ -66,6 +66,6 @@ value_among q xs = option_map (λ x. x.1.ticket) (find (λ x. is_match q x.1) xs
 abbrev pub query_of : CacheState → List ℕ → Option (List ℕ) → QueryParts
 query_of k key text = record { owner = k.principal; key = key; principal = text }
 
--- its value in a cache
+-- the value of the first such entry in a cache
 abbrev pub config_of : CacheState → List ℕ → Option (List ℕ) → Option (List ℕ)
 config_of k key text = value_among (query_of k key text) (placed_credentials k)

@@ -1,4 +1,4 @@
--- Credentials: what they are, how they are spelled, how they are read (MIT krb5, "Credential cache file format", section "Credential format").
+-- Credentials: fields, spelling and reading (MIT krb5, "Credential cache file format", section "Credential format").
 use Rattle.std.specs.Prelude.{option_map, ◌≡◌, ℕ, ◌<◌, ◌^◌, ◌==◌, Bool, ◌&&◌, List, [], ◌∷◌, ◌++◌, length, map, Option, Some, Vec}
 use Rattle.std.specs.Borrow.{Bor}
 use Rattle.std.specs.Vec.{vec_items}
@@ -11,18 +11,18 @@ use Rattle.krb_ccache.specs.declared.version.Version.{Version}
 use Rattle.krb_ccache.specs.declared.version.Version.TheVariants.{V3, V4}
 use Rattle.krb_ccache.specs.declared.credential.times.Times.{Times}
 
--- an address, or an element of the authorization data: what kind it is, and its bytes
+-- an address, or an element of authorization data: its type and its bytes
 pub record TypedData : Type 0 where
   pub kind : ℕ
   pub bytes : List ℕ
 
--- a key and its enctype; version 3 writes an enctype twice, and the second is read and asked for nowhere
+-- a key and its enctype; version 3 writes an enctype twice, and the second is read but never used
 pub record Key : Type 0 where
   pub enctype : ℕ
   pub second_enctype : ℕ
   pub bytes : List ℕ
 
--- a credential without where it lies in memory
+-- the fields of a credential, and not where they are in memory
 pub record CredParts : Type 0 where
   pub client : Parts
   pub server : Parts
@@ -43,21 +43,21 @@ is_mark t = t.endtime == 0 && t.authtime == 4294967295
 abbrev pub marked_times : Times → Times
 marked_times t = record { authtime = 4294967295; starttime = t.starttime; endtime = 0; renew_till = t.renew_till }
 
--- a credential that is removed
+-- a credential is removed: it has the mark
 abbrev pub is_marked : CredParts → Bool
 is_marked c = is_mark c.times
 
 -- ---- spelling
 
--- a big-endian number of thirty-two bits
+-- a 32-bit big-endian number
 abbrev pub number32 : ℕ → List ℕ
 number32 n = digits Big w32 n
 
--- the kind, and the bytes after their length
+-- the type, and the bytes after their length
 abbrev pub typed_data : TypedData → List ℕ
 typed_data x = digits Big w16 x.kind ++ data32 Big x.bytes
 
--- how many there are, and each of them
+-- the number of items, and each of them
 abbrev pub typed_list : List TypedData → List ℕ
 typed_list xs = number32 (length xs) ++ flat_map typed_data xs
 
@@ -88,7 +88,7 @@ pub record FitsTypedData (x : TypedData) : Type 0 where
   pub kind : x.kind < 2 ^ 16
   pub bytes : IsLong x.bytes
 
--- so do those of each, and their number
+-- each item fits, and the number of items fits its field
 pub record FitsTypedList (xs : List TypedData) : Type 0 where
   pub count : length xs < 2 ^ 32
   pub each : AllByRecursion FitsTypedData xs
@@ -126,14 +126,14 @@ pub record FitsCredential (v : Version) (c : CredParts) : Type 0 where
 
 -- ---- reading
 
--- the typed bytes that the bytes begin with
+-- the typed item that the bytes begin with
 unfoldable pub typed_data_at : List ℕ → Option (TypedData × List ℕ)
 typed_data_at bytes = do
   kind ← number_at Big w16 bytes
   text ← data32_at Big kind.1
   Some (record { kind = kind.0; bytes = text.0 }, text.1)
 
--- the list of them that the bytes begin with
+-- the list of typed items that the bytes begin with
 unfoldable pub typed_list_at : List ℕ → Option (List TypedData × List ℕ)
 typed_list_at bytes = do
   count ← number_at Big w32 bytes
@@ -192,11 +192,11 @@ credential_at v bytes = do
 
 -- ---- with memory of its own
 
--- an item with memory of its own, without where its bytes lie
+-- an owned item, and not where its bytes are in memory
 abbrev pub owned_typed : {A : Type 0} → ℕ × Vec ℕ A → TypedData
 owned_typed x = record { kind = x.0; bytes = vec_items x.1 }
 
--- such items in order
+-- owned items, in order
 abbrev pub owned_list : {A : Type 0} → List (ℕ × Vec ℕ A) → List TypedData
 owned_list xs = map owned_typed xs
 
@@ -210,7 +210,7 @@ in_version_4 c = record c { key = plain_key c.key.enctype c.key.bytes }
 
 -- ---- for private contracts
 
--- an item, without where its bytes lie in memory
+-- a borrowed item, and not where its bytes are in memory
 abbrev pub typed_data_of : ℕ × Bor (List ℕ) → TypedData
 typed_data_of x = record { kind = x.0; bytes = x.1.now }
 

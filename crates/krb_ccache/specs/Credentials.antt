@@ -15,7 +15,7 @@ pub record CredentialsFrom : Type 0 where
 abbrev pub all_credentials : CacheState → CredentialsFrom
 all_credentials k = record { version = k.version; place = first_place k; cells = k.contents.cells }
 
--- the first, and those after it
+-- the first credential at its place, and those after it
 pub record BeginsWithCredential (old : CredentialsFrom) (at : ℕ) (c : CredParts) (new : CredentialsFrom) : Type 0 where
   pub place : at ≡ old.place
   pub cells : old.cells ≡ c ∷ new.cells
@@ -23,20 +23,20 @@ pub record BeginsWithCredential (old : CredentialsFrom) (at : ℕ) (c : CredPart
   pub version : new.version ≡ old.version
   pub small : new.place ≤ 2 ^ 30
 
--- the first credential with its place and those after it, or none where none is left
+-- the first credential with its place and those after it, or none if none is left
 abbrev pub GivesCredential : {X : Type 0} → (X → CredParts) → CredentialsFrom → Option (ℕ × X) → CredentialsFrom → Type 0
 GivesCredential view old None new = (old.cells ≡ []) × (new ≡ old)
 GivesCredential view old (Some x) new = BeginsWithCredential old x.0 (view x.1) new
 
--- the live ones with their places
+-- the live credentials with their places
 abbrev pub live_from : CredentialsFrom → List PlacedCredential
 live_from c = filter is_live (placed_from c.version c.place c.cells)
 
--- the live one at a place
+-- the live credential at a place, if there is one
 abbrev pub live_at : CredentialsFrom → ℕ → Option CredParts
 live_at c p = live_of (find (λ x. x.0 == p) (placed_from c.version c.place c.cells))
 
--- bytes from a place on that are the credentials of a cache, and nothing after them
+-- the bytes from a place on are the credentials of a cache, and nothing after them
 pub record AreCredentials (k : CacheState) (first : ℕ) (bytes : List ℕ) : Type 0 where
   pub place : first ≡ first_place k
   pub contents : contents (credentials_format k.version) bytes ≡ record { cells = k.contents.cells; end = [] }

@@ -1,4 +1,4 @@
--- The header of a version 4 cache: tagged fields, of which one is the time offset of the KDC (MIT krb5, "Credential cache file format", section "Header").
+-- The header of a version 4 cache: tagged fields (MIT krb5, "Credential cache file format", section "Header").
 use Rattle.std.specs.Prelude.{◌≡◌, ℕ, ◌<◌, ◌^◌, ◌==◌, ◌&&◌, List, [], ◌∷◌, ◌++◌, length, take, drop, Option, Some, None, option_map, if◌then◌else◌}
 use Rattle.std.specs.Borrow.{Bor}
 use Rattle.std.specs.List.{flat_map, filter_map, AllByRecursion}
@@ -11,7 +11,7 @@ use Rattle.krb_ccache.specs.declared.version.Version.{Version}
 use Rattle.krb_ccache.specs.declared.version.Version.TheVariants.{V3, V4}
 use Rattle.krb_ccache.specs.declared.offset.Offset.{Offset}
 
--- a field: what it is, and its value
+-- a field: its tag and its value
 pub record Field : Type 0 where
   pub tag : ℕ
   pub value : List ℕ
@@ -20,7 +20,7 @@ pub record Field : Type 0 where
 abbrev pub field : Field → List ℕ
 field x = digits Big w16 x.tag ++ data16 Big x.value
 
--- its numbers fit
+-- its tag and its length fit their fields
 pub record FitsField (x : Field) : Type 0 where
   pub tag : x.tag < 2 ^ 16
   pub value : IsShort x.value
@@ -30,7 +30,7 @@ abbrev pub header : Version → List Field → List ℕ
 header V3 xs = []
 header V4 xs = data16 Big (flat_map field xs)
 
--- what has a spelling: version 3 has no fields
+-- the fields have a spelling as a header: version 3 has no fields
 abbrev pub FitsHeader : Version → List Field → Type 0
 FitsHeader V3 xs = xs ≡ []
 FitsHeader V4 xs = AllByRecursion FitsField xs × IsShort (flat_map field xs)
@@ -48,7 +48,7 @@ field_at bytes = do
 abbrev pub fields_format : Format Field (List ℕ)
 fields_format = unframed field_at field
 
--- cells that nothing is left after
+-- the cells, if nothing is left after them
 abbrev pub only_cells : {C : Type 0} → List C → List ℕ → Option (List C)
 only_cells xs [] = Some xs
 only_cells xs (b ∷ bs) = None
@@ -78,18 +78,18 @@ offset_from bytes = record {
 abbrev pub offset_of : Field → Option Offset
 offset_of x = if x.tag == 1 && length x.value == 8 then Some (offset_from x.value) else None
 
--- the first, if there is one
+-- the first of a list, if there is one
 abbrev pub first_of : {T : Type 0} → List T → Option T
 first_of [] = None
 first_of (x ∷ xs) = Some x
 
--- the time offset that a header tells: the first of its fields that have one
+-- the time offset of a header: that of the first field that has one
 abbrev pub offset_in : List Field → Option Offset
 offset_in xs = first_of (filter_map offset_of xs)
 
 -- ---- for private contracts
 
--- a field, without where its value lies in memory
+-- a borrowed field, and not where its value is in memory
 abbrev pub field_of : ℕ × Bor (List ℕ) → Field
 field_of x = record { tag = x.0; value = x.1.now }
 
@@ -102,7 +102,7 @@ abbrev pub fields_offset : Option (List ℕ × List ℕ) → Option Offset
 fields_offset None = None
 fields_offset (Some x) = offset_in (contents fields_format x.0).cells
 
--- that of the header that the bytes begin with
+-- the time offset in the header that the bytes begin with
 abbrev pub header_offset : Version → List ℕ → Option Offset
 header_offset V3 bytes = None
 header_offset V4 bytes = fields_offset (data16_at Big bytes)

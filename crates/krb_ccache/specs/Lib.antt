@@ -1,4 +1,4 @@
--- What the contracts of this crate say.
+-- The definitions that the contracts of this crate use.
 pub mod Credential
 pub mod Header
 pub mod Store
@@ -7,7 +7,7 @@ pub mod Open
 pub mod Changes
 pub mod SetConfig
 pub mod Laws
--- For private contracts alone.
+-- For private contracts only.
 pub mod Credentials
 pub mod Mark
 pub mod Rewrite

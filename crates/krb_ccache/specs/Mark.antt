@@ -1,4 +1,4 @@
--- For private contracts alone: where the times of a credential stand.
+-- For private contracts only: where the times of a credential are.
 use Rattle.std.specs.Prelude.{ℕ, List, Option, Some}
 use Rattle.krb_wire.specs.Reading.{◌>>=◌, cc_principal_at}
 use Rattle.krb_ccache.specs.declared.version.Version.{Version}

@@ -1,4 +1,4 @@
--- The faults that an image is refused for, and the cache that any other image is, by its layout.
+-- The faults that an image is refused for, and the cache of any other image, by its layout.
 use Rattle.std.specs.Prelude.{◌≡◌, ℕ, ◌≤◌, List, [], length, drop, map, slice_index, Some, option_map, unwrap_or, codes, Ok}
 use Rattle.std.specs.List.{flat_map}
 use Rattle.krb_wire.specs.Spelling.{Parts}
@@ -14,7 +14,7 @@ use Rattle.krb_ccache.specs.Credential.{credential}
 use Rattle.krb_ccache.specs.Header.{Field, header_at}
 use Rattle.krb_ccache.specs.Store.{CacheState, credentials_format, version_byte, store_cell, open_result}
 
--- the number of a fault, as messages have it: our choice
+-- the number of a fault in messages: our choice
 abbrev pub open_fault_number : CcOpenFault → ℕ
 open_fault_number TooShort = 1
 open_fault_number BadVersion = 2
@@ -30,20 +30,20 @@ open_fault_phrase TooLarge = codes "it is longer than the limit"
 open_fault_phrase BadHeader = codes "its header is damaged"
 open_fault_phrase BadDefault = codes "it has no default principal"
 
--- a cache in memory: what it holds, and how many bytes there is room for before memory is asked for
+-- a cache in memory: its state, and how many bytes it can hold before it takes more memory
 pub record InMemory : Type 0 where
   pub state : CacheState
   pub room : ℕ
 
--- the header that stands after the two first bytes
+-- the header after the first two bytes, or no fields
 abbrev pub header_in : Version → List ℕ → List Field
 header_in v image = unwrap_or (option_map (λ x. x.0) (header_at v (drop 2 image))) []
 
--- a name with nothing in it
+-- an empty name
 abbrev pub empty_name : Parts
 empty_name = record { name_type = 0; realm = []; components = [] }
 
--- the name that stands at a place
+-- the name that the bytes begin with, or the empty one
 abbrev pub principal_in : List ℕ → Parts
 principal_in bytes = unwrap_or (option_map (λ x. x.0) (cc_principal_at bytes)) empty_name
 
@@ -57,7 +57,7 @@ cache_of h image = record {
   contents = contents (credentials_format h.version) (drop h.places.first image);
 }
 
--- where the parts of an image stand
+-- `places` are where the parts of an image are
 pub record ArePlaces (v : Version) (image : List ℕ) (places : Places) : Type 0 where
   pub header : header_at v (drop 2 image) ≡ Some (header_in v image, drop places.principal image)
   pub principal_within : places.principal ≤ length image
@@ -66,7 +66,7 @@ pub record ArePlaces (v : Version) (image : List ℕ) (places : Places) : Type 0
   pub end : places.end ≡ end_from places.first (map (store_cell v) (contents (credentials_format v) (drop places.first image)).cells)
   pub end_within : places.end ≤ length image
 
--- bytes that are an image with that layout
+-- the bytes are an image with that layout
 pub record IsImage (h : Layout) (image : List ℕ) : Type 0 where
   pub long : 2 ≤ length image
   pub first_byte : slice_index image 0 ≡ 5
@@ -75,15 +75,15 @@ pub record IsImage (h : Layout) (image : List ℕ) : Type 0 where
   pub limit_fits : h.limit ≤ 1073741824
   pub parts : ArePlaces h.version image h.places
 
--- bytes that are an image with that layout, of this cache
+-- the bytes are an image with that layout, of this cache
 pub record Holds (h : Layout) (image : List ℕ) (k : CacheState) : Type 0 where
   pub kept : IsImage h image
   pub state : cache_of h image ≡ k
 
--- the image is opened as the cache that it is, with any limit that is no smaller
+-- the bytes open as this cache, under any limit that is no smaller
 abbrev pub Reopens : CacheState → List ℕ → Type 0
 Reopens k bytes = (limit : ℕ) → k.limit ≤ limit → open_result limit bytes ≡ Ok (record k { limit = limit })
 
--- how many bytes the credentials take that the bytes begin with
+-- the total length of the credentials that the bytes begin with
 abbrev pub credentials_len : Version → List ℕ → ℕ
 credentials_len v bytes = length (flat_map (credential v) (contents (credentials_format v) bytes).cells)

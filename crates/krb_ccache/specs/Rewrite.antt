@@ -1,4 +1,4 @@
--- Writing a cache anew.
+-- Rewriting a cache.
 use Rattle.std.specs.Prelude.{List, [], length, map, filter, not, is_some, Result, Ok, Err, nat_lt, if◌then◌else◌}
 use Rattle.krb_walk.specs.declared.refusal.Code.{Code}
 use Rattle.krb_walk.specs.declared.refusal.Code.TheVariants.{Damaged, Full}
@@ -13,7 +13,7 @@ use Rattle.krb_ccache.specs.Changes.{new_header}
 abbrev pub new_cells : List CredParts → List CredParts
 new_cells cs = map in_version_4 (filter (λ c. not (is_marked c)) cs)
 
--- the cache in version 4, with its live credentials alone, its default principal, and of its header the time offset, if there is one
+-- the cache in version 4: its live credentials, its default principal, and of its header only the time offset, if any
 abbrev pub rewrite_of : CacheState → CacheState
 rewrite_of k = record {
   version = V4;
@@ -23,7 +23,7 @@ rewrite_of k = record {
   contents = record { cells = new_cells k.contents.cells; end = [] };
 }
 
--- what a rewrite gives: a damaged cache refuses it, and then so does a limit that the new image would pass
+-- what a rewrite gives: a damaged cache refuses it, and then it is refused if the image would be longer than the limit
 abbrev pub rewrite_result : CacheState → Result CacheState Code
 rewrite_result k =
     if is_some (fault_of (store_of k)) then Err Damaged

@@ -18,7 +18,7 @@ text_component (Some text) = text ∷ []
 abbrev pub config_components : List ℕ → Option (List ℕ) → List (List ℕ)
 config_components key text = codes "krb5_ccache_conf_data" ∷ key ∷ text_component text
 
--- the server of an entry for a key and perhaps a principal's text
+-- the server of an entry for a key, and optionally a principal's text
 abbrev pub config_server : List ℕ → Option (List ℕ) → Parts
 config_server key text = record { name_type = 1; realm = codes "X-CACHECONF:"; components = config_components key text }
 
@@ -37,39 +37,39 @@ config_entry owner key text value = record {
   second_ticket = [];
 }
 
--- a value, and what it is held under
+-- a value to set, and its name
 pub record SettingParts : Type 0 where
   pub key : List ℕ
   pub principal : Option (List ℕ)
   pub value : List ℕ
 
--- the credential of an entry
+-- the entry of an owner for a setting
 abbrev pub entry_of : Parts → SettingParts → CredParts
 entry_of owner s = config_entry owner s.key s.principal s.value
 
--- the live matches, with their places
+-- the live entries that match, with their places
 abbrev pub matches_of : CacheState → List ℕ → Option (List ℕ) → List PlacedCredential
 matches_of k key text = filter (λ x. is_match (query_of k key text) x.1) (placed_credentials k)
 
--- the places of those that a value takes the place of, in file order
+-- the places of the entries that a setting replaces, in file order
 abbrev pub match_places : CacheState → SettingParts → List ℕ
 match_places k s = map (λ x. x.0) (matches_of k s.key s.principal)
 
--- what an addition leaves, without what stands at these places
+-- what an addition leaves, without what is at these places
 abbrev pub then_without : List ℕ → Result (ℕ × CacheState) Code → Result (ℕ × CacheState) Code
 then_without places (Ok given) = Ok (given.0, without given.1 places)
 then_without places (Err refused) = Err refused
 
--- what setting a value gives: the addition of its entry, and then the removal of each match that stood there before
+-- what setting a value gives: the addition of its entry, and then the removal of each match from before
 abbrev pub set_config_result : CacheState → List ℕ → Option (List ℕ) → List ℕ → Result (ℕ × CacheState) Code
 set_config_result k key text value = then_without (map (λ x. x.0) (matches_of k key text)) (put_result k (config_entry k.principal key text value))
 
--- what setting a value asks of a session: the addition of its entry, and then, where that is not refused, the removal of each match that stood there before
+-- the events that set a value: the addition of its entry and, if that is not refused, the removal of each older match
 abbrev pub setting_events : CacheState → SettingParts → List (Event CredParts)
 setting_events k s =
     Put (entry_of k.principal s) ∷ (if is_refused (put_result k (entry_of k.principal s)) then [] else map Cut (match_places k s))
 
--- exactly one live entry matches, the one of a value at a place, so that value is the cache's
+-- exactly one live entry matches, the one with this value at this place, so a look-up returns this value
 pub record HoldsConfig (k : CacheState) (key : List ℕ) (text : Option (List ℕ)) (value : List ℕ) (place : ℕ) : Type 0 where
   pub one : matches_of k key text ≡ (place, config_entry k.principal key text value) ∷ []
   pub gives : config_of k key text ≡ Some value

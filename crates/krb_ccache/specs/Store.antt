@@ -1,4 +1,4 @@
--- What a credential cache holds, and the store that it is.
+-- What a credential cache holds, and the cache as a store.
 use Rattle.std.specs.Prelude.{ℕ, ◌+◌, List, [], ◌∷◌, ◌++◌, length, drop, map, slice_index, Bool, true, false, not, filter, find, Option, Some, None, Result, Ok, Err, nat_lt, ◌==◌, if◌then◌else◌}
 use Rattle.krb_wire.specs.Spelling.{Parts, cc_principal}
 use Rattle.krb_wire.specs.Reading.{cc_principal_at}
@@ -13,11 +13,11 @@ use Rattle.krb_ccache.specs.declared.open.CcOpenFault.TheVariants.{TooShort, Bad
 use Rattle.krb_ccache.specs.Credential.{CredParts, credential, credential_at, is_marked}
 use Rattle.krb_ccache.specs.Header.{Field, header, header_at}
 
--- credentials one after the other, until none begins the bytes that are left
+-- credentials one after the other, until the bytes that are left begin with none
 abbrev pub credentials_format : Version → Format CredParts (List ℕ)
 credentials_format v = unframed (credential_at v) (credential v)
 
--- a cache: its version, the greatest length of its image, its header and default principal, and its credentials, removed ones too, with the bytes after them
+-- a cache: version, limit of its image, header, default principal, credentials, removed ones too, and the bytes after
 pub record CacheState : Type 0 where
   pub version : Version
   pub limit : ℕ
@@ -30,18 +30,18 @@ abbrev pub version_byte : Version → ℕ
 version_byte V3 = 3
 version_byte V4 = 4
 
--- the bytes that spell a cache
+-- the image of a cache: the bytes that spell it
 abbrev pub image_of : CacheState → List ℕ
 image_of k = 5 ∷ version_byte k.version ∷ (header k.version k.header ++ (cc_principal k.principal ++ spelling (credentials_format k.version) k.contents))
 
--- the version that the two first bytes tell
+-- the version in the first two bytes, if they have one
 abbrev pub version_in : List ℕ → Option Version
 version_in bytes =
     if slice_index bytes 0 == 5
     then (if slice_index bytes 1 == 3 then Some V3 else (if slice_index bytes 1 == 4 then Some V4 else None))
     else None
 
--- the cache whose header was read, by the default principal that stands after it
+-- the cache whose header was read, by the default principal that follows it
 abbrev pub open_default : Version → ℕ → List Field → Option (Parts × List ℕ) → Result CacheState CcOpenFault
 open_default v limit xs None = Err BadDefault
 open_default v limit xs (Some p) = Ok (record { version = v; limit = limit; header = xs; principal = p.0; contents = contents (credentials_format v) p.1 })
@@ -51,27 +51,27 @@ abbrev pub open_header : Version → ℕ → Option (List Field × List ℕ) →
 open_header v limit None = Err BadHeader
 open_header v limit (Some h) = open_default v limit h.0 (cc_principal_at h.1)
 
--- the cache of a version, if its image is not too long
+-- the cache of a version, if its image is not longer than the limit
 abbrev pub open_version : ℕ → List ℕ → Option Version → Result CacheState CcOpenFault
 open_version limit bytes None = Err BadVersion
 open_version limit bytes (Some v) = if nat_lt limit (length bytes) then Err TooLarge else open_header v limit (header_at v (drop 2 bytes))
 
--- the cache that an image is: fewer than two bytes are too short, then the version counts, the length, the header, and the default principal
+-- the cache of an image, or its first fault: two bytes at least, version, length, header, default principal
 abbrev pub open_result : ℕ → List ℕ → Result CacheState CcOpenFault
 open_result limit bytes = if nat_lt (length bytes) 2 then Err TooShort else open_version limit bytes (version_in bytes)
 
 -- ---- as a store
 
--- the bytes of a live cell, by whether it is marked as removed
+-- the bytes of a cell if it is live: not marked as removed
 abbrev pub live_by : Bool → List ℕ → Option (List ℕ)
 live_by true bytes = None
 live_by false bytes = Some bytes
 
--- a credential as a store has it: free exactly where it is marked
+-- a credential as a cell of the store: free iff it is marked
 abbrev pub store_cell : Version → CredParts → Cell
 store_cell v c = record { width = length (credential v c); live = live_by (is_marked c) (credential v c) }
 
--- what is wrong where the credentials end: bytes that begin with none
+-- the fault that ends the credentials, if any: bytes that begin with none
 abbrev pub fault_kind : List ℕ → Option FaultKind
 fault_kind [] = None
 fault_kind (b ∷ bs) = Some BadCredential
@@ -80,7 +80,7 @@ fault_kind (b ∷ bs) = Some BadCredential
 abbrev pub first_place : CacheState → ℕ
 first_place k = 2 + length (header k.version k.header) + length (cc_principal k.principal)
 
--- the store that a cache is
+-- a cache as a store
 abbrev pub store_of : CacheState → Store
 store_of k = record { first = first_place k; cells = map (store_cell k.version) k.contents.cells; fault = fault_kind k.contents.end }
 
@@ -90,12 +90,12 @@ store_of k = record { first = first_place k; cells = map (store_cell k.version) 
 abbrev pub PlacedCredential : Type 0
 PlacedCredential = ℕ × CredParts
 
--- credentials with their places, where the first has that one
+-- credentials with their places, the first of them at `at`
 abbrev pub placed_from : Version → ℕ → List CredParts → List PlacedCredential
 placed_from v at [] = []
 placed_from v at (c ∷ cs) = (at, c) ∷ placed_from v (at + length (credential v c)) cs
 
--- it bears no mark
+-- it has no removed mark
 abbrev pub is_live : PlacedCredential → Bool
 is_live x = not (is_marked x.1)
 
@@ -103,7 +103,7 @@ is_live x = not (is_marked x.1)
 abbrev pub placed_credentials : CacheState → List PlacedCredential
 placed_credentials k = filter is_live (placed_from k.version (first_place k) k.contents.cells)
 
--- a credential that bears no mark
+-- the credential, if it has no removed mark
 abbrev pub if_live : CredParts → Option CredParts
 if_live c = if is_marked c then None else Some c
 
@@ -112,6 +112,6 @@ abbrev pub live_of : Option PlacedCredential → Option CredParts
 live_of None = None
 live_of (Some x) = if_live x.1
 
--- the live credential at a place, if one stands there
+-- the live credential at a place, if there is one
 abbrev pub credential_at_place : CacheState → ℕ → Option CredParts
 credential_at_place k p = live_of (find (λ x. x.0 == p) (placed_from k.version (first_place k) k.contents.cells))

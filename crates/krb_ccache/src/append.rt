@@ -1,4 +1,4 @@
-//! Credentials put after the last of an image.
+//! Appending a credential to an image.
 
 ghost use Rattle.std.specs.Prelude.{◌≡◌, ◌≤◌, ◌<◌, ◌^◌, ◌+◌, ◌++◌, [], length, replicate, IfOk, OnOk, OnErr, vec_len, vec_capacity};
 ghost use Rattle.std.specs.List.{splice};
@@ -13,7 +13,7 @@ use crate::open::{Layout, Places};
 use krb_wire::Pen;
 use std::alloc::{AllocError, Allocator};
 
-// Grows an image by `more` bytes.
+// Appends `more` zero bytes to an image.
 fn grow<A: Allocator>(image: &mut Vec<u8, A>, more: usize) -> Result<(), AllocError>
     requires { vec_len image.old + more ≤ 2 ^ 30 }
     ensures ok { OnOk result (image.new.items ≡ image.old.items ++ replicate more 0) }
@@ -24,7 +24,7 @@ fn grow<A: Allocator>(image: &mut Vec<u8, A>, more: usize) -> Result<(), AllocEr
     image.resize(len + more, 0)
 }
 
-// Writes a credential over the bytes from a place on.
+// Writes a credential over the bytes from `at` on.
 fn put_over<A: Allocator>(cred: &Cred<A>, out: &mut [u8], at: usize)
     requires fits { FitsCredential V4 cred.now }
     requires room { at + length (credential V4 cred.now) ≤ length out.old }
@@ -33,7 +33,7 @@ fn put_over<A: Allocator>(cred: &Cred<A>, out: &mut [u8], at: usize)
     cred.put(&mut Pen::new(out, at));
 }
 
-// The same over a vector.
+// Like `put_over`, in a `Vec`.
 fn put_into<A: Allocator, B: Allocator>(image: &mut Vec<u8, A>, at: usize, cred: &Cred<B>)
     requires fits { FitsCredential V4 cred.now }
     requires room { at + length (credential V4 cred.now) ≤ vec_len image.old }
@@ -42,7 +42,7 @@ fn put_into<A: Allocator, B: Allocator>(image: &mut Vec<u8, A>, at: usize, cred:
     put_over(cred, image, at);
 }
 
-/// Puts a credential after the last. The answer is the layout of the image then.
+/// Appends a credential of `len` bytes to an image and returns the new layout.
 pub fn append_credential<A: Allocator, B: Allocator>(
     image: &mut Vec<u8, A>,
     layout: Layout,

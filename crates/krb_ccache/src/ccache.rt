@@ -1,4 +1,4 @@
-//! Caches, kept as their images.
+//! A credential cache in memory, kept as its image.
 
 mod changes;
 mod rewrite;
@@ -26,14 +26,14 @@ use krb_wire::{Limits, PrincipalView};
 use std::alloc::Allocator;
 use std::marker::Model;
 
-/// A cache: the bytes of its image, and where its parts stand. Contracts see its state, which is its version,
-/// its limit, and the one header, default principal and list of credentials that the image spells; and beside it
-/// how many bytes it has room for. A call that takes no memory keeps the room.
+/// A credential cache in memory, kept as the bytes of its file. Contracts see its state (version, limit, and the one
+/// header, default principal and list of credentials that the image spells) and its room: how many bytes its memory
+/// holds. A call that takes no memory keeps the room.
 #[derive(Drop)]
 pub struct Ccache<A: Allocator> {
     image: Vec<u8, A>,
     layout: Layout,
-    // The place of the last removal, from which the next one looks if it is for a place behind.
+    // The place of the last removal: the next one scans from there if its place is not before it.
     removed: Option<u32>,
 }
 
@@ -55,11 +55,11 @@ impl<A: Allocator> Model for Ccache<A> {
 }
 
 impl<A: Allocator> Ccache<A> {
-    /// The cache that an image is. A damaged one opens too, with the credentials before its fault. Each
-    /// credential is read once, and no memory is taken.
+    /// Opens an image as a cache. A damaged one opens too, with the credentials before its fault. Reads each credential
+    /// once and takes no memory.
     pub fn open(image: Vec<u8, A>, limits: Limits) -> Result<Ccache<A>, CcOpenRefused<A>>
         ensures ok { IfOk result (λ k. open_result limits image.items ≡ Ok k.state) }
-        // The bytes are kept as they are.
+        // The bytes are unchanged.
         ensures kept { IfOk result (λ k. image_of k.state ≡ image.items) }
         ensures room { IfOk result (λ k. k.room ≡ vec_capacity image) }
         ensures err { IfErr result (λ e. (open_result limits image.items ≡ Err e.why)
@@ -78,7 +78,7 @@ impl<A: Allocator> Ccache<A> {
         }
     }
 
-    // Its image, and what is known of it.
+    // Returns a view of the image with its layout.
     pub(crate) fn view(&self) -> CacheView<'_>
         ensures { result ≡ self.now.state }
     {
@@ -88,17 +88,17 @@ impl<A: Allocator> Ccache<A> {
         }
     }
 
-    /// The bytes that spell it.
+    /// Returns the bytes of its image.
     pub fn image(&self) -> &[u8]
         ensures spelled { result.now ≡ image_of self.now.state }
         ensures bytes { AreBytes result.now }
-        // It is opened as this cache again.
+        // They open as this cache again.
         ensures reopens { Reopens self.now.state result.now }
     {
         self.view().spelled()
     }
 
-    /// The bytes that spell it, in the memory that they were opened in.
+    /// Consumes the cache and returns its image, without a copy.
     pub fn into_image(self) -> Vec<u8, A>
         ensures spelled { result.items ≡ image_of self.state }
         ensures reopens { Reopens self.state result.items }
@@ -109,28 +109,28 @@ impl<A: Allocator> Ccache<A> {
         image
     }
 
-    /// The version of its format.
+    /// Returns the version of its format.
     pub fn version(&self) -> Version
         ensures { result ≡ self.now.state.version }
     {
         self.layout.version
     }
 
-    /// Whose cache it is.
+    /// Returns the principal that the cache belongs to.
     pub fn default_principal(&self) -> PrincipalView<'_>
         ensures { result ≡ self.now.state.principal }
     {
         self.view().default_principal()
     }
 
-    /// The time offset of the KDC, where a version 4 header tells it.
+    /// Returns the KDC time offset, or `None` if the header has none. A version 3 cache has no header.
     pub fn offset(&self) -> Option<Offset>
         ensures { result ≡ offset_in self.now.state.header }
     {
         self.view().offset()
     }
 
-    /// The place after the default principal.
+    /// Returns the place after the default principal.
     pub fn first(&self) -> u32
         ensures first { result ≡ (store_of self.now.state).first }
         ensures sound { IsSoundStore (store_of self.now.state) }
@@ -138,29 +138,28 @@ impl<A: Allocator> Ccache<A> {
         self.view().cells().first()
     }
 
-    /// The place after the last credential.
+    /// Returns the place after the last credential.
     pub fn end(&self) -> u32
         ensures { result ≡ end_of (store_of self.now.state) }
     {
         self.view().cells().end()
     }
 
-    /// Bytes that begin with no credential, after the last one.
+    /// Returns the fault after the last credential, if there is one: bytes that begin with no credential.
     pub fn fault(&self) -> Option<Fault>
         ensures { result ≡ fault_of (store_of self.now.state) }
     {
         self.view().cells().fault()
     }
 
-    /// Is true of the place of each credential, removed ones too, and of `end()`. It reads from the front.
+    /// Returns whether `place` is that of a credential, removed ones too, or `end()`. Scans from the start.
     pub fn is_place(&self, place: u32) -> bool
         ensures { result ≡ is_place (store_of self.now.state) place }
     {
         self.view().cells().is_place(place)
     }
 
-    /// The first credential at or after a place that is not removed, or what ends the credentials. It reads from
-    /// that place on.
+    /// Returns the first live credential at or after `place`, or what ends the credentials. Scans from `place`.
     pub fn stop_at(&self, place: u32) -> Stop
         requires { IsPlace (store_of self.now.state) place }
         ensures { result ≡ stop_at (store_of self.now.state) place }
@@ -168,7 +167,7 @@ impl<A: Allocator> Ccache<A> {
         self.view().cells().stop_at(place)
     }
 
-    /// The bytes of the credential at a place, which is not removed. It reads that one.
+    /// Returns the bytes of the live credential at `place`. Reads that one only.
     pub fn bytes_at(&self, place: u32) -> &[u8]
         requires { IsSome (live_bytes (store_of self.now.state) place) }
         ensures { live_bytes (store_of self.now.state) place ≡ Some result.now }
@@ -176,16 +175,15 @@ impl<A: Allocator> Ccache<A> {
         self.view().cells().bytes_at(place)
     }
 
-    /// The credentials with their places, in file order, up to the end or the fault, without those that are
-    /// removed.
+    /// Returns an iterator over the live credentials with their places, in file order, up to the end or the fault.
     pub fn credentials(&self) -> Credentials<'_>
         ensures { result ≡ placed_credentials self.now.state }
     {
         Credentials::of(self.view().credentials())
     }
 
-    /// The credential at a place: none exactly where no live cell stands. It reads from the front; to go through
-    /// all, take `credentials`.
+    /// Returns the live credential that starts at `place`, or `None` if none does. Scans from the start; to read all
+    /// credentials, use `credentials`.
     pub fn cred_at(&self, place: u32) -> Option<CredView<'_>>
         ensures none { IfNone result (live_bytes (store_of self.now.state) place ≡ None) }
         ensures found { IfSome result (λ c. live_bytes (store_of self.now.state) place
@@ -195,8 +193,8 @@ impl<A: Allocator> Ccache<A> {
         self.view().credentials().find(place as usize)
     }
 
-    /// The value of the first configuration entry of the default principal for a key and a principal's text, or
-    /// for the key alone. One pass, without copies.
+    /// Returns the value of the default principal's first configuration entry for `key` and the text `principal`, or
+    /// for `key` alone if that is `None`. One pass, without copies.
     pub fn config(&self, key: &[u8], principal: Option<&[u8]>) -> Option<&[u8]>
         ensures { option_copied result ≡ config_of self.now.state key.now (option_copied principal.entry) }
     {

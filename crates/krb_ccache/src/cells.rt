@@ -9,12 +9,12 @@ use crate::credential::view::{CredView, split_credential};
 use crate::version::Version;
 use krb_cells::{CellFormat, CellView};
 
-/// What a slice of bytes holds is below 256.
+/// Shows that each byte of a slice is below 256.
 pub fn bytes_fit(bytes: &[u8])
     ensures { AreBytes bytes.now }
 {}
 
-// The text of a credential that has no mark.
+// Returns `text` if the credential is live, or `None` if it has the removed mark.
 fn live<'a>(credential: &CredView<'_>, text: &'a [u8]) -> Option<&'a [u8]>
     ensures { option_copied result ≡ live_by (is_marked credential.now) text.now }
 {

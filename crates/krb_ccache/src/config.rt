@@ -15,14 +15,14 @@ pub const REALM: &[u8] = b"X-CACHECONF:";
 /// The first component of that server.
 pub const FIRST: &[u8] = b"krb5_ccache_conf_data";
 
-/// What a configuration entry holds its value under: a key, and perhaps a principal's text.
+/// The name of a configuration entry: a key, and optionally a principal's text.
 #[derive(Clone, Copy)]
 pub struct ConfigName<'a> {
     pub key: &'a [u8],
     pub principal: Option<&'a [u8]>,
 }
 
-// What the server of a configuration entry names.
+// Returns the name in the server of a configuration entry, or `None` for any other server.
 fn name_in<N: Name>(server: &N) -> Option<ConfigName<'_>>
     ensures { option_map config_parts result ≡ config_name (N.parts server.now) }
 {
@@ -42,15 +42,15 @@ fn name_in<N: Name>(server: &N) -> Option<ConfigName<'_>>
     Some(ConfigName { key, principal })
 }
 
-/// What a credential holds its value under, if it is a configuration entry.
+/// Returns the name of a configuration entry, or `None` if the credential is no such entry.
 pub fn config_name<'a>(credential: &'a CredView<'_>) -> Option<ConfigName<'a>>
     ensures { option_map config_parts result ≡ config_name credential.now.server }
 {
     name_in(credential.server())
 }
 
-/// Whether it is a configuration entry: its server's realm is `X-CACHECONF:`, and its server has two or three
-/// components, of which the first is `krb5_ccache_conf_data`.
+/// Returns whether a credential is a configuration entry: its server has the realm `X-CACHECONF:` and two or three
+/// components, the first of them `krb5_ccache_conf_data`.
 pub fn is_config(credential: &CredView<'_>) -> bool
     ensures { result ≡ is_config credential.now }
 {

@@ -1,4 +1,4 @@
-//! Credentials with memory of their own.
+//! Owned credentials.
 
 pub(crate) mod key;
 mod spelling;
@@ -16,8 +16,8 @@ use krb_wire::{NoMemory, Principal, copy_name};
 use std::alloc::{AllocError, Allocator};
 use std::marker::Model;
 
-/// A credential with memory of its own (MIT krb5, "Credential cache file format"). It has one enctype, as
-/// version 4 writes it. Contracts see the credential, and not where it lies.
+/// An owned credential (MIT krb5, "Credential cache file format"). It has one enctype, as version 4 writes it.
+/// Contracts see its fields, and not where they are in memory.
 #[derive(Drop)]
 pub struct Cred<A: Allocator> {
     pub client: Principal<A>,
@@ -25,7 +25,7 @@ pub struct Cred<A: Allocator> {
     pub enctype: u16,
     /// The session key.
     pub key: Vec<u8, A>,
-    /// Seconds since 1970-01-01T00:00:00Z, as in the other times.
+    /// Seconds since 1970-01-01T00:00:00Z, like the other times.
     pub authtime: u32,
     pub starttime: u32,
     pub endtime: u32,
@@ -61,7 +61,7 @@ impl<A: Allocator> Model for Cred<A> {
 }
 
 impl<A: Allocator> Cred<A> {
-    /// Its four times.
+    /// Returns its four times.
     pub fn times(&self) -> Times
         ensures { result ≡ self.now.times }
     {
@@ -75,7 +75,7 @@ impl<A: Allocator> Cred<A> {
 }
 
 impl<A: Allocator> Cred<A> {
-    /// Whether it has the removed mark: endtime 0, and the greatest authtime.
+    /// Returns whether it has the removed mark: endtime 0 and the greatest authtime.
     pub fn is_marked(&self) -> bool
         ensures { result ≡ is_marked self.now }
     {
@@ -97,7 +97,7 @@ fn copy_items<A: Allocator + Copy>(
 }
 
 impl<'a> CredView<'a> {
-    /// The same credential with memory of its own; of a version 3 credential without its second enctype.
+    /// Returns an owned copy, without the second enctype of a version 3 credential.
     pub fn copy<A: Allocator + Copy>(&self, alloc: A) -> Result<Cred<A>, NoMemory>
         ensures { IfOk result (λ c. c ≡ in_version_4 self.now) }
     {

@@ -1,4 +1,4 @@
-//! The credentials of a cache, one after the other.
+//! Iterators over the credentials of a cache.
 
 ghost use Rattle.std.specs.Prelude.{◌≡◌, [], ◌∷◌, MatchOption};
 ghost use Rattle.std.specs.Iterator.{YieldsFirst, item_count};
@@ -10,8 +10,8 @@ use crate::credential::view::{CredView, split_credential};
 use crate::version::Version;
 use std::marker::Model;
 
-/// The credentials from a place on, removed ones too, with their places. Only their own bytes are here, so
-/// each is read once.
+/// An iterator over the credentials from `place` on, removed ones too, with their places. `bytes` holds nothing else,
+/// so each credential is read once.
 #[derive(Drop)]
 pub struct AllCredentials<'a> {
     pub version: Version,
@@ -53,7 +53,7 @@ impl<'a> Iterator for AllCredentials<'a> {
     }
 }
 
-// A credential that has no mark.
+// Returns the credential if it is live, or `None` if it has the removed mark.
 fn live(credential: CredView<'_>) -> Option<CredView<'_>>
     ensures { result ≡ if_live credential.entry }
 {
@@ -64,7 +64,7 @@ fn live(credential: CredView<'_>) -> Option<CredView<'_>>
 }
 
 impl<'a> AllCredentials<'a> {
-    /// The first live one with its place.
+    /// Advances past the next live credential and returns it with its place.
     pub fn next_live(&mut self) -> Option<(u32, CredView<'a>)>
         ensures { MatchOption result ((live_from self.old ≡ []) × (live_from self.new ≡ []))
             (λ x. live_from self.old ≡ x ∷ live_from self.new) }
@@ -77,7 +77,7 @@ impl<'a> AllCredentials<'a> {
         None
     }
 
-    /// The live one at a place.
+    /// Returns the live credential at `place`, if there is one.
     pub fn find(self, place: usize) -> Option<CredView<'a>>
         ensures { result ≡ live_at self.entry place }
     {
@@ -90,8 +90,8 @@ impl<'a> AllCredentials<'a> {
     }
 }
 
-/// The credentials that are still to come, each with its place, in file order, up to the end or the fault.
-/// Those that are marked as removed are passed.
+/// An iterator over the live credentials with their places, in file order, up to the end or the fault. Contracts see
+/// those still to come.
 #[derive(Drop)]
 pub struct Credentials<'a> {
     all: AllCredentials<'a>,
@@ -108,7 +108,7 @@ impl<'a> Model for Credentials<'a> {
 }
 
 impl<'a> Credentials<'a> {
-    /// Those of them that are live.
+    /// Returns an iterator over those of `all` that are live.
     pub(crate) fn of(all: AllCredentials<'a>) -> Credentials<'a>
         ensures { result ≡ live_from all.entry }
     {

@@ -1,8 +1,8 @@
-//! Lengths that are added up.
+//! Sums of lengths.
 
 ghost use Rattle.std.specs.Prelude.{◌≡◌, ◌≤◌, ◌<◌, sum, IfSome, IfNone};
 
-/// The sum of lengths, if it is not too great.
+/// Returns the sum of the lengths, or `None` if it is more than `most`.
 pub fn sum_within(lens: &[usize], most: usize) -> Option<usize>
     ensures some { IfSome result (λ n. n ≡ sum lens.now) }
     ensures within { IfSome result (λ n. n ≤ most) }

@@ -1,5 +1,5 @@
-//! Credential cache images: a cache is a header, a default principal and a list of credentials, which is walked
-//! while it is changed.
+//! Credential caches in memory: a cache is a header, a default principal and a list of credentials, which can be
+//! walked while it changes.
 #![tactic(auto)]
 
 mod append;

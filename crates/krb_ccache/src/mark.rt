@@ -16,7 +16,7 @@ use crate::open::Layout;
 use crate::version::Version;
 use krb_wire::{Order, Pen, split_cc_principal, tail};
 
-// The bytes from the times on of the credential that the bytes begin with.
+// Returns the bytes from the times on of the credential that the bytes begin with, if any.
 #[tactic(auto, unfolding(crate::specs::Mark::times_from))]
 fn skip_to_times(version: Version, bytes: &[u8]) -> Option<&[u8]>
     ensures { Gives (λ x. x.now) result (times_from version bytes.now) }
@@ -27,7 +27,7 @@ fn skip_to_times(version: Version, bytes: &[u8]) -> Option<&[u8]>
     Some(rest)
 }
 
-// Writes a time over the bytes at a place.
+// Writes a time over the four bytes at `at`.
 fn put_time(time: u32, image: &mut [u8], at: usize)
     requires { at + 4 ≤ length image.old }
     ensures { image.new ≡ splice image.old at (at + 4) (number32 time) }
@@ -35,7 +35,7 @@ fn put_time(time: u32, image: &mut [u8], at: usize)
     Pen::new(image, at).put_u32(Order::Big, time);
 }
 
-// Marks the credential at a place: two of its times are written, and no other byte.
+// Marks the credential at `place` as removed: writes two of its times, and no other byte.
 fn mark(version: Version, image: &mut [u8], place: usize)
     requires within { place ≤ length image.old }
     requires there { IsSome (credential_at version (drop place image.old)) }
@@ -52,7 +52,7 @@ fn mark(version: Version, image: &mut [u8], place: usize)
     put_time(MARKED_ENDTIME, image, authtime + 8);
 }
 
-/// Marks the live credential at a place of an image.
+/// Marks the live credential at `place` of an image as removed.
 pub fn mark_in_image(layout: Layout, image: &mut [u8], place: usize)
     requires kept { IsImage layout image.old }
     requires live { IsSome (credential_at_place (cache_of layout image.old) place) }

@@ -17,7 +17,7 @@ use crate::version::Version;
 use krb_wire::{Name, NoMemory, Order, Pen, split_cc_principal, split_u16, tail};
 use std::alloc::Allocator;
 
-// The bytes after the first enctype of the credential that the bytes begin with.
+// Returns the bytes after the first enctype of the credential that the bytes begin with, if any.
 #[tactic(auto, unfolding(crate::specs::NewImage::after_first_enctype))]
 fn skip_first_enctype(bytes: &[u8]) -> Option<&[u8]>
     ensures { Gives (λ x. x.now) result (after_first_enctype bytes.now) }
@@ -28,7 +28,7 @@ fn skip_first_enctype(bytes: &[u8]) -> Option<&[u8]>
     Some(rest)
 }
 
-// The bytes of a credential without its second enctype: those before it, and those after it.
+// Returns the bytes of a credential without its second enctype: those before it, and those after it.
 fn around_second_enctype(version: Version, text: &[u8]) -> (&[u8], &[u8])
     requires { IsSome (credential_at version text.now) }
     ensures { (c : CredParts) → credential_at version text.now ≡ Some (c, [])
@@ -47,8 +47,8 @@ fn around_second_enctype(version: Version, text: &[u8]) -> (&[u8], &[u8])
     }
 }
 
-// Reads the credential that the bytes begin with. The first two parts together are its new text, which is empty where
-// it is removed; the last part is the bytes after it.
+// Reads the credential that the bytes begin with. The first two slices together are its new text, which is empty if
+// it is removed; the third is the bytes after it.
 fn next_text(version: Version, bytes: &[u8]) -> Option<(&[u8], &[u8], &[u8])>
     ensures some { IfSome result (λ x. ReadsNewText version bytes.now (x.0.now ++ x.1.now) x.2.now) }
     ensures none { IfNone result (credential_at version bytes.now ≡ None) }
@@ -64,7 +64,7 @@ fn next_text(version: Version, bytes: &[u8]) -> Option<(&[u8], &[u8], &[u8])>
     Some((first, second, after))
 }
 
-/// How much room the new texts leave, if they fit it.
+/// Returns how many of `room` bytes are left after the new texts, or `None` if the texts do not fit.
 pub fn room_after_texts(version: Version, bytes: &[u8], room: usize) -> Option<usize>
     requires { room ≤ 2 ^ 30 }
     ensures some { IfSome result (λ n. n + length (new_texts version bytes.now) ≡ room) }
@@ -92,7 +92,7 @@ fn put_texts(version: Version, bytes: &[u8], pen: &mut Pen<'_>)
     }
 }
 
-// Writes the preamble and the new texts as the whole of an image.
+// Writes a whole image: the preamble and the new texts.
 fn write_image<N: Name>(
     principal: &N,
     offset: Option<Offset>,
@@ -109,7 +109,7 @@ fn write_image<N: Name>(
     put_texts(version, cells, &mut pen);
 }
 
-/// The image of a rewrite, in memory of exactly its length.
+/// Builds the image of a rewrite, in memory of exactly its length.
 pub fn build_image<N: Name, A: Allocator>(
     alloc: A,
     principal: &N,

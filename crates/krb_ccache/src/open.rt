@@ -1,4 +1,4 @@
-//! Which images are caches.
+//! Opening an image: whether it is a cache, and where its parts are.
 
 pub(crate) mod header;
 
@@ -17,7 +17,7 @@ use std::alloc::Allocator;
 use std::fmt;
 use thiserror::Error;
 
-/// Why an image is no cache.
+/// Why an image is not a cache.
 #[derive(Clone, Copy, Debug, PartialEq, Eq, Error)]
 pub enum CcOpenFault {
     /// It has fewer than two bytes.
@@ -26,14 +26,14 @@ pub enum CcOpenFault {
     BadVersion = 2,
     /// It is longer than the limit.
     TooLarge = 3,
-    /// Its header does not fit it, or fields do not fill the header exactly.
+    /// Its header runs past the end of the image, or fields do not fill the header exactly.
     BadHeader = 4,
-    /// No default principal stands after the header.
+    /// No default principal follows the header.
     BadDefault = 5,
 }
 
 impl CcOpenFault {
-    /// Its number, as messages have it.
+    /// Returns its number in messages.
     pub fn number(self) -> u32
         ensures { result ≡ open_fault_number self }
     {
@@ -46,7 +46,7 @@ impl CcOpenFault {
         }
     }
 
-    /// What is wrong, in words.
+    /// Returns what is wrong, in words.
     pub fn phrase(self) -> &'static str
         ensures { result.now ≡ open_fault_phrase self }
     {
@@ -70,7 +70,7 @@ impl fmt::Display for CcOpenFault {
     }
 }
 
-/// An image that is no cache, handed back as it was.
+/// An image that is not a cache, handed back unchanged, and why.
 #[derive(Drop)]
 pub struct CcOpenRefused<A: Allocator> {
     pub why: CcOpenFault,
@@ -87,7 +87,7 @@ impl<A: Allocator> fmt::Display for CcOpenRefused<A> {
     }
 }
 
-/// The image is dropped.
+/// Drops the image and keeps the fault.
 impl<A: Allocator> From<CcOpenRefused<A>> for CcOpenFault {
     ghost from_gives = { λ refused why. why ≡ refused.why };
 
@@ -96,7 +96,7 @@ impl<A: Allocator> From<CcOpenRefused<A>> for CcOpenFault {
     }
 }
 
-/// Where the default principal and the first credential of an image stand, and where the credentials end.
+/// Where the default principal and the first credential of an image start, and where the credentials end.
 #[derive(Clone, Copy)]
 pub struct Places {
     pub principal: usize,
@@ -104,7 +104,7 @@ pub struct Places {
     pub end: usize,
 }
 
-/// The version and the limit of an image, and where its parts stand.
+/// The version and the limit of an image, and where its parts are.
 #[derive(Clone, Copy)]
 pub struct Layout {
     pub version: Version,
@@ -112,7 +112,7 @@ pub struct Layout {
     pub places: Places,
 }
 
-// The version that the two first bytes tell.
+// Returns the version in the first two bytes, if they have one.
 fn version_in(image: &[u8]) -> Option<Version>
     requires { 2 ≤ length image.now }
     ensures { result ≡ version_in image.now }
@@ -127,7 +127,7 @@ fn version_in(image: &[u8]) -> Option<Version>
     }
 }
 
-// How many bytes the credentials take that the bytes begin with. Each is read once.
+// Returns the total length of the credentials that the bytes begin with. Reads each once.
 fn credentials_len(version: Version, bytes: &[u8]) -> usize
     ensures value { result ≡ credentials_len version bytes.now }
     ensures within { result ≤ length bytes.now }
@@ -139,7 +139,7 @@ fn credentials_len(version: Version, bytes: &[u8]) -> usize
     bytes.len() - rest.len()
 }
 
-// Where the parts of an image of a version stand.
+// Returns where the parts of an image of this version are.
 fn read_places(version: Version, image: &[u8]) -> Result<Places, CcOpenFault>
     requires { 2 ≤ length image.now }
     ensures ok { IfOk result (ArePlaces version image.now) }
@@ -164,7 +164,7 @@ fn read_places(version: Version, image: &[u8]) -> Result<Places, CcOpenFault>
     })
 }
 
-/// Reads an image. Each credential is read once; there are only bytes here, and nothing to take memory from.
+/// Returns the layout of an image, or why it is not a cache. Reads each credential once and takes no memory.
 pub fn read_layout(limit: u32, image: &[u8]) -> Result<Layout, CcOpenFault>
     requires { limit ≤ 1073741824 }
     ensures ok { IfOk result (λ h. open_result limit image.now
@@ -189,7 +189,7 @@ pub fn read_layout(limit: u32, image: &[u8]) -> Result<Layout, CcOpenFault>
     })
 }
 
-/// The image, as what it spells.
+/// Returns the image unchanged; the clauses name the cache that it spells.
 pub fn as_spelling(layout: Layout, image: &[u8]) -> &[u8]
     requires { IsImage layout image.now }
     ensures same { result.now ≡ image.now }

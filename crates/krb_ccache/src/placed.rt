@@ -1,4 +1,4 @@
-//! A cache as a store that is walked while it is changed.
+//! A cache as a store that can be walked while it changes.
 
 use crate::ccache::Ccache;
 use crate::credential::Cred;

@@ -12,7 +12,7 @@ use crate::offset::Offset;
 use krb_wire::{Name, Order, Pen, cc_principal_len};
 use std::alloc::Allocator;
 
-// How many bytes a header takes.
+// Returns the length of a header with this offset.
 pub fn header_len(offset: Option<Offset>) -> usize
     ensures { result ≡ length (header V4 (new_header offset)) }
 {
@@ -22,7 +22,7 @@ pub fn header_len(offset: Option<Offset>) -> usize
     }
 }
 
-/// A new header tells the offset that it is made for.
+/// Shows that a new header has the offset that it is made for.
 pub fn tells_offset(offset: Option<Offset>)
     ensures { offset_in (new_header offset) ≡ offset }
 {
@@ -32,7 +32,7 @@ pub fn tells_offset(offset: Option<Offset>)
     }
 }
 
-// Writes a header.
+// Writes a header with this offset.
 fn put_header(offset: Option<Offset>, pen: &mut Pen<'_>)
     requires { HasRoom pen.old (header V4 (new_header offset)) }
     ensures { Puts pen.old pen.new (header V4 (new_header offset)) }
@@ -48,7 +48,7 @@ fn put_header(offset: Option<Offset>, pen: &mut Pen<'_>)
     pen.put_u32(Order::Big, offset.micros.cast_unsigned());
 }
 
-/// How many bytes the preamble takes, if these are not too many.
+/// Returns the length of the preamble, or `None` if it is more than `most`.
 pub fn preamble_len<N: Name>(principal: &N, offset: Option<Offset>, most: usize) -> Option<usize>
     requires { most ≤ 2 ^ 30 }
     ensures some { IfSome result (λ n. n ≡ length (new_preamble (N.parts principal.now) offset)) }
@@ -78,7 +78,7 @@ pub fn put_preamble<N: Name>(principal: &N, offset: Option<Offset>, pen: &mut Pe
     pen.put_cc_principal(principal);
 }
 
-// Writes it over the bytes from a place on.
+// Writes the preamble over the bytes from `at` on.
 fn put_over<N: Name>(principal: &N, offset: Option<Offset>, out: &mut [u8], at: usize)
     requires fits { FitsCc (N.parts principal.now) }
     requires room { at + length (new_preamble (N.parts principal.now) offset) ≤ length out.old }
@@ -87,7 +87,7 @@ fn put_over<N: Name>(principal: &N, offset: Option<Offset>, out: &mut [u8], at: 
     put_preamble(principal, offset, &mut Pen::new(out, at));
 }
 
-/// Writes it as the whole of an image.
+/// Writes the preamble as the whole of an image.
 pub fn write_preamble<N: Name, A: Allocator>(
     principal: &N,
     offset: Option<Offset>,

@@ -1,4 +1,4 @@
--- One reading: bytes have one list of cells and one end, in any format.
+-- Unique reading: in any format, bytes have one list of cells and one end.
 use Rattle.std.proofs.Common.{◌≡◌, ℕ, zero, suc, ◌+◌, ◌<◌, List, [], ◌∷◌, ◌++◌, length, Option, Some, None, refl, sym, ap, subst, ◌∙◌, append_assoc, arith}
 use Rattle.std.specs.List.{flat_map, AllByRecursion}
 use Rattle.std.proofs.lemmas.List.{append-nil, drop_at, length-append}
@@ -7,12 +7,12 @@ use Rattle.krb_wire.proofs.Fields.{IsBytes, IsBytes-drop, Takes}
 use Rattle.krb_wire.proofs.Places.{IsField}
 use Rattle.krb_cells.specs.Contents.{NextCell, More, NoMore, Contents, Format, spelling, on_next, first_cells, contents, IsCell, IsEnd, IsSound, IsSpelled, next_by, unframed}
 
--- the outcome of one read
+-- what one read gives: a cell and the bytes after it, or the end
 abbrev pub IsNext : {C E : Type 0} → Format C E → List ℕ → NextCell C E → Type 0
 IsNext f bytes (More c after) = Takes bytes (f.cell c) after × IsCell f c
 IsNext f bytes (NoMore e) = (bytes ≡ f.end_bytes e) × IsEnd f e
 
--- a format whose reader tells what is spelled
+-- a format whose reader is right: it reads a cell, or the end, that the bytes spell
 abbrev pub IsFormat : {C E : Type 0} → Format C E → Type 0
 IsFormat f = (bytes : List ℕ) → IsBytes bytes → IsNext f bytes (f.next bytes)
 
@@ -27,7 +27,7 @@ enough_by {C = C} {E = E} f n m bytes (More c after) ih hn hm t =
     ap (λ (k : Contents C E). record { cells = c ∷ k.cells; end = k.end }) same
 enough_by f n m bytes (NoMore e) ih hn hm t = refl
 
--- more turns than bytes change nothing
+-- with more turns than bytes, the contents do not depend on their number
 enough : {C E : Type 0} (f : Format C E) (n m : ℕ) (bytes : List ℕ) → IsFormat f → IsBytes bytes → length bytes < n → length bytes < m → first_cells f n bytes ≡ first_cells f m bytes
 unfolding first_cells
 enough f zero m bytes is fits hn hm = absurd (omega arith)
@@ -47,7 +47,7 @@ next_first : {C E : Type 0} (f : Format C E) (bytes : List ℕ) → contents f b
 unfolding contents first_cells
 next_first f bytes = refl
 
--- the first cell, and the others
+-- contents are the first cell and the contents of the rest
 pub contents_next : {C E : Type 0} (f : Format C E) (bytes : List ℕ) (s : NextCell C E) → IsFormat f → IsBytes bytes → f.next bytes ≡ s → contents f bytes ≡ on_next (contents f) s
 contents_next f bytes s is fits e =
     next_first f bytes ∙ contents_by f bytes (f.next bytes) is (is bytes fits) ∙ ap (on_next (contents f)) e
@@ -73,14 +73,14 @@ spelled_within f (suc n) bytes is fits lt =
 pub contents_spelled : {C E : Type 0} (f : Format C E) (bytes : List ℕ) → IsFormat f → IsBytes bytes → IsSpelled f bytes (contents f bytes)
 contents_spelled f bytes is fits = spelled_within f (suc (length bytes)) bytes is fits (omega arith)
 
--- what contents are after some cells
+-- contents with some cells before them
 abbrev pub behind : {C E : Type 0} → List C → Contents C E → Contents C E
 behind cs k = record { cells = cs ++ k.cells; end = k.end }
 
 IsBytes-back : (a b : List ℕ) → IsBytes (a ++ b) → IsBytes b
 IsBytes-back a b fits = subst IsBytes (drop_at a b (length a) refl) (IsBytes-drop (length a) (a ++ b) fits)
 
--- sound cells at the front are the first cells: so the list is the longest one
+-- sound cells that bytes begin with are the first cells read: so the list is the longest one
 pub contents_behind : {C E : Type 0} (f : Format C E) (cs : List C) (rest : List ℕ) → IsFormat f → AllByRecursion (IsCell f) cs → IsBytes (flat_map f.cell cs ++ rest) → contents f (flat_map f.cell cs ++ rest) ≡ behind cs (contents f rest)
 contents_behind f [] rest is sound fits = refl
 contents_behind {C = C} {E = E} f (c ∷ cs) rest is sound fits =
@@ -90,7 +90,7 @@ contents_behind {C = C} {E = E} f (c ∷ cs) rest is sound fits =
     ap (contents f) grouped ∙ contents_next f (f.cell c ++ tail) (More c tail) is fits2 (sound.0.read tail)
     ∙ ap (λ (k : Contents C E). record { cells = c ∷ k.cells; end = k.end }) (contents_behind f cs rest is sound.1 (IsBytes-back (f.cell c) tail fits2))
 
--- what is spelled is read
+-- the contents of a spelling are what was spelled
 pub contents_again : {C E : Type 0} (f : Format C E) (k : Contents C E) → IsFormat f → IsSound f k → IsBytes (spelling f k) → contents f (spelling f k) ≡ k
 contents_again {C = C} f k is sound fits =
     let e = f.end_bytes k.end in
@@ -107,11 +107,11 @@ unframed_by : {C : Type 0} {read : List ℕ → Option (C × List ℕ)} {spell :
 unframed_by field bytes None fits e = (refl, ap (next_by bytes) e)
 unframed_by field bytes (Some x) fits e = let t = field.takes bytes x fits e in (t.0, unframed_cell field x.0 t.1)
 
--- what is read so has a format
+-- the unframed format of a field satisfies `IsFormat`
 pub unframed_format : {C : Type 0} {read : List ℕ → Option (C × List ℕ)} {spell : C → List ℕ} {Fits : C → Type 0} → IsField read spell Fits → IsFormat (unframed read spell)
 unframed_format {read = read} field = λ bytes fits. unframed_by field bytes (read bytes) fits refl
 
--- one thing that was read from the front, and what is left
+-- the first thing is read, and the rest are the contents of the bytes after it
 pub record ReadsOne {C : Type 0} (f : Format C (List ℕ)) (bytes : List ℕ) (c : C) (after : List ℕ) : Type 0 where
   pub cells : (contents f bytes).cells ≡ c ∷ (contents f after).cells
   pub end : (contents f bytes).end ≡ (contents f after).end
@@ -131,6 +131,6 @@ reads_one {C = C} {read = read} {spell = spell} field bytes c after fits e =
       fits = t.0.rest_fits;
     }
 
--- nothing is read
+-- if nothing is read, there are no cells and the bytes are the end
 pub reads_none : {C : Type 0} {read : List ℕ → Option (C × List ℕ)} {spell : C → List ℕ} {Fits : C → Type 0} → IsField read spell Fits → (bytes : List ℕ) → IsBytes bytes → read bytes ≡ None → contents (unframed read spell) bytes ≡ record { cells = []; end = bytes }
 reads_none {read = read} {spell = spell} field bytes fits e = contents_next (unframed read spell) bytes (NoMore bytes) (unframed_format field) fits (ap (next_by bytes) e)

@@ -1,4 +1,4 @@
--- Cells of bytes, from a place on.
+-- The cells of bytes, split at a place.
 use Rattle.std.proofs.Common.{◌≡◌, ℕ, ◌+◌, ◌-◌, ◌<◌, ◌≤◌, Bool, true, false, List, [], ◌∷◌, ◌++◌, length, drop, Option, Some, None, refl, sym, ap, subst, ◌∙◌, arith}
 use Rattle.std.specs.Prelude.{◌==◌, IsSome}
 use Rattle.std.specs.List.{AllByRecursion}
@@ -12,12 +12,12 @@ use Rattle.krb_walk.proofs.Splits.{end_from-append, next_ahead, bytes_ahead, liv
 use Rattle.krb_cells.specs.CellFormat.{HasCells, AreCells}
 use Rattle.krb_cells.specs.Cells.{HoldsCells, IsFrom}
 
--- cells of bytes take up places
+-- each cell of bytes takes up a place
 pub sound_by : (cells : List ℕ → List Cell) (bytes : List ℕ) (cs : List Cell) → HasCells cells bytes cs → AllByRecursion (λ c. 0 < c.width) cs
 sound_by cells bytes [] has = tt
 sound_by cells bytes (c ∷ cs) has = let four = has.0 in (omega (arith, four), sound_by cells (drop c.width bytes) cs has.3)
 
--- each takes up a place
+-- a store that holds cells of bytes is sound
 pub sound : (cells : List ℕ → List Cell) (place : ℕ) (bytes : List ℕ) (s : Store) → HoldsCells cells place bytes → cells bytes ≡ s.cells → IsSound s
 sound cells place bytes s holds is = subst (AllByRecursion (λ (c : Cell). 0 < c.width)) is (sound_by cells bytes (cells bytes) holds.are)
 
@@ -27,12 +27,12 @@ filled cells at bytes (c ∷ cs) has =
     let within = has.1 in
     filled cells (at + c.width) (drop c.width bytes) cs has.3 ∙ omega (arith, length-drop c.width bytes, within)
 
--- they end where the bytes do
+-- the cells end where the bytes do
 pub ends : (cells : List ℕ → List Cell) (place : ℕ) (bytes : List ℕ) (fault : Option FaultKind) (s : Store) → HoldsCells cells place bytes
     → ◌≡◌ {A = Store} (record { first = place; cells = cells bytes; fault = fault }) s → place + length bytes ≡ end_of s
 ends cells place bytes fault s holds is = sym (filled cells place bytes (cells bytes) holds.are) ∙ ap end_of is
 
--- the cells before a place, and those from it on
+-- cells split at a place: those before it, and those from it on
 pub record CutAt (cells : List ℕ → List Cell) (at : ℕ) (bytes : List ℕ) (cs : List Cell) (p : ℕ) : Type 0 where
   pub before : List Cell
   pub ahead : at ≤ p
@@ -77,12 +77,12 @@ cut : (cells : List ℕ → List Cell) (at : ℕ) (bytes : List ℕ) (cs : List 
 cut cells at bytes [] p has is h = cut_here cells at bytes [] p has is (grind (arith, nat_tests))
 cut cells at bytes (c ∷ cs) p has is h = cut_cons cells at bytes c cs p (at == p) refl has is (λ e. cut cells (at + c.width) (drop c.width bytes) cs p has.3 has.2 e) h
 
--- at each place they are cut
+-- the cells can be split at each of their places
 pub cut_held : (cells : List ℕ → List Cell) (place : ℕ) (bytes : List ℕ) (fault : Option FaultKind) (s : Store) (p : ℕ) → HoldsCells cells place bytes
     → ◌≡◌ {A = Store} (record { first = place; cells = cells bytes; fault = fault }) s → IsPlace s p → CutAt cells place bytes (cells bytes) p
 cut_held cells place bytes fault s p holds is at = cut cells place bytes (cells bytes) p holds.are refl (ap (λ (x : Store). is_place x p) is ∙ at)
 
--- the bytes from there on hold the cells from there on
+-- the bytes from a place on hold the cells from there on
 pub holds_from : (cells : List ℕ → List Cell) (place : ℕ) (bytes : List ℕ) (p : ℕ) → HoldsCells cells place bytes → CutAt cells place bytes (cells bytes) p → HoldsCells cells p (drop (p - place) bytes)
 holds_from cells place bytes p holds k =
     let small = holds.small in
@@ -98,7 +98,7 @@ stop_by : (at p : ℕ) (all after : List Cell) (fault : Option FaultKind) (o : O
 stop_by at p all after fault (Some r) end = refl
 stop_by at p all after fault None end = ap (λ (n : ℕ). end_stop n fault) end
 
--- what is asked of a place where cells are split is asked of those from it on
+-- look-ups at or after a split give the same in the cells from the split on
 from_split : (at p : ℕ) (before after : List Cell) (fault : Option FaultKind) → p ≡ end_from at before → AllByRecursion (λ c. 0 < c.width) before
     → IsFrom (record { first = at; cells = before ++ after; fault = fault }) p (record { first = p; cells = after; fault = fault })
 from_split at p before after fault place sound =
@@ -120,7 +120,7 @@ is_from cells place bytes fault s p holds is k =
     let whole : record { first = place; cells = k.before ++ after; fault = fault } ≡ s = ap (λ (cs : List Cell). record { first = place; cells = cs; fault = fault }) (sym k.parts) ∙ is in
     subst (λ (x : Store). IsFrom x p (record { first = p; cells = after; fault = fault })) whole (from_split place p k.before after fault k.place (all_before k.before after all))
 
--- a live cell stands at a place
+-- the number at which a live cell begins is a place
 pub live_is_place : (s : Store) (p : ℕ) → IsSome (live_bytes s p) → IsPlace s p
 live_is_place s p some =
     let b = is_some_has (live_bytes s p) some in
@@ -128,6 +128,6 @@ live_is_place s p some =
     let c : Cell = record { width = k.width; live = Some b.0 } in
     ap (λ (cs : List Cell). is_place_from s.first cs p) k.is ∙ ap (is_place_from s.first (k.before ++ c ∷ k.after)) k.place ∙ split_is_place s.first k.before (c ∷ k.after)
 
--- where they begin is a place
+-- the first place is a place
 pub is_first_place : (s : Store) (p : ℕ) → s.first ≡ p → true ≡ is_place s p
 is_first_place s p e = sym (is_place_from-first s.first s.cells) ∙ ap (is_place s) e

@@ -1,4 +1,4 @@
--- Bytes that have a format's contents are their cells.
+-- Bytes with the contents of a format are exactly their cells.
 use Rattle.std.proofs.Common.{◌≡◌, ℕ, zero, suc, ◌<◌, ◌≤◌, List, [], length, map, drop, refl, sym, ap, subst, ◌∙◌, length-append, arith}
 use Rattle.std.proofs.lemmas.List.{drop_at}
 use Rattle.krb_wire.proofs.Fields.{IsBytes}
@@ -7,7 +7,7 @@ use Rattle.krb_cells.specs.Contents.{NextCell, More, NoMore, Contents, Format, o
 use Rattle.krb_cells.proofs.ContentsLemmas.{IsNext, IsFormat, contents_next}
 use Rattle.krb_cells.specs.CellFormat.{HasCells, AreCells, seen_in}
 
--- a format whose cells a store sees as wide as they are, four bytes or more, and which has nothing at the end of no bytes
+-- a format whose cells a store sees as wide as they are, each at least 4 bytes, and whose end of no bytes is empty
 pub record IsSeen {C E : Type 0} (f : Format C E) (seen : C → Cell) : Type 0 where
   pub format : IsFormat f
   pub wide : (c : C) → (seen c).width ≡ length (f.cell c)
@@ -36,6 +36,6 @@ are_within {C = C} {E = E} f seen (suc n) bytes is fit lt bare =
     subst (λ (k : Contents C E). HasCells (seen_in f seen) bytes (map seen k.cells)) (sym all)
     (are_by f seen n bytes (f.next bytes) is (λ after after_fit an end. are_within f seen n after is after_fit an end) lt (is.format bytes fit) (sym (ap (λ (k : Contents C E). k.end) all) ∙ bare))
 
--- bytes after whose cells nothing is left are those cells
+-- bytes with nothing left after their cells are exactly those cells
 pub are_cells : {C E : Type 0} (f : Format C E) (seen : C → Cell) (bytes : List ℕ) → IsSeen f seen → IsBytes bytes → (contents f bytes).end ≡ f.none → AreCells (seen_in f seen) bytes
 are_cells f seen bytes is fit bare = are_within f seen (suc (length bytes)) bytes is fit (omega arith) bare

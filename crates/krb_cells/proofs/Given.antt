@@ -1,4 +1,4 @@
--- Each cell of an image is given, in its first four bytes, the place that it goes to.
+-- Each cell of an image holds in its first four bytes the place that it goes to.
 use Rattle.std.proofs.Common.{◌≡◌, ℕ, ◌+◌, ◌-◌, ◌<◌, ◌≤◌, true, false, eqb, List, [], ◌∷◌, ◌++◌, length, take, drop, Bool, Option, Some, None, inl, inr, refl, sym, ap, subst, ◌∙◌, append_assoc, arith}
 use Rattle.std.specs.Prelude.{nat_le, is_some, option_copied}
 use Rattle.std.specs.Borrow.{Bor}
@@ -31,7 +31,7 @@ place_ge at (c ∷ cs) p h = elim (eqb_tells at p) [
 place_past : (at : ℕ) (c : Cell) (cs : List Cell) (p : ℕ) → at < p → is_place_from at (c ∷ cs) p ≡ is_place_from (at + c.width) cs p
 place_past at c cs p lt = let no : eqb at p ≡ false = ne_eqb at p (λ e. omega (arith, lt, e)) in rw no refl
 
--- no place stands within a cell
+-- no place is within a cell
 not_within : (at : ℕ) (c : Cell) (cs : List Cell) (p : ℕ) → is_place_from at (c ∷ cs) p ≡ true → p < at + c.width → p ≡ at
 not_within at c cs p h lt = elim (eqb_tells at p) [
   | inl y ↦ sym y.1
@@ -45,7 +45,7 @@ goes_here : (at : ℕ) (cs : List Cell) (to : ℕ) (ds : List Cell) → new_plac
 goes_here at [] to ds = refl
 goes_here at (c ∷ cs) to ds = let yes : nat_le at at ≡ true = grind (arith, nat_tests) in rw yes refl
 
--- the new cells end where they did
+-- passing a new cell keeps the end of the new cells
 pub end_after : (live : Bool) (to : ℕ) (ds : List Cell) → end_from (to + width_anew live ds) (after_anew live ds) ≡ end_from to ds
 end_after false to ds = let same : to + 0 ≡ to = omega arith in ap (λ (n : ℕ). end_from n ds) same
 end_after true to [] = let same : to + 0 ≡ to = omega arith in same
@@ -59,17 +59,17 @@ drop_more xs ys at n same le =
     let is2 : at + (n - at) ≡ n = omega arith in
     ap (λ (m : ℕ). drop m xs) (sym is2) ∙ sym (drop-drop (n - at) at xs) ∙ ap (drop (n - at)) same ∙ drop-drop (n - at) at ys ∙ ap (λ (m : ℕ). drop m ys) is2
 
--- a number was put at a place, in four bytes
+-- a number was written at a place, in four bytes
 pub put_four : (xs put : List ℕ) (at end n : ℕ) → put ≡ splice xs at end (digits Big w32 n) → end ≡ at + 4 → put ≡ splice xs at (at + 4) (digits Big w32 n)
 put_four xs put at end n wrote is_end = wrote ∙ ap (λ (m : ℕ). splice xs at m (digits Big w32 n)) is_end
 
--- it stands there
+-- the number is there
 put_here : (xs : List ℕ) (at n : ℕ) → at + 4 ≤ length xs → take 4 (drop at (splice xs at (at + 4) (digits Big w32 n))) ≡ digits Big w32 n
 put_here xs at n le =
     let d = digits Big w32 n in
     ap (take 4) (drop_at (take at xs) (d ++ drop (at + 4) xs) at (omega (arith, length-take at xs))) ∙ take_at d (drop (at + 4) xs) 4 ((wide32 Big).len n)
 
--- those before it stay
+-- the bytes before it are unchanged
 put_before : (xs d : List ℕ) (at p : ℕ) → at ≤ length xs → p + 4 ≤ at → take 4 (drop p (splice xs at (at + 4) d)) ≡ take 4 (drop p xs)
 put_before xs d at p le lt =
     let len : length (take at xs) ≡ at = omega (arith, length-take at xs) in
@@ -79,7 +79,7 @@ put_before xs d at p le lt =
     ∙ take-append-le 4 (drop p (take at xs)) (d ++ drop (at + 4) xs) (omega (arith, len, length-drop p (take at xs)))
     ∙ ap (take 4) cut ∙ take-take 4 (at - p) (drop p xs) (omega arith)
 
--- and those after it
+-- so are the bytes after it
 pub put_behind : (xs put : List ℕ) (at n m : ℕ) → at ≤ length xs → at + 4 ≤ n → put ≡ splice xs at (at + 4) (digits Big w32 m) → drop n put ≡ drop n xs
 put_behind xs put at n m le more wrote =
     let d = digits Big w32 m in
@@ -110,7 +110,7 @@ given_first cs ds first start image le = record {
   told = λ p h lt. let ge = place_ge first cs p h in absurd (omega (arith, ge, lt));
 }
 
--- one cell more
+-- one more cell
 given_next : (all news : List Cell) (first start : ℕ) (image put : List ℕ) (c : Cell) (cs ds : List Cell) (at to : ℕ) → IsGivenTo all news first start image (c ∷ cs) ds at to → 4 ≤ c.width → at + c.width ≤ length image
     → put ≡ splice image at (at + 4) (digits Big w32 to) → length put ≡ length image → IsGivenTo all news first start put cs (after_anew (is_some c.live) ds) (at + c.width) (to + width_anew (is_some c.live) ds)
 given_next all news first start image put c cs ds at to g wide room wrote len =
@@ -137,7 +137,7 @@ given_next all news first start image put c cs ds at to g wide room wrote len =
 
 -- ---- the new cells
 
--- the first of them is passed with a live cell
+-- for a live cell, the first new cell is passed
 pub next_passed : (old new : Store) (o : Option (ℕ × CellView)) → GivesCell old o new → (new.first ≡ old.first + width_anew true old.cells) × (new.cells ≡ after_anew true old.cells)
 next_passed old new None g =
     let width : width_anew true old.cells ≡ 0 = rw g.0 refl in
@@ -165,7 +165,7 @@ copied_some None = refl
 
 -- ---- the cells of an image between two places
 
--- those before a place were given theirs, and those from it on are as they were
+-- cells before a place hold where they go, and those from it on are unchanged
 pub record IsGivenIn (cells : List ℕ → List Cell) (all : List Cell) (news : Store) (first end : ℕ) (image : List ℕ) (left : Store) (at to : ℕ) : Type 0 where
   pub ahead : at ≤ end
   pub within : end ≤ length image
@@ -173,7 +173,7 @@ pub record IsGivenIn (cells : List ℕ → List Cell) (all : List Cell) (news : 
   pub is_to : to ≡ left.first
   pub given : IsGivenTo all news.cells first news.first image (cells (between at end image)) left.cells at to
 
--- at first none was
+-- at first no cell was written
 pub none_given : (cells : List ℕ → List Cell) (news : Store) (first end : ℕ) (image : List ℕ) (to : ℕ) → first ≤ end → end ≤ length image → AreCells cells (between first end image) → to ≡ news.first
     → IsGivenIn cells (cells (between first end image)) news first end image news first to
 none_given cells news first end image to ahead within are is_to = rw is_to (
@@ -186,7 +186,7 @@ none_given cells news first end image to ahead within are is_to = rw is_to (
     }
     )
 
--- the cell that stands at a place
+-- the cell at a place
 pub record StandsAt (cells : List ℕ → List Cell) (image : List ℕ) (at end : ℕ) (c : Cell) : Type 0 where
   pub wide : 4 ≤ c.width
   pub room : at + c.width ≤ end
@@ -210,7 +210,7 @@ stands_at cells image at end c ahead within are first =
       others = subst (AreCells cells) same has.3;
     }
 
--- and then that at the place is given its own
+-- then the cell at the place gets where it goes
 pub one_given : (cells : List ℕ → List Cell) (all : List Cell) (news : Store) (first end : ℕ) (image put bytes : List ℕ) (old left : Store) (at to w n next : ℕ) → IsGivenIn cells all news first end image old at to → bytes ≡ between at end image → Passes cells bytes old w left
     → put ≡ splice image at n (digits Big w32 to) → n ≡ at + 4 → length put ≡ length image → next ≡ left.first → IsGivenIn cells all news first end put left (at + w) next
 one_given cells all news first end image put bytes old left at to w n next g is y wrote is_n len is_next =
@@ -237,13 +237,13 @@ one_given cells all news first end image put bytes old left at to w n next g is 
           (subst (λ (ds : List Cell). IsGivenTo all news.cells first news.first put (cells (between (at + c.width) end image)) ds (at + c.width) (to + width_anew (is_some c.live) old.cells)) (sym x.left) more));
     })
 
--- all of them were
+-- all cells hold where they go
 pub record AllGiven (all : List Cell) (news : Store) (first end : ℕ) (image : List ℕ) (to : ℕ) : Type 0 where
   pub given : AreGiven image first all news.first news.cells
   pub is_end : end ≡ end_from first all
   pub last : to ≡ new_place first all news.first news.cells end
 
--- where none is left
+-- if no cell is left, all hold where they go
 pub all_given : (cells : List ℕ → List Cell) (all : List Cell) (news : Store) (first end : ℕ) (image bytes : List ℕ) (left : Store) (at to : ℕ) → IsGivenIn cells all news first end image left at to → bytes ≡ between at end image → cells bytes ≡ [] → AllGiven all news first end image to
 all_given cells all news first end image bytes left at to i is no_cells =
     let none : cells (between at end image) ≡ [] = ap cells (sym is) ∙ no_cells in

@@ -1,4 +1,4 @@
--- Where a place goes, told cell by cell, is where a rewrite carries it.
+-- Where a place goes, computed cell by cell, is where a rewrite carries it.
 use Rattle.std.proofs.Common.{◌≡◌, ◌≢◌, ℕ, ◌+◌, ◌^◌, ◌<◌, ◌≤◌, Bool, true, false, cond, List, [], ◌∷◌, length, Option, Some, None, inl, inr, refl, sym, ap, subst, ◌∙◌, arith}
 use Rattle.std.specs.Prelude.{nat_le, is_some}
 use Rattle.std.specs.List.{AllByRecursion}
@@ -13,7 +13,7 @@ use Rattle.krb_walk.proofs.Places.{place_in}
 use Rattle.krb_walk.proofs.Carries.{lives_rise, below, below_none, below_some}
 use Rattle.krb_cells.proofs.Given.{end_after}
 
--- told by the ranks of live cells
+-- where a place goes, by the ranks of live cells
 abbrev by_rank : ℕ → List Cell → ℕ → List Cell → ℕ → ℕ
 by_rank at cs to ds p = nth_or (end_from to ds) (lives to ds) (below p (lives at cs))
 
@@ -42,7 +42,7 @@ goes_by cs ds c at to p n here later = elim (cases_lt at p) [
   | inr le ↦ let yes : nat_le p at ≡ true = grind (arith, nat_tests) in rw yes (sym (here le))
 ]
 
--- where the cells after the first are told so
+-- where a place goes among these cells is given by rank
 abbrev AreTold : ℕ → List Cell → ℕ → Type 0
 AreTold at cs p = (to : ℕ) (ds : List Cell) → AreLive ds → length (lives to ds) ≡ length (lives at cs) → new_place at cs to ds p ≡ by_rank at cs to ds p
 
@@ -72,7 +72,7 @@ one_of : (b : Bool) (m n end : ℕ) → m ≤ end → n ≤ end → cond b m n �
 one_of true m n end x y = x
 one_of false m n end x y = y
 
--- a place goes no farther than the new end
+-- a place goes no further than the new end
 goes_within : (cs ds : List Cell) (at to p : ℕ) → new_place at cs to ds p ≤ end_from to ds
 goes_within [] ds at to p = end_from-ge to ds
 goes_within (c ∷ cs) ds at to p =
@@ -87,13 +87,13 @@ place_before at cs p end h is ne = elim (cases_lt p end) [
   | inr le ↦ absurd (ne (omega (arith, le, is, place_in at cs p h)))
 ]
 
--- each cursor was given a place
+-- each cursor is the end, or has four bytes at it
 pub have_given : (image : List ℕ) (cs : List Cell) (new : Store) (first end : ℕ) (cursors : List ℕ) → AreGiven image first cs new.first new.cells → end ≡ end_from first cs → AllByRecursion (IsPlace (whole first cs)) cursors → AllByRecursion (HasGiven image end) cursors
 have_given image cs new first end [] given is h = tt
 have_given image cs new first end (p ∷ ps) given is h =
     (λ ne. (given p h.0 (let lt = place_before first cs p end h.0 is ne in omega (arith, lt, is))).within, have_given image cs new first end ps given is h.1)
 
--- and goes where it is carried
+-- each cursor goes where a rewrite carries it
 pub all_go : (image : List ℕ) (cs : List Cell) (new : Store) (first end last : ℕ) (cursors : List ℕ) → AreGiven image first cs new.first new.cells → end ≡ end_from first cs → last ≡ new_place first cs new.first new.cells end → end_of new ≤ 2 ^ 30
     → AreSound cs → Rewrites (whole first cs) new → AllByRecursion (IsPlace (whole first cs)) cursors → AllByRecursion (GoesBy image end last (carry (whole first cs) new)) cursors
 all_go image cs new first end last [] given is is_last small sound rewrites h = tt

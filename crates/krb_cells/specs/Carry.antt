@@ -5,7 +5,7 @@ use Rattle.krb_wire.specs.declared.format.Order.TheVariants.{Big}
 use Rattle.krb_wire.specs.Spelling.{digits}
 use Rattle.krb_walk.specs.Store.{Cell, Store, end_from, is_place_from}
 
--- cells from a place on, and nothing wrong after them
+-- cells from a place on, with no fault after them
 abbrev pub whole : ℕ → List Cell → Store
 whole first cells = record { first = first; cells = cells; fault = None }
 
@@ -13,25 +13,25 @@ whole first cells = record { first = first; cells = cells; fault = None }
 abbrev pub between : ℕ → ℕ → List ℕ → List ℕ
 between first end bytes = take (end - first) (drop first bytes)
 
--- the store of the cells that stand between two places
+-- the store of the cells between two places
 abbrev pub store_in : (List ℕ → List Cell) → List ℕ → ℕ → ℕ → Store
 store_in cells image first end = whole first (cells (between first end image))
 
 -- ---- for private contracts alone
 
--- how wide what is written anew for a cell is: the first new cell, if the old one is live
+-- the width of what a cell is rewritten as: that of the first new cell, if the old one is live
 abbrev pub width_anew : Bool → List Cell → ℕ
 width_anew false ds = 0
 width_anew true [] = 0
 width_anew true (d ∷ ds) = d.width
 
--- the new cells after it
+-- the new cells after that one
 abbrev pub after_anew : Bool → List Cell → List Cell
 after_anew false ds = ds
 after_anew true [] = []
 after_anew true (d ∷ ds) = ds
 
--- the cell at the front of some bytes is passed, and with it what is written anew for it
+-- the first cell of some bytes is passed, and with it the new cell that it is rewritten as, if it is live
 pub record Passes (cells : List ℕ → List Cell) (bytes : List ℕ) (old : Store) (width : ℕ) (new : Store) : Type 0 where
   pub cell : Cell
   pub is_width : width ≡ cell.width
@@ -39,25 +39,25 @@ pub record Passes (cells : List ℕ → List Cell) (bytes : List ℕ) (old : Sto
   pub first : new.first ≡ old.first + width_anew (is_some cell.live) old.cells
   pub left : new.cells ≡ after_anew (is_some cell.live) old.cells
 
--- the cells from at on are written anew as those from to on, one for each that is live: where the place p goes
+-- where the place p goes, if the cells from `at` on are rewritten as those from `to` on, one for each that is live
 abbrev pub new_place : ℕ → List Cell → ℕ → List Cell → ℕ → ℕ
 new_place at [] to ds p = to
 new_place at (c ∷ cs) to ds p = if nat_le p at then to else new_place (at + c.width) cs (to + width_anew (is_some c.live) ds) (after_anew (is_some c.live) ds) p
 
--- the four bytes at a place tell a number
+-- the four bytes at a place encode a number
 pub record Tells (image : List ℕ) (p n : ℕ) : Type 0 where
   pub within : p + 4 ≤ length image
   pub bytes : take 4 (drop p image) ≡ digits Big w32 n
 
--- at the place of each cell they tell where it goes
+-- the first four bytes of each cell encode where it goes
 abbrev pub AreGiven : List ℕ → ℕ → List Cell → ℕ → List Cell → Type 0
 AreGiven image at cs to ds = (p : ℕ) → is_place_from at cs p ≡ true → p < end_from at cs → Tells image p (new_place at cs to ds p)
 
--- four bytes stand at a place that is not the end
+-- a place is the end, or has four bytes at it
 abbrev pub HasGiven : List ℕ → ℕ → ℕ → Type 0
 HasGiven image end p = p ≢ end → p + 4 ≤ length image
 
--- they tell where it goes, and the end goes to the last place
+-- the four bytes at a place encode where it goes, and the end goes to the last place
 pub record GoesBy (image : List ℕ) (end last : ℕ) (go : ℕ → ℕ) (p : ℕ) : Type 0 where
   pub small : go p < 2 ^ 32
   pub ends : p ≡ end → last ≡ go p

@@ -1,10 +1,10 @@
--- A store of the cells that stand in bytes.
+-- A store of the cells in bytes.
 use Rattle.std.specs.Prelude.{◌≡◌, ℕ, ◌+◌, ◌≤◌, ◌^◌, List, [], ◌∷◌, length, Option, Some, None}
 use Rattle.krb_walk.specs.Store.{Cell, Store, live_bytes, stop_at}
 use Rattle.krb_cells.specs.declared.cell_format.CellView.{CellView}
 use Rattle.krb_cells.specs.CellFormat.{AreCells, cell_of}
 
--- bytes that are their cells, of which the first has that place
+-- bytes that are exactly their cells, whose first begins at that place
 pub record HoldsCells (cells : List ℕ → List Cell) (place : ℕ) (bytes : List ℕ) : Type 0 where
   pub are : AreCells cells bytes
   pub small : place + length bytes ≤ 2 ^ 30
@@ -17,12 +17,12 @@ pub record BeginsWith (old : Store) (at : ℕ) (c : Cell) (new : Store) : Type 0
   pub fault : new.fault ≡ old.fault
   pub small : new.first ≤ 2 ^ 30
 
--- that cell, or none where none is left
+-- the first cell with its place, or `None` if no cell is left
 abbrev pub GivesCell : Store → Option (ℕ × CellView) → Store → Type 0
 GivesCell old None new = (old.cells ≡ []) × (new ≡ old)
 GivesCell old (Some x) new = BeginsWith old x.0 (cell_of x.1) new
 
--- the cells from a place on: what stands at that place or after it is asked of them as of all
+-- the cells from a place on: look-ups at that place or after it give the same as in all cells
 pub record IsFrom (all : Store) (place : ℕ) (rest : Store) : Type 0 where
   pub first : rest.first ≡ place
   pub stop : stop_at rest place ≡ stop_at all place

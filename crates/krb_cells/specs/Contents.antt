@@ -1,8 +1,8 @@
--- Cells that are spelled one after the other, and whose next cell is read from the front: what any format shares.
+-- Cells that are spelled one after the other and read from the front: what all formats share.
 use Rattle.std.specs.Prelude.{◌≡◌, ℕ, zero, suc, ◌<◌, List, [], ◌∷◌, ◌++◌, length, Option, Some, None}
 use Rattle.std.specs.List.{flat_map, AllByRecursion}
 
--- what stands at the front of bytes: one cell more and the bytes after it, or what ends the cells
+-- what bytes begin with: one more cell and the bytes after it, or what ends the cells
 pub data NextCell (C E : Type 0) : Type 0 where
   More : C → List ℕ → NextCell C E
   NoMore : E → NextCell C E
@@ -12,7 +12,7 @@ pub record Contents (C E : Type 0) : Type 0 where
   pub cells : List C
   pub end : E
 
--- a format: what stands at the front of bytes, the spelling of a cell and that of an end, and the end of no bytes
+-- a format: what bytes begin with, the spelling of a cell and of an end, and the end of empty bytes
 pub record Format (C E : Type 0) : Type 0 where
   pub next : List ℕ → NextCell C E
   pub cell : C → List ℕ
@@ -23,26 +23,26 @@ pub record Format (C E : Type 0) : Type 0 where
 abbrev pub spelling : {C E : Type 0} → Format C E → Contents C E → List ℕ
 spelling f k = flat_map f.cell k.cells ++ f.end_bytes k.end
 
--- the contents, from the first cell and what the others are
+-- the contents, given what the bytes begin with and the contents of the rest
 abbrev pub on_next : {C E : Type 0} → (List ℕ → Contents C E) → NextCell C E → Contents C E
 on_next others (More c rest) = record { cells = c ∷ (others rest).cells; end = (others rest).end }
 on_next others (NoMore e) = record { cells = []; end = e }
 
--- at most so many cells
+-- the contents, read in at most that many turns
 unfoldable pub first_cells : {C E : Type 0} → Format C E → ℕ → List ℕ → Contents C E
 first_cells f zero bytes = record { cells = []; end = f.none }
 first_cells f (suc n) bytes = on_next (first_cells f n) (f.next bytes)
 
--- each cell takes a byte, so there are no more cells than bytes
+-- the contents of bytes: each cell takes a byte, so there are no more cells than bytes
 unfoldable pub contents : {C E : Type 0} → Format C E → List ℕ → Contents C E
 contents f bytes = first_cells f (suc (length bytes)) bytes
 
--- a cell is read wherever it is spelled, and its spelling is not empty
+-- a cell that is read back wherever it is spelled, and whose spelling is not empty
 pub record IsCell {C E : Type 0} (f : Format C E) (c : C) : Type 0 where
   pub read : (rest : List ℕ) → f.next (f.cell c ++ rest) ≡ More c rest
   pub some : 0 < length (f.cell c)
 
--- what ends the cells is no further cell
+-- an end that is read back as an end, not as a further cell
 abbrev pub IsEnd : {C E : Type 0} → Format C E → E → Type 0
 IsEnd f e = f.next (f.end_bytes e) ≡ NoMore e
 
@@ -56,11 +56,11 @@ pub record IsSpelled {C E : Type 0} (f : Format C E) (bytes : List ℕ) (k : Con
   pub parts : bytes ≡ spelling f k
   pub sound : IsSound f k
 
--- what stands there, by what was read
+-- what bytes begin with, given the result of a read
 abbrev pub next_by : {C : Type 0} → List ℕ → Option (C × List ℕ) → NextCell C (List ℕ)
 next_by bytes None = NoMore bytes
 next_by bytes (Some x) = More x.0 x.1
 
--- the format of things that nothing frames: each is read, and they end where none is
+-- the format of unframed things: each is read by `read`, and the cells end at the bytes that it does not read
 abbrev pub unframed : {C : Type 0} → (List ℕ → Option (C × List ℕ)) → (C → List ℕ) → Format C (List ℕ)
 unframed read spell = record { next = λ bytes. next_by bytes (read bytes); cell = spell; end_bytes = λ rest. rest; none = [] }

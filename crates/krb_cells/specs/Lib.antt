@@ -1,4 +1,4 @@
--- What the contracts of this crate say.
+-- The definitions that the contracts of this crate use.
 pub mod Contents
 pub mod CellFormat
 pub mod Cells

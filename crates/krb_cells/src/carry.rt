@@ -1,8 +1,7 @@
-//! Where the cursors of a store go when it is written anew.
+//! Where the cursors of a store go when it is rewritten.
 //!
-//! The old image is no longer needed then. So each of its cells is given, in its first four bytes, the place
-//! that it goes to, and each cursor reads it there: one pass over the cells, one look for each cursor, and no
-//! memory.
+//! The old image is no longer needed then. So the first four bytes of each old cell are overwritten with the place that
+//! the cell goes to, and each cursor is looked up there: one pass over the cells, one read per cursor, no memory.
 
 ghost use Rattle.std.specs.Prelude.{◌≡◌, ◌≤◌, ◌<◌, ◌-◌, ◌+◌, ℕ, [], length, take, drop, map, IfSome, IfNone};
 ghost use Rattle.std.specs.Int.{w32};
@@ -18,7 +17,7 @@ use crate::cell_format::CellFormat;
 use crate::cells::Cells;
 use krb_wire::{Order, Pen, split_u32, tail};
 
-// The bytes between two places.
+// Returns the bytes from `first` up to `end`.
 fn part(bytes: &[u8], first: usize, end: usize) -> &[u8]
     requires ahead { first ≤ end }
     requires within { end ≤ length bytes.now }
@@ -27,8 +26,7 @@ fn part(bytes: &[u8], first: usize, end: usize) -> &[u8]
     &bytes[first..end]
 }
 
-// Passes the cell at the front of some bytes, and the new one that is written for it, if it is live. The answer is
-// the width of the old one.
+// Passes the first cell of some bytes, and the new one that is written for it, if it is live. Returns the old width.
 fn pass<F: CellFormat, G: CellFormat>(
     front: F,
     bytes: &[u8],
@@ -46,7 +44,7 @@ fn pass<F: CellFormat, G: CellFormat>(
     Some(cell.width)
 }
 
-// Gives the cell at a place the one that it goes to, in its first four bytes.
+// Writes where the cell at `at` goes into its first four bytes.
 fn give_place(to: u32, image: &mut [u8], at: usize)
     requires { at + 4 ≤ length image.old }
     ensures { image.new ≡ splice image.old at (at + 4) (digits Big w32 to) }
@@ -54,7 +52,7 @@ fn give_place(to: u32, image: &mut [u8], at: usize)
     Pen::new(image, at).put_u32(Order::Big, to);
 }
 
-// Gives each cell between two places the place that it goes to. The answer is where their end goes.
+// Writes into each cell from `first` up to `end` the place that it goes to. Returns the place that `end` goes to.
 fn give_places<F: CellFormat, G: CellFormat>(
     front: F,
     image: &mut [u8],
@@ -80,7 +78,7 @@ fn give_places<F: CellFormat, G: CellFormat>(
     to
 }
 
-// Where a place goes: what its cell was given, or where the end goes.
+// Returns where a place goes: the place written in its cell, or `last` if it is the end.
 fn place_given(image: &[u8], end: usize, last: u32, place: u32) -> u32
     requires { HasGiven image.now end place }
     ensures { (go : ℕ → ℕ) → GoesBy image.now end last go place → result ≡ go place }
@@ -94,7 +92,7 @@ fn place_given(image: &[u8], end: usize, last: u32, place: u32) -> u32
     }
 }
 
-// Carries cursors to the places that they were given.
+// Carries cursors to the places written in their cells.
 fn carry_all(image: &[u8], end: usize, last: u32, cursors: &mut [u32])
     requires { AllByRecursion (HasGiven image.now end) cursors.old }
     ensures { (go : ℕ → ℕ) → AllByRecursion (GoesBy image.now end last go) cursors.old → cursors.new ≡ map go cursors.old }
@@ -104,8 +102,8 @@ fn carry_all(image: &[u8], end: usize, last: u32, cursors: &mut [u32])
     }
 }
 
-/// Carries cursors from the places of the store that stands in an image to those of the new one that it was
-/// written anew as. The old image is spent, and no memory is taken.
+/// Carries cursors from the places of the store in `image` to those of `new`, the store that it is rewritten as.
+/// Overwrites the old image, and takes no memory.
 pub fn carry_to<F: CellFormat, G: CellFormat>(
     front: F,
     image: &mut [u8],

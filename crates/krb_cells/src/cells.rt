@@ -1,4 +1,4 @@
-//! The cells that stand in bytes, as a store.
+//! The cells of some bytes, as a store.
 
 ghost use Rattle.std.specs.Prelude.{◌≡◌, ◌≤◌, ◌^◌, ◌+◌, length, IsSome, Some, option_copied};
 ghost use Rattle.std.specs.Iterator.{item_count};
@@ -10,7 +10,7 @@ use crate::cell_format::{CellFormat, CellView};
 use krb_walk::{Fault, FaultKind, Stop};
 use std::marker::Model;
 
-/// The cells from a place on, a place for each byte, and what is wrong after them, if something is.
+/// The cells from a place on, one place per byte, and the kind of the fault after them, if there is one.
 #[derive(Drop)]
 pub struct Cells<'a, F: CellFormat> {
     front: F,
@@ -52,7 +52,7 @@ impl<'a, F: CellFormat> Iterator for Cells<'a, F> {
 }
 
 impl<'a, F: CellFormat> Cells<'a, F> {
-    /// The cells that the bytes spell, where the first stands at that place.
+    /// Returns the cells of `bytes`, whose first begins at `place`.
     pub fn of(front: F, place: usize, bytes: &'a [u8], fault: Option<FaultKind>) -> Cells<'a, F>
         requires cells { AreCells (F.cells front) bytes.now }
         requires small { place + length bytes.now ≤ 2 ^ 30 }
@@ -66,7 +66,7 @@ impl<'a, F: CellFormat> Cells<'a, F> {
         }
     }
 
-    /// The place of the first, or that where they end.
+    /// Returns the place of the first cell, or the end place if there is none.
     pub fn first(&self) -> u32
         ensures first { result ≡ self.now.first }
         ensures sound { IsSound self.now }
@@ -75,7 +75,7 @@ impl<'a, F: CellFormat> Cells<'a, F> {
         self.place as u32
     }
 
-    /// The place after the last.
+    /// Returns the place after the last cell.
     pub fn end(&self) -> u32
         ensures end { result ≡ end_of self.now }
         ensures small { result ≤ 2 ^ 30 }
@@ -83,7 +83,7 @@ impl<'a, F: CellFormat> Cells<'a, F> {
         (self.place + self.bytes.len()) as u32
     }
 
-    /// What is wrong at that place, if something is.
+    /// Returns the fault at the end place, if there is one.
     pub fn fault(&self) -> Option<Fault>
         ensures { result ≡ fault_of self.now }
     {
@@ -94,7 +94,7 @@ impl<'a, F: CellFormat> Cells<'a, F> {
         })
     }
 
-    /// Whether a cell begins at a place, or they end there. It goes from the front.
+    /// Returns whether a cell begins at `place`, or they end there. Scans from the start.
     pub fn is_place(self, place: u32) -> bool
         ensures { result ≡ is_place self.entry place }
     {
@@ -107,7 +107,7 @@ impl<'a, F: CellFormat> Cells<'a, F> {
         true
     }
 
-    /// The cells from a place on.
+    /// Returns the cells from `place` on.
     pub fn from(self, place: u32) -> Cells<'a, F>
         requires { IsPlace self place }
         ensures { IsFrom self.entry place result }
@@ -121,7 +121,7 @@ impl<'a, F: CellFormat> Cells<'a, F> {
         }
     }
 
-    /// The first live cell at or after a place, or what ends them. It goes from that place on.
+    /// Returns the first live cell at or after `place`, or what ends the cells. Scans from `place`.
     pub fn stop_at(self, place: u32) -> Stop
         requires { IsPlace self place }
         ensures { result ≡ stop_at self.entry place }
@@ -141,7 +141,7 @@ impl<'a, F: CellFormat> Cells<'a, F> {
         }
     }
 
-    /// The bytes of the live cell at a place, if one stands there. It goes from the front.
+    /// Returns the bytes of the live cell at `place`, or `None` if no live cell begins there. Scans from the start.
     pub fn find_live(self, place: u32) -> Option<&'a [u8]>
         ensures { option_copied result ≡ live_bytes self.entry place }
     {
@@ -153,7 +153,7 @@ impl<'a, F: CellFormat> Cells<'a, F> {
         None
     }
 
-    /// The bytes of the live cell that stands at a place. It reads that one.
+    /// Returns the bytes of the live cell at `place`. Reads that cell only.
     pub fn bytes_at(self, place: u32) -> &'a [u8]
         requires { IsSome (live_bytes self place) }
         ensures { live_bytes self.entry place ≡ Some result.now }

@@ -1,6 +1,6 @@
-//! Stores of cells that stand in bytes one after the other. A format tells its first cell (`CellFormat`); the walk over
-//! the cells, the answers of their store (`Cells`), and where cursors go when it is written anew (`carry_to`) follow
-//! from that, once for all formats.
+//! Stores whose cells follow one another in bytes. A format returns the first cell of some bytes (`CellFormat`);
+//! iterating the cells, the calls of a store (`Cells`) and where a rewrite carries cursors (`carry_to`) follow from
+//! that, once for all formats.
 #![tactic(auto)]
 
 mod carry;

@@ -1,4 +1,4 @@
--- What a command line asks for, and what it leads to.
+-- The action of a command line, and what it does.
 use Rattle.std.specs.Prelude.{unwrap_or, ◌≡◌, ℕ, List, [], codes, Option, None, Result, Ok, Err, string_bytes}
 use Rattle.krb_files.specs.declared.files.Files.{Ghosts}
 use Rattle.krb_files.specs.Bytes.{Watch}
@@ -26,7 +26,7 @@ use Rattle.krb_editors.specs.Scripted.{RunsScript}
 use Rattle.krb_text.specs.Script.{event_in}
 use Rattle.krb_cache_text.specs.Script.{cache_line_in}
 
--- the words of that command ask for that
+-- the action is the one that the words of the command ask for
 abbrev pub Asks : CommandName → Matched → Action → Type 0
 Asks name.Klist words (Klist options file) = (options ≡ list_options words) × (file.now ≡ words.operand (codes "FILE"))
 Asks name.Ktedit words (Ktedit order file) = (order ≡ v1_order words) × (file.now ≡ words.operand (codes "FILE"))
@@ -46,12 +46,12 @@ line_mistake name.Ktremove words = remove_mistake words
 line_mistake name.Ccremove words = ticket_mistake words
 line_mistake command words = None
 
--- help that was asked for
+-- the run that prints a help text
 abbrev pub help_run : List ℕ → Run
 help_run text = record { out = text; ending = Ok Well }
 
 module _ {F : Type 0} (trait : Ghosts F) (now : Option ℕ) (input input' : Source) (old new : F) (out out' : Watch) (err err' : ErrorWatch) (status : ℕ) where
-  -- an action over the files, and over what the standard input gives
+  -- what an action does over the files, and over what the standard input gives
   abbrev pub EndsAction : Action → Type 0
   EndsAction (Klist options file) = RunsCommand trait (always (klist_plan options file.now)) any old new out out' err err' status
   EndsAction (Ktfind options file) = RunsCommand trait (always (ktfind_plan options file.now)) any old new out out' err err' status
@@ -63,7 +63,7 @@ module _ {F : Type 0} (trait : Ghosts F) (now : Option ℕ) (input input' : Sour
   EndsAction (Ccremove options file) = RunsCcremove trait file.now options old new out out' err err' status (ended_by options now)
   EndsAction (Help text) = (new ≡ old) × EndsRun [] None (help_run (string_bytes text)) out out' err err' status
 
-  -- it is said why nothing was asked for, and nothing is done
+  -- it is reported why the command line was not read, and nothing else is done
   pub record EndsByWords (fault : WordFault) : Type 0 where
     pub files : new ≡ old
     pub quiet : out' ≡ out
@@ -71,7 +71,7 @@ module _ {F : Type 0} (trait : Ghosts F) (now : Option ℕ) (input input' : Sour
     pub still : err'.explains ≡ err.explains
     pub status_is : status ≡ word_status fault
 
-  -- what was asked for, or why nothing was
+  -- the action was run, or it was reported why there is none
   abbrev pub EndsAsked : Result Action WordFault → Type 0
   EndsAsked (Ok action) = EndsAction action
   EndsAsked (Err fault) = EndsByWords fault

@@ -1,4 +1,4 @@
-//! The commands, and what a line of each asks for.
+//! The commands, and the actions of their command lines.
 
 ghost use Rattle.std.specs.Prelude.{◌≡◌, IfErr, IfOk, None, OnOk};
 ghost use Rattle.krb_commands.specs.Actions.{Asks, line_mistake};
@@ -16,26 +16,26 @@ pub const COMMANDS: &[CommandWords] = &[
     KLIST, KTEDIT, KTFIND, KTREMOVE, KTCHECK, CCEDIT, CCREMOVE, KTUTIL,
 ];
 
-/// What a command line asks for. A command over a file has its name.
+/// What a command line says to do. Commands over a file carry its name.
 #[derive(Drop)]
 pub enum Action<'a> {
     Klist(KlistOptions, &'a str),
     Ktfind(FindOptions<Global>, &'a str),
-    /// With the order of a keytab of version 1.
+    /// With the byte order of version 1 keytabs.
     Ktedit(Order, &'a str),
-    /// With the order of a keytab of version 1.
+    /// With the byte order of version 1 keytabs.
     Ktcheck(Order, &'a str),
     Ktremove(RemoveOptions<Global>, &'a str),
     Ccedit(&'a str),
     Ccremove(TicketOptions<Global>, &'a str),
-    /// With the order of keytabs of version 1.
+    /// With the byte order of version 1 keytabs.
     Ktutil(Order),
-    /// To show that help.
+    /// Prints that help text.
     Help(String),
 }
 
 impl Action<'_> {
-    /// Whether it depends on the time: entries that ktutil adds, and tickets that have expired.
+    /// Returns whether it needs the current time: for entries that ktutil adds, or for tickets that have expired.
     pub fn needs_clock(&self) -> bool {
         match self {
             Action::Ktutil(_) => true,
@@ -45,7 +45,7 @@ impl Action<'_> {
     }
 }
 
-// What the words of a command ask for.
+// Returns the action for the words of a command.
 fn asked<'a, M: Matches<'a>>(
     alloc: Global,
     command: CommandName,
@@ -66,8 +66,8 @@ fn asked<'a, M: Matches<'a>>(
     }
 }
 
-/// What a line of that command, of that name, asks for, or why it was not read: options that do not go together, a word
-/// that cannot be read, or an allocation that failed.
+/// Returns the action for a line of that command, of that name, or why the line was not read: options that do not
+/// go together, a word that cannot be read, or an allocation that failed.
 pub fn action_of<'a, M: Matches<'a>>(
     alloc: Global,
     command: CommandName,

@@ -1,4 +1,4 @@
-//! The commands over files and outputs: what each prints, what is said where it fails, and the status.
+//! The commands over files and outputs: what each prints, what it reports if it fails, and its exit status.
 #![tactic(auto)]
 
 mod action;

@@ -1,4 +1,4 @@
-//! From what was asked for to the status.
+//! Runs the action of a command line.
 
 ghost use Rattle.std.specs.Prelude.{[], None, IsFalse};
 ghost use Rattle.krb_commands.specs.Actions.{EndsAsked, help_run};
@@ -13,7 +13,7 @@ use krb_files::{Files, Watched};
 use std::alloc::Allocator;
 use std::io::{Read, Write};
 
-// Shows help that was asked for.
+// Prints a help text.
 fn show_help<W: Write, E: Write>(text: &str, out: &mut Watched<W>, err: &mut ErrorOutput<E>) -> u8
     requires { IsFalse out.old.failed }
     ensures { EndsRun [] None (help_run text.now) out.old out.new err.old err.new result }
@@ -22,8 +22,8 @@ fn show_help<W: Write, E: Write>(text: &str, out: &mut Watched<W>, err: &mut Err
     tell(ending, b"", None, out.cause(), err)
 }
 
-/// Does what was asked for, or says why the command line was not read, and answers the status. Entries are
-/// made at `now`, in seconds, or at 0 where the clock was not read. A failure of `err` changes nothing else.
+/// Runs an action, or reports why the command line was not read, and returns the exit status. ktutil adds entries
+/// with the time `now`, in seconds, or 0 if the clock was not read. A failure of `err` changes nothing else.
 pub fn respond<A: Allocator + Copy, F: Files, R: Read, W: Write, E: Write>(
     alloc: A,
     asked: &Result<Action<'_>, WordFault<'_>>,

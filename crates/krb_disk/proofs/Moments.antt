@@ -7,19 +7,19 @@ use Rattle.krb_disk.specs.Disk.{File, Names, Save, Call, Make, Lock, Stands, Dou
 use Rattle.krb_disk.specs.Stages.{IsDueMode, IsSame, IsQuiet, stood, watched, synced}
 use Rattle.krb_disk.specs.Target.{new_path}
 
--- it has the bytes
+-- the file exists and has the bytes of the save
 abbrev HasBytes : Save → Option File → Type 0
 HasBytes save file = IsSomeAnd file (λ f. f.bytes ≡ save.bytes)
 
--- and the mode due
+-- and has the mode due
 abbrev IsPermitted : Save → Option File → Type 0
 IsPermitted save file = IsSomeAnd file (λ f. (f.bytes ≡ save.bytes) × HasDueMode save f.mode)
 
--- and a crash leaves it
+-- and survives a crash
 abbrev IsWhole : Save → Option File → Type 0
 IsWhole save file = IsSomeAnd file (λ f. (f.bytes ≡ save.bytes) × (HasDueMode save f.mode × (f.durable ≡ true)))
 
--- what the new file is at each stage
+-- what is known of the new file at each stage
 abbrev HasCome : Save → Stage → Option File → Type 0
 HasCome save Written file = HasBytes save file
 HasCome save (Told found) file = HasBytes save file
@@ -30,34 +30,34 @@ HasCome save (Same old) file = IsWhole save file
 HasCome save (Quiet old) file = IsWhole save file
 HasCome save _ file = Unit {0}
 
--- as after it was found under its name
+-- this is kept when it is found under its name
 stood_keeps : (save : Save) (s : Stage) (file : Option File) → HasCome save s file → HasCome save (stood s) file
 stood_keeps save (Synced old) file come = come
 stood_keeps save _ file come = tt
 
--- and after the list of locks was read
+-- and when the list of locks is read
 watched_keeps : (save : Save) (is_quiet : Bool) (s : Stage) (file : Option File) → HasCome save s file → HasCome save (watched is_quiet s) file
 watched_keeps save true (Same old) file come = come
 watched_keeps save false (Same old) file come = come
 watched_keeps save _ _ file come = tt
 
--- and after it was synced
+-- and when it is synced
 synced_keeps : (save : Save) (s : Stage) (f : File) → HasCome save s (Some f) → HasCome save (synced s) (Some (record f { durable = true }))
 synced_keeps save (Permitted old) f come = (come.0, (come.1, refl))
 synced_keeps save _ f come = tt
 
--- a file of which a mode is due has its bytes
+-- at a stage where a mode is due, the new file has the bytes of the save
 due_bytes : (save : Save) (old : Option Found) (s : Stage) (f : File) (mode : ℕ) → IsDueMode old s mode → HasCome save s (Some f) → f.bytes ≡ save.bytes
 due_bytes save None Written f mode due come = come
 due_bytes save (Some old) (Told found) f mode due come = come
 due_bytes save _ _ f mode due come = absurd due
 
--- a file that takes the old one's place is whole
+-- a new file that may be renamed over the old one is whole
 quiet_whole : (save : Save) (s : Stage) (file : Option File) → IsQuiet s → HasCome save s file → IsWhole save file
 quiet_whole save (Quiet old) file quiet come = come
 quiet_whole save _ file quiet come = absurd quiet
 
--- each call of the new file leaves it as its stage says
+-- each call on the new file leaves it as known of its next stage
 keeps : (save : Save) (call : Call) (s : Stage) (file : Option File) (t : Stage) (new : Option File) → HasCome save s file → Turns save call s file t new → HasCome save t new
 keeps save Make s file t new come turns = rw turns.1 tt
 keeps save Lock s file t new come turns = rw turns.1 tt
@@ -76,7 +76,7 @@ keeps save Remove s file t new come turns = rw turns.1 tt
 keeps save Fail s file t new come turns = rw turns tt
 keeps save _ s file t new come turns = absurd turns
 
--- what holds at each moment
+-- the invariant of moments
 record Holds (save : Save) (m : Moment) : Type 0 where
   old : m.saved ≡ false → m.names save.path ≡ m.theirs save.path
   whole : m.saved ≡ true → IsWhole save (m.names save.path)
@@ -84,14 +84,14 @@ record Holds (save : Save) (m : Moment) : Type 0 where
   seen : m.fresh ≡ true → IsTrue (save.is_seen (m.names save.path))
   come : HasCome save m.stage (m.names (new_path save.path))
 
--- the new file has a name of its own
+-- the new file's name is not the old one
 apart : (path : List ℕ) → path ≢ new_path path
 apart path is =
     let more : length (path ++ codes ".krbfile") ≡ length path + 8 = length-append path (codes ".krbfile") in
     let same : length path ≡ length (path ++ codes ".krbfile") = ap length is in
     omega arith
 
--- it holds before the first call
+-- the invariant holds before the first call
 first_holds : (save : Save) (m : Moment) → IsFirst m → Holds save m
 first_holds save m first = record {
   old = λ is. first.names save.path;
@@ -101,7 +101,7 @@ first_holds save m first = record {
   come = rw first.stage tt;
 }
 
--- and after a call of the new file
+-- it is kept by a call on the new file
 asks_holds : (save : Save) (call : Call) (m n : Moment) → Holds save m → Asks save call m n → Holds save n
 asks_holds save call m n h a =
     let path_is : n.names save.path ≡ m.names save.path = a.others save.path (apart save.path) in
@@ -113,7 +113,7 @@ asks_holds save call m n h a =
       come = keeps save call m.stage (m.names (new_path save.path)) n.stage (n.names (new_path save.path)) h.come a.turns;
     }
 
--- and after any call
+-- and by any call
 does_holds : (save : Save) (call : Call) (m n : Moment) → Holds save m → Does save call m n → Holds save n
 does_holds save Compare m n h d = subst (λ (x : Moment). Holds save x) (sym d.now) (record {
   old = h.old;
@@ -150,13 +150,13 @@ happens_holds : (save : Save) (calls : List Call) (now : Moment) → Happens sav
 happens_holds save [] now happens = first_holds save now happens
 happens_holds save (call ∷ calls) now happens = does_holds save call happens.0 now (happens_holds save calls happens.0 happens.1.0) happens.1.1
 
--- a crash leaves a whole file
+-- a whole file has its bytes and its mode after a crash
 left_whole : (save : Save) (file left : Option File) → IsWhole save file → IsLeft file left → IsPermitted save left
 left_whole save None left whole leaves = absurd whole
 left_whole save (Some f) None whole leaves = absurd leaves
 left_whole save (Some f) (Some g) whole leaves = (leaves.1 whole.1.1 ∙ whole.0, rw leaves.0 whole.1.0)
 
--- what holds while the test is true holds unless it is false
+-- what follows if the test is true follows unless it is false
 unless_false : (test : Bool) (A P : Type 0) → (test ≡ true → P) → A → ¬ (A × (test ≡ false)) → P
 unless_false true A P holds a is = holds refl
 unless_false false A P holds a is = absurd (is (a, refl))

@@ -1,26 +1,26 @@
--- Rights that are among others.
+-- Rights that are a subset of others.
 use Rattle.std.proofs.Common.{◌≡◌, ℕ, Bool, true, false, arith, sym, ap, ◌∙◌, subst, bit_and}
 use Rattle.std.specs.Int.Bits.{and_self}
 use Rattle.std.proofs.lemmas.Nat.{and_assoc, and_comm, and_le_l}
 use Rattle.krb_disk.specs.Mode.{IsWithin, IsNewMode, GivesNoMore, owner_rights, group_rights, other_rights}
 
--- what two have in common is among those of the first
+-- the intersection of two is a subset of the first
 within_first : (a b : ℕ) → IsWithin (bit_and a b) a
 within_first a b = and_assoc a a b ∙ ap (λ (x : ℕ). bit_and a x) (and_comm b a) ∙ sym (and_assoc b a a) ∙ ap (λ (x : ℕ). bit_and x b) (and_self a)
 
--- and among those of the second
+-- and of the second
 within_second : (a b : ℕ) → IsWithin (bit_and a b) b
 within_second a b = and_assoc b a b ∙ ap (λ (x : ℕ). bit_and a x) (and_self b)
 
--- rights among rights that are among others
+-- subsets are transitive
 within-trans : (a b c : ℕ) → IsWithin a b → IsWithin b c → IsWithin a c
 within-trans a b c p q = ap (λ (x : ℕ). bit_and x c) (sym p) ∙ and_assoc c a b ∙ ap (λ (x : ℕ). bit_and a x) q ∙ p
 
--- no rights are among any
+-- no rights are a subset of any
 within_none : (a : ℕ) → IsWithin 0 a
 within_none a = let le = and_le_l 0 a in omega arith
 
--- the same rights
+-- rights equal to a subset are a subset
 within_same : (a b c : ℕ) → a ≡ b → IsWithin b c → IsWithin a c
 within_same a b c e p = subst (λ (x : ℕ). IsWithin x c) (sym e) p
 

@@ -4,22 +4,22 @@ use Rattle.krb_disk.specs.declared.looks.device.Device.{Device}
 use Rattle.krb_disk.specs.declared.looks.device.Place.{Place}
 use Rattle.krb_disk.specs.declared.looks.device.Mounted.{Mounted}
 
--- the device of a number, as Linux puts one together: from the lowest bit on 8 of the minor, 12 of the major, 24 of the minor and 20 of the major
+-- the device of a number as Linux encodes it: from the lowest bit, 8 bits of the minor, 12 of the major, 24 of the minor and 20 of the major
 abbrev pub device_number : ℕ → Device
 device_number number = record {
   major = number / 2 ^ 8 % 2 ^ 12 + number / 2 ^ 44 * 2 ^ 12;
   minor = number % 2 ^ 8 + number / 2 ^ 20 % 2 ^ 24 * 2 ^ 8;
 }
 
--- these are one device
+-- both are the same device
 abbrev pub is_same_device : Device → Device → Bool
 is_same_device one other = (one.major == other.major) && (one.minor == other.minor)
 
--- a lock on that device may be on the file's: it is the one that a look at the file gave or the mount's or, where the mount is not known, no disk's as the file's own
+-- a lock on that device may be on the file's: it is the device in `stat` of the file, or the mount's, or, if the mount is unknown, both majors are 0
 abbrev pub is_on_device : Device → Option Device → Device → Bool
 is_on_device own (Some mount) device = is_same_device device own || is_same_device device mount
 is_on_device own None device = is_same_device device own || ((device.major == 0) && (own.major == 0))
 
--- so is the whole place
+-- that place is, or may be, the file's: its inode, on a device that may be the file's
 abbrev pub is_place_of : Mounted → Place → Bool
 is_place_of file place = (place.inode == file.inode) && is_on_device file.device file.mount place.device

@@ -1,13 +1,13 @@
--- What looks at files say of them.
+-- What is seen of files.
 use Rattle.std.specs.Prelude.{◌≡◌, ◌⊎◌, ℕ, Option, None, Some, bit_and}
 use Rattle.krb_disk.specs.declared.looks.Found.{Found}
 
--- these are of one file
+-- both are the same file
 pub record IsSameFile (one other : Found) : Type 0 where
   pub device : one.device ≡ other.device
   pub inode : one.inode ≡ other.inode
 
--- these are of one file that was not changed; its kind is a part of its mode
+-- both are the same file, unchanged; its type is a part of its mode
 pub record IsUnchanged (old new : Found) : Type 0 where
   pub device : old.device ≡ new.device
   pub inode : old.inode ≡ new.inode

@@ -1,11 +1,11 @@
--- The new file beside one that is to be saved.
+-- The new file beside one to be saved.
 use Rattle.std.specs.Prelude.{◌≡◌, ℕ, List, [], ◌∷◌, String, string_bytes}
 use Rattle.krb_disk.specs.declared.calls.NewFile.{NewFile}
 use Rattle.krb_disk.specs.declared.new_file.Attempt.{Attempt}
 use Rattle.krb_disk.specs.declared.new_file.Attempt.TheVariants as attempt
 use Rattle.krb_disk.specs.declared.stage.Stage.TheVariants.{Held}
 
--- it is held under that name
+-- it is held, and is the file of that name
 pub record IsHeldAt {A F : Type 0} (path : List ℕ) (file : NewFile (String A) F) : Type 0 where
   pub named : string_bytes file.path ≡ path
   pub stage : file.stage ≡ Held
@@ -15,7 +15,7 @@ pub record IsFilled {A F : Type 0} (path bytes : List ℕ) (file : NewFile (Stri
   pub named : string_bytes file.path ≡ path
   pub written : file.written.entries ≡ (path, bytes) ∷ []
 
--- a new file that was made and locked is held under that name
+-- if the new file was created and locked, it is held, and is the file of that name
 abbrev pub HoldsAt : {A F : Type 0} → List ℕ → Attempt (NewFile (String A) F) → Type 0
 HoldsAt path (attempt.Locked file) = IsHeldAt path file
 HoldsAt path _ = Unit {0}

@@ -8,34 +8,34 @@ use Rattle.krb_disk.specs.declared.stage.Stage.TheVariants.{Locked, Agreed, Writ
 use Rattle.krb_disk.specs.Looks.{IsPlainOrNone}
 use Rattle.krb_disk.specs.Mode.{IsNewMode}
 
--- the mode of a file that no other may use
+-- the mode of a file that only its owner may use
 abbrev pub private_mode : ℕ
 private_mode = 0o600
 
--- the mode due to the new file: by the owner and the group that it was told to have where it takes a file's place
+-- the mode due to the new file: if it replaces a file, by the owner and the group that the system reported of the new one
 abbrev pub IsDueMode : Option Found → Stage → ℕ → Type 0
 IsDueMode None Written mode = mode ≡ private_mode
 IsDueMode (Some old) (Told new) mode = IsNewMode (new.owner == old.owner) (new.group == old.group) old.mode mode
 IsDueMode _ _ mode = ⊥
 
--- after it was found under its name
+-- the stage after it was found under its name
 abbrev pub stood : Stage → Stage
 stood Locked = Agreed
 stood (Synced old) = Ours old
 stood _ = Ended
 
--- after what was seen was found under the old name
+-- the stage after the old file was found as it was seen
 abbrev pub compared : Stage → Stage
 compared (Ours old) = Same old
 compared _ = Lost
 
--- after the list of locks was read
+-- the stage after the list of locks was read
 abbrev pub watched : Bool → Stage → Stage
 watched true (Same old) = Quiet old
 watched false (Same old) = Synced old
 watched _ _ = Lost
 
--- after it was synced
+-- the stage after it was synced
 abbrev pub synced : Stage → Stage
 synced (Permitted old) = Synced old
 synced _ = Lost
@@ -53,18 +53,18 @@ seen_file Nothing = None
 seen_file (File found) = Some found
 seen_file (Loaded found bytes) = Some found
 
--- what was seen is that file with these bytes, and was loaded
+-- that file was loaded, with these bytes
 abbrev pub IsLoaded : {A : Type 0} → Found → List ℕ → Seen A → Type 0
 IsLoaded file bytes (Loaded found copy) = (found ≡ file) × (copy.items ≡ bytes)
 IsLoaded file bytes _ = ⊥
 
--- what was seen stood under the old name
+-- the old file was found as it was seen
 abbrev pub IsSame : Stage → Type 0
 IsSame (Same old) = Unit {0}
 IsSame (Quiet old) = Unit {0}
 IsSame _ = ⊥
 
--- and no program had locked it, and it is a plain file, if there was one
+-- it was, no program had locked it, and it was a plain file or missing
 abbrev pub IsQuiet : Stage → Type 0
 IsQuiet (Quiet old) = IsPlainOrNone old
 IsQuiet _ = ⊥

@@ -1,4 +1,4 @@
-//! What is asked of the system and changes something, or decides that it may be changed.
+//! The system calls that change a file, or decide whether it may be changed.
 
 ghost use Rattle.std.specs.Prelude.{◌≡◌, [], IfOk, IfSome, OnOk, IsTrue, string_bytes};
 ghost use Rattle.std.specs.Io.KnownBytes.{Appends};
@@ -27,34 +27,34 @@ use std::io::{self, ErrorKind};
 use std::os::unix::fs::{OpenOptionsExt, PermissionsExt};
 use std::rt;
 
-/// The system, as it is asked to change files: nothing else here can ask it, and `rename` alone notes a save.
+/// The system calls of a save: nothing else in this crate can change a file, and only `rename` records a save.
 #[derive(Drop)]
 pub struct Calls<'a, R> {
     rt: &'a R,
     looks: Looks<'a, R>,
-    /// The saves that came to their end.
+    /// The completed saves.
     saved: Log,
 }
 
-/// The new file, which only these calls reach.
+/// The new file. Only these calls reach it.
 #[derive(Drop)]
 pub struct NewFile<S, F> {
-    /// The name under which it was made.
+    /// The path at which it was made.
     path: S,
     file: Noted<F>,
     stage: Stage,
-    /// The device of the mount on which it is, where that is known.
+    /// The device of its mount, if known.
     mount: Option<Device>,
     /// What was written to it.
     written: Log,
 }
 
-// What is told of an open file.
+// Returns what the system reports of an open file.
 fn tell<F: OpenFile>(file: &F) -> io::Result<Found> {
     Ok(Found::of(&file.metadata()?))
 }
 
-// Whether an open file still stands under that name.
+// Returns whether `path` still names an open file.
 fn stands_at<R: rt::Files>(looks: &Looks<'_, R>, path: &str, file: &R::File) -> io::Result<bool> {
     let opened = tell(file)?;
     match looks.look(path)? {
@@ -64,7 +64,7 @@ fn stands_at<R: rt::Files>(looks: &Looks<'_, R>, path: &str, file: &R::File) -> 
 }
 
 impl<'a, R: rt::Files> Calls<'a, R> {
-    /// No call yet.
+    /// Returns the calls on `rt`, with no save made yet.
     pub fn new(rt: &'a R) -> Calls<'a, R>
         ensures { result.saved.entries ≡ [] }
     {
@@ -75,14 +75,14 @@ impl<'a, R: rt::Files> Calls<'a, R> {
         }
     }
 
-    /// The system, to be looked at.
+    /// Returns the calls that change nothing.
     pub fn looks(&self) -> &Looks<'a, R> {
         &self.looks
     }
 }
 
 impl<R: rt::Files + Alloc> Calls<'_, R> {
-    /// Makes a file that no other may use, where there is none.
+    /// Creates a private file at `path`. Fails if something is there.
     pub fn make(&self, path: &str, mode: u32) -> io::Result<NewFile<String<R::A>, R::File>>
         requires private { mode ≡ private_mode }
         ensures path { IfOk result (λ file. string_bytes file.path ≡ path.now) }
@@ -101,7 +101,7 @@ impl<R: rt::Files + Alloc> Calls<'_, R> {
         })
     }
 
-    /// Whether the new file still stands under its name.
+    /// Returns whether the new file is still at its path.
     pub fn stands(&self, file: &mut NewFile<String<R::A>, R::File>) -> io::Result<bool>
         ensures stage { IfOk result (λ is. IsTrue is
             → file.new ≡ record file.old { stage = stood file.old.stage }) }
@@ -116,8 +116,7 @@ impl<R: rt::Files + Alloc> Calls<'_, R> {
         Ok(stands)
     }
 
-    /// Opens another handle of the new file, which is none of the standard streams, also where one of these is
-    /// closed.
+    /// Replaces the handle of the new file with a duplicate, which is never a standard stream, even if one is closed.
     pub fn double(&self, file: &mut NewFile<String<R::A>, R::File>) -> io::Result<()>
         requires agreed { file.old.stage ≡ Agreed }
         ensures stage { OnOk result (file.new.stage ≡ Held) }
@@ -152,7 +151,7 @@ impl<R: rt::Files + Alloc> Calls<'_, R> {
         Ok(())
     }
 
-    /// What is told of the new file.
+    /// Returns what the system reports of the new file.
     pub fn stat(&self, file: &mut NewFile<String<R::A>, R::File>) -> io::Result<Found>
         requires written { file.old.stage ≡ Written }
         ensures { IfOk result (λ found. file.new ≡ record file.old { stage = Told found }) }
@@ -162,7 +161,7 @@ impl<R: rt::Files + Alloc> Calls<'_, R> {
         Ok(found)
     }
 
-    /// Gives the new file the mode that is due where it takes the place of that file, or of none.
+    /// Sets the mode of the new file: the one due when it replaces the file `old`, or none.
     pub fn permit(
         &self,
         file: &mut NewFile<String<R::A>, R::File>,
@@ -180,7 +179,7 @@ impl<R: rt::Files + Alloc> Calls<'_, R> {
         Ok(())
     }
 
-    /// Lets the new file outlast a crash.
+    /// Syncs the new file, so that it survives a crash.
     pub fn sync(&self, file: &mut NewFile<String<R::A>, R::File>) -> io::Result<()>
         ensures { OnOk result (file.new ≡ record file.old { stage = synced file.old.stage }) }
     {
@@ -196,7 +195,7 @@ impl<R: rt::Files + Alloc> Calls<'_, R>
 where
     R::File: TakeLock,
 {
-    /// Locks the new file, and answers whether it was free. Where there are no locks, who made the file has it.
+    /// Locks the new file and returns whether it was free. On a file system without locks, having made it is enough.
     pub fn lock(&self, file: &mut NewFile<String<R::A>, R::File>) -> io::Result<bool>
         requires made { file.old.stage ≡ Made }
         ensures { IfOk result (λ is. IsTrue is → file.new ≡ record file.old { stage = Locked }) }
@@ -216,8 +215,8 @@ impl<R: rt::Files + Alloc> Calls<'_, R>
 where
     R::File: SetOwner,
 {
-    /// Gives the new file the group of the old one, and its owner too if one is given. The answer is whether that
-    /// was allowed.
+    /// Sets the group of the new file to that of the old one, and the owner too if `owner` is given. Returns whether
+    /// that was allowed.
     pub fn own(
         &self,
         file: &NewFile<String<R::A>, R::File>,
@@ -237,7 +236,7 @@ impl<R: rt::Files + Alloc> Calls<'_, R>
 where
     R::File: Numbered,
 {
-    /// Finds out on which mount the new file is, and so the old one.
+    /// Finds the device of the mount that the new file, and so the old one, is on.
     pub fn find_mount(&self, file: &mut NewFile<String<R::A>, R::File>) -> Result<(), DiskFault>
         ensures { OnOk result (file.new ≡ record file.old { mount = file.new.mount }) }
     {

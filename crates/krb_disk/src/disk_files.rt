@@ -1,4 +1,4 @@
-//! The files of a disk.
+//! Files on a disk, by name.
 
 ghost use Rattle.std.specs.Prelude.{◌≡◌, ◌≤◌, ◌<◌, true, false, [], ◌∷◌, None, is_some, OnOk, OnErr, IsSome};
 ghost use Rattle.krb_disk.specs.DiskFiles.{Disk, Fails, CountsLoad, CountsSave, AnswersFromDisk, SavesToDisk, left};
@@ -17,16 +17,16 @@ use std::alloc::Allocator;
 use std::marker::Model;
 use std::rt;
 
-/// The files of a disk. Nothing is known of what they hold; contracts see how many calls failed, what the last
-/// of them failed with, which saves made all their calls, and the mode of the file that was loaded last. A load reads the whole file. A save makes a new
-/// file of the bytes, which then takes the name: whatever fails, the file is the old or the new one. A file that
-/// is held is saved only while it is as it was loaded.
+/// The files on a disk. Contracts assume nothing of their contents; they see how many calls failed, the cause of the
+/// last failure, which saves made all their calls, the mode of the file loaded last, and whether one is held. A load
+/// reads the whole file. A save writes a new file and renames it over the old one: whatever fails, the file is the
+/// old or the new one. A held file is saved only if it is as it was when it was held or, later, loaded.
 #[derive(Drop)]
 pub struct DiskFiles<'a, R: rt::Files + Alloc> {
     calls: Calls<'a, R>,
     failures: u64,
     cause: Option<Cause>,
-    /// The permission bits of the file that was loaded last.
+    /// The permission bits of the file loaded last, if it is a plain file.
     mode: Option<u32>,
     held: Option<Held<R>>,
 }
@@ -42,12 +42,12 @@ impl<'a, R: rt::Files + Alloc> Model for DiskFiles<'a, R> {
       is_held = is_some files.held;
     } };
 
-    // A failure that was counted has a cause.
+    // A counted failure has a cause.
     ghost invariant = { λ files. 0 < files.failures → IsSome files.cause };
 }
 
 impl<'a, R: rt::Files + Alloc> DiskFiles<'a, R> {
-    /// The files that `rt` reaches, of which no call failed yet.
+    /// Returns the files that `rt` reaches, with no failed call yet.
     pub fn new(rt: &'a R) -> DiskFiles<'a, R>
         ensures { result ≡ record { failures = 0; cause = None; saved = []; mode = None; is_held = false } }
     {
@@ -60,7 +60,7 @@ impl<'a, R: rt::Files + Alloc> DiskFiles<'a, R> {
         }
     }
 
-    // Counts a failure, as far as a u64 counts.
+    // Counts a failure, up to the greatest u64, and notes its cause.
     fn count_failure(&mut self, cause: Cause)
         ensures fails { Fails self.old self.new }
         ensures count { self.old.failures ≤ self.new.failures }
@@ -76,7 +76,7 @@ impl<R: rt::Files + rt::Clock + Alloc> DiskFiles<'_, R>
 where
     R::File: SetOwner + TakeLock + Numbered,
 {
-    // The answer of a load that gives no bytes. A call that failed is counted.
+    // Returns the error of a load that returns no bytes, and counts the failed call, if there was one.
     fn refuse_load(&mut self, fault: ReadFault) -> LoadFault
         ensures exact { result ≡ load_fault fault }
         ensures counted { CountsLoad self.old fault self.new }
@@ -87,7 +87,7 @@ where
         fault.load_fault()
     }
 
-    // The answer of a save that was not made. A call that failed is counted.
+    // Returns the error of a save that was not made, and counts the failed call, if there was one.
     fn refuse_save(&mut self, fault: DiskFault) -> SaveFault
         ensures exact { result ≡ save_fault fault }
         ensures counted { CountsSave self.old fault self.new }

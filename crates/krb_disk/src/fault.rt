@@ -24,8 +24,8 @@ pub enum ReadFault {
     Disk(DiskFault),
 }
 
-// A call for which the system had no memory has failed as others do, and has a number. Without one, the program
-// itself had none.
+// An error of the system, even ENOMEM, has a number and is `Failed`. An `OutOfMemory` without a number means that an
+// allocation of the program failed.
 impl From<io::Error> for DiskFault {
     fn from(error: io::Error) -> DiskFault {
         match (error.kind(), error.raw_os_error()) {
@@ -52,7 +52,7 @@ impl From<DiskFault> for ReadFault {
 }
 
 impl ReadFault {
-    /// What a load answers then.
+    /// Returns the error of a load.
     pub fn load_fault(self) -> LoadFault
         ensures { result ≡ load_fault self }
     {
@@ -66,7 +66,7 @@ impl ReadFault {
 }
 
 impl DiskFault {
-    /// What a save answers then.
+    /// Returns the error of a save.
     pub fn save_fault(self) -> SaveFault
         ensures { result ≡ save_fault self }
     {

@@ -1,4 +1,4 @@
-//! A file that was to be held.
+//! The outcome of a hold.
 
 ghost use Rattle.std.specs.Prelude.{◌≡◌, ◌≤◌, IfOk, string_bytes, vec_len};
 
@@ -14,17 +14,17 @@ use krb_files::Cause;
 use std::alloc::Allocator;
 use std::rt;
 
-/// What came of a hold that was asked for.
+/// The outcome of taking a hold.
 #[derive(Drop)]
 pub enum Held<R: rt::Files + Alloc> {
     File(Hold<R>),
-    /// Why the file is not held, and cannot be saved.
+    /// Why the file is not held. It cannot be saved.
     Refused(DiskFault),
-    /// A pipe has this name. It is not opened either, since that may wait for ever.
+    /// This name is that of a pipe. It is not loaded either, since opening it may block for ever.
     Pipe(String<R::A>),
 }
 
-// Whether a name of which no hold was had leads to a pipe.
+// Returns whether a name that could not be held, by this fault, leads to a pipe.
 fn is_pipe<R: rt::Files>(looks: &Looks<'_, R>, name: &str, fault: DiskFault) -> bool {
     match fault {
         DiskFault::Failed(Cause::NotAPlainFile | Cause::NoName) => match looks.come_to(name) {
@@ -39,7 +39,7 @@ impl<R: rt::Files + rt::Clock + Alloc> Held<R>
 where
     R::File: SetOwner + TakeLock + Numbered,
 {
-    /// Holds a file, where that can be done.
+    /// Holds the file of that name, or returns why it cannot be held.
     pub fn take(calls: &Calls<'_, R>, name: &str) -> Held<R> {
         let fault = match Hold::take(calls, name) {
             Ok(hold) => return Held::File(hold),
@@ -54,7 +54,7 @@ where
         }
     }
 
-    /// Loads a file: the one that is held, if it is asked for by the same name.
+    /// Loads the file of that name: through the hold, if it was taken by the same name.
     pub fn load<A: Allocator>(
         &mut self,
         calls: &Calls<'_, R>,
@@ -74,7 +74,7 @@ where
         }
     }
 
-    /// The hold of that file, which is taken now where none was asked for before.
+    /// Returns the hold of that name. If the hold is of another name, releases it and takes one now.
     pub fn into_hold(self, calls: &Calls<'_, R>, name: &str) -> Result<Hold<R>, DiskFault>
         ensures { IfOk result (λ hold. string_bytes hold.target.name ≡ name.now) }
     {
@@ -91,7 +91,7 @@ where
         }
     }
 
-    /// Leaves the file to other programs.
+    /// Ends the hold, if there is one.
     pub fn release(self, calls: &Calls<'_, R>) {
         if let Held::File(hold) = self {
             hold.release(calls);

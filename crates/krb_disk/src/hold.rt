@@ -1,4 +1,4 @@
-//! A file that this program alone may change.
+//! A hold on a file, under which this program alone may change it.
 
 ghost use Rattle.std.specs.Prelude.{◌≡◌, ◌≤◌, ◌∷◌, ◌↔◌, IfOk, OnOk, OnErr, IsErrOf, IsTrue, string_bytes, vec_len};
 ghost use Rattle.std.specs.Path.{path_buf_bytes};
@@ -25,8 +25,8 @@ use krb_files::Cause;
 use std::alloc::Allocator;
 use std::rt;
 
-/// A file that this program alone may change, among all that hold a file before they change it: it has
-/// made and locked the new file beside it, `NAME.krbfile`.
+/// A held file: of the programs that hold a file before they change it, only this one may change it. It has created
+/// and locked the new file beside it, `NAME.krbfile`.
 #[derive(Drop)]
 pub struct Hold<R: rt::Files + Alloc> {
     target: Target<R::A>,
@@ -35,7 +35,7 @@ pub struct Hold<R: rt::Files + Alloc> {
     ghost is_held: { IsHeldAt (new_path (path_buf_bytes target.path)) new_file },
 }
 
-// Makes and locks the new file, once no other program has it.
+// Creates and locks the new file, after waiting for any other program that has it.
 fn make_new_file<R: rt::Files + rt::Clock + Alloc>(
     calls: &Calls<'_, R>,
     path: &str,
@@ -58,7 +58,7 @@ where
     Err(DiskFault::Failed(Cause::InUse))
 }
 
-// What stands under the name, where that is nothing or a plain file.
+// Returns the plain file at `path`, or `None` if nothing is there. Anything else is an error.
 fn see_plain<R: rt::Files>(calls: &Calls<'_, R>, path: &str) -> Result<Option<Found>, DiskFault>
     ensures { IfOk result IsPlainOrNone }
 {
@@ -68,7 +68,7 @@ fn see_plain<R: rt::Files>(calls: &Calls<'_, R>, path: &str) -> Result<Option<Fo
     }
 }
 
-// What stands under the name, once no program that holds no file, as MIT's, has locked it.
+// Returns the plain file at `path`, if any, once no program, as MIT's, has or awaits a record lock to write on it.
 fn wait_until_quiet<R: rt::Files + rt::Clock + Alloc>(
     calls: &Calls<'_, R>,
     path: &str,
@@ -89,7 +89,7 @@ fn wait_until_quiet<R: rt::Files + rt::Clock + Alloc>(
     Err(DiskFault::Failed(Cause::InUse))
 }
 
-// Finds out what the list of locks has for the file's device, and waits.
+// Finds the device by which the list of locks names the file, and waits until no program has locked it.
 fn first_look<R: rt::Files + rt::Clock + Alloc>(
     calls: &Calls<'_, R>,
     path: &str,
@@ -105,8 +105,8 @@ where
     wait_until_quiet(calls, path, new_file, patience)
 }
 
-// Whether no program has locked the file to change it, which is still the one that was seen, as the new one is
-// ours. Fails where one of these is not.
+// Returns whether no program has locked the file to change it. Fails unless the new file is still ours and the file
+// is still as it was seen.
 fn is_ready<R: rt::Files + rt::Clock + Alloc>(
     calls: &Calls<'_, R>,
     new_file: &mut NewFile<String<R::A>, R::File>,
@@ -126,8 +126,8 @@ fn is_ready<R: rt::Files + rt::Clock + Alloc>(
     calls.watch(new_file, patience)
 }
 
-// Fails where another program has put something else in the new file's place, has changed the file since
-// it was loaded, or keeps it locked to change it.
+// Fails if another program replaced or removed the new file, changed the file since it was seen, or keeps it locked
+// to change it.
 fn check<R: rt::Files + rt::Clock + Alloc>(
     calls: &Calls<'_, R>,
     new_file: &mut NewFile<String<R::A>, R::File>,
@@ -149,7 +149,7 @@ fn check<R: rt::Files + rt::Clock + Alloc>(
     Err(DiskFault::Failed(Cause::InUse))
 }
 
-// Fills the new file, and gives it the name of the old one.
+// Fills the new file and renames it over the old one.
 fn replace<R: rt::Files + rt::Clock + Alloc>(
     calls: &mut Calls<'_, R>,
     new_file: &mut NewFile<String<R::A>, R::File>,
@@ -173,7 +173,7 @@ impl<R: rt::Files + rt::Clock + Alloc> Hold<R>
 where
     R::File: SetOwner + TakeLock + Numbered,
 {
-    /// Holds the file to which a name leads, or the free name; waits where another program does.
+    /// Holds the file that `name` leads to, or a name that is free. Waits while another program holds it.
     pub fn take(calls: &Calls<'_, R>, name: &str) -> Result<Hold<R>, DiskFault>
         ensures { IfOk result (λ hold. string_bytes hold.target.name ≡ name.now) }
     {
@@ -194,14 +194,14 @@ where
         }
     }
 
-    /// Whether it was taken by that name.
+    /// Returns whether the hold was taken by that name.
     pub fn is_of(&self, name: &str) -> bool
         ensures { IsTrue result ↔ (string_bytes self.now.target.name ≡ name.now) }
     {
         self.target.name() == name
     }
 
-    /// Loads the file, and remembers which one that was, and its bytes.
+    /// Loads the file and keeps a snapshot of it: what was seen of it, and its bytes.
     pub fn load<A: Allocator>(
         &mut self,
         calls: &Calls<'_, R>,
@@ -226,7 +226,7 @@ where
         }
     }
 
-    /// Saves the bytes in the file, or fails and leaves it as it was.
+    /// Replaces the file's bytes, or fails and leaves it unchanged. Ends the hold.
     pub fn save(self, calls: &mut Calls<'_, R>, bytes: &[u8]) -> Result<(), DiskFault>
         ensures ok { OnOk result (calls.new.saved.entries
             ≡ (string_bytes self.target.name, bytes.now) ∷ calls.old.saved.entries) }
@@ -249,7 +249,7 @@ where
         }
     }
 
-    /// Leaves the file to other programs.
+    /// Ends the hold, so that other programs may change the file.
     pub fn release(self, calls: &Calls<'_, R>) {
         let Hold { mut new_file, .. } = self;
         let _ = remove_own(calls, &mut new_file);

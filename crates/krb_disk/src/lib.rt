@@ -1,4 +1,4 @@
-//! The files of a disk, each loaded and saved as a whole.
+//! Files on a disk, each loaded and saved as a whole.
 #![tactic(auto)]
 
 mod calls;

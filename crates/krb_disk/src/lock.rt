@@ -3,9 +3,9 @@
 use std::fs::{File, TryLockError};
 use std::io;
 
-/// An open file that can be locked. One open of a file has the lock at a time, until it is closed.
+/// An open file that can be locked, as by `flock`. One open of a file has the lock at a time, until it is closed.
 pub trait TakeLock {
-    /// Takes the lock, and says whether it was free.
+    /// Takes the lock if it is free, and returns whether it was. Does not wait.
     fn take_lock(&self) -> io::Result<bool>;
 }
 

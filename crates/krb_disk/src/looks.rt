@@ -1,4 +1,4 @@
-//! What is asked of the system and changes nothing.
+//! The system calls that change nothing.
 
 ghost use Rattle.std.specs.Prelude.{◌≡◌, ◌↔◌, IsTrue, bit_and};
 ghost use Rattle.krb_disk.specs.DiskFiles.{permissions};
@@ -16,10 +16,10 @@ use std::path::PathBuf;
 use std::time::{Duration, Instant};
 use std::{rt, thread};
 
-/// What the system tells of a file.
+/// What the system reports of a file, as `stat` does.
 #[derive(Clone, Copy, Drop)]
 pub struct Found {
-    /// The kind of file and the permissions.
+    /// The file type and the permission bits, as `st_mode`.
     pub mode: u32,
     pub owner: u32,
     pub group: u32,
@@ -48,7 +48,7 @@ impl Found {
         self.mode & 0o170000 == 0o100000
     }
 
-    /// The permission bits of a plain file.
+    /// Returns the permission bits of a plain file, or `None` of any other.
     pub fn permissions(&self) -> Option<u32>
         ensures { result ≡ permissions self.now }
     {
@@ -63,19 +63,19 @@ impl Found {
         self.mode & 0o170000 == 0o120000
     }
 
-    /// Whether it is a pipe with a name, whose open may wait for another program.
+    /// Returns whether it is a named pipe. Opening one may block.
     pub fn is_pipe(&self) -> bool {
         self.mode & 0o170000 == 0o010000
     }
 }
 
-/// The system, as far as it is looked at.
+/// The system, for calls that change nothing.
 #[derive(Drop)]
 pub struct Looks<'a, R> {
     rt: &'a R,
 }
 
-/// A file that was opened to be read.
+/// A file opened for reading.
 #[derive(Drop)]
 pub struct Opened<F> {
     file: F,
@@ -90,7 +90,7 @@ impl<F: Read> Read for Opened<F> {
 }
 
 impl<F: OpenFile> Opened<F> {
-    /// What is told of it.
+    /// Returns what the system reports of it.
     pub fn tell(&self) -> io::Result<Found> {
         Ok(Found::of(&self.file.metadata()?))
     }
@@ -101,7 +101,7 @@ impl<'a, R: rt::Files> Looks<'a, R> {
         Looks { rt }
     }
 
-    /// What stands under a name. A link is not followed.
+    /// Returns what is at `path`, or `None` if nothing is. A symbolic link is not followed.
     pub fn look(&self, path: &str) -> io::Result<Option<Found>> {
         match fs::symlink_metadata(self.rt, path) {
             Ok(found) => Ok(Some(Found::of(&found))),
@@ -110,12 +110,12 @@ impl<'a, R: rt::Files> Looks<'a, R> {
         }
     }
 
-    /// What a name leads to.
+    /// Returns the file that `name` leads to. Symbolic links are followed.
     pub fn come_to(&self, name: &str) -> io::Result<Found> {
         Ok(Found::of(&fs::metadata(self.rt, name)?))
     }
 
-    /// Opens a file to be read, if there is one.
+    /// Opens a file for reading. Returns `None` if there is none.
     pub fn open(&self, path: &str) -> io::Result<Option<Opened<R::File>>> {
         match fs::open(self.rt, path) {
             Ok(file) => Ok(Some(Opened { file })),
@@ -132,19 +132,19 @@ impl<R: Alloc> Looks<'_, R> {
 }
 
 impl<R: rt::Files + Alloc> Looks<'_, R> {
-    /// Where a symbolic link leads.
+    /// Returns the target of a symbolic link.
     pub fn follow(&self, path: &str) -> io::Result<PathBuf<R::A>> {
         fs::read_link(self.rt, path)
     }
 }
 
 impl<R: rt::Clock> Looks<'_, R> {
-    /// Lets some time pass.
+    /// Sleeps.
     pub fn pause(&self, time: Duration) {
         thread::sleep(self.rt, time);
     }
 
-    /// The time, where the clock can be read.
+    /// Returns the time of the monotonic clock, or `None` if it cannot be read.
     pub fn now(&self) -> Option<Instant> {
         Instant::now(self.rt).ok()
     }

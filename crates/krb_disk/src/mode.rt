@@ -1,4 +1,4 @@
-//! The mode of a file that takes another's place.
+//! The mode of a file that replaces another.
 
 ghost use Rattle.std.specs.Prelude.{◌≡◌, ◌<◌};
 ghost use Rattle.krb_disk.specs.Mode.{IsNewMode, GivesNoMore};
@@ -46,7 +46,7 @@ impl Rights {
         self.owner * 0o100 + self.group * 0o10 + self.others
     }
 
-    // Where the owner is another, the old one may be in the group or one of the others.
+    // If the owner changes, the old one may be in the group or one of the others.
     fn without_owner(self) -> Rights
         ensures owner { result.owner ≡ self.owner }
         ensures group { result.group ≡ bit_and self.group self.owner }
@@ -59,7 +59,7 @@ impl Rights {
         }
     }
 
-    // Where the group is another, who was in the old one is one of the others.
+    // If the group changes, a member of the old one is one of the others.
     fn without_group(self) -> Rights
         ensures owner { result.owner ≡ self.owner }
         ensures group { result.group ≡ 0 }
@@ -73,7 +73,7 @@ impl Rights {
     }
 }
 
-// What stays of a mode.
+// Returns what is kept of a mode.
 fn narrowed_mode(mode: u32, has: Inheritance) -> u32
     ensures { IsNewMode has.owner has.group mode result }
 {
@@ -86,7 +86,7 @@ fn narrowed_mode(mode: u32, has: Inheritance) -> u32
     }
 }
 
-/// The mode of a file that takes the place of one of this mode.
+/// Returns the mode of a file that replaces one of this mode.
 #[tactic(auto, using(crate::proofs::Within::gives_no_more))]
 pub fn new_mode(mode: u32, has: Inheritance) -> u32
     ensures exact { IsNewMode has.owner has.group mode result }

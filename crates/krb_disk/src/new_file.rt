@@ -1,4 +1,4 @@
-//! The new file beside one that is to be saved. Who has made and locked it may change that one.
+//! The new file beside one to be saved. The program that created and locked it may change that one.
 
 ghost use Rattle.std.specs.Prelude.{◌≡◌, IfOk, IsTrue, string_bytes};
 ghost use Rattle.krb_disk.specs.NewFile.{HoldsAt, IsHeldAt};
@@ -15,21 +15,20 @@ use crate::patience::Patience;
 use std::io::{self, ErrorKind};
 use std::rt;
 
-/// The mode of a file that was not there before, and of any while it is written.
+/// The mode of a file that did not exist before, and of any new file while it is written.
 pub const PRIVATE: u32 = 0o600;
 
-/// What came of a try to make the new file and to lock it.
+/// The outcome of a try to create and lock the new file.
 #[derive(Drop)]
 pub enum Attempt<F> {
     Locked(F),
-    /// Another program has it, or has just left it, or what a killed one left was removed: it may be tried
-    /// again.
+    /// Another program has it or has just released it, or a stale file was removed: try again.
     InUse,
-    /// Something that is not ours stands there.
+    /// Something that is not ours is there.
     InTheWay,
 }
 
-/// Removes a new file of ours, unless something else stands under its name.
+/// Removes our new file, unless its path no longer names it.
 pub fn remove_own<R: rt::Files + Alloc>(
     calls: &Calls<'_, R>,
     file: &mut NewFile<String<R::A>, R::File>,
@@ -40,7 +39,7 @@ pub fn remove_own<R: rt::Files + Alloc>(
     Ok(())
 }
 
-// Locks a file that was just made, and opens another handle of it. The answer is whether it is ours then.
+// Locks a file that was just created and duplicates its handle. Returns whether it is held then.
 fn lock_new<R: rt::Files + Alloc>(
     calls: &Calls<'_, R>,
     file: &mut NewFile<String<R::A>, R::File>,
@@ -57,8 +56,8 @@ where
     Ok(true)
 }
 
-// Removes a file that no program has locked, under a lock of its own. The answer is whether the new file may be
-// made now or soon.
+// Locks a stale file and removes it, if no program has it locked. Returns whether to try again to create the new
+// file.
 fn remove_abandoned<R: rt::Files + Alloc>(
     calls: &Calls<'_, R>,
     path: &str,
@@ -80,7 +79,7 @@ where
     Ok(true)
 }
 
-// Tells what stands where the new file is to be made, and removes it where a killed run left it.
+// Removes what a killed run left at the new file's path. Returns whether to try again to create the new file.
 fn clear_place<R: rt::Files + Alloc>(
     calls: &Calls<'_, R>,
     path: &str,
@@ -101,7 +100,7 @@ where
     }
 }
 
-// What stands where the new file is to be made is in use if a program has locked it.
+// Returns whether to try again to create the new file: its path is free or cleared, or what is there is locked.
 fn try_place<R: rt::Files + rt::Clock + Alloc>(
     calls: &Calls<'_, R>,
     path: &str,
@@ -121,7 +120,7 @@ where
     )
 }
 
-/// Tries to make the new file of that name, beside a file of that owner, and to lock it.
+/// Tries to create and lock the new file at `path`, beside a file of that owner.
 pub fn make_locked<R: rt::Files + rt::Clock + Alloc>(
     calls: &Calls<'_, R>,
     path: &str,

@@ -1,8 +1,8 @@
-//! Files that remember why a call failed.
+//! A file that keeps its last error.
 
 use std::io::{self, Read, Write};
 
-/// A file that remembers the error of its last read or write that failed.
+/// A file that keeps the error of its last failed read or write.
 #[derive(Drop)]
 pub struct Noted<F> {
     pub file: F,
@@ -12,14 +12,14 @@ pub struct Noted<F> {
 impl<F> Noted<F> {
     ghost use Rattle.std.specs.Prelude.{◌≡◌};
 
-    /// The file, of which no call failed yet.
+    /// Wraps a file, with no error yet.
     pub fn new(file: F) -> Noted<F>
         ensures { result.file ≡ file }
     {
         Noted { file, error: None }
     }
 
-    /// Why it failed. A write that took no byte has no error of its own.
+    /// Returns the last error, or `WriteZero` if there was none: a write that took no bytes has no error of its own.
     pub fn error(&self) -> io::Error {
         match self.error {
             Some(error) => error,

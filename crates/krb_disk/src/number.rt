@@ -1,9 +1,9 @@
-//! Files that the system knows by a number.
+//! Files with a file descriptor.
 
 use std::fs::File;
 use std::os::fd::AsRawFd;
 
-/// An open file that the system knows by a number: that of its descriptor.
+/// An open file with a file descriptor.
 pub trait Numbered {
     fn number(&self) -> i32;
 }

@@ -8,7 +8,7 @@ use std::os::unix::fs::fchown;
 
 /// An open file whose owner and group can be set.
 pub trait SetOwner {
-    /// Sets the owner and the group; none leaves it as it is.
+    /// Sets the owner and the group. `None` leaves that one unchanged.
     fn set_owner(&self, owner: Option<u32>, group: Option<u32>) -> io::Result<()>;
 }
 
@@ -18,8 +18,8 @@ impl SetOwner for File {
     }
 }
 
-// Whether an owner or a group is not to be had here: this user may not give it, the file system has none, or
-// none of this number.
+// Returns whether the error means that this owner or group cannot be set here: this user may not set it, or the file
+// system has no owners, or none of this number.
 fn is_refused(error: &io::Error) -> bool {
     match error.kind() {
         ErrorKind::PermissionDenied | ErrorKind::Unsupported | ErrorKind::InvalidInput => true,
@@ -27,7 +27,7 @@ fn is_refused(error: &io::Error) -> bool {
     }
 }
 
-/// Sets the owner and the group. The answer is whether that was allowed.
+/// Sets the owner and the group, and returns whether that was allowed.
 pub fn set_owner<F: SetOwner>(file: &F, owner: Option<u32>, group: u32) -> Result<bool, DiskFault> {
     match file.set_owner(owner, Some(group)) {
         Ok(()) => Ok(true),

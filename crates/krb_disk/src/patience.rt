@@ -1,4 +1,4 @@
-//! How long another program is waited for.
+//! How long to wait for another program.
 
 ghost use Rattle.std.specs.Prelude.{◌≡◌, ◌+◌, ◌≤◌, OnOk};
 
@@ -8,23 +8,23 @@ use krb_files::Cause;
 use std::rt;
 use std::time::{Duration, Instant};
 
-/// For how many seconds at most, before a file is loaded and again before it is saved.
+/// The most seconds of a wait. There is one before a file is loaded and one before it is saved.
 const MOST_SECONDS: u64 = 10;
 
-/// For how many where something that is not ours is in the way: a run of another user may be over soon.
+/// The most seconds if something that is not ours is in the way: a run of another user may end soon.
 const FEW_SECONDS: u64 = 1;
 
-/// How many milliseconds pass before the next try.
+/// How many milliseconds to sleep before the next try.
 const PAUSE: u64 = 5;
 
-/// How many tries come after the first at most. They take as long where nothing else does, and bound the wait
-/// where the clock cannot be read, or stands still.
+/// The most tries after the first. The sleeps alone add up to `MOST_SECONDS`, and the count bounds the wait if the
+/// clock cannot be read or does not advance.
 pub const MOST_TRIES: u32 = 2000;
 
-/// How many at most where something that is not ours is in the way.
+/// The most tries after the first if something that is not ours is in the way.
 const FEW_TRIES: u32 = 200;
 
-/// When a wait began, and how many tries came after the first.
+/// A wait: when it began, and how many tries there were after the first.
 #[derive(Drop)]
 pub struct Patience {
     start: Option<Instant>,
@@ -32,7 +32,7 @@ pub struct Patience {
 }
 
 impl Patience {
-    /// A wait that begins now.
+    /// Returns a wait that begins now.
     pub fn new<R: rt::Clock>(looks: &Looks<'_, R>) -> Patience
         ensures { result.tries ≡ 0 }
     {
@@ -42,7 +42,7 @@ impl Patience {
         }
     }
 
-    // Whether it has taken that long, as far as the clock says.
+    // Returns whether that many seconds passed, by the clock. False if the clock cannot be read.
     fn has_taken<R: rt::Clock>(&self, looks: &Looks<'_, R>, seconds: u64) -> bool {
         match (self.start, looks.now()) {
             (Some(start), Some(now)) => now.duration_since(start).as_secs() >= seconds,
@@ -50,17 +50,17 @@ impl Patience {
         }
     }
 
-    /// Whether it has taken a second.
+    /// True after 200 tries or a second.
     pub fn is_short<R: rt::Clock>(&self, looks: &Looks<'_, R>) -> bool {
         self.tries >= FEW_TRIES || self.has_taken(looks, FEW_SECONDS)
     }
 
-    /// Whether its time is over.
+    /// Returns whether its deadline passed, by the clock.
     pub fn is_over<R: rt::Clock>(&self, looks: &Looks<'_, R>) -> bool {
         self.has_taken(looks, MOST_SECONDS)
     }
 
-    /// Lets some time pass before the next try, or fails where none is left.
+    /// Sleeps before the next try, or fails with `InUse` if no try or no time is left.
     pub fn pause<R: rt::Clock>(&mut self, looks: &Looks<'_, R>) -> Result<(), DiskFault>
         ensures counted { OnOk result (self.new.tries ≡ self.old.tries + 1) }
         ensures most { OnOk result (self.new.tries ≤ 2000) }

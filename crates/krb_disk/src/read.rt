@@ -1,4 +1,4 @@
-//! Files that are read.
+//! Reads and compares files.
 
 ghost use Rattle.std.specs.Prelude.{◌≡◌, ◌≤◌, ◌++◌, IfOk, IfSome, IsTrue, vec_len};
 
@@ -13,7 +13,7 @@ use std::rt;
 /// How many bytes are compared at once.
 const PIECE: usize = 16_384;
 
-/// The file of that name, and its bytes, if they are at most `limit`, with room for so many more.
+/// Reads a file of at most `limit` bytes, with spare capacity for `room` more as far as `limit` allows.
 pub fn read_file<R: rt::Files, A: Allocator>(
     looks: &Looks<'_, R>,
     alloc: A,
@@ -38,7 +38,7 @@ pub fn read_file<R: rt::Files, A: Allocator>(
     }
 }
 
-// What bytes have behind those that they begin with.
+// Returns what follows the prefix `front` in `bytes`, or `None` if `bytes` does not begin with it.
 fn without_front<'a>(bytes: &'a [u8], front: &[u8]) -> Option<&'a [u8]>
     ensures { IfSome result (λ rest. bytes.now ≡ front.now ++ rest.now) }
 {
@@ -46,7 +46,7 @@ fn without_front<'a>(bytes: &'a [u8], front: &[u8]) -> Option<&'a [u8]>
     if begin == front { Some(rest) } else { None }
 }
 
-/// Whether a file has these bytes, and no others, from where it stands on.
+/// Returns whether exactly these bytes are left to read in a file.
 pub fn has_bytes<F: Read>(file: &mut F, bytes: &[u8]) -> io::Result<bool>
     ensures { IfOk result (λ has. IsTrue has → IfSome (F.remaining file.old) (λ left. left ≡ bytes.now)) }
 {

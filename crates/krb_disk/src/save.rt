@@ -1,4 +1,4 @@
-//! What a save writes.
+//! Fills the new file of a save.
 
 ghost use Rattle.std.specs.Prelude.{◌≡◌, Some, OnOk, string_bytes};
 ghost use Rattle.std.specs.Io.KnownBytes.{Appends};
@@ -13,7 +13,7 @@ use crate::new_file::PRIVATE;
 use crate::owner::SetOwner;
 use std::rt;
 
-// Gives a new file the owner and the group of the old one, as far as that is allowed.
+// Sets the owner and the group of the new file to those of the old one, or the group alone, as far as that is allowed.
 fn give_owner<R: rt::Files + Alloc>(
     calls: &Calls<'_, R>,
     file: &NewFile<String<R::A>, R::File>,
@@ -29,7 +29,7 @@ where
     Ok(())
 }
 
-// Gives a new file what it inherits from the old one, and the mode that this leaves.
+// Sets the owner and the group of the new file as far as allowed, and the mode due after that.
 fn inherit<R: rt::Files + Alloc>(
     calls: &Calls<'_, R>,
     file: &mut NewFile<String<R::A>, R::File>,
@@ -49,7 +49,7 @@ where
     Ok(calls.permit(file, Some(old), new_mode(old.mode, has))?)
 }
 
-// Gives a new file its owner and its mode.
+// Sets the owner, the group and the mode of the new file.
 fn give_mode<R: rt::Files + Alloc>(
     calls: &Calls<'_, R>,
     file: &mut NewFile<String<R::A>, R::File>,
@@ -66,7 +66,7 @@ where
     }
 }
 
-/// Writes the new file whole, with the mode that it is to have.
+/// Writes the whole new file, sets its owner and mode, and syncs it.
 pub fn fill<R: rt::Files + Alloc>(
     calls: &Calls<'_, R>,
     new: &mut NewFile<String<R::A>, R::File>,

@@ -1,4 +1,4 @@
-//! What is known of a file that is held.
+//! A snapshot of a held file.
 
 ghost use Rattle.std.specs.Prelude.{◌≡◌, IsTrue, IfOk, IfSome};
 ghost use Rattle.krb_disk.specs.Looks.{IsPlainOrNone};
@@ -14,8 +14,8 @@ use std::io::{self, Read};
 use std::rt;
 use wiping::Wiping;
 
-/// What stood under a name when it was held or, if it was loaded since then, what was loaded, in memory that is
-/// cleared before it is given back.
+/// A snapshot: what was at a path when it was held or, if it was loaded since, what was loaded. The bytes are cleared
+/// before their memory is freed.
 #[derive(Drop)]
 pub enum Seen<A: Allocator> {
     Nothing,
@@ -23,7 +23,7 @@ pub enum Seen<A: Allocator> {
     Loaded(Found, Vec<u8, Wiping<A>>),
 }
 
-// Whether what was opened is that file, and has these bytes.
+// Returns whether the open file is that file, unchanged, with these bytes.
 fn has_content<F: OpenFile + Read>(
     opened: &mut Opened<F>,
     file: &Found,
@@ -35,7 +35,7 @@ fn has_content<F: OpenFile + Read>(
     Ok(is_unchanged(file, &opened.tell()?) && has_bytes(opened, bytes)?)
 }
 
-// Whether a name leads to that file, which has these bytes.
+// Returns whether `path` leads to that file, unchanged, with these bytes.
 fn leads_to<R: rt::Files>(
     looks: &Looks<'_, R>,
     path: &str,
@@ -49,7 +49,7 @@ fn leads_to<R: rt::Files>(
 }
 
 impl<A: Allocator> Seen<A> {
-    /// What a look at the name found.
+    /// Returns a snapshot of what was found, without bytes.
     pub fn of(found: Option<Found>) -> Seen<A>
         ensures { seen_file result ≡ found }
     {
@@ -59,7 +59,7 @@ impl<A: Allocator> Seen<A> {
         }
     }
 
-    /// A file that was loaded, and a copy of its bytes.
+    /// Returns a snapshot of a file that was loaded, with a copy of its bytes.
     pub fn loaded(alloc: A, file: Found, bytes: &[u8]) -> Result<Seen<A>, DiskFault>
         ensures { IfOk result (λ seen. IsLoaded file bytes.now seen) }
     {
@@ -67,7 +67,7 @@ impl<A: Allocator> Seen<A> {
         Ok(Seen::Loaded(file, copy))
     }
 
-    /// The file, if there was one.
+    /// Returns the file, if there was one.
     pub fn file(&self) -> Option<Found>
         ensures { result ≡ seen_file self.now }
     {
@@ -78,8 +78,8 @@ impl<A: Allocator> Seen<A> {
         }
     }
 
-    /// Whether this is what stands under the name now: nothing, or a plain file. A link does not count as the
-    /// file that it leads to.
+    /// Returns whether this is still what is at `path`: nothing, or the same plain file. A symbolic link does not count
+    /// as the file that it leads to.
     pub fn is_at<R: rt::Files>(&self, looks: &Looks<'_, R>, path: &str) -> Result<bool, DiskFault>
         ensures { IfOk result (λ is. IsTrue is → IsPlainOrNone (seen_file self.now)) }
     {

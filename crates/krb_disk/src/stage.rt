@@ -1,40 +1,40 @@
-//! How far a new file has come.
+//! The stages of a new file.
 
 ghost use Rattle.std.specs.Prelude.{◌≡◌};
 ghost use Rattle.krb_disk.specs.Stages.{stood, compared, watched, synced, IsFound};
 
 use crate::looks::Found;
 
-/// How far a new file has come: what was asked of it last, and what was answered.
+/// The stage of a new file: the last call on it, and what that returned.
 #[derive(Clone, Copy, Drop)]
 pub enum Stage {
     Made,
     Locked,
-    /// It was locked, and stands under its name.
+    /// It was locked, and then found at its path.
     Agreed,
-    /// Another handle of it is open, which is none of the standard streams.
+    /// Its handle was duplicated, and is no standard stream.
     Held,
     /// It has the bytes.
     Written,
-    /// This was told of it since then.
+    /// Since then the system reported this of it.
     Told(Found),
-    /// It has the mode due to a file that takes the place of this one, or of none.
+    /// It has the mode due to a file that replaces this one, or none.
     Permitted(Option<Found>),
     Synced(Option<Found>),
-    /// It was synced, and stands under its name.
+    /// It was synced, and then found at its path.
     Ours(Option<Found>),
-    /// And what was seen of the old file stands under the old one's name.
+    /// And then the old file was found as it was seen.
     Same(Option<Found>),
-    /// And since then no program had locked that one to write in it.
+    /// And then no program had a lock to write on the old file.
     Quiet(Option<Found>),
-    /// It stands under its name, and is not to be saved.
+    /// It was found at its path, and is not to be saved.
     Ended,
-    /// It has the old file's name, or something else has its own, or a call failed.
+    /// It was renamed over the old file, it is no longer at its path, or a comparison or a call failed.
     Lost,
 }
 
 impl Stage {
-    /// Where it stands under its name.
+    /// Returns the stage after it was found at its path.
     pub fn stood(self) -> Stage
         ensures exact { result ≡ stood self }
         ensures found { IsFound result }
@@ -46,7 +46,7 @@ impl Stage {
         }
     }
 
-    /// Where what was seen is still there.
+    /// Returns the stage after the old file was found as it was seen.
     pub fn compared(self) -> Stage
         ensures { result ≡ compared self }
     {
@@ -56,7 +56,7 @@ impl Stage {
         }
     }
 
-    /// Where the list of locks was read. If a program has the old file, all is looked at again.
+    /// Returns the stage after the list of locks was read. If the old file is locked, all is checked again.
     pub fn watched(self, is_quiet: bool) -> Stage
         ensures { result ≡ watched is_quiet self }
     {
@@ -67,7 +67,7 @@ impl Stage {
         }
     }
 
-    /// Where it was synced.
+    /// Returns the stage after it was synced.
     pub fn synced(self) -> Stage
         ensures { result ≡ synced self }
     {

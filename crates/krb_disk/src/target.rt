@@ -1,4 +1,4 @@
-//! Where a save goes.
+//! The target of a save.
 
 ghost use Rattle.std.specs.Prelude.{◌≡◌, ◌≢◌, [], string_bytes, IfOk, IfSome, OnOk, bit_and};
 ghost use Rattle.std.specs.Path.{path_buf_bytes, path_parent};
@@ -13,41 +13,41 @@ use std::io::{self, ErrorKind};
 use std::path::PathBuf;
 use std::rt;
 
-/// How many symbolic links are followed at most, as many as Linux does.
+/// The most symbolic links that are followed, as in Linux.
 const MOST_LINKS: usize = 40;
 
-/// How often links are followed that lead elsewhere meanwhile, as where another run has just saved the file.
+/// How often links are followed at most if they lead elsewhere meanwhile, as when another run just saved the file.
 const MOST_WAYS: usize = 10;
 
-/// What the name of a new file has behind that of the old one.
+/// What is appended to the old file's name for that of the new one.
 const SUFFIX: &str = ".krbfile";
 
-/// The place of a file that is to be changed.
+/// The target of a save: a file to be changed, or a free name.
 #[derive(Drop)]
 pub struct Target<A: Allocator> {
-    /// The name by which it was asked for.
+    /// The name that was given, before links were followed.
     name: String<A>,
     path: PathBuf<A>,
-    /// What is known of the file that stands there.
+    /// What was seen of the file at `path`, if one is there.
     old: Option<Found>,
 }
 
 impl<A: Allocator> Target<A> {
-    /// The name by which it was asked for.
+    /// Returns the name that was given, before links were followed.
     pub fn name(&self) -> &str
         ensures { result.now ≡ string_bytes self.now.name }
     {
         self.name.as_str()
     }
 
-    /// Where it stands.
+    /// Returns its path, after links were followed.
     pub fn path(&self) -> &str
         ensures { result.now ≡ path_buf_bytes self.now.path }
     {
         self.path.as_str()
     }
 
-    /// The folder in which it stands.
+    /// Returns the folder of its path, `.` for a name alone.
     pub fn folder(&self) -> &str
         ensures { result.now ≡ folder (path_parent (path_buf_bytes self.now.path)) }
     {
@@ -57,7 +57,7 @@ impl<A: Allocator> Target<A> {
         }
     }
 
-    /// The name of the new file, beside the old one.
+    /// Returns the path of the new file, beside the old one.
     pub fn new_path<B: Allocator>(&self, alloc: B) -> Result<String<B>, AllocError>
         ensures { IfOk result (λ name. string_bytes name ≡ new_path (path_buf_bytes self.now.path)) }
     {
@@ -66,15 +66,14 @@ impl<A: Allocator> Target<A> {
         Ok(name)
     }
 
-    /// The user who owns the file, if there is one.
+    /// Returns the user who owns the file, if there is one.
     pub fn owner(&self) -> Option<u32> {
         self.old.as_ref().map(|old| old.owner)
     }
 }
 
-/// Follows symbolic links from a name to the file or the free name that they lead to. What is there but
-/// is no plain file is refused, and so are too many links, one of /proc that leads to no name, and the name
-/// of a new file.
+/// Follows symbolic links from a name to the plain file or the free name that they lead to. Anything else there is an
+/// error, and so are too many links, a link of /proc to a file without a name, and the name of a new file.
 pub fn find_target<R: rt::Files + Alloc>(
     looks: &Looks<'_, R>,
     name: &str,
@@ -95,7 +94,7 @@ pub fn find_target<R: rt::Files + Alloc>(
     Err(DiskFault::Failed(Cause::NoName))
 }
 
-// What was asked for stands there. The name of a new file is no target.
+// Returns the target at `path`, unless that is the name of a new file.
 fn target_at<A: Allocator>(
     alloc: A,
     name: &str,
@@ -112,7 +111,7 @@ fn target_at<A: Allocator>(
     Ok(Target { name, path, old })
 }
 
-// Goes from link to link by their texts: to where the last one leads, and what is known of the file there.
+// Follows links by their texts. Returns where the last one leads, and what was seen of the file there.
 fn follow_links<R: rt::Files + Alloc>(
     looks: &Looks<'_, R>,
     name: &str,
@@ -130,7 +129,7 @@ fn follow_links<R: rt::Files + Alloc>(
     Err(DiskFault::Failed(Cause::TooManyLinks))
 }
 
-// Goes one symbolic link further.
+// Follows one symbolic link.
 fn follow<R: rt::Files + Alloc>(
     looks: &Looks<'_, R>,
     path: &mut PathBuf<R::A>,
@@ -142,13 +141,13 @@ fn follow<R: rt::Files + Alloc>(
     }
 }
 
-// Whether the text of a link is not UTF-8, which the system does not mind.
+// Returns whether the error means that the text of a link is not UTF-8, which the system allows.
 fn is_no_text(error: &io::Error) -> bool {
     error.kind() == ErrorKind::InvalidFilename && error.raw_os_error().is_none()
 }
 
-// Whether the system comes from a name to that file, as its links' texts say. A link of /proc leads to an
-// open file, also to one that has no name any more.
+// Returns whether the system, too, follows `name` to that file, or to none. A link of /proc leads to an open file,
+// even one that no longer has a name.
 fn leads_to<R: rt::Files>(
     looks: &Looks<'_, R>,
     name: &str,

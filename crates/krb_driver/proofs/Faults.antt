@@ -1,4 +1,4 @@
--- What is wrong with the text of a name is never memory.
+-- A fault in the text of a name is never that memory ran out.
 use Rattle.std.proofs.Common.{◌≡◌, ◌⊎◌, inl, inr, ℕ, List, [], ◌∷◌, ◌++◌, append-nil, Option, Some, None, Result, Ok, Err, ap, subst, ◌∙◌}
 use Rattle.std.specs.Prelude.{IsOk, unwrap_or}
 use Rattle.std.specs.List.{filter_map, cons_option}
@@ -35,7 +35,7 @@ first_fault-cons : (o : Option NameFault) (rest others : List NameFault) → IsO
 first_fault-cons None rest others o h = h
 first_fault-cons (Some fault) rest others o h = o
 
--- the first of what is wrong with some atoms, or of what comes after them
+-- the first fault of some atoms, or else of what comes after them, is one of the text
 first_fault-filter_map : (f : Atom → Option NameFault) → ((a : Atom) → IsOfText (f a)) → (as' : List Atom) (others : List NameFault) → IsOfText (first_fault others)
     → IsOfText (first_fault (filter_map f as' ++ others))
 first_fault-filter_map f each [] others h = h
@@ -56,7 +56,7 @@ faults-is_of_text text =
     let realm = subst (λ l. IsOfText (first_fault l)) (append-nil (filter_map realm_fault behind)) (first_fault-filter_map realm_fault realm_is_of_text behind [] tt) in
     first_fault-filter_map component_fault component_is_of_text (before_at text) (filter_map realm_fault behind) realm
 
--- where memory ran out the text has a name
+-- if memory ran out, the text has a name
 pub ran_out_at_a_name : (text : List ℕ) (realm : Option (List ℕ)) (fault : NameFault) → fault ≡ NoMemory → (name_of text realm ≡ Err fault) ⊎ ((fault ≡ NoMemory) × IsOk (name_of text realm)) → IsOk (name_of text realm)
 ran_out_at_a_name text realm fault is (inl e) =
     let at_fault = name_or_fault-is_of_text (first_fault (faults_of (atoms text))) (realm_of (atoms text) realm) (components_of (atoms text)) (faults-is_of_text (atoms text)) in

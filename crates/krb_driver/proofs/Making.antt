@@ -1,4 +1,4 @@
--- How what is made follows a plan.
+-- What was made of the files follows the plan.
 use Rattle.std.proofs.Common.{◌≡◌, ◌⊎◌, inl, inr, ◌∙◌, ℕ, Bool, List, [], ◌∷◌, refl, sym, ap, subst}
 use Rattle.std.specs.Prelude.{Option, None, Some, Result, Ok, Err, is_ok}
 use Rattle.std.proofs.lemmas.Bool.{false≢true, true≢false}
@@ -14,18 +14,18 @@ use Rattle.krb_driver.specs.Effects.{CommandPlan, Effect, Fails, IsMade, IsSpent
 use Rattle.krb_driver.specs.Opening.{or_refused, unless_refused}
 use Rattle.krb_files.proofs.PlanLaws.{loaded-none}
 
--- the effect that a trouble makes
+-- the effect of an error
 abbrev fails_of : {X : Type 0} → Result X (List ℕ × Trouble) → Effect
 fails_of (Ok x) = Fails [] trouble.NoMemory
 fails_of (Err met) = Fails met.0 met.1
 
--- what was given, whatever the file
+-- what was given, without the file's name
 abbrev no_file : {X : Type 0} → Result X (List ℕ × Trouble) → Result X Trouble
 no_file (Ok x) = Ok x
 no_file (Err met) = Err met.1
 
 module _ {X : Type 0} (file : List ℕ) (then_ : X → CommandPlan) where
-  -- how a command goes on that opened a file
+  -- how a command that opened a file goes on
   by-opens : (gives : Answer → Result X Trouble) (answer : Answer) (rest : List Answer) → gives (Err load.Failed) ≡ Err trouble.FileNotRead → gives (Err load.NoMemory) ≡ Err trouble.NoMemory
       → by faults (opens file gives then_) (answer ∷ rest) ≡ by faults (goes_on file (gives answer) then_) rest
   by-opens gives (Ok bytes) rest failed spent = refl
@@ -43,7 +43,7 @@ module _ {X : Type 0} (file : List ℕ) (then_ : X → CommandPlan) where
   goes-ok x (Err e) is = absurd (true≢false (ap is_ok is))
 
   module _ {F : Type 0} (trait : Ghosts F) (old : F) (gives : Answer → Result X Trouble) where
-    -- some trouble with the file
+    -- the file gave nothing, but an error
     pub makes-failed : (name : List ℕ) (why : Trouble) (new : F) → GivesOf trait old file gives (Err (name, why)) new → Makes trait old (opens file gives then_) (Fails name why) new
     makes-failed name why new o = record {
       answers = o.answer ∷ [];
@@ -82,7 +82,7 @@ of-refused : {X : Type 0} (refusal : X → Option Code) (file : List ℕ) (given
 of-refused refusal file (Ok k) = or-refused file k (refusal k)
 of-refused refusal file (Err why) = refl
 
--- something was given, unless it refuses what a run asks for
+-- something was given, unless it has a refusal
 pub gives-unless : {F X : Type 0} (trait : Ghosts F) (old : F) (file : List ℕ) (gives : Answer → Result X Trouble) (refusal : X → Option Code) (given : Result X (List ℕ × Trouble)) (new : F) → GivesOf trait old file gives given new
     → GivesOf trait old file (λ answer. unless_refused trouble.Refused refusal (gives answer)) (unless_refused (λ code. (file, trouble.Refused code)) refusal given) new
 gives-unless trait old file gives refusal given new o = record {
@@ -116,7 +116,7 @@ gave-none : {X : Type 0} (Fair : X → Type 0) (file name : List ℕ) (why : Tro
 gave-none Fair file name why (Ok x) is = absurd (false≢true (ap is_ok is))
 gave-none Fair file name why (Err e) is = tt
 
--- of what was opened that was made, and something holds of it
+-- of what was opened the due effect was made, and `Fair` holds of it
 pub makes-fairly : {F X : Type 0} (trait : Ghosts F) (old : F) (file : List ℕ) (gives : Answer → Result X Trouble) (due : X → Effect) (Fair : X → Type 0) (x : X) (effect : Effect) (new : F)
     → GivesOf trait old file gives (Ok x) new → IsMade (due x) effect → IsSpent effect ⊎ Fair x → MakesFairly trait old (opens file gives (λ y. Ends (due y))) (fair_first gives Fair) effect new
 unfolding makes-opened
@@ -128,7 +128,7 @@ makes-fairly trait old file gives due Fair x effect new o made fair = record {
   ];
 }
 
--- where nothing was opened
+-- nothing was opened
 pub fairly-failed : {F X : Type 0} (trait : Ghosts F) (old : F) (file : List ℕ) (gives : Answer → Result X Trouble) (then_ : X → CommandPlan) (Fair : X → Type 0) (name : List ℕ) (why : Trouble) (new : F)
     → GivesOf trait old file gives (Err (name, why)) new → MakesFairly trait old (opens file gives then_) (fair_first gives Fair) (Fails name why) new
 unfolding makes-failed

@@ -19,7 +19,7 @@ find_word : (p : List ℕ → Bool) (words : List (Bor (List ℕ))) → option_m
 find_word p [] = refl
 find_word p (word ∷ words) = find_word-here word (find (λ w. p w.now) words) (p word.now) ∙ ap (cond (p word.now) (Some word.now)) (find_word p words)
 
--- the word that was found is the text that is found
+-- the text of the word that was found is the text that is found
 pub found_word : (p : List ℕ → Bool) (words : List (Bor (List ℕ))) (found : Option (Bor (List ℕ))) → found ≡ find (λ w. p w.now) words → option_map (λ w. w.now) found ≡ find p (map (λ w. w.now) words)
 found_word p words found is = ap (option_map (λ (w : Bor (List ℕ)). w.now)) is ∙ find_word p words
 
@@ -27,6 +27,6 @@ filter_map_words : {X : Type 0} (h : List ℕ → Option X) (words : List (Bor (
 filter_map_words h [] = refl
 filter_map_words h (word ∷ words) = ap (cons_option (h word.now)) (filter_map_words h words)
 
--- what words spell is what their texts spell
+-- words spell what their texts spell
 pub spelled_words : {X : Type 0} (h : List ℕ → Option X) (words : List (Bor (List ℕ))) (xs : List X) → xs ≡ filter_map (λ w. h w.now) words → xs ≡ filter_map h (map (λ w. w.now) words)
 spelled_words h words xs are = are ∙ filter_map_words h words

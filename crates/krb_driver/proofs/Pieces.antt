@@ -1,4 +1,4 @@
--- A text that has a piece for each element of a list, on its way to a writer.
+-- A text that has a piece for each element of a list, as it is gathered and sent to a writer.
 use Rattle.std.proofs.Common.{◌≡◌, ℕ, suc, ◌+◌, add-one, ◌<◌, List, [], ◌∷◌, ◌++◌, Option, sym, ap, ◌∙◌, append_assoc, append-nil, length, get_or, take, drop, take-append-drop, subst}
 use Rattle.std.proofs.Math.Seq.{take-suc}
 use Rattle.std.proofs.lemmas.Grind.{flat_map-append}
@@ -12,7 +12,7 @@ use Rattle.krb_files.proofs.Prefixes.{Appends-trans, AppendsPrefix-all, AppendsP
 use Rattle.krb_driver.specs.Runs.{Says}
 
 module _ {X : Type 0} (piece : X → List ℕ) (xs : List X) (i : ℕ) where
-  -- one piece more
+  -- the first i + 1 pieces are the first i and one more
   flat_map-take-suc : (d : X) → i < length xs → flat_map piece (take (suc i) xs) ≡ flat_map piece (take i xs) ++ piece (get_or xs i d)
   flat_map-take-suc d lt = ap (flat_map piece) (take-suc xs i d lt) ∙ flat_map-append piece (take i xs) (get_or xs i d ∷ [])
       ∙ ap (λ l. flat_map piece (take i xs) ++ l) (append-nil (piece (get_or xs i d)))
@@ -21,7 +21,7 @@ module _ {X : Type 0} (piece : X → List ℕ) (xs : List X) (i : ℕ) where
   flat_map-take-drop : flat_map piece xs ≡ flat_map piece (take i xs) ++ flat_map piece (drop i xs)
   flat_map-take-drop = ap (flat_map piece) (sym (take-append-drop i xs)) ∙ flat_map-append piece (take i xs) (drop i xs)
 
--- some of what was gathered is sent, a text more is gathered, and then some more is sent
+-- some of what was gathered was sent, one more text was gathered, and some more was sent
 pub Sent-more : (a b c : Option (List ℕ)) (before gathered more after : List ℕ) → Sent a b before gathered → Sent b c (gathered ++ more) after → Sent a c (before ++ more) after
 Sent-more a b c before gathered more after p q = record {
   sent = p.sent ++ q.sent;
@@ -29,13 +29,13 @@ Sent-more a b c before gathered more after p q = record {
   parts = ap (λ l. l ++ more) p.parts ∙ append_assoc p.sent gathered more ∙ ap (λ l. p.sent ++ l) q.parts ∙ sym (append_assoc p.sent q.sent after);
 }
 
--- of the rest a prefix is sent
+-- a prefix of the rest was sent
 pub Sent-prefix : (a b c : Option (List ℕ)) (before gathered more : List ℕ) → Sent a b before gathered → AppendsPrefix b c (gathered ++ more) → AppendsPrefix a c (before ++ more)
 Sent-prefix a b c before gathered more p q =
     let whole = ap (λ l. l ++ more) p.parts ∙ append_assoc p.sent gathered more in
     subst (AppendsPrefix a c) (sym whole) (AppendsPrefix-after a b c p.sent (gathered ++ more) p.appends q)
 
--- all of the rest is sent
+-- all of the rest was sent
 pub Sent-all : (a b c : Option (List ℕ)) (before gathered : List ℕ) → Sent a b before gathered → Appends b c gathered → Appends a c before
 Sent-all a b c before gathered p q = subst (Appends a c) (sym p.parts) (Appends-trans a b c p.sent gathered p.appends q)
 
@@ -58,15 +58,15 @@ Sent-piece-prefix piece xs i d a b c start gathered lt p q =
 pub Sent-two : (a b c : Option (List ℕ)) (start first second gathered after : List ℕ) → Sent a b (start ++ first) gathered → Sent b c (gathered ++ second) after → Sent a c (start ++ (first ++ second)) after
 Sent-two a b c start first second gathered after p q = subst (λ l. Sent a c l after) (append_assoc start first second) (Sent-more a b c (start ++ first) gathered second after p q)
 
--- of two texts a prefix of the second was sent
+-- a prefix of the second of two texts was sent
 pub Sent-two-prefix : (a b c : Option (List ℕ)) (start first second gathered : List ℕ) → Sent a b (start ++ first) gathered → AppendsPrefix b c (gathered ++ second) → AppendsPrefix a c (start ++ (first ++ second))
 Sent-two-prefix a b c start first second gathered p q = subst (AppendsPrefix a c) (append_assoc start first second) (Sent-prefix a b c (start ++ first) gathered second p q)
 
--- of two texts a prefix of the first was sent
+-- a prefix of the first of two texts was sent
 pub AppendsPrefix-two : (a b : Option (List ℕ)) (start first second : List ℕ) → AppendsPrefix a b (start ++ first) → AppendsPrefix a b (start ++ (first ++ second))
 AppendsPrefix-two a b start first second p = subst (AppendsPrefix a b) (append_assoc start first second) (AppendsPrefix-longer a b (start ++ first) second p)
 
--- what was gathered is sent, and then a text
+-- what was gathered was sent, and then a text
 pub Sent-both : (a b c : Option (List ℕ)) (gathered text after : List ℕ) → Appends a b gathered → Appends b c text → after ≡ [] → Sent a c (gathered ++ text) after
 Sent-both a b c gathered text after p q none = record {
   sent = gathered ++ text;
@@ -74,7 +74,7 @@ Sent-both a b c gathered text after p q none = record {
   parts = sym (append-nil (gathered ++ text)) ∙ ap (λ l. (gathered ++ text) ++ l) (sym none);
 }
 
--- the rest of a text is put
+-- the rest of a text was put, or the writer failed
 pub Says-last : {T E : Type 0} (old mid new : Watch) (text gathered : List ℕ) (put : Result T E) → Sent old.contents mid.contents text gathered
     → OnOk put (Appends mid.contents new.contents gathered) → OnErr put (AppendsPrefix mid.contents new.contents gathered) → new.failed ≡ is_err put → Says old new text
 Says-last old mid new text gathered (Ok x) s all prefix failed =

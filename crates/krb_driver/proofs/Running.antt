@@ -24,7 +24,7 @@ is_spent (Err trouble.NoMemory) = true
 is_spent ending = false
 
 module _ (out out' : Watch) (ending : Ending) (spent : ending ≡ Err trouble.NoMemory) where
-  -- the output did not fail, so this was due
+  -- the output did not fail, so the run was to end out of memory
   due-spent : (failed : Bool) → failed ≡ out'.failed → (due : Run) → Shows due out out' ending → due.ending ≡ Err trouble.NoMemory
   due-spent true is due shows = absurd (false≢true (ap is_spent (sym (shows.failed (sym is)) ∙ spent)))
   due-spent false is due shows = sym ((shows.done (sym is)).1) ∙ spent
@@ -32,7 +32,7 @@ module _ (out out' : Watch) (ending : Ending) (spent : ending ≡ Err trouble.No
   verdict-shown : (page : Page) → Shows (record { out = page.out; ending = Ok page.verdict }) out out' ending → ⊥
   verdict-shown page shows = true≢false (sym (ap is_spent (due-spent out'.failed refl (record { out = page.out; ending = Ok page.verdict }) shows)))
 
-  -- a page that takes no memory does not end so
+  -- only a page that takes memory ends out of memory
   page-takes : (page : Page) → ShowsPage out out' ending page → IsTrue page.takes
   page-takes page (inl shows) = absurd (verdict-shown page shows)
   page-takes page (inr breaks) = breaks.0
@@ -87,7 +87,7 @@ module _ {F : Type 0} (trait : Ghosts F) (plan : CommandPlan) (old between new :
   keeps-due (Saves file bytes text verdict) end due s = keeps-saved file bytes text verdict s.0 end due s.1.0 s.1.1
 
 module _ {F : Type 0} (trait : Ghosts F) (plan : Option ℕ → CommandPlan) (Fairly : List Answer → Type 0) (old new : F) (end : Effect) (d : Does trait plan Fairly old new end) (h : trait.is_honest old) where
-  -- over honest files a command comes to what is due, or a call failed, or memory ran out
+  -- over honest files a command does what is due, or a call failed, or memory ran out
   pub does-keeps : Keeps trait (plan (trait.mode d.between)) old new end
   does-keeps =
       let p = plan (trait.mode d.between) in
@@ -104,14 +104,14 @@ module _ {F : Type 0} (trait : Ghosts F) (plan : Option ℕ → CommandPlan) (Fa
         ]
       ]
 
-  -- where memory runs out they are the same
+  -- if memory runs out, the files are the same
   pub does-spared : (out out' : Watch) (ending : Ending) → ending ≡ Err trouble.NoMemory → ShowsEnd out out' ending end → SameFiles (trait.file old) (trait.file new)
   does-spared out out' ending spent shows =
       let p = plan (trait.mode d.between) in
       let lasts = loaded-lasts trait faults p old d.makes.makes.answers d.between d.makes.makes.loads in
       same-trans (trait.file old) (trait.file d.between) (trait.file new) (lasts.same h) (settles-spared out out' ending spent trait d.between new (lasts.honest h) d.effect end d.settles shows)
 
--- what is left keeps what was done
+-- the release of the files keeps what was done
 keeps-left : {F : Type 0} (trait : Ghosts F) (plan : CommandPlan) (old done new : F) (end : Effect) → TurnsHold trait false done new → Keeps trait plan old done end → Keeps trait plan old new end
 keeps-left trait plan old done new end left (inl due) = inl (due.0, same-trans (files_after (trait.file old) (follow (trait.file old) plan)) (trait.file done) (trait.file new) due.1 left.same)
 keeps-left trait plan old done new end left (inr (inl failed)) =
@@ -120,7 +120,7 @@ keeps-left trait plan old done new end left (inr (inl failed)) =
     inr (inl (counted, (same-trans (trait.file old) (trait.file done) (trait.file new) failed.1.0 left.same, failed.1.1)))
 keeps-left trait plan old done new end left (inr (inr spent)) = inr (inr (same-trans (trait.file old) (trait.file done) (trait.file new) spent.0 left.same, spent.1))
 
--- a command came to an end, what it held was left, and the end was shown and told
+-- a command did its work, released what it held, showed what is left to show, and its end was reported
 pub runs-shown : {F : Type 0} (trait : Ghosts F) (plan : Option ℕ → CommandPlan) (Fairly : List Answer → Type 0) (old done new : F) (out out' : Watch) (err err' : ErrorWatch) (status : ℕ) (end : Effect) (ending : Ending)
     → Does trait plan Fairly old done end → TurnsHold trait false done new → ShowsEnd out out' ending end → Tells (about end) None ending err err' status → RunsCommand trait plan Fairly old new out out' err err' status
 runs-shown trait plan Fairly old done new out out' err err' status end ending d left shows told = record {

@@ -16,7 +16,7 @@ use Rattle.krb_driver.specs.ErrorOutput.{ErrorWatch}
 use Rattle.krb_driver.specs.Troubles.{Ending, ending_message}
 use Rattle.krb_files.specs.Reader.{Source, ConsumesAtMost, is_failed}
 
--- nothing was to be said
+-- nothing was to be written
 pub Says-nothing : (w : Watch) → Says w w []
 Says-nothing w = record { prefix = AppendsPrefix-none w.contents []; whole = λ _. Appends-nil w.contents }
 
@@ -25,7 +25,7 @@ words_if-nothing : (explains : Bool) → words_if explains [] ≡ []
 words_if-nothing true = refl
 words_if-nothing false = refl
 
--- nothing was to be said of a run that went well
+-- nothing was to be reported of a run that went well
 pub SaysEnd-nothing : (file : List ℕ) (line : Option ℕ) (err : ErrorWatch) → SaysEnd file line (Ok Well) err err
 SaysEnd-nothing file line err = record {
   cause = None;
@@ -33,7 +33,7 @@ SaysEnd-nothing file line err = record {
   still = refl;
 }
 
--- a message was said, with the words that are shown
+-- a message was written, with the words that are shown
 pub Says-words : (file : List ℕ) (line : Option ℕ) (cause : Option Cause) (ending : Ending) (err : ErrorWatch) (to : Watch) (words : List ℕ)
     → Says err.to to (ending_message file ending ++ words) → words ≡ words_if err.explains (ending_words file line cause ending) → Says err.to to (ending_text err.explains file line cause ending)
 Says-words file line cause ending err to words said are = subst (λ (w : List ℕ). Says err.to to (ending_message file ending ++ w)) are said

@@ -1,4 +1,4 @@
--- Pieces and the text behind them, what is said without words, and how a run ends that printed replies.
+-- Pieces and the text after them, messages without words, and the verdict of a run that printed replies.
 use Rattle.std.proofs.Common.{◌≡◌, ℕ, Bool, false, List, [], ◌∷◌, ◌++◌, refl, sym, ap, subst, ◌∙◌, append_assoc}
 use Rattle.std.specs.Prelude.{if◌then◌else◌, codes, Option}
 use Rattle.std.specs.List.{list_any}
@@ -23,7 +23,7 @@ pub pieces_text-append : (pieces : List Piece) (rest : List ℕ) → pieces_text
 pieces_text-append [] rest = refl
 pieces_text-append (p ∷ ps) rest = append_assoc (piece_text p) (pieces_text ps) rest ∙ ap (λ l. piece_text p ++ l) (pieces_text-append ps rest)
 
--- an end is that of the replies, where what it tells is what they tell
+-- a verdict is that of the replies if it reports what they report
 pub replied_verdict-by : {R : Type 0} (kind : FileKind) (said : R → Said) (replies : List R) (b : Bool) (codes : List (Option Code)) (faults : List (Option FaultKind))
     → b ≡ list_any (λ r. is_trouble (said r)) replies → codes ≡ codes_told said replies → faults ≡ faults_told said replies
     → (if b then Replied (record { kind = kind; codes = codes; faults = faults }) else Well) ≡ replied_verdict kind said replies
@@ -32,6 +32,6 @@ replied_verdict-by kind said replies b codes faults told codes_are faults_are =
     ap (λ (d : Bool). ends d codes faults) told ∙ ap (λ (cs : List (Option Code)). ends (list_any (λ r. is_trouble (said r)) replies) cs faults) codes_are
     ∙ ap (λ (ks : List (Option FaultKind)). ends (list_any (λ r. is_trouble (said r)) replies) (codes_told said replies) ks) faults_are
 
--- a bad command line is told without words
+-- a bad command line is reported without words
 pub Says-alone : (err : ErrorWatch) (to : Watch) (line : BadLine) → err.explains ≡ false → Says err.to to (message (codes "bad command line") ++ []) → Says err.to to (word_text err.explains (word.BadLine line))
 Says-alone err to line hides said = subst (λ (b : Bool). Says err.to to (word_text b (word.BadLine line))) (sym hides) said

@@ -22,17 +22,17 @@ use Rattle.krb_driver.specs.Troubles.{Ending}
 
 -- ---- what is made of the files
 
--- what a file gave, or some trouble with that file
+-- what a file gave, or the error with that file's name
 abbrev pub of_file : {X : Type 0} → List ℕ → Result X Trouble → Result X (List ℕ × Trouble)
 of_file file (Ok x) = Ok x
 of_file file (Err why) = Err (file, why)
 
--- that holds of what was opened, if something was
+-- `Fair` holds of what was opened, if something was
 abbrev pub FairOver : {X E : Type 0} → (X → Type 0) → Result X E → Type 0
 FairOver Fair (Ok x) = Fair x
 FairOver Fair (Err e) = Unit {0}
 
--- that holds of what the first load gave
+-- `Fair` holds of what the first load gave, if it gave something
 abbrev pub fair_first : {X : Type 0} → (Answer → Result X Trouble) → (X → Type 0) → List Answer → Type 0
 fair_first gives Fair [] = Unit {0}
 fair_first gives Fair (answer ∷ answers) = FairOver Fair (gives answer)
@@ -46,41 +46,41 @@ module _ {F : Type 0} (trait : Ghosts F) (old : F) where
     pub failed : gives (Err load.Failed) ≡ Err trouble.FileNotRead
     pub spent : gives (Err load.NoMemory) ≡ Err trouble.NoMemory
 
-  -- the files of a plan were loaded, and what it comes to by what they answered is this; or memory ran out
+  -- the files of a plan were loaded, and this is its effect by the results of the loads; or memory ran out
   pub record Makes (plan : CommandPlan) (effect : Effect) (new : F) : Type 0 where
     pub answers : List Answer
     pub loads : Loaded trait plan old answers new
     pub made : IsSpent effect ⊎ (effect ≡ by faults plan answers)
 
-  -- the same, and that holds of what they answered
+  -- the same, and `Fairly` holds of the results of the loads, unless memory ran out
   pub record MakesFairly (plan : CommandPlan) (Fairly : List Answer → Type 0) (effect : Effect) (new : F) : Type 0 where
     pub makes : Makes plan effect new
     pub fair : IsSpent effect ⊎ Fairly makes.answers
 
 module _ {F : Type 0} (trait : Ghosts F) (old : F) where
-  -- a file was opened: what is then made of it is what the plan makes that opens it, and where it gave nothing that trouble ends the plan
+  -- a file was opened: what `then_` makes of it is what the plan that opens it makes; an error ends the plan
   abbrev pub Opens : {X : Type 0} → List ℕ → (Answer → Result X Trouble) → Result X (List ℕ × Trouble) → F → Type 0
   Opens {X = X} file gives (Ok x) new = (then_ : X → CommandPlan) (effect : Effect) (end : F) → Makes trait new (then_ x) effect end → Makes trait old (opens file gives then_) effect end
   Opens {X = X} file gives (Err met) new = (then_ : X → CommandPlan) → Makes trait old (opens file gives then_) (Fails met.0 met.1) new
 
-  -- a file was held, if that was asked for: what is then made is what the plan makes that holds it
+  -- a file was held, if `held`: what a plan makes afterwards is what the plan that holds the file first makes
   abbrev pub HoldsIf : Bool → List ℕ → F → Type 0
   HoldsIf held file new = (plan : CommandPlan) (effect : Effect) (end : F) → Makes trait new plan effect end → Makes trait old (Holds held file plan) effect end
 
-  -- what was to be saved was saved or not, and the run ends so
+  -- what was to be saved was saved, or the save failed, and this is left to show
   abbrev pub Settles : Effect → F → Effect → Type 0
   Settles (Saves file bytes out verdict) new end =
       (answer : Result (Unit {0}) SaveFault) × (SavesFile trait old file bytes answer new × (end ≡ saved_end file out verdict answer))
   Settles effect new end = (new ≡ old) × (end ≡ effect)
 
--- a command came to an end: its plan by the mode of the file that was loaded last
+-- a command did all but show its end: its plan is that for the mode of the file that was loaded last
 pub record Does {F : Type 0} (trait : Ghosts F) (plan : Option ℕ → CommandPlan) (Fairly : List Answer → Type 0) (old new : F) (end : Effect) : Type 0 where
   pub effect : Effect
   pub between : F
   pub makes : MakesFairly trait old (plan (trait.mode between)) Fairly effect between
   pub settles : Settles trait between effect new end
 
--- over honest files a command came to what is due; or a call failed, which was counted, or memory ran out, and then the files are the same
+-- over honest files a command did what is due; or the files are the same, as a call failed, counted, or memory ran out
 abbrev pub Keeps : {F : Type 0} → Ghosts F → CommandPlan → F → F → Effect → Type 0
 Keeps trait plan old new end =
     ((end ≡ settled (follow (trait.file old) plan)) × SameFiles (files_after (trait.file old) (follow (trait.file old) plan)) (trait.file new))
@@ -89,24 +89,24 @@ Keeps trait plan old new end =
 
 -- ---- what is shown
 
--- a page was shown; or memory ran out before the end of one that takes some
+-- a page was printed; or memory ran out before the end of one that takes memory
 abbrev pub ShowsPage : Watch → Watch → Ending → Page → Type 0
 ShowsPage out out' ending page =
     let run : Run = record { out = page.out; ending = Ok page.verdict } in
     Shows run out out' ending ⊎ (IsTrue page.takes × BreaksOff run out out' ending)
 
--- an end was shown
+-- what is left to show was shown
 abbrev pub ShowsEnd : Watch → Watch → Ending → Effect → Type 0
 ShowsEnd out out' ending (Fails file why) = Shows (ends_by why) out out' ending
 ShowsEnd out out' ending (Displays file page) = ShowsPage out out' ending page
 ShowsEnd out out' ending (Saves file bytes out_ verdict) = ⊥
 
--- a page is shown that takes memory
+-- an effect shows a page that takes memory
 abbrev pub Takes : Effect → Type 0
 Takes (Displays file page) = IsTrue page.takes
 Takes effect = ⊥
 
--- a run of a command: what is saved and printed, and how it ends, is one function of what the files answered; nothing is held after it
+-- a run of a command: what it saves and prints and how it ends is a function of its calls' results; it then holds nothing
 pub record RunsCommand {F : Type 0} (trait : Ghosts F) (plan : Option ℕ → CommandPlan) (Fairly : List Answer → Type 0) (old new : F) (out out' : Watch) (err err' : ErrorWatch) (status : ℕ) : Type 0 where
   pub end : Effect
   pub ending : Ending
@@ -117,7 +117,7 @@ pub record RunsCommand {F : Type 0} (trait : Ghosts F) (plan : Option ℕ → Co
   pub told : Tells (about end) None ending err err' status
   -- over honest files
   pub honest : trait.is_honest old → Keeps trait (plan (trait.mode does.between)) old new end
-  -- where memory runs out
+  -- if memory runs out
   pub spared : ending ≡ Err trouble.NoMemory → trait.is_honest old → SameFiles (trait.file old) (trait.file new)
   pub quiet : ending ≡ Err trouble.NoMemory → Shows (ends_by trouble.NoMemory) out out' ending ⊎ Takes end
 
@@ -125,32 +125,32 @@ pub record RunsCommand {F : Type 0} (trait : Ghosts F) (plan : Option ℕ → Co
 unfoldable pub always : CommandPlan → Option ℕ → CommandPlan
 always plan mode = plan
 
--- nothing more holds of what the files answered
+-- nothing more is known of the results of the loads
 abbrev pub any : List Answer → Type 0
 any answers = Unit {0}
 
 -- ---- what is made, in code
 
--- what was opened, or some trouble with a file
+-- what was opened, or the error with the file's name
 abbrev pub opened : {K X : Type 0} → (K → X) → Result K FileTrouble → Result X (List ℕ × Trouble)
 opened seen (Ok k) = Ok (seen k)
 opened seen (Err met) = Err (met.file.now, met.trouble)
 
--- the page of a text that is ready
+-- the page of a finished text
 abbrev pub output_page : {A : Type 0} → Output A → Page
 output_page shown = text shown.text.items shown.verdict
 
--- what a command is to come to
+-- the effect that `Command::make` returns
 abbrev pub made_effect : {A S : Type 0} → (S → List ℕ → Page) → List ℕ → Result (Made A S) FileTrouble → Effect
 made_effect page file (Ok (made.Shows shown)) = Displays file (page shown file)
 made_effect page file (Ok (made.Saves image shown)) = Saves file image.items shown.text.items shown.verdict
 made_effect page file (Err met) = Fails met.file.now met.trouble
 
--- the same of a command that prints a text
+-- the same for a command that prints a text
 abbrev pub text_effect : {A : Type 0} → List ℕ → Result (Made A (Output A)) FileTrouble → Effect
 text_effect file made = made_effect (λ shown _. output_page shown) file made
 
--- what is shown after a save
+-- what is left to show after a save
 abbrev pub ready_end : {A S : Type 0} → (S → List ℕ → Page) → List ℕ → Result (Ready A S) FileTrouble → Effect
 ready_end page file (Ok (ready.Shows shown)) = Displays file (page shown file)
 ready_end page file (Ok (ready.Prints shown)) = Displays file (output_page shown)

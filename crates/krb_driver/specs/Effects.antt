@@ -1,4 +1,4 @@
--- What a command comes to, and its plan over files.
+-- The effect of a command, and its plan over files.
 use Rattle.std.specs.Prelude.{◌≡◌, ◌⊎◌, ℕ, Bool, true, false, List, Result, Ok, Err}
 use Rattle.krb_files.specs.declared.files.SaveFault.{SaveFault}
 use Rattle.krb_files.specs.Files.{FileMap}
@@ -9,23 +9,23 @@ use Rattle.krb_driver.specs.declared.trouble.Trouble.TheVariants as trouble
 use Rattle.krb_driver.specs.declared.verdict.Verdict.{Verdict}
 use Rattle.krb_driver.specs.Troubles.{save_trouble}
 
--- what is shown, how the run ends then, and whether showing it takes memory
+-- what is printed, how the run then ends, and whether printing it takes memory
 pub record Page : Type 0 where
   pub out : List ℕ
   pub verdict : Verdict
   pub takes : Bool
 
--- a text that is ready
+-- the page of a finished text
 abbrev pub text : List ℕ → Verdict → Page
 text out verdict = record { out = out; verdict = verdict; takes = false }
 
--- what a command comes to, with the file that it is about: some trouble, a page that is shown, or bytes that are saved and a text that is printed then
+-- the effect of a command, with its file: an error, a page to show, or bytes to save and a text to print after that
 pub data Effect : Type 0 where
   Fails : List ℕ → Trouble → Effect
   Displays : List ℕ → Page → Effect
   Saves : List ℕ → List ℕ → List ℕ → Verdict → Effect
 
--- the file
+-- the file that an effect is about
 abbrev pub about : Effect → List ℕ
 about (Fails file why) = file
 about (Displays file page) = file
@@ -38,26 +38,26 @@ faults = record { unread = λ file. Fails file trouble.FileNotRead; spent = λ f
 abbrev pub CommandPlan : Type 0
 CommandPlan = Plan Effect
 
--- a command goes on with what a file gave, or some trouble with it ends it
+-- a command goes on with what a file gave, or an error with that file ends it
 abbrev pub goes_on : {X : Type 0} → List ℕ → Result X Trouble → (X → CommandPlan) → CommandPlan
 goes_on file (Ok x) then_ = then_ x
 goes_on file (Err why) then_ = Ends (Fails file why)
 
--- a file is loaded and opened
+-- a file is loaded and opened, and the command goes on with what it gave
 abbrev pub opens : {X : Type 0} → List ℕ → (Answer → Result X Trouble) → (X → CommandPlan) → CommandPlan
 opens file gives then_ = Loads file (λ answer. goes_on file (gives answer) then_)
 
--- bytes are saved and then a text is printed; in a dry run the text is printed alone
+-- bytes are saved and then a text is printed; in a dry run only the text is printed
 abbrev pub saves_unless : Bool → List ℕ → List ℕ → List ℕ → Verdict → Effect
 saves_unless true file bytes out verdict = Displays file (text out verdict)
 saves_unless false file bytes out verdict = Saves file bytes out verdict
 
--- what a save comes to by its answer
+-- what is left to show after a save, by its result
 abbrev pub saved_end : List ℕ → List ℕ → Verdict → Result (Unit {0}) SaveFault → Effect
 saved_end file out verdict (Ok done) = Displays file (text out verdict)
 saved_end file out verdict (Err fault) = Fails file (save_trouble fault)
 
--- what an effect comes to where no call fails, and the files after it
+-- what an effect shows if no call fails, and the files after it
 abbrev pub settled : Effect → Effect
 settled (Saves file bytes out verdict) = Displays file (text out verdict)
 settled effect = effect

@@ -19,29 +19,29 @@ use Rattle.krb_driver.specs.Troubles.{load_trouble}
 
 -- ---- what a load gives
 
--- a result, its value seen so
+-- a result with its value mapped
 abbrev pub result_map : {X Y E : Type 0} → (X → Y) → Result X E → Result Y E
 result_map view (Ok x) = Ok (view x)
 result_map view (Err e) = Err e
 
--- the same of its error
+-- a result with its error mapped
 abbrev pub result_map_err : {X E D : Type 0} → (E → D) → Result X E → Result X D
 result_map_err why (Ok x) = Ok x
 result_map_err why (Err e) = Err (why e)
 
--- an image begins as a cache: with 5 and 3, or 5 and 4
+-- an image begins as a cache: with the bytes 5 3 or 5 4
 abbrev pub begins_as_cache : List ℕ → Bool
 begins_as_cache image = starts_with nat_eq image (5 ∷ 3 ∷ []) || starts_with nat_eq image (5 ∷ 4 ∷ [])
 
--- an image begins as a keytab, or as a cache of version 1 or 2
+-- an image begins as a keytab, or as a cache of version 1 or 2: with the bytes 5 1 or 5 2
 abbrev pub begins_as_keytab : List ℕ → Bool
 begins_as_keytab image = starts_with nat_eq image (5 ∷ 1 ∷ []) || starts_with nat_eq image (5 ∷ 2 ∷ [])
 
--- why an image is no keytab
+-- why an image is not a keytab
 abbrev pub not_keytab : List ℕ → KtOpenFault → NoKeytab
 not_keytab image fault = Open (record { fault = fault; is_cache = begins_as_cache image })
 
--- why an image is no cache
+-- why an image is not a cache
 abbrev pub not_cache : List ℕ → CcOpenFault → Trouble
 not_cache image fault = NotACache (record { fault = fault; is_keytab = begins_as_keytab image })
 
@@ -50,7 +50,7 @@ abbrev pub keytab_of : Order → Result (List ℕ) LoadFault → Result KeytabSt
 keytab_of order (Ok image) = result_map_err (not_keytab image) (open_result order most_bytes image)
 keytab_of order (Err fault) = Err (Load fault)
 
--- the same, where a missing file is an empty keytab of version 2
+-- the same, but a missing file gives an empty keytab of version 2
 abbrev pub keytab_or_new : Order → Result (List ℕ) LoadFault → Result KeytabState NoKeytab
 keytab_or_new order (Err load.Missing) = Ok (empty V2 most_bytes)
 keytab_or_new order answer = keytab_of order answer
@@ -63,13 +63,13 @@ cache_of (Err fault) = Err (load_trouble fault)
 -- ---- what files answer
 
 module _ {F : Type 0} (trait : Ghosts F) (old : F) (name : List ℕ) where
-  -- a file was loaded, and what it gave is what that answer gives
+  -- a file was loaded, and `given` is what is due for the result of the load
   pub record Gives {X E : Type 0} (due : Result (List ℕ) LoadFault → Result X E) (given : Result X E) (new : F) : Type 0 where
     pub answer : Result (List ℕ) LoadFault
     pub loads : LoadsFile trait old name answer new
     pub gives : due answer ≡ given
 
-  -- the same, or memory ran out for what takes the place of a missing file
+  -- the same, or memory ran out for the keytab that takes the place of a missing file
   pub record GivesOrRunsOut {X : Type 0} (due : Result (List ℕ) LoadFault → Result X NoKeytab) (given : Result X NoKeytab) (new : F) : Type 0 where
     pub answer : Result (List ℕ) LoadFault
     pub loads : LoadsFile trait old name answer new

@@ -1,27 +1,27 @@
 -- Lines for the error output.
 use Rattle.std.specs.Prelude.{ℕ, List, ◌++◌, codes, decimal, Option, None, Some}
 
--- what is said
+-- a message
 abbrev pub message : List ℕ → List ℕ
 message what = codes "krbfile: " ++ (what ++ codes "\n")
 
--- what is said of a file
+-- a message about a file
 abbrev pub file_message : List ℕ → List ℕ → List ℕ
 file_message file what = codes "krbfile: " ++ (file ++ (codes ": " ++ (what ++ codes "\n")))
 
--- what is said of a file, with a number between two texts
+-- a message about a file, with a number between two texts
 abbrev pub file_number_message : List ℕ → List ℕ → ℕ → List ℕ → List ℕ
 file_number_message file before number after = codes "krbfile: " ++ (file ++ (codes ": " ++ (before ++ (decimal number ++ (after ++ codes "\n")))))
 
--- what is said of a line of the input, with a number
+-- a message about a line of the input, with a number at its end
 abbrev pub line_message : ℕ → List ℕ → ℕ → List ℕ
 line_message line what number = codes "krbfile: line " ++ (decimal line ++ (codes ": " ++ (what ++ (decimal number ++ codes "\n"))))
 
--- words that explain a message, behind the number of ktutil's line
+-- words that explain a message, after the line number if it is about a line of ktutil
 abbrev pub words_line : Option ℕ → List ℕ → List ℕ
 words_line None words = codes "krbfile: " ++ words
 words_line (Some line) words = codes "krbfile: line " ++ (decimal line ++ (codes ": " ++ words))
 
--- a phrase alone
+-- words that are one phrase
 abbrev pub phrase_line : Option ℕ → List ℕ → List ℕ
 phrase_line line phrase = words_line line (phrase ++ codes "\n")

@@ -1,4 +1,4 @@
--- What is said of a command line that was not read.
+-- The messages for a command line that was not read.
 use Rattle.std.specs.Borrow.{Bor}
 use Rattle.std.specs.Prelude.{◌≡◌, ℕ, List, [], ◌++◌, Bool, Option, None, Some, option_map, codes, Result, Ok, Err}
 use Rattle.krb_wire.specs.declared.name_fault.NameFault.{NameFault}
@@ -11,7 +11,7 @@ use Rattle.krb_driver.specs.Messages.{message}
 use Rattle.krb_driver.specs.PieceTexts.{shown_word}
 use Rattle.krb_driver.specs.Words.{words_if}
 
--- what stands before each mistake
+-- the text before each mistake
 abbrev pub mistake_head : List ℕ
 mistake_head = codes "krbfile: bad command line\nkrbfile: "
 
@@ -56,7 +56,7 @@ mistake_parts (mistake.NothingSelects options) = NothingSelects options.now
 mistake_parts mistake.LateExplain = LateExplain
 mistake_parts mistake.NotText = NotText
 
--- the phrase, and what stands behind it on its line
+-- the phrase of a mistake, and the rest of its line
 abbrev pub mistake_line : MistakeParts → List ℕ → List ℕ
 mistake_line NoCommand rest = codes "no command" ++ rest
 mistake_line (UnknownCommand word) rest = codes "unknown command " ++ (shown_word word ++ rest)
@@ -75,48 +75,48 @@ mistake_line (NothingSelects options) rest = codes "nothing selects; give " ++ (
 mistake_line LateExplain rest = codes "--explain stands before the command" ++ rest
 mistake_line NotText rest = codes "an argument is not UTF-8" ++ rest
 
--- where more is said
+-- the reference to the help: krbfile's, or a command's
 abbrev pub help_of : Option (List ℕ) → List ℕ
 help_of None = codes "; see krbfile --help\n"
 help_of (Some command) = codes "; see krbfile " ++ (command ++ codes " --help\n")
 
 -- ---- the command line
 
--- the mistake, and where more is said
+-- the line of a mistake, with the reference to the help
 abbrev pub mistake_words : Mistake → Option (List ℕ) → List ℕ
 mistake_words what command = codes "krbfile: " ++ mistake_line (mistake_parts what) (help_of command)
 
--- what is said of words that were not read, with words or without
+-- the message for words that were not read, with or without the words that explain it
 abbrev pub word_text : Bool → WordFault → List ℕ
 word_text explains word.NoMemory = message (codes "out of memory")
 word_text explains (word.BadLine line) = message (codes "bad command line") ++ words_if explains (mistake_words line.mistake (option_map (λ command. command.now) line.command))
 
--- the number of why words were not read
+-- the number of a word fault
 abbrev pub word_number : WordFault → ℕ
 word_number (word.BadLine line) = 1
 word_number word.NoMemory = 2
 
--- the status of a run that has no words to run by
+-- the exit status of a run whose words were not read
 abbrev pub word_status : WordFault → ℕ
 word_status (word.BadLine line) = 2
 word_status word.NoMemory = 4
 
--- the same fault, of words of that command
+-- the same fault, for words of that command
 abbrev pub in_command : Bor (List ℕ) → WordFault → WordFault
 in_command command (word.BadLine line) = word.BadLine (record line { command = Some command })
 in_command command word.NoMemory = word.NoMemory
 
--- a mistake is the one that words have; memory runs out only where they have none
+-- a bad line has the mistake that was found; memory runs out only if none was
 abbrev pub IsOf : Option MistakeParts → WordFault → Type 0
 IsOf found (word.BadLine line) = found ≡ Some (mistake_parts line.mistake)
 IsOf found word.NoMemory = found ≡ None
 
--- words that have no mistake say that, and of others the mistake is said
+-- words that are read have no mistake, and `Says` holds of what they give; else the fault is as in `IsOf`
 abbrev pub Reads : {X : Type 0} → Option MistakeParts → (X → Type 0) → Result X WordFault → Type 0
 Reads found Says (Ok x) = (found ≡ None) × Says x
 Reads found Says (Err fault) = IsOf found fault
 
--- the same of words of that command
+-- like `IsOf`, and a bad line names that command
 abbrev pub IsRefusal : List ℕ → Option MistakeParts → WordFault → Type 0
 IsRefusal command found (word.BadLine line) = (found ≡ Some (mistake_parts line.mistake)) × (option_map (λ name. name.now) line.command ≡ Some command)
 IsRefusal command found word.NoMemory = found ≡ None

@@ -1,4 +1,4 @@
--- What files give that are opened.
+-- What opened files give.
 use Rattle.std.specs.Prelude.{is_some, if◌then◌else◌, Option, None, Some, Result, Ok, Err}
 use Rattle.krb_wire.specs.declared.format.Order.{Order}
 use Rattle.krb_walk.specs.Store.{fault_of}
@@ -17,15 +17,15 @@ use Rattle.krb_driver.specs.Troubles.{list_trouble, no_keytab_trouble}
 abbrev pub keytab_in : Order → Answer → Result KeytabState Trouble
 keytab_in order answer = result_map_err no_keytab_trouble (keytab_of order answer)
 
--- the same of a file that is to be listed
+-- the same for a file to list
 abbrev pub listed_in : Order → Answer → Result KeytabState Trouble
 listed_in order answer = result_map_err list_trouble (keytab_of order answer)
 
--- the same, where a missing file is an empty keytab
+-- the same, but a missing file gives an empty keytab
 abbrev pub keytab_or_empty : Order → Answer → Result KeytabState Trouble
 keytab_or_empty order answer = result_map_err no_keytab_trouble (keytab_or_new order answer)
 
--- what was opened, or why it refuses what a run asks for
+-- what was opened, or its refusal if there is one
 abbrev pub or_refused : {K E : Type 0} → (Code → E) → K → Option Code → Result K E
 or_refused why k None = Ok k
 or_refused why k (Some code) = Err (why code)
@@ -34,18 +34,18 @@ abbrev pub unless_refused : {K E : Type 0} → (Code → E) → (K → Option Co
 unless_refused why refusal (Ok k) = or_refused why k (refusal k)
 unless_refused why refusal (Err e) = Err e
 
--- a damaged keytab may lose nothing
+-- why a keytab refuses to be changed: it is damaged
 abbrev pub keytab_refusal : KeytabState → Option Code
 keytab_refusal k = if is_some (fault_of (store_of k)) then Some Damaged else None
 
--- a cache of version 3 is read-only, and a damaged one may lose nothing
+-- why a cache refuses to be changed: version 3 is read-only, or it is damaged
 abbrev pub cache_refusal : CacheState → Option Code
 cache_refusal k = if is_read_only k.version then Some ReadOnly else (if is_some (fault_of (cache_store k)) then Some Damaged else None)
 
--- the keytab of a file, which is whole
+-- the keytab of a file to change, which is not damaged
 unfoldable pub whole_in : Order → Answer → Result KeytabState Trouble
 whole_in order answer = unless_refused Refused keytab_refusal (keytab_in order answer)
 
--- the cache of a file, which may be changed
+-- the cache of a file to change, which is not of version 3 and not damaged
 unfoldable pub writable_in : Answer → Result CacheState Trouble
 writable_in answer = unless_refused Refused cache_refusal (cache_of answer)

@@ -6,11 +6,11 @@ use Rattle.krb_cache_text.specs.Escape.{is_printable}
 use Rattle.krb_driver.specs.declared.telling.piece.Piece.{Piece}
 use Rattle.krb_driver.specs.declared.telling.piece.Piece.TheVariants.{Text, Name, Number, Word}
 
--- a byte that is not printable is `\x` and its two hexadecimal digits
+-- a printable byte as it is, and any other as `\x` and its two hexadecimal digits
 abbrev pub shown_byte : ℕ → List ℕ
 shown_byte b = if is_printable b then b ∷ [] else codes "\\x" ++ encode_lower (b ∷ [])
 
--- a word of the command line
+-- a word of the command line as it is printed
 abbrev pub shown_word : List ℕ → List ℕ
 shown_word word = flat_map shown_byte word
 
@@ -25,7 +25,7 @@ piece_text (Word word) = shown_word word.now
 abbrev pub pieces_text : List Piece → List ℕ
 pieces_text pieces = flat_map piece_text pieces
 
--- the same, and a text behind them
+-- the same, and a text after them
 abbrev pub pieces_before : List Piece → List ℕ → List ℕ
 pieces_before [] rest = rest
 pieces_before (piece ∷ others) rest = piece_text piece ++ pieces_before others rest

@@ -1,4 +1,4 @@
--- What a run of the program leaves.
+-- What a run of the program prints and reports, and its exit status.
 use Rattle.std.specs.Prelude.{◌≡◌, ℕ, List, [], IsTrue, IsFalse, Option, Err}
 use Rattle.std.specs.Io.KnownBytes.{Appends}
 use Rattle.krb_files.specs.declared.cause.Cause.{Cause}
@@ -14,11 +14,11 @@ pub record Run : Type 0 where
   pub out : List ℕ
   pub ending : Ending
 
--- a run that prints nothing, for some trouble
+-- a run that prints nothing and ends with an error
 abbrev pub ends_by : Trouble → Run
 ends_by trouble = record { out = []; ending = Err trouble }
 
--- the text went out and the run ended so; or the output failed, which ended it, and has a prefix of the text
+-- the text was printed and the run ended as is due; or the output failed, which ended it, and has a prefix of the text
 pub record Shows (due : Run) (out out' : Watch) (ending : Ending) : Type 0 where
   pub done : IsFalse out'.failed → Appends out.contents out'.contents due.out × (ending ≡ due.ending)
   pub prefix : AppendsPrefix out.contents out'.contents due.out
@@ -36,18 +36,18 @@ pub record Says (old new : Watch) (text : List ℕ) : Type 0 where
   pub prefix : AppendsPrefix old.contents new.contents text
   pub whole : IsFalse new.failed → Appends old.contents new.contents text
 
--- it is said how a run, or a line of ktutil, ended that names that file, by the words of some cause or of none
+-- the end of a run over that file, or of a line of ktutil, was reported, with the words for some cause or for none
 pub record SaysEnd (file : List ℕ) (line : Option ℕ) (ending : Ending) (err err' : ErrorWatch) : Type 0 where
   pub cause : Option Cause
   pub said : Says err.to err'.to (ending_text err.explains file line cause ending)
   pub still : err'.explains ≡ err.explains
 
--- it is said so, and the status is of that
+-- the end was reported, and the exit status is that of the end
 pub record Tells (file : List ℕ) (line : Option ℕ) (ending : Ending) (err err' : ErrorWatch) (status : ℕ) : Type 0 where
   pub says : SaysEnd file line ending err err'
   pub status_is : status ≡ ending_status ending
 
--- a run or a line was shown, and its end told
+-- what a run or a line prints was printed, and its end was reported
 pub record EndsRun (file : List ℕ) (line : Option ℕ) (due : Run) (out out' : Watch) (err err' : ErrorWatch) (status : ℕ) : Type 0 where
   pub ending : Ending
   pub shows : Shows due out out' ending

@@ -1,4 +1,4 @@
--- What ends a run before its end: where it comes from, what is said of it, and the status.
+-- The errors that end a run: where they come from, their messages, and the exit status.
 use Rattle.std.specs.Prelude.{ℕ, List, [], Result, Ok, Err, codes}
 use Rattle.krb_walk.specs.Numbers.{code_number}
 use Rattle.krb_keytab.specs.Open.{open_fault_number}
@@ -22,47 +22,47 @@ use Rattle.krb_driver.specs.Verdicts.{verdict_message, verdict_status}
 
 -- ---- where it comes from
 
--- an input that was not read; a reader is never missing
+-- the error for an input that was not read; a reader is never missing
 abbrev pub input_trouble : LoadFault → Trouble
 input_trouble load.TooLarge = trouble.InputTooLarge
 input_trouble load.NoMemory = trouble.NoMemory
 input_trouble other = trouble.InputNotRead
 
--- a script that gives no events
+-- the error for a script that was not read
 abbrev pub script_trouble : ScriptRefusal → Trouble
 script_trouble (refusal.Fault line kind) = trouble.FaultyLine line kind
 script_trouble refusal.NoMemory = trouble.NoMemory
 
--- a file that was not loaded
+-- the error for a file that was not loaded
 abbrev pub load_trouble : LoadFault → Trouble
 load_trouble load.Missing = trouble.NoSuchFile
 load_trouble load.TooLarge = trouble.FileTooLarge
 load_trouble load.Failed = trouble.FileNotRead
 load_trouble load.NoMemory = trouble.NoMemory
 
--- a file that gave no keytab
+-- the error for a file that gave no keytab
 abbrev pub no_keytab_trouble : NoKeytab → Trouble
 no_keytab_trouble (Load fault) = load_trouble fault
 no_keytab_trouble (Open why) = trouble.NotAKeytab why
 
--- a file to list that gave no keytab
+-- the error for a file to list that gave no keytab
 abbrev pub list_trouble : NoKeytab → Trouble
 list_trouble (Load fault) = load_trouble fault
 list_trouble (Open why) = trouble.NotAKeytabToList why
 
--- a file that was not saved
+-- the error for a file that was not saved
 abbrev pub save_trouble : SaveFault → Trouble
 save_trouble save.Failed = trouble.FileNotWritten
 save_trouble save.NoMemory = trouble.NoMemory
 
--- a text that was not written
+-- the error for a text that was not written
 abbrev pub out_trouble : OutFault → Trouble
 out_trouble out.Write = trouble.OutputNotWritten
 out_trouble out.NoMemory = trouble.NoMemory
 
 -- ---- what is said of it
 
--- the message, where the run or the line names that file
+-- the message for an error of a run over that file
 abbrev pub trouble_message : List ℕ → Trouble → List ℕ
 trouble_message file trouble.InputTooLarge = message (codes "input too large")
 trouble_message file trouble.InputNotRead = message (codes "cannot read input")
@@ -80,7 +80,7 @@ trouble_message file trouble.OutputNotWritten = message (codes "cannot write out
 trouble_message file trouble.ClockNotRead = message (codes "cannot read the clock")
 trouble_message file trouble.NoMemory = message (codes "out of memory")
 
--- the status
+-- the exit status of a run that it ends
 abbrev pub trouble_status : Trouble → ℕ
 trouble_status trouble.NoMemory = 4
 trouble_status trouble.InputNotRead = 3
@@ -92,16 +92,16 @@ trouble_status other = 1
 
 -- ---- how a run ends
 
--- it did its work, or some trouble ends it
+-- a run did its work, or an error ends it
 abbrev pub Ending : Type 0
 Ending = Result Verdict Trouble
 
--- what is said of an end
+-- the message for the end of a run
 abbrev pub ending_message : List ℕ → Ending → List ℕ
 ending_message file (Ok verdict) = verdict_message file verdict
 ending_message file (Err trouble) = trouble_message file trouble
 
--- the status of a run that ends so
+-- the exit status of the run
 abbrev pub ending_status : Ending → ℕ
 ending_status (Ok verdict) = verdict_status verdict
 ending_status (Err trouble) = trouble_status trouble

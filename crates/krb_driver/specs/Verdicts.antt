@@ -1,4 +1,4 @@
--- How a run ends that did its work: the message, and the status.
+-- The verdict of a run that did its work: its message, and the exit status.
 use Rattle.std.specs.Prelude.{ℕ, List, [], if◌then◌else◌, Bool, true, false, Option, None, Some, codes}
 use Rattle.krb_walk.specs.declared.fault.Fault.{Fault}
 use Rattle.krb_walk.specs.declared.refusal.Code.TheVariants.{NotFound}
@@ -7,17 +7,17 @@ use Rattle.krb_driver.specs.declared.verdict.Verdict.{Verdict}
 use Rattle.krb_driver.specs.declared.verdict.Verdict.TheVariants.{Well, Listed, Replied, Found, NothingToRemove}
 use Rattle.krb_driver.specs.Messages.{file_number_message}
 
--- the end of a listing, which reports a fault
+-- the verdict of a listing, which reports the fault if there is one
 abbrev pub listing_verdict : Option Fault → Verdict
 listing_verdict None = Well
 listing_verdict (Some fault) = Listed fault
 
--- the message, of a run over that file
+-- the message for a run over that file
 abbrev pub verdict_message : List ℕ → Verdict → List ℕ
 verdict_message file (NothingToRemove kind) = file_number_message file (codes "refused ") (code_number NotFound) []
 verdict_message file verdict = []
 
--- the status
+-- the exit status
 abbrev pub verdict_status : Verdict → ℕ
 verdict_status Well = 0
 verdict_status (Found findings) = if findings.is_wrong then 1 else 0

@@ -31,24 +31,24 @@ use Rattle.krb_driver.specs.Troubles.{Ending, ending_message}
 
 -- ---- phrases
 
--- more than a file or an input may have
+-- a file or an input that is too large
 abbrev pub too_large : List ℕ
 too_large = codes "it has more than 16,777,216 bytes"
 
--- why a keytab refused something
+-- the phrase for a refusal by a keytab
 abbrev pub keytab_phrase : Code → List ℕ
 keytab_phrase Full = codes "the file would be longer than 16,777,216 bytes"
 keytab_phrase NotAPlace = codes "no record, hole or end stands at this place"
 keytab_phrase NotLive = codes "no entry stands at this place"
 keytab_phrase code = code_phrase code
 
--- why a cache refused something
+-- the phrase for a refusal by a cache
 abbrev pub cache_phrase : Code → List ℕ
 cache_phrase NotAPlace = codes "no credential or end stands at this place"
 cache_phrase NotLive = codes "no ticket or configuration entry stands at this place"
 cache_phrase code = keytab_phrase code
 
--- why a file refused something
+-- the phrase for a refusal by a keytab or a cache
 abbrev pub refusal_phrase : FileKind → Code → List ℕ
 refusal_phrase Keytab code = keytab_phrase code
 refusal_phrase Cache code = cache_phrase code
@@ -58,63 +58,63 @@ abbrev pub nothing_phrase : FileKind → List ℕ
 nothing_phrase Keytab = codes "no entry has what was asked for"
 nothing_phrase Cache = codes "no ticket has what was asked for"
 
--- why an image is no keytab, by whether it begins as a cache
+-- why an image is not a keytab, by whether it begins as a cache
 abbrev pub no_keytab_phrase : KtOpenFault → Bool → List ℕ
 no_keytab_phrase kt.BadVersion true = codes "it begins as a credential cache"
 no_keytab_phrase fault is_cache = kt_phrase fault
 
--- the same of a file that is listed as a keytab
+-- the same for a file that is listed as a keytab
 abbrev pub list_phrase : KtOpenFault → Bool → List ℕ
 list_phrase kt.BadVersion true = codes "it begins as a credential cache; list it without -k"
 list_phrase fault is_cache = no_keytab_phrase fault is_cache
 
--- why an image is no cache, by whether it begins as a keytab
+-- why an image is not a cache, by whether it begins as a keytab
 abbrev pub no_cache_phrase : CcOpenFault → Bool → List ℕ
 no_cache_phrase cc.BadVersion true = codes "it begins as a keytab, or as a cache of version 1 or 2 (not read)"
 no_cache_phrase fault is_keytab = cc_phrase fault
 
--- what is wrong with a line of a script, or of ktutil, whose messages have the line's number
+-- what is wrong with a line of a script, or of ktutil if a line number is given
 abbrev pub line_fault_phrase : Option ℕ → LineFault → List ℕ
 line_fault_phrase None fault = line_phrase fault
 line_fault_phrase (Some line) fault = ktutil_phrase fault
 
 -- ---- words
 
--- a file that is missing: ktutil alone has words for it
+-- the words for a missing file: only ktutil has some
 abbrev pub missing_words : Option ℕ → List ℕ
 missing_words None = []
 missing_words (Some line) = phrase_line (Some line) (codes "no such file")
 
--- what a call failed with, where that is known
+-- the words for the cause of a failed call, if it is known
 abbrev pub cause_words : List ℕ → Option ℕ → Option Cause → List ℕ
 cause_words file line None = []
 cause_words file line (Some InTheWay) = words_line line (file ++ codes ".krbfile is in the way\n")
 cause_words file line (Some (System number)) = words_line line (codes "error " ++ (decimal (unsigned_abs number) ++ codes "\n"))
 cause_words file line (Some cause) = phrase_line line (cause_phrase cause)
 
--- the fault that a listing tells of, with the file's name, and its phrase
+-- the words for the fault that a listing reports, with the file's name and the fault's phrase
 abbrev pub listed_words : List ℕ → Fault → List ℕ
 listed_words file fault = codes "krbfile: " ++ (file ++ (codes ": fault " ++ (decimal (fault_number fault.kind) ++ (codes " at " ++ (decimal fault.place ++ (codes "\nkrbfile: " ++ (fault_phrase fault.kind ++ codes "\n")))))))
 
--- a refusal that replies tell of, and its phrase
+-- the line for a refusal that replies report: its number and its phrase
 abbrev pub code_words : FileKind → Option Code → List ℕ
 code_words kind None = []
 code_words kind (Some code) = codes "krbfile: refused " ++ (decimal (code_number code) ++ (codes ": " ++ (refusal_phrase kind code ++ codes "\n")))
 
--- a fault that replies tell of, and its phrase
+-- the line for a fault that replies report: its number and its phrase
 abbrev pub fault_words : Option FaultKind → List ℕ
 fault_words None = []
 fault_words (Some kind) = codes "krbfile: fault " ++ (decimal (fault_number kind) ++ (codes ": " ++ (fault_phrase kind ++ codes "\n")))
 
--- what replies tell of: refusals first, each once
+-- the lines for what replies report: refusals first, each once
 abbrev pub told_words : FileKind → List (Option Code) → List (Option FaultKind) → List ℕ
 told_words kind refusals faults = flat_map (code_words kind) refusals ++ flat_map fault_words faults
 
--- a line, if its word was printed
+-- a line if its word was printed, else nothing
 abbrev pub line_if : Bool → List ℕ → List ℕ
 line_if is_told line = if is_told then line else []
 
--- what each word of findings means that was printed, in this order
+-- the line for each word of findings that was printed, in this order
 abbrev pub word_lines : CheckTold → List ℕ
 word_lines t =
     line_if t.weak (codes "krbfile: weak: an encryption type that MIT calls weak or deprecated\n")
@@ -124,16 +124,16 @@ word_lines t =
     ++ (line_if t.old (codes "krbfile: old: a newer version of this name stands there\n")
     ++ (line_if t.mode (codes "krbfile: mode: users other than the owner may read or change this file\n") ++ [])))))
 
--- the fault that was found, if one was
+-- the words for the fault that was found, if one was
 abbrev pub found_fault_words : List ℕ → Option Fault → List ℕ
 found_fault_words file None = []
 found_fault_words file (Some fault) = listed_words file fault
 
--- what findings mean
+-- the words that explain findings
 abbrev pub found_words : List ℕ → Findings → List ℕ
 found_words file findings = word_lines findings.words ++ found_fault_words file findings.fault
 
--- what explains a message, where the run or the line of ktutil names that file
+-- the words that explain an error of a run over that file, or of that line of ktutil
 abbrev pub trouble_words : List ℕ → Option ℕ → Option Cause → Trouble → List ℕ
 trouble_words file line cause trouble.InputTooLarge = phrase_line line too_large
 trouble_words file line cause trouble.InputNotRead = cause_words file line cause
@@ -151,7 +151,7 @@ trouble_words file line cause trouble.OutputNotWritten = cause_words file line c
 trouble_words file line cause trouble.ClockNotRead = phrase_line line (codes "the clock is before 1970 or after 2106, or failed")
 trouble_words file line cause trouble.NoMemory = []
 
--- what explains the end of a run that did its work over that file
+-- the words that explain the verdict of a run over that file
 abbrev pub verdict_words : List ℕ → Option ℕ → Verdict → List ℕ
 verdict_words file line Well = []
 verdict_words file line (NothingToRemove kind) = phrase_line line (nothing_phrase kind)
@@ -159,16 +159,16 @@ verdict_words file line (Listed fault) = listed_words file fault
 verdict_words file line (Found findings) = found_words file findings
 verdict_words file line (Replied told) = told_words told.kind told.codes told.faults
 
--- what explains an end
+-- the words that explain the end of a run
 abbrev pub ending_words : List ℕ → Option ℕ → Option Cause → Ending → List ℕ
 ending_words file line cause (Ok verdict) = verdict_words file line verdict
 ending_words file line cause (Err trouble) = trouble_words file line cause trouble
 
--- words, where they are shown
+-- words, if they are shown
 abbrev pub words_if : Bool → List ℕ → List ℕ
 words_if true words = words
 words_if false words = []
 
--- what is said of an end
+-- the text that reports the end of a run: its message, and the words if they are shown
 abbrev pub ending_text : Bool → List ℕ → Option ℕ → Option Cause → Ending → List ℕ
 ending_text explains file line cause ending = ending_message file ending ++ words_if explains (ending_words file line cause ending)

@@ -14,7 +14,7 @@ use krb_wire::NoMemory;
 use std::alloc::Allocator;
 use std::io::{Read, Write};
 
-/// Some trouble, and the file that it is about.
+/// An error, and the file that it is about.
 #[derive(Clone, Copy)]
 pub struct FileTrouble<'a> {
     pub file: &'a str,
@@ -34,39 +34,39 @@ impl<'a> From<NoMemory> for FileTrouble<'a> {
     }
 }
 
-/// A text that is ready, and how the run ends that prints it.
+/// A finished text, and the verdict of the run that prints it.
 #[derive(Drop)]
 pub struct Output<A: Allocator> {
     pub text: Vec<u8, A>,
     pub verdict: Verdict,
 }
 
-/// What a command makes of its files.
+/// What `Command::make` returns: what to show, or what to save.
 #[derive(Drop)]
 pub enum Made<A: Allocator, S: Drop> {
-    /// Nothing is saved, and this is shown.
+    /// Save nothing, and show this.
     Shows(S),
-    /// The image is saved, and then the text is printed.
+    /// Save the image, then print the text.
     Saves(Vec<u8, A>, Output<A>),
 }
 
-// What is shown in the end.
+// What is left to show after the save.
 #[derive(Drop)]
 enum Ready<A: Allocator, S: Drop> {
     Shows(S),
     Prints(Output<A>),
 }
 
-/// What a run shows in the end.
+/// What a run shows at its end.
 pub trait Show<A: Allocator + Copy>: Drop {
     ghost use Rattle.std.specs.Prelude.{ℕ, List, IsFalse};
     ghost use Rattle.krb_driver.specs.Commands.{ShowsPage};
     ghost use Rattle.krb_driver.specs.Effects.{Page};
 
-    /// The page that it is, of the file of that name.
+    /// The page that it shows for the file of that name.
     ghost page: { Self → List ℕ → Page };
 
-    /// Shows it.
+    /// Prints it.
     fn show<W: Write>(&self, alloc: A, file: &str, out: &mut Watched<W>) -> Result<Verdict, Trouble>
         requires { IsFalse out.old.failed }
         ensures { ShowsPage out.old out.new result (page self.now file.now) };
@@ -87,7 +87,7 @@ impl<A: Allocator + Copy> Show<A> for Output<A> {
     }
 }
 
-/// A command: a plan over files, what it makes of them, and the file that it saves.
+/// A command: a plan over files, what it shows, and the file that it saves.
 pub trait Command<A: Allocator + Copy> {
     ghost use Rattle.std.specs.Prelude.{◌≡◌, ℕ, List, Option};
     ghost use Rattle.krb_driver.specs.Commands.{MakesFairly, any, made_effect};
@@ -97,20 +97,20 @@ pub trait Command<A: Allocator + Copy> {
     /// What it shows.
     type Shown: Show<A>;
 
-    /// The file that it is about, and that it saves if it saves one.
+    /// The name of the file that it is about, and the only one that it may save.
     ghost file: { Self → List ℕ };
 
-    /// All that it does, by the mode of the file that it loads last.
+    /// All that it does, given the mode of the file that it loads last.
     ghost plan: { Self → Option ℕ → CommandPlan };
 
-    /// What else holds of what its loads answer.
+    /// What else holds of the results of its loads.
     ghost fairly: { Self → List Answer → Type 0 } = { λ _. any };
 
-    /// The name of its file.
+    /// Returns the name of its file.
     fn file(&self) -> &str
         ensures { result.now ≡ file self.now };
 
-    /// Loads its files, holding those that it may change, and makes of them what is to be saved and shown.
+    /// Loads its files, holds those that it may change, and returns what to save and show.
     fn make<F: Files>(
         &self,
         alloc: A,
@@ -120,7 +120,7 @@ pub trait Command<A: Allocator + Copy> {
             (made_effect Self.Shown.page (file self.now) result) files.new };
 }
 
-/// Holds the file of that name, if that is asked for.
+/// Holds the file of that name if `held`.
 #[tactic(auto, using(crate::proofs::Making::makes-holds))]
 pub fn hold_if<F: Files>(held: bool, files: &mut F, file: &str)
     ensures held { HeldIf F.Files held files.old files.new }
@@ -131,7 +131,7 @@ pub fn hold_if<F: Files>(held: bool, files: &mut F, file: &str)
     }
 }
 
-// Does what a command plans, up to what is shown.
+// Runs a command up to what it shows: makes it, and saves what it is to save.
 fn settle<'a, A: Allocator + Copy, C: Command<A>, F: Files>(
     alloc: A,
     command: &'a C,
@@ -156,7 +156,7 @@ fn settle<'a, A: Allocator + Copy, C: Command<A>, F: Files>(
     }
 }
 
-// The file that is told of, where a command is about that one.
+// Returns the file that the messages name: the error's, or else the command's.
 fn about<'a, A: Allocator, S: Drop>(
     ready: &Result<Ready<A, S>, FileTrouble<'a>>,
     file: &'a str,
@@ -169,7 +169,7 @@ fn about<'a, A: Allocator, S: Drop>(
     }
 }
 
-// Shows what a command came to.
+// Prints what a command shows, or returns its error.
 fn show_ready<A: Allocator + Copy, S: Show<A>, W: Write>(
     alloc: A,
     file: &str,
@@ -186,8 +186,8 @@ fn show_ready<A: Allocator + Copy, S: Show<A>, W: Write>(
     }
 }
 
-/// Runs a command, and answers the status. The files are left before anything is shown, as who reads that may
-/// be slow. What goes wrong is said on the error output; a failure of that changes nothing else.
+/// Runs a command and returns its exit status. Releases the files before it prints anything, as the reader of the
+/// output may be slow. Reports errors on the error output; a failure to write there changes nothing else.
 pub fn run<A: Allocator + Copy, C: Command<A>, F: Files, R: Read, W: Write, E: Write>(
     alloc: A,
     command: &C,

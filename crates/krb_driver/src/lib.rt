@@ -1,4 +1,4 @@
-//! What a command is, the driver that runs one, and what a run says where it fails.
+//! What a command is, the driver that runs one, and what a run reports when it fails.
 #![tactic(auto)]
 
 mod command;

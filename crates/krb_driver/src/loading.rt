@@ -1,4 +1,4 @@
-//! From a file's name to the keytab or the cache that it holds.
+//! Loads the keytab or the cache of a file.
 
 ghost use Rattle.std.specs.Prelude.{◌≡◌, Err};
 ghost use Rattle.krb_keytab.specs.Store.{open_result};
@@ -16,20 +16,20 @@ use std::alloc::Allocator;
 /// Why a file gave no keytab.
 #[derive(Clone, Copy)]
 pub enum NoKeytab {
-    /// It was not loaded, or there was no memory for a new one.
+    /// It was not loaded, or an allocation for a new one failed.
     Load(LoadFault),
-    /// Its image is no keytab.
+    /// Its image is not a keytab.
     Open(NotKeytab),
 }
 
-/// Why an image is no keytab, and whether it begins as a cache.
+/// Why an image is not a keytab, and whether it begins as a cache.
 #[derive(Clone, Copy, PartialEq, Eq)]
 pub struct NotKeytab {
     pub fault: KtOpenFault,
     pub is_cache: bool,
 }
 
-/// Why an image is no cache, and whether it begins as a keytab or as a cache of version 1 or 2.
+/// Why an image is not a cache, and whether it begins as a keytab or as a cache of version 1 or 2.
 #[derive(Clone, Copy)]
 pub struct NotCache {
     pub fault: CcOpenFault,
@@ -69,7 +69,7 @@ fn open<A: Allocator>(v1_order: Order, image: Vec<u8, A>) -> Result<Keytab<A>, N
     }
 }
 
-/// The keytab of a file; version 1 has that order.
+/// Loads the keytab of a file. `v1_order` is the byte order of version 1.
 pub fn load_keytab<A: Allocator, F: Files>(
     alloc: A,
     v1_order: Order,
@@ -83,7 +83,7 @@ pub fn load_keytab<A: Allocator, F: Files>(
     open(v1_order, image)
 }
 
-/// The keytab of a file, or an empty one of version 2 where the file is missing.
+/// Loads the keytab of a file, or returns an empty one of version 2 if the file is missing.
 pub fn load_or_new<A: Allocator + Copy, F: Files>(
     alloc: A,
     v1_order: Order,
@@ -104,7 +104,7 @@ pub fn load_or_new<A: Allocator + Copy, F: Files>(
     }
 }
 
-/// The cache of a file.
+/// Loads the cache of a file.
 pub fn load_cache<A: Allocator, F: Files>(
     alloc: A,
     files: &mut F,

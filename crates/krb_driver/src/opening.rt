@@ -1,4 +1,4 @@
-//! From a file's name to the keytab or the cache that it holds, or to the trouble with it.
+//! Opens the keytab or the cache of a file for a command. Each error names the file.
 
 ghost use Rattle.std.specs.Prelude.{◌≡◌, if◌then◌else◌, is_some};
 ghost use Rattle.krb_walk.specs.Store.{fault_of};
@@ -17,7 +17,7 @@ use krb_walk::Code;
 use krb_wire::Order;
 use std::alloc::Allocator;
 
-// The keytab of a file.
+// Loads the keytab of a file.
 fn give_keytab<'a, A: Allocator, F: Files>(
     alloc: A,
     v1_order: Order,
@@ -35,7 +35,7 @@ fn give_keytab<'a, A: Allocator, F: Files>(
     }
 }
 
-/// The keytab of a file.
+/// Opens the keytab of a file.
 pub fn open_keytab<'a, A: Allocator, F: Files>(
     alloc: A,
     v1_order: Order,
@@ -47,7 +47,7 @@ pub fn open_keytab<'a, A: Allocator, F: Files>(
     give_keytab(alloc, v1_order, files, file)
 }
 
-// The keytab of a file that is to be listed.
+// Loads the keytab of a file to list.
 fn give_listed<'a, A: Allocator, F: Files>(
     alloc: A,
     v1_order: Order,
@@ -65,7 +65,7 @@ fn give_listed<'a, A: Allocator, F: Files>(
     }
 }
 
-/// The keytab of a file that is to be listed.
+/// Opens the keytab of a file to list.
 pub fn open_listed<'a, A: Allocator, F: Files>(
     alloc: A,
     v1_order: Order,
@@ -77,7 +77,7 @@ pub fn open_listed<'a, A: Allocator, F: Files>(
     give_listed(alloc, v1_order, files, file)
 }
 
-/// The keytab of a file, or an empty one of version 2 where the file is missing.
+/// Loads the keytab of a file, or returns an empty one of version 2 if the file is missing.
 pub fn give_or_empty<'a, A: Allocator + Copy, F: Files>(
     alloc: A,
     v1_order: Order,
@@ -95,7 +95,7 @@ pub fn give_or_empty<'a, A: Allocator + Copy, F: Files>(
     }
 }
 
-/// The cache of a file.
+/// Loads the cache of a file.
 pub fn give_cache<'a, A: Allocator, F: Files>(
     alloc: A,
     files: &mut F,
@@ -109,7 +109,7 @@ pub fn give_cache<'a, A: Allocator, F: Files>(
     }
 }
 
-/// The cache of a file.
+/// Opens the cache of a file.
 pub fn open_cache<'a, A: Allocator, F: Files>(
     alloc: A,
     files: &mut F,
@@ -120,7 +120,7 @@ pub fn open_cache<'a, A: Allocator, F: Files>(
     give_cache(alloc, files, file)
 }
 
-// A keytab that is whole.
+// Refuses a damaged keytab.
 fn whole<'a, A: Allocator>(
     file: &'a str,
     given: Result<Keytab<A>, FileTrouble<'a>>,
@@ -137,7 +137,7 @@ fn whole<'a, A: Allocator>(
     }
 }
 
-/// The keytab of a file that is to be changed: it is whole.
+/// Opens the keytab of a file to change it. Refuses a damaged one.
 pub fn open_whole<'a, A: Allocator, F: Files>(
     alloc: A,
     v1_order: Order,
@@ -150,7 +150,7 @@ pub fn open_whole<'a, A: Allocator, F: Files>(
     whole(file, given)
 }
 
-// A cache that may be changed: version 3 is read-only, and a damaged one may lose nothing.
+// Refuses a cache of version 3, which is read-only, and a damaged one.
 fn writable<'a, A: Allocator>(
     file: &'a str,
     given: Result<Ccache<A>, FileTrouble<'a>>,
@@ -172,7 +172,7 @@ fn writable<'a, A: Allocator>(
     })
 }
 
-/// The cache of a file that is to be changed: it is whole, and of version 4.
+/// Opens the cache of a file to change it. Refuses a damaged one, and one of version 3.
 pub fn open_writable<'a, A: Allocator, F: Files>(
     alloc: A,
     files: &mut F,

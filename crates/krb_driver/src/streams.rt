@@ -7,9 +7,9 @@ use std::io::{Read, Write};
 /// The streams of a run.
 #[derive(Drop)]
 pub struct Streams<R: Read, W: Write, E: Write> {
-    /// Gives scripts, and the lines of ktutil.
+    /// The input of scripts, and of the lines of ktutil.
     pub input: WatchedReader<R>,
     pub out: Watched<W>,
-    /// Takes what is said of what goes wrong.
+    /// Where errors are reported.
     pub err: ErrorOutput<E>,
 }

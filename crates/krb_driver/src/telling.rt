@@ -1,4 +1,4 @@
-//! What a run shows, and how its end is told.
+//! What a run prints, and how its end is reported.
 
 pub(crate) mod error_output;
 mod found_words;
@@ -32,7 +32,7 @@ use krb_walk::Code;
 pub use mistake_words::tell_word_fault;
 use std::io::Write;
 
-/// Shows a text, and then ends so; or by an output that failed.
+/// Prints a text and returns `ending`, or the error of the output if that failed.
 pub fn show<W: Write>(
     text: &[u8],
     ending: Result<Verdict, Trouble>,
@@ -45,12 +45,12 @@ pub fn show<W: Write>(
     ending
 }
 
-/// The pieces of a message. What is not needed is empty.
+/// The pieces of a message. Unused ones are empty.
 type Message<'a> = [Piece<'a>; 7];
 
 const NONE: Piece<'static> = Piece::Text("");
 
-// What is said.
+// Returns the message `krbfile: WHAT`.
 fn message<'a>(what: &'a str) -> Message<'a>
     ensures { pieces_text result ≡ message what.now }
 {
@@ -59,7 +59,7 @@ fn message<'a>(what: &'a str) -> Message<'a>
     [head, Piece::Text(what), end, NONE, NONE, NONE, NONE]
 }
 
-// What is said of a file.
+// Returns the message `krbfile: FILE: WHAT`.
 fn file_message<'a>(file: &'a [u8], what: &'a str) -> Message<'a>
     ensures { pieces_text result ≡ file_message file.now what.now }
 {
@@ -74,7 +74,7 @@ fn file_message<'a>(file: &'a [u8], what: &'a str) -> Message<'a>
     ]
 }
 
-// What is said of a file, with a number between two texts.
+// Returns the message for a file with a number between two texts.
 fn file_number_message<'a>(
     file: &'a [u8],
     before: &'a str,
@@ -94,7 +94,7 @@ fn file_number_message<'a>(
     ]
 }
 
-// What is said of a line of the input, with a number.
+// Returns the message for a line of the input, with a number at its end.
 fn line_message<'a>(line: u64, what: &'a str, number: u32) -> Message<'a>
     ensures { pieces_text result ≡ line_message line what.now number }
 {
@@ -109,7 +109,7 @@ fn line_message<'a>(line: u64, what: &'a str, number: u32) -> Message<'a>
     ]
 }
 
-// That a file is no keytab.
+// Returns the message for a file that is not a keytab.
 fn not_keytab_message(file: &[u8], why: NotKeytab) -> Message<'_>
     ensures { pieces_text result ≡ file_number_message file.now
         (codes "not a keytab (") (open_fault_number why.fault) (codes ")") }
@@ -117,7 +117,7 @@ fn not_keytab_message(file: &[u8], why: NotKeytab) -> Message<'_>
     file_number_message(file, "not a keytab (", why.fault.number(), ")")
 }
 
-// What ended a run before its end.
+// Returns the message for an error that ended a run.
 fn trouble_message(trouble: Trouble, file: &[u8]) -> Message<'_>
     ensures { pieces_text result ≡ trouble_message file.now trouble }
 {
@@ -142,7 +142,7 @@ fn trouble_message(trouble: Trouble, file: &[u8]) -> Message<'_>
     }
 }
 
-// What a run has to say that did its work.
+// Returns the message of a run that did its work.
 fn verdict_message(verdict: Verdict, file: &[u8]) -> Message<'_>
     ensures { pieces_text result ≡ verdict_message file.now verdict }
 {
@@ -154,7 +154,7 @@ fn verdict_message(verdict: Verdict, file: &[u8]) -> Message<'_>
     }
 }
 
-// What is said of an end.
+// Returns the message for the end of a run.
 fn ending_message(ending: Result<Verdict, Trouble>, file: &[u8]) -> Message<'_>
     ensures { pieces_text result ≡ ending_message file.now ending }
 {
@@ -164,7 +164,7 @@ fn ending_message(ending: Result<Verdict, Trouble>, file: &[u8]) -> Message<'_>
     }
 }
 
-/// What a run failed with, where a call over a file or a write did.
+/// Returns what the run's failed call failed with: the last failed write of `out` if it was that, else of `files`.
 pub fn cause_of<F: Files, W: Write>(
     ending: &Result<Verdict, Trouble>,
     files: &F,
@@ -176,7 +176,7 @@ pub fn cause_of<F: Files, W: Write>(
     }
 }
 
-// Says how a run ended, with words where they are shown.
+// Reports how a run ended, with the explaining words if `err` explains.
 fn say_end<E: Write>(
     ending: Result<Verdict, Trouble>,
     file: &[u8],
@@ -203,8 +203,8 @@ fn say_end<E: Write>(
     }
 }
 
-/// Says on `err` how a run, or that line of ktutil, ended that names that file, and returns the status. A
-/// failure of `err` is passed over. The cause is that of the call that failed, if one did.
+/// Reports on `err` how a run over `file`, or line `line` of ktutil, ended, and returns the exit status. `cause` is
+/// that of the call that failed, if one did. Ignores a failure of `err`.
 pub fn tell<E: Write>(
     ending: Result<Verdict, Trouble>,
     file: &[u8],

@@ -1,4 +1,4 @@
-//! What ends a run before its end.
+//! The errors that end a run.
 
 ghost use Rattle.std.specs.Prelude.{◌≡◌};
 ghost use Rattle.krb_driver.specs.declared.trouble.Trouble.TheVariants as trouble;
@@ -10,33 +10,33 @@ use krb_text::{LineFault, ScriptRefusal};
 use krb_walk::Code;
 use krb_wire::NoMemory;
 
-/// What ends a run, or a line of ktutil, before its end. A line has its number, counted from 1.
+/// An error that ends a run, or a line of ktutil. Line numbers are counted from 1.
 #[derive(Clone, Copy)]
 pub enum Trouble {
     InputTooLarge,
     InputNotRead,
     FaultyLine { line: u64, fault: LineFault },
-    /// A keytab refused what a line asked for.
+    /// A keytab refused what a line read from it or added to it.
     LineRefused { line: u64, code: Code },
     NoSuchFile,
     FileTooLarge,
     FileNotRead,
     FileNotWritten,
     NotAKeytab(NotKeytab),
-    /// It was to be listed as one.
+    /// Of a file that was to be listed as one.
     NotAKeytabToList(NotKeytab),
     NotACache(NotCache),
-    /// The file refused what the run asked for.
+    /// The file refused what the run was to do.
     Refused(Code),
     OutputNotWritten,
-    /// The clock failed, or stands before 1970 or after 2106.
+    /// The clock failed, or is before 1970 or after 2106.
     ClockNotRead,
     NoMemory,
 }
 
 impl Trouble {
-    /// The status of a run that it ends. Of several the greatest counts: out of memory before a call that
-    /// failed, and that before what is wrong with an input or a file. (A bad command line has 2.)
+    /// Returns the exit status of a run that it ends: 4 if out of memory, 3 if a call failed, else 1, for what is wrong
+    /// with an input or a file. Of several errors the greatest status counts. (A bad command line has 2.)
     pub fn status(self) -> u8
         ensures { result ≡ trouble_status self }
     {
@@ -51,7 +51,7 @@ impl Trouble {
         }
     }
 
-    /// That a file to list gave no keytab.
+    /// Returns the error for a file to list that gave no keytab.
     pub fn of_listed(why: NoKeytab) -> Trouble
         ensures { result ≡ list_trouble why }
     {
@@ -61,7 +61,7 @@ impl Trouble {
         }
     }
 
-    /// That the input was not read.
+    /// Returns the error for an input that was not read.
     pub fn of_input(fault: LoadFault) -> Trouble
         ensures { result ≡ input_trouble fault }
     {

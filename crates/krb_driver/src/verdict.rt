@@ -1,4 +1,4 @@
-//! How a run ends that did its work.
+//! The verdict of a run that did its work.
 
 ghost use Rattle.std.specs.Prelude.{◌≡◌};
 ghost use Rattle.krb_driver.specs.Verdicts.{verdict_status};
@@ -21,7 +21,7 @@ pub struct Findings {
     pub is_wrong: bool,
 }
 
-/// How a run ends that did its work. What it printed may report something that is wrong.
+/// How a run that did its work ends. What it printed may report that something is wrong.
 #[derive(Clone, Copy)]
 pub enum Verdict {
     Well,
@@ -31,12 +31,12 @@ pub enum Verdict {
     Replied(Told),
     /// The findings report it.
     Found(Findings),
-    /// No entry, or no ticket, has what was asked for.
+    /// No entry, or no ticket, is selected.
     NothingToRemove(FileKind),
 }
 
 impl Verdict {
-    /// The status of a run that ends so.
+    /// Returns the exit status of the run.
     pub fn status(self) -> u8
         ensures { result ≡ verdict_status self }
     {

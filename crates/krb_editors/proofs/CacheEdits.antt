@@ -1,4 +1,4 @@
--- What lines do to a cache: the events of each, one after the other.
+-- What lines do to a cache: they run the events of each line, one after the other.
 use Rattle.std.proofs.Common.{◌≡◌, ◌<◌, ℕ, Bool, true, false, List, [], ◌∷◌, ◌++◌, map, length, take, refl, sym, ap, subst, ◌∙◌, append_assoc}
 use Rattle.std.specs.Prelude.{◌+◌, Result, Ok, Err, get_or, if◌then◌else◌}
 use Rattle.std.proofs.lemmas.List.{append-nil, take_more}
@@ -33,7 +33,7 @@ lawful_join : {S I : Type 0} (r : Rules S I) (s : SessionState S) (es fs : List 
 lawful_join r s [] fs all more = more
 lawful_join r s (e ∷ es) fs all more = (all.0, lawful_join r (after r s e) es fs all.1 more)
 
--- two runs are one
+-- two runs, one after the other, are one run
 pub ran_join : {S I : Type 0} (r : Rules S I) (old mid new : SessionState S) (es fs : List (Event I)) (t u v : List Said) → Ran r old mid es t u → Ran r mid new fs u v → Ran r old new (es ++ fs) t v
 ran_join {S} r old mid new es fs t u v first second =
     ran_of r old new (es ++ fs) t v first.run.ready
@@ -42,30 +42,30 @@ ran_join {S} r old mid new es fs t u v first second =
     (second.state ∙ ap (λ (s : SessionState S). state_after r s fs) first.state ∙ sym (state_join r old es fs))
     (lawful_join r old es fs first.run.lawful (subst (λ (s : SessionState S). AllLawful r (history r s fs)) first.state second.run.lawful))
 
--- a run is one to the state that its events leave
+-- a run ends in the state that its events leave
 pub ran_to_end : {S I : Type 0} (r : Rules S I) (old new : SessionState S) (es : List (Event I)) (t u : List Said) → Ran r old new es t u → Ran r old (state_after r old es) es t u
 ran_to_end {S} r old new es t u ran = subst (λ (s : SessionState S). Ran r old s es t u) ran.state ran
 
 -- ---- a value
 
--- a reply tells whether an addition was refused
+-- an addition was refused iff its reply is a refusal
 refusal_said : (given : Result (ℕ × CacheState) Code) → is_refused given ≡ is_refusal (put_said given)
 refusal_said (Ok given) = refl
 refusal_said (Err refused) = refl
 
--- the events of a setting, by what its addition is answered
+-- the events of a setting, by whether its addition is refused
 events_by : (k : CacheState) (s : SettingParts) (entry : CredParts) (refused : Bool) → entry ≡ entry_of k.principal s → is_refusal (put_said (put_result k entry)) ≡ refused
     → setting_events k s ≡ Put entry ∷ (if refused then [] else map Cut (match_places k s))
 events_by k s entry refused is answered =
     let removals : Bool → List (Event CredParts) = λ b. if b then [] else map Cut (match_places k s) in
     sym (ap (λ (c : CredParts). Put c ∷ removals (is_refused (put_result k c))) is) ∙ ap (λ (b : Bool). Put entry ∷ removals b) (refusal_said (put_result k entry) ∙ answered)
 
--- an addition that was refused is all that a setting does
+-- if the addition was refused, a setting does nothing else
 pub set_refused : (old new : SessionState CacheState) (s : SettingParts) (entry : CredParts) (t u : List Said) → entry ≡ entry_of old.store.principal s → is_refusal (reply_to cache_rules old (Put entry)) ≡ true
     → Ran cache_rules old new (Put entry ∷ []) t u → Ran cache_rules old new (setting_events old.store s) t u
 set_refused old new s entry t u is refused ran = rw (events_by old.store s entry true is refused) ran
 
--- one that was not, and the removals
+-- if it was not refused, the removals follow
 pub set_placed : (old mid new : SessionState CacheState) (s : SettingParts) (entry : CredParts) (removals : List (Event CredParts)) (t u v : List Said) → entry ≡ entry_of old.store.principal s → removals ≡ map Cut (match_places old.store s)
     → is_refusal (reply_to cache_rules old (Put entry)) ≡ false → Ran cache_rules old mid (Put entry ∷ []) t u → Ran cache_rules mid new removals u v → Ran cache_rules old new (setting_events old.store s) t v
 set_placed old mid new s entry removals t u v is removals_are placed first second =

@@ -1,4 +1,4 @@
--- What a session leaves and replies: the format along its events, and the text of the replies.
+-- What a session leaves and replies: the format after each event, and the text of the replies.
 use Rattle.std.proofs.Common.{◌≡◌, ℕ, Bool, true, false, List, [], ◌∷◌, ◌++◌, map, refl, sym, ap, subst, ◌∙◌}
 use Rattle.std.specs.Prelude.{if◌then◌else◌, cond, ◌||◌, is_some, nat_lt, length, slice_get, Option, None, Some, Result, Ok, Err, IfOk}
 use Rattle.std.specs.List.{flat_map, list_any}
@@ -71,7 +71,7 @@ module _ {S F : Type 0} (format : S → F) (rewritten : F) where
   rewrite_if true x y hx hy = hx
   rewrite_if false x y hx hy = hy
 
-  -- the format that a reply leaves is that of the store after its event
+  -- the format after a reply is that of the store after its event
   of_put : (k : S) (given : Result (ℕ × S) Code) → PutKeeps k given → format (put_store k given) ≡ format_after_by rewritten (format k) (put_said given)
   of_put k (Ok given) keeps = keeps
   of_put k (Err refused) keeps = refl
@@ -84,7 +84,7 @@ module _ {S F : Type 0} (format : S → F) (rewritten : F) where
   of_rewrite seen k (Ok new) sets = sets
   of_rewrite seen k (Err refused) sets = refl
 
-  -- how the changes of a store treat its format
+  -- the changes of a store keep its format, and a rewrite sets it
   pub record KeepsFormat {I : Type 0} (r : Rules S I) : Type 0 where
     pub put : (k : S) (item : I) → PutKeeps k (r.put k item)
     pub cut : (k : S) (p : ℕ) → CutKeeps k (r.cut k p)
@@ -123,7 +123,7 @@ module _ {S I F : Type 0} (r : Rules S I) (format : S → F) (rewritten : F) (ke
   format_of_event s (Cut p) = of_cut format rewritten s.store p (r.cut s.store p) (keeps.cut s.store p)
   format_of_event s Rewrite = of_rewrite format rewritten r.seen s.store (r.rewrite s.store) (keeps.rewrite s.store)
 
-  -- the lines of replies, each in the format that the store then had
+  -- the lines of the replies, each in the format of the store just before its event
   lines_of : (tail_of : F → List ℕ → List ℕ) (s : SessionState S) (events : List (Event I))
       → flat_map (λ m. reply_text_by tail_of (format m.before.store) m.reply) (history r s events) ≡ reply_texts_by tail_of rewritten (format s.store) (replies (history r s events))
   lines_of tail_of s [] = refl
@@ -185,7 +185,7 @@ same_map : {A B : Type 0} (f g : A → B) → ((x : A) → f x ≡ g x) → (xs 
 same_map f g each [] = refl
 same_map f g each (x ∷ xs) = ap (λ y. y ∷ map f xs) (each x) ∙ ap (λ ys. g x ∷ ys) (same_map f g each xs)
 
--- how a run ends that printed replies is a function of what they say
+-- the verdict of a run that printed replies depends only on what the replies say
 pub replied_said : {A : Type 0} (kind : FileKind) (f : A → Said) (rs : List A) → replied_verdict kind f rs ≡ replied_verdict kind (λ said. said) (map f rs)
 replied_said kind f rs =
     let ends : Bool → List (Option Code) → List (Option FaultKind) → Verdict = λ b codes faults. if b then Replied (record { kind = kind; codes = codes; faults = faults }) else Well in
@@ -195,7 +195,7 @@ replied_said kind f rs =
     ∙ ap (λ (cs : List (Option Code)). ends (list_any is_trouble (map f rs)) cs (faults_told f rs)) (same_map (code_told f rs) (code_told (λ said. said) (map f rs)) code_is (code.Damaged ∷ code.TooLong ∷ code.Full ∷ code.NotAPlace ∷ code.NotLive ∷ code.NoSuchWalk ∷ code.TooManyWalks ∷ code.ReadOnly ∷ code.NotFound ∷ code.KvnoNotFound ∷ code.Marked ∷ []))
     ∙ ap (λ (ks : List (Option FaultKind)). ends (list_any is_trouble (map f rs)) (codes_told (λ said. said) (map f rs)) ks) (same_map (fault_told f rs) (fault_told (λ said. said) (map f rs)) fault_is (CutLength ∷ Overrun ∷ BadEntry ∷ BadCredential ∷ []))
 
--- a session that began new is one of the store
+-- a run of a session that began as a new one is a run of the new session over the store
 pub ran_begun : {S I : Type 0} (r : Rules S I) (store : S) (events : List (Event I)) (old new : SessionState S) (told : List Said)
     → old ≡ new_session store → Ran r old new events [] told → Ran r (new_session store) (state_after r (new_session store) events) events [] told
 ran_begun {S} r store events old new told begins ran =
@@ -207,12 +207,12 @@ pub ran_fair : {S I : Type 0} (r : Rules S I) (store : S) (events : List (Event 
     → Ran r (new_session store) (state_after r (new_session store) events) events [] told → RunsFairly r store events
 ran_fair r store events told ran = subst (λ (t : List Said). Ran r (new_session store) (state_after r (new_session store) events) events [] t) ran.replies_are ran
 
--- the same of a session that began new
+-- the same for a session that began as a new one
 pub begun_fair : {S I : Type 0} (r : Rules S I) (store : S) (events : List (Event I)) (old new : SessionState S) (told : List Said)
     → old ≡ new_session store → Ran r old new events [] told → RunsFairly r store events
 begun_fair r store events old new told begins ran = ran_fair r store events told (ran_begun r store events old new told begins ran)
 
--- it left the store that the events leave
+-- such a session leaves the store that the events leave
 pub left_begun : {S I : Type 0} (r : Rules S I) (store : S) (events : List (Event I)) (old new : SessionState S) (told : List Said)
     → old ≡ new_session store → Ran r old new events [] told → new.store ≡ left r store events
 left_begun {S} r store events old new told begins ran =
@@ -233,7 +233,7 @@ module _ (kind : FileKind) (told : List Said) (image lines text_ : List ℕ) (ve
       ap (λ (t : List ℕ). Displays file (text t verdict)) text_is ∙ ap (λ (v : Verdict). Displays file (text lines v)) verdict_is
       ∙ ap (λ (b : Bool). if b then Saves file image lines due else Displays file (text lines due)) (sym changed)
 
--- what the replies of a session come to is what the session comes to
+-- what is due after the replies of a session is the effect of the session
 pub session_made : {S I F : Type 0} (kind : FileKind) (r : Rules S I) (image : S → List ℕ) (tail_of : F → List ℕ → List ℕ) (format : S → F) (rewritten : F) → KeepsFormat format rewritten r
     → (store : S) (events : List (Event I)) (told : List Said) (bytes : List ℕ) → Ran r (new_session store) (state_after r (new_session store) events) events [] told → bytes ≡ image (left r store events)
     → (file : List ℕ) → replied kind file told bytes (reply_texts_by tail_of rewritten (format store) told) ≡ session_effect kind r image (λ k. reply_text_by tail_of (format k)) file store events
@@ -243,13 +243,13 @@ session_made kind r image tail_of format rewritten keeps store events told bytes
     ∙ ap (λ (b : List ℕ). replied kind file due b (reply_texts_by tail_of rewritten (format store) due)) bytes_are
     ∙ ap (replied kind file due (image (left r store events))) (sym (lines_of r format rewritten keeps tail_of (new_session store) events))
 
--- what was made is what is due, where that is the same
+-- the effect is what is due, if the two are the same for every file
 pub made_as : {A E : Type 0} (given due : List ℕ → Effect) → ((file : List ℕ) → given file ≡ due file) → (result : Result (Made A (Output A)) E)
     → IfOk result (λ made. (file : List ℕ) → text_effect file (Ok made) ≡ given file) → IfOk result (λ made. (file : List ℕ) → text_effect file (Ok made) ≡ due file)
 made_as given due same (Ok made) is = λ file. is file ∙ same file
 made_as given due same (Err refused) is = tt
 
--- that holds, also where something was made
+-- what holds anyway also holds if something was made
 pub made_so : {X E : Type 0} (P : Type 0) → P → (result : Result X E) → IfOk result (λ made. P)
 made_so P holds (Ok made) = holds
 made_so P holds (Err refused) = tt

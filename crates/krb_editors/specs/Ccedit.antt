@@ -22,7 +22,7 @@ use Rattle.krb_driver.specs.Loading.{cache_of}
 use Rattle.krb_editors.specs.Sessions as session
 use Rattle.krb_editors.specs.Sessions.{may_change}
 
--- a reply that tells of a refusal
+-- a reply is a refusal
 abbrev pub is_refusal : Said → Bool
 is_refusal (Refused code) = true
 is_refusal said = false
@@ -36,12 +36,12 @@ abbrev pub line_may_change : CacheLineParts → Bool
 line_may_change (asked.Event event) = may_change event
 line_may_change (asked.Setting setting) = true
 
--- the events that a line asks for when the run reaches it: its event, or those that set its value
+-- the events of a line when the run reaches it: its event, or those that set its value
 abbrev pub line_events : SessionState CacheState → CacheLineParts → List (Event CredParts)
 line_events s (asked.Event event) = event ∷ []
 line_events s (asked.Setting setting) = setting_events s.store setting
 
--- those of lines in order, each of them when the run reaches it
+-- the events of lines in order, each line when the run reaches it
 abbrev pub lines_events : SessionState CacheState → List CacheLineParts → List (Event CredParts)
 lines_events s [] = []
 lines_events s (line ∷ lines) = line_events s line ++ lines_events (state_after cache_rules s (line_events s line)) lines
@@ -50,7 +50,7 @@ lines_events s (line ∷ lines) = line_events s line ++ lines_events (state_afte
 abbrev pub cache_events : List CacheLineParts → CacheState → List (Event CredParts)
 cache_events lines cache = lines_events (session.new_session cache) lines
 
--- what lines come to over the cache of a file: one that they changed is saved
+-- what lines over the cache of a file save and print: the cache is saved if they changed it
 abbrev pub edits : List CacheLineParts → List ℕ → CacheState → Effect
 edits lines file cache = session.session_effect Cache cache_rules image_of (λ k. cache_reply_text k.version) file cache (cache_events lines cache)
 
@@ -58,7 +58,7 @@ edits lines file cache = session.session_effect Cache cache_rules image_of (λ k
 abbrev pub RunsFairly : List CacheLineParts → CacheState → Type 0
 RunsFairly lines cache = session.RunsFairly cache_rules cache (cache_events lines cache)
 
--- the file is held, if a line may change it, and loaded; the lines are run in a session over the cache that it gives
+-- the file is held if a line may change it, and opened; the lines are run in a session over its cache
 abbrev pub ccedit_plan : List ℕ → List CacheLineParts → CommandPlan
 ccedit_plan file lines = Holds (list_any line_may_change lines) file (opens file cache_of (λ k. Ends (edits lines file k)))
 

@@ -24,7 +24,7 @@ use Rattle.krb_driver.specs.Mistakes.{MistakeParts, NothingSelects, Twice}
 use Rattle.krb_driver.specs.Opening.{writable_in}
 use Rattle.krb_editors.specs.Scripted.{EndsBefore}
 
--- the time at or before which tickets that are asked for end, by the clock, if expired ones are
+-- the time at or before which the selected tickets end: that of the clock, if only expired ones are selected
 abbrev pub clock_time : Option ℕ → Result (Option ℕ) Trouble
 clock_time None = Err ClockNotRead
 clock_time (Some now) = Ok (Some now)
@@ -36,7 +36,7 @@ ended_by o now = if o.expired then clock_time now else Ok None
 abbrev pub cache_after : CacheState → List ℕ → CacheState
 cache_after k places = cut_store (without k places) (rewrite_result (without k places))
 
--- how a run ends where no ticket is asked for; nothing to do is no failure where expired ones are, of what there is
+-- the verdict if no ticket is selected: no failure with `--expired`, if no server is given or it has tickets
 abbrev pub none_verdict : {A : Type 0} → TicketOptions A → Bool → Verdict
 none_verdict o named = if o.expired && (is_none o.server || named) then Well else NothingToRemove Cache
 
@@ -45,25 +45,25 @@ abbrev pub places : List PlacedCredential → List ℕ
 places xs = map (λ x. x.0) xs
 
 module _ {A : Type 0} (o : TicketOptions A) (file : List ℕ) where
-  -- the tickets are removed, if there are some, and a line is printed for each
+  -- the tickets are removed, if there are any, and a line is printed for each
   abbrev pub removes : CacheState → List PlacedCredential → Effect
   removes k xs =
       if length (places xs) == 0 then Displays file (text [] (none_verdict o (list_any (λ x. names_ticket o.server x.1) (placed_credentials k))))
       else saves_unless o.dry_run file (image_of (cache_after k (places xs))) (flat_map removed_ticket_line xs) Well
 
-  -- the file is held, unless it is a dry run, and loaded; of the cache that it gives the tickets that are asked for are removed
+  -- the file is held, unless it is a dry run, and opened; the selected tickets of its cache are removed
   abbrev pub ccremove_plan : Option ℕ → CommandPlan
   ccremove_plan ended = Holds (not o.dry_run) file (opens file writable_in (λ k. Ends (removes k (asked_tickets o.server ended k))))
 
 module _ {F A : Type 0} (trait : Ghosts F) (file : List ℕ) (o : TicketOptions A) (old new : F) (out out' : Watch) (err err' : ErrorWatch) (status : ℕ) where
-  -- a run of ccremove, where the clock was read, if it is asked for
+  -- a run of ccremove, or the error if the clock was needed and not read
   abbrev pub RunsCcremove : Result (Option ℕ) Trouble → Type 0
   RunsCcremove (Ok ended) = RunsCommand trait (λ mode. ccremove_plan o file ended) any old new out out' err err' status
   RunsCcremove (Err why) = EndsBefore trait old new out out' err err' status why
 
 -- ---- what the words ask for
 
--- what is wrong before any word is read: an option is given twice, or nothing selects
+-- the mistake that shows before any value is read: an option is given twice, or nothing selects
 abbrev pub odd_tickets : Matched → Option MistakeParts
 odd_tickets words =
     if nat_lt 1 (length (words.values (codes "service"))) then Some (Twice (codes "-p"))

@@ -16,7 +16,7 @@ use Rattle.krb_driver.specs.Opening.{keytab_or_empty}
 use Rattle.krb_editors.specs.Sessions as session
 use Rattle.krb_editors.specs.Sessions.{may_change}
 
--- what events come to over the keytab of a file: one that they changed is saved
+-- what events over the keytab of a file save and print: the keytab is saved if they changed it
 abbrev pub edits : List (Event EntryParts) → List ℕ → KeytabState → Effect
 edits events file keytab = session.session_effect Keytab keytab_rules image_of (λ k. reply_text k.format) file keytab events
 
@@ -24,7 +24,7 @@ edits events file keytab = session.session_effect Keytab keytab_rules image_of (
 abbrev pub RunsFairly : List (Event EntryParts) → KeytabState → Type 0
 RunsFairly events keytab = session.RunsFairly keytab_rules keytab events
 
--- the file is held, if an event may change it, and loaded; the events are run in a session over the keytab that it gives
+-- the file is held if an event may change it, and opened; the events are run in a session over its keytab
 abbrev pub ktedit_plan : Order → List ℕ → List (Event EntryParts) → CommandPlan
 ktedit_plan order file events = Holds (list_any may_change events) file (opens file (keytab_or_empty order) (λ k. Ends (edits events file k)))
 

@@ -23,16 +23,16 @@ use Rattle.krb_driver.specs.Matches.{IsSpelledName, Matched, bad_name, v1_order}
 use Rattle.krb_driver.specs.Mistakes.{MistakeParts, NoEtype, NoVersion, NothingSelects, Twice}
 use Rattle.krb_driver.specs.Opening.{whole_in}
 
--- old entries are asked for
+-- old entries are selected
 abbrev pub asks_for_old : AskedKvno → Bool
 asks_for_old Old = true
 asks_for_old kvno = false
 
--- neither a name nor an enctype is asked for
+-- neither a name nor an enctype is given
 abbrev pub asks_for_any : {A : Type 0} → Selection A → Bool
 asks_for_any s = is_none s.name && (length s.enctypes.items == 0)
 
--- how a run ends where no entry is asked for; nothing to do is no failure where old ones are, of what there is
+-- the verdict if no entry is selected: no failure with `-k old`, if no name or enctype is given or they have entries
 abbrev pub none_verdict : {A : Type 0} → Selection A → Bool → Verdict
 none_verdict s named = if asks_for_old s.kvno && (asks_for_any s || named) then Well else NothingToRemove Keytab
 
@@ -40,19 +40,19 @@ none_verdict s named = if asks_for_old s.kvno && (asks_for_any s || named) then 
 abbrev pub places : List PlacedEntry → List ℕ
 places xs = map (λ x. x.0) xs
 
--- the records are removed, if there are some, and a line is printed for each
+-- the entries are removed, if there are any, and a line is printed for each
 abbrev pub removes : {A : Type 0} → RemoveOptions A → List ℕ → KeytabState → List PlacedEntry → Effect
 removes o file k xs =
     if length (places xs) == 0 then Displays file (text [] (none_verdict o.selection (list_any (λ x. is_named o.selection x.1) (placed_entries k))))
     else saves_unless o.dry_run file (image_of (without k (places xs))) (flat_map removed_line xs) Well
 
--- the file is held, unless it is a dry run, and loaded; of the keytab that it gives the entries that are asked for are removed
+-- the file is held, unless it is a dry run, and opened; the selected entries of its keytab are removed
 abbrev pub ktremove_plan : {A : Type 0} → RemoveOptions A → List ℕ → CommandPlan
 ktremove_plan o file = Holds (not o.dry_run) file (opens file (whole_in o.v1_order) (λ k. Ends (removes o file k (asked o.selection k))))
 
 -- ---- what the words ask for
 
--- what is wrong before any word is read: an option is given twice, or nothing selects
+-- the mistake that shows before any value is read: an option is given twice, or nothing selects
 abbrev pub odd_selection : Matched → Option MistakeParts
 odd_selection words =
     if nat_lt 1 (length (words.values (codes "name"))) then Some (Twice (codes "-p"))
@@ -60,16 +60,16 @@ odd_selection words =
     else (if (length (words.values (codes "name")) == 0) && ((length (words.values (codes "kvno")) == 0) && (length (words.values (codes "etype")) == 0)) then Some (NothingSelects (codes "-p, -k or -e"))
     else None))
 
--- the versions that a word asks for: `old`, or a number
+-- the kvnos that a word selects: `old`, or a number
 abbrev pub kvno_in : List ℕ → Option AskedKvno
 kvno_in word = if bytes_eq word (codes "old") then Some Old else option_map Exactly (number_in 32 word)
 
--- a word that is no version
+-- the mistake of a word that is neither `old` nor a kvno
 abbrev pub bad_kvno : Option (List ℕ) → Option MistakeParts
 bad_kvno None = None
 bad_kvno (Some word) = if is_none (kvno_in word) then Some (NoVersion word) else None
 
--- the first word that is no encryption type
+-- the mistake of the first word that is not an enctype
 abbrev pub bad_etype : List (List ℕ) → Option MistakeParts
 bad_etype words = option_map NoEtype (find (λ word. is_none (etype_in word)) words)
 
@@ -80,7 +80,7 @@ remove_mistake words =
     (option_or (bad_kvno (slice_get (words.values (codes "kvno")) 0))
     (option_or (bad_etype (words.values (codes "etype"))) (option_and_then bad_name (slice_get (words.values (codes "name")) 0))))
 
--- the versions that are asked for
+-- the kvnos are those that the word selects, or any without a word
 abbrev pub IsSpelledKvno : Option (List ℕ) → AskedKvno → Type 0
 IsSpelledKvno None kvno = kvno ≡ Any
 IsSpelledKvno (Some word) kvno = kvno_in word ≡ Some kvno

@@ -1,4 +1,4 @@
--- What a run does whose lines a script gives.
+-- A run whose lines come from a script.
 use Rattle.std.specs.Prelude.{◌≡◌, ◌⊎◌, ℕ, List, [], None, Result, Ok, Err}
 use Rattle.krb_files.specs.declared.files.Files.{Ghosts}
 use Rattle.krb_files.specs.declared.files.LoadFault.{LoadFault}
@@ -30,17 +30,17 @@ module _ {L : Type 0} (reads : List ℕ → Result L LineFault) where
     pub given_is : (given ≡ Err NoMemory) ⊎ (given ≡ lines_in input)
 
 module _ {F : Type 0} (trait : Ghosts F) (old new : F) (out out' : Watch) (err err' : ErrorWatch) (status : ℕ) where
-  -- some trouble ends the run before it does anything
+  -- an error ends the run before it does anything
   abbrev pub EndsBefore : Trouble → Type 0
   EndsBefore why = (new ≡ old) × ((out' ≡ out) × Tells [] None (Err why) err err' status)
 
   module _ {L : Type 0} (plan : List L → CommandPlan) (fairly : List L → List Answer → Type 0) where
-    -- the command of the lines is run, or why there are none ends the run
+    -- the command is run with the lines, or the error that there are none ends the run
     abbrev pub RunsLines : Result (List L) Trouble → Type 0
     RunsLines (Ok lines) = RunsCommand trait (λ mode. plan lines) (fairly lines) old new out out' err err' status
     RunsLines (Err why) = EndsBefore why
 
-    -- a run whose lines a script gives
+    -- a run whose lines come from a script
     pub record RunsScript (reads : List ℕ → Result L LineFault) (reader reader' : Source) : Type 0 where
       pub lines : Result (List L) Trouble
       pub given : GivesLines reads reader reader' lines

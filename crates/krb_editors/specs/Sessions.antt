@@ -1,4 +1,4 @@
--- What a new session makes of a store, and what is printed of it.
+-- What a new session does to a store, and what is saved and printed after it.
 use Rattle.std.specs.Prelude.{ℕ, Bool, true, false, List, [], if◌then◌else◌}
 use Rattle.std.specs.List.{flat_map, list_any}
 use Rattle.krb_walk.specs.declared.event.Event.{Event}
@@ -26,7 +26,7 @@ is_change (Gone place) = true
 is_change (Rewritten end) = true
 is_change said = false
 
--- by replies over a file of that kind: an image that they changed is saved, and their lines are printed
+-- the effect of replies over a file of that kind: the image is saved if they report a change, and the lines printed
 abbrev pub replied : FileKind → List ℕ → List Said → List ℕ → List ℕ → Effect
 replied kind file told image lines =
     let verdict = replied_verdict kind (λ said. said) told in
@@ -45,15 +45,15 @@ module _ {S I : Type 0} (rules : Rules S I) (store : S) (events : List (Event I)
   abbrev pub left : S
   left = (state_after rules (new_session store) events).store
 
-  -- they were run: every walk is given what is due to it
+  -- the events were run: every walk is given what is due to it
   abbrev pub RunsFairly : Type 0
   RunsFairly = Ran rules (new_session store) (state_after rules (new_session store) events) events [] (replies moments)
 
 module _ {S I : Type 0} (kind : FileKind) (rules : Rules S I) (image : S → List ℕ) (line : S → Said → List ℕ) (file : List ℕ) (store : S) (events : List (Event I)) where
-  -- the lines of the replies, each as the store then had it
+  -- the lines of the replies, each by the store just before its event
   abbrev pub reply_lines : List ℕ
   reply_lines = flat_map (λ m. line m.before.store m.reply) (moments rules store events)
 
-  -- a store that was changed is saved, and the lines are printed
+  -- what a session saves and prints: the store is saved if a reply reports a change, and the lines are printed
   abbrev pub session_effect : Effect
   session_effect = replied kind file (replies (moments rules store events)) (image (left rules store events)) reply_lines

@@ -1,4 +1,4 @@
-//! Edits a cache's file by a script.
+//! ccedit: edits a credential cache by a script.
 
 ghost use Rattle.std.specs.Prelude.{◌≡◌, ℕ, List, IfOk, IsFalse, Ok, OnOk, ◌∷◌, [], map};
 ghost use Rattle.krb_walk.specs.declared.event.Event.TheVariants.{Cut};
@@ -44,14 +44,14 @@ Lines of the script, of which empty ones and those that begin with # ask for not
     words: &[Word::Operand("FILE", "The file to edit")],
 };
 
-/// What ccedit asks for.
+/// The command ccedit.
 #[derive(Drop)]
 struct EditCache<'f, A: Allocator> {
     file: &'f str,
     lines: Vec<CacheLine<A>, A>,
 }
 
-// The removals of what stands at those places.
+// Returns a `Cut` for each place.
 fn cuts<A: Allocator + Copy>(alloc: A, places: &[u32]) -> Result<Vec<Event<Cred<A>>, A>, NoMemory>
     ensures { IfOk result (λ events. events.items ≡ map Cut places.now) }
 {
@@ -63,7 +63,7 @@ fn cuts<A: Allocator + Copy>(alloc: A, places: &[u32]) -> Result<Vec<Event<Cred<
     )
 }
 
-// Applies an event, and adds its reply. Tells whether it was refused.
+// Applies an event and adds its reply. Returns whether it was refused.
 fn apply<A: Allocator + Copy>(
     session: &mut Session<Ccache<A>, A>,
     event: &Event<Cred<A>>,
@@ -79,7 +79,7 @@ fn apply<A: Allocator + Copy>(
     Ok(is_refused)
 }
 
-// Sets a value: adds its entry, and then, where that was not refused, removes each entry that it takes the place of.
+// Sets a value: adds its entry and, if that was not refused, removes each entry that it replaces.
 fn set_value<A: Allocator + Copy>(
     alloc: A,
     session: &mut Session<Ccache<A>, A>,
@@ -99,7 +99,7 @@ fn set_value<A: Allocator + Copy>(
     Ok(session.run(&removals, replies)?)
 }
 
-// Runs what a line asks for.
+// Runs a line.
 fn run_line<A: Allocator + Copy>(
     alloc: A,
     session: &mut Session<Ccache<A>, A>,
@@ -118,7 +118,7 @@ fn run_line<A: Allocator + Copy>(
     }
 }
 
-// Runs lines over a cache in a session.
+// Runs lines over a cache in a new session.
 fn run_lines<A: Allocator + Copy>(
     alloc: A,
     cache: Ccache<A>,
@@ -137,7 +137,7 @@ fn run_lines<A: Allocator + Copy>(
     Ok(session.into_store())
 }
 
-// Runs lines over a cache, and gathers the lines of the replies.
+// Runs lines over a cache and returns what to save and the text of the replies.
 fn edit<A: Allocator + Copy>(
     alloc: A,
     cache: Ccache<A>,
@@ -152,7 +152,7 @@ fn edit<A: Allocator + Copy>(
     replied(alloc, FileKind::Cache, format, &replies, cache.into_image())
 }
 
-// Whether a line may change a cache.
+// Returns whether a line may change a cache.
 fn line_may_change<A: Allocator>(line: &CacheLine<A>) -> bool
     ensures { result ≡ line_may_change line.now }
 {
@@ -189,8 +189,8 @@ impl<'f, A: Allocator + Copy> Command<A> for EditCache<'f, A> {
     }
 }
 
-/// Runs the lines of a script over the cache of that name in one session, saves it where they changed it,
-/// prints the replies, and returns the status.
+/// Runs the lines of the script on the input over the cache `file` in one session, saves it if they changed it,
+/// prints the replies, and returns the exit status.
 pub fn run_ccedit<A: Allocator + Copy, F: Files, R: Read, W: Write, E: Write>(
     alloc: A,
     file: &str,

@@ -1,4 +1,4 @@
-//! Removes tickets from a cache's file.
+//! ccremove: removes tickets from a credential cache.
 
 ghost use Rattle.std.specs.Prelude.{◌≡◌, IfOk, IsFalse, option_map};
 ghost use Rattle.krb_ccache.specs.Store.{image_of};
@@ -37,18 +37,18 @@ pub const CCREMOVE: CommandWords = CommandWords {
     ],
 };
 
-/// Which tickets ccremove removes: those of which all holds that is given.
+/// Which tickets ccremove removes: those that meet every condition given.
 #[derive(Drop)]
 pub struct TicketOptions<A: Allocator> {
-    /// Their server, as it is printed.
+    /// Only those for this server, compared as it is printed.
     pub server: Option<Principal<A>>,
-    /// Those that have ended.
+    /// Only those that have ended.
     pub expired: bool,
-    /// To tell what would be removed, and to save nothing.
+    /// Print what would be removed, and save nothing.
     pub dry_run: bool,
 }
 
-// What is wrong before any word is read: nothing selects, or an option is given twice.
+// Returns the mistake that shows before any value is read: an option is given twice, or nothing selects.
 fn odd_tickets<'a, M: Matches<'a>>(matches: &M) -> Option<Mistake<'a>>
     ensures { option_map mistake_parts result ≡ odd_tickets (M.matched matches.now) }
 {
@@ -62,7 +62,7 @@ fn odd_tickets<'a, M: Matches<'a>>(matches: &M) -> Option<Mistake<'a>>
     }
 }
 
-/// What the words of ccremove select: something, and the name has to be read.
+/// Returns the options of ccremove. Refuses a line that selects nothing, `-p` given twice, and a bad name.
 pub fn ticket_options<'a, M: Matches<'a>>(
     alloc: Global,
     matches: &M,
@@ -79,7 +79,7 @@ pub fn ticket_options<'a, M: Matches<'a>>(
     })
 }
 
-/// What ccremove asks for: tickets that end at or before a time, if there is one.
+/// The command ccremove. If there is a time, it removes only tickets that end at or before it.
 #[derive(Clone, Copy)]
 struct RemoveTickets<'f, B: Allocator> {
     options: &'f TicketOptions<B>,
@@ -87,7 +87,7 @@ struct RemoveTickets<'f, B: Allocator> {
     file: &'f str,
 }
 
-// The time at or before which tickets that are asked for end, if expired ones are.
+// Returns the time at or before which the selected tickets end, if only expired ones are selected.
 fn ended_by<B: Allocator>(
     options: &TicketOptions<B>,
     now: Option<u32>,
@@ -101,8 +101,8 @@ fn ended_by<B: Allocator>(
     }
 }
 
-// The image of a cache that is rewritten without the tickets at those places. One that may be changed refuses no
-// rewrite.
+// Rewrites a cache without the tickets at those places and returns its image. A cache that may be changed does not
+// refuse this.
 fn cut<A: Allocator + Copy>(mut cache: Ccache<A>, places: &[u32]) -> Result<Vec<u8, A>, NoMemory>
     ensures { IfOk result (λ image. image.items ≡ image_of (cache_after cache.state places.now)) }
 {
@@ -113,7 +113,7 @@ fn cut<A: Allocator + Copy>(mut cache: Ccache<A>, places: &[u32]) -> Result<Vec<
     }
 }
 
-// How a run ends where no ticket is asked for: nothing to do is no failure where expired ones are.
+// Returns the verdict if no ticket is selected: no failure with `--expired`, if no server is given or it has tickets.
 fn none_verdict<B: Allocator>(options: &TicketOptions<B>, is_named: bool) -> Verdict
     ensures { result ≡ none_verdict options.now is_named }
 {
@@ -124,7 +124,7 @@ fn none_verdict<B: Allocator>(options: &TicketOptions<B>, is_named: bool) -> Ver
     }
 }
 
-// Removes from a cache the tickets that are asked for.
+// Removes the selected tickets from a cache, or only lists them in a dry run.
 fn remove<'a, A: Allocator + Copy, B: Allocator>(
     alloc: A,
     command: &RemoveTickets<'a, B>,
@@ -177,8 +177,8 @@ impl<'f, A: Allocator + Copy, B: Allocator> Command<A> for RemoveTickets<'f, B> 
     }
 }
 
-/// Removes from the cache of that name the tickets that are asked for and rewrites it, prints a line for each,
-/// and returns the status. It is `now`, in seconds, or the clock was not read.
+/// Removes the selected tickets from the cache `file` and rewrites it, prints a line for each ticket, and returns the
+/// exit status. `now` is in seconds, or `None` if the clock was not read.
 pub fn run_ccremove<A: Allocator + Copy, B: Allocator, F: Files, R: Read, W: Write, E: Write>(
     alloc: A,
     options: &TicketOptions<B>,

@@ -1,4 +1,4 @@
-//! What the replies of a session come to.
+//! What to save and print after a session.
 
 ghost use Rattle.std.specs.Prelude.{◌≡◌, ℕ, List, IfOk, Ok, map};
 ghost use Rattle.std.specs.List.{list_any};
@@ -13,7 +13,7 @@ use krb_walk::{Event, Reply};
 use krb_wire::NoMemory;
 use std::alloc::Allocator;
 
-/// Whether an event may change a file.
+/// Returns whether an event may change a file.
 pub fn may_change<I>(event: &Event<I>) -> bool
     ensures { result ≡ may_change event.now }
 {
@@ -23,7 +23,7 @@ pub fn may_change<I>(event: &Event<I>) -> bool
     }
 }
 
-// Whether a reply reports a change of the file.
+// Returns whether a reply reports a change of the file.
 fn is_change<A: Allocator>(reply: &Reply<A>) -> bool
     ensures { result ≡ is_change (said reply.now) }
 {
@@ -39,7 +39,7 @@ fn are_changes<A: Allocator>(replies: &[Reply<A>]) -> bool
     replies.iter().any(is_change)
 }
 
-/// What the replies of a session over a file come to that left that image.
+/// Returns what to print after a session with those replies, and the image to save if they report a change.
 pub fn replied<A: Allocator + Copy, F: RecordFormat>(
     alloc: A,
     kind: FileKind,

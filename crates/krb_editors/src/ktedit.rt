@@ -1,4 +1,4 @@
-//! Edits a keytab's file by a script.
+//! ktedit: edits a keytab by a script.
 
 ghost use Rattle.std.specs.Prelude.{◌≡◌, ℕ, List, IfOk, IsFalse, Ok};
 ghost use Rattle.krb_text.specs.Script.{event_in};
@@ -38,7 +38,7 @@ Lines of the script, of which empty ones and those that begin with # ask for not
     ],
 };
 
-/// What ktedit asks for.
+/// The command ktedit.
 #[derive(Drop)]
 struct EditKeytab<'f, A: Allocator> {
     v1_order: Order,
@@ -46,7 +46,7 @@ struct EditKeytab<'f, A: Allocator> {
     events: Vec<Event<NewEntry<A>>, A>,
 }
 
-// Runs events over a keytab, by a table of its cells, in a session.
+// Runs events over a keytab, with a table of its cells, in a new session.
 fn edit<A: Allocator + Copy>(
     alloc: A,
     keytab: Keytab<A>,
@@ -93,8 +93,8 @@ impl<'f, A: Allocator + Copy> Command<A> for EditKeytab<'f, A> {
     }
 }
 
-/// Runs the events of a script over the keytab of that name in one session, saves it where they changed it,
-/// prints the replies, and returns the status.
+/// Runs the events of the script on the input over the keytab `file` in one session, saves it if they changed it,
+/// prints the replies, and returns the exit status.
 pub fn run_ktedit<A: Allocator + Copy, F: Files, R: Read, W: Write, E: Write>(
     alloc: A,
     v1_order: Order,

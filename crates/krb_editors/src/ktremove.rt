@@ -1,4 +1,4 @@
-//! Removes entries of a keytab's file.
+//! ktremove: removes entries from a keytab.
 
 ghost use Rattle.std.specs.Prelude.{◌≡◌, IfErr, IfOk, IsFalse, None, OnOk, Some, codes, find, is_none, map, option_map};
 ghost use Rattle.std.specs.List.{filter_map};
@@ -50,17 +50,17 @@ pub const KTREMOVE: CommandWords = CommandWords {
     ],
 };
 
-/// What ktremove removes.
+/// Which entries ktremove removes.
 #[derive(Drop)]
 pub struct RemoveOptions<A: Allocator> {
     pub selection: Selection<A>,
-    /// To tell what would be removed, and to save nothing.
+    /// Print what would be removed, and save nothing.
     pub dry_run: bool,
-    /// The order of a keytab of version 1.
+    /// The byte order of version 1 keytabs.
     pub v1_order: Order,
 }
 
-// The versions that a word asks for.
+// Parses a word as `old` or a kvno.
 fn kvno_of(word: &str) -> Option<AskedKvno>
     ensures { result ≡ kvno_in word.now }
 {
@@ -70,7 +70,7 @@ fn kvno_of(word: &str) -> Option<AskedKvno>
     Some(AskedKvno::Exactly(parse_u32(word.as_bytes())?))
 }
 
-// The first word that is no encryption type.
+// Returns the first word that is not an enctype.
 fn bad_word<'a>(words: &[&'a str]) -> Option<&'a str>
     ensures { result ≡ find (λ word. is_none (etype_in word.now)) words.now }
 {
@@ -80,7 +80,7 @@ fn bad_word<'a>(words: &[&'a str]) -> Option<&'a str>
         .find(|word| etype_of(word.as_bytes()).is_none())
 }
 
-// The same, by the texts of the words.
+// Like `bad_word`, by the texts of the words.
 #[tactic(auto, using(krb_driver::proofs::MatchLemmas::found_word))]
 fn first_bad<'a>(words: &[&'a str]) -> Option<&'a str>
     ensures { option_map (λ word. word.now) result
@@ -89,14 +89,14 @@ fn first_bad<'a>(words: &[&'a str]) -> Option<&'a str>
     bad_word(words)
 }
 
-// That a word is no encryption type, if one is not.
+// Returns the mistake of the first word that is not an enctype, if there is one.
 fn bad_etype<'a, M: Matches<'a>>(matches: &M) -> Option<Mistake<'a>>
     ensures { option_map mistake_parts result ≡ bad_etype ((M.matched matches.now).values (codes "etype")) }
 {
     Some(Mistake::NoEtype(first_bad(matches.values("etype"))?))
 }
 
-// What is wrong before any word is read: nothing selects, or an option is given twice.
+// Returns the mistake that shows before any value is read: an option is given twice, or nothing selects.
 fn odd_selection<'a, M: Matches<'a>>(matches: &M) -> Option<Mistake<'a>>
     ensures { option_map mistake_parts result ≡ odd_selection (M.matched matches.now) }
 {
@@ -113,7 +113,7 @@ fn odd_selection<'a, M: Matches<'a>>(matches: &M) -> Option<Mistake<'a>>
     }
 }
 
-// The versions that a word asks for, if there is a word.
+// Returns the kvnos that a word selects, or `Any` without a word.
 fn asked_kvno<'a>(word: Option<&'a str>) -> Result<AskedKvno, Mistake<'a>>
     ensures ok { IfOk result (IsSpelledKvno (option_map (λ word. word.now) word.entry)) }
     ensures readable { OnOk result (bad_kvno (option_map (λ word. word.now) word.entry) ≡ None) }
@@ -128,7 +128,7 @@ fn asked_kvno<'a>(word: Option<&'a str>) -> Result<AskedKvno, Mistake<'a>>
     }
 }
 
-// The encryption types that words spell.
+// Parses words as enctypes, and skips those that are none.
 fn read_etypes(alloc: Global, words: &[&str]) -> Result<Vec<u16>, NoMemory>
     ensures { IfOk result (λ etypes. etypes.items ≡ filter_map (λ word. etype_in word.now) words.now) }
 {
@@ -140,7 +140,7 @@ fn read_etypes(alloc: Global, words: &[&str]) -> Result<Vec<u16>, NoMemory>
     )
 }
 
-// The same, by the texts of the words.
+// Like `read_etypes`, by the texts of the words.
 #[tactic(auto, using(krb_driver::proofs::MatchLemmas::spelled_words))]
 fn etypes_of(alloc: Global, words: &[&str]) -> Result<Vec<u16>, NoMemory>
     ensures { IfOk result (λ etypes. etypes.items ≡ filter_map etype_in (map (λ word. word.now) words.now)) }
@@ -148,7 +148,7 @@ fn etypes_of(alloc: Global, words: &[&str]) -> Result<Vec<u16>, NoMemory>
     Ok(read_etypes(alloc, words)?)
 }
 
-/// What the words of ktremove select: something, and each word has to be read.
+/// Returns the options of ktremove. Refuses a line that selects nothing, `-p` or `-k` given twice, and a bad value.
 pub fn remove_options<'a, M: Matches<'a>>(
     alloc: Global,
     matches: &M,
@@ -180,14 +180,14 @@ pub fn remove_options<'a, M: Matches<'a>>(
     })
 }
 
-/// What ktremove asks for.
+/// The command ktremove.
 #[derive(Clone, Copy)]
 struct RemoveEntries<'f, B: Allocator> {
     options: &'f RemoveOptions<B>,
     file: &'f str,
 }
 
-// How a run ends where no entry is asked for: nothing to do is no failure where old ones are.
+// Returns the verdict if no entry is selected: no failure with `-k old`, if `-p` and `-e`, if given, match an entry.
 fn none_verdict<B: Allocator>(selection: &Selection<B>, is_named: bool) -> Verdict
     ensures { result ≡ none_verdict selection.now is_named }
 {
@@ -199,7 +199,7 @@ fn none_verdict<B: Allocator>(selection: &Selection<B>, is_named: bool) -> Verdi
     }
 }
 
-// Removes from a keytab the entries that are asked for.
+// Removes the selected entries from a keytab, or only lists them in a dry run.
 fn remove<'a, A: Allocator + Copy, B: Allocator>(
     alloc: A,
     command: &RemoveEntries<'a, B>,
@@ -251,8 +251,7 @@ impl<'f, A: Allocator + Copy, B: Allocator> Command<A> for RemoveEntries<'f, B> 
     }
 }
 
-/// Removes from the keytab of that name the entries that are asked for, prints a line for each, and returns
-/// the status.
+/// Removes the selected entries from the keytab `file`, prints a line for each entry, and returns the exit status.
 #[tactic(auto, unfolding(krb_driver::specs::Commands::always))]
 pub fn run_ktremove<A: Allocator + Copy, B: Allocator, F: Files, R: Read, W: Write, E: Write>(
     alloc: A,

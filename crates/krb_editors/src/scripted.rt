@@ -1,4 +1,4 @@
-//! The lines of a script.
+//! Reads a script.
 
 ghost use Rattle.krb_driver.specs.Loading.{result_map};
 ghost use Rattle.krb_editors.specs.Scripted.{GivesLines};
@@ -10,7 +10,7 @@ use krb_wire::USUAL_LIMIT;
 use std::alloc::Allocator;
 use std::io::Read;
 
-/// The lines of the script that an input gives.
+/// Reads the input to its end and returns the lines of the script.
 pub fn read_script<A: Allocator + Copy, L: ScriptLine<A>, R: Read>(
     alloc: A,
     input: &mut WatchedReader<R>,

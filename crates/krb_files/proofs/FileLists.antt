@@ -1,4 +1,4 @@
--- Look-ups in a list of files, and changes of it.
+-- Look-ups in a list of files, and changes to it.
 use Rattle.std.proofs.Common.{◌≡◌, ◌≢◌, ℕ, zero, suc, ◌+◌, ◌<◌, ◌≤◌, Bool, true, false, not, List, [], ◌∷◌, ◌++◌, length, Some, None, map, refl, sym, ap, subst, ◌∙◌, cond, arith}
 use Rattle.std.specs.Prelude.{find, position, option_map, nat_lt, slice_set, slice_index_or}
 use Rattle.std.specs.List.{prefix_len}
@@ -8,7 +8,7 @@ use Rattle.std.proofs.lemmas.Slice.Eq.{bytes_eq-Decides}
 use Rattle.krb_files.specs.Files.{SetsFile}
 use Rattle.krb_files.specs.MemFiles.{file_in, with_file}
 
--- the first element of a mapped list that passes
+-- `find` in a mapped list is the image of `find` in the list
 pub find-map : {X Y : Type 0} (v : X → Y) (test : Y → Bool) (xs : List X) → find test (map v xs) ≡ option_map v (find (λ x. test (v x)) xs)
 find-map v test [] = refl
 find-map v test (x ∷ xs) = elim (test (v x)) as (λ b. cond b (Some (v x)) (find test (map v xs)) ≡ option_map v (cond b (Some x) (find (λ y. test (v y)) xs))) [
@@ -16,12 +16,12 @@ find-map v test (x ∷ xs) = elim (test (v x)) as (λ b. cond b (Some (v x)) (fi
   | false ↦ find-map v test xs
 ]
 
--- the number of a position is that of the elements before it
+-- a position is the number of the elements before it, and less than the length
 pub position-some : (k len n : ℕ) (b : Bool) → nat_lt k len ≡ b → Some n ≡ cond b (Some k) None → (k ≡ n) × (n < len)
 position-some k len n true e h = let same : k ≡ n = cc in (same, subst (λ m. m < len) same (ltb-true k len e))
 position-some k len n false e h = absurd (cc)
 
--- without a position no element passes
+-- without a position every element fails the test
 pub position-none : (k len : ℕ) (b : Bool) → nat_lt k len ≡ b → None ≡ cond b (Some k) None → len ≤ k
 position-none k len true e h = absurd (cc)
 position-none k len false e h = ltb-false k len e
@@ -40,7 +40,7 @@ module _ {X : Type 0} (v : X → List ℕ × List ℕ) (name : List ℕ) where
   with_file-cons false x xs zero d y rest e lt same = absurd (omega arith)
   with_file-cons false x xs (suc n) d y rest e lt same = ap (λ (files : List (List ℕ × List ℕ)). v x ∷ files) (rest n (omega arith) (omega arith) same)
 
-  -- the first of the name is set
+  -- setting the first file of the name is `with_file`
   with_file-set : (xs : List X) (n : ℕ) (d y : X) → prefix_len misses xs ≡ n → n < length xs → (v y).0 ≡ (v (slice_index_or xs n d)).0 → map v (slice_set xs n y) ≡ with_file (map v xs) name (v y).1
   with_file-set [] n d y e lt same = absurd (omega arith)
   with_file-set (x ∷ xs) n d y e lt same = with_file-cons (bytes_eq (v x).0 name) x xs n d y (λ m. with_file-set xs m d y) e lt same
@@ -51,12 +51,12 @@ module _ {X : Type 0} (v : X → List ℕ × List ℕ) (name : List ℕ) where
   with_file-more true x xs bytes rest le = absurd (omega arith)
   with_file-more false x xs bytes rest le = ap (λ (files : List (List ℕ × List ℕ)). v x ∷ files) (rest (omega arith))
 
-  -- where none has the name, one more file has it
+  -- if no file has the name, `with_file` appends one
   with_file-push : (xs : List X) (bytes : List ℕ) → length xs ≤ prefix_len misses xs → with_file (map v xs) name bytes ≡ map v xs ++ (name, bytes) ∷ []
   with_file-push [] bytes le = refl
   with_file-push (x ∷ xs) bytes le = with_file-more (bytes_eq (v x).0 name) x xs bytes (with_file-push xs bytes) le
 
-  -- the same, by the place of the first of the name
+  -- both, by the position of the first file of the name
   pub with_file-at : (xs : List X) (n : ℕ) (d y : X) → Some n ≡ position (λ x. bytes_eq (v x).0 name) xs → (v y).0 ≡ (v (slice_index_or xs n d)).0 → map v (slice_set xs n y) ≡ with_file (map v xs) name (v y).1
   with_file-at xs n d y found same =
       let at = position-some (prefix_len misses xs) (length xs) n (nat_lt (prefix_len misses xs) (length xs)) refl found in
@@ -65,7 +65,7 @@ module _ {X : Type 0} (v : X → List ℕ × List ℕ) (name : List ℕ) where
   pub with_file-none : (xs : List X) (bytes : List ℕ) → None ≡ position (λ x. bytes_eq (v x).0 name) xs → with_file (map v xs) name bytes ≡ map v xs ++ (name, bytes) ∷ []
   with_file-none xs bytes none = with_file-push xs bytes (position-none (prefix_len misses xs) (length xs) (nat_lt (prefix_len misses xs) (length xs)) refl none)
 
--- a text is itself
+-- `bytes_eq` is reflexive
 bytes_eq-same : (bs : List ℕ) → bytes_eq bs bs ≡ true
 bytes_eq-same bs = (bytes_eq-Decides bs bs).1 refl
 
@@ -74,12 +74,12 @@ this-cons : (b : Bool) (file : List ℕ × List ℕ) (files : List (List ℕ × 
 this-cons true file files name bytes e rest = rw e refl
 this-cons false file files name bytes e rest = rw e rest
 
--- the file that is set has its bytes
+-- the file that is set has these bytes
 this-with_file : (files : List (List ℕ × List ℕ)) (name bytes : List ℕ) → file_in (with_file files name bytes) name ≡ Some bytes
 this-with_file [] name bytes = rw (bytes_eq-same name) refl
 this-with_file (file ∷ files) name bytes = this-cons (bytes_eq file.0 name) file files name bytes refl (this-with_file files name bytes)
 
--- a text that is another is not this one
+-- `bytes_eq` is false of different texts
 bytes_eq-others : (b : Bool) (xs ys : List ℕ) → bytes_eq xs ys ≡ b → xs ≢ ys → b ≡ false
 bytes_eq-others true xs ys e differ = absurd (differ ((bytes_eq-Decides xs ys).0 e))
 bytes_eq-others false xs ys e differ = refl
@@ -96,11 +96,11 @@ others-cons false file files name bytes other e differ rest = elim (bytes_eq fil
   | false ↦ rest
 ]
 
--- every other file has what it had
+-- every other file has the bytes it had
 others-with_file : (files : List (List ℕ × List ℕ)) (name bytes other : List ℕ) → other ≢ name → file_in (with_file files name bytes) other ≡ file_in files other
 others-with_file [] name bytes other differ = rw (bytes_eq-others (bytes_eq name other) name other refl (λ same. differ (sym same))) refl
 others-with_file (file ∷ files) name bytes other differ = others-cons (bytes_eq file.0 name) file files name bytes other refl differ (others-with_file files name bytes other differ)
 
--- a file is set, and no other
+-- `with_file` sets the file, and no other
 pub sets_file : (files : List (List ℕ × List ℕ)) (name bytes : List ℕ) → SetsFile (file_in files) name bytes (file_in (with_file files name bytes))
 sets_file files name bytes = record { this = this-with_file files name bytes; others = others-with_file files name bytes }

@@ -1,4 +1,4 @@
--- What plans come to over honest files.
+-- The outcomes of plans over honest files.
 use Rattle.std.proofs.Common.{◌≡◌, ◌⊎◌, inl, inr, ◌∙◌, ℕ, ◌<◌, ◌≤◌, ◌^◌, ◌-◌, Bool, true, false, List, [], ◌∷◌, Option, None, Some, length, refl, sym, ap, subst, cond, arith}
 use Rattle.std.specs.Prelude.{Ok, Err, if◌then◌else◌, nat_lt}
 use Rattle.std.specs.Str.{bytes_eq}
@@ -15,7 +15,7 @@ use Rattle.krb_files.specs.Plan.{Plan, Ends, Holds, Loads, Faults, HeldIf, Leave
 pub same-trans : (first second third : FileMap) → SameFiles first second → SameFiles second third → SameFiles first third
 same-trans first second third same then_ name = then_ name ∙ same name
 
--- the files after a save are those with its bytes
+-- the files after a save are `with_bytes` of those before
 with_bytes-cond : (b : Bool) (files files' : FileMap) (name bytes other : List ℕ) → bytes_eq other name ≡ b → SetsFile files name bytes files' → files' other ≡ cond b (Some bytes) (files other)
 with_bytes-cond true files files' name bytes other e sets = ap files' ((bytes_eq-Decides other name).0 e) ∙ sets.this
 with_bytes-cond false files files' name bytes other e sets = sets.others other (λ same. true≢false (sym ((bytes_eq-Decides other name).1 same) ∙ e))
@@ -28,7 +28,7 @@ count-at : (a b c : ℕ) → (a < b) ⊎ (b ≤ a) → a ≤ b → b ≤ c → b
 count-at a b c (inl lt) le le' is = inl (omega (arith, le', lt))
 count-at a b c (inr ge) le le' is = inr (omega (arith, le, ge, is))
 
--- a failure that was counted later counts
+-- a failure counted in the second of two steps is counted in both
 pub count-trans : (a b c : ℕ) → a ≤ b → b ≤ c → CountsFailure b c → CountsFailure a c
 count-trans a b c le le' (inl lt) = inl (omega (arith, le, lt))
 count-trans a b c le le' (inr is) = count-at a b c (cases_lt a b) le le' is
@@ -37,12 +37,12 @@ count-more-at : (a b c : ℕ) → b ≤ c → (a < b) ⊎ (a ≡ 2 ^ 64 - 1) →
 count-more-at a b c le (inl lt) = inl (omega (arith, le, lt))
 count-more-at a b c le (inr is) = inr is
 
--- one that was counted before counts
+-- a failure counted in the first step is counted in both
 pub count-more : (a b c : ℕ) → b ≤ c → CountsFailure a b → CountsFailure a c
 count-more a b c le counted = count-more-at a b c le counted
 
 module _ {F R : Type 0} (trait : Ghosts F) (faults : Faults R) where
-  -- loads leave honest files honest and the same, and the count of failures falls nowhere
+  -- loads keep honest files honest and unchanged, and never lower the count of failures
   pub record Lasts (old new : F) : Type 0 where
     pub honest : trait.is_honest old → trait.is_honest new
     pub same : trait.is_honest old → SameFiles (trait.file old) (trait.file new)
@@ -61,7 +61,7 @@ module _ {F R : Type 0} (trait : Ghosts F) (faults : Faults R) where
         count = omega (arith, le, le');
       }
 
-  -- so do a hold and its end
+  -- so do taking and ending a hold
   pub turn-lasts : (held : Bool) (old new : F) → TurnsHold trait held old new → Lasts old new
   turn-lasts held old new turns =
       let is = turns.count in
@@ -86,7 +86,7 @@ module _ {F R : Type 0} (trait : Ghosts F) (faults : Faults R) where
       let first = l.1.0 in
       lasts-trans old l.0 new (record { honest = first.honest; same = first.same; count = first.count }) (loaded-lasts (then_ answer) l.0 answers new l.1.1)
 
-  -- where no load was done yet
+  -- no load was done yet
   pub loaded-none : (plan : Plan R) (old : F) → Loaded trait plan old [] old
   loaded-none (Ends r) old = (refl, refl)
   loaded-none (Holds held name plan) old = inl (refl, refl)
@@ -94,7 +94,7 @@ module _ {F R : Type 0} (trait : Ghosts F) (faults : Faults R) where
 
   -- ---- honest files
 
-  -- a plan came to what is due; or a call failed, which was counted; or memory ran out
+  -- the outcome is what is due; or a call failed, which was counted; or memory ran out
   abbrev pub Comes : R → F → F → R → Type 0
   Comes due old new came =
       (came ≡ due)
@@ -106,7 +106,7 @@ module _ {F R : Type 0} (trait : Ghosts F) (faults : Faults R) where
   by-large name then_ answers bytes true = refl
   by-large name then_ answers bytes false = refl
 
-  -- what stands there does not end a plan
+  -- the result of a load that does not fail does not end a plan
   by-loaded : (name : List ℕ) (then_ : Answer → Plan R) (answers : List Answer) (x : Option (List ℕ)) → by faults (Loads name then_) (loaded x most_bytes ∷ answers) ≡ by faults (then_ (loaded x most_bytes)) answers
   by-loaded name then_ answers None = refl
   by-loaded name then_ answers (Some bytes) = by-large name then_ answers bytes (nat_lt most_bytes (length bytes))
@@ -134,13 +134,13 @@ module _ {F R : Type 0} (trait : Ghosts F) (faults : Faults R) where
       (subst (λ (r : R). Comes due between new r) (sym (ap (λ (a : Answer). by faults (Loads name then_) (a ∷ answers)) is ∙ by-loaded name then_ answers (before name)))
       (next (subst (λ (a : Answer). Loaded trait (then_ a) between answers new) is l)))
 
-  -- without a load a plan comes to its end, or there was no memory
+  -- without a load a plan reaches its end, or memory ran out
   comes-none : (plan : Plan R) (before : FileMap) (old new : F) → Comes (follow before plan) old new (by faults plan [])
   comes-none (Ends r) before old new = inl refl
   comes-none (Holds held name plan) before old new = comes-none plan before old new
   comes-none (Loads name then_) before old new = inr (inr (name, refl))
 
-  -- the law: over honest files a plan comes to what is due, or a call failed, or memory ran out
+  -- the law: over honest files the outcome of a plan is what is due, or a call failed, or memory ran out
   pub comes : (plan : Plan R) (before : FileMap) (old : F) (answers : List Answer) (new : F) → trait.is_honest old → SameFiles before (trait.file old) → Loaded trait plan old answers new
       → Comes (follow before plan) old new (by faults plan answers)
   comes (Ends r) before old answers new h same l = inl refl

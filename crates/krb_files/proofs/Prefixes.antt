@@ -1,23 +1,23 @@
--- How what a writer took of one text joins with what it took of the next.
+-- Joining what a writer took of one text with what it took of the next.
 use Rattle.std.proofs.Common.{◌≡◌, ℕ, ◌≤◌, ◌+◌, ◌-◌, arith, List, [], ◌++◌, Option, None, Some, refl, sym, ap, ◌∙◌, append_assoc, append-nil, length, take, drop, take-append-drop, subst}
 use Rattle.std.proofs.Math.Seq.{take-add}
 use Rattle.std.proofs.lemmas.Grind.{common_steps}
 use Rattle.std.specs.Io.KnownBytes.{Appends, Keeps}
 use Rattle.krb_files.specs.Bytes.{AppendsPrefix}
 
--- a writer that is as it was took the empty text
+-- an unchanged writer took the empty text
 pub Appends-nil : (a : Option (List ℕ)) → Appends a a []
 Appends-nil None = tt
 Appends-nil (Some x) = sym (append-nil x)
 
--- two texts, one after the other
+-- two texts, written one after the other, append both
 pub Appends-trans : (a b c : Option (List ℕ)) (bs cs : List ℕ) → Appends a b bs → Appends b c cs → Appends a c (bs ++ cs)
 Appends-trans None b c bs cs p q = tt
 Appends-trans (Some x) None c bs cs p q = absurd p
 Appends-trans (Some x) (Some y) None bs cs p q = absurd q
 Appends-trans (Some x) (Some y) (Some z) bs cs p q = q ∙ ap (λ l. l ++ cs) p ∙ append_assoc x bs cs
 
--- a prefix after a whole text
+-- a whole text and then a prefix of a second are a prefix of both
 pub AppendsPrefix-after : (a b c : Option (List ℕ)) (first second : List ℕ) → Appends a b first → AppendsPrefix b c second → AppendsPrefix a c (first ++ second)
 AppendsPrefix-after a b c first second p q = record {
   prefix = first ++ q.prefix;
@@ -26,7 +26,7 @@ AppendsPrefix-after a b c first second p q = record {
   splits = ap (λ l. first ++ l) q.splits ∙ sym (append_assoc first q.prefix q.rest);
 }
 
--- a prefix of a text is one of a longer text
+-- a prefix of a text is a prefix of a longer text
 pub AppendsPrefix-longer : (a b : Option (List ℕ)) (first second : List ℕ) → AppendsPrefix a b first → AppendsPrefix a b (first ++ second)
 AppendsPrefix-longer a b first second p = record {
   prefix = p.prefix;
@@ -39,7 +39,7 @@ AppendsPrefix-longer a b first second p = record {
 pub AppendsPrefix-all : (a b : Option (List ℕ)) (text : List ℕ) → Appends a b text → AppendsPrefix a b text
 AppendsPrefix-all a b text p = record { prefix = text; rest = []; appends = p; splits = sym (append-nil text) }
 
--- nothing is a prefix of each text
+-- the empty text is a prefix of every text
 pub AppendsPrefix-none : (a : Option (List ℕ)) (text : List ℕ) → AppendsPrefix a a text
 AppendsPrefix-none a text = record { prefix = []; rest = text; appends = Appends-nil a; splits = refl }
 
@@ -47,7 +47,7 @@ AppendsPrefix-none a text = record { prefix = []; rest = text; appends = Appends
 pub AppendsPrefix-take : (a b : Option (List ℕ)) (n : ℕ) (text : List ℕ) → Appends a b (take n text) → AppendsPrefix a b text
 AppendsPrefix-take a b n text p = record { prefix = take n text; rest = drop n text; appends = p; splits = sym (take-append-drop n text) }
 
--- what one more write makes of the bytes that are out
+-- one more write after the first `done` bytes makes the first `done + n`
 pub Appends-take-more : (a b c : Option (List ℕ)) (done n : ℕ) (bytes : List ℕ) → done ≤ length bytes → Appends a b (take done bytes)
     → Appends b c (take n (take (length bytes - done) (drop done bytes))) → Appends a c (take (done + n) bytes)
 Appends-take-more a b c done n bytes le p q =
@@ -55,7 +55,7 @@ Appends-take-more a b c done n bytes le p q =
     let joined : take done bytes ++ take n (take (length bytes - done) (drop done bytes)) ≡ take (done + n) bytes = ap (λ l. take done bytes ++ take n l) all ∙ sym (take-add done n bytes) in
     subst (Appends a c) joined (Appends-trans a b c _ _ p q)
 
--- a text, and then nothing more
+-- a text and then nothing more append the text
 pub Appends-keeps : (a b c : Option (List ℕ)) (text : List ℕ) → Appends a b text → Keeps b c → Appends a c text
 Appends-keeps None b c text p q = tt
 Appends-keeps (Some x) None c text p q = absurd p

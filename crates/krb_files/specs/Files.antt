@@ -3,15 +3,15 @@ use Rattle.std.specs.Prelude.{◌≡◌, ◌≢◌, ◌⊎◌, ℕ, ◌-◌, ◌
 use Rattle.krb_files.specs.declared.files.LoadFault.{LoadFault}
 use Rattle.krb_files.specs.declared.files.LoadFault.TheVariants.{Missing, TooLarge}
 
--- what stands under each name
+-- the bytes of the file of each name, or none if there is no such file
 abbrev pub FileMap : Type 0
 FileMap = List ℕ → Option (List ℕ)
 
--- the same files
+-- both have the same files
 abbrev pub SameFiles : FileMap → FileMap → Type 0
 SameFiles old new = (name : List ℕ) → new name ≡ old name
 
--- a file was set: the name has these bytes, and every other name what it had
+-- a file was set: its name has these bytes, and every other name has what it had
 pub record SetsFile (old : FileMap) (name bytes : List ℕ) (new : FileMap) : Type 0 where
   pub this : new name ≡ Some bytes
   pub others : (other : List ℕ) → other ≢ name → new other ≡ old other
@@ -25,7 +25,7 @@ abbrev pub answer_of : {A : Type 0} → Result (Vec ℕ A) LoadFault → Result 
 answer_of (Ok bytes) = Ok bytes.items
 answer_of (Err fault) = Err fault
 
--- what a load of at most `limit` bytes gives of what stands under the name
+-- what a load of at most `limit` bytes returns of the file there
 abbrev pub loaded : Option (List ℕ) → ℕ → Result (List ℕ) LoadFault
 loaded None limit = Err Missing
 loaded (Some bytes) limit = if nat_lt limit (length bytes) then Err TooLarge else Ok bytes

@@ -7,11 +7,11 @@ use Rattle.krb_files.specs.declared.files.SaveFault.{SaveFault}
 use Rattle.krb_files.specs.declared.files.SaveFault.TheVariants as save
 use Rattle.krb_files.specs.Files.{SameFiles, SetsFile, CountsFailure, loaded}
 
--- the most bytes that a file may have
+-- the most bytes that a file may have: 16 MiB
 abbrev pub most_bytes : ℕ
 most_bytes = 16777216
 
--- what a load answers
+-- the result of a load
 abbrev pub Answer : Type 0
 Answer = Result (List ℕ) LoadFault
 
@@ -24,7 +24,7 @@ pub record TurnsHold {F : Type 0} (trait : Ghosts F) (held : Bool) (old new : F)
   pub mode : trait.mode new ≡ trait.mode old
 
 module _ {F : Type 0} (trait : Ghosts F) (old : F) (name : List ℕ) where
-  -- the file of a name was loaded, with that answer: what stands there, where the files are honest and neither the call nor memory failed
+  -- the file of a name was loaded, with that result: what is there, if the files are honest and neither the call nor an allocation failed
   pub record LoadsFile (answer : Answer) (new : F) : Type 0 where
     pub answered : trait.answers old name most_bytes answer new
     pub failed : answer ≡ Err load.Failed → CountsFailure (trait.failure_count old) (trait.failure_count new)
@@ -34,7 +34,7 @@ module _ {F : Type 0} (trait : Ghosts F) (old : F) (name : List ℕ) where
     pub same : trait.is_honest old → SameFiles (trait.file old) (trait.file new)
     pub stands : trait.is_honest old → (answer ≡ Err load.Failed) ⊎ (answer ≡ Err load.NoMemory) ⊎ (answer ≡ loaded (trait.file old name) most_bytes)
 
-  -- these bytes were saved under a name, or not, by the answer
+  -- these bytes were saved under a name, or not, by the result
   pub record SavesFile (bytes : List ℕ) (answer : Result (Unit {0}) SaveFault) (new : F) : Type 0 where
     pub answered : trait.saves old name bytes answer new
     pub failed : answer ≡ Err save.Failed → CountsFailure (trait.failure_count old) (trait.failure_count new)

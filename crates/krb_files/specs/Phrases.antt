@@ -1,4 +1,4 @@
--- The phrases that say in words why a file was not loaded or saved.
+-- The phrases that state why a file was not loaded or saved, or a text not written.
 use Rattle.std.specs.Prelude.{ℕ, List, ◌++◌, codes, decimal, unsigned_abs}
 use Rattle.krb_files.specs.declared.cause.Cause.{Cause}
 use Rattle.krb_files.specs.declared.cause.Cause.TheVariants.{PermissionDenied, NoDirectory, NotADirectory, IsADirectory, NotAPlainFile, TooManyLinks, BadLink, NoName, NoSpace, QuotaExceeded, ReadOnly, MountPoint, NameTooLong, FileTooLarge, InputOutput, Interrupted, BrokenPipe, InUse, Changed, NameOfSaves, InTheWay, OwnerNotKept, NoLock, System}
@@ -26,7 +26,7 @@ abbrev pub out_phrase : OutFault → List ℕ
 out_phrase out.Write = codes "cannot write"
 out_phrase out.NoMemory = codes "out of memory"
 
--- what a call failed with; the number of an error without words of its own comes behind its phrase
+-- why a call failed; the number of an error without a phrase of its own follows this one
 abbrev pub cause_phrase : Cause → List ℕ
 cause_phrase PermissionDenied = codes "permission denied"
 cause_phrase NoDirectory = codes "no such directory"
@@ -53,7 +53,7 @@ cause_phrase OwnerNotKept = codes "the owner cannot be kept"
 cause_phrase NoLock = codes "no lock can be had"
 cause_phrase (System number) = codes "error "
 
--- a phrase, and the number behind it
+-- the phrase, with the number after it, if there is one
 abbrev pub cause_text : Cause → List ℕ
 cause_text (System number) = codes "error " ++ decimal (unsigned_abs number)
 cause_text cause = cause_phrase cause

@@ -1,4 +1,4 @@
--- Plans over files: what is loaded, one after the other, and what comes of the answers.
+-- Plans over files: which files are loaded, one after the other, and the outcome by their results.
 use Rattle.std.specs.Prelude.{◌≡◌, ◌⊎◌, ℕ, Bool, true, false, List, [], ◌∷◌, Some, if◌then◌else◌, Err}
 use Rattle.std.specs.Str.{bytes_eq}
 use Rattle.krb_files.specs.declared.files.Files.{Ghosts}
@@ -6,18 +6,18 @@ use Rattle.krb_files.specs.declared.files.LoadFault.TheVariants as load
 use Rattle.krb_files.specs.Files.{FileMap, loaded}
 use Rattle.krb_files.specs.Loading.{Answer, LoadsFile, TurnsHold, most_bytes}
 
--- what is to be done: an end; a file that is held, if that is asked for; or a load, whose answer decides how to go on
+-- a plan: its end, with the outcome; a file to hold first, if the flag is set; or a load, whose result selects the rest of the plan
 pub data Plan (R : Type 0) : Type 0 where
   Ends : R → Plan R
   Holds : Bool → List ℕ → Plan R → Plan R
   Loads : List ℕ → (Answer → Plan R) → Plan R
 
--- how a plan ends whose file of that name was not read, or for which there was no memory
+-- the outcomes of a plan if the file of that name was not read, or if it ran out of memory there
 pub record Faults (R : Type 0) : Type 0 where
   pub unread : List ℕ → R
   pub spent : List ℕ → R
 
--- what a plan comes to by the answers of its loads: one that failed ends it, and where no more come there was no memory
+-- the outcome of a plan by the results of its loads: a failed load ends it, and if there are no more results, it ran out of memory
 abbrev pub by : {R : Type 0} → Faults R → Plan R → List Answer → R
 by faults (Ends r) answers = r
 by faults (Holds held name plan) answers = by faults plan answers
@@ -26,29 +26,29 @@ by faults (Loads name then_) (Err load.Failed ∷ answers) = faults.unread name
 by faults (Loads name then_) (Err load.NoMemory ∷ answers) = faults.spent name
 by faults (Loads name then_) (answer ∷ answers) = by faults (then_ answer) answers
 
--- a file was held, if that is asked for
+-- a file was held if the flag is set, and otherwise nothing changed
 abbrev pub HeldIf : {F : Type 0} → Ghosts F → Bool → F → F → Type 0
 HeldIf trait true old new = TurnsHold trait true old new
 HeldIf trait false old new = new ≡ old
 
--- the loads of a plan were done one after the other, each while the file is held that is to be held then, or the first of them, and answered so
+-- the loads of a plan, or the first of them, were done one after the other with these results, each after the holds that come before it in the plan
 abbrev pub Loaded : {F R : Type 0} → Ghosts F → Plan R → F → List Answer → F → Type 0
 Loaded trait (Ends r) old answers new = (answers ≡ []) × (new ≡ old)
 Loaded {F = F} trait (Holds held name plan) old answers new = ((answers ≡ []) × (new ≡ old)) ⊎ ((between : F) × (HeldIf trait held old between × Loaded trait plan between answers new))
 Loaded trait (Loads name then_) old [] new = new ≡ old
 Loaded {F = F} trait (Loads name then_) old (answer ∷ answers) new = (between : F) × (LoadsFile trait old name answer between × Loaded trait (then_ answer) between answers new)
 
--- what a plan held was left in the end
+-- the hold that the plan began with was ended, if it began with one; otherwise nothing changed
 abbrev pub Leaves : {F R : Type 0} → Ghosts F → Plan R → F → F → Type 0
 Leaves trait (Holds true name plan) old new = TurnsHold trait false old new
 Leaves trait plan old new = new ≡ old
 
--- what a plan comes to over files whose bytes are known, where no call fails
+-- the outcome of a plan over files whose bytes are known, if no call and no allocation fails
 abbrev pub follow : {R : Type 0} → FileMap → Plan R → R
 follow files (Ends r) = r
 follow files (Holds held name plan) = follow files plan
 follow files (Loads name then_) = follow files (then_ (loaded (files name) most_bytes))
 
--- the files, where these bytes stand under that name
+-- the files with these bytes under that name
 abbrev pub with_bytes : FileMap → List ℕ → List ℕ → FileMap
 with_bytes files name bytes other = if bytes_eq other name then Some bytes else files other

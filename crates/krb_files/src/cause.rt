@@ -1,4 +1,4 @@
-//! What a file call failed with.
+//! The causes of failed file calls.
 
 ghost use Rattle.std.specs.Prelude.{◌≡◌, Some, unsigned_abs};
 ghost use Rattle.krb_files.specs.Phrases.{cause_phrase, cause_text};
@@ -7,25 +7,25 @@ use std::fmt;
 use std::io::{self, ErrorKind};
 use thiserror::Error;
 
-/// The number of ENOLCK.
+/// ENOLCK.
 const NO_LOCK: i32 = 37;
 
-/// The number of EIO.
+/// EIO.
 const INPUT_OUTPUT: i32 = 5;
 
-/// What a load or a save failed with.
+/// Why a load or a save failed.
 #[derive(Clone, Copy, Debug, PartialEq, Eq, Error)]
 pub enum Cause {
     PermissionDenied,
     NoDirectory,
     NotADirectory,
     IsADirectory,
-    /// What is to be changed is there, and is no plain file.
+    /// The file to be changed exists and is not a plain file.
     NotAPlainFile,
     TooManyLinks,
     /// The text of a symbolic link is not UTF-8.
     BadLink,
-    /// A link of /proc leads to a file that no name leads to.
+    /// A link of /proc leads to a file that has no name.
     NoName,
     NoSpace,
     QuotaExceeded,
@@ -37,15 +37,15 @@ pub enum Cause {
     InputOutput,
     Interrupted,
     BrokenPipe,
-    /// Another program holds the file, or has locked it to change it, or waits to.
+    /// Another program holds the file, or has locked it to change it, or waits to lock it.
     InUse,
-    /// The file is not the one that was loaded, or not as it was.
+    /// The file is not the one that was loaded, or was changed since.
     Changed,
-    /// The file's own name is one that saves give to a new file.
+    /// The file's own name is that of a new file of a save.
     NameOfSaves,
     /// Something that is not ours has the name of the new file.
     InTheWay,
-    /// The owner or the group cannot be given, though that is allowed.
+    /// The owner or the group could not be set, though that is allowed.
     OwnerNotKept,
     NoLock,
     /// Any other error of the system, by its number.
@@ -53,7 +53,7 @@ pub enum Cause {
 }
 
 impl Cause {
-    /// What it is, in words. The number of an error of the system comes behind them.
+    /// Returns its phrase. For an error of the system, the number follows.
     pub fn phrase(self) -> &'static str
         ensures { result.now ≡ cause_phrase self }
     {
@@ -86,7 +86,7 @@ impl Cause {
     }
 }
 
-// What a call failed with, by its number. Where it has none, the system did not say why.
+// Returns the cause of an error with that number. Without a number, the system gave no reason.
 fn cause_of_number(number: Option<i32>) -> Cause {
     match number {
         None | Some(INPUT_OUTPUT) => Cause::InputOutput,
@@ -95,7 +95,7 @@ fn cause_of_number(number: Option<i32>) -> Cause {
     }
 }
 
-// A name under which there is nothing is a directory's: a missing file is no failure.
+// `NotFound` is about a directory: a missing file is no failure.
 impl From<&io::Error> for Cause {
     fn from(error: &io::Error) -> Cause {
         match error.kind() {

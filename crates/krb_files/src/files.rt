@@ -20,14 +20,14 @@ pub enum LoadFault {
 }
 
 impl LoadFault {
-    /// Its number, from 1 on in the order above.
+    /// Returns its number, from 1 on in the order above.
     pub fn number(self) -> u32
         ensures { result ≡ load_number self }
     {
         self as u32
     }
 
-    /// What it is, in words.
+    /// Returns its phrase.
     pub fn phrase(self) -> &'static str
         ensures { result.now ≡ load_phrase self }
     {
@@ -58,14 +58,14 @@ pub enum SaveFault {
 }
 
 impl SaveFault {
-    /// Its number, from 1 on in the order above.
+    /// Returns its number, from 1 on in the order above.
     pub fn number(self) -> u32
         ensures { result ≡ save_number self }
     {
         self as u32
     }
 
-    /// What it is, in words.
+    /// Returns its phrase.
     pub fn phrase(self) -> &'static str
         ensures { result.now ≡ save_phrase self }
     {
@@ -86,35 +86,35 @@ impl fmt::Display for SaveFault {
     }
 }
 
-/// Files by name. What is said of their bytes holds while the files are honest.
+/// Files by name, loaded and saved as a whole. The clauses about their bytes hold if the files are honest.
 pub trait Files {
     ghost use Rattle.krb_files.specs.declared.files.LoadFault.{LoadFault};
     ghost use Rattle.krb_files.specs.declared.files.SaveFault.{SaveFault};
 
-    /// What stands under each name.
+    /// The bytes of the file of each name.
     ghost file: { Self → FileMap };
 
-    /// Whether the calls read what stands there, and write what they are given.
+    /// Whether loads return what is there, and saves write the bytes that they are passed.
     ghost is_honest: { Self → Type 0 };
 
-    /// How many calls failed, as far as a u64 counts.
+    /// The number of failed calls, up to the greatest u64.
     ghost failure_count: { Self → ℕ };
 
-    /// What a load of that name and limit may answer, and what it leaves. Honest or not, no answer
-    /// comes from elsewhere.
+    /// What a load of that name and limit may return, and the files after it. Every result of a load, honest or not,
+    /// is one of these.
     ghost answers: { Self → List ℕ → ℕ → Result (List ℕ) LoadFault → Self → Type 0 };
 
-    /// What a save of these bytes under that name may answer, and what it leaves, honest or not.
+    /// What a save of these bytes under that name may return, and the files after it, honest or not.
     ghost saves: { Self → List ℕ → List ℕ → Result (Unit {0}) SaveFault → Self → Type 0 };
 
-    /// The permission bits of the file that was loaded last, where that is a plain file.
+    /// The permission bits of the file loaded last, if it is a plain file.
     ghost mode: { Self → Option ℕ };
 
     /// Whether a file is held.
     ghost is_held: { Self → Bool };
 
-    /// Keeps other programs from changing the file of that name, until it is saved or released. Where that
-    /// cannot be done, or another program changes the file all the same, the save fails.
+    /// Keeps other programs from changing the file of that name until it is saved or released. If it cannot be held, or
+    /// another program changes it all the same, the save fails.
     fn hold(&mut self, name: &str)
         ensures held { is_held self.new ≡ true }
         ensures honest { is_honest self.old → is_honest self.new }
@@ -122,7 +122,7 @@ pub trait Files {
         ensures count { failure_count self.new ≡ failure_count self.old }
         ensures mode { mode self.new ≡ mode self.old };
 
-    /// Leaves the file that is held, if there is one, to other programs.
+    /// Releases the held file, if there is one, without saving it.
     fn release(&mut self)
         ensures held { is_held self.new ≡ false }
         ensures honest { is_honest self.old → is_honest self.new }
@@ -130,7 +130,7 @@ pub trait Files {
         ensures count { failure_count self.new ≡ failure_count self.old }
         ensures mode { mode self.new ≡ mode self.old };
 
-    /// The bytes of a file, if they are at most `limit`.
+    /// Returns the bytes of a file, if they are at most `limit`.
     fn load<A: Allocator>(
         &mut self,
         alloc: A,
@@ -142,19 +142,19 @@ pub trait Files {
         ensures same { is_honest self.old → SameFiles (file self.old) (file self.new) }
         ensures answered { answers self.old name.now limit (answer_of result) self.new }
 
-        // Where neither a call nor memory failed, the answer is what stands there.
+        // If no call and no allocation failed, the result is that of the file there.
         ensures ok { is_honest self.old
             → IfOk result (λ bytes. loaded (file self.old name.now) limit ≡ Ok bytes.items) }
         ensures err { is_honest self.old → IfErr result (λ fault. (fault ≡ LoadFault.Failed)
             ⊎ (fault ≡ LoadFault.NoMemory) ⊎ (loaded (file self.old name.now) limit ≡ Err fault)) }
 
-        // `Failed` comes only with a failure that is counted; at the greatest count each call fails.
+        // Each `Failed` is counted; at the greatest count every call fails.
         ensures failed { IsErrOf result LoadFault.Failed
             → CountsFailure (failure_count self.old) (failure_count self.new) }
         ensures count { failure_count self.old ≤ failure_count self.new }
         ensures spent { failure_count self.old ≡ 2 ^ 64 - 1 → IsErrOf result LoadFault.Failed };
 
-    /// Puts the bytes under the name, in place of what stands there. Nothing is held any more.
+    /// Replaces or creates the file of that name, with these bytes. Ends the hold, even if the save fails.
     fn save(&mut self, name: &str, bytes: &[u8]) -> Result<(), SaveFault>
         ensures held { is_held self.new ≡ false }
         ensures honest { is_honest self.old → is_honest self.new }
@@ -169,15 +169,15 @@ pub trait Files {
         ensures count { failure_count self.old ≤ failure_count self.new }
         ensures spent { failure_count self.old ≡ 2 ^ 64 - 1 → IsErrOf result SaveFault.Failed };
 
-    /// How many calls failed, as far as a u64 counts.
+    /// Returns the number of failed calls, up to the greatest u64.
     fn failures(&self) -> u64
         ensures { result ≡ failure_count self.now };
 
-    /// The permission bits, twelve of them, of the file that was loaded last, where it is a plain file.
+    /// Returns the twelve permission bits of the file loaded last, if it is a plain file.
     fn mode(&self) -> Option<u32>
         ensures { result ≡ mode self.now };
 
-    /// What the last call that answered `Failed` failed with, where that is known.
+    /// Returns the cause of the last call that returned `Failed`, if known.
     fn cause(&self) -> Option<Cause> {
         None
     }

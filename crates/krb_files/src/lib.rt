@@ -1,4 +1,4 @@
-//! Files by name, and what is read from a reader and written to a writer.
+//! Files by name, and readers and writers that remember a failure.
 #![tactic(auto)]
 
 mod cause;

@@ -9,7 +9,7 @@ use crate::files::{Files, LoadFault, SaveFault};
 use std::alloc::{AllocError, Allocator};
 use std::marker::Model;
 
-/// Files in memory. They can be told to fail at a call to come.
+/// Files in memory, for tests. A later load or save can be made to fail.
 #[derive(Drop)]
 pub struct MemFiles<A: Allocator> {
     alloc: A,
@@ -33,7 +33,7 @@ impl<A: Allocator> Model for MemFiles<A> {
 }
 
 impl<A: Allocator> MemFiles<A> {
-    /// Of two files with one name the first counts.
+    /// Returns these files. Of two with the same name the first counts.
     pub fn of(alloc: A, files: Vec<(String<A>, Vec<u8, A>), A>) -> MemFiles<A>
         ensures files { result.files ≡ pairs_of files.items }
         ensures failing { result.failing ≡ 0 }
@@ -51,7 +51,7 @@ impl<A: Allocator> MemFiles<A> {
         }
     }
 
-    /// The bytes under a name.
+    /// Returns the bytes of the file of that name, or `None` if there is none.
     pub fn get(&self, name: &str) -> Option<&[u8]>
         ensures { option_map (λ b. b.now) result ≡ file_in self.now.files name.now }
     {
@@ -59,21 +59,21 @@ impl<A: Allocator> MemFiles<A> {
         Some(&self.files[place].1)
     }
 
-    /// Lets the n-th load or save from now fail, counted from 1, and no other; none where n is 0.
+    /// Makes the n-th load or save from now fail, counted from 1, and no other; none if `n` is 0.
     pub fn fail_at(&mut self, n: u64)
         ensures { self.new ≡ record self.old { failing = n } }
     {
         self.failing = n;
     }
 
-    /// Gives each file this mode.
+    /// Sets the mode of every file.
     pub fn set_mode(&mut self, mode: Option<u32>)
         ensures { self.new ≡ record self.old { mode = mode } }
     {
         self.mode = mode;
     }
 
-    // Counts a call, and says whether it fails.
+    // Counts a call and returns whether it fails.
     fn fails(&mut self) -> bool
         ensures answer { result ≡ failing_next self.old }
         ensures state { self.new ≡ after_call self.old }
@@ -90,7 +90,7 @@ impl<A: Allocator> MemFiles<A> {
     }
 }
 
-// A copy of the bytes, if they are at most `limit`.
+// Copies the bytes, if they are at most `limit`.
 fn copy_within<A: Allocator>(
     alloc: A,
     bytes: Option<&[u8]>,
@@ -110,7 +110,7 @@ fn copy_within<A: Allocator>(
     Vec::from_slice(alloc, bytes).map_err(|_| LoadFault::NoMemory)
 }
 
-// Where the first file of that name stands.
+// Returns the position of the first file of that name.
 fn place_of<A: Allocator>(files: &[(String<A>, Vec<u8, A>)], name: &str) -> Option<usize>
     ensures { result
         ≡ position (λ file. bytes_eq (string_bytes file.0) name.now) files.entry.now }
@@ -118,7 +118,7 @@ fn place_of<A: Allocator>(files: &[(String<A>, Vec<u8, A>)], name: &str) -> Opti
     files.iter().position(|file| file.0.as_str() == name)
 }
 
-// Puts the bytes under the name: into the first file of that name, or else into one more.
+// Sets the bytes of the first file of that name, or appends a new file.
 fn set_file<A: Allocator + Copy>(
     alloc: A,
     files: &mut Vec<(String<A>, Vec<u8, A>), A>,

@@ -1,4 +1,4 @@
-//! Bytes into a writer.
+//! Writes to a watched writer.
 
 ghost use Rattle.std.specs.Prelude.{◌≡◌, [], is_err, OnOk, OnErr, IfErr};
 ghost use Rattle.std.specs.Io.KnownBytes.{Appends};
@@ -15,13 +15,13 @@ use thiserror::Error;
 /// Why a text was not written.
 #[derive(Clone, Copy, Debug, PartialEq, Eq, Error)]
 pub enum OutFault {
-    /// The writer failed, or took no byte.
+    /// The writer failed, or took no bytes.
     Write,
     NoMemory,
 }
 
 impl OutFault {
-    /// What it is, in words.
+    /// Returns its phrase.
     pub fn phrase(self) -> &'static str
         ensures { result.now ≡ out_phrase self }
     {
@@ -50,8 +50,7 @@ impl From<NoMemory> for OutFault {
     }
 }
 
-/// Writes all the bytes, and none where the writer failed before. After a failure it has taken a prefix
-/// of them.
+/// Writes all the bytes, or none if the writer failed before. After a failure it has taken a prefix of them.
 pub fn put<W: Write>(out: &mut Watched<W>, bytes: &[u8]) -> Result<(), OutFault>
     ensures ok { OnOk result (Appends out.old.contents out.new.contents bytes.now) }
     ensures prefix { OnErr result (AppendsPrefix out.old.contents out.new.contents bytes.now) }

@@ -1,4 +1,4 @@
-//! Bytes out of a reader.
+//! Reads from a watched reader.
 
 ghost use Rattle.std.specs.Prelude.{◌≢◌, ◌≡◌, ◌||◌, ◌+◌, ◌<◌, ◌≤◌, ◌*◌, ◌^◌, ◌++◌, ◌⊎◌, ℕ, List, length, max, min, take, drop, OnOk, OnErr, IfOk, IfErr, IfSome, IsErrOf, vec_capacity, vec_len};
 ghost use Rattle.std.specs.Io.KnownBytes.{Consumes, IsAtEnd, Keeps};
@@ -9,13 +9,13 @@ use crate::watched_reader::WatchedReader;
 use std::alloc::Allocator;
 use std::io::Read;
 
-// How many bytes one read asks for at most.
+// The most bytes that one read requests.
 const MOST_READ: usize = 128 * 1024;
 
-// How many it asks for at least, where there is room.
+// The fewest bytes that one read requests, if there is room.
 const LEAST_READ: usize = 4096;
 
-// One read into the bytes from a place on.
+// Reads once into the bytes from `at` on.
 fn read_into<R: Read>(
     reader: &mut WatchedReader<R>,
     bytes: &mut [u8],
@@ -37,7 +37,7 @@ fn read_into<R: Read>(
     }
 }
 
-// Reads once, at most that many bytes, and appends what is given.
+// Reads once, at most `most` bytes, and appends what was read. Returns its length, 0 at the end.
 pub fn append_read<A: Allocator, R: Read>(
     bytes: &mut Vec<u8, A>,
     reader: &mut WatchedReader<R>,
@@ -70,8 +70,8 @@ pub fn append_read<A: Allocator, R: Read>(
     }
 }
 
-// How many bytes are read next, by how many the last read gave: room is cleared before a read, so a reader that
-// gives little is asked for little. The room that is there is filled before more is taken.
+// Returns how many bytes to request next, after a read of `last` bytes. Room is zeroed before a read, so little is
+// requested of a reader that returns little. Spare capacity is filled before more is allocated.
 pub fn next_read<A: Allocator>(bytes: &Vec<u8, A>, last: usize) -> usize
     ensures some { 0 < result }
     ensures most { result ≤ 131072 }
@@ -88,7 +88,7 @@ pub fn next_read<A: Allocator>(bytes: &Vec<u8, A>, last: usize) -> usize
     }
 }
 
-// How much room is taken at once, with a byte for the read that finds the end.
+// Returns the capacity to allocate first, with one byte for the read that finds the end.
 fn first_room(expected: u64, limit: u32) -> usize
     ensures most { result ≤ limit + 1 }
     ensures enough { min expected limit ≤ result }
@@ -99,9 +99,9 @@ fn first_room(expected: u64, limit: u32) -> usize
     }
 }
 
-/// Reads to the end, if no more than `limit` bytes are left; one byte more is read at most. Room for
-/// `expected` bytes, but never for more than may be read, is taken at once, and the first read asks for as
-/// many, or for 4,096.
+/// Reads to the end, if at most `limit` bytes are left; at most one byte more is read. Allocates capacity for
+/// `expected` bytes first, but never for more than may be read. The first read requests as many, up to 128 KiB, or
+/// 4,096 if none are expected.
 pub fn load<A: Allocator, R: Read>(
     alloc: A,
     reader: &mut WatchedReader<R>,

@@ -7,8 +7,8 @@ use crate::cause::Cause;
 use std::io::Write;
 use std::marker::Model;
 
-/// A writer that remembers whether one of its writes failed, with an error or by taking no byte. It does
-/// not forget that. Contracts see what it holds, where that is known, and whether it has failed.
+/// A writer that remembers for good whether one of its writes failed, with an error or by taking no bytes. Contracts
+/// see what was written to it, if known, and whether it has failed.
 #[derive(Drop)]
 pub struct Watched<W: Write> {
     writer: W,
@@ -25,7 +25,7 @@ impl<W: Write> Model for Watched<W> {
 }
 
 impl<W: Write> Watched<W> {
-    /// No write has failed yet.
+    /// Wraps a writer. No write has failed yet.
     pub fn new(writer: W) -> Watched<W>
         ensures contents { result.contents ≡ W.contents writer }
         ensures failed { IsFalse result.failed }
@@ -37,19 +37,19 @@ impl<W: Write> Watched<W> {
         }
     }
 
-    /// Whether a write failed.
+    /// Returns whether a write failed.
     pub fn has_failed(&self) -> bool
         ensures { result ≡ self.now.failed }
     {
         self.failed
     }
 
-    /// What the last write that failed with an error failed with.
+    /// Returns the cause of the last write that failed with an error.
     pub fn cause(&self) -> Option<Cause> {
         self.cause
     }
 
-    /// Makes one write: the number of bytes that were taken, or none where it failed.
+    /// Writes once. Returns the number of bytes that were taken, or `None` if it failed.
     pub fn write_some(&mut self, bytes: &[u8]) -> Option<usize>
         requires { 0 < length bytes.now }
         ensures { MatchOption result

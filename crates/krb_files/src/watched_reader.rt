@@ -7,8 +7,8 @@ use crate::cause::Cause;
 use std::io::Read;
 use std::marker::Model;
 
-/// A reader that remembers whether one of its reads failed. It does not forget that. Contracts see what it
-/// has left, where that is known, and whether it has failed.
+/// A reader that remembers for good whether one of its reads failed. Contracts see what is left to read, if known, and
+/// whether it has failed.
 #[derive(Drop)]
 pub struct WatchedReader<R: Read> {
     reader: R,
@@ -25,7 +25,7 @@ impl<R: Read> Model for WatchedReader<R> {
 }
 
 impl<R: Read> WatchedReader<R> {
-    /// No read has failed yet.
+    /// Wraps a reader. No read has failed yet.
     pub fn new(reader: R) -> WatchedReader<R>
         ensures left { result.left ≡ R.remaining reader }
         ensures failed { IsFalse result.failed }
@@ -37,19 +37,19 @@ impl<R: Read> WatchedReader<R> {
         }
     }
 
-    /// The reader that was watched.
+    /// Returns the reader.
     pub fn into_reader(self) -> R
         ensures { R.remaining result ≡ self.left }
     {
         self.reader
     }
 
-    /// What the last read that failed failed with.
+    /// Returns the cause of the last read that failed.
     pub fn cause(&self) -> Option<Cause> {
         self.cause
     }
 
-    /// Makes one read: how many bytes it gave, which is 0 at the end, or none where it failed.
+    /// Reads once. Returns the number of bytes read, 0 at the end, or `None` if it failed.
     pub fn read_some(&mut self, bytes: &mut [u8]) -> Option<usize>
         requires { 0 < length bytes.old }
         ensures { MatchOption result

@@ -1,12 +1,12 @@
-//! Bytes into a writer.
+//! Writes whole texts to a writer.
 
 ghost use Rattle.std.specs.Prelude.{◌<◌, length, take, OnOk, IfErr};
 ghost use Rattle.std.specs.Io.KnownBytes.{Appends};
 
 use std::io::Write;
 
-/// Writes all the bytes. A write that fails or takes no byte is the last: the error is how many bytes
-/// went out before it.
+/// Writes all the bytes. A write that fails or takes no bytes is the last: the error is how many bytes were written
+/// before it.
 pub fn save<W: Write>(writer: &mut W, bytes: &[u8]) -> Result<(), usize>
     ensures ok { OnOk result (Appends (W.contents writer.old) (W.contents writer.new) bytes.now) }
     ensures err { IfErr result (λ count. Appends (W.contents writer.old) (W.contents writer.new)

@@ -13,7 +13,7 @@ use Rattle.krb_json.specs.Pieces.{member_tokens, tokens_of, element_text, elemen
 -- ---- a value alone
 
 mutual
-  -- a value ends where its tokens do
+  -- after a value's tokens, a value has ended
   value_ends : (c : Bool) (v : Json) → fold (λ _ t. ends t) c (json_tokens v) ≡ true
   value_ends c null = refl
   value_ends c (boolean b) = refl
@@ -30,7 +30,7 @@ mutual
   members_end c no_members = refl
   members_end c (member k j ms) = fold-append (λ _ t. ends t) false (json_tokens j) (members_tokens ms) ∙ members_end (fold (λ _ t. ends t) false (json_tokens j)) ms
 
--- behind another value a comma comes first
+-- after another value, a comma comes first
 value_begins : (c : Bool) (v : Json) → print_from c (json_tokens v) ≡ element_text c v
 unfolding print_from
 value_begins false v = refl
@@ -44,13 +44,13 @@ value_begins true (object ms) = refl
 
 -- ---- arrays
 
--- no comma stands before the end of an array
+-- there is no comma before the end of an array
 array_ends : (c : Bool) (ts : List Token) → print_from c (end_array ∷ ts) ≡ print (end_array ∷ ts)
 unfolding print_from
 array_ends true ts = refl
 array_ends false ts = refl
 
--- the elements, and what follows them
+-- the text of the elements, and of what follows them
 pub elements_print : (c : Bool) (vs : List Json) (ts : List Token) → print_from c (items_tokens (items_of vs) ++ ts) ≡ elements_text c vs ++ print (end_array ∷ ts)
 elements_print c [] ts = array_ends c ts
 elements_print c (v ∷ vs) ts =
@@ -76,14 +76,14 @@ members_end_object (m ∷ ms) =
 
 -- ---- objects
 
--- an object up to an array in it, and from there on
+-- an object, split at an array in it
 split_at_array : (ms ns : List Member) (name : List ℕ) (vs : List Json)
     → json_tokens (object_of (ms ++ (name, array_of vs) ∷ ns)) ≡ head_tokens ms name ++ (items_tokens (items_of vs) ++ members_tokens (members_of ns))
 split_at_array ms ns name vs =
     let rest = items_tokens (items_of vs) ++ members_tokens (members_of ns) in
     ap (λ l. begin_object ∷ l) (members_append ms ((name, array_of vs) ∷ ns) ∙ sym (append_assoc (tokens_of ms) (key name ∷ begin_array ∷ []) rest))
 
--- after what stands before an array no value has ended
+-- before an array's first element, no value has ended
 head_is_open : (ms : List Member) (name : List ℕ) → ends_value (head_tokens ms name) ≡ false
 head_is_open ms name = fold-append (λ _ t. ends t) false (tokens_of ms) (key name ∷ begin_array ∷ [])
 

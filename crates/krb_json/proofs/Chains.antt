@@ -1,4 +1,4 @@
--- Tokens behind tokens, and what objects they make.
+-- Tokens after tokens, and the objects that they make.
 use Rattle.std.proofs.Common.{◌≡◌, ℕ, List, [], ◌∷◌, ◌++◌, Option, None, Some, codes, refl, sym, ap, ◌∙◌, append_assoc, append-nil}
 use Rattle.std.proofs.lemmas.Grind.{flat_map-append}
 use Rattle.json.specs.Token.{Token, begin_object, end_object, begin_array, key, string, null}
@@ -7,7 +7,7 @@ use Rattle.krb_json.specs.Members.{Member, object_of, number_of, text_or_null}
 use Rattle.krb_json.specs.Pieces.{member_tokens, tokens_of, head_tokens}
 use Rattle.krb_json.proofs.Arrays.{members_append, members_end_object}
 
--- behind a list one, and then another
+-- after a list another, and then a third
 pub chain : {X : Type 0} (a b c x y : List X) → b ≡ a ++ x → c ≡ b ++ y → c ≡ a ++ (x ++ y)
 chain a b c x y is_b is_c = is_c ∙ ap (λ t. t ++ y) is_b ∙ append_assoc a x y
 
@@ -32,7 +32,7 @@ object_by_four a b m d =
     ap (λ l. begin_object ∷ l)
     (members_append a (b ++ (m ∷ d)) ∙ ap (λ l. tokens_of a ++ l) (members_append b (m ∷ d) ∙ ap (λ l. tokens_of b ++ (member_tokens m ++ l)) (members_end_object d)))
 
--- an object of two lists of members, one more, and a last list
+-- an object of two lists of members, one more member, and a last list
 pub written_by_four : (a b : List Member) (m : Member) (d : List Member) (old t u v w x new : List Token)
     → t ≡ old ++ begin_object ∷ [] → u ≡ t ++ tokens_of a → v ≡ u ++ tokens_of b → w ≡ v ++ member_tokens m → x ≡ w ++ tokens_of d → new ≡ x ++ end_object ∷ []
     → new ≡ old ++ json_tokens (object_of (a ++ (b ++ (m ∷ d))))
@@ -59,11 +59,11 @@ written_by_five a b c d e old t u v w x y new e1 e2 e3 e4 e5 e6 e7 =
     (chain t u new (tokens_of a) _ e2 (chain u v new (tokens_of b) _ e3 (chain v w new (tokens_of c) _ e4 (chain w x new (tokens_of d) _ e5 (chain x y new (tokens_of e) (end_object ∷ []) e6 e7)))))
     ∙ ap (λ l. old ++ l) (sym (object_by_five a b c d e))
 
--- what stands before an array
+-- the tokens before an array's first element
 pub head_written : (ms : List Member) (name : List ℕ) (none t u : List Token) → none ≡ [] → t ≡ none ++ begin_object ∷ tokens_of ms → u ≡ t ++ key name ∷ begin_array ∷ [] → u ≡ head_tokens ms name
 head_written ms name none t u is_none is_t is_u = is_u ∙ ap (λ l. l ++ key name ∷ begin_array ∷ []) (is_t ∙ ap (λ l. l ++ begin_object ∷ tokens_of ms) is_none)
 
--- with one more member
+-- the same with one more member
 pub head_written_more : (ms : List Member) (m : Member) (name : List ℕ) (none t u v : List Token) → none ≡ [] → t ≡ none ++ begin_object ∷ tokens_of ms → u ≡ t ++ member_tokens m
     → v ≡ u ++ key name ∷ begin_array ∷ [] → v ≡ head_tokens (ms ++ m ∷ []) name
 head_written_more ms m name none t u v is_none is_t is_u is_v =

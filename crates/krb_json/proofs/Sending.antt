@@ -26,7 +26,7 @@ gathers_if o p whole after x vs b more h e =
     let split = rw (elements_step after x vs) at h in
     passed_gather o p whole (element_if after x) (elements_text (is_some x || after) vs) b more split e
 
--- the text of an element, behind what was gathered
+-- the text of an element, after what was gathered
 pub element_behind : (after : Bool) (v : Json) (none tokens : List Token) (b more : List ℕ) → none ≡ [] → tokens ≡ none ++ json_tokens v → more ≡ b ++ (comma_after after ++ print tokens)
     → more ≡ b ++ element_text after v
 element_behind after v none tokens b more is_none is_tokens is_more =
@@ -48,7 +48,7 @@ passed_on o p q whole x b more h k = record {
       ∙ ap (λ (t : List ℕ). h.sent ++ t) k.parts ∙ sym (append_assoc h.sent k.sent (more ++ []));
 }
 
--- three pieces: the first and the last by themselves, the second after what was gathered
+-- three pieces: `Gathers` of the first and the last, and the second appended to what was gathered
 pub gathers_three : {T U : Type 0} (o p q : Watch) (b x y z c d e : List ℕ) (v : T) (r : Result U OutFault) → Gathers o p b c (Ok v) x → d ≡ c ++ y → Gathers p q d e r z → Gathers o q b e r (x ++ (y ++ z))
 gathers_three o p q b x y z c d e v r first is last =
     let passed = passed_last _ _ (b ++ x) y c d first.ok is in
@@ -58,15 +58,15 @@ gathers_three o p q b x y z c d e v r first is last =
       failed = last.failed;
     }
 
--- the first of two was not
+-- if the first of two pieces fails, so do both
 pub gathers_two_fails : {T U : Type 0} (o p : Watch) (b x y c d : List ℕ) (e : OutFault) → Gathers {T = T} o p b c (Err e) x → Gathers {T = U} o p b d (Err e) (x ++ y)
 gathers_two_fails o p b x y c d e h = record { ok = tt; prefix = rw (sym (append_assoc b x y)) (AppendsPrefix-longer _ _ (b ++ x) y h.prefix); failed = h.failed }
 
--- the first of two was, and then no memory was left
+-- the first of two pieces was gathered, and then an allocation failed
 pub gathers_then_memory : {T U : Type 0} (o p : Watch) (b x y c d : List ℕ) (v : T) (e : OutFault) → Gathers o p b c (Ok v) x → e ≡ NoMemory → Gathers {T = U} o p b d (Err e) (x ++ y)
 gathers_then_memory {T} o p b x y c d v e h is =
     gathers_two_fails {T = T} o p b x y c d e (gathers_memory o p b c x [] c e h.ok h.failed is)
 
--- nothing was, as no memory was left
+-- nothing was printed, because an allocation failed
 pub prints_memory : {T : Type 0} (o : Watch) (text : List ℕ) (e : OutFault) → IsFalse o.failed → e ≡ NoMemory → Prints {T = T} o o (Err e) text
 prints_memory o text e well is = record { ok = tt; prefix = AppendsPrefix-none o.contents text; failed = rw is well }

@@ -1,4 +1,4 @@
--- What is UTF-8.
+-- Texts that are UTF-8.
 use Rattle.std.proofs.Common.{map, cond, ◌≡◌, ℕ, Bool, true, false, List, [], ◌∷◌, IsUtf8, IsAscii, ◌&&◌, refl}
 use Rattle.std.specs.Prelude.{ltb, filter}
 use Rattle.std.specs.Str.{is_utf8}
@@ -21,7 +21,7 @@ other_is_no_text bytes h = by_test bytes (is_utf8 bytes) refl h
 
 -- ---- ASCII
 
--- each byte is ASCII, as a test
+-- all bytes are ASCII, as a test
 abbrev are_ascii : List ℕ → Bool
 are_ascii [] = true
 are_ascii (b ∷ bytes) = ltb b 128 && are_ascii bytes
@@ -38,7 +38,7 @@ sixteen = ascii_is_text lower_digits refl
 pub digits_are_text : (bytes : List ℕ) → is_utf8 (encode_lower bytes) ≡ true
 digits_are_text bytes = is_utf8-from_IsUtf8 _ (IsUtf8-from_ascii _ (IsAscii-encode_with lower_digits bytes sixteen))
 
--- letters of a table that pass a test
+-- if all letters of a table are ASCII, so are those that pass a test
 letters_are_ascii : (test : ℕ × ℕ → Bool) (table : List (ℕ × ℕ)) → are_ascii (map (λ x. x.1) table) ≡ true → are_ascii (map (λ x. x.1) (filter test table)) ≡ true
 letters_are_ascii test [] h = refl
 letters_are_ascii test (x ∷ table) h =
@@ -46,6 +46,6 @@ letters_are_ascii test (x ∷ table) h =
     let rest = letters_are_ascii test table parts.1 in
     elim (test x) as (λ b. are_ascii (map (λ x. x.1) (cond b (x ∷ filter test table) (filter test table))) ≡ true) [ true ↦ and_from _ _ parts.0 rest | false ↦ rest ]
 
--- the letters of ticket flags
+-- the letters of ticket flags are UTF-8
 pub letters_are_text : (flags : ℕ) → is_utf8 (flag_letters_of flags) ≡ true
 letters_are_text flags = is_utf8-from_IsUtf8 _ (IsUtf8-from_ascii _ (ascii_is_text _ (letters_are_ascii (is_set flags) flag_table refl)))

@@ -1,4 +1,4 @@
--- A credential cache as a JSON value, and as the text of it.
+-- A credential cache as a JSON value, and as its text.
 use Rattle.std.specs.Prelude.{ℕ, ◌==◌, List, [], ◌∷◌, ◌++◌, length, codes, not, Option, None, Some, filter_map}
 use Rattle.json.specs.Json.{Json, null, boolean, string}
 use Rattle.json.specs.Print.{print}
@@ -14,7 +14,7 @@ use Rattle.krb_json.specs.declared.cache.Shown.{Shown}
 use Rattle.krb_json.specs.declared.cache.Shown.TheVariants.{Tickets, Configs}
 use Rattle.krb_json.specs.Members.{Member, object_of, array_of, number_of, text_member, etype_members, fault_value, file_members}
 
--- where a ticket stands, whose it is, and what it is for
+-- a ticket's place, client and server
 unfoldable pub party_members : PlacedCredential → List Member
 party_members x =
     (codes "place", number_of x.0)
@@ -22,7 +22,7 @@ party_members x =
     ∷ text_member (codes "server") (name_text x.1.server)
     ∷ []
 
--- its four times, in seconds of the file
+-- its four times, in seconds, as in the file
 unfoldable pub time_members : Times → List Member
 time_members t =
     (codes "authtime", number_of t.authtime)
@@ -35,7 +35,7 @@ time_members t =
 unfoldable pub flag_members : ℕ → List Member
 flag_members flags = (codes "flags", string (flag_letters_of flags)) ∷ (codes "flags_value", number_of flags) ∷ []
 
--- whether it is encrypted in another ticket's session key, how many addresses it has, and how long the ticket is
+-- whether it is encrypted in another ticket's session key, its number of addresses, and the ticket's length
 unfoldable pub size_members : CredParts → List Member
 size_members c =
     (codes "is_skey", boolean (not (c.is_skey == 0)))
@@ -48,12 +48,12 @@ unfoldable pub ticket_value : PlacedCredential → Json
 ticket_value x =
     object_of (party_members x ++ (time_members x.1.times ++ (flag_members x.1.flags ++ (etype_members x.1.key.enctype ++ size_members x.1))))
 
--- the principal that a configuration entry is about, or null where there is none
+-- the principal that a configuration entry is about, or null if there is none
 abbrev pub about_member : Option (List ℕ) → Member
 about_member None = (codes "principal", null)
 about_member (Some text) = text_member (codes "principal") text
 
--- a configuration entry: its place, what its value is held under, and the value
+-- a configuration entry: its place, key, principal and value
 unfoldable pub config_value : ℕ → ConfigParts → List ℕ → Json
 config_value place name value =
     object_of (
@@ -64,34 +64,34 @@ config_value place name value =
     ∷ []
     )
 
--- what a credential is as a ticket, by what its server names as that of a configuration entry
+-- a credential as a ticket, or nothing if its server is the name of a configuration entry
 abbrev pub ticket_by : Option ConfigParts → PlacedCredential → Option Json
 ticket_by None x = Some (ticket_value x)
 ticket_by (Some name) x = None
 
--- what a credential is as a configuration entry, by the same
+-- a credential as a configuration entry, or nothing if its server is not the name of one
 abbrev pub config_by : Option ConfigParts → PlacedCredential → Option Json
 config_by None x = None
 config_by (Some name) x = Some (config_value x.0 name x.1.ticket)
 
--- what a credential is as an element of that array, by the same
+-- a credential as an element of the array, or nothing if the array does not hold it
 abbrev pub shown_by : Shown → Option ConfigParts → PlacedCredential → Option Json
 shown_by Tickets name x = ticket_by name x
 shown_by Configs name x = config_by name x
 
--- the elements of that array: of the live credentials, in file order
+-- the elements of the array: those of the live credentials that it holds, in file order
 abbrev pub shown_values : Shown → List PlacedCredential → List Json
 shown_values shown xs = filter_map (λ x. shown_by shown (config_name x.1.server) x) xs
 
--- the live credentials that are no configuration entries
+-- the live credentials that are not configuration entries
 abbrev pub ticket_values : List PlacedCredential → List Json
 ticket_values xs = shown_values Tickets xs
 
--- the live credentials that are
+-- the live credentials that are configuration entries
 abbrev pub config_values : List PlacedCredential → List Json
 config_values xs = shown_values Configs xs
 
--- a cache under the name of its file
+-- a cache, with the name of its file
 unfoldable pub cache_value : List ℕ → CacheState → Json
 cache_value file k =
     object_of (
@@ -103,6 +103,6 @@ cache_value file k =
     ∷ [])
     )
 
--- its text, and the end of the line
+-- its text, and a newline
 abbrev pub cache_json_text : List ℕ → CacheState → List ℕ
 cache_json_text file k = print (json_tokens (cache_value file k)) ++ codes "\n"

@@ -1,4 +1,4 @@
--- A keytab as a JSON value, and as the text of it.
+-- A keytab as a JSON value, and as its text.
 use Rattle.std.specs.Prelude.{ℕ, List, [], ◌∷◌, ◌++◌, map, codes, Bool, if◌then◌else◌}
 use Rattle.json.specs.Json.{Json}
 use Rattle.json.specs.Print.{print}
@@ -14,7 +14,7 @@ use Rattle.krb_json.specs.Members.{Member, object_of, array_of, number_of, digit
 unfoldable pub key_members : Bool → List ℕ → List Member
 key_members shows_keys key = if shows_keys then (codes "key_hex", digits_of key) ∷ [] else []
 
--- where an entry stands, whose key it is, and its version
+-- an entry's place, principal and kvno
 unfoldable pub owner_members : PlacedEntry → List Member
 owner_members x =
     (codes "place", number_of x.0)
@@ -34,7 +34,7 @@ entry_value shows_keys x =
 abbrev pub entry_values : Bool → KeytabState → List Json
 entry_values shows_keys k = map (entry_value shows_keys) (placed_entries k)
 
--- a keytab under the name of its file
+-- a keytab, with the name of its file
 unfoldable pub keytab_value : List ℕ → Bool → KeytabState → Json
 keytab_value file shows_keys k =
     object_of (
@@ -42,6 +42,6 @@ keytab_value file shows_keys k =
     ++ ((codes "entries", array_of (entry_values shows_keys k)) ∷ (codes "fault", fault_value (fault_of (store_of k))) ∷ [])
     )
 
--- its text, and the end of the line
+-- its text, and a newline
 abbrev pub keytab_json_text : List ℕ → Bool → KeytabState → List ℕ
 keytab_json_text file shows_keys k = print (json_tokens (keytab_value file shows_keys k)) ++ codes "\n"

@@ -1,4 +1,4 @@
--- The members that objects here are built of.
+-- The members of the objects.
 use Rattle.std.specs.Prelude.{ℕ, List, [], ◌∷◌, ◌++◌, codes, decimal, if◌then◌else◌, Option, None, Some}
 use Rattle.std.specs.Str.{is_utf8}
 use Rattle.hex.specs.Hex.{encode_lower}
@@ -8,11 +8,11 @@ use Rattle.krb_walk.specs.declared.fault.Fault.{Fault}
 use Rattle.krb_walk.specs.Numbers.{fault_number}
 use Rattle.krb_text.specs.Etype.{etype_name_of}
 
--- a name, and the value under it
+-- a member of an object: its name and its value
 abbrev pub Member : Type 0
 Member = List ℕ × Json
 
--- the same, as an object has them
+-- a list of members, as an object has them
 abbrev pub members_of : List Member → Members
 members_of [] = no_members
 members_of (m ∷ ms) = member m.0 m.1 (members_of ms)
@@ -29,28 +29,28 @@ array_of vs = array (items_of vs)
 abbrev pub number_of : ℕ → Json
 number_of n = number (decimal n)
 
--- the bytes in lower case hexadecimal
+-- bytes in lower-case hexadecimal
 abbrev pub digits_of : List ℕ → Json
 digits_of bytes = string (encode_lower bytes)
 
--- a text as a string, or where it is not UTF-8 under a name with `_hex` behind it, in hexadecimal
+-- a text as a string; if it is not UTF-8, it is in hexadecimal, and `_hex` is added to the name
 unfoldable pub text_member : List ℕ → List ℕ → Member
 text_member name text = if is_utf8 text then (name, string text) else (name ++ codes "_hex", digits_of text)
 
--- a text if there is one, and else null
+-- a string, or null if there is none
 abbrev pub text_or_null : Option (List ℕ) → Json
 text_or_null None = null
 text_or_null (Some text) = string text
 
--- the number of an encryption type, and its name if it has one
+-- the number of an enctype, and its name, or null if it has none
 unfoldable pub etype_members : ℕ → List Member
 etype_members etype = (codes "etype", number_of etype) ∷ (codes "etype_name", text_or_null (etype_name_of etype)) ∷ []
 
--- the kind and the place of a fault, or null where there is none
+-- the kind and the place of a fault, or null if there is none
 abbrev pub fault_value : Option Fault → Json
 fault_value None = null
 fault_value (Some fault) = object_of ((codes "kind", number_of (fault_number fault.kind)) ∷ (codes "place", number_of fault.place) ∷ [])
 
--- what each file begins with: its name, its kind, and the version of its format
+-- the first members of each file: its name, its kind and its format version
 unfoldable pub file_members : List ℕ → List ℕ → ℕ → List Member
 file_members file kind version = (codes "file", string file) ∷ (codes "kind", string kind) ∷ (codes "version", number_of version) ∷ []

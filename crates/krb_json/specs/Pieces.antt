@@ -17,7 +17,7 @@ member_tokens m = key m.0 ∷ json_tokens m.1
 abbrev pub tokens_of : List Member → List Token
 tokens_of ms = flat_map member_tokens ms
 
--- a comma, behind an element
+-- a comma, if after an element
 abbrev pub comma_after : Bool → List ℕ
 comma_after is_after = if is_after then codes "," else []
 
@@ -55,7 +55,7 @@ after_tickets xs = print (between_tokens (codes "config")) ++ elements_text fals
 abbrev pub arrays_text : CacheState → List ℕ
 arrays_text k = elements_text false (ticket_values (placed_credentials k)) ++ after_tickets (placed_credentials k)
 
--- a value that a reader finds again: its numbers are numbers, and it nests no deeper than an object
+-- a value that a reader reads back: its numbers are JSON numbers, and it nests at most one level deep
 pub record IsPlain (v : Json) : Type 0 where
   pub numbers : HasNumbers v
   pub flat : depth v ≤ 1

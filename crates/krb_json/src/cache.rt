@@ -31,7 +31,7 @@ fn version_number(version: Version) -> u64
     }
 }
 
-// What stands before the first ticket.
+// Appends the text before the first ticket.
 fn append_head<A: Allocator + Copy, B: Allocator>(
     file: &str,
     cache: &Ccache<B>,
@@ -50,14 +50,14 @@ fn append_head<A: Allocator + Copy, B: Allocator>(
     piece.append_to(false, gathered)
 }
 
-/// Which credentials an array has.
+/// Which credentials an array holds.
 #[derive(Clone, Copy)]
 enum Shown {
     Tickets,
     Configs,
 }
 
-// A credential, if that array has it. The answer is whether an element stands there now.
+// Appends a credential if the array holds it. Returns whether the array has an element now.
 fn append_shown<A: Allocator + Copy>(
     shown: Shown,
     place: u32,
@@ -83,7 +83,7 @@ fn append_shown<A: Allocator + Copy>(
     Ok(true)
 }
 
-// All elements of that array.
+// Gathers all elements of the array, and writes them as they fill up.
 fn send_shown<A: Allocator + Copy, B: Allocator, W: Write>(
     shown: Shown,
     cache: &Ccache<B>,
@@ -119,7 +119,7 @@ fn append_between<A: Allocator + Copy>(
     piece.append_to(false, gathered)
 }
 
-// Both arrays, from the first ticket to the last configuration entry.
+// Gathers both arrays, from the first ticket to the last configuration entry, and writes them as they fill up.
 fn send_arrays<A: Allocator + Copy, B: Allocator, W: Write>(
     cache: &Ccache<B>,
     piece: &mut Piece<A>,
@@ -139,9 +139,9 @@ fn send_arrays<A: Allocator + Copy, B: Allocator, W: Write>(
     send_shown(Shown::Configs, cache, piece, gathered, out)
 }
 
-/// Writes a cache under the name of its file as one JSON object (RFC 8259) and the end of the line: whose it is, an
-/// element for each ticket and for each configuration entry, in file order, and where the image is damaged its fault.
-/// No session key is written. It is gathered into large writes; where one fails, what went out is a prefix of the text.
+/// Writes a cache as one JSON object (RFC 8259) and a newline: its file name, its default principal, an element for
+/// each ticket and each configuration entry, in file order, and the fault if the cache is damaged. No session key is
+/// written. The text goes out in large writes; if one fails, a prefix of the text has been written.
 pub fn cache_json<A: Allocator + Copy, B: Allocator, W: Write>(
     alloc: A,
     file: &str,
@@ -150,7 +150,7 @@ pub fn cache_json<A: Allocator + Copy, B: Allocator, W: Write>(
 ) -> Result<(), OutFault>
     requires { IsFalse out.old.failed }
     ensures prints { Prints out.old out.new result (cache_json_text file.now cache.now.state) }
-    // A reader finds just this value in the text.
+    // A reader parses the text as this value.
     ensures reads_back { OnOk result (document (print (json_tokens (cache_value file.now cache.now.state)))
         ≡ Some (cache_value file.now cache.now.state)) }
 {

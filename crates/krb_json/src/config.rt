@@ -1,4 +1,4 @@
-//! Configuration entries of a cache.
+//! JSON of the configuration entries of a cache.
 
 ghost use Rattle.std.specs.Prelude.{◌≡◌, ◌++◌, OnOk, option_copied};
 ghost use Rattle.json.specs.Tree.{json_tokens};
@@ -13,7 +13,7 @@ use krb_wire::NoMemory;
 use std::alloc::Allocator;
 
 impl<A: Allocator> Piece<A> {
-    // The principal that a configuration entry is about, or null.
+    // Writes the principal that a configuration entry is about, or null if it has none.
     fn about(&mut self, principal: Option<&[u8]>) -> Result<(), NoMemory>
         ensures { OnOk result (self.new
             ≡ self.old ++ member_tokens (about_member (option_copied principal.entry))) }
@@ -24,7 +24,7 @@ impl<A: Allocator> Piece<A> {
         }
     }
 
-    /// A configuration entry of a cache.
+    /// Writes a configuration entry of a cache as an object.
     #[tactic(auto, unfolding(crate::specs::Cache::config_value))]
     pub fn config(&mut self, place: u32, name: ConfigName<'_>, value: &[u8]) -> Result<(), NoMemory>
         ensures tokens { OnOk result (self.new

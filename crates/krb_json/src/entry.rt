@@ -1,4 +1,4 @@
-//! Entries of a keytab.
+//! JSON of the entries of a keytab.
 
 ghost use Rattle.std.specs.Prelude.{◌≡◌, ◌<◌, ◌^◌, ◌++◌, OnOk};
 ghost use Rattle.json.specs.Tree.{json_tokens};
@@ -12,7 +12,7 @@ use krb_wire::NoMemory;
 use std::alloc::Allocator;
 
 impl<A: Allocator> Piece<A> {
-    // Where an entry stands, whose key it is, and its version.
+    // Writes an entry's place, principal and kvno.
     #[tactic(auto, unfolding(crate::specs::Keytab::owner_members))]
     fn owner(&mut self, place: u32, entry: &EntryView<'_>) -> Result<(), NoMemory>
         ensures tokens { OnOk result (self.new ≡ self.old ++ tokens_of (owner_members (place, entry.now))) }
@@ -23,7 +23,7 @@ impl<A: Allocator> Piece<A> {
         self.number("kvno", entry.kvno() as u64)
     }
 
-    // The key, if keys are shown.
+    // Writes the key, if keys are shown.
     #[tactic(auto, unfolding(crate::specs::Keytab::key_members))]
     fn key(&mut self, is_shown: bool, key: &[u8]) -> Result<(), NoMemory>
         ensures { OnOk result (self.new ≡ self.old ++ tokens_of (key_members is_shown key.now)) }
@@ -34,7 +34,7 @@ impl<A: Allocator> Piece<A> {
         self.digits("key_hex", key)
     }
 
-    /// An entry of a keytab.
+    /// Writes an entry of a keytab as an object.
     pub fn entry(
         &mut self,
         place: u32,

@@ -1,4 +1,4 @@
-//! What stands before the first array of a file, and after the last one.
+//! The object of a file before its first array and after its last.
 
 ghost use Rattle.std.specs.Prelude.{◌≡◌, ◌++◌, [], ◌∷◌, OnOk, codes};
 ghost use Rattle.json.specs.Token.{begin_object};
@@ -11,7 +11,7 @@ use krb_wire::NoMemory;
 use std::alloc::Allocator;
 
 impl<A: Allocator> Piece<A> {
-    /// Begins the object of a file, with its name, its kind, and the version of its format.
+    /// Begins the object of a file, and writes its name, its kind and its format version.
     pub fn begin_file(&mut self, file: &str, kind: &str, version: u64) -> Result<(), NoMemory>
         ensures { OnOk result (self.new
             ≡ self.old ++ begin_object ∷ tokens_of (file_members file.now kind.now version)) }
@@ -22,7 +22,7 @@ impl<A: Allocator> Piece<A> {
         self.number("version", version)
     }
 
-    /// Ends an array of an object and begins another.
+    /// Ends an array of an object and begins the next.
     pub fn next_array(&mut self, name: &str) -> Result<(), NoMemory>
         ensures { OnOk result (self.new ≡ self.old ++ between_tokens name.now) }
     {
@@ -30,7 +30,7 @@ impl<A: Allocator> Piece<A> {
         self.begin_array(name)
     }
 
-    // The kind and the place of a fault, or null.
+    // Writes the kind and the place of the fault, or null if there is none.
     #[tactic(auto, using(crate::proofs::ReadBack::fault_is_plain, crate::proofs::ReadBack::no_fault_is_plain))]
     fn fault(&mut self, fault: Option<Fault>) -> Result<(), NoMemory>
         ensures tokens { OnOk result (self.new ≡ self.old ++ member_tokens (codes "fault", fault_value fault)) }
@@ -45,7 +45,7 @@ impl<A: Allocator> Piece<A> {
         self.end_object()
     }
 
-    /// Ends the last array, tells the fault, and ends the object of the file.
+    /// Ends the last array, writes the fault, or null if there is none, and ends the object of the file.
     pub fn end_file(&mut self, fault: Option<Fault>) -> Result<(), NoMemory>
         ensures tokens { OnOk result (self.new
             ≡ self.old ++ tail_tokens ((codes "fault", fault_value fault) ∷ [])) }

@@ -19,7 +19,7 @@ use krb_wire::{KtFormat, NoMemory};
 use std::alloc::Allocator;
 use std::io::Write;
 
-// What stands before the first entry.
+// Appends the text before the first entry.
 fn append_head<A: Allocator + Copy>(
     file: &str,
     format: KtFormat,
@@ -36,7 +36,7 @@ fn append_head<A: Allocator + Copy>(
     piece.append_to(false, gathered)
 }
 
-// All entries.
+// Gathers all entries, and writes them as they fill up.
 fn send_entries<A: Allocator + Copy, B: Allocator, W: Write>(
     keytab: &Keytab<B>,
     shows_keys: bool,
@@ -61,9 +61,9 @@ fn send_entries<A: Allocator + Copy, B: Allocator, W: Write>(
     Ok(())
 }
 
-/// Writes a keytab under the name of its file as one JSON object (RFC 8259) and the end of the line: an element for
-/// each entry in file order, with its key where those are asked for, and where the image is damaged its fault. It is
-/// gathered into large writes; where one fails, what went out is a prefix of the text.
+/// Writes a keytab as one JSON object (RFC 8259) and a newline: its file name, an element for each entry in file order,
+/// with its key if `shows_keys`, and the fault if the keytab is damaged. The text goes out in large writes; if one
+/// fails, a prefix of the text has been written.
 pub fn keytab_json<A: Allocator + Copy, B: Allocator, W: Write>(
     alloc: A,
     file: &str,
@@ -73,7 +73,7 @@ pub fn keytab_json<A: Allocator + Copy, B: Allocator, W: Write>(
 ) -> Result<(), OutFault>
     requires { IsFalse out.old.failed }
     ensures prints { Prints out.old out.new result (keytab_json_text file.now shows_keys keytab.now.state) }
-    // A reader finds just this value in the text.
+    // A reader parses the text as this value.
     ensures reads_back { OnOk result (document (print (json_tokens
         (keytab_value file.now shows_keys keytab.now.state)))
         ≡ Some (keytab_value file.now shows_keys keytab.now.state)) }

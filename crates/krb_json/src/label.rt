@@ -1,9 +1,9 @@
-//! The names of the members that hold texts of a file.
+//! The names of the members that hold strings from a file.
 
 ghost use Rattle.std.specs.Prelude.{◌≡◌, ◌++◌, codes};
 ghost use Rattle.krb_json.specs.Label.{label_text};
 
-/// A member that holds a text of a file.
+/// A member that holds a string from a file.
 #[derive(Clone, Copy)]
 pub enum Label {
     Principal,
@@ -15,7 +15,7 @@ pub enum Label {
 }
 
 impl Label {
-    /// Its name, where the text is UTF-8.
+    /// Returns the member's name if the string is UTF-8.
     pub fn name(self) -> &'static str
         ensures { result.now ≡ label_text self }
     {
@@ -29,7 +29,7 @@ impl Label {
         }
     }
 
-    /// Its name, where the text is not.
+    /// Returns the member's name if the string is not UTF-8.
     pub fn hex_name(self) -> &'static str
         ensures { result.now ≡ label_text self ++ codes "_hex" }
     {

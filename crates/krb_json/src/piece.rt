@@ -1,4 +1,4 @@
-//! A piece of the text, made of tokens.
+//! A piece of JSON text, made of tokens.
 
 ghost use Rattle.std.specs.Prelude.{◌≡◌, ◌++◌, [], ◌∷◌, OnOk, not};
 ghost use Rattle.json.specs.Token.{begin_object, end_object, begin_array, end_array, key, string, boolean, null};
@@ -18,14 +18,14 @@ use std::alloc::Allocator;
 use std::marker::Model;
 use std::mem;
 
-/// A piece of the text that is being made, in memory that is kept from piece to piece. Contracts see its tokens.
+/// A piece of JSON text under construction, in memory that is reused from piece to piece. Contracts see its tokens.
 #[derive(Drop)]
 pub struct Piece<A: Allocator> {
     alloc: A,
     writer: Writer<A>,
-    // What is written as a string next.
+    // Scratch space for the next string.
     text: Vec<u8, A>,
-    // Its digits, where it is not UTF-8.
+    // Scratch space for hexadecimal digits.
     digits: Vec<u8, A>,
 }
 
@@ -43,7 +43,7 @@ impl<A: Allocator> Model for Piece<A> {
 }
 
 impl<A: Allocator + Copy> Piece<A> {
-    /// An empty piece.
+    /// Returns an empty piece.
     pub fn new(alloc: A) -> Piece<A>
         ensures { result ≡ [] }
     {
@@ -55,7 +55,7 @@ impl<A: Allocator + Copy> Piece<A> {
         }
     }
 
-    /// Appends the text of the piece, behind a comma where it is an element after others, and begins an empty one.
+    /// Appends the piece's text to `gathered`, after a comma if it is an element after others, and empties the piece.
     pub fn append_to<B: Allocator>(
         &mut self,
         is_after: bool,
@@ -78,7 +78,7 @@ impl<A: Allocator + Copy> Piece<A> {
 }
 
 impl<A: Allocator> Piece<A> {
-    /// Begins an object, as an element or by itself.
+    /// Begins an object: an element of an array, or the whole value.
     pub fn begin_object(&mut self) -> Result<(), NoMemory>
         ensures { OnOk result (self.new ≡ self.old ++ begin_object ∷ []) }
     {
@@ -92,7 +92,7 @@ impl<A: Allocator> Piece<A> {
         Ok(self.writer.end_object()?)
     }
 
-    /// Begins an array under a name.
+    /// Begins a member that is an array.
     pub fn begin_array(&mut self, name: &str) -> Result<(), NoMemory>
         ensures { OnOk result (self.new ≡ self.old ++ key name.now ∷ begin_array ∷ []) }
     {
@@ -107,7 +107,7 @@ impl<A: Allocator> Piece<A> {
         Ok(self.writer.end_array()?)
     }
 
-    /// Begins an object under a name.
+    /// Begins a member that is an object.
     pub fn begin_object_at(&mut self, name: &str) -> Result<(), NoMemory>
         ensures { OnOk result (self.new ≡ self.old ++ key name.now ∷ begin_object ∷ []) }
     {
@@ -115,7 +115,7 @@ impl<A: Allocator> Piece<A> {
         Ok(self.writer.begin_object()?)
     }
 
-    /// A member that is null.
+    /// Writes a member that is null.
     pub fn null(&mut self, name: &str) -> Result<(), NoMemory>
         ensures { OnOk result (self.new ≡ self.old ++ key name.now ∷ null ∷ []) }
     {
@@ -123,7 +123,7 @@ impl<A: Allocator> Piece<A> {
         Ok(self.writer.null()?)
     }
 
-    /// A member that is true or false.
+    /// Writes a member that is true or false.
     pub fn boolean(&mut self, name: &str, value: bool) -> Result<(), NoMemory>
         ensures { OnOk result (self.new ≡ self.old ++ key name.now ∷ boolean value ∷ []) }
     {
@@ -131,7 +131,7 @@ impl<A: Allocator> Piece<A> {
         Ok(self.writer.boolean(value)?)
     }
 
-    /// A member that is a number.
+    /// Writes a member that is a number.
     #[inline(always)]
     pub fn number(&mut self, name: &str, value: u64) -> Result<(), NoMemory>
         ensures { OnOk result (self.new ≡ self.old ++ member_tokens (name.now, number_of value)) }
@@ -140,7 +140,7 @@ impl<A: Allocator> Piece<A> {
         Ok(self.writer.u64(value)?)
     }
 
-    /// A member that is a text of the program.
+    /// Writes a member that is a string of the program's own.
     pub fn string(&mut self, name: &str, value: &str) -> Result<(), NoMemory>
         ensures { OnOk result (self.new ≡ self.old ++ key name.now ∷ string value.now ∷ []) }
     {
@@ -148,14 +148,14 @@ impl<A: Allocator> Piece<A> {
         Ok(self.writer.string(value)?)
     }
 
-    /// A member that is bytes in hexadecimal.
+    /// Writes a member that is bytes in lower-case hexadecimal.
     pub fn digits(&mut self, name: &str, bytes: &[u8]) -> Result<(), NoMemory>
         ensures { OnOk result (self.new ≡ self.old ++ member_tokens (name.now, digits_of bytes.now)) }
     {
         put_digits(name, bytes, &mut self.digits, &mut self.writer)
     }
 
-    /// A member that is a text of the file.
+    /// Writes a member that is a string from the file: in hexadecimal, with `_hex` in its name, if it is not UTF-8.
     pub fn text(&mut self, label: Label, bytes: &[u8]) -> Result<(), NoMemory>
         ensures { OnOk result (self.new
             ≡ self.old ++ member_tokens (text_member (label_text label) bytes.now)) }
@@ -163,7 +163,7 @@ impl<A: Allocator> Piece<A> {
         put_text(label, bytes, &mut self.digits, &mut self.writer)
     }
 
-    /// A member that is a name of the file, as it is printed.
+    /// Writes a member that is a principal name from the file, as it is printed.
     pub fn name<N: Name>(&mut self, label: Label, name: &N) -> Result<(), NoMemory>
         ensures { OnOk result (self.new
             ≡ self.old ++ member_tokens (text_member (label_text label) (name_text (N.parts name.now)))) }
@@ -173,7 +173,7 @@ impl<A: Allocator> Piece<A> {
         put_text(label, &self.text, &mut self.digits, &mut self.writer)
     }
 
-    /// A member that is the letters of ticket flags.
+    /// Writes a member that is the letters of ticket flags.
     #[tactic(auto, using(crate::proofs::Texts::letters_are_text))]
     pub fn letters(&mut self, name: &str, flags: u32) -> Result<(), NoMemory>
         ensures { OnOk result (self.new ≡ self.old ++ key name.now ∷ string (flag_letters_of flags) ∷ []) }
@@ -187,7 +187,7 @@ impl<A: Allocator> Piece<A> {
         Ok(self.writer.string(letters)?)
     }
 
-    /// An encryption type: its number, and its name if it has one.
+    /// Writes an enctype as two members: its number, and its name, or null if it has none.
     #[tactic(auto, unfolding(crate::specs::Members::etype_members))]
     pub fn etype(&mut self, etype: u16) -> Result<(), NoMemory>
         ensures { OnOk result (self.new ≡ self.old ++ tokens_of (etype_members etype)) }

@@ -1,4 +1,4 @@
-//! Members that are made of bytes.
+//! Members that hold bytes.
 
 ghost use Rattle.std.specs.Prelude.{◌≡◌, ◌++◌, [], ◌∷◌, OnOk, MatchOption, true, false};
 ghost use Rattle.std.specs.Str.{is_utf8};
@@ -14,7 +14,7 @@ use krb_wire::NoMemory;
 use std::alloc::Allocator;
 use std::str;
 
-/// The bytes as a text, if they are UTF-8.
+/// Returns the bytes as a `str`, or `None` if they are not UTF-8.
 #[tactic(auto, using(crate::proofs::Texts::utf8_is_text, crate::proofs::Texts::other_is_no_text))]
 pub fn text_in(bytes: &[u8]) -> Option<&str>
     ensures { MatchOption result (is_utf8 bytes.now ≡ false)
@@ -26,7 +26,7 @@ pub fn text_in(bytes: &[u8]) -> Option<&str>
     }
 }
 
-// Makes `digits` the bytes in lower case hexadecimal.
+// Replaces `digits` with the bytes in lower-case hexadecimal.
 fn fill_digits<A: Allocator>(bytes: &[u8], digits: &mut Vec<u8, A>) -> Result<(), NoMemory>
     ensures { OnOk result (digits.new.items ≡ encode_lower bytes.now) }
 {
@@ -39,7 +39,7 @@ fn fill_digits<A: Allocator>(bytes: &[u8], digits: &mut Vec<u8, A>) -> Result<()
     Ok(())
 }
 
-/// Writes a member, bytes in lower case hexadecimal. The digits are made in `digits`.
+/// Writes a member that is bytes in lower-case hexadecimal. `digits` is scratch space.
 #[tactic(auto, using(crate::proofs::Texts::digits_are_text))]
 pub fn put_digits<A: Allocator>(
     name: &str,
@@ -59,7 +59,7 @@ pub fn put_digits<A: Allocator>(
     Ok(writer.string(text)?)
 }
 
-/// Writes a member, a text of the file. Digits are made in `digits`.
+/// Writes a member that is a string from the file. `digits` is scratch space.
 #[tactic(auto, unfolding(crate::specs::Members::text_member))]
 pub fn put_text<A: Allocator>(
     label: Label,

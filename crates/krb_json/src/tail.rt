@@ -1,4 +1,4 @@
-//! What stands after the last array of a file, and is written with what is gathered.
+//! The end of a file's object, which is written with what is gathered.
 
 ghost use Rattle.std.specs.Prelude.{◌≡◌, ◌++◌, [], ◌∷◌, OnOk, IsFalse, codes};
 ghost use Rattle.json.specs.Print.{print};
@@ -13,7 +13,7 @@ use krb_wire::NoMemory;
 use std::alloc::Allocator;
 use std::io::Write;
 
-// What stands after the last element of a file, and the end of the line.
+// Appends the text after the last element of a file, and a newline.
 fn append_tail<A: Allocator + Copy>(
     fault: Option<Fault>,
     piece: &mut Piece<A>,
@@ -29,7 +29,7 @@ fn append_tail<A: Allocator + Copy>(
     Ok(gathered.push(b'\n')?)
 }
 
-/// Writes what is gathered, and behind it what stands after the last element of a file.
+/// Writes what is gathered, then the text after the last element of a file, and a newline.
 pub fn send_tail<A: Allocator + Copy, W: Write>(
     fault: Option<Fault>,
     piece: &mut Piece<A>,

@@ -1,4 +1,4 @@
-//! Tickets of a cache.
+//! JSON of the tickets of a cache.
 
 ghost use Rattle.std.specs.Prelude.{◌≡◌, ◌<◌, ◌^◌, length, ◌++◌, OnOk};
 ghost use Rattle.json.specs.Tree.{json_tokens};
@@ -13,7 +13,7 @@ use krb_wire::NoMemory;
 use std::alloc::Allocator;
 
 impl<A: Allocator> Piece<A> {
-    // Where a ticket stands, whose it is, and what it is for.
+    // Writes a ticket's place, client and server.
     #[tactic(auto, unfolding(crate::specs::Cache::party_members))]
     fn parties(&mut self, place: u32, ticket: &CredView<'_>) -> Result<(), NoMemory>
         ensures { OnOk result (self.new ≡ self.old ++ tokens_of (party_members (place, ticket.now))) }
@@ -23,7 +23,7 @@ impl<A: Allocator> Piece<A> {
         self.name(Label::Server, ticket.server())
     }
 
-    // Its four times.
+    // Writes its four times.
     fn times(&mut self, ticket: &CredView<'_>) -> Result<(), NoMemory>
         ensures tokens { OnOk result (self.new ≡ self.old ++ tokens_of (time_members ticket.now.times)) }
         ensures fit { OnOk result (FitsTimes ticket.now.times) }
@@ -34,7 +34,7 @@ impl<A: Allocator> Piece<A> {
         self.number("renew_till", ticket.renew_till() as u64)
     }
 
-    // Its flags, as letters and as a number.
+    // Writes its flags, as letters and as a number.
     fn flags(&mut self, flags: u32) -> Result<(), NoMemory>
         ensures { OnOk result (self.new ≡ self.old ++ tokens_of (flag_members flags)) }
     {
@@ -42,7 +42,7 @@ impl<A: Allocator> Piece<A> {
         self.number("flags_value", flags as u64)
     }
 
-    // Whether it is encrypted in another ticket's session key, how many addresses it has, and how long the ticket is.
+    // Writes whether it is encrypted in another ticket's session key, its number of addresses, and the ticket's length.
     fn sizes(&mut self, ticket: &CredView<'_>) -> Result<(), NoMemory>
         ensures tokens { OnOk result (self.new ≡ self.old ++ tokens_of (size_members ticket.now)) }
         ensures addresses { OnOk result (length ticket.now.addresses < 2 ^ 64) }
@@ -53,7 +53,7 @@ impl<A: Allocator> Piece<A> {
         self.number("ticket_length", ticket.ticket().len() as u64)
     }
 
-    /// A ticket of a cache.
+    /// Writes a ticket of a cache as an object.
     pub fn ticket(&mut self, place: u32, ticket: &CredView<'_>) -> Result<(), NoMemory>
         ensures tokens { OnOk result (self.new
             ≡ self.old ++ json_tokens (ticket_value (place, ticket.now))) }

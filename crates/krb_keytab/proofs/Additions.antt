@@ -1,4 +1,4 @@
--- What an addition gives, told by the image that is kept.
+-- The result of an addition, by the image that is kept.
 use Rattle.std.proofs.Common.{◌≡◌, ℕ, ◌+◌, ◌<◌, ◌≤◌, Bool, true, false, cond, ltb, List, [], ◌∷◌, ◌++◌, length, drop, None, Ok, Err, sym, ap, ◌∙◌, length-append, arith}
 use Rattle.std.specs.Prelude.{is_some}
 use Rattle.std.specs.List.{flat_map}
@@ -17,7 +17,7 @@ use Rattle.krb_keytab.proofs.Cuts.{end_place_is, end_place-append}
 use Rattle.krb_keytab.proofs.Stores.{keytab_of, end_held, whole_of}
 use Rattle.krb_keytab.proofs.AppendLemmas.{zeros_after}
 
--- how long the image is with one record more
+-- the length of the image with one more record
 last_len : (f : KtFormat) (limit : ℕ) (bytes x : List ℕ) (e : CellsEnd) → IsKnownEnd f bytes e → kind_of (contents f (drop 2 bytes)).end ≡ None → length (image_of (with_last (keytab_of f limit bytes) x)) ≡ len_with e (length x)
 last_len f limit bytes x e known whole =
     let o = order_of f in
@@ -29,7 +29,7 @@ last_len f limit bytes x e known whole =
     let place : end_place 2 cells ≡ e.place + (4 + length x) = end_place-append 2 k.cells (Live x ∷ []) ∙ ap (λ (n : ℕ). n + (4 + length x)) known.place in
     omega (arith, mark, place, end_place_is o 2 cells, length-append (flat_map (cell o) cells) t)
 
--- a keytab that is kept, and the record that is put after its cells
+-- a keytab that is kept, and the record that is added after its cells
 pub record Appends (f : KtFormat) (limit : ℕ) (bytes x : List ℕ) (k : KeytabState) (e : CellsEnd) (n : ℕ) : Type 0 where
   pub known : IsKnownEnd f bytes e
   pub is : keytab_of f limit bytes ≡ k
@@ -73,7 +73,7 @@ append_ok f limit bytes bytes' x k e n a le written =
     append_fits f limit bytes x k e n a le
     ∙ sym (ap (λ (p : ℕ). Ok (p, keytab_of f limit bytes')) (end_held f limit bytes k e a.known a.is) ∙ ap (λ (y : KeytabState). Ok (end_of (store_of k), y)) (appended_state f limit bytes bytes' x k a.is written))
 
--- how long the image is before and after
+-- the length of the image before and after
 pub append_longer : (f : KtFormat) (limit : ℕ) (bytes x : List ℕ) (k : KeytabState) (e : CellsEnd) (n : ℕ) → Appends f limit bytes x k e n → bytes ≡ image f (contents f (drop 2 bytes)) → length bytes < n → length (image_of k) < length (image_of (with_last k x))
 append_longer f limit bytes x k e n a spelled lt =
     let was : length (image_of k) ≡ length bytes = ap (λ (y : KeytabState). length (image_of y)) (sym a.is) ∙ ap length (sym spelled) in

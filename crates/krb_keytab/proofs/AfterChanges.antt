@@ -1,4 +1,4 @@
--- What an addition and a removal give: what was added is read there, and what was removed stands there no more.
+-- After an addition and a removal: what was added is read back, and what was removed is gone.
 use Rattle.std.proofs.Common.{◌≡◌, ℕ, ◌⊎◌, true, false, cond, ltb, List, [], ◌++◌, length, map, replicate, Option, Some, None, Result, Ok, Err, refl, sym, ap, subst, ◌∙◌, inl, inr}
 use Rattle.std.specs.Prelude.{is_some}
 use Rattle.std.proofs.lemmas.List.{append-nil}
@@ -19,7 +19,7 @@ use Rattle.krb_keytab.proofs.Replacements.{StandsAt, live_stands, hole_stands, r
 use Rattle.krb_keytab.proofs.Removals.{holds}
 use Rattle.krb_keytab.proofs.WrittenLemmas.{written_spells}
 
--- what was given is one thing
+-- a result has one value
 ok_is : {X Y : Type 0} (a b : X) → ◌≡◌ {A = Result X Y} (Ok a) (Ok b) → a ≡ b
 ok_is a b e = cc
 
@@ -74,7 +74,7 @@ behind k e fit is =
     let held = holds (with_last k x) k.contents.cells [] x p refl refl in
     reads (with_last k x) e p 0 fit is (held ∙ ap (λ (b : List ℕ). Some b) (sym (append-nil x)))
 
--- what was added is read at the place that the addition gives
+-- what was added is read back at the place that the addition returns
 pub added_reads : (k : KeytabState) (e : EntryParts) (given : ℕ × KeytabState) → IsEntry e → put_result k e ≡ Ok given → entry_at_place given.1 given.0 ≡ Some (read_back k.format e)
 added_reads k e given is put =
     let p = put_gives k e given put in
@@ -103,7 +103,7 @@ cut_gives k p new cut =
       ]
     ]
 
--- what was removed stands there no more
+-- what was removed is gone
 pub removed_none : (k : KeytabState) (p : ℕ) (new : KeytabState) → cut_result k p ≡ Ok new → store_bytes (store_of new) p ≡ None
 removed_none k p new cut =
     let c = cut_gives k p new cut in

@@ -1,4 +1,4 @@
--- What a record after the cells makes of an image.
+-- An image after a record is added after its cells.
 use Rattle.std.proofs.Common.{◌≡◌, ℕ, ◌+◌, ◌-◌, ◌^◌, ◌<◌, ◌≤◌, List, [], ◌∷◌, ◌++◌, length, take, drop, replicate, None, refl, sym, ap, subst, ◌∙◌, append_assoc, length-append, arith}
 use Rattle.std.specs.Prelude.{IsSome}
 use Rattle.std.specs.List.{flat_map, splice}
@@ -30,7 +30,7 @@ after_sound f Bare h whole = tt
 after_sound f (Mark rest) h whole = tt
 after_sound f (Damaged kind rest) h whole = absurd cc
 
--- after an appended record stand zeros, as many as an end mark has
+-- after an appended record come zeros, as many as an end mark has
 pub zeros_after : (o : Order) (e : Ending) (k : End) (bytes : List ℕ) → k ≡ ends bytes e → kind_of k ≡ None → replicate {A = ℕ} (mark_len e) 0 ≡ end_bytes o (end_after k)
 zeros_after Big ending.Bare k bytes is whole = rw is refl
 zeros_after Little ending.Bare k bytes is whole = rw is refl
@@ -61,7 +61,7 @@ with_one f k x =
     let one : flat_map (cell o) (Live x ∷ []) ≡ cell o (Live x) = flat_map-cons (cell o) (Live x) [] ∙ append-nil (cell o (Live x)) in
     ap (λ (b : List ℕ). b ++ end_bytes o e) (flat_map-append (cell o) k.cells (Live x ∷ []) ∙ ap (λ (b : List ℕ). F ++ b) one) ∙ append_assoc F (cell o (Live x)) (end_bytes o e)
 
--- what is known of the end, where the image ends with these bytes
+-- what is known of the end, if the image ends with these bytes
 known_after : (f : KtFormat) (image' front : List ℕ) (k : Contents) (x : List ℕ) (e : CellsEnd) (bytes : List ℕ) → IsBytes image' → IsEnd f k.end → kind_of k.end ≡ None → end_place 2 k.cells ≡ e.place → k.end ≡ ends bytes e.ending
     → image' ≡ front ++ end_bytes (order_of f) (end_after k.end) → length front ≡ e.place + 4 + length x → contents f (drop 2 image') ≡ record { cells = k.cells ++ Live x ∷ []; end = end_after k.end }
     → IsKnownEnd f image' (record { place = e.place + 4 + length x; ending = e.ending })

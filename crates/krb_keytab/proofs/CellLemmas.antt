@@ -28,7 +28,7 @@ pub record TakesCell (f : KtFormat) (bytes : List ℕ) (c : Cell) (after : List 
   pub takes : Takes bytes (cell (order_of f) c) after
   pub sound : IsCell f c
 
--- what stands after the cells
+-- what is after the cells
 pub record IsAtEnd (f : KtFormat) (bytes : List ℕ) (e : End) : Type 0 where
   pub parts : bytes ≡ end_bytes (order_of f) e
   pub sound : IsEnd f e
@@ -87,7 +87,7 @@ next_by_is f bytes s (Some n) fits whole got e =
     let is = said n.0 l t.1 refl in
     told_is f bytes n.1 l s whole (subst (λ (m : ℕ). Takes bytes (digits (order_of f) w32 m) n.1) (sym is.field) t.0) is.has e
 
--- what one read gives is what the bytes spell
+-- what one read returns is what the bytes spell
 pub next_is : (f : KtFormat) (bytes : List ℕ) (s : NextCell Cell End) → IsBytes bytes → next f bytes ≡ s → IsNext f bytes s
 unfolding next
 next_is f bytes s fits e = next_by_is f bytes s (number_at (order_of f) w32 bytes) fits e refl e
@@ -107,7 +107,7 @@ field_small says.End has = omega arith
 field_small (says.Live n) has = omega (arith, has.1)
 field_small (says.Free n) has = omega (arith, has.0)
 
--- the number that stands before a cell
+-- the number before a cell
 pub field_again : (f : KtFormat) (c : Cell) (rest : List ℕ) → IsCell f c → number_at (order_of f) w32 (cell (order_of f) c ++ rest) ≡ Some (length_field c, bytes_of c ++ rest)
 field_again f c rest sound =
     let o = order_of f in
@@ -150,7 +150,7 @@ next_in : (f : KtFormat) (bytes : List ℕ) (s : NextCell Cell End) → IsNext f
 next_in f bytes (More c after) t = (t.takes, read_cell f c t.sound)
 next_in f bytes (NoMore e) t = (t.parts, end_again f e t.sound)
 
--- its reader tells what is spelled
+-- its reader reads what is spelled
 pub keytab_is : (f : KtFormat) → IsFormat (keytab_format f)
 keytab_is f bytes fits = next_in f bytes (next f bytes) (next_is f bytes (next f bytes) fits refl)
 

@@ -1,4 +1,4 @@
--- A table and a tree where one cell becomes another of its size.
+-- A table and a tree when one cell is replaced by another of its size.
 use Rattle.std.proofs.Common.{◌≡◌, ℕ, ◌+◌, ◌-◌, ◌^◌, ◌<◌, ◌≤◌, true, List, ◌∷◌, ◌++◌, length, map, replicate, Option, Some, None, Result, Ok, refl, sym, ap, subst, ◌∙◌, arith, length-append}
 use Rattle.std.specs.Prelude.{option_map}
 use Rattle.std.specs.List.{flat_map}
@@ -22,7 +22,7 @@ use Rattle.krb_keytab.specs.Index.{IsIndex, HasSpare, slot_at, IsFit, IsLiveNumb
 use Rattle.krb_keytab.proofs.PlaceLemmas.{slots_len}
 use Rattle.krb_keytab.proofs.LiveLemmas.{CellOf, cell_of, set_slot, live_at}
 
--- how long the image is
+-- the length of the image
 pub image_len : (k : KeytabState) → length (image_of k) ≡ end_place 2 k.contents.cells + length (end_bytes (order_of k.format) k.contents.end)
 image_len k =
     let o = order_of k.format in
@@ -32,11 +32,11 @@ image_len k =
 abbrev pub IsKept : KeytabState → List Slot → ℕ → ℕ → SizeTree → Type 0
 IsKept k slots count room t = IsIndex k slots t × HasSpare k count room t
 
--- the keytab, where a cell at a place is changed
+-- the keytab with the cell at a place changed
 abbrev with_cell : KeytabState → (Cell → Cell) → ℕ → KeytabState
 with_cell k change p = record k { contents = record { cells = replaced_at 2 change p k.contents.cells; end = k.contents.end } }
 
--- the cell of a number becomes live if it was free, and free if it was live
+-- the cell with this number becomes live if it was free, and free if it was live
 turned_kept : (k : KeytabState) (change : Cell → Cell) (slots : List Slot) (t u : SizeTree) (count room number p : ℕ) (c : Cell) (s : CellOf k number p c) → cells.size (change c) ≡ cells.size c
     → negated (slot_of (end_place 2 s.stands.front, c)) ≡ slot_of (end_place 2 s.stands.front, change c) → IsKept k slots count room t → u.sizes ≡ set t.sizes number (free_size (negated (slot_at k number))) → u.height ≡ t.height → u.room ≡ t.room
     → IsKept (with_cell k change p) (set slots number (negated (slot_at k number))) count room u
@@ -65,7 +65,7 @@ turned_kept k change slots t u count room number p c s same turns kept sizes hei
           (had.0, λ h least. omega (arith, had.1 h least, rooms)),
     )
 
--- the live cell of a number is made a hole
+-- the live cell with this number becomes a hole
 pub freed_kept : (k : KeytabState) (slots : List Slot) (t u : SizeTree) (count room number place : ℕ) → IsLiveNumber k place number → IsKept k slots count room t → u.sizes ≡ set t.sizes number (free_size (negated (slot_at k number))) → u.height ≡ t.height → u.room ≡ t.room
     → IsKept (with_hole k place) (set slots number (negated (slot_at k number))) count room u
 freed_kept k slots t u count room number place h =
@@ -97,7 +97,7 @@ hole_from_first k need number (Some x) lt is e =
 pub hole_at : (k : KeytabState) (need number : ℕ) → IsFit k need (Some number) → HoleOf k need number
 hole_at k need number fit = hole_from_first k need number (first_hole 2 need k.contents.cells) fit.0 refl fit.1
 
--- the hole of a number takes a record
+-- the hole with this number takes a record
 pub filled_kept : (k : KeytabState) (slots : List Slot) (t u : SizeTree) (count room number : ℕ) (bytes : List ℕ) → IsSound k.format k.contents → IsFit k (length bytes) (Some number) → IsKept k slots count room t → u.sizes ≡ set t.sizes number (free_size (negated (slot_at k number))) → u.height ≡ t.height → u.room ≡ t.room
     → IsKept (with_record_in k bytes (slot_at k number).place) (set slots number (negated (slot_at k number))) count room u
 filled_kept k slots t u count room number bytes sound fit =

@@ -44,7 +44,7 @@ pub store_sound : (cs : List Cell) → AllByRecursion (λ (c : StoreCell). 0 < c
 store_sound [] = tt
 store_sound (c ∷ cs) = (omega arith, store_sound cs)
 
--- no record stands before the first cell
+-- no record starts before the first cell
 none_before : (at p : ℕ) (cells : List StoreCell) → p < at → bytes_from at cells p ≡ None
 none_before at p [] lt = refl
 none_before at p (c ∷ cells) lt = let no : eqb at p ≡ false = ne_eqb at p (λ e. omega arith) in rw no (none_before (at + c.width) p cells (omega arith))
@@ -53,7 +53,7 @@ none_before at p (c ∷ cells) lt = let no : eqb at p ≡ false = ne_eqb at p (�
 pub none_inside : (s : Store) (c : StoreCell) (cells : List StoreCell) (at p : ℕ) → at ≡ s.first → s.cells ≡ c ∷ cells → p < at + c.width → (at ≡ p → ⊥) → live_bytes s p ≡ None
 none_inside s c cells at p first is lt other = ap (λ (n : ℕ). bytes_from n s.cells p) (sym first) ∙ ap (λ (cs : List StoreCell). bytes_from at cs p) is ∙ rw (ne_eqb at p other) (none_before (at + c.width) p cells lt)
 
--- the bytes that the store has where the cells before one end are those of that cell
+-- where the cells before a cell end, the store has the bytes of that cell
 pub live_there : (front back : List Cell) (c : Cell) (p : ℕ) → p ≡ end_place 2 front → bytes_from 2 (map store_cell (front ++ (c ∷ back))) p ≡ live_of c
 live_there front back c p place =
     ap (λ (xs : List StoreCell). bytes_from 2 xs p) (map-append store_cell front (c ∷ back))

@@ -1,4 +1,4 @@
--- What stands at a place, read whole.
+-- What is at a place, read whole.
 use Rattle.std.proofs.Common.{◌≡◌, ℕ, ◌+◌, ◌≤◌, List, ◌∷◌, length, take, drop, refl, ap, ◌∙◌, arith}
 use Rattle.std.proofs.lemmas.List.{length-take, length-drop, drop-drop}
 use Rattle.krb_wire.specs.declared.format.KtFormat.{KtFormat}

@@ -1,4 +1,4 @@
--- The first cell of bytes, told by its length.
+-- The first cell of bytes, by its length.
 use Rattle.std.proofs.Common.{◌≡◌, ℕ, ◌+◌, ◌≤◌, List, [], ◌∷◌, ◌++◌, length, take, drop, Some, None, refl, sym, ap, subst, ◌∙◌, append_assoc, length-append, arith}
 use Rattle.std.specs.List.{flat_map, AllByRecursion}
 use Rattle.std.specs.Int.{w32}
@@ -40,7 +40,7 @@ told_of f c rest bytes is sound =
       within = omega (arith, ap length is, length-append (cell o c) rest, cell_len o c);
     }
 
--- the first of the cells that bytes hold is told by its length
+-- the first of the cells that bytes hold is known by its length
 told_by : (f : KtFormat) (bytes : List ℕ) (k : Contents) (c : Cell) (cs : List Cell) → k.cells ≡ c ∷ cs → IsSpelled f bytes k → Told f bytes c
 told_by f bytes k c cs is spelled =
     let o = order_of f in
@@ -85,6 +85,6 @@ none_by f bytes (c ∷ cs) fits cells e =
     let n = (told_by f bytes (contents f bytes) c cs cells (contents_spelled f bytes fits)).number in
     absurd (cc (n, e))
 
--- where no number is left, no cell is
+-- if no number is left, no cell is
 pub none_read : (f : KtFormat) (bytes : List ℕ) → IsBytes bytes → number_at (order_of f) w32 bytes ≡ None → (contents f bytes).cells ≡ []
 none_read f bytes fits e = none_by f bytes (contents f bytes).cells fits refl e

@@ -12,7 +12,7 @@ use Rattle.krb_keytab.specs.Slot.{free_size, slots_from, slot_of, hole_of_slot}
 use Rattle.krb_keytab.specs.Tree.{first_fit}
 use Rattle.krb_keytab.proofs.SlotLemmas.{live_room, hole_size, hole_room}
 
--- the default that stands where no slot does
+-- the default if there is no slot
 abbrev pub none : Slot
 none = record { place = 0; field = 0 }
 
@@ -20,7 +20,7 @@ none = record { place = 0; field = 0 }
 abbrev pub leaves_of : List Slot → ℕ → List ℕ
 leaves_of slots spare = map free_size slots ++ replicate spare 0
 
--- the first leaf that is large enough, where the first has a number
+-- the number of the first leaf that is large enough, if the first leaf has number n
 abbrev leaf_from : ℕ → ℕ → List ℕ → Option ℕ
 leaf_from need n sizes = position_from (λ m. nat_le need m) n sizes
 

@@ -1,4 +1,4 @@
--- A table and a tree where one cell more stands after the others.
+-- A table and a tree when one more cell is added after the others.
 use Rattle.std.proofs.Common.{◌≡◌, ℕ, ◌+◌, ◌-◌, ◌*◌, ◌^◌, ◌<◌, ◌≤◌, true, false, List, [], ◌∷◌, ◌++◌, length, map, replicate, None, Ok, refl, sym, ap, subst, ◌∙◌, arith, inl, inr, append_assoc, length-append}
 use Rattle.std.specs.Prelude.{is_some, nat_le, nat_lt}
 use Rattle.std.specs.List.{AllByRecursion}
@@ -30,7 +30,7 @@ use Rattle.krb_keytab.proofs.Stores.{whole_of}
 
 -- ---- the height of a tree with one leaf more
 
--- where the leaves are all taken, the tree is one level higher
+-- if the leaves are all taken, the tree is one level higher
 pub grown_height : (n h : ℕ) → n ≡ 2 ^ h → IsHeightFor (n + 1) (h + 1)
 grown_height n h full =
     let p : 2 ^ (h + 1) ≡ 2 ^ h * 2 = ap (λ (m : ℕ). 2 ^ m) (omega arith) ∙ pow-suc 2 h in
@@ -89,7 +89,7 @@ appended_index k slots t u bytes i grown small =
 
 -- ---- room
 
--- the image of a keytab that is whole has no more than an end mark after a record that was appended
+-- the image of a keytab without a fault has at most an end mark after an appended record
 tail_short : (o : Order) (e : End) → kind_of e ≡ None → length (end_bytes o (end_after e)) ≤ 4
 tail_short o Bare h = omega arith
 tail_short o (Mark rest) h = omega (arith, length-append (digits o w32 0) [], (wide32 o).len 0)
@@ -102,7 +102,7 @@ pub appended_spare : (k : KeytabState) (bytes : List ℕ) (count room : ℕ) (t 
 appended_spare k bytes count room t whole = λ longer.
     absurd (omega (arith, longer, image_len (with_last k bytes), tail_short (order_of k.format) k.contents.end (whole_of (end_of (store_of k)) (kind_of k.contents.end) whole)))
 
--- where room for one more is lacking, the image becomes longer
+-- if there is no room for one more, the image becomes longer
 pub longer_there : (k : KeytabState) (bytes : List ℕ) (count room : ℕ) (t : SizeTree) → 0 < length bytes → HasSpare k count room t → (count < room → HasRoomFor (count + 1) t → ⊥) → length (image_of k) < length (image_of (with_last k bytes))
 longer_there k bytes count room t some spare lacks = elim (cases_lt (length (image_of k)) (length (image_of (with_last k bytes)))) [
   | inl lt ↦ lt
@@ -127,7 +127,7 @@ doubles_grown t u n full len sizes height =
       higher = omega (arith, height);
     }
 
--- table and tree after an addition after the cells
+-- table and tree after a record is added after the cells
 pub appended_kept : (k new : KeytabState) (x : List ℕ) (slots items : List Slot) (t mid u : SizeTree) (place need count room last more n : ℕ) → IsKept k slots count room t → fault_of (store_of k) ≡ None
     → append_result k x ≡ Ok (end_of (store_of k), with_last k x) → append_result k x ≡ Ok (place, new) → need ≡ length x → length x < 2 ^ 31
     → items ≡ slots → mid.sizes ≡ t.sizes → mid.height ≡ t.height → n ≡ length slots → IsGrown n mid u → IsKept new (items ++ (record { place = place; field = need } ∷ [])) last more u

@@ -35,7 +35,7 @@ compared o (c ∷ cs) bytes x e =
     ap (same_first (begin_with o cs) c) a.1 ∙ ap (λ (t : Bool). bytes_eq c a.0.0 && t) (compared o cs a.0.1 b.0 b.1)
     ∙ ap (λ (y : List (List ℕ) × List ℕ). pointwise bytes_eq (c ∷ cs) y.0) (some_is (a.0.0 ∷ b.0.0, b.0.1) x b.2)
 
--- lists of other lengths are not the same
+-- lists of different lengths are not the same
 other_length : (xs ys : List (List ℕ)) → length xs ≢ length ys → pointwise bytes_eq xs ys ≡ false
 other_length [] [] ne = absurd (ne refl)
 other_length [] (y ∷ ys) ne = refl
@@ -128,13 +128,13 @@ begins f bytes o field rest realm components e r read =
       components_are = s.components_are;
     }
 
--- another count is another name
+-- a different count means a different name
 pub other_count : (f : KtFormat) (field : ℕ) (realm components : List ℕ) (n p : Parts) → Begins f field realm components p → (components_of_count f field ≡ Some (length n.components) → ⊥) → false ≡ have_same_name n p
 other_count f field realm components n p b not =
     let ne : length n.components ≢ length p.components = λ e. not (b.count_read ∙ ap (λ (m : ℕ). Some m) (sym (e ∙ ap length b.components_are ∙ counted (order_of f) b.count components b.others b.components_read))) in
     sym (and_right (bytes_eq n.realm p.realm) _ (other_length n.components p.components ne))
 
--- of the same count, the components and the realm decide
+-- with the same count, the components and the realm decide
 pub by_components : (f : KtFormat) (o : Order) (field : ℕ) (realm components : List ℕ) (n p : Parts) → o ≡ order_of f → Begins f field realm components p → components_of_count f field ≡ Some (length n.components) → begin_with o n.components components ≡ pointwise bytes_eq n.components p.components
 by_components f o field realm components n p is_o b is =
     let same : b.count ≡ length n.components = some_is b.count (length n.components) (sym b.count_read ∙ is) in
@@ -151,7 +151,7 @@ other_components n p e = sym (and_right (bytes_eq n.realm p.realm) _ e)
 pub same_by : (n p : Parts) (realm : List ℕ) (same : Bool) → pointwise bytes_eq n.components p.components ≡ true → p.realm ≡ realm → same ≡ bytes_eq n.realm realm → same ≡ have_same_name n p
 same_by n p realm same comps is e = e ∙ ap (bytes_eq n.realm) (sym is) ∙ sym (ap (λ (b : Bool). bytes_eq n.realm p.realm && b) comps ∙ and_true (bytes_eq n.realm p.realm))
 
--- no entry where nothing was read
+-- no entry if nothing was read
 pub none_opens : (f : KtFormat) (bytes : List ℕ) (e : EntryParts) (o : Order) → o ≡ order_of f → number_at o w16 bytes ≡ None → entry_at f bytes ≡ Some e → ⊥
 none_opens f bytes e o is none read =
     let s = entry_opens f bytes e read in

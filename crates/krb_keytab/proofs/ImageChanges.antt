@@ -1,4 +1,4 @@
--- What the changes of cells make of an image.
+-- An image after changes to its cells.
 use Rattle.std.proofs.Common.{◌≡◌, ℕ, suc, ◌+◌, ◌-◌, ◌^◌, ◌<◌, ◌≤◌, true, List, [], ◌∷◌, ◌++◌, length, map, drop, replicate, Option, Some, None, refl, sym, ap, subst, ◌∙◌, arith}
 use Rattle.std.specs.Prelude.{option_map, IsSome, IfSome, ◌==◌, if◌then◌else◌}
 use Rattle.std.specs.List.{splice}
@@ -26,7 +26,7 @@ pub contents_none : (f : KtFormat) → contents f [] ≡ record { cells = []; en
 unfolding contents contents_of first_cells next
 contents_none f = refl
 
--- a cell that is replaced leaves as many
+-- replacing a cell keeps the number of cells
 pub placed_len : (at : ℕ) (cs : List Cell) → length (placed_cells at cs) ≡ length cs
 placed_len at [] = refl
 placed_len at (c ∷ cs) = ap suc (placed_len (at + (4 + size c)) cs)
@@ -64,12 +64,12 @@ stands_in f image p c end fits known s =
 pub live_in : (f : KtFormat) (image : List ℕ) (p : ℕ) (b : List ℕ) (end : CellsEnd) → IsBytes image → IsKnownEnd f image end → Some b ≡ live_bytes (store_of_image f image) p → StandsIn f image p (Live b)
 live_in f image p b end fits known live = stands_in f image p (Live b) end fits known (live_stands (contents f (drop 2 image)).cells 2 p b (sym live))
 
--- the bytes that stand there, and how many they are
+-- the bytes of the record there, and their number
 pub bytes_of_size : (o : Option (List ℕ)) (n : ℕ) → IsSome o → IfSome o (λ b. length b ≡ n) → (b : List ℕ) × (Some b ≡ o) × (length b ≡ n)
 bytes_of_size (Some b) n some len = (b, refl, len)
 bytes_of_size None n some len = absurd cc
 
--- a cell is replaced by what a change makes of it, which is sound and of its size
+-- a cell is replaced by its changed one, which is sound and of its size
 changed_is : (f : KtFormat) (image image' : List ℕ) (change : Cell → Cell) (old : Cell) (p : ℕ) (end : CellsEnd) → 2 ≤ length image → IsBytes image → IsBytes image' → IsKnownEnd f image end
     → StandsAt (contents f (drop 2 image)).cells 2 p old → size (change old) ≡ size old → IsCell f (change old) → image' ≡ splice image p (p + 4 + size old) (cell (order_of f) (change old))
     → IsChanged f image image' (record { cells = replaced_at 2 change p (contents f (drop 2 image)).cells; end = (contents f (drop 2 image)).end }) end
@@ -84,7 +84,7 @@ changed_is f image image' change old p end long fits fits' known s same sound wr
       known = done.known;
     }
 
--- a live cell is made a hole of zeros
+-- a live cell becomes a hole of zeros
 pub freed_is : (f : KtFormat) (image image' b : List ℕ) (p n : ℕ) (end : CellsEnd) → 2 ≤ length image → 0 < n → n ≤ 2 ^ 31 → IsBytes image → IsBytes image' → IsKnownEnd f image end
     → Some b ≡ live_bytes (store_of_image f image) p → n ≡ length b
     → image' ≡ splice image p (p + 4 + n) (cell (order_of f) (Free (replicate {A = ℕ} n 0)))

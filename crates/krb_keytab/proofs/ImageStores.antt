@@ -1,4 +1,4 @@
--- The store that the cells of an image are, as their lengths tell it.
+-- The store of an image's cells, by their lengths.
 use Rattle.std.proofs.Common.{◌≡◌, ℕ, ◌+◌, ◌-◌, ◌^◌, ◌≤◌, true, List, [], ◌∷◌, ◌++◌, length, take, drop, map, Option, refl, sym, ap, subst, ◌∙◌, arith}
 use Rattle.std.specs.List.{flat_map}
 use Rattle.std.proofs.lemmas.List.{append-nil, take_at, length-take, drop-take, drop-drop}
@@ -37,7 +37,7 @@ are_seen : (f : KtFormat) (bytes : List ℕ) → IsBytes bytes → (contents f b
 unfolding contents
 are_seen f bytes fits bare = are_cells (keytab_format f) store_cell bytes (keytab_seen f) fits bare
 
--- the cells end behind the version bytes
+-- the cells end after the version bytes
 pub ahead : (f : KtFormat) (image : List ℕ) (e : CellsEnd) → IsKnownEnd f image e → 2 ≤ e.place
 ahead f image e known = let place = known.place in omega (arith, place, end_from-ge 2 (store_cells f (drop 2 image)))
 
@@ -75,14 +75,14 @@ all_held f limit image e k fits is known of_k =
       cells = ap (λ (x : Contents). map store_cell x.cells) held ∙ ap (λ (x : KeytabState). (store_of x).cells) of_k;
     }
 
--- what is wrong at the end
+-- the kind of the fault at the end
 pub kind_held : (f : KtFormat) (limit : ℕ) (image : List ℕ) (e : CellsEnd) (k : KeytabState) → IsKnownEnd f image e → keytab_of f limit image ≡ k → ending_kind e.ending ≡ (store_of k).fault
 kind_held f limit image e k known of_k =
     sym (ap kind_of known.same ∙ ap (λ (x : Contents). kind_of x.end) known.ending ∙ kind_ends (drop e.place image) e.ending) ∙ ap (λ (x : KeytabState). (store_of x).fault) of_k
 
 -- ---- from a place on
 
--- the bytes from a place up to the end of the cells: what is asked of the cells there is asked of all
+-- the bytes from a place up to the end of the cells: their cells agree with all cells there
 pub record AreFrom (f : KtFormat) (len end : ℕ) (rest : List ℕ) (k : KeytabState) (p : ℕ) : Type 0 where
   pub ahead : p ≤ end
   pub within : end ≤ len

@@ -1,4 +1,4 @@
--- What a keytab answers, by its table.
+-- What a keytab returns, by its table.
 use Rattle.std.proofs.Common.{◌≡◌, ℕ, ◌-◌, ◌^◌, ◌<◌, ◌≤◌, eqb, List, length, take, Option, Some, None, refl, sym, ap, subst, ◌∙◌, arith, inl, inr}
 use Rattle.std.specs.Prelude.{option_map, max}
 use Rattle.std.proofs.lemmas.Bool.{eqb-true, cases_lt}
@@ -22,7 +22,7 @@ table_held i is same = same ∙ i.table ∙ ap (λ (y : KeytabState). slots_from
 
 -- ---- places
 
--- the place of the cell of a number
+-- the place of the cell with a number
 pub slot_place : (k : KeytabState) (i : ℕ) → i < length k.contents.cells → (slot_at k i).place ≡ end_place 2 (take i k.contents.cells)
 slot_place k i lt =
     let cs = k.contents.cells in
@@ -57,7 +57,7 @@ fits_by k need (Some i) f =
     let is : i - 0 ≡ i = omega arith in
     (omega (arith, inside), rw is at f.2)
 
--- what the tree answers
+-- what the tree returns
 pub fit_is : (k : KeytabState) (slots : List Slot) (t : SizeTree) (need : ℕ) (o : Option ℕ) → IsIndex k slots t → IsSound k.format k.contents → 0 < need → o ≡ first_fit need t.sizes → IsFit k need o
 fit_is k slots t need o i sound some is =
     let cs = k.contents.cells in

@@ -7,7 +7,7 @@ use Rattle.krb_keytab.specs.declared.length.Length.TheVariants.{End, Live, Free}
 use Rattle.krb_keytab.specs.Length.{length_of, field_of, size_of, HasField}
 use Rattle.krb_keytab.specs.Cells.{Cell, IsCell, bytes_of, size, length_of_cell, cell_in, Live as LiveCell, Free as FreeCell}
 
--- a field says a length that has it
+-- a field says this length, whose field it is
 pub record Said (n : ℕ) (l : Length) : Type 0 where
   pub field : field_of l ≡ n
   pub has : HasField l
@@ -20,7 +20,7 @@ said_by n false false lt e s = let big = ltb-false _ _ s in record { field = ome
 pub said : (n : ℕ) (l : Length) → n < 2 ^ 32 → length_of n ≡ l → Said n l
 said n l lt is = subst (Said n) is (said_by n (eqb n 0) (ltb n (2 ^ 31)) lt refl refl)
 
--- its field says a length
+-- a length is read back from its field
 pub length_again : (l : Length) → HasField l → length_of (field_of l) ≡ l
 length_again End has = refl
 length_again (Live n) has =

@@ -1,4 +1,4 @@
--- The slot of one cell among others, and the live cell of a number.
+-- The slot of one cell among others, and the live cell with a number.
 use Rattle.std.proofs.Common.{◌≡◌, ◌≢◌, ℕ, zero, suc, ◌+◌, ◌<◌, ◌≤◌, true, false, List, [], ◌∷◌, ◌++◌, length, map, take, drop, get_or, Option, Some, None, refl, sym, ap, subst, ◌∙◌, arith, inl, inr, length-append}
 use Rattle.std.specs.Prelude.{IsSome}
 use Rattle.std.specs.List.{AllByRecursion}
@@ -50,7 +50,7 @@ slot_seam k front back c parts =
     ∙ ap (λ (n : ℕ). get_or (s ++ (slot_of (end_place 2 front, c) ∷ slots_from (end_place 2 front + (4 + cells.size c)) back)) n none) (sym (slots_len 2 front))
     ∙ get_or-append_seam s (slot_of (end_place 2 front, c)) (slots_from (end_place 2 front + (4 + cells.size c)) back) none
 
--- cells that end at one place are as many
+-- first cells that end at the same place are as many
 pub number_is : (cs front rest : List Cell) (i : ℕ) → cs ≡ front ++ rest → i < length cs → end_place 2 front ≡ end_place 2 (take i cs) → length front ≡ i
 number_is cs front rest i parts lt same =
     let n = length front in
@@ -79,7 +79,7 @@ live_some : (f : KtFormat) (c : Cell) (p : ℕ) → IsCell f c → is_free (slot
 live_some f (Live b) p sound h = refl
 live_some f (Free b) p sound h = let is = free_slot p b sound in absurd (cc (is, h))
 
--- the cell of a number, and those after it
+-- the slot of the cell with a number
 slot_is : (at : ℕ) (cs : List Cell) (i : ℕ) (d : Cell) (e : Slot) → i < length cs → get_or (slots_from at cs) i e ≡ slot_of (end_place at (take i cs), get_or cs i d)
 slot_is at [] i d e lt = absurd (omega arith)
 slot_is at (c ∷ cs) zero d e lt = refl
@@ -88,7 +88,7 @@ slot_is at (c ∷ cs) (suc i) d e lt = slot_is (at + (4 + cells.size c)) cs i d 
 sound_at : (f : KtFormat) (cs : List Cell) (i : ℕ) (d : Cell) → AllByRecursion (IsCell f) cs → i < length cs → IsCell f (get_or cs i d)
 sound_at f cs i d all lt = All-from_recursion (IsCell f) cs all i d lt
 
--- a live cell stands at a place that is one
+-- a live cell is at a place of the store, which is that of its rank
 live_here : (k : KeytabState) (p rank : ℕ) → IsRank (places (slots_from 2 k.contents.cells)) p rank → IsSome (live_bytes (store_of k) p) → p ≡ end_place 2 (take rank k.contents.cells)
 live_here k p rank r some = at_rank k p rank r (live_is_place (store_of k) p some)
 
@@ -102,7 +102,7 @@ live_after_all k p rank r le = none_of (live_bytes (store_of k) p) (λ some.
 pub live_elsewhere : (k : KeytabState) (p rank : ℕ) → IsRank (places (slots_from 2 k.contents.cells)) p rank → rank < length k.contents.cells → (slot_at k rank).place ≢ p → live_bytes (store_of k) p ≡ None
 live_elsewhere k p rank r lt ne = none_of (live_bytes (store_of k) p) (λ some. ne (slot_place k rank lt ∙ sym (live_here k p rank r some)))
 
--- the bytes of the cell of a rank
+-- the bytes of the cell with a rank
 pub live_is : (k : KeytabState) (p rank : ℕ) (d : Cell) → rank < length k.contents.cells → (slot_at k rank).place ≡ p → live_bytes (store_of k) p ≡ (store_cell (get_or k.contents.cells rank d)).live
 live_is k p rank d lt is =
     let cs = k.contents.cells in
@@ -127,7 +127,7 @@ live_number k p rank sound lt is live =
       live = subst (λ (o : Option (List ℕ)). IsSome o) (sym (live_is k p rank d lt is)) (live_some k.format (get_or cs rank d) (end_place 2 (take rank cs)) (sound_at k.format cs rank d sound.cells lt) (sym (ap is_free slot) ∙ live));
     }
 
--- the cell of a number, at a place
+-- the cell with a number, at a place
 pub record CellOf (k : KeytabState) (number p : ℕ) (c : Cell) : Type 0 where
   pub stands : StandsAt k.contents.cells 2 p c
   pub count : length stands.front ≡ number
@@ -138,7 +138,7 @@ cell_of k number p c lt at s =
     let count = number_is k.contents.cells s.front (c ∷ s.back) number s.parts lt (sym s.place ∙ sym at ∙ slot_place k number lt) in
     record { stands = s; count = count; slot = ap (slot_at k) (sym count) ∙ slot_seam k s.front s.back c s.parts }
 
--- its bytes are few enough for a length, and some
+-- it has bytes, so that its field is not 0
 pub cell_field : (k : KeytabState) (number p : ℕ) (c : Cell) → IsSound k.format k.contents → CellOf k number p c → 0 < (slot_at k number).field
 cell_field k number p (Live b) sound s = omega (arith, ap (λ (x : Slot). x.field) s.slot, (sound_there k.format k.contents.cells 2 p (Live b) sound.cells s.stands).0)
 cell_field k number p (Free b) sound s = omega (arith, ap (λ (x : Slot). x.field) s.slot, (sound_there k.format k.contents.cells 2 p (Free b) sound.cells s.stands).1)

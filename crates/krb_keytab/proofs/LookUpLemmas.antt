@@ -1,4 +1,4 @@
--- Looking at one entry after the other finds what look-up gives.
+-- Considering one entry after the other finds the result of the look-up.
 use Rattle.std.proofs.Common.{◌≡◌, ℕ, ◌<◌, ◌≤◌, Bool, true, false, cond, ltb, List, [], ◌∷◌, ◌++◌, Option, Some, None, Ok, refl, sym, ap, subst, ◌∙◌, arith, inl, inr}
 use Rattle.std.specs.Prelude.{◌&&◌, ◌||◌, ◌==◌, max, filter, find}
 use Rattle.std.proofs.lemmas.List.{append-nil}
@@ -13,12 +13,12 @@ use Rattle.krb_keytab.specs.Find.{PlacedEntry, is_match, greatest, version_asked
 
 -- ---- one entry after the other
 
--- an entry of that version is looked for more than the one that was found so far
+-- an entry of this version is selected over the one found so far
 abbrev pub is_better : ℕ → Option PlacedEntry → ℕ → Bool
 is_better kvno None version = kvno == 0 || version == kvno
 is_better kvno (Some x) version = kvno == 0 && ltb x.1.version version
 
--- the one that is looked for, after some entries that are asked for
+-- the entry selected, after some entries that match
 abbrev best_after : ℕ → Option PlacedEntry → List PlacedEntry → Option PlacedEntry
 best_after v best [] = best
 best_after v best (x ∷ xs) = best_after v (cond (is_better v best x.1.version) (Some x) best) xs
@@ -64,7 +64,7 @@ skips m x xs e = rw e refl
 takes : (m : ℕ) (x : PlacedEntry) (xs : List PlacedEntry) → (x.1.version == m) ≡ true → with_version m (x ∷ xs) ≡ Some x
 takes m x xs e = rw e refl
 
--- an entry that is greater takes the place of the one found
+-- an entry with a greater version replaces the one found
 greater : (b y : PlacedEntry) (ys : List PlacedEntry) → b.1.version < y.1.version → best_after 0 (Some y) ys ≡ with_version (max y.1.version (greatest ys)) (y ∷ ys)
     → best_after 0 (Some b) (y ∷ ys) ≡ with_version (max b.1.version (max y.1.version (greatest ys))) (b ∷ y ∷ ys)
 greater b y ys lt ih =
@@ -100,7 +100,7 @@ first_greatest b (y ∷ ys) = elim (cases_lt b.1.version y.1.version) [
 
 -- ---- look-up
 
--- the best of the entries that are asked for is the one that is looked for
+-- the best of the entries that match is the one selected
 best_found : (v : ℕ) (x : PlacedEntry) (xs : List PlacedEntry) → best_after v None (x ∷ xs) ≡ with_version (version_asked v (x ∷ xs)) (x ∷ xs)
 best_found v x xs = elim (eqb_tells v 0) [
   | inl zero_ ↦
@@ -117,12 +117,12 @@ answer_found : (o : Option PlacedEntry) → answer true o ≡ first_or_missing o
 answer_found None = refl
 answer_found (Some x) = refl
 
--- what is found after all entries is what look-up gives
+-- what is found after all entries is the result of the look-up
 looked_up : (v : ℕ) (xs : List PlacedEntry) → answer (some_of xs) (best_after v None xs) ≡ look_up_in v xs
 looked_up v [] = refl
 looked_up v (x ∷ xs) = ap (answer true) (best_found v x xs) ∙ answer_found (with_version (version_asked v (x ∷ xs)) (x ∷ xs))
 
--- one answer tells one entry
+-- one result has one entry
 same_best : (n m : Bool) (a b : Option PlacedEntry) → answer n a ≡ answer m b → a ≡ b
 same_best n m (Some x) (Some y) e = cc
 same_best n true (Some x) None e = absurd cc
@@ -135,7 +135,7 @@ answer_cond : (better : Bool) (x : PlacedEntry) (best : Option PlacedEntry) → 
 answer_cond true x best = refl
 answer_cond false x best = refl
 
--- the next entry, where it is the better one or not
+-- the next entry, whether it is the better one or not
 pub next_found : (v : ℕ) (named : Bool) (best : Option PlacedEntry) (xs : List PlacedEntry) (x : PlacedEntry) (version : ℕ) (better : Bool) → x.1.version ≡ version → better ≡ is_better v best version → answer named best ≡ look_up_in v xs
     → look_up_in v (xs ++ x ∷ []) ≡ cond better (Ok x) (answer true best)
 next_found v named best xs x version better is_version is so_far =
@@ -151,16 +151,16 @@ next_found v named best xs x version better is_version is so_far =
 filter-match : (n : Parts) (t : ℕ) (xs : List PlacedEntry) (x : PlacedEntry) (b : Bool) → is_match n t x ≡ b → filter (is_match n t) (xs ++ x ∷ []) ≡ filter (is_match n t) xs ++ cond b (x ∷ []) []
 filter-match n t xs x b e = filter-append (is_match n t) xs (x ∷ []) ∙ ap (λ (c : Bool). filter (is_match n t) xs ++ cond c (x ∷ []) []) e
 
--- an entry that is not asked for changes nothing
+-- an entry that does not match changes nothing
 pub no_match : (n : Parts) (v t : ℕ) (xs : List PlacedEntry) (x : PlacedEntry) (named : Bool) (best : Option PlacedEntry) → is_match n t x ≡ false → IsFoundAmong n v t xs named best → IsFoundAmong n v t (xs ++ x ∷ []) named best
 no_match n v t xs x named best other so_far =
     so_far ∙ ap (look_up_in v) (sym (filter-match n t xs x false other ∙ append-nil (filter (is_match n t) xs)))
 
--- one that is asked for is the one that is looked for, or not
+-- one that matches is selected, or not
 pub one_match : (n : Parts) (v t : ℕ) (xs : List PlacedEntry) (x : PlacedEntry) (better : Bool) (best : Option PlacedEntry) → is_match n t x ≡ true → look_up_in v (filter (is_match n t) xs ++ x ∷ []) ≡ cond better (Ok x) (answer true best)
     → IsFoundAmong n v t (xs ++ x ∷ []) true (cond better (Some x) best)
 one_match n v t xs x better best is next = answer_cond better x best ∙ sym next ∙ ap (look_up_in v) (sym (filter-match n t xs x true is))
 
--- one with the name is asked for exactly where it has the enctype
+-- one with the name matches iff it has the enctype
 pub match_by_enctype : (n : Parts) (t : ℕ) (x : PlacedEntry) (has : Bool) → have_same_name n x.1.principal ≡ true → has ≡ (t == 0 || x.1.enctype == t) → is_match n t x ≡ has
 match_by_enctype n t x has e is = ap (λ (b : Bool). (t == 0 || x.1.enctype == t) && b) e ∙ and_true (t == 0 || x.1.enctype == t) ∙ sym is

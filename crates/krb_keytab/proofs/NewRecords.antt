@@ -1,4 +1,4 @@
--- Entries that are written anew.
+-- Entries that are rewritten.
 use Rattle.std.proofs.Common.{◌≡◌, ℕ, ◌+◌, ◌^◌, ◌<◌, List, [], ◌∷◌, ◌++◌, length, map, Option, Some, None, true, refl, sym, ap, ◌∙◌, arith}
 use Rattle.std.specs.Prelude.{◌&&◌, option_map}
 use Rattle.std.specs.List.{filter_map, flat_map, cons_option}
@@ -27,7 +27,7 @@ use Rattle.krb_keytab.proofs.WrittenLemmas.{fits_yes}
 abbrev pub new_records : List PlacedEntry → List ℕ
 new_records xs = flat_map (cell Big) (map new_record (map (λ x. x.1) xs))
 
--- the places do not show
+-- the places do not matter
 without_place : (place : ℕ) (o : Option EntryParts) (xs : List PlacedEntry) (es : List EntryParts) → map (λ (x : PlacedEntry). x.1) xs ≡ es → map (λ (x : PlacedEntry). x.1) (cons_option (option_map (λ (e : EntryParts). (place, e)) o) xs) ≡ cons_option o es
 without_place place None xs es others = others
 without_place place (Some e) xs es others = ap (λ (t : List EntryParts). e ∷ t) others
@@ -45,7 +45,7 @@ len_all k xs is =
     let cells = flat_map (cell Big) (rewrite_of k).contents.cells in
     omega (arith, ap length (new_records_all k xs is), length-append cells [])
 
--- as many as the entries are the new cells
+-- there are as many new cells as entries
 pub count_all : (k : KeytabState) (xs : List PlacedEntry) → xs ≡ placed_entries k → length xs ≡ length (rewrite_of k).contents.cells
 count_all k xs is = sym (length-map xs (λ (x : PlacedEntry). x.1)) ∙ ap (λ (ys : List PlacedEntry). length (map (λ (x : PlacedEntry). x.1) ys)) is ∙ ap length (without_places k.format (records (store_of k))) ∙ sym (length-map (entries k) new_record)
 

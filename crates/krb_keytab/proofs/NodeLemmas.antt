@@ -48,14 +48,14 @@ under nodes leaves inner (suc k) i j some room low high =
 
 -- ---- a descent
 
--- where a node stands after some levels, its children are nodes
+-- before the last level, the node of a descent has children
 pub has_children : (height : ℕ) (nodes : List ℕ) (need level node : ℕ) → IsTree height nodes → Descends height nodes need level node → level < height → (0 < node) × (node < 2 ^ height)
 has_children height nodes need level node tree stands lt =
     let lower : 2 ^ suc level ≤ 2 ^ height = pow_mono (omega arith) in
     let p = pow-suc 2 level in
     (omega (arith, pow_pos level, stands.from), omega (arith, lower, p, stands.to))
 
--- it begins at the root
+-- it starts at the root
 pub descends_from_root : (height : ℕ) (nodes : List ℕ) (need : ℕ) → need ≤ slice_index nodes 1 → Descends height nodes need 0 1
 descends_from_root height nodes need fits = record {
   low = omega arith;
@@ -65,7 +65,7 @@ descends_from_root height nodes need fits = record {
   before = λ i rest e low high. let is : rest ≡ height = omega arith in absurd (omega (arith, low, high, ap (λ (n : ℕ). 1 * 2 ^ n) is));
 }
 
--- no leaf before those under the left child is large enough, and where that child isn't, none under it
+-- no leaf before those under the left child is large enough, and if that child is not, none under it
 before_left : (height : ℕ) (nodes : List ℕ) (need level node : ℕ) → Descends height nodes need level node → (i rest : ℕ) → rest + suc level ≡ height → 2 ^ height ≤ i → i < 2 * node * 2 ^ rest → slice_index nodes i < need
 before_left height nodes need level node stands i rest e low high =
     let p : node * 2 ^ suc rest ≡ 2 * (node * 2 ^ rest) = ap (λ (n : ℕ). node * n) (pow-suc 2 rest) ∙ times_twice node (2 ^ rest) in
@@ -120,7 +120,7 @@ descends_on height nodes need level node next tree stands lt is =
 
 -- ---- what it finds
 
--- on the last level it stands at the first leaf that is large enough
+-- on the last level it is at the first leaf that is large enough
 pub descends_to : (height : ℕ) (nodes : List ℕ) (need node : ℕ) → IsTree height nodes → Descends height nodes need height node → first_fit need (drop (2 ^ height) nodes) ≡ Some (node - 2 ^ height)
 descends_to height nodes need node tree stands =
     let n = 2 ^ height in
@@ -133,7 +133,7 @@ descends_to height nodes need node tree stands =
     let is = position_or_len_is (λ (m : ℕ). nat_le need m) xs i 0 (omega (arith, inside)) before (λ _. here) in
     rw (is, lt-ltb i (length xs) inside) refl
 
--- where the root is too small, each leaf is
+-- if the root is too small, each leaf is
 pub none_fits : (height : ℕ) (nodes : List ℕ) (need : ℕ) → IsTree height nodes → slice_index nodes 1 < need → first_fit need (drop (2 ^ height) nodes) ≡ None
 none_fits height nodes need tree small =
     let n = 2 ^ height in

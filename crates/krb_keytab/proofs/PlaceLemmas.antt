@@ -19,7 +19,7 @@ slots_len at (c ∷ cs) = ap suc (slots_len (at + (4 + size c)) cs)
 pub places_len : (at : ℕ) (cs : List Cell) → length (places (slots_from at cs)) ≡ length cs
 places_len at cs = length-map (slots_from at cs) (λ (s : Slot). s.place) ∙ slots_len at cs
 
--- a cell stands where those before it end
+-- a cell starts where those before it end
 pub place_is : (at : ℕ) (cs : List Cell) (i : ℕ) → i < length cs → slice_index (places (slots_from at cs)) i ≡ end_place at (take i cs)
 place_is at [] i lt = absurd (omega arith)
 place_is at (c ∷ cs) zero lt = refl
@@ -42,7 +42,7 @@ rank_of_rest x p rank xs r = record {
   rest = λ i le lt. r.rest (suc i) (omega arith) (omega arith);
 }
 
--- a place is no earlier than the first
+-- a place is not before the first
 place_ge : (at : ℕ) (cs : List StoreCell) (p : ℕ) → is_place_from at cs p ≡ true → at ≤ p
 place_ge at [] p h = omega (arith, eqb-true at p h)
 place_ge at (c ∷ cs) p h = elim (or_cases (at == p) (is_place_from (at + c.width) cs p) h) [
@@ -50,7 +50,7 @@ place_ge at (c ∷ cs) p h = elim (or_cases (at == p) (is_place_from (at + c.wid
   | inr e ↦ omega (arith, place_ge (at + c.width) cs p e)
 ]
 
--- a number is a place where it is that of the cell of its rank, or the end
+-- a number is a place iff it is that of the cell of its rank, or the end
 pub place_by_rank : (at : ℕ) (cs : List Cell) (p rank : ℕ) → IsRank (places (slots_from at cs)) p rank → is_place_from at (map store_cell cs) p ≡ (end_place at (take rank cs) == p)
 place_by_rank at [] p zero r = refl
 place_by_rank at [] p (suc rank) r = absurd (let w = r.within in omega (arith, w))

@@ -47,7 +47,7 @@ untyped_is_prefix f name e bytes s has =
     let begins = (starts_is Decides-eqb bytes (untyped f p) _ refl).1 _ (s.parts ∙ append_assoc (kt_principal f p) _ s.tail ∙ untyped_first f p _) in
     subst (λ (u : List ℕ). starts_with nat_eq bytes u ≡ true) (sym same) begins
 
--- it is left where the name type is cut off what was written
+-- it is what is left of the written name without its name type
 pub cut_is_prefix : (f : KtFormat) (name : Parts) (old : List ℕ) (end typed : ℕ) → end ≡ 0 + length (kt_principal f name) → typed ≡ length (name_type_field f name.name_type) → IsPrefix f name (take (end - typed) (splice old 0 end (kt_principal f name)))
 cut_is_prefix f name old end typed is_end is_typed =
     let d = name_type_field f name.name_type in
@@ -55,7 +55,7 @@ cut_is_prefix f name old end typed is_end is_typed =
     let cut = ap (take (end - typed)) (untyped_first f name (drop end old)) ∙ take_at (untyped f name) (d ++ drop end old) (end - typed) len in
     subst (IsPrefix f name) (sym cut) (untyped_is_prefix f name)
 
--- a record that does not begin so has another name, and changes nothing
+-- a record without the prefix has another name, and changes nothing
 pub passed_over : (f : KtFormat) (name : Parts) (prefix bytes : List ℕ) (kvno enctype place : ℕ) (named : Bool) (best : Option PlacedEntry) → IsPrefix f name prefix → IsBytes bytes → starts_with nat_eq bytes prefix ≡ false
     → (xs : List PlacedEntry) (e : EntryParts) → entry_at f bytes ≡ Some e → IsFoundAmong name kvno enctype xs named best → IsFoundAmong name kvno enctype (xs ++ (place, e) ∷ []) named best
 passed_over f name prefix bytes kvno enctype place named best is fits not xs e read =

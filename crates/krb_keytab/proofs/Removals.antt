@@ -15,7 +15,7 @@ use Rattle.krb_keytab.specs.Changes.{with_hole, cut_result}
 use Rattle.krb_keytab.proofs.CellLemmas.{chosen}
 use Rattle.krb_keytab.proofs.Cuts.{end_place-append, live_there}
 
--- a record stands at the place
+-- a record starts at the place
 abbrev IsLiveAt : KeytabState → PlacedEntry → Type 0
 IsLiveAt k x = is_some (store_bytes (store_of k) x.0) ≡ true
 
@@ -53,11 +53,11 @@ holds k front back b p parts place = ap (λ (cs : List Cell). bytes_from 2 (map 
 stands : (k : KeytabState) (front back : List Cell) (b : List ℕ) (p : ℕ) → k.contents.cells ≡ front ++ (Live b ∷ back) → p ≡ end_place 2 front → is_some (store_bytes (store_of k) p) ≡ true
 stands k front back b p parts place = ap is_some (holds k front back b p parts place)
 
--- the place after one cell more
+-- the place after one more cell
 next_place : (front : List Cell) (c : Cell) (p : ℕ) → p ≡ end_place 2 front → p + (4 + size c) ≡ end_place 2 (front ++ c ∷ [])
 next_place front c p place = ap (λ (n : ℕ). n + (4 + size c)) place ∙ sym (end_place-append 2 front (c ∷ []))
 
--- the entries of the cells from one on
+-- the entries of the cells from one on are at live places
 all_live : (k : KeytabState) (front cs : List Cell) (p : ℕ) → k.contents.cells ≡ front ++ cs → p ≡ end_place 2 front → AllByRecursion (IsLiveAt k) (filter_map (placed_entry k) (filter_map record_of (standing p (map store_cell cs))))
 all_live k front [] p parts place = tt
 all_live k front (Live b ∷ cs) p parts place =
@@ -75,7 +75,7 @@ found_live k v [] x all e = absurd cc
 found_live k v (y ∷ ys) x all e =
     all_find (IsLiveAt k) (λ z. z.1.version == version_asked v (y ∷ ys)) (y ∷ ys) x all (some_found (find (λ z. z.1.version == version_asked v (y ∷ ys)) (y ∷ ys)) x e)
 
--- what was found is removed
+-- the record that was found is removed
 pub found_is_cut : (k : KeytabState) (n : Parts) (v t : ℕ) (x : PlacedEntry) → find_result k n v t ≡ Ok x → cut_result k x.0 ≡ Ok (with_hole k x.0)
 found_is_cut k n v t x e =
     elim (chosen (is_some (fault_of (store_of k))) (Err Damaged) (look_up k n v t) (Ok x) e) [

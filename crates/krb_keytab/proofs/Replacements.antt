@@ -1,4 +1,4 @@
--- A cell in the place of another of the same size.
+-- Replacing a cell by another of the same size.
 use Rattle.std.proofs.Common.{◌≡◌, ℕ, ◌+◌, ◌<◌, ◌≤◌, true, false, eqb, List, [], ◌∷◌, ◌++◌, length, map, take, drop, Some, refl, sym, ap, subst, ◌∙◌, append_assoc, length-append, arith, inl, inr}
 use Rattle.std.specs.List.{flat_map, splice, AllByRecursion}
 use Rattle.std.proofs.lemmas.Bool.{eq-eqb, ne_eqb}
@@ -29,7 +29,7 @@ pub all_join : (P : Cell → Type 0) (xs ys : List Cell) → AllByRecursion P xs
 all_join P [] ys h k = k
 all_join P (x ∷ xs) ys h k = (h.0, all_join P xs ys h.1 k)
 
--- ---- where a cell stands
+-- ---- where a cell is
 
 -- the cells before and after the one at a place
 pub record StandsAt (cs : List Cell) (at p : ℕ) (c : Cell) : Type 0 where
@@ -55,7 +55,7 @@ live_stands (c ∷ cs) at p b e = elim (eqb_tells at p) [
   | inr n ↦ let no = n.0 in further c (Live b) cs at p (live_stands cs (at + (4 + size c)) p b (rw no at e))
 ]
 
--- what stands there is sound
+-- the cell there is sound
 pub stands_sound : (f : KtFormat) (cs : List Cell) (at p : ℕ) (c : Cell) → AllByRecursion (IsCell f) cs → StandsAt cs at p c → IsCell f c
 stands_sound f cs at p c sound s = (all_back (IsCell f) s.front (c ∷ s.back) (subst (AllByRecursion (IsCell f)) s.parts sound)).0
 
@@ -93,7 +93,7 @@ replaced_one change at p (x ∷ front) back c is =
     let no : eqb at p ≡ false = ne_eqb at p (λ e. omega (arith, end_from-ge (at + (4 + size x)) (map store_cell front))) in
     rw no (ap (λ (xs : List Cell). x ∷ xs) (replaced_one change (at + (4 + size x)) p front back c is))
 
--- all cells but the one at the place are as they were
+-- all cells but the one at the place are unchanged
 pub replaced_cells : (change : Cell → Cell) (cs : List Cell) (p : ℕ) (c : Cell) (s : StandsAt cs 2 p c) → replaced_at 2 change p cs ≡ s.front ++ (change c ∷ s.back)
 replaced_cells change cs p c s = ap (replaced_at 2 change p) s.parts ∙ replaced_one change 2 p s.front s.back c s.place
 
@@ -140,7 +140,7 @@ replaced_bytes f image front back old new e p r fits =
     let end : p + 4 + size old ≡ p + length (cell o old) = omega (arith, cell_len o old) in
     swap_middle (take 2 image) F (cell o old) (cell o new) rest image p (p + 4 + size old) whole place end ∙ ap (λ (b : List ℕ). take 2 image ++ b) (sym (spelling_cut o front back new e))
 
--- what is known of the end stays known where the cells end there still and the bytes from there on are the same
+-- what is known of the end stays true if the cells still end there and the bytes from there on are the same
 known_kept : (f : KtFormat) (image image' : List ℕ) (e : CellsEnd) → IsKnownEnd f image e → end_place 2 (contents f (drop 2 image')).cells ≡ end_place 2 (contents f (drop 2 image)).cells
     → (contents f (drop 2 image')).end ≡ (contents f (drop 2 image)).end → length image' ≡ length image → drop e.place image' ≡ drop e.place image → IsKnownEnd f image' e
 known_kept f image image' e known place end len tail =

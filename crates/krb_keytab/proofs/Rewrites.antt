@@ -1,4 +1,4 @@
--- A keytab that is written anew, as a store.
+-- A rewritten keytab, as a store.
 use Rattle.std.proofs.Common.{◌≡◌, ℕ, suc, ◌+◌, ◌^◌, ◌<◌, ◌≤◌, Bool, true, false, cond, List, [], ◌∷◌, ◌++◌, length, map, drop, Option, Some, None, Result, Ok, Err, refl, sym, ap, subst, ◌∙◌, append_assoc, length-append, arith}
 use Rattle.std.specs.Prelude.{is_some, nat_lt, ◌==◌}
 use Rattle.std.specs.Int.{w32}
@@ -53,7 +53,7 @@ entries_all k = entries_is k.format 2 k.contents.cells
 abbrev pub new_cells : KtFormat → List Cell → List Cell
 new_cells f cs = map new_record (entries_of f cs)
 
--- those of a record that is read, and then the others
+-- the entry of a record that is read, and then those of the other cells
 entries_live : (f : KtFormat) (b : List ℕ) (e : EntryParts) (cs : List Cell) → entry_at f b ≡ Some e → entries_of f (Live b ∷ cs) ≡ e ∷ entries_of f cs
 entries_live f b e cs is = ap (λ (o : Option EntryParts). cons_option o (entries_of f cs)) is
 
@@ -97,7 +97,7 @@ is_entry f e b fits s =
     let made : IsEntry (entry_of f s.fields s.tail) = record { name_type = type_fits f s.fields.principal.name_type s.fit.principal.name_type; timestamp = s.fit.timestamp; version = version; enctype = s.fit.enctype } in
     subst IsEntry (sym same) made
 
--- what is written for it is a record, and gives it back
+-- what is written for it is a record, and is read back as it
 pub record GivesBack (e : EntryParts) : Type 0 where
   pub fit : fits V2 e ≡ true
   pub entry : IsEntry e
@@ -136,7 +136,7 @@ new_cells_sound f (Live b ∷ cs) sound fits small =
 
 -- ---- each entry is kept
 
--- whether one is read in the first of the cells, or none
+-- the first cell keeps its entry, if one is read there
 kept_by : (f : KtFormat) (b : List ℕ) (cs : List Cell) (o : Option EntryParts) → entry_at f b ≡ o → IsBytes b → entries_of V2 (new_cells f cs) ≡ entries_of f cs → entries_of V2 (new_cells f (Live b ∷ cs)) ≡ entries_of f (Live b ∷ cs)
 kept_by f b cs None is fits kept =
     let same = ap (λ (o : Option EntryParts). cons_option o (entries_of f cs)) is in
@@ -170,7 +170,7 @@ entries_kept k fits =
     entries_all (rewrite_of k) ∙ ap (λ (es : List EntryParts). entries_of V2 (map new_record es)) (entries_all k)
     ∙ kept_of k.format cells (cell_bytes o cells (end_bytes o k.contents.end) inner) ∙ sym (entries_all k)
 
--- what a rewrite gives
+-- the result of a rewrite
 made_is : (k new : KeytabState) (damaged full : Bool) → cond {A = Result KeytabState Code} damaged (Err code.Damaged) (cond full (Err code.Full) (Ok (rewrite_of k))) ≡ Ok new → rewrite_of k ≡ new
 made_is k new true full made = absurd cc
 made_is k new false true made = absurd cc

@@ -1,4 +1,4 @@
--- Rows of sizes.
+-- Lists of sizes.
 use Rattle.std.proofs.Common.{◌≡◌, ℕ, suc, ◌+◌, ◌-◌, ◌*◌, ◌^◌, ◌<◌, ◌≤◌, List, [], ◌∷◌, ◌++◌, length, map, take, drop, get_or, replicate, sym, ap, ◌∙◌, append_assoc, add-one, arith, drop-cons}
 use Rattle.std.proofs.Math.ListN.{set}
 use Rattle.std.proofs.Math.Seq.{take-suc, set-append_seam, drop-append-add}
@@ -22,7 +22,7 @@ write_next {X} f xs old sizes i d is lt room =
 pub zeros_after : (sizes : List ℕ) (leaves n : ℕ) → sizes ++ drop (leaves + n) (replicate (2 * leaves) 0) ≡ sizes ++ replicate (leaves - n) 0
 zeros_after sizes leaves n = ap (λ (t : List ℕ). sizes ++ t) (drop-replicate (leaves + n) (2 * leaves) 0 ∙ ap (λ (k : ℕ). replicate k 0) (omega arith))
 
--- the leaves of new nodes, where sizes were written over the first of zeros
+-- the leaves of new nodes, with sizes written over the first of the zeros
 pub filled : (power leaves n used : ℕ) (front items now new rest : List ℕ) → leaves ≡ power → items ≡ replicate (2 * leaves) 0 → now ≡ items → length new ≡ length now → length now ≡ used → drop leaves new ≡ front ++ drop (leaves + n) now → drop power (take used (new ++ rest)) ≡ front ++ replicate (power - n) 0
 filled power leaves n used front items now new rest same zeros is len uses leaves_are =
     ap (drop power) (take_at new rest used (len ∙ uses))

@@ -16,7 +16,7 @@ use Rattle.krb_keytab.proofs.LengthLemmas.{length_again}
 pub place_at : (slots : List Slot) (i : ℕ) (d : Slot) → i < length slots → slice_index (places slots) i ≡ (get_or slots i d).place
 place_at slots i d lt = get_or-map (λ (s : Slot). s.place) slots i d 0 lt
 
--- a smaller place stands before a greater one
+-- a smaller place comes before a greater one
 pub partitioned_by_place : (slots : List Slot) (p : ℕ) → IsRising (places slots) → IsPartitionedBy (λ (s : Slot). nat_lt s.place p) slots
 partitioned_by_place slots p rising i j d le lt h =
     let below : (get_or slots j d).place < p = ltb-true _ _ h in
@@ -49,7 +49,7 @@ free_slot at b has = ap is_hole (length_again (says.Free (length b)) has)
 pub hole_size : (at : ℕ) (b : List ℕ) → HasField (says.Free (length b)) → size (slot_of (at, Free b)) ≡ length b
 hole_size at b has = ap size_of (length_again (says.Free (length b)) has)
 
--- what may be taken there
+-- the free size of a cell
 pub live_room : (at : ℕ) (b : List ℕ) → HasField (says.Live (length b)) → free_size (slot_of (at, Live b)) ≡ 0
 live_room at b has = ap room_of (length_again (says.Live (length b)) has)
 

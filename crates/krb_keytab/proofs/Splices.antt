@@ -1,4 +1,4 @@
--- Bytes put over others.
+-- Bytes written over others.
 use Rattle.std.proofs.Common.{◌≡◌, ℕ, ◌+◌, ◌-◌, ◌≤◌, List, ◌++◌, length, take, drop, sym, ap, ◌∙◌, append_assoc, arith}
 use Rattle.std.specs.List.{splice}
 use Rattle.krb_wire.specs.declared.pen.Pen.{Pen}
@@ -8,7 +8,7 @@ use Rattle.std.proofs.lemmas.List.{drop_at, length-append, length-take, length-d
 pub splice-len : (xs a : List ℕ) (i j : ℕ) → j ≤ length xs → j ≡ i + length a → length (splice xs i j a) ≡ length xs
 splice-len xs a i j within is_j = omega (arith, length-append (take i xs) (a ++ drop j xs), length-append a (drop j xs), length-take i xs, length-drop j xs)
 
--- after the part that was put all is as it was
+-- all after the written part is unchanged
 pub splice-behind : (xs a : List ℕ) (i j k : ℕ) → i ≤ length xs → j ≡ i + length a → j ≤ k → drop k (splice xs i j a) ≡ drop k xs
 splice-behind xs a i j k within is_j le =
     let front = take i xs ++ a in
@@ -19,7 +19,7 @@ splice-behind xs a i j k within is_j le =
     ap (λ (n : ℕ). drop n (splice xs i j a)) is_k ∙ sym (drop-drop (k - j) j (splice xs i j a)) ∙ ap (drop (k - j)) left
     ∙ drop-drop (k - j) j xs ∙ ap (λ (n : ℕ). drop n xs) (sym is_k)
 
--- what a pen wrote that began at a place of some bytes
+-- what a pen wrote that started at a place of some bytes
 pub written_over : (image text : List ℕ) (at end : ℕ) (old new : Pen) → Puts old new text → old.out.now ≡ image → old.at ≡ at → end ≡ at + length text → new.out.now ≡ splice image at end text
 written_over image text at end old new puts is place to =
     puts.bytes ∙ ap (λ (n : ℕ). splice old.out.now old.at n text) (puts.place ∙ ap (λ (n : ℕ). n + length text) place ∙ sym to)

@@ -1,4 +1,4 @@
--- An addition to a keytab, and a removal from it, change one cell of the store that it is.
+-- An addition to a keytab, and a removal from it, change one cell of its store.
 use Rattle.std.proofs.Common.{◌≡◌, ℕ, ◌+◌, true, List, [], ◌∷◌, map, length, Some, None, Result, Ok, Err, inl, inr, refl, sym, ap, subst, ◌∙◌, arith}
 use Rattle.std.specs.Prelude.{IfOk, OnOk}
 use Rattle.std.proofs.lemmas.List.{map-append, length-replicate}
@@ -26,7 +26,7 @@ use Rattle.krb_keytab.proofs.ImageChanges.{padded_len}
 use Rattle.krb_keytab.proofs.Replacements.{StandsAt, live_stands, hole_stands, replaced_cells}
 use Rattle.krb_keytab.proofs.Stores.{whole_of}
 
--- one cell replaced is one cell of the store
+-- replacing one cell changes one cell of the store
 replaced_cell : (k : KeytabState) (change : Cell → Cell) (p : ℕ) (c : Cell) → StandsAt k.contents.cells 2 p c
     → OneCell (store_of k) (store_of (record k { contents = record { cells = replaced_at 2 change p k.contents.cells; end = k.contents.end } })) p (store_cell c) (store_cell (change c))
 replaced_cell k change p c s = record {
@@ -117,7 +117,7 @@ appends_at k x whole still = record {
   });
 }
 
--- an end that is no fault is none after a record more
+-- an end without a fault has none after one more record
 still_whole : (e : End) → kind_of e ≡ None → kind_of (end_after e) ≡ None
 still_whole Bare h = refl
 still_whole (Mark rest) h = refl
@@ -135,7 +135,7 @@ addition_puts k new e (Ok p) a =
     ]
 addition_puts k new e (Err refusal) a = tt
 
--- ---- what stands afterwards
+-- ---- what is there afterwards
 
 pub placed_read : (k new : KeytabState) (e : EntryParts) (p : ℕ) → IsEntry e → put_result k e ≡ Ok (p, new) → entry_at_place new p ≡ Some (read_back k.format e)
 placed_read k new e p is put = added_reads k e (p, new) is put

@@ -1,4 +1,4 @@
--- The store that a keytab is, by the fields that it is kept in.
+-- The store of a keytab, by the fields in which it is kept.
 use Rattle.std.proofs.Common.{◌≡◌, ℕ, ◌<◌, ◌^◌, List, length, drop, Option, Some, None, false, refl, sym, ap, subst, ◌∙◌, arith}
 use Rattle.std.specs.Prelude.{is_some, IsSome, IfNone}
 use Rattle.krb_wire.specs.declared.format.KtFormat.{KtFormat}
@@ -19,7 +19,7 @@ use Rattle.krb_keytab.proofs.Replacements.{live_stands, stands_sound}
 
 -- ---- a keytab that is kept as an image
 
--- the state is what the state of the fields is
+-- the state is the state of the fields
 pub state_is : {a b : InMemory} → a ≡ b → a.state ≡ b.state
 state_is is = ap (λ (k : InMemory). k.state) is
 
@@ -27,14 +27,14 @@ state_is is = ap (λ (k : InMemory). k.state) is
 abbrev pub keytab_of : KtFormat → ℕ → List ℕ → KeytabState
 keytab_of f limit image = record { format = f; limit = limit; contents = contents f (drop 2 image) }
 
--- where the cells begin is a place
+-- the start of the cells is a place
 pub first_is_place : (k : KeytabState) (p : ℕ) → p ≡ 2 → IsPlace (store_of k) p
 first_is_place k p first = rw first (place_first (store_of k))
 
 pub end_held : (f : KtFormat) (limit : ℕ) (image : List ℕ) (k : KeytabState) (e : CellsEnd) → IsKnownEnd f image e → keytab_of f limit image ≡ k → e.place ≡ end_of (store_of k)
 end_held f limit image k e known is = sym known.place ∙ ap (λ (x : KeytabState). end_of (store_of x)) is
 
--- nothing is wrong where no fault is told
+-- there is no fault if none is reported
 pub whole_of : (place : ℕ) (kind : Option FaultKind) → is_some (fault_from place kind) ≡ false → kind ≡ None
 whole_of place None h = refl
 whole_of place (Some kind) h = absurd cc
@@ -72,7 +72,7 @@ cells_held f limit image bytes k same is = ap (λ (b : List ℕ). cells_of (keyt
 pub entry_held : (k : KeytabState) (p : ℕ) (b : List ℕ) → IsSound k.format k.contents → store_bytes (store_of k) p ≡ Some b → IsSome (entry_at k.format b)
 entry_held k p b sound e = (stands_sound k.format k.contents.cells 2 p (Live b) sound.cells (live_stands k.contents.cells 2 p b e)).2
 
--- a read that is sure to give an entry gives one
+-- a read that is sure to return an entry returns one
 pub none_there : {X Y : Type 0} (view : X → Y) (result : Option X) (read : Option Y) (o : Option (List ℕ)) → Gives view result read → IsSome read → IfNone result (o ≡ None)
 none_there view (Some x) read o h some = tt
 none_there view None read o h some = absurd (cc (h, some))

@@ -1,4 +1,4 @@
--- What is written for an entry: whether it fits, how long it is, its parts, and that it is read again.
+-- What is written for an entry: whether it fits, how long it is, its parts, and that it is read back.
 use Rattle.std.proofs.Common.{◌≡◌, ℕ, ◌+◌, ◌%◌, ◌^◌, ◌<◌, ◌≤◌, Bool, true, false, List, ◌∷◌, ◌++◌, length, replicate, Some, refl, sym, ap, ◌∙◌, append_assoc, length-append, arith, inl, inr}
 use Rattle.std.specs.Prelude.{◌&&◌, is_some}
 use Rattle.std.specs.Int.{w16, w32}

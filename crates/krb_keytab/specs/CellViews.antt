@@ -1,4 +1,4 @@
--- The cells of an image from a place on, and what the code gives for each.
+-- The cells of an image from a place on, and what the code returns for each.
 use Rattle.std.specs.Prelude.{◌≡◌, ℕ, ◌+◌, ◌≤◌, ◌^◌, List, [], ◌∷◌, length, drop, Option, Some, None}
 use Rattle.krb_wire.specs.declared.format.KtFormat.{KtFormat}
 use Rattle.krb_keytab.specs.declared.image.CellsEnd.{CellsEnd}
@@ -8,7 +8,7 @@ use Rattle.krb_keytab.specs.Image.{EndsKnown}
 use Rattle.krb_keytab.specs.declared.cells.KtCell.{KtCell}
 use Rattle.krb_keytab.specs.declared.cells.KtCell.TheVariants as view
 
--- cells of a format that begin at a place, and what ends them
+-- cells of a format that start at a place, and what ends them
 pub record CellsFrom : Type 0 where
   pub format : KtFormat
   pub place : ℕ
@@ -18,17 +18,17 @@ pub record CellsFrom : Type 0 where
 abbrev pub cells_of : KeytabState → CellsFrom
 cells_of k = record { format = k.format; place = 2; contents = k.contents }
 
--- they lie in an image, and where they end is known
+-- they are in an image, and where they end is known
 pub record AreKnown (f : KtFormat) (image : List ℕ) (at : ℕ) (e : CellsEnd) : Type 0 where
   pub within : at ≤ length image
   pub small : length image ≤ 2 ^ 30
   pub ends : EndsKnown f image at e
 
--- where no cell begins, no bytes are left
+-- if no cell begins there, no bytes are left
 abbrev pub IsCellOrNothing : KtFormat → List ℕ → Type 0
 IsCellOrNothing f bytes = (contents f bytes).cells ≡ [] → bytes ≡ []
 
--- a cell stands at the front of bytes, and the others after it
+-- bytes begin with a cell, and the other cells are after it
 pub record IsFirst (f : KtFormat) (bytes : List ℕ) (c : Cell) : Type 0 where
   pub contents : contents f bytes ≡ record { cells = c ∷ (contents f (drop (4 + size c) bytes)).cells; end = (contents f (drop (4 + size c) bytes)).end }
   pub sound : IsCell f c
@@ -46,12 +46,12 @@ pub record BeginsWith (old : CellsFrom) (at : ℕ) (c : Cell) (new : CellsFrom) 
 
 -- ---- as the code gives them
 
--- the cell, without where its bytes lie in memory
+-- the cell, without where its bytes are in memory
 abbrev pub cell_of : KtCell → Cell
 cell_of (view.Live bytes) = Live bytes.now
 cell_of (view.Free bytes) = Free bytes.now
 
--- the first cell with its place and the cells after it, or none where none is left
+-- the first cell with its place and the cells after it, or none if none is left
 abbrev pub GivesCell : CellsFrom → Option (ℕ × KtCell) → CellsFrom → Type 0
 GivesCell old None new = (old.contents.cells ≡ []) × (new ≡ old)
 GivesCell old (Some x) new = BeginsWith old x.0 (cell_of x.1) new

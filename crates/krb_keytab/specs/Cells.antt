@@ -19,7 +19,7 @@ pub data Cell : Type 0 where
   Live : List ℕ → Cell
   Free : List ℕ → Cell
 
--- what stands after the cells: nothing, a length 0 and more bytes, or bytes that are none of these
+-- what is after the cells: nothing, a length 0 and more bytes, or bytes that are none of these
 pub data End : Type 0 where
   Bare : End
   Mark : List ℕ → End
@@ -63,7 +63,7 @@ end_bytes o (Damaged kind rest) = rest
 abbrev pub spelling : Order → Contents → List ℕ
 spelling o k = flat_map (cell o) k.cells ++ end_bytes o k.end
 
--- what is wrong where the cells end
+-- the kind of the fault where the cells end, if there is one
 abbrev pub kind_of : End → Option FaultKind
 kind_of Bare = None
 kind_of (Mark rest) = None
@@ -75,18 +75,18 @@ image f k = 5 ∷ version_byte f ∷ spelling (order_of f) k
 
 -- ---- reading
 
--- what ends the cells where no length stands
+-- what ends the cells if there is no whole length
 abbrev pub short_end : List ℕ → End
 short_end [] = Bare
 short_end (b ∷ bs) = Damaged CutLength (b ∷ bs)
 
--- the cell that a length and the bytes after it are; of the end nobody asks it
+-- the cell with a length and the bytes after it; never used for the length `End`
 abbrev pub cell_in : Length → List ℕ → Cell
 cell_in says.End b = Live b
 cell_in (says.Live n) b = Live b
 cell_in (says.Free n) b = Free b
 
--- what stands there by its length: the end mark, a record if an entry is read, or a hole
+-- what is there by its length: the end mark, a record if an entry is read, a hole, or else a fault
 abbrev pub next_of_length : KtFormat → List ℕ → List ℕ → Length → NextCell Cell End
 next_of_length f bytes rest says.End = NoMore (Mark rest)
 next_of_length f bytes rest (says.Live n) =
@@ -96,7 +96,7 @@ next_of_length f bytes rest (says.Free n) =
     if nat_lt (length rest) n then NoMore (Damaged Overrun bytes)
     else More (Free (take n rest)) (drop n rest)
 
--- what stands there by the number read, if one was
+-- what is there by the number read, if one was
 abbrev pub next_by : KtFormat → List ℕ → Option (ℕ × List ℕ) → NextCell Cell End
 next_by f bytes None = NoMore (short_end bytes)
 next_by f bytes (Some n) = next_of_length f bytes n.1 (length_of n.0)

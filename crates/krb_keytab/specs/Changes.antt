@@ -1,4 +1,4 @@
--- Adding an entry to a keytab, and removing one. A keytab is a store for walks: `store_of` is how it is seen, `put_result` what an addition gives, and `cut_result` what a removal gives.
+-- Adding an entry to a keytab, and removing one. A keytab is a store for walks, `store_of`; `put_result` is the result of an addition, `cut_result` that of a removal.
 use Rattle.std.specs.Prelude.{ℕ, ◌+◌, ◌-◌, List, [], ◌∷◌, ◌++◌, length, map, find, replicate, Option, Some, None, is_some, Result, Ok, Err, Bool, true, false, ◌||◌, nat_lt, nat_le, ◌==◌, if◌then◌else◌, option_map, ◌≡◌}
 use Rattle.krb_wire.specs.Spelling.{Parts}
 use Rattle.krb_walk.specs.declared.refusal.Code.{Code}
@@ -16,12 +16,12 @@ use Rattle.krb_walk.specs.declared.refusal.Code.TheVariants as code
 abbrev pub PlacedCell : Type 0
 PlacedCell = ℕ × Cell
 
--- the cells with their places, where the first has that one
+-- the cells with their places, the first at that one
 abbrev pub placed_cells : ℕ → List Cell → List PlacedCell
 placed_cells at [] = []
 placed_cells at (c ∷ cs) = (at, c) ∷ placed_cells (at + (4 + size c)) cs
 
--- the cells, with the one at a place replaced by what a function makes of it
+-- the cells, with a function applied to the one at a place
 abbrev pub replaced_at : ℕ → (Cell → Cell) → ℕ → List Cell → List Cell
 replaced_at at change p cells = map (λ x. if x.0 == p then change x.1 else x.1) (placed_cells at cells)
 
@@ -31,17 +31,17 @@ replaced_at at change p cells = map (λ x. if x.0 == p then change x.1 else x.1)
 abbrev pub zero_hole : Cell → Cell
 zero_hole c = Free (replicate (size c) 0)
 
--- the keytab, where the cell at a place is such a hole and all else is as it was
+-- the keytab with the cell at a place turned into such a hole, and all else unchanged
 abbrev pub with_hole : KeytabState → ℕ → KeytabState
 with_hole k p = record k { contents = record { cells = replaced_at 2 zero_hole p k.contents.cells; end = k.contents.end } }
 
--- what a removal gives: a damaged keytab refuses it, and so does each number where no record stands
+-- the result of a removal: refused if the keytab is damaged, and if no record starts there
 abbrev pub cut_result : KeytabState → ℕ → Result KeytabState Code
 cut_result k p =
     if is_some (fault_of (store_of k)) then Err code.Damaged
     else (if is_some (live_bytes (store_of k) p) then Ok (with_hole k p) else Err code.NotLive)
 
--- the keytab without the records at these places, of which each that is refused changes nothing
+-- the keytab without the records at these places; a place that is refused changes nothing
 abbrev pub without : KeytabState → List ℕ → KeytabState
 without k [] = k
 without k (p ∷ places) = without (cut_store k (cut_result k p)) places
@@ -55,7 +55,7 @@ cut_result_of k (Err refused) = Err refused
 abbrev pub remove_result : KeytabState → Parts → ℕ → ℕ → Result (ℕ × KeytabState) Code
 remove_result k name kvno enctype = cut_result_of k (find_result k name kvno enctype)
 
--- a removal by name answered what it gives, with the place; where it was refused, the keytab is as it was
+-- a removal by name returned its result, with the place; if it was refused, the keytab is unchanged
 abbrev pub AnswersRemove : KeytabState → Result (ℕ × KeytabState) Code → Result ℕ Code → KeytabState → Type 0
 AnswersRemove k given (Ok place) new = given ≡ Ok (place, new)
 AnswersRemove k given (Err refused) new = (given ≡ Err refused) × (new ≡ k)
@@ -71,11 +71,11 @@ is_hole n (Free b) = nat_le n (length b)
 abbrev pub first_hole : ℕ → ℕ → List Cell → Option PlacedCell
 first_hole at n cells = find (λ x. is_hole n x.1) (placed_cells at cells)
 
--- the hole that a cell is, from its place and the cell
+-- a cell as a hole, from its place and the cell
 abbrev pub hole_of : PlacedCell → Hole
 hole_of x = record { place = x.0; size = size x.1 }
 
--- the first hole of at least this many bytes, in the cells that begin at a place
+-- the first hole of at least this many bytes, in the cells that start at a place
 abbrev pub hole_from : ℕ → ℕ → List Cell → Option Hole
 hole_from at n cells = option_map hole_of (first_hole at n cells)
 
@@ -87,11 +87,11 @@ with_zeros bytes n = bytes ++ replicate (n - length bytes) 0
 abbrev pub record_in : List ℕ → Cell → Cell
 record_in bytes c = Live (with_zeros bytes (size c))
 
--- the keytab, where the cell at a place is such a record and all else is as it was
+-- the keytab with the cell at a place turned into such a record, and all else unchanged
 abbrev pub with_record_in : KeytabState → List ℕ → ℕ → KeytabState
 with_record_in k bytes p = record k { contents = record { cells = replaced_at 2 (record_in bytes) p k.contents.cells; end = k.contents.end } }
 
--- what ends the cells after one more: after an end mark nothing is left
+-- what ends the cells once one is added: after an end mark nothing is left
 abbrev pub end_after : End → End
 end_after Bare = Bare
 end_after (Mark rest) = Mark []
@@ -101,13 +101,13 @@ end_after (Damaged kind rest) = Damaged kind rest
 abbrev pub with_last : KeytabState → List ℕ → KeytabState
 with_last k bytes = record k { contents = record { cells = k.contents.cells ++ Live bytes ∷ []; end = end_after k.contents.end } }
 
--- the addition of bytes after the cells: refused where the image would be longer than the limit
+-- the addition of bytes after the cells: refused if the image would be longer than the limit
 abbrev pub append_result : KeytabState → List ℕ → Result (ℕ × KeytabState) Code
 append_result k bytes =
     if nat_lt k.limit (length (image_of (with_last k bytes))) then Err code.Full
     else Ok (end_of (store_of k), with_last k bytes)
 
--- the addition of bytes, into a hole where there is one, and else after the cells
+-- the addition of bytes, into a hole if there is one, else after the cells
 abbrev pub put_result_into : KeytabState → List ℕ → Option PlacedCell → Result (ℕ × KeytabState) Code
 put_result_into k bytes (Some hole) = Ok (hole.0, with_record_in k bytes hole.0)
 put_result_into k bytes None = append_result k bytes
@@ -116,7 +116,7 @@ put_result_into k bytes None = append_result k bytes
 abbrev pub put_bytes_result : KeytabState → List ℕ → Result (ℕ × KeytabState) Code
 put_bytes_result k bytes = put_result_into k bytes (first_hole 2 (length bytes) k.contents.cells)
 
--- what an addition gives, the place of the record and the keytab with it: a damaged keytab refuses it, and then so does an entry with a part that is too long
+-- the result of an addition, the place of the record and the keytab with it: refused if the keytab is damaged, and then if a part of the entry is too long
 abbrev pub put_result : KeytabState → EntryParts → Result (ℕ × KeytabState) Code
 put_result k e =
     if is_some (fault_of (store_of k)) then Err code.Damaged
@@ -127,7 +127,7 @@ abbrev pub is_refused : Result (ℕ × KeytabState) Code → Bool
 is_refused (Ok given) = false
 is_refused (Err refused) = true
 
--- an addition takes no memory where it is refused, where a hole takes the entry, and where the image becomes no longer
+-- an addition takes no memory if it is refused, if a hole takes the entry, or if the image becomes no longer
 abbrev pub takes_none : KeytabState → EntryParts → Bool
 takes_none k e =
     is_refused (put_result k e)

@@ -1,4 +1,4 @@
--- The entries of cells, one after the other.
+-- The entries of cells, in order.
 use Rattle.std.specs.Prelude.{ℕ, List, Option, option_map}
 use Rattle.std.specs.List.{filter_map}
 use Rattle.krb_wire.specs.declared.format.KtFormat.{KtFormat}
@@ -13,6 +13,6 @@ use Rattle.krb_keytab.specs.Find.{PlacedEntry}
 abbrev pub entry_in : KtFormat → PlacedCell → Option PlacedEntry
 entry_in f x = option_map (λ e. (x.0, e)) ((store_cell x.1).live >>= entry_at f)
 
--- the entries of cells that begin at a place
+-- the entries of cells that start at a place
 abbrev pub entries_in : KtFormat → ℕ → List Cell → List PlacedEntry
 entries_in f at cells = filter_map (entry_in f) (placed_cells at cells)

@@ -5,7 +5,7 @@ use Rattle.krb_wire.specs.declared.format.KtFormat.{KtFormat}
 use Rattle.krb_wire.specs.Spelling.{Parts, order_of, digits, data16, kt_principal, IsShort, FitsKt}
 use Rattle.krb_wire.specs.Reading.{◌>>=◌, byte_at, number_at, data16_at, kt_principal_at}
 
--- an entry without where it lies in memory
+-- an entry, without where it is in memory
 pub record EntryParts : Type 0 where
   pub principal : Parts
   pub timestamp : ℕ
@@ -13,7 +13,7 @@ pub record EntryParts : Type 0 where
   pub enctype : ℕ
   pub key : List ℕ
 
--- the fields up to the key, with the version in eight bits
+-- the fields up to the key, with the 8-bit kvno
 pub record Front : Type 0 where
   pub principal : Parts
   pub timestamp : ℕ
@@ -28,7 +28,7 @@ front f x =
     ++ (digits (order_of f) w32 x.timestamp
     ++ ((x.low_version ∷ []) ++ (digits (order_of f) w16 x.enctype ++ data16 (order_of f) x.key)))
 
--- what has a spelling
+-- a front that has a spelling: its parts fit their fields
 pub record FitsFront (f : KtFormat) (x : Front) : Type 0 where
   pub principal : FitsKt f x.principal
   pub timestamp : x.timestamp < 2 ^ 32
@@ -36,7 +36,7 @@ pub record FitsFront (f : KtFormat) (x : Front) : Type 0 where
   pub enctype : x.enctype < 2 ^ 16
   pub key : IsShort x.key
 
--- the version, by what follows the key: the number there, where there are four bytes and it is not 0
+-- the key version: the number after the key if there are four bytes and it is not 0, else the 8-bit kvno
 abbrev pub version_by : ℕ → Option (ℕ × List ℕ) → ℕ
 version_by low None = low
 version_by low (Some n) = if n.0 == 0 then low else n.0

@@ -30,7 +30,7 @@ abbrev pub greatest : List PlacedEntry → ℕ
 greatest [] = 0
 greatest (x ∷ xs) = max x.1.version (greatest xs)
 
--- the version that is looked for among the entries: 0 asks for their greatest
+-- the version that is selected among the entries: 0 selects their greatest
 abbrev pub version_asked : ℕ → List PlacedEntry → ℕ
 version_asked kvno xs = if kvno == 0 then greatest xs else kvno
 
@@ -39,7 +39,7 @@ abbrev pub first_or_missing : Option PlacedEntry → Result PlacedEntry Code
 first_or_missing None = Err KvnoNotFound
 first_or_missing (Some x) = Ok x
 
--- look-up among the entries that are asked for: the first with the version
+-- look-up among the selected entries: the first with the version
 abbrev pub look_up_in : ℕ → List PlacedEntry → Result PlacedEntry Code
 look_up_in kvno [] = Err NotFound
 look_up_in kvno (x ∷ xs) = first_or_missing (find (λ y. y.1.version == version_asked kvno (x ∷ xs)) (x ∷ xs))
@@ -48,6 +48,6 @@ look_up_in kvno (x ∷ xs) = first_or_missing (find (λ y. y.1.version == versio
 abbrev pub look_up : KeytabState → Parts → ℕ → ℕ → Result PlacedEntry Code
 look_up k name kvno enctype = look_up_in kvno (filter (is_match name enctype) (placed_entries k))
 
--- what a look-up answers: a damaged keytab refuses it
+-- the result of a look-up: a damaged keytab refuses it
 abbrev pub find_result : KeytabState → Parts → ℕ → ℕ → Result PlacedEntry Code
 find_result k name kvno enctype = if is_some (fault_of (store_of k)) then Err Damaged else look_up k name kvno enctype

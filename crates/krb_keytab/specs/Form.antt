@@ -1,4 +1,4 @@
--- The one spelling that is written for an entry: fields as in MIT's "Keytab file format", section "Key entry format"; that the 32-bit version always stands is our choice.
+-- The one spelling that is written for an entry: fields as in MIT's "Keytab file format", section "Key entry format"; always writing the 32-bit kvno is our choice.
 use Rattle.std.specs.Prelude.{ℕ, ◌<◌, ◌^◌, ◌%◌, List, ◌++◌, replicate, Bool, ◌&&◌, if◌then◌else◌, IsSome}
 use Rattle.std.specs.Int.{w32}
 use Rattle.krb_wire.specs.declared.format.KtFormat.{KtFormat}
@@ -17,20 +17,20 @@ front_of e = record { principal = e.principal; timestamp = e.timestamp; low_vers
 abbrev pub written_form : KtFormat → EntryParts → List ℕ
 written_form f e = front f (front_of e) ++ digits (order_of f) w32 e.version
 
--- an entry's written form, without where the entry lies in memory
+-- an entry's written form, without where the entry is in memory
 pub record FormParts : Type 0 where
   pub format : KtFormat
   pub bytes : List ℕ
 
--- the bytes begin with an entry, whatever zeros stand after them
+-- the bytes begin with an entry, however many zeros follow them
 abbrev pub IsRecord : KtFormat → List ℕ → Type 0
 IsRecord f bytes = (n : ℕ) → IsSome (entry_at f (bytes ++ replicate n 0))
 
--- the name type that is read where one was written
+-- the name type that is read back if this one was written
 abbrev pub kept_type : KtFormat → ℕ → ℕ
 kept_type f t = if has_name_type f then t else 0
 
--- the entry that is read where an entry was written
+-- the entry that is read back if this one was written
 abbrev pub read_back : KtFormat → EntryParts → EntryParts
 read_back f e = record e { principal = record { name_type = kept_type f e.principal.name_type; realm = e.principal.realm; components = e.principal.components } }
 

@@ -4,7 +4,7 @@ use Rattle.std.specs.Str.{bytes_eq}
 use Rattle.krb_wire.specs.declared.format.Order.{Order}
 use Rattle.krb_wire.specs.Reading.{data16_at}
 
--- a component is the one that was read, and others are those after it
+-- a component is the one that was read, and the others are those after it
 abbrev pub same_first : (List ℕ → Bool) → List ℕ → Option (List ℕ × List ℕ) → Bool
 same_first others c None = false
 same_first others c (Some x) = bytes_eq c x.0 && others x.1

@@ -11,13 +11,13 @@ use Rattle.krb_keytab.specs.Store.{end_place}
 use Rattle.krb_keytab.specs.declared.image.CellsEnd.{CellsEnd}
 use Rattle.krb_keytab.specs.declared.image.Ending.TheVariants as ending
 
--- what is wrong, if something is
+-- the kind of the fault, if there is one
 abbrev pub ending_kind : Ending → Option FaultKind
 ending_kind ending.Bare = None
 ending_kind ending.Mark = None
 ending_kind (ending.Damaged kind) = Some kind
 
--- the end that some bytes are
+-- bytes as an end, of this kind
 abbrev pub ends : List ℕ → Ending → End
 ends bytes ending.Bare = Bare
 ends bytes ending.Mark = Mark (drop 4 bytes)
@@ -33,11 +33,11 @@ abbrev pub EndsWithin : List ℕ → Result Length Ending → Type 0
 EndsWithin bytes (Ok l) = (0 < size_of l) × (4 + size_of l ≤ length bytes)
 EndsWithin bytes (Err e) = Unit {0}
 
--- no cell begins at a place: that ends them there
+-- no cell begins at a place: the cells end there, with this ending
 abbrev pub EndsThere : KtFormat → List ℕ → ℕ → Ending → Type 0
 EndsThere f image at e = contents f (drop at image) ≡ record { cells = []; end = ends (drop at image) e }
 
--- one cell stands between two places
+-- exactly one cell is between two places
 pub record IsPassed (f : KtFormat) (image : List ℕ) (at next : ℕ) : Type 0 where
   pub ahead : at < next
   pub within : next ≤ length image
@@ -52,29 +52,29 @@ GivesPlace f image at (Err e) = EndsThere f image at e
 
 -- ---- all cells
 
--- the cells from a place on end where it is said, by what it is said
+-- the cells from a place on end at the place of `e`, with its ending
 pub record EndsKnown (f : KtFormat) (image : List ℕ) (at : ℕ) (e : CellsEnd) : Type 0 where
   pub place : end_place at (contents f (drop at image)).cells ≡ e.place
   pub within : e.place ≤ length image
   pub same : (contents f (drop at image)).end ≡ (contents f (drop e.place image)).end
   pub ending : EndsThere f image e.place e.ending
 
--- so do all cells
+-- all cells end there, with its ending
 abbrev pub IsKnownEnd : KtFormat → List ℕ → CellsEnd → Type 0
 IsKnownEnd f image e = EndsKnown f image 2 e
 
--- an image after a change: its two first bytes are as before, and it holds these contents, whose end is known
+-- an image after a change: its first two bytes are as before, and it holds these contents, whose end is known
 pub record IsChanged (f : KtFormat) (old new : List ℕ) (k : Contents) (e : CellsEnd) : Type 0 where
   pub head : take 2 new ≡ take 2 old
   pub contents : contents f (drop 2 new) ≡ k
   pub known : IsKnownEnd f new e
 
--- how many bytes the end mark has after an appended record
+-- how many bytes an end mark takes after an appended record
 abbrev pub mark_len : Ending → ℕ
 mark_len ending.Bare = 0
 mark_len ending.Mark = 4
 mark_len (ending.Damaged kind) = 0
 
--- how long an image is with a record of this many bytes after its cells
+-- the length of an image with a record of this many bytes after its cells
 abbrev pub len_with : CellsEnd → ℕ → ℕ
 len_with e n = e.place + 4 + n + mark_len e.ending

@@ -37,19 +37,19 @@ pub record IsReadBack (f : KtFormat) (e : EntryParts) (bytes : List ℕ) : Type 
   pub spelled : Spells f (read_back f e) bytes
   pub only : (x : EntryParts) → Spells f x bytes → x ≡ read_back f e
 
--- that is so of each entry whose numbers fit their types and whose lengths and counts fit their fields
+-- so is each entry whose numbers fit their types and whose lengths and counts fit their fields
 abbrev pub IsAlwaysReadBack : Type 0
 IsAlwaysReadBack = (f : KtFormat) (e : EntryParts) (zeros : ℕ) → IsEntry e → IsTrue (fits f e) → IsReadBack f e (written_form f e ++ replicate zeros 0)
 
--- the entry that was added is read at the place that the addition gives
+-- the entry that was added is read back at the place that the addition returns
 abbrev pub IsReadWhereAdded : Type 0
 IsReadWhereAdded = (k : KeytabState) (e : EntryParts) (given : ℕ × KeytabState) → IsEntry e → put_result k e ≡ Ok given → entry_at_place given.1 given.0 ≡ Some (read_back k.format e)
 
--- where a record was removed, none stands
+-- where a record was removed, none is left
 abbrev pub IsGoneWhereRemoved : Type 0
 IsGoneWhereRemoved = (k : KeytabState) (place : ℕ) (new : KeytabState) → cut_result k place ≡ Ok new → live_bytes (store_of new) place ≡ None
 
--- a keytab that is written anew has the same entries, in the same order
+-- a rewritten keytab has the same entries, in the same order
 abbrev pub IsKeptByRewrites : Type 0
 IsKeptByRewrites = (k new : KeytabState) → AreBytes (image_of k) → rewrite_result k ≡ Ok new → entries new ≡ entries k
 

@@ -1,4 +1,4 @@
--- The length that stands before each cell (MIT krb5, "Keytab file format").
+-- The length before each cell (MIT krb5, "Keytab file format").
 use Rattle.std.specs.Prelude.{ℕ, ◌-◌, ◌<◌, ◌≤◌, ◌^◌, nat_lt, ◌==◌, if◌then◌else◌}
 use Rattle.krb_keytab.specs.declared.length.Length.{Length}
 use Rattle.krb_keytab.specs.declared.length.Length.TheVariants.{End, Live, Free}
@@ -13,13 +13,13 @@ field_of End = 0
 field_of (Live n) = n
 field_of (Free n) = 2 ^ 32 - n
 
--- how many bytes stand after it
+-- how many bytes the cell has after it
 abbrev pub size_of : Length → ℕ
 size_of End = 0
 size_of (Live n) = n
 size_of (Free n) = n
 
--- some field says it, and no other length: a cell is not empty, and its size is in 31 bits, or 2 ^ 31 for a hole
+-- a field says this length and no other: a cell is not empty, and its size is in 31 bits, or 2 ^ 31 for a hole
 abbrev pub HasField : Length → Type 0
 HasField End = Unit {0}
 HasField (Live n) = (0 < n) × (n < 2 ^ 31)

@@ -1,4 +1,4 @@
--- What was found among the first entries of a look-up: whether some entry was asked for, and which is looked for.
+-- What a look-up found among the first entries: whether one has the name and the enctype, and the entry selected.
 use Rattle.std.specs.Prelude.{◌≡◌, ℕ, List, ◌++◌, Bool, true, false, filter, Option, None, Some, Result, Ok, Err}
 use Rattle.krb_wire.specs.Spelling.{Parts}
 use Rattle.krb_walk.specs.declared.refusal.Code.{Code}
@@ -8,13 +8,13 @@ use Rattle.krb_keytab.specs.Store.{KeytabState}
 use Rattle.krb_keytab.specs.Entries.{entries_in}
 use Rattle.krb_keytab.specs.CellViews.{CellsFrom}
 
--- what is answered of that
+-- what the look-up returns of that
 abbrev pub answer : Bool → Option PlacedEntry → Result PlacedEntry Code
 answer named (Some x) = Ok x
 answer true None = Err KvnoNotFound
 answer false None = Err NotFound
 
--- it is what look-up gives among these entries
+-- it is the result of the look-up among these entries
 abbrev pub IsFoundAmong : Parts → ℕ → ℕ → List PlacedEntry → Bool → Option PlacedEntry → Type 0
 IsFoundAmong name kvno enctype xs named best = answer named best ≡ look_up_in kvno (filter (is_match name enctype) xs)
 

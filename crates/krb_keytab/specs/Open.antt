@@ -1,9 +1,9 @@
--- The faults that an image is refused for: their numbers, and their phrases.
+-- The faults for which an image is refused: their numbers and their phrases.
 use Rattle.std.specs.Prelude.{ℕ, List, codes}
 use Rattle.krb_keytab.specs.declared.open.KtOpenFault.{KtOpenFault}
 use Rattle.krb_keytab.specs.declared.open.KtOpenFault.TheVariants.{TooShort, BadVersion, TooLarge}
 
--- the number of a fault, as messages have it: our choice
+-- the number of a fault, as printed in messages: our choice
 abbrev pub open_fault_number : KtOpenFault → ℕ
 open_fault_number TooShort = 1
 open_fault_number BadVersion = 2

@@ -1,4 +1,4 @@
--- What each entry of a name begins with.
+-- The prefix of each entry of a name.
 use Rattle.std.specs.Prelude.{ℕ, List, IsTrue, nat_eq}
 use Rattle.std.specs.List.{starts_with}
 use Rattle.krb_wire.specs.declared.format.KtFormat.{KtFormat}

@@ -1,4 +1,4 @@
--- Writing a keytab anew.
+-- Rewriting a keytab.
 use Rattle.std.specs.Prelude.{length, map, is_some, Result, Ok, Err, nat_lt, if◌then◌else◌}
 use Rattle.krb_wire.specs.declared.format.KtFormat.TheVariants.{V2}
 use Rattle.krb_walk.specs.declared.refusal.Code.{Code}
@@ -17,7 +17,7 @@ new_record e = Live (written_form V2 e)
 abbrev pub rewrite_of : KeytabState → KeytabState
 rewrite_of k = record { format = V2; limit = k.limit; contents = record { cells = map new_record (entries k); end = Bare } }
 
--- what a rewrite gives: a damaged keytab refuses it, and then so does a limit that the new image would pass
+-- the result of a rewrite: refused if the keytab is damaged, and then if the new image would be longer than the limit
 abbrev pub rewrite_result : KeytabState → Result KeytabState Code
 rewrite_result k =
     if is_some (fault_of (store_of k)) then Err Damaged

@@ -1,4 +1,4 @@
--- What a table knows of one cell.
+-- A slot: what a table holds of one cell.
 use Rattle.std.specs.Prelude.{ℕ, ◌-◌, ◌^◌, ◌<◌, ◌≤◌, Bool, true, false, List, length, map, slice_index}
 use Rattle.krb_keytab.specs.declared.cells.Hole.{Hole}
 use Rattle.krb_keytab.specs.declared.length.Length.{Length}
@@ -14,7 +14,7 @@ is_hole says.End = false
 is_hole (says.Live n) = false
 is_hole (says.Free n) = true
 
--- how many bytes a hole has by its length: none where it is no hole's
+-- how many bytes a hole has by its length: 0 if it is not a hole's
 abbrev pub room_of : Length → ℕ
 room_of says.End = 0
 room_of (says.Live n) = 0
@@ -28,7 +28,7 @@ is_free s = is_hole (length_of s.field)
 abbrev pub size : Slot → ℕ
 size s = size_of (length_of s.field)
 
--- how many bytes an entry may take there: none where the cell is live
+-- how many bytes an entry may take there: 0 if the cell is live
 abbrev pub free_size : Slot → ℕ
 free_size s = room_of (length_of s.field)
 
@@ -36,11 +36,11 @@ free_size s = room_of (length_of s.field)
 abbrev pub negated : Slot → Slot
 negated s = record { place = s.place; field = 2 ^ 32 - s.field }
 
--- what is known of a cell that stands at a place
+-- the slot of a cell at a place
 abbrev pub slot_of : PlacedCell → Slot
 slot_of x = record { place = x.0; field = length_field x.1 }
 
--- what is known of cells that begin at a place
+-- the slots of cells that start at a place
 abbrev pub slots_from : ℕ → List Cell → List Slot
 slots_from at cells = map slot_of (placed_cells at cells)
 
@@ -52,7 +52,7 @@ places slots = map (λ s. s.place) slots
 abbrev pub IsRising : List ℕ → Type 0
 IsRising xs = (i j : ℕ) → i < j → j < length xs → slice_index xs i < slice_index xs j
 
--- this many of the numbers are less than one, and the others are not
+-- the first `rank` of the numbers are less than p, and the others are not
 pub record IsRank (xs : List ℕ) (p rank : ℕ) : Type 0 where
   pub within : rank ≤ length xs
   pub below : (i : ℕ) → i < rank → slice_index xs i < p

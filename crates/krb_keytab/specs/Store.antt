@@ -1,4 +1,4 @@
--- What a keytab holds, and the store that it is.
+-- What a keytab holds, and its store.
 use Rattle.std.specs.Prelude.{◌≡◌, ℕ, ◌+◌, ◌≤◌, List, [], length, drop, map, slice_index, Option, Some, None, Result, Ok, Err, nat_lt, ◌==◌, if◌then◌else◌}
 use Rattle.std.specs.List.{filter_map}
 use Rattle.krb_wire.specs.declared.format.Order.{Order}
@@ -18,7 +18,7 @@ pub record KeytabState : Type 0 where
   pub limit : ℕ
   pub contents : Contents
 
--- a keytab in memory: what it holds, and how many bytes there is room for before memory is asked for
+-- a keytab in memory: what it holds, and how many bytes there is room for before more memory is taken
 pub record InMemory : Type 0 where
   pub state : KeytabState
   pub room : ℕ
@@ -27,7 +27,7 @@ pub record InMemory : Type 0 where
 abbrev pub image_of : KeytabState → List ℕ
 image_of k = image k.format k.contents
 
--- the format that the two first bytes tell, where version 1 has an order
+-- the format by the first two bytes, with this byte order for version 1
 abbrev pub format_of : Order → List ℕ → Option KtFormat
 format_of o bytes =
     if slice_index bytes 0 == 5
@@ -39,7 +39,7 @@ abbrev pub open_result_in : ℕ → List ℕ → Option KtFormat → Result Keyt
 open_result_in limit bytes None = Err BadVersion
 open_result_in limit bytes (Some f) = if nat_lt limit (length bytes) then Err TooLarge else Ok (record { format = f; limit = limit; contents = contents f (drop 2 bytes) })
 
--- what opening an image gives: fewer than two bytes are too short, then the version counts, then the length
+-- the result of opening an image: fewer than two bytes are too short, then the version is checked, then the length
 abbrev pub open_result : Order → ℕ → List ℕ → Result KeytabState KtOpenFault
 open_result o limit bytes = if nat_lt (length bytes) 2 then Err TooShort else open_result_in limit bytes (format_of o bytes)
 
@@ -48,23 +48,23 @@ abbrev pub live_of : Cell → Option (List ℕ)
 live_of (Live b) = Some b
 live_of (Free b) = None
 
--- a cell as a store has it: its length takes four places
+-- a cell as a store sees it: its length takes four places
 abbrev pub store_cell : Cell → StoreCell
 store_cell c = record { width = 4 + size c; live = live_of c }
 
--- the cells that bytes have, as a store has them
+-- the cells of bytes, as a store sees them
 abbrev pub store_cells : KtFormat → List ℕ → List StoreCell
 store_cells f bytes = map store_cell (contents f bytes).cells
 
--- the place after cells that begin at a place
+-- the place after cells that start at a place
 abbrev pub end_place : ℕ → List Cell → ℕ
 end_place at cells = end_from at (map store_cell cells)
 
--- the store that an image has: its cells stand after the two version bytes
+-- the store of an image: its cells are after the two version bytes
 abbrev pub store_of_image : KtFormat → List ℕ → Store
 store_of_image f image = record { first = 2; cells = store_cells f (drop 2 image); fault = kind_of (contents f (drop 2 image)).end }
 
--- the store that a keytab is
+-- the store of a keytab
 abbrev pub store_of : KeytabState → Store
 store_of k = record { first = 2; cells = map store_cell k.contents.cells; fault = kind_of k.contents.end }
 
@@ -72,11 +72,11 @@ store_of k = record { first = 2; cells = map store_cell k.contents.cells; fault 
 abbrev pub entries : KeytabState → List EntryParts
 entries k = filter_map (λ r. entry_at k.format r.bytes) (records (store_of k))
 
--- the entry at a place, if a record stands there
+-- the entry at a place, if a record starts there
 abbrev pub entry_at_place : KeytabState → ℕ → Option EntryParts
 entry_at_place k p = live_bytes (store_of k) p >>= entry_at k.format
 
--- bytes that are kept as an image
+-- bytes that are kept as the image of a keytab
 pub record IsImage (f : KtFormat) (limit : ℕ) (bytes : List ℕ) : Type 0 where
   pub long : 2 ≤ length bytes
   pub first : slice_index bytes 0 ≡ 5
@@ -84,12 +84,12 @@ pub record IsImage (f : KtFormat) (limit : ℕ) (bytes : List ℕ) : Type 0 wher
   pub within : length bytes ≤ limit
   pub limit_fits : limit ≤ 1073741824
 
--- the format is one that version 1 has in this order
+-- the format is version 1 in this byte order, or version 2
 abbrev pub IsInOrder : Order → KtFormat → Type 0
 IsInOrder o (V1 p) = p ≡ o
 IsInOrder o V2 = Unit {0}
 
--- the image is opened as the keytab that it is, in its order and with any limit that is no smaller
+-- the image is opened as this keytab again, in its byte order and with any limit that is no smaller
 abbrev pub Reopens : KeytabState → List ℕ → Type 0
 Reopens k bytes = (o : Order) (limit : ℕ) → IsInOrder o k.format → k.limit ≤ limit → open_result o limit bytes ≡ Ok (record k { limit = limit })
 

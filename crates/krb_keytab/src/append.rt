@@ -1,4 +1,4 @@
-//! Records put after the cells of an image.
+//! Adding records after the cells of an image.
 
 ghost use Rattle.std.specs.Prelude.{◌≡◌, ◌≤◌, ◌<◌, ◌^◌, ◌+◌, ◌-◌, ◌++◌, ◌∷◌, [], None, length, drop, take, replicate, IfOk, OnOk, OnErr, vec_len, vec_capacity};
 ghost use Rattle.std.specs.List.{splice};
@@ -13,7 +13,7 @@ use crate::put::{bytes_fit, put_form};
 use krb_wire::{Name, Pen};
 use std::alloc::{AllocError, Allocator};
 
-// An end mark is kept after an appended record.
+// Returns how many bytes an end mark takes after an appended record: it is kept there.
 fn mark_len(ending: Ending) -> usize
     ensures { result ≡ mark_len ending }
 {
@@ -23,7 +23,7 @@ fn mark_len(ending: Ending) -> usize
     }
 }
 
-/// How long an image is with a record of this many bytes after its cells.
+/// Returns the length of the image with a record of `need` bytes after its cells.
 pub fn len_with(end: CellsEnd, need: usize) -> usize
     requires place { end.place ≤ 2 ^ 30 }
     requires need { need < 2 ^ 34 }
@@ -32,7 +32,7 @@ pub fn len_with(end: CellsEnd, need: usize) -> usize
     end.place + 4 + need + mark_len(end.ending)
 }
 
-// Gives the bytes a length, and keeps those before a place. No memory is taken where there are as many.
+// Sets the length, and keeps the bytes before `at`. Takes memory only if the image becomes longer.
 fn set_len<A: Allocator>(image: &mut Vec<u8, A>, at: usize, len: usize) -> Result<(), AllocError>
     requires kept { at ≤ vec_len image.old }
     requires beyond { at ≤ len }
@@ -49,7 +49,7 @@ fn set_len<A: Allocator>(image: &mut Vec<u8, A>, at: usize, len: usize) -> Resul
     image.resize(len, 0)
 }
 
-// Makes all bytes from a place on a record, and zeros after it.
+// Overwrites all bytes from `at` on with a record, and zeros after it.
 fn put_last<N: Name>(image: &mut [u8], at: usize, form: &Form<'_, N>)
     requires room { at + 4 + length form.now.bytes ≤ length image.old }
     requires small { length form.now.bytes < 2 ^ 31 }
@@ -64,7 +64,7 @@ fn put_last<N: Name>(image: &mut [u8], at: usize, form: &Form<'_, N>)
     pen.put_zeros(len - (at + 4 + need));
 }
 
-// As `put_last`, over a vector, whose length stays.
+// Like `put_last`, in a `Vec` whose length stays.
 fn put_after<A: Allocator, N: Name>(image: &mut Vec<u8, A>, at: usize, form: &Form<'_, N>)
     requires room { at + 4 + length form.now.bytes ≤ vec_len image.old }
     requires small { length form.now.bytes < 2 ^ 31 }
@@ -77,8 +77,7 @@ fn put_after<A: Allocator, N: Name>(image: &mut Vec<u8, A>, at: usize, form: &Fo
     put_last(image, at, form);
 }
 
-/// Puts a record after the cells, and an end mark after it where one stood. The answer is where the
-/// cells end then.
+/// Adds a record after the cells, and keeps the end mark if there is one. Returns where the cells end then.
 pub fn append_record<A: Allocator, N: Name>(
     image: &mut Vec<u8, A>,
     end: CellsEnd,
@@ -98,7 +97,7 @@ pub fn append_record<A: Allocator, N: Name>(
     ensures len { OnOk result (vec_len image.new ≡ len_with end (length form.now.bytes)) }
     ensures err { OnErr result (image.new.items ≡ image.old.items) }
     ensures full { OnErr result (vec_len image.old < len_with end (length form.now.bytes)) }
-    // No memory is taken where the image becomes no longer.
+    // No memory is taken unless the image becomes longer.
     ensures room { len_with end (length form.now.bytes) ≤ vec_len image.old
         → vec_capacity image.new ≡ vec_capacity image.old }
 {

@@ -1,4 +1,4 @@
-//! The cells of an image, one after the other.
+//! The cells of an image, in order.
 
 ghost use Rattle.std.specs.Prelude.{◌≡◌, ◌≤◌, ◌^◌, ◌+◌, [], IfSome, IfNone, is_some, option_copied};
 ghost use Rattle.std.specs.Iterator.{item_count};
@@ -15,15 +15,14 @@ use krb_cells::{CellFormat, CellView, Cells};
 use krb_wire::{KtFormat, split_u32, tail};
 use std::marker::Model;
 
-/// A cell: the bytes of a record, or of a hole, after their length.
+/// A cell: the bytes of a record or of a hole, without the length before them.
 #[derive(Clone, Copy, Debug)]
 pub enum KtCell<'a> {
     Live(&'a [u8]),
     Free(&'a [u8]),
 }
 
-/// The cells from a place on, where it is known what ends them. There a length tells each cell, and
-/// no entry is read again.
+/// An iterator over the cells from a place on, whose end is known. It reads the lengths alone, and no entry again.
 #[derive(Drop)]
 pub struct CellViews<'a> {
     pub(crate) format: KtFormat,
@@ -33,8 +32,8 @@ pub struct CellViews<'a> {
 }
 
 impl<'a> KtCell<'a> {
-    // The cell that a length and the bytes after it are. The end has no cell: here it is as a record, so that no
-    // pass asks for it.
+    // Returns the cell with this length and these bytes. No cell has the length `End`: it is treated as a record here,
+    // so that no pass checks for it.
     #[inline(always)]
     fn of(length: Length, bytes: &'a [u8]) -> KtCell<'a>
         ensures { cell_of result ≡ cell_in length bytes.now }
@@ -45,7 +44,7 @@ impl<'a> KtCell<'a> {
         }
     }
 
-    // Its bytes.
+    // Returns its bytes, without the length.
     #[inline(always)]
     fn bytes(self) -> &'a [u8]
         ensures { result.now ≡ bytes_of (cell_of self.entry) }
@@ -56,7 +55,7 @@ impl<'a> KtCell<'a> {
         }
     }
 
-    /// How wide it is, with its length.
+    /// Returns its width, which includes its length field.
     #[inline(always)]
     pub(crate) fn width(self) -> usize
         ensures { result ≡ 4 + size (cell_of self.entry) }
@@ -64,7 +63,7 @@ impl<'a> KtCell<'a> {
         4 + self.bytes().len()
     }
 
-    /// The bytes of a record.
+    /// Returns the bytes of a record, or `None` for a hole.
     #[inline(always)]
     pub(crate) fn live(self) -> Option<&'a [u8]>
         ensures { option_copied result ≡ live_of (cell_of self.entry) }
@@ -76,7 +75,7 @@ impl<'a> KtCell<'a> {
     }
 }
 
-/// The cell at the front of bytes whose entries were read before: its length alone tells it.
+/// Returns the cell at the front of bytes whose entries were read before, by its length alone.
 #[inline(always)]
 pub fn first_cell(format: KtFormat, bytes: &[u8]) -> Option<KtCell<'_>>
     requires { IsCellOrNothing format bytes.now }
@@ -119,7 +118,7 @@ impl<'a> Iterator for CellViews<'a> {
 }
 
 impl<'a> CellViews<'a> {
-    /// The next cell, for a format that is known where this is inlined.
+    /// Like `next`, for a format that is known where this is inlined.
     #[inline(always)]
     pub(crate) fn next_in(&mut self, format: KtFormat) -> Option<(usize, KtCell<'a>)>
         requires { format ≡ self.old.format }
@@ -143,7 +142,7 @@ pub struct Hole {
     pub size: usize,
 }
 
-/// The first of the cells that is a hole of at least this many bytes.
+/// Returns the first hole of at least `need` bytes, or `None`.
 pub fn first_hole(cells: CellViews<'_>, need: usize) -> Option<Hole>
     ensures first { result ≡ hole_from cells.entry.place need cells.entry.contents.cells }
     ensures small { IfSome result (λ h. h.place + 4 + h.size ≤ 2 ^ 30) }
@@ -159,8 +158,8 @@ pub fn first_hole(cells: CellViews<'_>, need: usize) -> Option<Hole>
     None
 }
 
-/// The place of the first cell that ends behind another place, or else of the end, and whether a record stands at
-/// that other place.
+/// Returns the place of the first cell that ends after `place`, or else of the end; and whether a record starts at
+/// `place`.
 pub fn look_for(cells: Cells<'_, KnownFormat>, place: u32) -> (u32, bool)
     ensures at { IsPlace cells.entry result.0 }
     ensures live { result.1 ≡ is_some (live_bytes cells.entry place) }
@@ -177,8 +176,7 @@ pub fn look_for(cells: Cells<'_, KnownFormat>, place: u32) -> (u32, bool)
     }
 }
 
-/// The format of an image whose entries were read before, as stores know formats: lengths alone tell
-/// its cells.
+/// The format of an image whose entries were read before, for `Cells`: it finds each cell by its length alone.
 #[derive(Clone, Copy)]
 pub struct KnownFormat {
     pub format: KtFormat,

@@ -1,4 +1,4 @@
-//! The entries of a keytab, one after the other.
+//! The entries of a keytab, in order.
 
 ghost use Rattle.std.specs.Prelude.{◌≡◌, ◌∷◌, [], List, MatchOption};
 ghost use Rattle.std.specs.Iterator.{YieldsFirst, item_count};
@@ -10,8 +10,7 @@ use crate::entry::{EntryView, read_entry};
 use krb_wire::KtFormat;
 use std::marker::Model;
 
-/// The entries that are still to come, each with the place of its record, in file order, up to the end
-/// or the fault.
+/// An iterator over the entries, each with the place of its record, in file order, up to the end or the fault.
 #[derive(Drop)]
 pub struct Entries<'a> {
     cells: CellViews<'a>,
@@ -24,7 +23,7 @@ impl<'a> Model for Entries<'a> {
 }
 
 impl<'a> CellViews<'a> {
-    // The next entry of cells of that format, with the place of its record.
+    // Returns the next entry with the place of its record, or `None` after the last.
     #[inline(always)]
     fn next_entry(&mut self, format: KtFormat) -> Option<(u32, EntryView<'a>)>
         requires { format ≡ self.old.format }
@@ -46,7 +45,7 @@ impl<'a> CellViews<'a> {
 }
 
 impl<'a> Entries<'a> {
-    /// Those of cells.
+    /// Returns an iterator over the entries of these cells.
     pub(crate) fn of(cells: CellViews<'a>) -> Entries<'a>
         ensures { result ≡ entries_in cells.entry.format cells.entry.place cells.entry.contents.cells }
     {

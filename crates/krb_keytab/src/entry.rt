@@ -44,42 +44,42 @@ impl<'a> Model for EntryView<'a> {
 }
 
 impl<'a> EntryView<'a> {
-    /// Whose key it is.
+    /// Returns the principal.
     pub fn principal(&self) -> &PrincipalView<'a>
         ensures { result.now ≡ self.now.principal }
     {
         &self.principal
     }
 
-    /// When it was written, in seconds since 1970-01-01T00:00:00Z.
+    /// Returns when it was written, in seconds since 1970-01-01T00:00:00Z.
     pub fn timestamp(&self) -> u32
         ensures { result ≡ self.now.timestamp }
     {
         self.timestamp
     }
 
-    /// The key version: the 32-bit one where there is one that is not 0, and else the 8-bit one.
+    /// Returns the key version: the 32-bit kvno if there is one that is not 0, else the 8-bit one.
     pub fn kvno(&self) -> u32
         ensures { result ≡ self.now.version }
     {
         self.version
     }
 
-    /// The number of the key's enctype.
+    /// Returns the number of the key's enctype.
     pub fn enctype(&self) -> u16
         ensures { result ≡ self.now.enctype }
     {
         self.enctype
     }
 
-    /// The key itself.
+    /// Returns the bytes of the key.
     pub fn key(&self) -> &'a [u8]
         ensures { result.now ≡ self.now.key }
     {
         self.key
     }
 
-    /// Its fields. What was read fits version 2.
+    /// Returns its fields. What was read fits version 2.
     #[inline]
     pub fn fields(&self) -> Fields<'_, PrincipalView<'a>>
         ensures is { result ≡ self.now }
@@ -95,7 +95,7 @@ impl<'a> EntryView<'a> {
     }
 }
 
-// The version, from the 8-bit one and what follows the key.
+// Returns the key version, from the 8-bit kvno and the bytes after the key.
 fn version_of(order: Order, low: u8, tail: &[u8]) -> u32
     ensures { result ≡ version_by low (number_at order w32 tail.now) }
 {
@@ -108,7 +108,7 @@ fn version_of(order: Order, low: u8, tail: &[u8]) -> u32
     version
 }
 
-/// The entry that the bytes begin with.
+/// Returns the entry that the bytes begin with, or `None`.
 #[inline(always)]
 #[tactic(auto, unfolding(crate::specs::Entry::front_at, crate::specs::Entry::entry_at))]
 pub fn entry_from(format: KtFormat, bytes: &[u8]) -> Option<EntryView<'_>>
@@ -130,14 +130,14 @@ pub fn entry_from(format: KtFormat, bytes: &[u8]) -> Option<EntryView<'_>>
     })
 }
 
-/// The entry that a record's bytes spell: its fields up to the key, perhaps a 32-bit version, and then
-/// any bytes.
+/// Returns the entry that a record's bytes spell, or `None`. The bytes are the fields up to the key, an optional 32-bit
+/// kvno, and then anything.
 #[inline(always)]
 #[tactic(auto, using(crate::proofs::EntryLemmas::found_entry, crate::proofs::EntryLemmas::only_entry))]
 pub fn read_entry(format: KtFormat, bytes: &[u8]) -> Option<EntryView<'_>>
-    // What is found is spelled so.
+    // The bytes spell the entry that is returned.
     ensures found { IfSome result (λ v. Spells format v bytes.now) }
-    // What is spelled so is found, and nothing else.
+    // An entry that the bytes spell is returned, and no other.
     ensures only { (e : EntryParts) → Spells format e bytes.now → Gives (λ v. v) result (Some e) }
     ensures exact { Gives (λ v. v) result (entry_at format bytes.now) }
 {

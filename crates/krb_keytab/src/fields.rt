@@ -1,4 +1,4 @@
-//! The fields of an entry, wherever they lie.
+//! The fields of an entry, wherever they are stored.
 
 ghost use Rattle.std.specs.Prelude.{◌<◌, ◌^◌};
 ghost use Rattle.krb_keytab.specs.Form.{IsEntry};
@@ -6,7 +6,7 @@ ghost use Rattle.krb_keytab.specs.Form.{IsEntry};
 use krb_wire::Name;
 use std::marker::Model;
 
-/// The fields of an entry, borrowed from where they lie. Contracts see the entry.
+/// The fields of an entry, borrowed from where they are stored. Contracts see the entry.
 #[derive(Drop)]
 pub struct Fields<'a, N: Name> {
     pub principal: &'a N,
@@ -30,7 +30,7 @@ impl<'a, N: Name> Model for Fields<'a, N> {
     } };
 }
 
-// Numbers of these types are below their types' ends.
+// Each number is in the range of its type.
 fn in_range(name_type: u32, timestamp: u32, kvno: u32, enctype: u16)
     ensures name_type { name_type < 2 ^ 32 }
     ensures timestamp { timestamp < 2 ^ 32 }
@@ -39,7 +39,7 @@ fn in_range(name_type: u32, timestamp: u32, kvno: u32, enctype: u16)
 {}
 
 impl<'a, N: Name> Fields<'a, N> {
-    /// Each number is below its type's end.
+    /// Each number is in the range of its type.
     pub fn numbers_fit(&self)
         ensures { IsEntry self.now }
     {

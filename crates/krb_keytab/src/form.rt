@@ -10,8 +10,7 @@ use crate::fields::Fields;
 use krb_wire::{KtFormat, Name, Pen, PrincipalView, kt_principal_len};
 use std::marker::Model;
 
-/// The written form of an entry, with its length. Contracts see its bytes, and the format that they
-/// are in.
+/// The written form of an entry, with its length. Contracts see its bytes and their format.
 #[derive(Drop)]
 pub struct Form<'a, N: Name> {
     format: KtFormat,
@@ -31,7 +30,7 @@ impl<'a, N: Name> Model for Form<'a, N> {
         × (w.len ≡ length (written_form w.format w.entry)) × (w.len < 2 ^ 34) };
 }
 
-// How many bytes are written for an entry: none where a length or a count does not fit its field.
+// Returns the length of an entry's written form, or `None` if a length or a count does not fit its field.
 fn entry_len<N: Name>(format: KtFormat, entry: &Fields<'_, N>) -> Option<u64>
     ensures fits { is_some result ≡ fits format entry.now }
     ensures len { IfSome result (λ n. n ≡ length (written_form format entry.now)) }
@@ -61,7 +60,7 @@ fn put_entry<N: Name>(format: KtFormat, entry: &Fields<'_, N>, pen: &mut Pen<'_>
 }
 
 impl<'a, N: Name> Form<'a, N> {
-    /// The written form of an entry, where each length and count fits its field.
+    /// Returns the written form of an entry, or `None` if a length or a count does not fit its field.
     pub fn of(format: KtFormat, entry: Fields<'a, N>) -> Option<Form<'a, N>>
         ensures fits { is_some result ≡ fits format entry.entry }
         ensures bytes { IfSome result (λ w. w ≡ record {
@@ -74,14 +73,14 @@ impl<'a, N: Name> Form<'a, N> {
         Some(Form { format, entry, len })
     }
 
-    /// The format that it is written in.
+    /// Returns the format that it is written in.
     pub fn format(&self) -> KtFormat
         ensures { result ≡ self.now.format }
     {
         self.format
     }
 
-    /// How many bytes it has. They begin with an entry, whatever zeros stand after them.
+    /// Returns its length in bytes. They begin with an entry, however many zeros follow them.
     #[tactic(auto, using(crate::proofs::WrittenLemmas::written_is_record))]
     pub fn len(&self) -> usize
         ensures len { result ≡ length self.now.bytes }
@@ -92,7 +91,7 @@ impl<'a, N: Name> Form<'a, N> {
         self.len
     }
 
-    /// Writes it.
+    /// Writes its bytes.
     pub fn put(&self, pen: &mut Pen<'_>)
         requires { HasRoom pen.old self.now.bytes }
         ensures { Puts pen.old pen.new self.now.bytes }
@@ -102,7 +101,7 @@ impl<'a, N: Name> Form<'a, N> {
 }
 
 impl<'a> Form<'a, PrincipalView<'a>> {
-    /// The written form in version 2 of an entry that was read: all of them fit.
+    /// Returns the written form in version 2 of an entry that was read. Each such entry fits.
     pub fn in_version_2(entry: &'a EntryView<'a>) -> Form<'a, PrincipalView<'a>>
         ensures { result ≡ record { format = V2; bytes = written_form V2 entry.now } }
     {

@@ -20,7 +20,7 @@ pub enum Ending {
 }
 
 impl Ending {
-    /// What is wrong there, if something is.
+    /// Returns the kind of the fault, or `None` if there is no fault.
     pub fn kind(self) -> Option<FaultKind>
         ensures { result ≡ ending_kind self }
     {
@@ -31,7 +31,7 @@ impl Ending {
     }
 }
 
-// A fault ends the cells there.
+// Reports a fault that ends the cells.
 fn damaged(kind: FaultKind) -> Result<Length, Ending>
     ensures { result ≡ Err (Ending.Damaged kind) }
 {
@@ -44,7 +44,7 @@ fn is_entry(format: KtFormat, bytes: &[u8]) -> bool
     entry_from(format, bytes).is_some()
 }
 
-// The length of the cell at the front of the bytes, which is read whole, or what ends the cells.
+// Returns the length of the cell at the front of the bytes, or what ends the cells. Reads a record's entry too.
 #[inline(always)]
 #[tactic(auto, unfolding(crate::specs::Cells::next))]
 fn next_length(format: KtFormat, bytes: &[u8]) -> Result<Length, Ending>
@@ -86,7 +86,7 @@ pub struct CellsEnd {
     pub ending: Ending,
 }
 
-// The place after the cell at a place, which is read whole, or what ends the cells there.
+// Returns the place after the cell at `at`, or what ends the cells there. Reads a record's entry too.
 #[inline(always)]
 fn next_place(format: KtFormat, image: &[u8], at: usize) -> Result<usize, Ending>
     requires within { at ≤ length image.now }
@@ -99,8 +99,7 @@ fn next_place(format: KtFormat, image: &[u8], at: usize) -> Result<usize, Ending
     }
 }
 
-// Where the cells end, and how many they are. The format is known where this is inlined, so that the
-// loop does not ask for it.
+// Like `end_of_cells`. The format is known where this is inlined, so that the loop does not check it.
 #[inline(always)]
 fn end_of_cells_in(format: KtFormat, image: &[u8]) -> (CellsEnd, u32)
     requires long { 2 ≤ length image.now }
@@ -119,7 +118,7 @@ fn end_of_cells_in(format: KtFormat, image: &[u8]) -> (CellsEnd, u32)
     }
 }
 
-/// Where the cells end, and how many they are. Each entry is read once.
+/// Returns where the cells end, and how many there are. Reads each entry once.
 pub fn end_of_cells(format: KtFormat, image: &[u8]) -> (CellsEnd, u32)
     requires long { 2 ≤ length image.now }
     requires small { length image.now ≤ 2 ^ 30 }
@@ -132,7 +131,7 @@ pub fn end_of_cells(format: KtFormat, image: &[u8]) -> (CellsEnd, u32)
     }
 }
 
-/// The image, as what it spells.
+/// Returns the image, as the bytes that its contents spell.
 pub fn spelled_of(format: KtFormat, image: &[u8]) -> &[u8]
     requires long { 2 ≤ length image.now }
     requires first { slice_index image.now 0 ≡ 5 }

@@ -32,7 +32,7 @@ use krb_wire::{KtFormat, Name, NoMemory};
 use std::alloc::Allocator;
 use std::marker::Model;
 
-/// A keytab, and beside it a table of its cells and a tree over its holes. Contracts see the keytab.
+/// A keytab with a table of its cells and a tree over its holes. Contracts see the keytab.
 #[derive(Drop)]
 pub struct Indexed<A: Allocator> {
     keytab: Keytab<A>,
@@ -54,8 +54,8 @@ impl<A: Allocator> Model for Indexed<A> {
 }
 
 impl<A: Allocator> Indexed<A> {
-    /// The keytab with a table of its cells. Memory is taken for table and tree, which have room for one more
-    /// cell; without it the keytab is handed back.
+    /// Returns the keytab with its table and its tree, which have room for one more cell. If out of memory, hands the
+    /// keytab back.
     pub fn of(alloc: A, keytab: Keytab<A>) -> Result<Indexed<A>, (NoMemory, Keytab<A>)>
     where
         A: Copy,
@@ -75,7 +75,7 @@ impl<A: Allocator> Indexed<A> {
         })
     }
 
-    /// The keytab, without the table.
+    /// Returns the keytab, without the table and the tree.
     pub fn into_keytab(self) -> Keytab<A>
         ensures { result ≡ self }
     {
@@ -87,14 +87,14 @@ impl<A: Allocator> Indexed<A> {
         keytab
     }
 
-    /// Its version, and of version 1 the order.
+    /// Returns its version, and for version 1 the byte order.
     pub fn format(&self) -> KtFormat
         ensures { result ≡ self.now.state.format }
     {
         self.keytab.format()
     }
 
-    /// The bytes that spell it.
+    /// Returns the bytes that spell it.
     pub fn image(&self) -> &[u8]
         ensures spelled { result.now ≡ image_of self.now.state }
         ensures bytes { AreBytes result.now }
@@ -104,7 +104,7 @@ impl<A: Allocator> Indexed<A> {
         self.keytab.image()
     }
 
-    /// The bytes that spell it, in the memory that they were opened in.
+    /// Returns the bytes that spell it, without copying them.
     pub fn into_image(self) -> Vec<u8, A>
         ensures spelled { result.items ≡ image_of self.state }
         ensures reopens { Reopens self.state result.items }
@@ -113,7 +113,7 @@ impl<A: Allocator> Indexed<A> {
         self.into_keytab().into_image()
     }
 
-    /// The place of the first cell: 2, after the version bytes.
+    /// Returns the place of the first cell: 2, after the version bytes.
     pub fn first(&self) -> u32
         ensures first { result ≡ (store_of self.now.state).first }
         ensures sound { IsSoundStore (store_of self.now.state) }
@@ -121,21 +121,21 @@ impl<A: Allocator> Indexed<A> {
         self.keytab.first()
     }
 
-    /// The place after the last sound cell.
+    /// Returns the place after the last sound cell.
     pub fn end(&self) -> u32
         ensures { result ≡ end_of (store_of self.now.state) }
     {
         self.keytab.end()
     }
 
-    /// What is wrong after the last sound cell, if something is.
+    /// Returns the fault after the last sound cell, or `None` if there is none.
     pub fn fault(&self) -> Option<Fault>
         ensures { result ≡ fault_of (store_of self.now.state) }
     {
         self.keytab.fault()
     }
 
-    // How many cells it has.
+    // Returns the number of cells.
     fn count(&self) -> usize
         ensures count { result ≡ length self.now.state.contents.cells }
         ensures few { result < 2 ^ 30 }
@@ -143,7 +143,7 @@ impl<A: Allocator> Indexed<A> {
         self.keytab.cell_count() as usize
     }
 
-    // What is known of the cell of a number.
+    // Returns the slot of the cell with this number.
     fn slot(&self, number: usize) -> Slot
         requires { number < length self.now.state.contents.cells }
         ensures { result ≡ slot_at self.now.state number }
@@ -151,7 +151,7 @@ impl<A: Allocator> Indexed<A> {
         self.slots[number]
     }
 
-    // The place after this many cells.
+    // Returns the place after this many cells.
     #[tactic(auto, using(crate::proofs::IndexLemmas::slot_place, crate::proofs::IndexLemmas::end_by_table))]
     fn place_of(&self, rank: usize) -> u32
         requires { rank ≤ length self.now.state.contents.cells }
@@ -163,7 +163,7 @@ impl<A: Allocator> Indexed<A> {
         self.end()
     }
 
-    /// Is true of the place of each cell, live or free, and of `end()`.
+    /// True if `place` is the place of a cell, live or free, or `end()`.
     #[tactic(auto, using(crate::proofs::IndexLemmas::is_place_by_rank, crate::proofs::PlaceLemmas::places_len))]
     pub fn is_place(&self, place: u32) -> bool
         ensures { result ≡ is_place (store_of self.now.state) place }
@@ -171,7 +171,7 @@ impl<A: Allocator> Indexed<A> {
         self.place_of(self.rank(place)) == place
     }
 
-    // How many cells stand before a place.
+    // Returns how many cells start before `place`.
     #[tactic(auto, using(crate::proofs::PlaceLemmas::places_rise))]
     fn rank(&self, place: u32) -> usize
         ensures { IsRank (places (slots_from 2 self.now.state.contents.cells)) place result }
@@ -179,7 +179,7 @@ impl<A: Allocator> Indexed<A> {
         rank(&self.slots, place)
     }
 
-    /// The first live cell at or after a place, or what ends the cells. It looks from that place on.
+    /// Returns the first live cell at or after `place`, or what ends the cells. Scans from `place` on.
     pub fn stop_at(&self, place: u32) -> Stop
         requires { IsPlace (store_of self.now.state) place }
         ensures { result ≡ stop_at (store_of self.now.state) place }
@@ -187,7 +187,7 @@ impl<A: Allocator> Indexed<A> {
         self.keytab.stop_at(place)
     }
 
-    // The first hole of at least this many bytes, by its number among the cells, and the looks for it.
+    // Returns the number of the first cell that is a hole of at least `need` bytes, and how many nodes were read.
     fn fit(&self, need: u32) -> (Option<usize>, u32)
         requires { 0 < need }
         ensures fit { IsFit self.now.state need result.0 }
@@ -198,8 +198,8 @@ impl<A: Allocator> Indexed<A> {
         self.tree.first_fit(need)
     }
 
-    /// The place of the first hole of at least this many bytes, and how many nodes of the tree were looked at to
-    /// find it. A need of 0 asks what a need of 1 asks.
+    /// Returns the place of the first hole of at least `need` bytes, and how many nodes of the tree were read to find
+    /// it. A `need` of 0 counts as 1.
     pub fn first_fit(&self, need: u32) -> (Option<u32>, u32)
         ensures first { result.0 ≡ fit_of self.now.state need }
         ensures looks { (height : ℕ) → IsHeightFor (length self.now.state.contents.cells) height
@@ -212,7 +212,7 @@ impl<A: Allocator> Indexed<A> {
         }
     }
 
-    // The number of the live cell at a place, if one stands there.
+    // Returns the number of the live cell at `place`, or `None`.
     fn live(&self, place: u32) -> Option<usize>
         ensures none { IfNone result (live_bytes (store_of self.now.state) place ≡ None) }
         ensures some { IfSome result (λ number. IsLiveNumber self.now.state place number) }
@@ -232,7 +232,7 @@ impl<A: Allocator> Indexed<A> {
         Some(number)
     }
 
-    /// The bytes of the record at a place, after its length: an entry, and what is after it.
+    /// Returns the bytes of the record at `place`, after its length: an entry, and what is after it.
     pub fn bytes_at(&self, place: u32) -> &[u8]
         requires { IsSome (live_bytes (store_of self.now.state) place) }
         ensures bytes { live_bytes (store_of self.now.state) place ≡ Some result.now }
@@ -241,7 +241,7 @@ impl<A: Allocator> Indexed<A> {
         self.keytab.bytes_at(place)
     }
 
-    /// The entry of the record at a place: none exactly where no live cell stands.
+    /// Returns the entry of the record at `place`, or `None` if no live cell starts there.
     pub fn entry_at(&self, place: u32) -> Option<EntryView<'_>>
         ensures none { IfNone result (live_bytes (store_of self.now.state) place ≡ None) }
         ensures found { IfSome result (λ e. IfSome (live_bytes (store_of self.now.state) place)
@@ -252,9 +252,8 @@ impl<A: Allocator> Indexed<A> {
         read_entry(self.format(), self.bytes_at(place))
     }
 
-    /// The entry of that name, version and enctype, with its place: version 0 asks for the highest,
-    /// enctype 0 for any, and the first in file order wins. A damaged keytab refuses. One pass, without
-    /// memory.
+    /// Returns the first entry in file order with this name, kvno and enctype, with its place. Kvno 0 selects the
+    /// highest, enctype 0 any. A damaged keytab refuses. One pass, which takes no memory.
     pub fn find<N: Name>(
         &self,
         name: &N,

@@ -1,4 +1,4 @@
-//! Keytabs, kept as their images.
+//! Keytabs in memory, kept as their images.
 
 mod changes;
 mod rewrite;
@@ -27,9 +27,9 @@ use krb_wire::{KtFormat, Limits, NoMemory, Order};
 use std::alloc::Allocator;
 use std::marker::Model;
 
-/// A keytab: the bytes of its image, where its cells end, and how many they are. Contracts see its state, which
-/// is its format, its limit, and the one list of cells with what ends them that the image spells; and beside it
-/// how many bytes it has room for. A call that takes no memory keeps the room.
+/// A keytab in memory: the bytes of its image, where its cells end, and how many there are. Contracts see its state
+/// (its format, its limit, and the one list of cells that the image spells, with what ends them) and how many bytes
+/// it has room for. A call that takes no memory keeps the room.
 #[derive(Drop)]
 pub struct Keytab<A: Allocator> {
     image: Vec<u8, A>,
@@ -51,7 +51,7 @@ impl<A: Allocator> Model for Keytab<A> {
         × (k.count ≡ length (contents k.format (drop 2 k.image.items)).cells) };
 }
 
-// The bytes between two places.
+// Returns the bytes from `first` up to `end`.
 fn part(image: &[u8], first: usize, end: usize) -> &[u8]
     requires ahead { first ≤ end }
     requires within { end ≤ length image.now }
@@ -61,7 +61,7 @@ fn part(image: &[u8], first: usize, end: usize) -> &[u8]
 }
 
 impl<A: Allocator> Keytab<A> {
-    /// A keytab without entries.
+    /// Returns a keytab without entries.
     pub fn create(alloc: A, format: KtFormat, limits: Limits) -> Result<Keytab<A>, NoMemory>
         ensures { IfOk result (λ k. k.state ≡ empty format limits) }
     {
@@ -77,8 +77,8 @@ impl<A: Allocator> Keytab<A> {
         })
     }
 
-    /// The keytab that an image is; version 1 has that order. A damaged image opens too, with the cells
-    /// before its fault. Each entry is read once, and no memory is taken.
+    /// Opens an image as a keytab. Version 1 has the byte order `v1_order`. A damaged image opens too, with the cells
+    /// before its fault. Reads each entry once, and takes no memory.
     pub fn open(
         image: Vec<u8, A>,
         v1_order: Order,
@@ -103,26 +103,26 @@ impl<A: Allocator> Keytab<A> {
         }
     }
 
-    /// Its version, and of version 1 the order.
+    /// Returns its version, and for version 1 the byte order.
     pub fn format(&self) -> KtFormat
         ensures { result ≡ self.now.state.format }
     {
         self.format
     }
 
-    /// The bytes that spell it.
+    /// Returns the bytes that spell it.
     pub fn image(&self) -> &[u8]
         ensures spelled { result.now ≡ image_of self.now.state }
         ensures bytes { AreBytes result.now }
         ensures sound { IsSound self.now.state.format self.now.state.contents }
-        // It is opened as this keytab again.
+        // They are opened as this keytab again.
         ensures reopens { Reopens self.now.state result.now }
     {
         bytes_fit(&self.image);
         spelled_of(self.format, &self.image)
     }
 
-    /// The bytes that spell it, in the memory that they were opened in.
+    /// Returns the bytes that spell it, without copying them.
     pub fn into_image(self) -> Vec<u8, A>
         ensures spelled { result.items ≡ image_of self.state }
         ensures reopens { Reopens self.state result.items }
@@ -139,7 +139,7 @@ impl<A: Allocator> Keytab<A> {
         image
     }
 
-    // The store that it is.
+    // Returns its cells, as a store.
     #[tactic(auto, using(crate::proofs::Stores::first_is_place))]
     fn store(&self) -> Cells<'_, KnownFormat>
         ensures { result ≡ store_of self.now.state }
@@ -147,7 +147,7 @@ impl<A: Allocator> Keytab<A> {
         self.store_from(2)
     }
 
-    // The cells from a place on: what is asked of them is asked of all.
+    // Returns the cells from `place` on, as a store: there it agrees with that of all cells.
     fn store_from(&self, place: u32) -> Cells<'_, KnownFormat>
         requires { IsPlace (store_of self.now.state) place }
         ensures places { (q : ℕ) → IsPlace result q → IsPlace (store_of self.now.state) q }
@@ -163,7 +163,7 @@ impl<A: Allocator> Keytab<A> {
         Cells::of(front, place as usize, cells, self.end.ending.kind())
     }
 
-    /// The place of the first cell: 2, after the version bytes.
+    /// Returns the place of the first cell: 2, after the version bytes.
     pub fn first(&self) -> u32
         ensures first { result ≡ (store_of self.now.state).first }
         ensures sound { IsSoundStore (store_of self.now.state) }
@@ -171,21 +171,21 @@ impl<A: Allocator> Keytab<A> {
         self.store().first()
     }
 
-    /// The place after the last sound cell.
+    /// Returns the place after the last sound cell.
     pub fn end(&self) -> u32
         ensures { result ≡ end_of (store_of self.now.state) }
     {
         self.store().end()
     }
 
-    /// What is wrong after the last sound cell, if something is.
+    /// Returns the fault after the last sound cell, or `None` if there is none.
     pub fn fault(&self) -> Option<Fault>
         ensures { result ≡ fault_of (store_of self.now.state) }
     {
         self.store().fault()
     }
 
-    /// How many cells it has.
+    /// Returns the number of cells.
     pub fn cell_count(&self) -> u32
         ensures count { result ≡ length self.now.state.contents.cells }
         ensures few { result < 2 ^ 30 }
@@ -193,7 +193,7 @@ impl<A: Allocator> Keytab<A> {
         self.count
     }
 
-    // Its cells, for a format that is known where this is inlined.
+    // Like `cells`, for a format that is known where this is inlined.
     #[inline(always)]
     pub(crate) fn cells_in(&self, format: KtFormat) -> CellViews<'_>
         requires { format ≡ self.now.state.format }
@@ -207,21 +207,21 @@ impl<A: Allocator> Keytab<A> {
         }
     }
 
-    /// Its cells with their places, in file order, up to the end or the fault.
+    /// Returns an iterator over the cells with their places, in file order, up to the end or the fault.
     pub fn cells(&self) -> CellViews<'_>
         ensures { result ≡ cells_of self.now.state }
     {
         self.cells_in(self.format())
     }
 
-    /// Is true of the place of each cell, live or free, and of `end()`. It looks from the front.
+    /// True if `place` is the place of a cell, live or free, or `end()`. Scans from the start.
     pub fn is_place(&self, place: u32) -> bool
         ensures { result ≡ is_place (store_of self.now.state) place }
     {
         self.store().is_place(place)
     }
 
-    /// The first live cell at or after a place, or what ends the cells. It looks from that place on.
+    /// Returns the first live cell at or after `place`, or what ends the cells. Scans from `place` on.
     pub fn stop_at(&self, place: u32) -> Stop
         requires { IsPlace (store_of self.now.state) place }
         ensures { result ≡ stop_at (store_of self.now.state) place }
@@ -229,7 +229,7 @@ impl<A: Allocator> Keytab<A> {
         self.store().stop_at(place)
     }
 
-    /// The bytes of the record at a place, after its length: an entry, and what is after it.
+    /// Returns the bytes of the record at `place`, after its length: an entry, and what is after it.
     #[tactic(auto, using(crate::proofs::Stores::entry_held))]
     pub fn bytes_at(&self, place: u32) -> &[u8]
         requires { IsSome (live_bytes (store_of self.now.state) place) }
@@ -240,7 +240,7 @@ impl<A: Allocator> Keytab<A> {
         self.store().bytes_at(place)
     }
 
-    /// The entries with the places of their records, in file order, up to the end or the fault.
+    /// Returns an iterator over the entries with their records' places, in file order, up to the end or the fault.
     #[tactic(auto, using(crate::proofs::EntryLists::entries_of_cells))]
     pub fn entries(&self) -> Entries<'_>
         ensures { result ≡ placed_entries self.now.state }
@@ -248,8 +248,8 @@ impl<A: Allocator> Keytab<A> {
         Entries::of(self.cells())
     }
 
-    /// The entry of the record at a place: none exactly where no live cell stands. It looks from the
-    /// front; to go through all records, take `stop_at` and `bytes_at`.
+    /// Returns the entry of the record at `place`, or `None` if no live cell starts there. Scans from the start; to
+    /// iterate over all records, use `stop_at` and `bytes_at`.
     pub fn entry_at(&self, place: u32) -> Option<EntryView<'_>>
         ensures none { IfNone result (live_bytes (store_of self.now.state) place ≡ None) }
         ensures found { IfSome result (λ e. IfSome (live_bytes (store_of self.now.state) place)

@@ -1,9 +1,9 @@
-//! The length that stands before each cell.
+//! The length before each cell.
 
 ghost use Rattle.std.specs.Prelude.{◌≡◌, ◌<◌, ◌^◌, ◌-◌};
 ghost use Rattle.krb_keytab.specs.Length.{length_of, field_of, size_of, HasField};
 
-/// What a length says (MIT krb5, "Keytab file format").
+/// What a length field says (MIT krb5, "Keytab file format").
 #[derive(Clone, Copy, Debug, PartialEq, Eq)]
 pub enum Length {
     /// No cell begins here.
@@ -15,8 +15,7 @@ pub enum Length {
 }
 
 impl Length {
-    /// The field of a hole as large as a record, by the record's, and the other way round: its two's
-    /// complement.
+    /// Returns the two's complement: from the field of a record that of a hole as large, and the other way round.
     pub fn negated(field: u32) -> u32
         requires { 0 < field }
         ensures { result ≡ 2 ^ 32 - field }
@@ -24,8 +23,8 @@ impl Length {
         (0x1_0000_0000 - field as u64) as u32
     }
 
-    /// What a field says: 0 is no length, and a number below 2^31 that of a record. Any other is the
-    /// negated length of a hole.
+    /// Decodes a field: 0 is no length, and a number below 2^31 that of a record. Any other is the negated length of a
+    /// hole.
     #[inline(always)]
     pub fn of_field(field: u32) -> Length
         ensures { result ≡ length_of field }
@@ -39,7 +38,7 @@ impl Length {
         Length::Live(field)
     }
 
-    /// The field that says it.
+    /// Encodes it as a field.
     #[inline(always)]
     pub fn field(self) -> u32
         requires { HasField self }
@@ -52,7 +51,7 @@ impl Length {
         }
     }
 
-    /// How many bytes stand after it.
+    /// Returns how many bytes the cell has after it.
     #[inline(always)]
     pub fn size(self) -> u32
         ensures { result ≡ size_of self }

@@ -16,7 +16,7 @@ use has_name::has_name;
 use krb_walk::Code;
 use krb_wire::{KtFormat, Name};
 
-/// What is asked for. Version 0 asks for the highest, enctype 0 for any.
+/// What is looked up. Kvno 0 selects the highest, enctype 0 any.
 #[derive(Drop)]
 pub struct Query<'n, N: Name> {
     pub name: &'n N,
@@ -30,7 +30,7 @@ fn has_enctype(enctype: u16, entry: &EntryView<'_>) -> bool
     enctype == 0 || entry.enctype() == enctype
 }
 
-// Whether an entry of that version is looked for more than the one found so far.
+// True if an entry of this version is selected over the one found so far.
 fn is_better(kvno: u32, best: &Option<(u32, EntryView<'_>)>, version: u32) -> bool
     ensures { (named : Bool) (xs : List PlacedEntry) (x : PlacedEntry) → x.1.version ≡ version
         → answer named best.now ≡ look_up_in kvno xs
@@ -42,7 +42,7 @@ fn is_better(kvno: u32, best: &Option<(u32, EntryView<'_>)>, version: u32) -> bo
     }
 }
 
-// Why nothing was found.
+// Returns why nothing was found.
 fn missing(named: bool) -> Code
     ensures { Err result ≡ answer named None }
 {
@@ -53,7 +53,7 @@ fn missing(named: bool) -> Code
     }
 }
 
-/// What was found so far: whether some entry has the name and the enctype, and which is looked for.
+/// What was found so far: whether some entry has the name and the enctype, and the entry selected.
 #[derive(Drop)]
 pub struct LookUp<'a> {
     pub named: bool,
@@ -61,7 +61,7 @@ pub struct LookUp<'a> {
 }
 
 impl<'a> LookUp<'a> {
-    /// Before any entry.
+    /// Returns the look-up before any entry.
     pub fn new() -> LookUp<'a>
         ensures named { result.named ≡ false }
         ensures best { result.best ≡ None }
@@ -72,8 +72,8 @@ impl<'a> LookUp<'a> {
         }
     }
 
-    // Considers the next entry that has the name. It is not inlined, so that a loop over other names
-    // keeps none of this in registers.
+    // Considers the next entry that has the name. Not inlined, so that a loop over other names keeps none of this in
+    // registers.
     #[inline(never)]
     fn consider_entry(&mut self, kvno: u32, enctype: u16, place: u32, entry: EntryView<'a>)
         ensures { (name : Parts) (xs : List PlacedEntry)
@@ -91,7 +91,7 @@ impl<'a> LookUp<'a> {
         }
     }
 
-    /// Considers the next record, whose entry is read where it has the name.
+    /// Considers the next record. Reads its entry only if it has the name.
     #[inline(always)]
     pub fn consider<N: Name>(
         &mut self,
@@ -115,7 +115,7 @@ impl<'a> LookUp<'a> {
         }
     }
 
-    /// What a look-up answers, once all entries were considered.
+    /// Returns the result of the look-up, once all entries were considered.
     pub fn answer(self) -> Result<(u32, EntryView<'a>), Code>
         ensures { result ≡ answer self.entry.named self.entry.best }
     {

@@ -1,4 +1,4 @@
-//! Entries with memory of their own.
+//! Entries that own their memory.
 
 ghost use Rattle.std.specs.Prelude.{◌≡◌, IfOk};
 
@@ -8,8 +8,7 @@ use krb_wire::{NoMemory, Principal, copy_name};
 use std::alloc::Allocator;
 use std::marker::Model;
 
-/// An entry with memory of its own (MIT krb5, "Keytab file format"). Contracts see the entry, and not
-/// where it lies.
+/// An entry that owns its memory (MIT krb5, "Keytab file format"). Contracts see the entry, not where it is stored.
 #[derive(Drop)]
 pub struct NewEntry<A: Allocator> {
     pub principal: Principal<A>,
@@ -37,7 +36,7 @@ impl<A: Allocator> Model for NewEntry<A> {
 }
 
 impl<A: Allocator> NewEntry<A> {
-    /// Its fields.
+    /// Returns its fields.
     pub fn fields(&self) -> Fields<'_, Principal<A>>
         ensures { result ≡ self.now }
     {
@@ -52,7 +51,7 @@ impl<A: Allocator> NewEntry<A> {
 }
 
 impl<'a> EntryView<'a> {
-    /// The same entry with memory of its own.
+    /// Returns a copy that owns its memory.
     pub fn copy<A: Allocator + Copy>(&self, alloc: A) -> Result<NewEntry<A>, NoMemory>
         ensures { IfOk result (λ e. e ≡ self.now) }
     {

@@ -1,4 +1,4 @@
-//! Which images are keytabs.
+//! Which images open as keytabs.
 
 ghost use Rattle.std.specs.Prelude.{◌≡◌, ◌≤◌, length, drop, IfOk, IfErr, Ok, Err};
 ghost use Rattle.krb_keytab.specs.Cells.{contents, image as image_of};
@@ -12,7 +12,7 @@ use std::alloc::Allocator;
 use std::fmt;
 use thiserror::Error;
 
-/// Why an image is no keytab.
+/// Why an image is not a keytab.
 #[derive(Clone, Copy, Debug, PartialEq, Eq, Error)]
 pub enum KtOpenFault {
     /// It has fewer than two bytes.
@@ -24,7 +24,7 @@ pub enum KtOpenFault {
 }
 
 impl KtOpenFault {
-    /// Its number, as messages have it.
+    /// Returns its number, as printed in messages.
     pub fn number(self) -> u32
         ensures { result ≡ open_fault_number self }
     {
@@ -35,7 +35,7 @@ impl KtOpenFault {
         }
     }
 
-    /// What it is, in words.
+    /// Returns what it is, in words.
     pub fn phrase(self) -> &'static str
         ensures { result.now ≡ open_fault_phrase self }
     {
@@ -57,7 +57,7 @@ impl fmt::Display for KtOpenFault {
     }
 }
 
-/// An image that is no keytab, handed back as it was.
+/// An image that is not a keytab, handed back unchanged.
 #[derive(Drop)]
 pub struct KtOpenRefused<A: Allocator> {
     pub why: KtOpenFault,
@@ -74,7 +74,7 @@ impl<A: Allocator> fmt::Display for KtOpenRefused<A> {
     }
 }
 
-/// The image is dropped.
+/// Drops the image.
 impl<A: Allocator> From<KtOpenRefused<A>> for KtOpenFault {
     ghost from_gives = { λ refused why. why ≡ refused.why };
 
@@ -92,7 +92,7 @@ pub struct Head {
     pub count: u32,
 }
 
-/// Reads an image. Each entry is read once; there are only bytes here, and nothing to take memory from.
+/// Returns what is known of an image, or why it is not a keytab. Reads each entry once, and takes no memory.
 pub fn read_head(v1_order: Order, limit: u32, image: &[u8]) -> Result<Head, KtOpenFault>
     requires { limit ≤ 1073741824 }
     ensures ok { IfOk result (λ h. open_result v1_order limit image.now ≡ Ok (record {
@@ -126,7 +126,7 @@ pub fn read_head(v1_order: Order, limit: u32, image: &[u8]) -> Result<Head, KtOp
     })
 }
 
-/// The format that the two first bytes tell, where version 1 has that order.
+/// Returns the format by the first two bytes, or `None` if they are not of a keytab. Version 1 has that byte order.
 pub fn format_in(v1_order: Order, image: &[u8]) -> Option<KtFormat>
     requires { 2 ≤ length image.now }
     ensures { result ≡ format_of v1_order image.now }

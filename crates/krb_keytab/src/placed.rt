@@ -1,4 +1,4 @@
-//! A keytab as a store that is walked while it is changed.
+//! A keytab as a store that is walked while it changes.
 
 use crate::keytab::Keytab;
 use crate::new_entry::NewEntry;

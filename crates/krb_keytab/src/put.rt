@@ -1,4 +1,4 @@
-//! Cells, written over an image in place.
+//! Writing cells over an image in place.
 
 ghost use Rattle.std.specs.Prelude.{◌≡◌, ◌≤◌, ◌<◌, ◌^◌, ◌+◌, length, replicate};
 ghost use Rattle.std.specs.List.{splice};
@@ -12,12 +12,12 @@ use crate::form::Form;
 use crate::length::Length;
 use krb_wire::{KtFormat, Name, Pen};
 
-/// What a slice of bytes holds is below 256.
+/// Each number of a slice of bytes is below 256.
 pub fn bytes_fit(bytes: &[u8])
     ensures { AreBytes bytes.now }
 {}
 
-/// Makes the bytes at a place a hole of this many zeros.
+/// Overwrites the bytes at `at` with a hole of `size` zeros.
 pub fn put_hole(format: KtFormat, image: &mut [u8], at: usize, size: usize)
     requires room { at + 4 + size ≤ length image.old }
     requires some { 0 < size }
@@ -30,7 +30,7 @@ pub fn put_hole(format: KtFormat, image: &mut [u8], at: usize, size: usize)
     pen.put_zeros(size);
 }
 
-/// Writes a record that is a written form, and no more.
+/// Writes a record that holds a written form, and no more.
 pub fn put_form<N: Name>(form: &Form<'_, N>, pen: &mut Pen<'_>)
     requires room { HasRoom pen.old (cell (order_of form.now.format) (Live form.now.bytes)) }
     requires small { length form.now.bytes < 2 ^ 31 }
@@ -41,7 +41,7 @@ pub fn put_form<N: Name>(form: &Form<'_, N>, pen: &mut Pen<'_>)
     form.put(pen);
 }
 
-/// Makes the bytes at a place a record of this many bytes: a written form, and zeros after it.
+/// Overwrites the bytes at `at` with a record of `size` bytes: a written form, and zeros after it.
 pub fn put_record<N: Name>(image: &mut [u8], at: usize, size: usize, form: &Form<'_, N>)
     requires room { at + 4 + size ≤ length image.old }
     requires fits { length form.now.bytes ≤ size }

@@ -1,4 +1,4 @@
-//! One cell of an image, replaced by another of its size.
+//! Replacing one cell of an image by another of its size.
 
 ghost use Rattle.std.specs.Prelude.{◌≡◌, length, drop, IfSome, IsSome, Some};
 ghost use Rattle.krb_keytab.specs.Cells.{contents};
@@ -14,7 +14,7 @@ use crate::image::CellsEnd;
 use crate::put::{bytes_fit, put_hole, put_record};
 use krb_wire::{KtFormat, Name};
 
-/// Makes the live cell of this many bytes at a place a hole of zeros.
+/// Turns the live cell at `place`, of `size` bytes, into a hole of zeros.
 pub fn free_cell(format: KtFormat, image: &mut [u8], end: CellsEnd, place: usize, size: usize)
     requires known { AreKnown format image.old 2 end }
     requires live { IsSome (live_bytes (store_of_image format image.old) place) }
@@ -31,7 +31,7 @@ pub fn free_cell(format: KtFormat, image: &mut [u8], end: CellsEnd, place: usize
     put_hole(format, image, place, size);
 }
 
-/// Makes the first hole that is large enough a record of its size.
+/// Turns the first hole that is large enough into a record of its size.
 pub fn fill_hole<N: Name>(image: &mut [u8], end: CellsEnd, hole: Hole, form: &Form<'_, N>)
     requires known { AreKnown form.now.format image.old 2 end }
     requires hole { hole_from 2 (length form.now.bytes)

@@ -9,14 +9,14 @@ use Rattle.std.proofs.lemmas.Bool.Decides.{leb_tells}
 use Rattle.krb_ktutil.specs.InputLines.{InputParts, lines_of, last_line, HasNone, HasLines, IsFirst, Grows, ReadsLine, TakesLine, EndsInNewline}
 use Rattle.krb_ktutil.proofs.NewlineLemmas.{first-within, lines-first, lines-last, drop_parts}
 
--- what is to come from a place on is the same after a read
+-- the bytes to come from a place on are the same after a read
 pub to_come : (old new xs ys : List ℕ) (next : ℕ) → next ≤ length old → Grows old new (Some xs) (Some ys) → drop next old ++ xs ≡ drop next new ++ ys
 to_come old new xs ys next le grows =
     ap (λ (bs : List ℕ). drop next old ++ bs) grows.consumes
     ∙ sym (append_assoc (drop next old) grows.given ys)
     ∙ ap (λ (bs : List ℕ). bs ++ ys) (sym (drop-append-le next old grows.given le) ∙ ap (drop next) (sym grows.read))
 
--- the bytes from a place on, where the first newline stands at another
+-- the bytes from a place on, whose first newline is at another
 first_parts : (xs : List ℕ) (a b : ℕ) → IsFirst xs a b → drop a xs ≡ slice_range xs a b ++ 10 ∷ drop (b + 1) xs
 first_parts xs a b first = drop_parts xs a b first.ahead ∙ ap (λ (ys : List ℕ). slice_range xs a b ++ ys) first.rest
 
@@ -31,7 +31,7 @@ line-first old new next end (Some xs) (Some ys) lines le first grows h =
     ∙ lines-first (slice_range new next end) (drop (end + 1) new ++ ys) first.before
     ∙ ap (λ (others : List (List ℕ)). slice_range new next end ∷ others) h
 
--- what is left at the end of the input is one line, if it is anything
+-- what is left at the end of the input is one line, if it is not empty
 line-last : (old new : List ℕ) (next : ℕ) (left left' : Option (List ℕ)) → next ≤ length old → HasNone (drop next new) → IsAtEnd left' → Grows old new left left'
     → IfSome left (λ bytes. lines_of (drop next old ++ bytes) ≡ last_line (drop next new))
 line-last old new next None left' le none end grows = tt
@@ -54,7 +54,7 @@ take_more xs ys b n is =
     let len : n ≡ length (xs ++ b ∷ []) = omega (arith, is, length-append xs (b ∷ [])) in
     ap (take n) (sym (append_assoc xs (b ∷ []) ys)) ∙ ap (λ (m : ℕ). take m ((xs ++ b ∷ []) ++ ys)) len ∙ take-append_seam (xs ++ b ∷ []) ys
 
--- all up to a newline
+-- the bytes up to the first newline from a place on
 up_to_newline : (xs : List ℕ) (a end : ℕ) → IsFirst xs a end → take (end + 1) xs ≡ take a xs ++ (slice_range xs a end ++ 10 ∷ [])
 up_to_newline xs a end first =
     let ahead = first.ahead in
@@ -66,7 +66,7 @@ up_to_newline xs a end first =
     ∙ ap (λ (bs : List ℕ). take a xs ++ take (end + 1 - a) bs) (first_parts xs a end first)
     ∙ ap (λ (bs : List ℕ). take a xs ++ bs) (take_more (slice_range xs a end) (drop (end + 1) xs) 10 (end + 1 - a) (omega (arith, ahead, len)))
 
--- the line ended there
+-- the line that was read ended at the newline
 pub EndsInNewline-first : (old new : InputParts) (left left' : Option (List ℕ)) (end : ℕ) → old.next ≤ length old.read → IsFirst new.read old.next end → Grows old.read new.read left left'
     → new.line ≡ slice_range new.read old.next end → new.next ≡ end + 1 → end < 16777216 → EndsInNewline old new
 EndsInNewline-first old new left left' end le is grows line next most =
@@ -81,12 +81,12 @@ EndsInNewline-first old new left left' end le is grows line next most =
 to_end : (xs : List ℕ) (a : ℕ) → slice_range xs a (length xs) ≡ drop a xs
 to_end xs a = take_all (length xs - a) (drop a xs) (omega (arith, length-drop a xs))
 
--- a line that has a byte
+-- a last line that has a byte
 last_is : (line : List ℕ) → 0 < length line → last_line line ≡ line ∷ []
 last_is [] h = absurd (omega (arith, h))
 last_is (b ∷ bs) h = refl
 
--- nothing is to come at the end
+-- no line is to come at the end
 no_more : (read ys : List ℕ) (next : ℕ) (lines : List (List ℕ)) → ys ≡ [] → next ≡ length read → lines_of (drop next read ++ ys) ≡ lines → lines ≡ []
 no_more read ys next lines end is h =
     let none : drop next read ≡ [] = drop_all next read (omega (arith, is)) in

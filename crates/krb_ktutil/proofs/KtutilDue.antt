@@ -1,4 +1,4 @@
--- What a line of ktutil comes to that was handled by its plan.
+-- What a line of ktutil that was run by its plan comes to.
 use Rattle.std.proofs.Common.{◌≡◌, ◌≢◌, ◌⊎◌, inl, inr, ◌∙◌, ℕ, ◌≤◌, Bool, true, false, List, [], ◌∷◌, ◌++◌, Option, Some, None, is_some, length, refl, sym, ap, subst, cond, arith}
 use Rattle.std.specs.Prelude.{Result, Ok, Err}
 use Rattle.std.proofs.lemmas.Bool.{true≢false}
@@ -28,13 +28,13 @@ use Rattle.krb_ktutil.specs.KtutilHonest.{ShowsDue, FailsBy, FailsCall, HandlesH
 
 -- ---- plans of lines
 
--- a line that is not done leaves the entries; one that is out of memory tells so, leaves the state and prints nothing
+-- a line that is not done leaves the entries; one that is out of memory reports that, and changes and prints nothing
 pub record IsCareful (s : KtutilState) (due : Outcome) : Type 0 where
   pub entries : due.ending ≢ end.Done → due.state.entries ≡ s.entries
   pub told : TellsMemory due.ending
   pub memory : due.ending ≡ end.NoMemory → (due.state ≡ s) × (due.text ≡ [])
 
--- so is each outcome that a plan comes to without a save
+-- each outcome that a plan comes to without a save is careful
 abbrev Careful : KtutilState → LineEffect → Type 0
 Careful s (ComesTo takes due) = IsCareful s due
 Careful s (Saves name bytes) = Unit {0}
@@ -108,17 +108,17 @@ module _ (s : KtutilState) where
   by-careful (Loads name then_) (Err load.Failed ∷ answers) careful = kept-careful (end.Load load.Failed) tt
   by-careful (Loads name then_) (Err load.NoMemory ∷ answers) careful = kept-careful end.NoMemory tt
 
--- where no key is awaited a line is a command
+-- if no key is awaited, a line is a command
 pub plan_of-none : (s : KtutilState) (now : ℕ) (line : List ℕ) (awaited : Option Awaited) → is_some awaited ≡ false → plan_by s now line awaited ≡ command_plan s (command_of line (length s.entries))
 plan_of-none s now line None is = refl
 plan_of-none s now line (Some x) is = absurd (true≢false is)
 
--- files stay honest, and the count of failures falls nowhere
+-- honest files stay honest, and the count of failures never falls
 abbrev pub Lasts : {F : Type 0} → Ghosts F → F → F → Type 0
 Lasts trait files files' = (trait.is_honest files → trait.is_honest files') × (trait.failure_count files ≤ trait.failure_count files')
 
 module _ {F : Type 0} (trait : Ghosts F) (old new : KtutilState) (out out' : List ℕ) (ending : LineEnd) where
-  -- an outcome that is so was shown
+  -- a careful outcome was shown
   abbrev ShowsCareful : Type 0
   ShowsCareful = (due : Outcome) × IsCareful old due × Shows new out out' ending due
 
@@ -173,7 +173,7 @@ module _ {F : Type 0} (trait : Ghosts F) {old new : KtutilState} {out out' : Lis
         | inr spent ↦ subst (Careful old) (sym spent.1) (kept-careful old end.NoMemory tt)
       ]) handles.settles
 
-  -- what it tells of memory
+  -- if memory runs out, the line ends with `NoMemory`, and state and output are unchanged
   pub handles_memory : (now : ℕ) (line : List ℕ) {files files' : F} → Handles trait (plan_of old now line) files files' old new out out' ending → TellsMemory ending × (ending ≡ end.NoMemory → RunsOut old new out out' ending)
   handles_memory now line handles =
       let shown = handles-careful now line handles in
@@ -194,7 +194,7 @@ module _ {F : Type 0} (trait : Ghosts F) {old new : KtutilState} {out out' : Lis
       let le'' = third.count in
       (λ h. third.honest (second.0 (first.honest h)), omega (arith, le, le', le''))
 
-  -- what is left keeps what a line came to
+  -- the release of a file keeps what a line came to
   comes-left : (effect : LineEffect) (files done files' : F) → trait.failure_count done ≤ trait.failure_count files' → SameFiles (trait.file done) (trait.file files')
       → ShowsDue trait effect files done old new out out' ending ⊎ FailsCall trait files done old new out out' ending → ShowsDue trait effect files files' old new out out' ending ⊎ FailsCall trait files files' old new out out' ending
   comes-left effect files done files' le same (inl due) = inl (record { shows = due.shows; files_are = same-trans (line_files (trait.file files) effect) (trait.file done) (trait.file files') due.files_are same })
@@ -208,7 +208,7 @@ module _ {F : Type 0} (trait : Ghosts F) {old new : KtutilState} {out out' : Lis
     same_files = same-trans (trait.file files) (trait.file done) (trait.file files') fails.same_files same;
   })
 
-  -- over honest files
+  -- over honest files it does what is due, or a call failed, or memory ran out
   pub handles_honestly : {plan : LinePlan} {files files' : F} → Handles trait plan files files' old new out out' ending → trait.is_honest files → HandlesHonestly trait plan files files' old new out out' ending
   handles_honestly {plan = plan} {files = files} {files' = files'} handles h =
       let between = handles.between in
@@ -233,7 +233,7 @@ module _ {F : Type 0} (trait : Ghosts F) {old new : KtutilState} {out out' : Lis
         ]);
       }
 
-  -- what it spares
+  -- a line that is not done leaves the entries unchanged, and honest files too
   pub handles_spares : (now : ℕ) (line : List ℕ) {files files' : F} → Handles trait (plan_of old now line) files files' old new out out' ending → Spares trait files files' old new ending
   handles_spares now line {files = files} {files' = files'} handles =
       let shown = handles-careful now line handles in

@@ -1,4 +1,4 @@
--- How a line was handled by its plan, put together from its steps.
+-- A line was run by its plan, from its steps.
 use Rattle.std.proofs.Common.{◌≡◌, inl, inr, ℕ, List, [], ◌∷◌, ◌++◌, refl, sym, ap, subst, ◌∙◌}
 use Rattle.std.specs.Prelude.{Result, Ok, Err, IsOk}
 use Rattle.std.proofs.lemmas.Bool.{false≢true}
@@ -20,16 +20,16 @@ use Rattle.krb_ktutil.specs.KtutilCommand.{Awaited, AwaitKey, ReadFile, after}
 use Rattle.krb_ktutil.specs.KtutilPlan.{KtutilState, Outcome, LineEffect, ComesTo, Saves, LinePlan, command_plan, kept, line_faults, save_end, saved_as, stays, with_added, with_entries, writing_plan, written_to}
 use Rattle.krb_ktutil.specs.KtutilFiles.{Shows, EndsAt, Finishes, Settles, GoesOn, Handles}
 
--- there was no memory for an entry that would have awaited its key
+-- memory ran out for an entry that would have awaited its key
 pub finishes_spent : (s : KtutilState) (given : Result Awaited LineFault) → IsOk given → Finishes (command_plan s (after (λ awaited. Ok (AwaitKey awaited)) given)) s s end.NoMemory
 finishes_spent s (Ok awaited) is = inr (refl, record { state_is = refl; same = refl; ending_is = refl })
 finishes_spent s (Err fault) is = absurd (false≢true is)
 
--- nothing was printed behind a text
+-- nothing was printed, after any text
 shows_quiet : {new : KtutilState} {ending : LineEnd} {due : Outcome} → Shows new [] [] ending due → (out : List ℕ) → Shows new out out ending due
 shows_quiet shows out = record { state_is = shows.state_is; appended = sym (append-nil out) ∙ ap (λ (text : List ℕ). out ++ text) shows.appended; ending_is = shows.ending_is }
 
--- what a load answers ends a line, or decides how it ends
+-- the effect of a plan with one load is that of its result
 by-loads : (s : KtutilState) (name : List ℕ) (then_ : Answer → LineEffect) → then_ (Err load.Failed) ≡ stays s (end.Load load.Failed) → then_ (Err load.NoMemory) ≡ stays s end.NoMemory
     → (answer : Answer) → by (line_faults s) (Loads name (λ a. Ends (then_ a))) (answer ∷ []) ≡ then_ answer
 by-loads s name then_ failed spent (Ok bytes) = refl
@@ -39,7 +39,7 @@ by-loads s name then_ failed spent (Err load.Failed) = sym failed
 by-loads s name then_ failed spent (Err load.NoMemory) = sym spent
 
 module _ {F : Type 0} (trait : Ghosts F) where
-  -- a plan without files
+  -- a plan that calls no file
   pub handles_end : (plan : LinePlan) (files : F) (old new : KtutilState) (out out' : List ℕ) (ending : LineEnd) → EndsAt plan old new out out' ending → Handles trait plan files files old new out out' ending
   handles_end (Ends (ComesTo takes due)) files old new out out' ending (inl shows) = record { answers = []; between = files; loads = (refl, refl); effect = ComesTo takes due; made = inl refl; done = files; settles = (refl, shows); leaves = refl }
   handles_end (Ends (ComesTo takes due)) files old new out out' ending (inr out_of) =
@@ -49,7 +49,7 @@ module _ {F : Type 0} (trait : Ghosts F) where
   handles_end (Holds held name plan) files old new out out' ending e = absurd e
   handles_end (Loads name then_) files old new out out' ending e = absurd e
 
-  -- a line that ends so, and leaves the state
+  -- a line that ends so and leaves the state
   pub handles_stays : {s : KtutilState} {ending : LineEnd} {files : F} {out : List ℕ} → Handles trait (Ends (stays s ending)) files files s s out out ending
   handles_stays {s = s} {ending = ending} {files = files} {out = out} =
       let shows : Shows s out out ending (kept s ending) = record { state_is = refl; appended = sym (append-nil out); ending_is = refl } in
@@ -72,7 +72,7 @@ module _ {F : Type 0} (trait : Ghosts F) where
     leaves = handles.leaves;
   }
 
-  -- a load, and what was done by its answer
+  -- a load, and what was done by its result
   handles_loaded : (s new : KtutilState) (name : List ℕ) (then_ : Answer → LineEffect) → then_ (Err load.Failed) ≡ stays s (end.Load load.Failed) → then_ (Err load.NoMemory) ≡ stays s end.NoMemory
       → (answer : Answer) (files between files' : F) (ending : LineEnd) → LoadsFile trait files name answer between → GoesOn trait s new ending (then_ answer) between files'
       → Handles trait (Loads name (λ a. Ends (then_ a))) files files' s new [] [] ending
@@ -95,7 +95,7 @@ module _ {F : Type 0} (trait : Ghosts F) where
       handles_loaded s new name (λ answer. with_entries s (keytab_of s.order answer)) refl refl gives.answer files between between ending gives.loads
       (goes_finished (with_entries s (keytab_of s.order gives.answer)) between s new ending (subst (λ (r : Result KeytabState NoKeytab). Finishes (Ends (with_entries s r)) s new ending) (sym is) finishes))
 
-  -- the same of a file that was held, and was left then
+  -- the same for a file that was held, and then released
   pub handles_held : {s : KtutilState} {name : List ℕ} {then_ : Answer → LinePlan} {ending : LineEnd} (files held done files' : F) → TurnsHold trait true files held → Handles trait (Loads name then_) held done s s [] [] ending → TurnsHold trait false done files'
       → Handles trait (Holds true name (Loads name then_)) files files' s s [] [] ending
   handles_held {s = s} {ending = ending} files held done files' holds handles leaves = record {
@@ -120,7 +120,7 @@ module _ {F : Type 0} (trait : Ghosts F) where
         | inr none ↦ elim (subst Goes none goes) [ inl settles ↦ inr settles | inr settles ↦ inr settles ]
       ])
 
-  -- entries were added to a keytab, and it was saved, or not
+  -- entries were added to a keytab, and it was saved, or the save failed
   pub goes_saved : (s : KtutilState) (entries : List EntryParts) → s.entries ≡ entries → (name : List ℕ) (k k' : KeytabState) (files files' : F) (answer : Result (Unit {0}) SaveFault) (ending : LineEnd)
       → with_added entries (Ok k) ≡ Ok k' → SavesFile trait files name (image_of k') answer files' → ending ≡ save_end answer → GoesOn trait s s ending (written_to s name (Ok k)) files files'
   goes_saved s entries same name k k' files files' answer ending added saves ends =

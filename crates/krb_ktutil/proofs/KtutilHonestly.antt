@@ -1,4 +1,4 @@
--- What the lines of ktutil come to over honest files.
+-- The lines of ktutil leave what is due over honest files.
 use Rattle.std.proofs.Common.{◌≡◌, inl, inr, ℕ, ◌+◌, ◌≤◌, Bool, true, false, List, [], ◌∷◌, ◌++◌, length, refl, sym, ap, subst, ◌∙◌, append_assoc, append-nil, arith}
 use Rattle.std.specs.Prelude.{IsTrue, IsFalse, max, if◌then◌else◌, Option, None, Some, IfSome, Err}
 use Rattle.std.specs.Io.KnownBytes.{Appends}
@@ -24,11 +24,11 @@ use Rattle.krb_driver.specs.Runs.{Run, SaysEnd, EndsRun, ends_by}
 use Rattle.krb_driver.specs.Troubles.{Ending, ending_status, input_trouble, trouble_status}
 use Rattle.krb_driver.proofs.Shown.{SaysEnd-nothing}
 
--- what a line comes to, by its parts
+-- the outcome of a line, by its parts
 outcome_is : (due : Outcome) (state : KtutilState) (text : List ℕ) (ending : LineEnd) → state ≡ due.state → text ≡ due.text → ending ≡ due.ending → due ≡ record { state = state; text = text; ending = ending }
 outcome_is due state text ending state_is text_is ending_is = rw (state_is, text_is, ending_is) refl
 
--- lines leave honest files honest, and let the count of failures fall nowhere
+-- lines leave honest files honest, and never lower the count of failures
 talk_lasts : {F : Type 0} (trait : Ghosts F) (now number : ℕ) (lines : List (List ℕ)) (old new : Talk F) → TalksOver trait now number lines old new → Lasts trait old.files new.files
 talk_lasts {F = F} trait now number [] old new talked = subst (λ (t : Talk F). Lasts trait old.files t.files) (sym talked) (λ h. h, omega arith)
 talk_lasts trait now number (line ∷ lines) old new talked =
@@ -39,7 +39,7 @@ talk_lasts trait now number (line ∷ lines) old new talked =
     (λ h. others.0 (first.0 h), omega (arith, le, le'))
 
 module _ {F : Type 0} (trait : Ghosts F) (now : ℕ) (final : Run) where
-  -- what is due of a line that comes to that, and of those after it, if it goes on
+  -- what is due after a line with that outcome, and after those that follow, if it goes on
   abbrev NextDue : ℕ → List ℕ → List (List ℕ) → Bool → Outcome → FileMap → TalkDue
   NextDue number line more goes due files =
       if goes then due_after (named_in line) (Some number) (line_run number due.ending due.text) (talk_due final now (number + 1) more due.state files)
@@ -58,7 +58,7 @@ module _ {F : Type 0} (trait : Ghosts F) (now : ℕ) (final : Run) where
   worst_after : (a b run due status new : ℕ) → new ≡ max b due → b ≡ max a status → status ≡ run → new ≡ max a (max run due)
   worst_after a b run due status new new_is b_is is = omega (arith, new_is, b_is, is)
 
-  -- a line was handled, and what is due of those after it was left
+  -- a line was run, and what is due after the following lines was left
   leaves_after : (file : List ℕ) (which : Option ℕ) (run : Run) (status : ℕ) (old mid new : Talk F) (due : TalkDue) → EndsRun file which run old.out mid.out old.err mid.err status → IsFalse mid.out.failed → mid.status ≡ max old.status status
       → trait.failure_count old.files ≤ trait.failure_count mid.files → trait.failure_count mid.files ≤ trait.failure_count new.files
       → LeavesDueUnlessFailed trait due mid new → LeavesDueUnlessFailed trait (due_after file which run due) old new
@@ -73,7 +73,7 @@ module _ {F : Type 0} (trait : Ghosts F) (now : ℕ) (final : Run) where
         status = worst_after old.status mid.status (ending_status run.ending) due.status status new.status leaves.status worst (ends.told.status_is ∙ ap ending_status done.1);
       }))
 
-  -- a line was handled and goes on
+  -- a line was run and goes on
   line_honestly : (number : ℕ) (line : List ℕ) (more : List (List ℕ)) (old mid new : Talk F) (continues : Continues trait now number line old mid)
       → HandlesHonestly trait (plan_of old.state now line) old.files mid.files old.state mid.state [] continues.handles.text continues.ending
       → trait.failure_count old.files ≤ trait.failure_count mid.files → trait.failure_count mid.files ≤ trait.failure_count new.files
@@ -94,7 +94,7 @@ module _ {F : Type 0} (trait : Ghosts F) (now : ℕ) (final : Run) where
         ]
       ]
 
-  -- lines were handled, and what is due of those after them was left
+  -- lines were run, and what is due after the following lines was left
   talk_honestly : (lines : List (List ℕ)) (number : ℕ) (more : List (List ℕ)) (old last new : Talk F) → TalksOver trait now number lines old last → trait.is_honest old.files
       → trait.failure_count last.files ≤ trait.failure_count new.files
       → ((next : ℕ) → next ≡ number + length lines → LeavesDueUnlessFailed trait (talk_due final now next more last.state (trait.file last.files)) last new)
@@ -109,7 +109,7 @@ module _ {F : Type 0} (trait : Ghosts F) (now : ℕ) (final : Run) where
       line_honestly number line (lines ++ more) old mid new talked.1 honestly first (omega (arith, others, le))
       (talk_honestly lines (number + 1) more mid last new talked.2 honestly.honest le (λ next is. rest next (omega (arith, is))))
 
-  -- a line was the last: it left what was due of it, or the output failed
+  -- a line was the last: it left what was due, or the output failed
   close_by : (file : List ℕ) (which : Option ℕ) (run : Run) (status : ℕ) (last end : Talk F) → EndsRun file which run last.out end.out last.err end.err status → end.status ≡ max last.status status
       → (failed : Bool) → failed ≡ end.out.failed → LeavesDueUnlessFailed trait (last_due file which run (trait.file end.files)) last end
   close_by file which run status last end ends worst true is = inr (inl (sym is))
@@ -134,7 +134,7 @@ module _ {F : Type 0} (trait : Ghosts F) (now : ℕ) (final : Run) where
         | inr failed ↦ inr (inl failed)
       ]
 
--- a line was the last since memory ran out: what was due of those before it was left, and that is said
+-- a line was the last because memory ran out: what was due after those before it was left, and that was reported
 spent_by : {F : Type 0} (trait : Ghosts F) (file : List ℕ) (which : Option ℕ) (run : Run) (status : ℕ) (last end : Talk F) → EndsRun file which run last.out end.out last.err end.err status → end.status ≡ max last.status status → run.out ≡ [] → run.ending ≡ Err NoMemory
     → SameFiles (trait.file last.files) (trait.file end.files) → (failed : Bool) → failed ≡ end.out.failed → LeavesDueUnlessFailed trait (last_due [] None (ends_by NoMemory) (trait.file last.files)) last end
 spent_by trait file which run status last end ends worst none memory same true is = inr (inl (sym is))
@@ -149,7 +149,7 @@ spent_by trait file which run status last end ends worst none memory same false 
       status = worst ∙ ap (max last.status) (ends.told.status_is ∙ ap ending_status spent);
     }))
 
--- the lines that an input has from its first ones and a further one on
+-- the lines of an input after its first ones and a further one
 rest_of : (given : Option (List ℕ)) (lines : List (List ℕ)) (line : List ℕ) → AreFirst (lines ++ line ∷ []) given → (more : List (List ℕ)) × GivesLines given (lines ++ line ∷ more) quiet_run
 rest_of None lines line first = ([], record { gives = inl (tt, refl) })
 rest_of (Some bytes) lines line first = (first.0, record { gives = inl (first.1 ∙ append_assoc lines (line ∷ []) first.0, refl) })

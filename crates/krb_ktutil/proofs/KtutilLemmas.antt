@@ -22,7 +22,7 @@ use Rattle.krb_files.specs.Reader.{Source, ConsumesAtMost, is_failed}
 use Rattle.krb_driver.specs.Runs.{SaysEnd}
 use Rattle.krb_files.proofs.Reading.{Consumes-trans}
 
--- the input, as far as lines of it were handled, has these lines and those that are to come
+-- the input has these lines, which were run, and those that are to come
 abbrev ToCome : Option (List ℕ) → List (List ℕ) → InputParts → Option (List ℕ) → Type 0
 ToCome given lines input left = (more : List (List ℕ)) → HasLines input left more → IfSome given (λ bytes. lines_of bytes ≡ lines ++ more)
 
@@ -52,7 +52,7 @@ none_more : (given : Option (List ℕ)) (lines : List (List ℕ)) → IfSome giv
 none_more None lines is = tt
 none_more (Some bytes) lines is = is ∙ append-nil lines
 
--- the lines to come of an input that is spent
+-- an input that is spent has no lines to come
 spent_has : (input : InputParts) (left : Option (List ℕ)) → IsSpent input left → HasLines input left []
 spent_has input None spent = tt
 spent_has input (Some ys) spent =
@@ -60,7 +60,7 @@ spent_has input (Some ys) spent =
     let both : drop input.next input.read ++ ys ≡ [] = rw (none, spent.at_end) refl in
     ap lines_of both
 
--- where these are all lines there is no other
+-- if these are all lines, there is no other
 no_further : (given : Option (List ℕ)) (lines : List (List ℕ)) (line : List ℕ) → IfSome given (λ bytes. lines_of bytes ≡ lines) → AreFirst (lines ++ line ∷ []) given → IfSome given (λ bytes. lines_of bytes ≡ lines ++ line ∷ [])
 no_further None lines line all first = tt
 no_further (Some bytes) lines line all first =
@@ -71,12 +71,12 @@ no_further (Some bytes) lines line all first =
 newline_more : (lines : List (List ℕ)) (line : List ℕ) → with_newlines (lines ++ line ∷ []) ≡ with_newlines lines ++ (line ++ 10 ∷ [])
 newline_more lines line = flat_map-append (λ l. l ++ 10 ∷ []) lines (line ∷ []) ∙ ap (λ (bs : List ℕ). with_newlines lines ++ bs) (append-nil (line ++ 10 ∷ []))
 
--- what was read and is in lines is these, each with its newline
+-- what was read up to the next line is these lines, each with its newline
 pub record AreEnded (lines : List (List ℕ)) (input : InputParts) : Type 0 where
   pub within : input.next ≤ 16777216
   pub read : take input.next input.read ≡ with_newlines lines
 
--- what was read, and what a reader gave besides
+-- what a reader gave is appended to what was read
 grown : (given left left' : Option (List ℕ)) (old new : List ℕ) → Consumes given left old → Grows old new left left' → Consumes given left' new
 grown given left left' old new consumes g = subst (Consumes given left') (sym g.read) (Consumes-trans given left left' old g.given consumes g.consumes)
 
@@ -87,7 +87,7 @@ too_long (Some bytes) None read consumes long = absurd consumes
 too_long (Some bytes) (Some rest) read consumes long = rw consumes (omega (arith, long, length-append read rest))
 
 module _ {F : Type 0} (trait : Ghosts F) (now : ℕ) where
-  -- one more line was handled
+  -- one more line was run
   TalksOver-line : (number : ℕ) (lines : List (List ℕ)) (next : ℕ) (line : List ℕ) (old mid new : Talk F) → TalksOver trait now number lines old mid → next ≡ number + length lines
       → Continues trait now next line mid new → TalksOver trait now number (lines ++ line ∷ []) old new
   TalksOver-line number [] next line old mid new talked is continues =
@@ -97,14 +97,14 @@ module _ {F : Type 0} (trait : Ghosts F) (now : ℕ) where
       let after_first : next ≡ number + 1 + length lines = omega (arith, is) in
       (talked.0, talked.1, TalksOver-line (number + 1) lines next line talked.0 mid new talked.2 after_first continues)
 
--- the end of a line decides whether another comes, and the output
+-- the end of a line decides whether another may come, and the output
 pub HandlesNext-by : {F : Type 0} (trait : Ghosts F) (now number : ℕ) (line : List ℕ) (old new : Talk F) (ending : LineEnd) → HandlesLine trait now number line old new ending
     → (goes failed : Bool) → goes ≡ goes_on ending → failed ≡ new.out.failed → HandlesNext trait now number line old new (goes && not failed)
 HandlesNext-by trait now number line old new ending handles true true goes is = record { ending = ending; handles = handles; why = inr (sym is) }
 HandlesNext-by trait now number line old new ending handles true false goes is = record { ending = ending; handles = handles; goes_on = sym goes; well = sym is }
 HandlesNext-by trait now number line old new ending handles false failed goes is = record { ending = ending; handles = handles; why = inl (sym goes) }
 
--- lines were handled, and the run goes on
+-- lines were run, and the run goes on
 pub record Underway {F : Type 0} (trait : Ghosts F) (now : ℕ) (given : Option (List ℕ)) (first : Talk F) (input : InputParts) (left : Option (List ℕ)) (number : ℕ) (talk : Talk F) : Type 0 where
   pub lines : List (List ℕ)
   pub talked : TalksOver trait now 1 lines first talk
@@ -179,7 +179,7 @@ taken given left left' old new consumes grows within = record {
   bound = within.most;
 }
 
--- of what was read each line that has its newline was handled
+-- of what was read each line that has its newline was run
 due_of : (lines : List (List ℕ)) (old new : InputParts) (left left' : Option (List ℕ)) → IsWithin old → Grows old.read new.read left left' → HasNoMore old new → AreEnded lines old → CutsOff lines (take most_bytes new.read)
 due_of lines old new left left' within grows no_more ended =
     let most = ended.within in

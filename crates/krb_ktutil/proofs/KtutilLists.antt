@@ -16,7 +16,7 @@ use Rattle.krb_driver.specs.Loading.{result_map}
 use Rattle.krb_ktutil.specs.KtutilPlan.{with_added}
 use Rattle.krb_ktutil.specs.KtutilFiles.{RefusesAdded}
 
--- without their places
+-- placed entries without their places
 abbrev pub entries_of : List PlacedEntry → List EntryParts
 entries_of xs = map (λ x. x.1) xs
 
@@ -28,16 +28,16 @@ entries_placed : (f : KtFormat) (rs : List Record) → entries_of (filter_map (�
 entries_placed f [] = refl
 entries_placed f (r ∷ rs) = entries_first r.place (entry_at f r.bytes) _ _ (entries_placed f rs)
 
--- those of a keytab
+-- the entries of a keytab are its placed entries without their places
 pub all_entries : (k : KeytabState) → entries_of (placed_entries k) ≡ entries k
 all_entries k = entries_placed k.format (records (store_of k))
 
--- after a refusal nothing is added
+-- after a refusal no entry is added
 with_added-err : (es : List EntryParts) (refused : Code) → with_added es (Err refused) ≡ Err refused
 with_added-err [] refused = refl
 with_added-err (e ∷ es) refused = refl
 
--- the first refusal is that of all
+-- the refusal of the first entry is that of all entries
 pub refuses_added : (e : EntryParts) (es : List EntryParts) (k k' : KeytabState) (r : Refusal) (all : Result KeytabState Code) → PutGives (put_result k e) k (Err r) k' → with_added (e ∷ es) (Ok k) ≡ all → RefusesAdded all r
 refuses_added e es k k' (ByCode refused) all gives is =
     sym is ∙ ap (λ (put : Result (ℕ × KeytabState) Code). with_added es (result_map (λ added. added.1) put)) gives.0 ∙ with_added-err es refused

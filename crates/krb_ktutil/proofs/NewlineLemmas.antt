@@ -1,4 +1,4 @@
--- Bytes that are cut at newlines.
+-- Bytes that are split at newlines.
 use Rattle.std.proofs.Common.{◌≡◌, ℕ, ◌+◌, ◌-◌, ◌<◌, ◌≤◌, List, [], ◌∷◌, ◌++◌, length, take, drop, Option, Some, None, refl, sym, ap, subst, ◌∙◌, arith, length-append, append_assoc, append-nil, take-add, drop-drop}
 use Rattle.std.specs.Prelude.{slice_range}
 use Rattle.std.specs.List.{slice_split}
@@ -27,27 +27,27 @@ Grows-trans a b c l m n p q = record {
 
 -- ---- parts without a newline
 
--- two differences that touch
+-- two adjacent differences
 sum_of : (a b c : ℕ) → a ≤ b → b ≤ c → c - a ≡ (b - a) + (c - b)
 sum_of a b c p q = omega (arith, p, q)
 
--- what follows a later place
+-- the bytes after a later place
 drop_to : (xs : List ℕ) (a b : ℕ) → a ≤ b → drop (b - a) (drop a xs) ≡ drop b xs
 drop_to xs a b p = drop-drop (b - a) a xs ∙ ap (λ (n : ℕ). drop n xs) {x = a + (b - a)} {y = b} (omega (arith, p))
 
--- two parts that touch
+-- two adjacent ranges
 parts_touch : (xs : List ℕ) (a b c : ℕ) → a ≤ b → b ≤ c → slice_range xs a c ≡ slice_range xs a b ++ slice_range xs b c
 parts_touch xs a b c p q =
     ap (λ (n : ℕ). take n (drop a xs)) (sum_of a b c p q)
     ∙ take-add (b - a) (c - b) (drop a xs)
     ∙ ap (λ (ys : List ℕ). slice_range xs a b ++ take (c - b) ys) (drop_to xs a b p)
 
--- none in two parts, none in both
+-- no newline in two lists, none in both together
 HasNone-append : (xs ys : List ℕ) → HasNone xs → HasNone ys → HasNone (xs ++ ys)
 HasNone-append [] ys h k = k
 HasNone-append (x ∷ xs) ys h k = (h.0, HasNone-append xs ys h.1 k)
 
--- none at first, where there is none at all
+-- no newline in a prefix, if there is none at all
 HasNone-left : (xs ys : List ℕ) → HasNone (xs ++ ys) → HasNone xs
 HasNone-left [] ys h = tt
 HasNone-left (x ∷ xs) ys h = (h.0, HasNone-left xs ys h.1)
@@ -55,15 +55,15 @@ HasNone-left (x ∷ xs) ys h = (h.0, HasNone-left xs ys h.1)
 HasNone-take : (n : ℕ) (xs : List ℕ) → HasNone xs → HasNone (take n xs)
 HasNone-take n xs h = HasNone-left (take n xs) (drop n xs) (subst HasNone (sym (take-append-drop n xs)) h)
 
--- none up to a place, where there is none at all
+-- no newline up to a place, if there is none at all
 pub HasNone-up_to : (xs : List ℕ) (a most : ℕ) → HasNone (drop a xs) → HasNone (slice_range xs a most)
 HasNone-up_to xs a most h = HasNone-take (most - a) (drop a xs) h
 
--- or none up to a later one
+-- no newline up to a place, if there is none up to a later one
 pub HasNone-sooner : (xs : List ℕ) (a end most : ℕ) → most ≤ end → HasNone (slice_range xs a end) → HasNone (slice_range xs a most)
 HasNone-sooner xs a end most le h = subst HasNone (take-take (most - a) (end - a) (drop a xs) (omega (arith, le))) (HasNone-take (most - a) (slice_range xs a end) h)
 
--- the first newline from one place on is that from an earlier one, if none stands between
+-- the first newline from one place on is that from an earlier one, if there is none between
 pub IsFirst-earlier : (xs : List ℕ) (a b c : ℕ) → a ≤ b → HasNone (slice_range xs a b) → IsFirst xs b c → IsFirst xs a c
 IsFirst-earlier xs a b c le none first =
     let ahead = first.ahead in
@@ -74,22 +74,22 @@ IsFirst-earlier xs a b c le none first =
       rest = first.rest;
     }
 
--- what follows a place, in two parts
+-- the bytes after a place, in two parts
 pub drop_parts : (xs : List ℕ) (a b : ℕ) → a ≤ b → drop a xs ≡ slice_range xs a b ++ drop b xs
 drop_parts xs a b le = sym (take-append-drop (b - a) (drop a xs)) ∙ ap (λ (ys : List ℕ). slice_range xs a b ++ ys) (drop_to xs a b le)
 
--- the same where there is none at all
+-- no newline from an earlier place on, if there is none between and none after
 pub HasNone-earlier : (xs : List ℕ) (a b : ℕ) → a ≤ b → HasNone (slice_range xs a b) → HasNone (drop b xs) → HasNone (drop a xs)
 HasNone-earlier xs a b le none rest =
     rw (drop_parts xs a b le) (HasNone-append (slice_range xs a b) (drop b xs) none rest)
 
--- bytes before an old end stay when more come
+-- the bytes up to the old end have no newline, also after a read
 pub HasNone-grown : (old new given : List ℕ) (a : ℕ) → new ≡ old ++ given → a ≤ length old → HasNone (drop a old) → HasNone (slice_range new a (length old))
 HasNone-grown old new given a e le none =
     let same : slice_range (old ++ given) a (length old) ≡ drop a old = grind (arith, common_steps, le) in
     rw (e, same) none
 
--- a newline stands within the bytes
+-- a newline is within the bytes
 pub first-within : (xs : List ℕ) (a b : ℕ) → IsFirst xs a b → b < length xs
 first-within xs a b first =
     let rest = first.rest in
@@ -117,7 +117,7 @@ line_before xs (p ∷ ps) h = refl
 pub lines-first : (xs ys : List ℕ) → HasNone xs → lines_of (xs ++ 10 ∷ ys) ≡ xs ∷ lines_of ys
 lines-first xs ys h = ap without_empty_last (split_at xs ys h) ∙ line_before xs (slice_split is_newline ys) (omega (arith, length-slice_split is_newline ys))
 
--- without a newline the bytes are the one line, if they are any
+-- without a newline the bytes are one line, if there are any
 pub lines-last : (xs : List ℕ) → HasNone xs → lines_of xs ≡ last_line xs
 lines-last xs h = ap without_empty_last (split_none xs h)
 

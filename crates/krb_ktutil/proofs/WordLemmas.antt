@@ -5,11 +5,11 @@ use Rattle.std.specs.List.{concat, slice_split, onto_first}
 use Rattle.std.proofs.lemmas.Bool.{eqb-true}
 use Rattle.krb_ktutil.specs.KtutilWords.{is_blank, pieces, is_gap, parts, is_word, words, unindented, size_from, word_size}
 
--- a backslash is no blank
+-- a backslash is not a blank
 backslash_is_no_blank : (b : ℕ) → (b == 92) ≡ true → is_blank b ≡ true → false ≡ true
 backslash_is_no_blank b e blank = let same : b ≡ 92 = eqb-true b 92 e in rw same at blank
 
--- what is split has a first part
+-- a split has a first part
 data HasFirst {X : Type 0} : List (List X) → Type 0 where
   first : (part : List X) (parts : List (List X)) → HasFirst (part ∷ parts)
 
@@ -22,7 +22,7 @@ split_has_first : {X : Type 0} (p : X → Bool) (xs : List X) → HasFirst (slic
 split_has_first p [] = first [] []
 split_has_first p (x ∷ xs) = split_cons (p x) x (slice_split p xs) (split_has_first p xs)
 
--- the first part, with bytes put before it
+-- parts, with bytes before the first one
 abbrev pub onto : List ℕ → List (List ℕ) → List (List ℕ)
 onto bytes [] = bytes ∷ []
 onto bytes (part ∷ others) = (bytes ++ part) ∷ others
@@ -31,11 +31,11 @@ concat_onto : (x : List ℕ) (ys : List (List (List ℕ))) → HasFirst ys → m
 concat_onto x (y ∷ ys) h = refl
 concat_onto x [] h = elim h [ ]
 
--- a piece that is no gap stands before the first part
+-- a piece that is not a gap is at the front of the first part
 parts_more : (x : List ℕ) (xs : List (List ℕ)) → is_gap x ≡ false → map concat (slice_split is_gap (x ∷ xs)) ≡ onto x (map concat (slice_split is_gap xs))
 parts_more x xs e = rw e (concat_onto x (slice_split is_gap xs) (split_has_first is_gap xs))
 
--- a blank ends an empty part
+-- a blank at the front ends an empty part
 parts_blank : (b : ℕ) (bs : List ℕ) → is_blank b ≡ true → parts (b ∷ bs) ≡ [] ∷ parts bs
 parts_blank b [] e = rw e refl
 parts_blank b (c ∷ rest) e = go (b == 92) refl
@@ -44,7 +44,7 @@ parts_blank b (c ∷ rest) e = go (b == 92) refl
     go true t = absurd (cc (backslash_is_no_blank b t e))
     go false t = rw e refl
 
--- n bytes stand before the first blank, or to the end
+-- the first part of a text has n bytes
 record FirstPart (text : List ℕ) (n : ℕ) : Type 0 where
   parts_are : parts text ≡ take n text ∷ drop 1 (parts (drop n text))
   ends : parts (drop n text) ≡ [] ∷ drop 1 (parts (drop n text))
@@ -74,17 +74,17 @@ first_part [] = record { parts_are = refl; ends = refl; within = omega arith }
 first_part (b ∷ []) = first_of_one b (is_blank b) refl
 first_part (b ∷ c ∷ rest) = first_of_more b c rest (is_blank b) (b == 92) refl refl (first_part rest) (first_part (c ∷ rest))
 
--- a word does not end where it begins
+-- a text that does not begin with a blank begins with a word
 begins : (b : ℕ) (bs : List ℕ) → is_blank b ≡ false → 0 < word_size (b ∷ bs)
 begins b bs e = rw e (omega arith)
 
--- some bytes of a text are a word
+-- the first n bytes of a text are a word, if there are any
 some_is_word : (text : List ℕ) (n : ℕ) → 0 < n → 0 < length text → is_word (take n text) ≡ true
 some_is_word text zero p q = absurd (omega arith)
 some_is_word [] (suc n) p q = absurd (omega arith)
 some_is_word (b ∷ bs) (suc n) p q = refl
 
--- blanks before it are no part of a word
+-- a blank before a line changes none of its words
 words_blank : (b : ℕ) (bs : List ℕ) → is_blank b ≡ true → words (b ∷ bs) ≡ words bs
 words_blank b bs e = ap (filter is_word) (parts_blank b bs e)
 
@@ -96,7 +96,7 @@ words-unindented : (line : List ℕ) → words (unindented line) ≡ words line
 words-unindented [] = refl
 words-unindented (b ∷ bs) = words-unindented-cons (is_blank b) b bs refl (words-unindented bs)
 
--- a text that begins with no blank
+-- a text does not begin with a blank
 abbrev BeginsPlain : List ℕ → Type 0
 BeginsPlain [] = Unit {0}
 BeginsPlain (b ∷ bs) = is_blank b ≡ false
@@ -113,7 +113,7 @@ plain_has_size : (text : List ℕ) → BeginsPlain text → 0 < length text → 
 plain_has_size [] plain p = absurd (omega arith)
 plain_has_size (b ∷ bs) plain p = begins b bs plain
 
--- n bytes of a text are the first word of a line
+-- the first n bytes of a text are the first word of a line
 pub record FirstWord (line text : List ℕ) (n : ℕ) : Type 0 where
   pub cut : words line ≡ take n text ∷ words (drop n text)
   pub begun : 0 < n
@@ -144,7 +144,7 @@ no_words-of line (b ∷ bs) e none = absurd (omega arith)
 pub no_words : (line text : List ℕ) → text ≡ unindented line → length text ≡ 0 → words line ≡ []
 no_words line text same none = no_words-of line text (ap words same ∙ words-unindented line) none
 
--- a byte more before the first blank
+-- one more byte before the first blank that is not quoted
 size_from-cons : (b : ℕ) (bs : List ℕ) (quoted : Bool) → (not quoted && is_blank b) ≡ false → size_from (b ∷ bs) quoted ≡ suc (size_from bs (not quoted && b == 92))
 size_from-cons b bs true e = refl
 size_from-cons b bs false e = rw e refl

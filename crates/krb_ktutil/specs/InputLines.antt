@@ -1,4 +1,4 @@
--- Lines out of a reader.
+-- The lines of a reader.
 use Rattle.std.specs.Prelude.{◌≡◌, ℕ, ◌+◌, ◌<◌, ◌≤◌, ◌==◌, List, [], ◌∷◌, ◌++◌, drop, take, length, slice_range, Bool, true, false, Option, None, Some, IfSome}
 use Rattle.std.specs.List.{flat_map, slice_split, AllByRecursion}
 use Rattle.std.specs.Io.KnownBytes.{Consumes, IsAtEnd}
@@ -12,28 +12,28 @@ is_newline b = b == 10
 abbrev pub HasNone : List ℕ → Type 0
 HasNone bytes = AllByRecursion (λ b. is_newline b ≡ false) bytes
 
--- a last line, if it has a byte
+-- the last line, if it has a byte
 abbrev pub last_line : List ℕ → List (List ℕ)
 last_line [] = []
 last_line (b ∷ bs) = (b ∷ bs) ∷ []
 
--- some lines, without the last if that is empty
+-- some lines, without the last one if that is empty
 abbrev pub without_empty_last : List (List ℕ) → List (List ℕ)
 without_empty_last [] = []
 without_empty_last (line ∷ []) = last_line line
 without_empty_last (line ∷ next ∷ others) = line ∷ without_empty_last (next ∷ others)
 
--- the lines of an input: what stands before each newline, and what stands after the last one, if something does
+-- the lines of an input: the bytes before each newline, and those after the last one, if any
 abbrev pub lines_of : List ℕ → List (List ℕ)
 lines_of bytes = without_empty_last (slice_split is_newline bytes)
 
--- an input as far as it was read: all its bytes, the line that was read last, and where the next one begins
+-- an input as far as it was read: all those bytes, the last line read, and where the next one begins
 pub record InputParts : Type 0 where
   pub read : List ℕ
   pub line : List ℕ
   pub next : ℕ
 
--- the lines that are still to come, of what was read and of what the reader has left
+-- the lines that are still to come, from what was read and what the reader has left
 abbrev pub HasLines : InputParts → Option (List ℕ) → List (List ℕ) → Type 0
 HasLines input left lines = IfSome left (λ bytes. lines_of (drop input.next input.read ++ bytes) ≡ lines)
 
@@ -41,7 +41,7 @@ HasLines input left lines = IfSome left (λ bytes. lines_of (drop input.next inp
 abbrev pub KeepsLines : InputParts → InputParts → Option (List ℕ) → Option (List ℕ) → Type 0
 KeepsLines old new left left' = (lines : List (List ℕ)) → HasLines new left' lines → HasLines old left lines
 
--- the line that was read was the first of those to come
+-- the line that was read was the first of the lines to come
 pub record TakesLine (old new : InputParts) (left left' : Option (List ℕ)) : Type 0 where
   pub first : (lines : List (List ℕ)) → HasLines new left' lines → HasLines old left (new.line ∷ lines)
   pub further : old.next < new.next
@@ -76,20 +76,20 @@ pub record HasNoMore (old new : InputParts) : Type 0 where
   pub same : new.next ≡ old.next
   pub none : HasNone (slice_range new.read new.next most_bytes)
 
--- a reader gave some bytes, by which those that were read have grown
+-- a reader gave some bytes, which were appended to those that were read
 pub record Grows (old new : List ℕ) (left left' : Option (List ℕ)) : Type 0 where
   pub given : List ℕ
   pub read : new ≡ old ++ given
   pub consumes : Consumes left left' given
 
--- the next line begins within what was read, which is a byte more than an input may have at most
+-- the next line begins within what was read, which is at most one byte more than an input may have
 pub record IsWithin (input : InputParts) : Type 0 where
   pub next : input.next ≤ length input.read
   pub most : length input.read ≤ most_bytes + 1
 
 -- ---- for private contracts
 
--- the first newline from a place on stands at another
+-- the first newline from one place on is at another
 pub record IsFirst (bytes : List ℕ) (from end : ℕ) : Type 0 where
   pub ahead : from ≤ end
   pub before : HasNone (slice_range bytes from end)
@@ -100,7 +100,7 @@ abbrev pub FindsNewline : List ℕ → ℕ → Option ℕ → Type 0
 FindsNewline bytes from None = HasNone (drop from bytes)
 FindsNewline bytes from (Some end) = IsFirst bytes from end
 
--- a line ends where it is said, or the input has ended without a newline
+-- the line from `next` ends at this newline, or the input has ended without one
 abbrev pub EndsLine : List ℕ → ℕ → Option (List ℕ) → Option ℕ → Type 0
 EndsLine bytes next left (Some end) = IsFirst bytes next end
 EndsLine bytes next left None = HasNone (drop next bytes) × IsAtEnd left

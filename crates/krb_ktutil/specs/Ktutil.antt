@@ -1,4 +1,4 @@
--- What a run of ktutil leaves.
+-- What a run of ktutil does.
 use Rattle.std.specs.Prelude.{ℕ, ◌+◌, Bool, true, false, List}
 use Rattle.krb_wire.specs.declared.format.Order.{Order}
 use Rattle.krb_files.specs.declared.files.Files.{Ghosts}
@@ -10,7 +10,7 @@ use Rattle.krb_ktutil.specs.KtutilTalk.{Talk, first_talk, Continues, Stops, Talk
 use Rattle.krb_ktutil.specs.KtutilDue.{TalksHonestly}
 use Rattle.krb_files.specs.Reader.{Source, ConsumesAtMost}
 
--- a run of ktutil: the lines of the input are handled in order, up to one that is the last or to the end
+-- a run of ktutil: the lines of the input are run in order, up to one that is the last or to the end
 pub record RunsKtutil {F : Type 0} (trait : Ghosts F) (order : Order) (now : ℕ) (input input' : Source) (old new : F) (out out' : Watch) (err err' : ErrorWatch) (status : ℕ) : Type 0 where
   pub lines : List (List ℕ)
   pub last : Talk F
@@ -22,7 +22,7 @@ pub record RunsKtutil {F : Type 0} (trait : Ghosts F) (order : Order) (now : ℕ
 
 -- ---- for private contracts
 
--- a line was handled, and that tells whether the next one may come
+-- a line was run, and this is whether the next one may come
 abbrev pub HandlesNext : {F : Type 0} → Ghosts F → ℕ → ℕ → List ℕ → Talk F → Talk F → Bool → Type 0
 HandlesNext trait now number line old new true = Continues trait now number line old new
 HandlesNext trait now number line old new false = Stops trait now number line old new

@@ -1,4 +1,4 @@
--- What a line of ktutil asks for.
+-- The command of a line of ktutil.
 use Rattle.std.specs.Prelude.{ℕ, List, [], ◌∷◌, Bool, true, false, not, ◌||◌, ◌&&◌, nat_lt, nat_le, codes, Option, None, Some, is_none, ok_or, Result, Ok, Err, if◌then◌else◌}
 use Rattle.std.specs.Str.{bytes_eq, is_utf8}
 use Rattle.krb_wire.specs.Spelling.{Parts}
@@ -17,7 +17,7 @@ pub record Awaited : Type 0 where
   pub version : ℕ
   pub enctype : ℕ
 
--- what a line asks for
+-- the command of a line
 pub data Command : Type 0 where
   Skip : Command
   ListSlots : KtColumns → Command
@@ -32,7 +32,7 @@ pub data Command : Type 0 where
 abbrev pub is_either : List ℕ → List ℕ → List ℕ → Bool
 is_either word long short = bytes_eq word long || bytes_eq word short
 
--- the command of a word
+-- the command that a word names
 abbrev pub verb_of : List ℕ → Option Verb
 verb_of word =
     if is_either word (codes "list") (codes "l") then Some verb.List
@@ -46,7 +46,7 @@ verb_of word =
 
 -- ---- the words after the command
 
--- what comes of what was read, or the fault where nothing was
+-- what comes of what was read, or the fault if nothing was
 abbrev pub after : {X Y : Type 0} → (X → Result Y LineFault) → Result X LineFault → Result Y LineFault
 after then_ (Ok x) = then_ x
 after then_ (Err fault) = Err fault
@@ -56,16 +56,16 @@ abbrev pub are_none : List (List ℕ) → Bool
 are_none [] = true
 are_none (word ∷ others) = false
 
--- the word, where it stands alone
+-- the word, if there is exactly one
 abbrev pub only : List (List ℕ) → Result (List ℕ) LineFault
 only [] = Err WordCount
 only (word ∷ others) = if are_none others then Ok word else Err WordCount
 
--- no columns but versions and names
+-- no columns but kvnos and names
 abbrev pub plain_columns : KtColumns
 plain_columns = record { times = false; etypes = false; keys = false }
 
--- the columns with one more, which an option asks for
+-- the columns with the one that an option adds, if it is new
 abbrev pub with_column : KtColumns → List ℕ → Option KtColumns
 with_column columns option =
     if bytes_eq option (codes "-t") && not columns.times then Some (record columns { times = true })
@@ -73,7 +73,7 @@ with_column columns option =
     else (if bytes_eq option (codes "-e") && not columns.etypes then Some (record columns { etypes = true })
     else None))
 
--- the columns that options ask for beside those asked for already, each option once at most
+-- the columns with those that options add, each option at most once
 abbrev pub columns_in : KtColumns → List (List ℕ) → Option KtColumns
 columns_in columns [] = Some columns
 columns_in columns (option ∷ options) = with_column columns option >>= λ more. columns_in more options
@@ -86,15 +86,15 @@ listing words = after (λ columns. Ok (ListSlots columns)) (ok_or (columns_in pl
 abbrev pub file_word : List ℕ → Result (List ℕ) LineFault
 file_word word = if is_utf8 word then Ok word else Err BadFileName
 
--- something that is done with the file of a name
+-- a command on the file that the only word names
 abbrev pub on_file : (List ℕ → Command) → List (List ℕ) → Result Command LineFault
 on_file command words = after (λ name. Ok (command name)) (after file_word (only words))
 
--- a slot, counted from 1, where there are so many
+-- a slot, counted from 1, if there are that many
 abbrev pub slot_of : ℕ → ℕ → Result ℕ LineFault
 slot_of count slot = if nat_lt 0 slot && nat_le slot count then Ok slot else Err BadSlot
 
--- a slot is deleted, where there are so many
+-- the deletion of the slot that the only word names, if there are that many
 abbrev pub deletion : ℕ → List (List ℕ) → Result Command LineFault
 deletion count words = after (λ slot. Ok (DeleteSlot slot)) (after (slot_of count) (after number_word (only words)))
 
@@ -102,7 +102,7 @@ deletion count words = after (λ slot. Ok (DeleteSlot slot)) (after (slot_of cou
 abbrev pub alone : Command → List (List ℕ) → Result Command LineFault
 alone command words = if are_none words then Ok command else Err WordCount
 
--- what the options of an addition say: whether `-key` stands there, and the words after `-p`, `-k` and `-e`
+-- the options of an addition: whether `-key` is given, and the words after `-p`, `-k` and `-e`
 pub record AddOptions : Type 0 where
   pub key : Bool
   pub name : Option (List ℕ)
@@ -117,7 +117,7 @@ no_options = record { key = false; name = None; version = None; enctype = None }
 abbrev pub is_new_key : AddOptions → List ℕ → Bool
 is_new_key given option = bytes_eq option (codes "-key") && not given.key
 
--- the options with one more, which a word follows
+-- the options with one more, which has a value, if it is new
 abbrev pub with_option : AddOptions → List ℕ → List ℕ → Option AddOptions
 with_option given option word =
     if bytes_eq option (codes "-p") && is_none given.name then Some (record given { name = Some word })
@@ -125,7 +125,7 @@ with_option given option word =
     else (if bytes_eq option (codes "-e") && is_none given.enctype then Some (record given { enctype = Some word })
     else None))
 
--- the options beside those before them, each once at most
+-- the given options with more of them, each at most once
 abbrev pub options_in : AddOptions → List (List ℕ) → Option AddOptions
 options_in given [] = Some given
 options_in given (option ∷ []) =
@@ -134,13 +134,13 @@ options_in given (option ∷ word ∷ others) =
     if is_new_key given option then options_in (record given { key = true }) (word ∷ others)
     else (with_option given option word >>= λ more. options_in more others)
 
--- the three words of an addition
+-- the three option values of an addition
 pub record AddWords : Type 0 where
   pub name : List ℕ
   pub version : List ℕ
   pub enctype : List ℕ
 
--- all options stand there
+-- the values, if all options are given
 abbrev pub all_given : AddOptions → Option AddWords
 all_given given =
     given.name >>= λ name.
@@ -148,11 +148,11 @@ all_given given =
     given.enctype >>= λ enctype.
     if given.key then Some (record { name = name; version = version; enctype = enctype }) else None
 
--- the words of an addition, each option once, in any order
+-- the option values of an addition: each option is given once, in any order
 abbrev pub add_words : List (List ℕ) → Result AddWords LineFault
 add_words words = ok_or (options_in no_options words >>= all_given) WordCount
 
--- what an addition says: its version, then its enctype, then its name
+-- the entry of an addition: its kvno is read first, then its enctype, then its name
 abbrev pub awaited_of : AddWords → Result Awaited LineFault
 awaited_of x =
     after (λ version.
@@ -160,13 +160,13 @@ awaited_of x =
     after (λ principal. Ok (record { principal = principal; version = version; enctype = enctype }))
     (name_word x.name)) (etype_word x.enctype)) (number_word x.version)
 
--- an entry is added, once its key is there
+-- the addition of an entry whose key is still to come
 abbrev pub addition : List (List ℕ) → Result Command LineFault
 addition words = after (λ awaited. Ok (AwaitKey awaited)) (after awaited_of (add_words words))
 
 -- ---- a line
 
--- what a command with these words after it asks for, where there are so many slots
+-- the command of a verb with these words after it, over `count` slots
 abbrev pub command_by : ℕ → Option Verb → List (List ℕ) → Result Command LineFault
 command_by count None words = Err UnknownWord
 command_by count (Some verb.List) words = listing words
@@ -177,11 +177,11 @@ command_by count (Some verb.Delete) words = deletion count words
 command_by count (Some verb.Clear) words = alone ClearList words
 command_by count (Some verb.Quit) words = alone Quit words
 
--- what words ask for; no words ask for nothing
+-- the command of words, over `count` slots; without words it is `Skip`
 abbrev pub command_in : ℕ → List (List ℕ) → Result Command LineFault
 command_in count [] = Ok Skip
 command_in count (word ∷ words) = command_by count (verb_of word) words
 
--- what a line asks for, where there are so many slots
+-- the command of a line, over `count` slots
 abbrev pub command_of : List ℕ → ℕ → Result Command LineFault
 command_of line count = command_in count (words line)

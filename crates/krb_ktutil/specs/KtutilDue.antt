@@ -1,4 +1,4 @@
--- What is due of the lines of ktutil where the files are honest.
+-- What is due after the lines of ktutil if the files are honest.
 use Rattle.std.specs.Prelude.{◌≡◌, ◌⊎◌, ℕ, ◌+◌, max, IsTrue, List, [], ◌∷◌, ◌++◌, if◌then◌else◌, Option, None, Some, IfSome, Ok}
 use Rattle.std.specs.Io.KnownBytes.{Appends}
 use Rattle.krb_files.specs.declared.files.Files.{Ghosts}
@@ -14,20 +14,20 @@ use Rattle.krb_driver.specs.Runs.{Run, SaysEnd, ends_by}
 use Rattle.krb_driver.specs.declared.verdict.Verdict.TheVariants.{Well}
 use Rattle.krb_driver.specs.Troubles.{Ending, ending_status, input_trouble}
 
--- what is told: an end, the file that may be named, and the line
+-- a report: an ending, the file that may be named, and the line
 pub record Telling : Type 0 where
   pub file : List ℕ
   pub line : Option ℕ
   pub ending : Ending
 
--- what lines come to: the files after them, what is printed, what is told, one after the other, and the worst status
+-- what lines come to: the files after them, what is printed, what is reported, in order, and the worst status
 pub record TalkDue : Type 0 where
   pub files : FileMap
   pub out : List ℕ
   pub told : List Telling
   pub status : ℕ
 
--- one run, of that line, which may name that file, and then no line
+-- one run, of that line, which may name that file, and no line after it
 abbrev pub last_due : List ℕ → Option ℕ → Run → FileMap → TalkDue
 last_due file line run files = record { files = files; out = run.out; told = record { file = file; line = line; ending = run.ending } ∷ []; status = ending_status run.ending }
 
@@ -35,7 +35,7 @@ last_due file line run files = record { files = files; out = run.out; told = rec
 abbrev pub due_after : List ℕ → Option ℕ → Run → TalkDue → TalkDue
 due_after file line run due = record { files = due.files; out = run.out ++ due.out; told = record { file = file; line = line; ending = run.ending } ∷ due.told; status = max (ending_status run.ending) due.status }
 
--- lines are followed one after the other, the first with that number, up to one that is the last; what is due after all of them is final
+-- what is due after lines, run in order from that number up to one that is the last; `final` is due after all of them
 abbrev pub talk_due : Run → ℕ → ℕ → List (List ℕ) → KtutilState → FileMap → TalkDue
 talk_due final now number [] state files = last_due [] None final files
 talk_due final now number (line ∷ lines) state files =
@@ -46,7 +46,7 @@ talk_due final now number (line ∷ lines) state files =
     then due_after (named_in line) (Some number) run (talk_due final now (number + 1) lines due.state (line_files files effect))
     else last_due (named_in line) (Some number) run (line_files files effect)
 
--- this was told, one after the other, each message whole unless the writer has failed
+-- these endings were reported in order, each message whole unless the writer has failed
 abbrev pub TellsInTurn : ErrorWatch → ErrorWatch → List Telling → Type 0
 TellsInTurn old new [] = new ≡ old
 TellsInTurn old new (t ∷ others) = (between : ErrorWatch) × SaysEnd t.file t.line t.ending old between × TellsInTurn between new others
@@ -55,7 +55,7 @@ TellsInTurn old new (t ∷ others) = (between : ErrorWatch) × SaysEnd t.file t.
 abbrev pub quiet_run : Run
 quiet_run = record { out = []; ending = Ok Well }
 
--- the lines of an input, and what is due after them: nothing at its end, or else it is said why it was not read further, or that memory ran out in the next line
+-- the lines of an input, and what is due after them: nothing at its end, or the report why no further line was run
 pub record GivesLines (given : Option (List ℕ)) (lines : List (List ℕ)) (final : Run) : Type 0 where
   pub gives : (IfSome given (λ bytes. lines_of bytes ≡ lines) × (final ≡ quiet_run)) ⊎ (AreFirst lines given × ((fault : LoadFault) × (final ≡ ends_by (input_trouble fault))))
 
@@ -67,13 +67,13 @@ module _ {F : Type 0} (trait : Ghosts F) where
     pub err : TellsInTurn old.err new.err due.told
     pub status : new.status ≡ max old.status due.status
 
-  -- unless a file call failed, which is counted, or the output failed
+  -- a run left what was due, unless a file call failed, which is counted, or the output failed
   abbrev pub LeavesDueUnlessFailed : TalkDue → Talk F → Talk F → Type 0
   LeavesDueUnlessFailed due old new =
       CountsFailure (trait.failure_count old.files) (trait.failure_count new.files)
       ⊎ (IsTrue new.out.failed ⊎ LeavesDue due old new)
 
-  -- over honest files a run leaves what is due of the lines of its input; where memory runs out, of those before it
+  -- over honest files a run leaves what is due after the lines of its input, or after those before memory ran out
   pub record TalksHonestly (now : ℕ) (given : Option (List ℕ)) (old new : Talk F) : Type 0 where
     pub lines : List (List ℕ)
     pub final : Run

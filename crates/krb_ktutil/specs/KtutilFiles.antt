@@ -1,4 +1,4 @@
--- What the plan of a line of ktutil comes to with files, honest or not.
+-- What the plan of a line of ktutil does over files, honest or not.
 use Rattle.std.specs.Prelude.{◌≡◌, ◌⊎◌, ℕ, IsTrue, List, [], ◌++◌, Result, Err}
 use Rattle.krb_walk.specs.declared.refusal.Code.{Code}
 use Rattle.krb_walk.specs.declared.refusal.Refusal.{Refusal}
@@ -12,7 +12,7 @@ use Rattle.krb_ktutil.specs.declared.ktutil.line_end.LineEnd.{LineEnd}
 use Rattle.krb_ktutil.specs.declared.ktutil.line_end.LineEnd.TheVariants as end
 use Rattle.krb_ktutil.specs.KtutilPlan.{KtutilState, Outcome, LineEffect, ComesTo, Saves, LinePlan, kept, line_faults, save_end, stays, takes_memory}
 
--- the state, the bytes that were written and the end are those of an outcome
+-- the state, the text that was appended and the end are those of an outcome
 pub record Shows (state : KtutilState) (out out' : List ℕ) (ending : LineEnd) (due : Outcome) : Type 0 where
   pub state_is : state ≡ due.state
   pub appended : out' ≡ out ++ due.text
@@ -24,32 +24,32 @@ pub record RunsOut (old new : KtutilState) (out out' : List ℕ) (ending : LineE
   pub same : out' ≡ out
   pub ending_is : ending ≡ end.NoMemory
 
--- an addition was refused so, or out of memory
+-- an addition was refused with this code, or memory ran out
 abbrev pub RefusesAdded : Result KeytabState Code → Refusal → Type 0
 RefusesAdded added (ByCode refused) = added ≡ Err refused
 RefusesAdded added NoMemory = Unit {0}
 
--- a line that asks for no file was done, and printed this, or was out of the memory that it takes, with all as it was
+-- a line that calls no file was run, and printed this; or the memory that it takes ran out, and nothing changed
 abbrev pub EndsAt : LinePlan → KtutilState → KtutilState → List ℕ → List ℕ → LineEnd → Type 0
 EndsAt (Ends (ComesTo takes due)) old new out out' ending = Shows new out out' ending due ⊎ (IsTrue takes × RunsOut old new out out' ending)
 EndsAt plan old new out out' ending = ⊥
 
--- the same of a line that prints nothing
+-- the same for a line that prints nothing
 abbrev pub Finishes : LinePlan → KtutilState → KtutilState → LineEnd → Type 0
 Finishes plan old new ending = EndsAt plan old new [] [] ending
 
 module _ {F : Type 0} (trait : Ghosts F) where
-  -- what a line comes to was done: bytes were saved, or not, and then its outcome was shown
+  -- the effect of a line was done: its bytes, if any, were saved, or the save failed, and its outcome was shown
   abbrev pub Settles : KtutilState → KtutilState → List ℕ → List ℕ → LineEnd → LineEffect → F → F → Type 0
   Settles old new out out' ending (ComesTo takes due) files files' = (files' ≡ files) × Shows new out out' ending due
   Settles old new out out' ending (Saves name bytes) files files' =
       (answer : Result (Unit {0}) SaveFault) × (SavesFile trait files name bytes answer files' × Shows new out out' ending (kept old (save_end answer)))
 
-  -- the same of what prints nothing; or out of memory before it was done
+  -- the same for an effect that prints nothing; or memory ran out before it was done
   abbrev pub GoesOn : KtutilState → KtutilState → LineEnd → LineEffect → F → F → Type 0
   GoesOn old new ending effect files files' = Settles old new [] [] ending effect files files' ⊎ Settles old new [] [] ending (stays old end.NoMemory) files files'
 
-  -- a line was handled by its plan, or one that takes memory was out of it before it saved anything; what it held was left
+  -- a line was run by its plan, or one that takes memory ran out of it before a save; it released what it held
   pub record Handles (plan : LinePlan) (files files' : F) (old new : KtutilState) (out out' : List ℕ) (ending : LineEnd) : Type 0 where
     pub answers : List Answer
     pub between : F

@@ -1,4 +1,4 @@
--- What is due of a line of ktutil where the files are honest, and what a line that fails spares.
+-- What is due after a line of ktutil if the files are honest, and what a line that fails leaves unchanged.
 use Rattle.std.specs.Prelude.{◌≡◌, ◌≢◌, ◌⊎◌, ℕ, List}
 use Rattle.krb_files.specs.declared.files.LoadFault.TheVariants as load
 use Rattle.krb_files.specs.declared.files.SaveFault.TheVariants as save
@@ -10,7 +10,7 @@ use Rattle.krb_ktutil.specs.declared.ktutil.line_end.LineEnd.TheVariants as end
 use Rattle.krb_ktutil.specs.KtutilPlan.{KtutilState, Outcome, LineEffect, ComesTo, Saves, LinePlan, kept}
 use Rattle.krb_ktutil.specs.KtutilFiles.{Shows}
 
--- what a line comes to where no call fails, and the files after it
+-- the outcome of a line if no call fails, and the files after it
 abbrev pub line_outcome : KtutilState → LineEffect → Outcome
 line_outcome s (ComesTo takes due) = due
 line_outcome s (Saves name bytes) = kept s end.Done
@@ -19,7 +19,7 @@ abbrev pub line_files : FileMap → LineEffect → FileMap
 line_files files (ComesTo takes due) = files
 line_files files (Saves name bytes) = with_bytes files name bytes
 
--- where an allocation fails, in a file call too, the line ends out of memory and not by the file
+-- if an allocation fails, in a file call too, the line ends with `NoMemory` and not with an error of the file
 abbrev pub TellsMemory : LineEnd → Type 0
 TellsMemory (end.Load load.NoMemory) = ⊥
 TellsMemory (end.Save save.NoMemory) = ⊥
@@ -31,25 +31,25 @@ module _ {F : Type 0} (trait : Ghosts F) where
     pub shows : Shows new out out' ending (line_outcome old effect)
     pub files_are : SameFiles (line_files (trait.file files) effect) (trait.file files')
 
-  -- a call failed, which is counted, or memory ran out, and a line ends with that
+  -- a call failed, which is counted, or memory ran out, and the line ends with that
   abbrev pub FailsBy : F → F → LineEnd → Type 0
   FailsBy files files' ending =
       (CountsFailure (trait.failure_count files) (trait.failure_count files') × ((ending ≡ end.Load load.Failed) ⊎ (ending ≡ end.Save save.Failed)))
       ⊎ (ending ≡ end.NoMemory)
 
-  -- a line ends so, and all else is as it was
+  -- a line ends with a failed call, and nothing else changed
   pub record FailsCall (files files' : F) (old new : KtutilState) (out out' : List ℕ) (ending : LineEnd) : Type 0 where
     pub why : FailsBy files files' ending
     pub state_is : new ≡ old
     pub same : out' ≡ out
     pub same_files : SameFiles (trait.file files) (trait.file files')
 
-  -- a plan was followed by honest files, or a call failed, or out of memory
+  -- over honest files a plan did what is due, or a call failed, or memory ran out
   pub record HandlesHonestly (plan : LinePlan) (files files' : F) (old new : KtutilState) (out out' : List ℕ) (ending : LineEnd) : Type 0 where
     pub honest : trait.is_honest files'
     pub comes : ShowsDue (follow (trait.file files) plan) files files' old new out out' ending ⊎ FailsCall files files' old new out out' ending
 
-  -- a line that is not done left the entries as they were, and the files where they are honest
+  -- a line that is not done left the entries unchanged, and the files too if they are honest
   pub record Spares (files files' : F) (old new : KtutilState) (ending : LineEnd) : Type 0 where
     pub entries : ending ≢ end.Done → new.entries ≡ old.entries
     pub files_are : trait.is_honest files → ending ≢ end.Done → SameFiles (trait.file files) (trait.file files')

@@ -1,4 +1,4 @@
--- What a line of ktutil does: a plan of what is loaded and saved, and what comes of the answers.
+-- What a line of ktutil does: a plan of what is loaded and saved, and its effect by the results of the loads.
 use Rattle.std.specs.Prelude.{ℕ, ◌-◌, Bool, true, false, List, [], ◌∷◌, ◌++◌, length, remove, Option, None, Some, is_some, Result, Ok, Err, if◌then◌else◌}
 use Rattle.krb_wire.specs.declared.format.Order.{Order}
 use Rattle.krb_walk.specs.declared.refusal.Code.{Code}
@@ -23,19 +23,19 @@ use Rattle.krb_text.specs.Word.{key_word}
 use Rattle.krb_ktutil.specs.KtutilWords.{is_word, trimmed}
 use Rattle.krb_ktutil.specs.KtutilCommand.{Awaited, Command, Skip, ListSlots, ReadFile, WriteFile, AwaitKey, DeleteSlot, ClearList, Quit, command_of}
 
--- a list of entries, perhaps an entry that awaits its key, and the order of version 1 files
+-- a list of entries, an entry that awaits its key, if there is one, and the byte order of version 1 keytabs
 pub record KtutilState : Type 0 where
   pub order : Order
   pub entries : List EntryParts
   pub awaited : Option Awaited
 
--- what becomes of a line: the state after it, the text that it prints, and how it ends
+-- the outcome of a line: the state after it, the text that it prints, and how it ends
 pub record Outcome : Type 0 where
   pub state : KtutilState
   pub text : List ℕ
   pub ending : LineEnd
 
--- what a line comes to: an outcome, and whether memory is taken for it; or bytes that are saved under a name, and the state stays
+-- the effect of a line: an outcome, and whether it takes memory; or bytes to save under a name, where the state stays
 pub data LineEffect : Type 0 where
   ComesTo : Bool → Outcome → LineEffect
   Saves : List ℕ → List ℕ → LineEffect
@@ -44,29 +44,29 @@ pub data LineEffect : Type 0 where
 abbrev pub LinePlan : Type 0
 LinePlan = Plan LineEffect
 
--- the line ends so and prints nothing, and this is the state
+-- the line ends so and prints nothing, and `s` is the state
 abbrev pub kept : KtutilState → LineEnd → Outcome
 kept s ending = record { state = s; text = []; ending = ending }
 
--- the line ends so, and takes no memory
+-- the line ends so, takes no memory, and `s` is the state
 abbrev pub stays : KtutilState → LineEnd → LineEffect
 stays s ending = ComesTo false (kept s ending)
 
--- the line is done, and this is the state
+-- the line is done, and `s` is the state
 abbrev pub becomes : KtutilState → LineEffect
 becomes s = stays s end.Done
 
--- the same, and memory is taken for it
+-- the same for a line that takes memory
 abbrev pub grows_to : KtutilState → LineEffect
 grows_to s = ComesTo true (kept s end.Done)
 
--- how a line ends whose file is not read, or that runs out of memory
+-- how a line ends if its file is not read, or if memory runs out
 abbrev pub line_faults : KtutilState → Faults LineEffect
 line_faults s = record { unread = λ name. stays s (end.Load load.Failed); spent = λ name. stays s end.NoMemory }
 
 -- ---- files
 
--- how a line ends whose file gave no keytab
+-- how a line ends if its file gave no keytab
 abbrev pub no_keytab_end : NoKeytab → LineEnd
 no_keytab_end (Load load.Missing) = end.Load load.Missing
 no_keytab_end (Load load.TooLarge) = end.Load load.TooLarge
@@ -74,13 +74,13 @@ no_keytab_end (Load load.Failed) = end.Load load.Failed
 no_keytab_end (Load load.NoMemory) = end.NoMemory
 no_keytab_end (Open why) = end.NotAKeytab why
 
--- how a line ends that saved its file, or could not
+-- how a line ends after the save of its file
 abbrev pub save_end : Result (Unit {0}) SaveFault → LineEnd
 save_end (Ok done) = end.Done
 save_end (Err save.Failed) = end.Save save.Failed
 save_end (Err save.NoMemory) = end.NoMemory
 
--- the entries of a keytab come behind those of the list; a damaged one gives none
+-- the entries of a keytab are appended to the list; a damaged one is refused
 abbrev pub with_entries : KtutilState → Result KeytabState NoKeytab → LineEffect
 with_entries s (Err why) = stays s (no_keytab_end why)
 with_entries s (Ok k) =
@@ -93,12 +93,12 @@ with_added [] k = k
 with_added (e ∷ es) (Ok k) = with_added es (result_map (λ added. added.1) (put_result k e))
 with_added (e ∷ es) (Err refused) = Err refused
 
--- the keytab is saved under the name, or why not
+-- the keytab is saved under the name, or the line ends with the refusal
 abbrev pub saved_as : KtutilState → List ℕ → Result KeytabState Code → LineEffect
 saved_as s name (Ok k) = Saves name (image_of k)
 saved_as s name (Err refused) = stays s (end.Refused refused)
 
--- the entries of the list are added to a keytab, and that is saved
+-- the entries of the list are added to a keytab, and the keytab is saved
 abbrev pub written_to : KtutilState → List ℕ → Result KeytabState NoKeytab → LineEffect
 written_to s name (Ok k) = saved_as s name (with_added s.entries (Ok k))
 written_to s name (Err why) = stays s (no_keytab_end why)
@@ -109,22 +109,22 @@ written_to s name (Err why) = stays s (no_keytab_end why)
 abbrev pub key_line : ℕ → List ℕ → Result (List ℕ) LineFault
 key_line enctype line = if is_word (trimmed line) then key_word enctype (trimmed line) else Err BadKey
 
--- the entry that awaited its key, made now
+-- the entry that awaited its key, with the time `now`
 abbrev pub entry_of : Awaited → ℕ → List ℕ → EntryParts
 entry_of x now key = record { principal = x.principal; timestamp = now; version = x.version; enctype = x.enctype; key = key }
 
--- the entry comes behind the others; after a faulty key it is dropped
+-- the entry is appended to the list; after a faulty key it is dropped
 abbrev pub with_key : KtutilState → Awaited → ℕ → Result (List ℕ) LineFault → LineEffect
 with_key s x now (Ok key) = grows_to (record s { entries = s.entries ++ entry_of x now key ∷ []; awaited = None })
 with_key s x now (Err fault) = stays (record s { awaited = None }) (end.Fault fault)
 
 -- ---- a line
 
--- the list is added to what a file has
+-- the list is added to the keytab of a file
 abbrev pub writing_plan : KtutilState → List ℕ → LinePlan
 writing_plan s name = Loads name (λ answer. Ends (written_to s name (keytab_or_new s.order answer)))
 
--- what is done for a command, or for a faulty line
+-- the plan of a command, or of a faulty line
 abbrev pub command_plan : KtutilState → Result Command LineFault → LinePlan
 command_plan s (Err fault) = Ends (stays s (end.Fault fault))
 command_plan s (Ok Skip) = Ends (becomes s)
@@ -136,16 +136,16 @@ command_plan s (Ok (DeleteSlot slot)) = Ends (becomes (record s { entries = remo
 command_plan s (Ok ClearList) = Ends (becomes (record s { entries = [] }))
 command_plan s (Ok Quit) = Ends (stays s end.Quit)
 
--- where a key is awaited, the line is that key, whatever it is
+-- if a key is awaited, the line is that key, whatever it is
 abbrev pub plan_by : KtutilState → ℕ → List ℕ → Option Awaited → LinePlan
 plan_by s now line None = command_plan s (command_of line (length s.entries))
 plan_by s now line (Some x) = Ends (with_key s x now (key_line x.enctype line))
 
--- what is done for a line
+-- the plan of a line
 abbrev pub plan_of : KtutilState → ℕ → List ℕ → LinePlan
 plan_of s now line = plan_by s now line s.awaited
 
--- memory is taken for a plan; a call of a file may take some
+-- a plan takes memory; a file call may take some
 abbrev pub takes_memory : LinePlan → Bool
 takes_memory (Ends (ComesTo takes due)) = takes
 takes_memory plan = true

@@ -1,4 +1,4 @@
--- A run of ktutil, line after line.
+-- A run of ktutil, line by line.
 use Rattle.std.specs.Prelude.{◌≡◌, ◌≢◌, ◌⊎◌, ◌||◌, ℕ, ◌+◌, ◌<◌, max, take, Bool, true, false, IsTrue, IsFalse, List, [], ◌∷◌, ◌++◌, length, Option, None, Some, IfSome, Ok, Err}
 use Rattle.krb_wire.specs.declared.format.Order.{Order}
 use Rattle.krb_files.specs.declared.files.Files.{Ghosts}
@@ -20,7 +20,7 @@ use Rattle.krb_files.specs.Loading.{most_bytes}
 use Rattle.krb_driver.specs.Runs.{Run, SaysEnd, EndsRun}
 use Rattle.krb_driver.specs.Troubles.{Ending, input_trouble, load_trouble, save_trouble, trouble_status}
 
--- how a line of that number ended
+-- the ending of a line of that number
 abbrev pub ending_of : ℕ → LineEnd → Ending
 ending_of number end.Done = Ok Well
 ending_of number end.Quit = Ok Well
@@ -31,7 +31,7 @@ ending_of number (end.Load fault) = Err (load_trouble fault)
 ending_of number (end.Save fault) = Err (save_trouble fault)
 ending_of number end.NoMemory = Err trouble.NoMemory
 
--- a line's text, and then its end
+-- what a line prints, and its ending
 abbrev pub line_run : ℕ → LineEnd → List ℕ → Run
 line_run number ending text = record { out = text; ending = ending_of number ending }
 
@@ -68,7 +68,7 @@ abbrev pub AreFirst : List (List ℕ) → Option (List ℕ) → Type 0
 AreFirst lines given = IfSome given (λ bytes. (more : List (List ℕ)) × (lines_of bytes ≡ lines ++ more))
 
 module _ {F : Type 0} (trait : Ghosts F) (now : ℕ) where
-  -- a line was handled by its plan: its text went out, it was said how it ended, and the worst status was kept
+  -- a line was run by its plan: its text was printed, its end was reported, and the worst status was kept
   pub record HandlesLine (number : ℕ) (line : List ℕ) (old new : Talk F) (ending : LineEnd) : Type 0 where
     pub text : List ℕ
     pub status : ℕ
@@ -76,20 +76,20 @@ module _ {F : Type 0} (trait : Ghosts F) (now : ℕ) where
     pub ends : EndsRun (named_in line) (Some number) (line_run number ending text) old.out new.out old.err new.err status
     pub worst : new.status ≡ max old.status status
 
-  -- a line was handled, and the next one may come
+  -- a line was run, and the next one may come
   pub record Continues (number : ℕ) (line : List ℕ) (old new : Talk F) : Type 0 where
     pub ending : LineEnd
     pub handles : HandlesLine number line old new ending
     pub goes_on : IsTrue (goes_on ending)
     pub well : IsFalse new.out.failed
 
-  -- a line was handled, and none comes after it: it quits, or memory ran out, or the output failed
+  -- a line was run, and none comes after it: it quits, or memory ran out, or the output failed
   pub record Stops (number : ℕ) (line : List ℕ) (old new : Talk F) : Type 0 where
     pub ending : LineEnd
     pub handles : HandlesLine number line old new ending
     pub why : IsFalse (goes_on ending) ⊎ IsTrue new.out.failed
 
-  -- lines were handled one after the other, the first of them with that number
+  -- lines were run one after the other, the first of them with that number
   abbrev pub TalksOver : ℕ → List (List ℕ) → Talk F → Talk F → Type 0
   TalksOver number [] old new = new ≡ old
   TalksOver number (line ∷ lines) old new = (between : Talk F) × Continues number line old between × TalksOver (number + 1) lines between new
@@ -101,21 +101,21 @@ module _ {F : Type 0} (trait : Ghosts F) (now : ℕ) where
       pub well : input'.failed ≡ input.failed
       pub same : end ≡ last
 
-    -- one more line was handled, and was the last
+    -- one more line was run, and it was the last
     pub record EndsInLine : Type 0 where
       pub line : List ℕ
       pub first : AreFirst (lines ++ line ∷ []) input.left
       pub well : input'.failed ≡ input.failed
       pub stops : Stops (length lines + 1) line last end
 
-    -- no more of the input was read, and it was said why; a line that was cut off is none
+    -- no more of the input was read, and the reason was reported; what was cut off is not a line
     pub record EndsUnread : Type 0 where
       pub fault : LoadFault
       pub first : AreFirst lines input.left
       pub never : fault ≢ Missing
       pub too_large : fault ≡ TooLarge → IfSome input.left (λ bytes. most_bytes < length bytes)
       pub failed : input'.failed ≡ (is_failed fault || input.failed)
-      -- of what was read, as far as an input may go, each line that has its newline was handled
+      -- of what was read, within what an input may have, each line that has its newline was run
       pub read : List ℕ
       pub consumes : Consumes input.left input'.left read
       pub due : CutsOff lines (take most_bytes read) ⊎ IfSome input.left (λ bytes. lines_of bytes ≡ lines)

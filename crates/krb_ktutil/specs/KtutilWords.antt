@@ -6,23 +6,23 @@ use Rattle.std.specs.List.{concat, slice_split}
 abbrev pub is_blank : ℕ → Bool
 is_blank b = b == 32 || b == 9
 
--- a line, cut from the left: a backslash and the byte after it stay together, and each other byte stands alone
+-- a line split into pieces, from the left: a backslash with the byte after it, or one other byte
 abbrev pub pieces : List ℕ → List (List ℕ)
 pieces [] = []
 pieces (b ∷ []) = (b ∷ []) ∷ []
 pieces (b ∷ c ∷ rest) = if b == 92 then (b ∷ c ∷ []) ∷ pieces rest else (b ∷ []) ∷ pieces (c ∷ rest)
 
--- a blank alone
+-- a piece is a blank
 abbrev pub is_gap : List ℕ → Bool
 is_gap [] = false
 is_gap (b ∷ []) = is_blank b
 is_gap (b ∷ c ∷ rest) = false
 
--- what stands before, between and after the blanks
+-- the parts before, between and after the blanks that are not quoted
 abbrev pub parts : List ℕ → List (List ℕ)
 parts line = map concat (slice_split is_gap (pieces line))
 
--- it has a byte
+-- a part is not empty
 abbrev pub is_word : List ℕ → Bool
 is_word [] = false
 is_word (b ∷ bs) = true
@@ -37,7 +37,7 @@ second [] = []
 second (first ∷ []) = []
 second (first ∷ word ∷ others) = word
 
--- a text without the blanks that it begins with
+-- a text without its leading blanks
 abbrev pub unindented : List ℕ → List ℕ
 unindented [] = []
 unindented (b ∷ bs) = if is_blank b then unindented bs else b ∷ bs
@@ -46,12 +46,12 @@ unindented (b ∷ bs) = if is_blank b then unindented bs else b ∷ bs
 abbrev pub trimmed : List ℕ → List ℕ
 trimmed text = reverse (unindented (reverse (unindented text)))
 
--- how many bytes stand before the first blank, after a backslash or not: for a private contract
+-- the number of bytes before the first blank that is not quoted, by whether the first byte is: for a private contract
 abbrev pub size_from : List ℕ → Bool → ℕ
 size_from [] quoted = zero
 size_from (b ∷ bs) true = suc (size_from bs false)
 size_from (b ∷ bs) false = if is_blank b then zero else suc (size_from bs (b == 92))
 
--- how many bytes stand before the first blank
+-- the number of bytes before the first blank that is not quoted
 abbrev pub word_size : List ℕ → ℕ
 word_size text = size_from text false

@@ -1,4 +1,4 @@
-//! Lines out of a reader, each as soon as its end is read.
+//! Reads lines from a reader, each as soon as its end is read.
 
 ghost use Rattle.std.specs.Prelude.{◌≡◌, ◌≢◌, ◌⊎◌, ◌||◌, ◌<◌, ◌≤◌, ◌+◌, [], length, slice_range, IfOk, IfErr, IfSome, IsTrue, OnErr, IsErrOf, vec_len};
 ghost use Rattle.krb_files.specs.Reader.{is_read_fault};
@@ -11,11 +11,11 @@ use std::alloc::Allocator;
 use std::io::Read;
 use std::marker::Model;
 
-/// An input as far as it was read, and the line that was read last.
+/// What was read of an input so far, and the last line read.
 #[derive(Drop)]
 pub struct InputLines<A: Allocator> {
     bytes: Vec<u8, A>,
-    // Where that line begins and ends, and where the next one begins.
+    // Where the last line begins and ends, and where the next one begins.
     from: usize,
     to: usize,
     next: usize,
@@ -38,7 +38,7 @@ impl<A: Allocator> Model for InputLines<A> {
         × (vec_len i.bytes ≤ most_bytes + 1) };
 }
 
-// The first newline from a place on.
+// Returns the place of the first newline from `from` on.
 fn newline_from(bytes: &[u8], from: usize) -> Option<usize>
     requires { from ≤ length bytes.now }
     ensures { FindsNewline bytes.now from result }
@@ -47,7 +47,7 @@ fn newline_from(bytes: &[u8], from: usize) -> Option<usize>
     Some(from + offset)
 }
 
-// Reads on until a newline stands behind a place, or the input ends.
+// Reads until there is a newline from `next` on, or the input ends. Returns the place of the newline, if any.
 fn read_to_newline<A: Allocator, R: Read>(
     bytes: &mut Vec<u8, A>,
     reader: &mut WatchedReader<R>,
@@ -86,7 +86,7 @@ fn read_to_newline<A: Allocator, R: Read>(
 }
 
 impl<A: Allocator> InputLines<A> {
-    /// An input of which nothing was read.
+    /// Returns an input before the first read.
     pub fn new(alloc: A) -> InputLines<A>
         ensures { result ≡ record { read = []; line = []; next = 0 } }
     {
@@ -98,21 +98,21 @@ impl<A: Allocator> InputLines<A> {
         }
     }
 
-    /// The line that was read last, without its newline.
+    /// Returns the last line read, without its newline.
     pub fn line(&self) -> &[u8]
         ensures { result.now ≡ self.now.line }
     {
         &self.bytes[self.from..self.to]
     }
 
-    /// Reads the next line, and no further than its end is known; false where the input has ended. A last
-    /// line needs no newline. At most one byte more than `USUAL_LIMIT` is read, of all lines together.
+    /// Reads the next line, and stops as soon as its end is read. Returns false at the end of the input. The last line
+    /// needs no newline. Of all lines together at most `USUAL_LIMIT + 1` bytes are read.
     pub fn read_line<R: Read>(&mut self, reader: &mut WatchedReader<R>) -> Result<bool, LoadFault>
         ensures line { IfOk result (λ is_line. ReadsLine is_line self.old self.new
             reader.old.left reader.new.left) }
         ensures ended { IfOk result (λ is_line. IsTrue is_line
             → EndsInNewline self.old self.new ⊎ IsSpent self.new reader.new.left) }
-        // Where a read fails no line is lost, but what was cut off is no line.
+        // If a read fails, no line is lost, but what was cut off is not a line.
         ensures no_more { OnErr result (HasNoMore self.old self.new) }
         ensures failed { reader.new.failed ≡ (is_read_fault result || reader.old.failed) }
         ensures err { OnErr result (KeepsLines self.old self.new

@@ -1,4 +1,4 @@
-//! Runs the lines of ktutil.
+//! ktutil: runs the lines of the input.
 
 ghost use Rattle.std.specs.Prelude.{◌≡◌, ◌&&◌, [], None, IsFalse, not};
 ghost use Rattle.krb_ktutil.specs.Ktutil.{HandlesNext, RunsKtutil};
@@ -45,26 +45,26 @@ Commands, each on a line, and their short names:
     words: &[V1_BIG],
 };
 
-/// A run of ktutil between two lines.
+/// The state of a run of ktutil between two lines.
 #[derive(Drop)]
 struct Talk<A: Allocator> {
     ktutil: Ktutil<A>,
-    /// When entries are made.
+    /// The time of new entries.
     now: u32,
-    /// Room for the text of a line.
+    /// A buffer for the text that a line prints.
     text: Vec<u8, A>,
     /// The worst status so far.
     status: u8,
 }
 
-// Whether another line may come after one that ended so, by the output too.
+// Returns whether another line may come after one that ended so: not after `Quit`, `NoMemory` or a failed output.
 fn goes_on(ending: LineEnd, has_out_failed: bool) -> bool
     ensures { result ≡ (goes_on ending && not has_out_failed) }
 {
     !matches!(ending, LineEnd::Quit | LineEnd::NoMemory) && !has_out_failed
 }
 
-// How a line of that number ended.
+// Returns the ending of a line of that number.
 fn ending_of(number: u64, ending: LineEnd) -> Result<Verdict, Trouble>
     ensures { result ≡ ending_of number ending }
 {
@@ -96,7 +96,7 @@ impl<A: Allocator + Copy> Talk<A> {
         }
     }
 
-    // Handles a line, and answers whether the next one may come.
+    // Runs a line, prints its text, reports its end, and returns whether another line may come.
     fn handle<F: Files, W: Write, E: Write>(
         &mut self,
         number: u64,
@@ -122,10 +122,9 @@ impl<A: Allocator + Copy> Talk<A> {
     }
 }
 
-/// Handles the lines of the input, each as soon as its end has been read, up to one that quits, and answers
-/// the worst status. The text of a line goes to `out` before the next one is read. Want of memory, a failure
-/// of `out`, and an input that fails or is too large end the run. What goes wrong is said on `err`; a failure
-/// of `err` changes nothing else.
+/// Runs the lines of the input, each as soon as its end is read, up to one that quits, and returns the worst status.
+/// Prints the text of a line before it reads the next one. The run also ends if memory runs out, if `out` fails, or
+/// if the input fails or is too large. Reports errors on `err`; a failure of `err` changes nothing else.
 pub fn run_ktutil<A: Allocator + Copy, F: Files, R: Read, W: Write, E: Write>(
     alloc: A,
     v1_order: Order,

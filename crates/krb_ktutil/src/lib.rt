@@ -1,4 +1,4 @@
-//! ktutil: a list of entries that lines change, read from keytabs and written to them.
+//! ktutil: commands over a list of entries, read from keytabs and written to them.
 #![tactic(auto)]
 
 mod input_lines;

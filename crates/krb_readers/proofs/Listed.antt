@@ -1,4 +1,4 @@
--- What is shown of a file where its output fails.
+-- What klist prints of a file if its output fails.
 use Rattle.std.proofs.Common.{◌≡◌, ℕ, List, [], ◌∷◌, ◌++◌, inl, inr, refl, sym, ap, ◌∙◌}
 use Rattle.std.specs.Prelude.{Bool, true, false, IsFalse, Ok, Err, codes}
 use Rattle.std.proofs.lemmas.Bool.{false≢true, true≢false}
@@ -16,7 +16,7 @@ use Rattle.krb_driver.specs.Commands.{ShowsPage}
 use Rattle.krb_driver.specs.Effects.{Page}
 use Rattle.krb_driver.specs.Troubles.{Ending, out_trouble}
 
--- nothing stands in a list
+-- a list is empty
 abbrev is_none : List ℕ → Bool
 is_none [] = true
 is_none (x ∷ xs) = false
@@ -30,17 +30,17 @@ line-some : (text : List ℕ) → text ++ codes "\n" ≡ [] → ⊥
 line-some [] is = cons-some 10 [] is
 line-some (x ∷ xs) is = cons-some x (xs ++ codes "\n") is
 
--- what is shown of a keytab is not empty
+-- what is printed of a keytab is not empty
 pub keytab_shown-some : (json : Bool) (columns : KtColumns) (file : List ℕ) (k : KeytabState) → keytab_shown json columns file k ≡ [] → ⊥
 keytab_shown-some true columns file k is = line-some _ is
 keytab_shown-some false columns file k is = cons-some 75 _ is
 
--- nor what is shown of a cache
+-- nor what is printed of a cache
 pub cache_shown-some : (json : Bool) (columns : CcColumns) (file : List ℕ) (k : CacheState) → cache_shown json columns file k ≡ [] → ⊥
 cache_shown-some true columns file k is = line-some _ is
 cache_shown-some false columns file k is = cons-some 84 _ is
 
--- a page was shown whole
+-- the whole page was printed
 pub ShowsPage-done : (page : Page) (out out' : Watch) (ending : Ending) → IsFalse out.failed → IsFalse out'.failed → Appends out.contents out'.contents page.out → ending ≡ Ok page.verdict → ShowsPage out out' ending page
 ShowsPage-done page out out' ending well still appends is = inl (record {
   done = λ _. (appends, is);

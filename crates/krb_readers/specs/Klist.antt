@@ -24,19 +24,19 @@ use Rattle.krb_driver.specs.Mistakes.{MistakeParts, DoNotGoTogether, ForKeytabs}
 use Rattle.krb_driver.specs.Opening.{listed_in}
 use Rattle.krb_driver.specs.Verdicts.{listing_verdict}
 
--- what is shown of a keytab: one JSON object, or its listing
+-- what is printed of a keytab: one JSON object, or its listing
 abbrev pub keytab_shown : Bool → KtColumns → List ℕ → KeytabState → List ℕ
 keytab_shown json columns file k = if json then keytab_json_text file columns.keys k else list_text columns file k
 
--- what is shown of a cache: one JSON object, or its listing
+-- what is printed of a cache: one JSON object, or its listing
 abbrev pub cache_shown : Bool → CcColumns → List ℕ → CacheState → List ℕ
 cache_shown json columns file k = if json then cache_json_text file k else cache_text columns file k
 
--- the page of a keytab; where it is damaged the listing reports it
+-- the page of a keytab; if it is damaged, the listing reports the fault
 abbrev pub keytab_page : Bool → KtColumns → List ℕ → KeytabState → Page
 keytab_page json columns file k = record { out = keytab_shown json columns file k; verdict = listing_verdict (fault_of (store_of k)); takes = true }
 
--- the page of a cache
+-- the page of a cache, in the same way
 abbrev pub cache_page : Bool → CcColumns → List ℕ → CacheState → Page
 cache_page json columns file k = record { out = cache_shown json columns file k; verdict = listing_verdict (fault_of (cache_store k)); takes = true }
 
@@ -48,7 +48,7 @@ opened_page json (opened.Cache columns cache) file = cache_page json columns fil
 abbrev pub listing_page : {A : Type 0} → Listing A → List ℕ → Page
 listing_page l file = opened_page l.json l.opened file
 
--- the file is loaded as that kind, and what it gives is shown
+-- the file is opened as that kind and printed
 abbrev pub listing_plan : ListKind → Bool → Order → List ℕ → CommandPlan
 listing_plan (Keytab columns) json order file = opens file (listed_in order) (λ k. Ends (Displays file (keytab_page json columns file k)))
 listing_plan (Cache columns) json order file = opens file cache_of (λ k. Ends (Displays file (cache_page json columns file k)))
@@ -58,7 +58,7 @@ klist_plan o file = listing_plan o.kind o.json o.v1_order file
 
 -- ---- what the words ask for
 
--- the first option that does not go with the word for a keytab
+-- the first option that does not go with `-k`
 abbrev pub odd_with_keytab : Matched → Option MistakeParts
 odd_with_keytab words =
     if words.flag (codes "cache") then Some (DoNotGoTogether (codes "-c") (codes "-k"))
@@ -66,7 +66,7 @@ odd_with_keytab words =
     else (if words.flag (codes "configs") then Some (DoNotGoTogether (codes "-C") (codes "-k"))
     else None))
 
--- the first option that asks for the word for a keytab
+-- the first option that goes only with `-k`
 abbrev pub odd_with_cache : Matched → Option MistakeParts
 odd_with_cache words =
     if words.flag (codes "times") then Some (ForKeytabs (codes "-t"))
@@ -74,11 +74,11 @@ odd_with_cache words =
     else (if words.flag (codes "v1-big") then Some (ForKeytabs (codes "--v1-big"))
     else None))
 
--- what does not go together in the words, if something does not
+-- the first option that is for the other kind of file, if there is one
 abbrev pub odd_option : Matched → Option MistakeParts
 odd_option words = if words.flag (codes "keytab") then odd_with_keytab words else odd_with_cache words
 
--- the kind of file: a cache, unless the words name a keytab; each column has a word of its own
+-- the kind of file, a cache unless `-k` is given, and the columns, each selected by its own option
 abbrev pub list_kind : Matched → ListKind
 list_kind words =
     if words.flag (codes "keytab")

@@ -16,14 +16,14 @@ use Rattle.krb_driver.specs.Opening.{keytab_in}
 abbrev pub tells_any : Told → Bool
 tells_any t = t.weak || (t.hidden || (t.same || (t.clash || (t.old || t.mode))))
 
--- how a run ends that printed findings: well, where no word and no fault was printed
+-- the verdict of a run that printed findings: `Well` if no word and no fault was printed
 abbrev pub found_verdict : Findings → Verdict
 found_verdict findings = if tells_any findings.words || is_some findings.fault then Found findings else Well
 
--- what is found about a keytab, where a plain file that has it has this mode
+-- what is found about a keytab in a plain file with this mode
 abbrev pub findings : Option ℕ → KeytabState → Page
 findings mode k = text (report mode k) (found_verdict (record { words = told mode k; fault = fault_of (store_of k); is_wrong = is_wrong mode k }))
 
--- the file is loaded, and what is found about the keytab that it gives is printed
+-- the file is opened, and what is found about its keytab is printed
 abbrev pub ktcheck_plan : Order → List ℕ → Option ℕ → CommandPlan
 ktcheck_plan order file mode = opens file (keytab_in order) (λ k. Ends (Displays file (findings mode k)))

@@ -26,13 +26,13 @@ found file (Err code) = Fails file (Refused code)
 abbrev pub finds : {A : Type 0} → FindOptions A → List ℕ → KeytabState → Effect
 finds o file k = found file (find_result k (principal_parts o.name) o.kvno o.enctype)
 
--- the file is loaded, and an entry is looked up in the keytab that it gives
+-- the file is opened, and an entry is looked up in its keytab
 abbrev pub ktfind_plan : {A : Type 0} → FindOptions A → List ℕ → CommandPlan
 ktfind_plan o file = opens file (keytab_in o.v1_order) (λ k. Ends (finds o file k))
 
 -- ---- what the words ask for
 
--- the first of the three words that spells no version, no encryption type or no name
+-- the first of the three words that is not a kvno, an enctype or a principal name
 abbrev pub find_mistake : Matched → Option MistakeParts
 find_mistake words =
     if is_none (number_in 32 (words.operand (codes "KVNO"))) then Some (NoVersion (words.operand (codes "KVNO")))

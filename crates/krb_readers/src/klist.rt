@@ -1,4 +1,4 @@
-//! Lists a file.
+//! klist: lists a keytab or a credential cache.
 
 ghost use Rattle.std.specs.Prelude.{◌≡◌, IsFalse, option_map};
 ghost use Rattle.krb_text.specs.Gathered.{Prints};
@@ -43,7 +43,7 @@ krbfile klist [-c] [-e] [-f] [-C] [--json] FILE
     ],
 };
 
-/// The kind of file that klist lists, and what it shows of it.
+/// The kind of file that klist lists, and the columns that it shows.
 #[derive(Clone, Copy)]
 pub enum ListKind {
     Keytab(KtColumns),
@@ -54,13 +54,13 @@ pub enum ListKind {
 #[derive(Clone, Copy)]
 pub struct KlistOptions {
     pub kind: ListKind,
-    /// The order of a keytab of version 1.
+    /// The byte order of version 1 keytabs.
     pub v1_order: Order,
-    /// To give all as one JSON object, whatever is shown; of a keytab the keys only where they are.
+    /// Print all as one JSON object, whatever the columns; the keys of a keytab only with their column.
     pub json: bool,
 }
 
-// An option that does not go with a keytab.
+// Returns the mistake of an option that does not go with `-k`, if one is given.
 fn odd_with_keytab<'a, M: Matches<'a>>(matches: &M) -> Option<Mistake<'a>>
     ensures { option_map mistake_parts result ≡ odd_with_keytab (M.matched matches.now) }
 {
@@ -75,7 +75,7 @@ fn odd_with_keytab<'a, M: Matches<'a>>(matches: &M) -> Option<Mistake<'a>>
     }
 }
 
-// An option that goes with a keytab alone.
+// Returns the mistake of an option that goes only with `-k`, if one is given.
 fn odd_with_cache<'a, M: Matches<'a>>(matches: &M) -> Option<Mistake<'a>>
     ensures { option_map mistake_parts result ≡ odd_with_cache (M.matched matches.now) }
 {
@@ -90,7 +90,7 @@ fn odd_with_cache<'a, M: Matches<'a>>(matches: &M) -> Option<Mistake<'a>>
     }
 }
 
-// The first option that does not go with the others: each kind of file has options of its own.
+// Returns the first option that is for the other kind of file.
 fn odd_option<'a, M: Matches<'a>>(matches: &M) -> Option<Mistake<'a>>
     ensures { option_map mistake_parts result ≡ odd_option (M.matched matches.now) }
 {
@@ -101,7 +101,7 @@ fn odd_option<'a, M: Matches<'a>>(matches: &M) -> Option<Mistake<'a>>
     }
 }
 
-// The kind of file: a cache, unless the words name a keytab. Each column has a word of its own.
+// Returns the kind of file, a cache unless `-k` is given, and the columns, each selected by its own option.
 fn list_kind<'a, M: Matches<'a>>(matches: &M) -> ListKind
     ensures { result ≡ list_kind (M.matched matches.now) }
 {
@@ -120,7 +120,7 @@ fn list_kind<'a, M: Matches<'a>>(matches: &M) -> ListKind
     }
 }
 
-/// The options that the words of klist ask for, which have to go together.
+/// Returns the options of klist. Refuses options that do not go together.
 pub fn klist_options<'a, M: Matches<'a>>(matches: &M) -> Result<KlistOptions, WordFault<'a>>
     ensures { Reads (odd_option (M.matched matches.now)) (λ options. options ≡ list_options (M.matched matches.now)) result }
 {
@@ -134,28 +134,28 @@ pub fn klist_options<'a, M: Matches<'a>>(matches: &M) -> Result<KlistOptions, Wo
     })
 }
 
-/// What klist asks for.
+/// The command klist.
 #[derive(Clone, Copy)]
 struct ListFile<'f> {
     options: &'f KlistOptions,
     file: &'f str,
 }
 
-/// What was opened, and what is shown of it.
+/// The file that was opened, and the columns to show.
 #[derive(Drop)]
 pub enum Opened<A: Allocator> {
     Keytab(KtColumns, Keytab<A>),
     Cache(CcColumns, Ccache<A>),
 }
 
-/// A listing of what was opened, perhaps as JSON.
+/// A listing of the file that was opened, or its JSON.
 #[derive(Drop)]
 pub struct Listing<A: Allocator> {
     json: bool,
     opened: Opened<A>,
 }
 
-// Shows a keytab by those columns, or as JSON.
+// Prints a keytab with those columns, or as JSON.
 fn show_keytab<A: Allocator + Copy, W: Write>(
     alloc: A,
     json: bool,
@@ -174,7 +174,7 @@ fn show_keytab<A: Allocator + Copy, W: Write>(
     }
 }
 
-// Shows a cache by those columns, or as JSON.
+// Prints a cache with those columns, or as JSON.
 fn show_cache<A: Allocator + Copy, W: Write>(
     alloc: A,
     json: bool,
@@ -193,7 +193,7 @@ fn show_cache<A: Allocator + Copy, W: Write>(
     }
 }
 
-// How a listing ends, which reports a fault.
+// Returns the verdict of a listing, which reports the fault if there is one.
 fn listing_verdict(fault: Option<Fault>) -> Verdict
     ensures { result ≡ listing_verdict fault }
 {
@@ -225,7 +225,7 @@ impl<A: Allocator + Copy> Show<A> for Listing<A> {
     }
 }
 
-// What is shown of what was opened.
+// Returns the listing of the file that was opened.
 fn shown<'a, A: Allocator>(
     command: &ListFile<'a>,
     opened: Opened<A>,
@@ -270,7 +270,7 @@ impl<'f, A: Allocator + Copy> Command<A> for ListFile<'f> {
     }
 }
 
-/// Lists the file of that name, and returns the status.
+/// Lists `file` and returns the exit status.
 #[tactic(auto, unfolding(krb_driver::specs::Commands::always))]
 pub fn run_klist<A: Allocator + Copy, F: Files, R: Read, W: Write, E: Write>(
     alloc: A,

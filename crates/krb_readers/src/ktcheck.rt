@@ -1,4 +1,4 @@
-//! Finds what an administrator should know of a keytab.
+//! ktcheck: reports what an administrator should know about a keytab.
 
 ghost use Rattle.std.specs.Prelude.{◌≡◌, IsFalse};
 ghost use Rattle.krb_driver.specs.Commands.{RunsCommand, any, text_effect};
@@ -23,14 +23,14 @@ pub const KTCHECK: CommandWords = CommandWords {
     words: &[V1_BIG, Word::Operand("FILE", "The file to check")],
 };
 
-/// What ktcheck asks for.
+/// The command ktcheck.
 #[derive(Clone, Copy)]
 struct CheckKeytab<'f> {
     v1_order: Order,
     file: &'f str,
 }
 
-// How a run ends that printed findings: well, where no word and no fault was printed.
+// Returns the verdict of a run that printed findings: `Well` if no word and no fault was printed.
 fn found_verdict(findings: Findings) -> Verdict
     ensures { result ≡ found_verdict findings }
 {
@@ -43,7 +43,7 @@ fn found_verdict(findings: Findings) -> Verdict
     }
 }
 
-// What is found about the keytab that was loaded.
+// Checks the keytab that was loaded.
 fn check<'a, A: Allocator + Copy, F: Files>(
     alloc: A,
     command: &CheckKeytab<'a>,
@@ -88,7 +88,7 @@ impl<'f, A: Allocator + Copy> Command<A> for CheckKeytab<'f> {
     }
 }
 
-/// Finds what an administrator should know of the keytab of that name, prints it, and returns the status.
+/// Prints what an administrator should know about the keytab `file`, and returns the exit status.
 pub fn run_ktcheck<A: Allocator + Copy, F: Files, R: Read, W: Write, E: Write>(
     alloc: A,
     v1_order: Order,

@@ -1,4 +1,4 @@
-//! Looks up an entry in a keytab's file.
+//! ktfind: looks up an entry in a keytab.
 
 ghost use Rattle.std.specs.Prelude.{◌≡◌, IsFalse};
 ghost use Rattle.krb_driver.specs.Commands.{RunsCommand, always, any, text_effect};
@@ -34,15 +34,15 @@ pub const KTFIND: CommandWords = CommandWords {
 #[derive(Drop)]
 pub struct FindOptions<A: Allocator> {
     pub name: Principal<A>,
-    /// 0 asks for the highest.
+    /// 0 for the highest.
     pub kvno: u32,
-    /// 0 asks for any.
+    /// 0 for any.
     pub enctype: u16,
-    /// The order of a keytab of version 1.
+    /// The byte order of version 1 keytabs.
     pub v1_order: Order,
 }
 
-/// What the words of ktfind spell: a number, an encryption type and a name with its realm.
+/// Parses the words of ktfind: a kvno, an enctype, and a principal with its realm.
 pub fn find_options<'a, M: Matches<'a>>(
     alloc: Global,
     matches: &M,
@@ -65,14 +65,14 @@ pub fn find_options<'a, M: Matches<'a>>(
     })
 }
 
-/// What ktfind asks for.
+/// The command ktfind.
 #[derive(Clone, Copy)]
 struct FindEntry<'f, B: Allocator> {
     options: &'f FindOptions<B>,
     file: &'f str,
 }
 
-// The line of the entry that is looked up.
+// Looks up the entry and returns its line.
 fn find<'a, A: Allocator, B: Allocator>(
     alloc: A,
     command: &FindEntry<'a, B>,
@@ -117,7 +117,7 @@ impl<'f, A: Allocator + Copy, B: Allocator> Command<A> for FindEntry<'f, B> {
     }
 }
 
-/// Looks up an entry in the keytab of that name, prints it, and returns the status.
+/// Looks up an entry in the keytab `file`, prints it, and returns the exit status.
 #[tactic(auto, unfolding(krb_driver::specs::Commands::always))]
 pub fn run_ktfind<A: Allocator + Copy, B: Allocator, F: Files, R: Read, W: Write, E: Write>(
     alloc: A,

@@ -12,7 +12,7 @@ use Rattle.krb_text.specs.Key.{key_in}
 use Rattle.krb_text.specs.Word.{number_word, etype_word, name_word}
 use Rattle.krb_text.specs.Script.{◌>>=◌, Addition, digits_of, entry_of}
 
--- the entry of what is read
+-- the entry made of what the words are read as
 abbrev entry_by : Result ℕ LineFault → Result ℕ LineFault → Result ℕ LineFault → List ℕ → Result Parts LineFault → Result EntryParts LineFault
 entry_by kvno etype time digits name = do
   version ← kvno
@@ -22,7 +22,7 @@ entry_by kvno etype time digits name = do
   principal ← name
   Ok (record { principal = principal; timestamp = timestamp; version = version; enctype = enctype; key = key })
 
--- where the key is one, and the name is refused, so is the entry
+-- if the key is valid and the name is refused, the entry is refused for the same reason
 after_key : (v t s : ℕ) (key : Option (List ℕ)) (name : Result Parts LineFault) (e : LineRefusal) → true ≡ is_some key → Reads {T = Parts} (λ p. p) name (Err e)
     → Reads {T = EntryParts} (λ x. x) (ok_or key BadKey >>= λ k. name >>= λ p. Ok (record { principal = p; timestamp = s; version = v; enctype = t; key = k })) (Err e)
 after_key v t s None name e some h = let no : true ≡ false = some in cc
@@ -31,7 +31,7 @@ after_key v t s (Some k) (Err fault) (Fault other) some h = let same : fault ≡
 after_key v t s (Some k) (Ok p) NoMemory some h = refl
 after_key v t s (Some k) (Err fault) NoMemory some h = h
 
--- where all but the name is read, and that is refused
+-- if all words but the name are valid and the name is refused, the entry is refused for the same reason
 pub name_refused : (a : Addition) (digits : List ℕ) (v t s : ℕ) (e : LineRefusal) → Ok v ≡ number_word a.kvno → Ok t ≡ etype_word a.etype → Ok s ≡ number_word a.time → digits ≡ digits_of a.key → true ≡ is_some (key_in t digits)
     → Reads {T = Parts} (λ p. p) (name_word a.name) (Err e) → Reads {T = EntryParts} (λ x. x) (entry_of a) (Err e)
 name_refused a digits v t s e is_v is_t is_s is_digits some h =

@@ -1,9 +1,9 @@
--- A number that is right in four places.
+-- A number right-aligned in four columns.
 use Rattle.std.proofs.Common.{◌≡◌, ℕ, ◌+◌, ◌-◌, ◌≤◌, List, [], ◌∷◌, ◌++◌, length, take, drop, replicate, sym, ap, ◌∙◌, append_assoc, length-append, take-append-drop, arith}
 use Rattle.std.specs.Prelude.{min}
 use Rattle.std.proofs.lemmas.List.{drop_at, take_all, take-replicate, length-replicate, replicate-append-replicate}
 
--- of twenty spaces over whose end digits were written, and a space, what begins at the digits or four places before the end
+-- of 21 spaces with digits written up to the last one, the slice from the digits or from 16, whichever is first
 pub right_aligned : (text digits : List ℕ) (start m : ℕ) → start + length digits ≡ 20 → drop start text ≡ digits ++ (32 ∷ []) → take start text ≡ take start (replicate {A = ℕ} 21 32) → m ≡ min start 16
     → take (21 - m) (drop m text) ≡ (replicate (4 - length digits) 32 ++ digits) ++ (32 ∷ [])
 right_aligned text digits start m len written before is_m =

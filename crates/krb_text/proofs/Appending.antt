@@ -1,13 +1,13 @@
--- Texts that are appended one behind another.
+-- Texts that are appended one after another.
 use Rattle.std.proofs.Common.{◌≡◌, ℕ, ◌≤◌, List, ◌++◌, length, Vec, Result, Ok, Err, ap, ◌∙◌, append_assoc, length-append, vec_capacity, arith}
 use Rattle.std.proofs.lemmas.Result.{on_ok_weaker, on_err_weaker}
 use Rattle.krb_wire.specs.Text.{Grew, HadNoRoom, AppendedPart}
 
--- behind a text what is appended next
+-- a text was appended, and then more: both together are what was appended
 grew_more : (old mid new x : List ℕ) → mid ≡ old ++ x → Grew mid new → Grew old new
 grew_more old mid new x is h = record { more = x ++ h.more; parts = h.parts ∙ ap (λ (t : List ℕ). t ++ h.more) is ∙ append_assoc old x h.more }
 
--- it did not fit behind a text, so both did not fit
+-- if the second text did not fit after the first, the two together did not fit
 room_more : {A : Type 0} (x y : List ℕ) (old mid : Vec ℕ A) → mid.items ≡ old.items ++ x → vec_capacity old ≤ vec_capacity mid → HadNoRoom mid y → HadNoRoom old (x ++ y)
 room_more x y old mid is capacity full =
     let before = old.ok.0 in
@@ -23,7 +23,7 @@ part_then x y old mid new r first second = record {
   full = on_err_weaker r (room_more x y old mid first.ok first.capacity) second.full;
 }
 
--- memory was refused for the first of two texts
+-- an allocation failed for the first of two texts
 pub part_fails : {A E F : Type 0} (x y : List ℕ) (old new : Vec ℕ A) (e : E) (f : F) → AppendedPart x old new (Err e) → AppendedPart (x ++ y) old new (Err f)
 part_fails x y old new e f h = record {
   ok = tt;

@@ -1,4 +1,4 @@
--- Texts that are cut, piece by piece.
+-- Splitting a text, piece by piece.
 use Rattle.std.proofs.Common.{◌≡◌, ℕ, suc, ◌+◌, ◌-◌, ◌<◌, ◌≤◌, Bool, true, false, cond, List, [], ◌∷◌, length, take, drop, Option, Some, None, refl, sym, ap, ◌∙◌, add-one, arith}
 use Rattle.std.specs.Prelude.{◌==◌}
 use Rattle.std.specs.List.{slice_split, position_from, join_with_byte}
@@ -7,19 +7,19 @@ use Rattle.std.proofs.lemmas.List.Sums.{count_by-le-length}
 use Rattle.std.proofs.lemmas.Grind.{common_steps}
 use Rattle.krb_text.specs.Pieces.{pieces, pieces_left, joined}
 
--- how a text is cut where its first piece ends at place n from k on, or where there is no end
+-- how a text is split if its first piece ends at n, counted from k, or if it has only one piece
 abbrev CutAt : (ℕ → Bool) → ℕ → List ℕ → Option ℕ → Type 0
 CutAt p k xs None = slice_split p xs ≡ xs ∷ []
 CutAt p k xs (Some n) = (m : ℕ) × (n ≡ k + m) × (slice_split p xs ≡ take m xs ∷ slice_split p (drop (m + 1) xs))
 
--- one byte more stands before the end
+-- the same with one more byte before the end
 cut_after : (p : ℕ → Bool) (k x : ℕ) (xs : List ℕ) (o : Option ℕ) → p x ≡ false → CutAt p (k + 1) xs o → CutAt p k (x ∷ xs) o
 cut_after p k x xs None e h = rw (e, h) refl
 cut_after p k x xs (Some n) e h =
     let place : n ≡ k + (h.0 + 1) = (let is = h.1 in omega (arith, is)) in
     (h.0 + 1, place, rw (e, h.2, add-one (h.0), add-one (suc h.0)) refl)
 
--- the first end
+-- the first piece ends where `position_from` says
 cut_first : (p : ℕ → Bool) (k : ℕ) (xs : List ℕ) → CutAt p k xs (position_from p k xs)
 cut_first p k [] = refl
 cut_first p k (x ∷ xs) =
@@ -28,11 +28,11 @@ cut_first p k (x ∷ xs) =
       | false ↦ λ e. cut_after p k x xs (position_from p (k + 1) xs) e (cut_first p (k + 1) xs)
     ] refl
 
--- all that follows a place
+-- a slice up to the end is all that follows a place
 rest_of : (n : ℕ) (text : List ℕ) → take (length text - (n + 1)) (drop (n + 1) text) ≡ drop (n + 1) text
 rest_of n text = grind (arith, common_steps)
 
--- where the first piece ends
+-- if the first piece ends at n, the text is split there
 pub cut_some : (at n : ℕ) (text : List ℕ) → position_from (λ b. b == at) 0 text ≡ Some n → pieces at text ≡ take n text ∷ pieces at (take (length text - (n + 1)) (drop (n + 1) text))
 cut_some at n text e =
     let h = rw e at (cut_first (λ b. b == at) 0 text) in
@@ -40,24 +40,24 @@ cut_some at n text e =
     let rest = rest_of n text in
     rw rest (rw same at h.2)
 
--- where the piece is the last
+-- if the first piece does not end, it is the only one
 pub cut_none : (at : ℕ) (text : List ℕ) → position_from (λ b. b == at) 0 text ≡ None → pieces at text ≡ text ∷ []
 cut_none at text e = rw e at (cut_first (λ b. b == at) 0 text)
 
--- there is a piece
+-- there is at least one piece
 no_fewer : (at : ℕ) (text : List ℕ) → 0 < length (pieces at text)
 no_fewer at text = omega (arith, length-slice_split (λ b. b == at) text)
 
--- some pieces are joined
+-- pieces, if there are any, are joined
 joined_some : (at : ℕ) (ps : List (List ℕ)) → 0 < length ps → Some (join_with_byte at ps) ≡ joined at ps
 joined_some at [] h = absurd (omega arith)
 joined_some at (p ∷ ps) h = refl
 
--- no more pieces than bytes, and one
+-- there is at most one more piece than there are bytes
 pub length-pieces : (at : ℕ) (text : List ℕ) → length (pieces at text) ≤ length text + 1
 length-pieces at text = omega (arith, length-slice_split (λ b. b == at) text, count_by-le-length (λ b. b == at) text)
 
--- what is left, as one text
+-- the rest of a text is its pieces joined again
 pub joined_left : (at : ℕ) (left : Option (List ℕ)) → left ≡ joined at (pieces_left at left)
 joined_left at None = refl
 joined_left at (Some text) =

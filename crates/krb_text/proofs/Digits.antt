@@ -1,4 +1,4 @@
--- Texts of hexadecimal digits, and the keys that they spell.
+-- Hexadecimal digits, and the keys that they encode.
 use Rattle.std.proofs.Common.{◌≡◌, ℕ, ◌*◌, ◌/◌, ◌%◌, List, [], ◌∷◌, length, Bool, true, false, ◌&&◌, ◌||◌, cond, Some, None, Result, Ok, Err, refl, sym, ap, ◌∙◌, arith}
 use Rattle.std.specs.Prelude.{is_ok, is_some}
 use Rattle.std.specs.Result.{result_ok}
@@ -11,7 +11,7 @@ use Rattle.hex.specs.Hex.{decode_of, is_hex_digit}
 use Rattle.hex.proofs.HexLemmas.{decode_of-ok, decode_of-digits}
 use Rattle.krb_text.specs.Key.{is_key_size, key_in, sized}
 
--- three ranges, in the orders of two tests
+-- two tests of three ranges, in different orders
 three_ranges : (a b c : Bool) (x y z : ℕ) → ((a || b) || c) ≡ is_some (cond b (Some x) (cond c (Some y) (cond a (Some z) None)))
 three_ranges true true c x y z = refl
 three_ranges true false true x y z = refl
@@ -20,19 +20,19 @@ three_ranges false true c x y z = refl
 three_ranges false false true x y z = refl
 three_ranges false false false x y z = refl
 
--- the digits of both tests are the same
+-- both tests accept the same digits
 same_digits : (xs : List ℕ) → list_all is_ascii_hexdigit xs ≡ list_all is_hex_digit xs
 same_digits [] = refl
 same_digits (c ∷ cs) =
     let one : is_ascii_hexdigit c ≡ is_hex_digit c = three_ranges (is_in_range 48 57 c) (is_in_range 65 70 c) (is_in_range 97 102 c) _ _ _ in
     ap (λ (b : Bool). b && list_all is_ascii_hexdigit cs) one ∙ ap (λ (b : Bool). is_hex_digit c && b) (same_digits cs)
 
--- of so many bytes that decode, all are digits
+-- if a text decodes, all its bytes are digits
 passes : (text : List ℕ) (r : Result (List ℕ) FromHexError) → decode_of text ≡ r → is_ok r ≡ true → list_all is_hex_digit text ≡ true
 passes text (Ok bytes) e h = list_all-from_AllPass is_hex_digit text (decode_of-ok text bytes e).1
 passes text (Err fault) e h = let no : false ≡ true = h in cc
 
--- where the digits of an even number are tested, they decode
+-- a text of even length decodes iff all its bytes are digits
 decodes : (text : List ℕ) (b : Bool) → length text % 2 ≡ 0 → list_all is_hex_digit text ≡ b → b ≡ is_ok (decode_of text)
 decodes text true even h =
     let bytes = decode_of-digits text even (AllPass-from_list_all is_hex_digit text h) in
@@ -43,16 +43,16 @@ decodes text false even h =
       | false ↦ λ e. refl
     ] refl
 
--- an even number of digits decodes
+-- the same by the test `is_ascii_hexdigit`
 pub hexadecimal_even : (text : List ℕ) → length text % 2 ≡ 0 → list_all is_ascii_hexdigit text ≡ is_ok (decode_of text)
 hexadecimal_even text even = decodes text (list_all is_ascii_hexdigit text) even (sym (same_digits text))
 
--- a value that is kept where a test passes
+-- a value that is kept iff a test passes
 is_some_sized : (b : Bool) (key : List ℕ) → b ≡ is_some (cond b (Some key) None)
 is_some_sized true key = refl
 is_some_sized false key = refl
 
--- whether the bytes of a key are so many, by the number of its digits
+-- a text that decodes is a key of an enctype iff half its length is a size of such keys
 pub key_of_size : (etype : ℕ) (text : List ℕ) (r : Result (List ℕ) FromHexError) → decode_of text ≡ r → is_ok r ≡ true → is_key_size etype (length text / 2) ≡ is_some (key_in etype text)
 key_of_size etype text (Ok bytes) e h =
     let twice : length text ≡ 2 * length bytes = (decode_of-ok text bytes e).2 in

@@ -6,16 +6,16 @@ use Rattle.std.specs.Option.{MatchOption, option_map, option_and_then, unwrap_or
 use Rattle.krb_text.specs.Etype.{Etype, etype_table, etype_numbered, etype_name_of, etype_text_of, etype_in, unnamed}
 use Rattle.krb_text.proofs.Found.{MatchOption-find}
 
--- the name is read as the number
+-- the name of an enctype, if it has one, is read back as its number
 abbrev IsRead : Etype → Type 0
 IsRead e = IfSome e.named (λ x. etype_in x.0 ≡ Some e.number)
 
--- each name is
+-- so is each name in the table
 table_is_read : AllByRecursion IsRead etype_table
 unfolding etype_table etype_in
 table_is_read = (tt, (tt, (tt, (tt, (tt, (tt, (tt, (refl, (refl, (refl, (refl, (refl, (refl, (refl, (refl, tt)))))))))))))))
 
--- so is the text of what has a name
+-- so is the text of an enctype that has a name
 named_is_read : (n number : ℕ) (o : Option (List ℕ × ℕ)) → IfSome o (λ x. etype_in x.0 ≡ Some number) → number ≡ n → IsSome (option_map (λ x. x.0) o) → etype_in (unwrap_or (option_map (λ x. x.0) o) (unnamed n)) ≡ Some n
 named_is_read n number (Some x) read is h = read ∙ ap Some is
 named_is_read n number None read is h = let no : false ≡ true = h in cc
@@ -25,6 +25,6 @@ row_is_read : (n : ℕ) (o : Option Etype) → MatchOption o (Unit {0}) (λ e. I
 row_is_read n (Some e) m h = named_is_read n e.number e.named m.0 (eqb-true e.number n m.1) h
 row_is_read n None m h = let no : false ≡ true = h in cc
 
--- the name of a number is read as that number
+-- the text of an enctype that has a name is read back as its number
 pub read_text : (n : ℕ) → IsSome (etype_name_of n) → etype_in (etype_text_of n) ≡ Some n
 read_text n h = row_is_read n (etype_numbered n) (MatchOption-find IsRead (λ e. e.number == n) etype_table table_is_read) h

@@ -3,7 +3,7 @@ use Rattle.std.proofs.Common.{◌≡◌, List, [], ◌∷◌, Bool, true, false,
 use Rattle.std.specs.List.{find, AllByRecursion}
 use Rattle.std.specs.Option.{MatchOption}
 
--- what holds of each element holds of what is found, and that passes the test
+-- what holds of each element holds of the one that is found, which passes the test
 pub MatchOption-find : {X : Type 0} (P : X → Type 0) (test : X → Bool) (xs : List X) → AllByRecursion P xs → MatchOption (find test xs) (Unit {0}) (λ x. P x × (test x ≡ true))
 MatchOption-find P test [] all = tt
 MatchOption-find {X} P test (x ∷ xs) all =

@@ -4,11 +4,11 @@ use Rattle.std.specs.Prelude.{◌==◌, filter, bit_and, if◌then◌else◌}
 use Rattle.std.proofs.lemmas.Bool.{ne_eqb, not_from_false}
 use Rattle.krb_text.specs.Flags.{is_set, letters_among}
 
--- a flag that is set has its letter
+-- if the first flag of a table is set, its letter comes first
 letters_step : (flags : ℕ) (x : ℕ × ℕ) (others : List (ℕ × ℕ)) → is_set flags x ≡ true → letters_among flags (x ∷ others) ≡ x.1 ∷ letters_among flags others
 letters_step flags x others set = ap (λ (b : Bool). map (λ (y : ℕ × ℕ). y.1) (if b then x ∷ filter (is_set flags) others else filter (is_set flags) others)) set
 
--- the letter of a flag that is set, and those of the flags after it
+-- if the flag at an index is set, its letter comes first, then those of the flags after it
 pub letters_next : (flags : ℕ) (table : List (ℕ × ℕ)) (i : ℕ) → i < length table → (bit_and flags (get_or table i (0, 0)).0 ≡ 0 → ⊥)
     → letters_among flags (drop i table) ≡ ((get_or table i (0, 0)).1 ∷ []) ++ letters_among flags (drop (i + 1) table)
 letters_next flags table i within set =

@@ -1,4 +1,4 @@
--- The lines of entries with their places.
+-- The lines of entries that have places.
 use Rattle.std.proofs.Common.{◌≡◌, ℕ, List, [], ◌∷◌, ◌++◌, Option, Some, None, refl, ap}
 use Rattle.std.specs.Prelude.{option_map}
 use Rattle.std.specs.List.{flat_map, filter_map, cons_option}
@@ -15,7 +15,7 @@ use Rattle.krb_text.specs.Listing.{entry_lines}
 abbrev pub lines_of : KtColumns → List PlacedEntry → List ℕ
 lines_of columns xs = flat_map (λ x. entry_line columns x.1) xs
 
--- the places do not show
+-- the places are not part of the lines
 lines_first : (columns : KtColumns) (place : ℕ) (o : Option EntryParts) (es : List EntryParts) (xs : List PlacedEntry) → lines_of columns xs ≡ flat_map (entry_line columns) es
     → lines_of columns (cons_option (option_map (λ (e : EntryParts). (place, e)) o) xs) ≡ flat_map (entry_line columns) (cons_option o es)
 lines_first columns place None es xs others = others

@@ -6,7 +6,7 @@ use Rattle.krb_text.specs.declared.line_fault.LineRefusal.TheVariants.{Fault, No
 use Rattle.krb_text.specs.LineFault.{Reads}
 use Rattle.krb_text.specs.Script.{made}
 
--- where the value is refused, so is what is made of it
+-- if the value is refused, so is what is made of it
 pub made_refused : {V W : Type 0} (make : V → W) (given : Result V LineFault) (e : LineRefusal) → Reads {T = V} (λ v. v) given (Err e) → Reads {T = W} (λ w. w) (made make given) (Err e)
 made_refused make given (Fault fault) h = ap (made make) h
 made_refused make (Ok x) NoMemory h = refl

@@ -1,4 +1,4 @@
--- Memory is no fault of a text.
+-- `NoMemory` is never the fault of a text.
 use Rattle.std.proofs.Common.{◌≡◌, ◌⊎◌, inl, inr, List, [], ◌∷◌, ◌++◌, Option, Some, None, Result, Ok, Err, ℕ, refl}
 use Rattle.std.specs.Prelude.{IsOk, ok_or, unwrap_or}
 use Rattle.std.specs.Result.{result_ok}
@@ -13,7 +13,7 @@ use Rattle.krb_text.specs.declared.line_fault.LineFault.TheVariants.{BadName}
 use Rattle.krb_text.specs.Word.{name_word}
 use Rattle.krb_wire.specs.NameOf.{component_fault, realm_fault, faults_of, first_fault, name_or_fault, name_of, realm_of, components_of}
 
--- nor is it the first fault of a realm
+-- it is not the first fault of a realm
 not_in_realm : (realm : List Atom) → first_fault (filter_map realm_fault realm) ≡ Some NoMemory → ⊥
 not_in_realm [] h = cc
 not_in_realm (Byte b ∷ rest) h = not_in_realm rest h
@@ -29,22 +29,22 @@ not_before (Slash ∷ rest) realm h = not_before rest realm h
 not_before (At ∷ rest) realm h = not_before rest realm h
 not_before (Lone ∷ rest) realm h = cc
 
--- so it is not the fault of a name
+-- if it were the fault of a name, it would be the first fault of the text
 not_of_name : (fault : Option NameFault) (realm : Option (List ℕ)) (components : List (List ℕ)) → name_or_fault fault realm components ≡ Err NoMemory → fault ≡ Some NoMemory
 not_of_name (Some fault) realm components h = cc
 not_of_name None None components h = cc
 not_of_name None (Some realm) components h = cc
 
--- a text gives a name, or another fault
+-- a text is a name, or has another fault
 pub not_for_memory : (text : List ℕ) (default_realm : Option (List ℕ)) → name_of text default_realm ≡ Err NoMemory → ⊥
 not_for_memory text default_realm h = not_before (before_at (atoms text)) (unwrap_or (after_at (atoms text)) []) (not_of_name (first_fault (faults_of (atoms text))) (realm_of (atoms text) default_realm) (components_of (atoms text)) h)
 
--- a name is a word's name
+-- a text that is a name is a valid word
 named_word : (r : Result Parts NameFault) → IsOk r → IsOk (ok_or (result_ok r) BadName)
 named_word (Ok name) h = refl
 named_word (Err fault) h = cc h
 
--- where an allocation failed, the word is a name
+-- if an allocation failed, the word is a name
 pub word_for_memory : (text : List ℕ) → (name_of text None ≡ Err NoMemory) ⊎ ((NoMemory ≡ NoMemory) × IsOk (name_of text None)) → IsOk (name_word text)
 word_for_memory text (inl memory) = absurd (not_for_memory text None memory)
 word_for_memory text (inr named) = named_word (name_of text None) named.1

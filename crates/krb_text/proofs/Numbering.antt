@@ -26,14 +26,14 @@ within_month y m d n month low lt e =
     let step = rw e at (days_from_civil-day (pos y) m d (d + 1) low (omega arith)) in
     record { month_in = month; day_in = (omega arith, omega arith); number = omega (arith, ints) }
 
--- so has the first of the next month after the last of one
+-- so has the first day of the next month, after the last day of a month
 next_month : (y m d n : ℕ) → 1 ≤ m → m < 12 → d ≡ days_in_month (pos y) m → days_from_civil (pos y) m d ≡ pos n → IsNumbered (record { year = y; month = m + 1; day = 1 }) (suc n)
 next_month y m d n low lt last e =
     let step = rw e at (days_from_civil-next_month (pos y) m d low last) in
     let long = days_in_month_bounds (pos y) (m + 1) in
     record { month_in = (omega arith, omega arith); day_in = (omega arith, omega arith); number = omega (arith, ints) }
 
--- and the first of January after the last of December
+-- and January 1, after December 31
 next_year : (y n : ℕ) → days_from_civil (pos y) 12 31 ≡ pos n → IsNumbered (record { year = y + 1; month = 1; day = 1 }) (suc n)
 next_year y n e =
     let low : neg_ℤ (pos 10000) ≤ℤ pos y = omega (arith, ints) in
@@ -42,12 +42,12 @@ next_year y n e =
     let long = days_in_month_bounds (pos (y + 1)) 1 in
     record { month_in = (omega arith, omega arith); day_in = (omega arith, omega arith); number = omega (arith, ints) }
 
--- by the outcome of a test
+-- by cases on the outcome of a test
 by_test : {A : Type 0} (P : A → Type 0) (b : Bool) (x y : A) → (b ≡ true → P x) → (b ≡ false → P y) → P (if b then x else y)
 by_test P true x y f g = f refl
 by_test P false x y f g = g refl
 
--- the day after one with the number n has the next number
+-- the day after the one with number n has the next number
 next_numbered : (d : Day) (n : ℕ) → IsNumbered d n → IsNumbered (next_day d) (suc n)
 next_numbered d n is =
     let P : Day → Type 0 = λ e. IsNumbered e (suc n) in
@@ -60,13 +60,13 @@ next_numbered d n is =
     let day : d.day ≡ 31 = rw month at is_last in
     next_year d.year n (rw (month, day) at is.number)))
 
--- counted n days, the day has the number n
+-- the day that is counted n days after 1970-01-01 has the number n
 pub numbered : (n : ℕ) → IsNumbered (day_number n) n
 unfolding day_number
 numbered zero = record { month_in = (omega arith, omega arith); day_in = (omega arith, omega arith); number = known_days.0 }
 numbered (suc n) = next_numbered (day_number n) n (numbered n)
 
--- a day number below that of the year 10000 has such a year
+-- a day with a number up to 49710 is before the year 10000
 year_below : (y m d n : ℕ) → 1 ≤ d → days_from_civil (pos y) m d ≡ pos n → n ≤ 49710 → y ≤ 9999
 year_below y m d n low e le =
     let P : ℕ → Type 0 = λ k. y ≤ 9999 in
@@ -79,7 +79,7 @@ year_below y m d n low e le =
     absurd (omega (arith, day_count-end)))
     (λ f. ltb-false _ _ f)
 
--- jiff's date of that number is the same day
+-- jiff's date with the same number is the same day
 pub same_day : (date : Date) (n : ℕ) → n ≤ 49710 → epoch_day date ≡ pos n
     → (date.year ≡ pos (day_number n).year) × (date.month ≡ (day_number n).month) × (date.day ≡ (day_number n).day)
 same_day date n le e =

@@ -38,7 +38,7 @@ passed_send o p q whole rest b after h s = record {
   parts = h.parts ∙ ap (λ (t : List ℕ). h.sent ++ (t ++ rest)) s.parts ∙ ap (λ (t : List ℕ). h.sent ++ t) (append_assoc s.sent after rest) ∙ sym (append_assoc h.sent s.sent (after ++ rest));
 }
 
--- a last piece is gathered behind a whole text
+-- a last piece is gathered after a whole text
 pub passed_last : (o p : Option (List ℕ)) (whole x b more : List ℕ) → Passed o p whole [] b → more ≡ b ++ x → Passed o p (whole ++ x) [] more
 passed_last o p whole x b more h e = record {
   sent = h.sent;
@@ -50,7 +50,7 @@ passed_last o p whole x b more h e = record {
 pub passed_prefix : (o p : Option (List ℕ)) (whole rest b : List ℕ) → Passed o p whole rest b → AppendsPrefix o p whole
 passed_prefix o p whole rest b h = record { prefix = h.sent; rest = b ++ rest; appends = h.appends; splits = h.parts }
 
--- and still is where a prefix of what is gathered is sent
+-- it still is if only a prefix of what is gathered could be sent
 pub passed_fail : (o p q : Option (List ℕ)) (whole rest b : List ℕ) → Passed o p whole rest b → AppendsPrefix p q b → AppendsPrefix o q whole
 passed_fail o p q whole rest b h f = record {
   prefix = h.sent ++ f.prefix;
@@ -59,7 +59,7 @@ passed_fail o p q whole rest b h f = record {
   splits = h.parts ∙ ap (λ (t : List ℕ). h.sent ++ (t ++ rest)) f.splits ∙ ap (λ (t : List ℕ). h.sent ++ t) (append_assoc f.prefix f.rest rest) ∙ sym (append_assoc h.sent f.prefix (f.rest ++ rest));
 }
 
--- all that is gathered is sent at last
+-- in the end all that is gathered is sent
 pub passed_all : (o p q : Option (List ℕ)) (whole b : List ℕ) → Passed o p whole [] b → Appends p q b → Appends o q whole
 passed_all o p q whole b h s =
     let is : whole ≡ h.sent ++ b = h.parts ∙ ap (λ (t : List ℕ). h.sent ++ t) (append-nil b) in
@@ -67,7 +67,7 @@ passed_all o p q whole b h s =
 
 -- ---- what a function does that gathers or prints
 
--- no memory was left for more
+-- an allocation failed
 pub gathers_memory : {T : Type 0} (o p : Watch) (before after text rest b : List ℕ) (e : OutFault) → Passed o.contents p.contents (before ++ text) rest b → IsFalse p.failed → e ≡ NoMemory → Gathers {T = T} o p before after (Err e) text
 gathers_memory o p before after text rest b e h well is = record { ok = tt; prefix = passed_prefix _ _ _ _ _ h; failed = rw is well }
 
@@ -85,7 +85,7 @@ gathers_prints o p q none before after first text last v r is_none is g h =
       failed = h.failed;
     }
 
--- or it was not, and nothing more is printed
+-- if gathering it fails, nothing more is printed
 pub gathers_fails : {T U : Type 0} (o p : Watch) (none before after first text last : List ℕ) (e : OutFault) → none ≡ [] → before ≡ none ++ first → Gathers {T = T} o p before after (Err e) text → Prints {T = U} o p (Err e) (first ++ (text ++ last))
 gathers_fails o p none before after first text last e is_none is g = record {
   ok = tt;

@@ -6,7 +6,7 @@ use Rattle.krb_text.specs.declared.script.ScriptRefusal.{ScriptRefusal}
 use Rattle.krb_text.specs.declared.script.ScriptRefusal.TheVariants.{Fault, NoMemory}
 use Rattle.krb_text.specs.Script.{is_asked, asked_from, faults_of, asked_of, asked_or_fault, script_of, RefusesScript, TakesMemory}
 
--- a line asks for something, and what the lines after it ask for comes next
+-- a line was read: it has no fault, and what it is read as comes before what the lines after it are read as
 pub record GivesLine {L : Type 0} (line_in : List ℕ → Result L LineFault) (n : ℕ) (line : List ℕ) (rest : List (List ℕ)) (old new : List L) : Type 0 where
   pub faults : faults_of line_in (asked_from n (line ∷ rest)) ≡ faults_of line_in (asked_from (n + 1) rest)
   pub asked : old ++ asked_of line_in (asked_from n (line ∷ rest)) ≡ new ++ asked_of line_in (asked_from (n + 1) rest)
@@ -18,7 +18,7 @@ line_step line_in n line rest old new (Ok x) is asks added = record {
 }
 line_step line_in n line rest old new (Err fault) is asks added = absurd added
 
--- a line that asks for something gives it
+-- a command that is read without a fault is appended
 pub gives_line : {L : Type 0} (line_in : List ℕ → Result L LineFault) (n : ℕ) (line : List ℕ) (rest : List (List ℕ)) (old new : List L) → is_asked line ≡ true → IsOkAnd (line_in line) (λ x. new ≡ old ++ x ∷ []) → GivesLine line_in n line rest old new
 gives_line line_in n line rest old new asks added = line_step line_in n line rest old new (line_in line) refl asks added
 
@@ -33,11 +33,11 @@ pub refuses_script : {L : Type 0} (line_in : List ℕ → Result L LineFault) (n
     → RefusesScript (script_of line_in ((n, line) ∷ [])) e → RefusesScript (asked_or_fault (faults_of line_in (asked_from n (line ∷ rest))) asked) e
 refuses_script line_in n line rest asked e asks h = refused_line line_in n line rest asked e (line_in line) refl asks h
 
--- a line that asks for something and has no fault takes memory
+-- if the next line is a command without a fault, reading on may run out of memory
 pub takes_memory : {L : Type 0} (line_in : List ℕ → Result L LineFault) (n : ℕ) (line : List ℕ) (rest : List (List ℕ)) → is_asked line ≡ true → IsOk (line_in line) → TakesMemory line_in (asked_from n (line ∷ rest))
 takes_memory line_in n line rest asks h = rw asks h
 
--- what is a value of which something holds is a value
+-- a result that is a value with a property is a value
 pub ok_of_and : {T E : Type 0} (P : T → Type 0) (r : Result T E) → IsOkAnd r P → IsOk r
 ok_of_and P (Ok x) h = refl
 ok_of_and P (Err e) h = absurd h

@@ -21,10 +21,10 @@ unfoldable pub day_number : ℕ → Day
 day_number zero = record { year = 1970; month = 1; day = 1 }
 day_number (suc n) = next_day (day_number n)
 
--- the text of a second of a day
+-- a second of a day as text
 abbrev pub day_text : Day → ℕ → List ℕ
 day_text d second = moment_text d.year d.month d.day second
 
--- the text of the instant that many seconds after 1970-01-01T00:00:00Z
+-- the time that many seconds after 1970-01-01T00:00:00Z, as text
 abbrev pub time_text_of : ℕ → List ℕ
 time_text_of seconds = day_text (day_number (seconds / 86400)) (seconds % 86400)

@@ -8,7 +8,7 @@ flag_bits =
     2 ^ 30 ∷ 2 ^ 29 ∷ 2 ^ 28 ∷ 2 ^ 27 ∷ 2 ^ 26 ∷ 2 ^ 25 ∷ 2 ^ 24
     ∷ 2 ^ 23 ∷ 2 ^ 22 ∷ 2 ^ 20 ∷ 2 ^ 21 ∷ 2 ^ 19 ∷ 2 ^ 18 ∷ 2 ^ 15 ∷ []
 
--- each with its letter
+-- each of these bits with its letter
 abbrev pub flag_table : List (ℕ × ℕ)
 flag_table = zip flag_bits (codes "FfPpDdiRIHATOa")
 
@@ -16,7 +16,7 @@ flag_table = zip flag_bits (codes "FfPpDdiRIHATOa")
 abbrev pub is_set : ℕ → ℕ × ℕ → Bool
 is_set flags x = not (bit_and flags x.0 == 0)
 
--- the letters of those of some flags that are set
+-- the letters of the flags in a table that are set
 abbrev pub letters_among : ℕ → List (ℕ × ℕ) → List ℕ
 letters_among flags xs = map (λ x. x.1) (filter (is_set flags) xs)
 

@@ -9,7 +9,7 @@ use Rattle.krb_text.specs.Etype.{etype_text_of}
 use Rattle.krb_text.specs.Key.{key_text_of}
 use Rattle.krb_text.specs.Calendar.{time_text_of}
 
--- a number in decimal, with spaces before it to four places
+-- a number in decimal, right-aligned in four columns
 abbrev pub right_in_4 : ℕ → List ℕ
 right_in_4 n = replicate (4 - length (decimal n)) 32 ++ decimal n
 
@@ -17,7 +17,7 @@ right_in_4 n = replicate (4 - length (decimal n)) 32 ++ decimal n
 abbrev pub time_column : Bool → ℕ → List ℕ
 time_column is_shown seconds = if is_shown then time_text_of seconds ++ 32 ∷ [] else []
 
--- the encryption type in parentheses, if those are shown
+-- the enctype in parentheses, if enctypes are shown
 abbrev pub etype_column : Bool → ℕ → List ℕ
 etype_column is_shown etype = if is_shown then codes " (" ++ (etype_text_of etype ++ 41 ∷ []) else []
 
@@ -25,18 +25,18 @@ etype_column is_shown etype = if is_shown then codes " (" ++ (etype_text_of etyp
 abbrev pub key_column : Bool → List ℕ → List ℕ
 key_column is_shown key = if is_shown then codes " (" ++ (key_text_of key ++ 41 ∷ []) else []
 
--- the line of an entry in a listing: its version right in four places, a space, its time, its name, its encryption type and its key
+-- an entry's line of a listing: its kvno, right-aligned in four columns, a space, its time, principal, enctype and key
 abbrev pub entry_line : KtColumns → EntryParts → List ℕ
 entry_line columns e =
     (right_in_4 e.version ++ 32 ∷ [])
     ++ (time_column columns.times e.timestamp
     ++ (name_text e.principal ++ (etype_column columns.etypes e.enctype ++ (key_column columns.keys e.key ++ 10 ∷ []))))
 
--- the end of the line of a found entry: its version, the number of its encryption type and its name
+-- the end of an entry's line after its place: its kvno, its enctype as a number, and its principal
 abbrev pub entry_tail : EntryParts → List ℕ
 entry_tail e =
     codes " kvno " ++ (decimal e.version ++ (codes " etype " ++ (decimal e.enctype ++ (codes " " ++ (name_text e.principal ++ codes "\n")))))
 
--- the kind of a fault and its place, to the end of the line
+-- the line of a fault: its kind, as a number, and its place
 abbrev pub fault_text : Fault → List ℕ
 fault_text fault = codes "fault " ++ (decimal (fault_number fault.kind) ++ (codes " at " ++ (decimal fault.place ++ codes "\n")))

@@ -1,11 +1,11 @@
--- What is wrong with a line that is read.
+-- Faults of lines that are read.
 use Rattle.std.specs.Prelude.{◌≡◌, ℕ, List, codes, Result, Ok, Err, IsOk}
 use Rattle.krb_text.specs.declared.line_fault.LineFault.{LineFault}
 use Rattle.krb_text.specs.declared.line_fault.LineFault.TheVariants.{UnknownWord, WordCount, BadNumber, BadEtype, BadKey, BadName, BadSlot, BadFileName}
 use Rattle.krb_text.specs.declared.line_fault.LineRefusal.{LineRefusal}
 use Rattle.krb_text.specs.declared.line_fault.LineRefusal.TheVariants.{Fault, NoMemory}
 
--- the number of a fault
+-- the number that is printed for a fault
 abbrev pub line_fault_number : LineFault → ℕ
 line_fault_number UnknownWord = 1
 line_fault_number WordCount = 2
@@ -16,7 +16,7 @@ line_fault_number BadName = 6
 line_fault_number BadSlot = 7
 line_fault_number BadFileName = 8
 
--- what is wrong with a line of a script
+-- the message for a line of a script
 abbrev pub line_phrase : LineFault → List ℕ
 line_phrase UnknownWord = codes "unknown first word"
 line_phrase WordCount = codes "words are missing or left over"
@@ -27,19 +27,19 @@ line_phrase BadName = codes "not a principal name with its realm"
 line_phrase BadSlot = codes "the list has no such slot"
 line_phrase BadFileName = codes "the file's name is not UTF-8"
 
--- what is wrong with a line of ktutil
+-- the message for a line that ktutil reads
 abbrev pub ktutil_phrase : LineFault → List ℕ
 ktutil_phrase UnknownWord = codes "unknown command"
 ktutil_phrase WordCount = codes "words are wrong, missing, repeated or left over"
 ktutil_phrase BadKey = codes "the key is not hexadecimal, not as long as its type's, or empty"
 ktutil_phrase fault = line_phrase fault
 
--- why a line gives nothing
+-- the message for a line that could not be read
 abbrev pub refusal_phrase : LineRefusal → List ℕ
 refusal_phrase (Fault fault) = line_phrase fault
 refusal_phrase NoMemory = codes "out of memory"
 
--- a line or a word gives this value, seen by `view`, or this fault; memory may be refused only where it gives a value
+-- reading gives this value, seen by `view`, or this fault; it may run out of memory only if there is no fault
 abbrev pub Reads : {T V : Type 0} → (T → V) → Result V LineFault → Result T LineRefusal → Type 0
 Reads view given (Ok x) = given ≡ Ok (view x)
 Reads view given (Err (Fault fault)) = given ≡ Err fault

@@ -7,19 +7,19 @@ use Rattle.krb_keytab.specs.Store.{KeytabState, store_of, entries}
 use Rattle.krb_text.specs.declared.columns.KtColumns.{KtColumns}
 use Rattle.krb_text.specs.Line.{entry_line, fault_text}
 
--- the titles of the columns
+-- the line of column titles
 abbrev pub titles : Bool → List ℕ
 titles times = if times then codes "KVNO Timestamp            Principal\n" else codes "KVNO Principal\n"
 
--- the lines under them
+-- the line of dashes below the titles
 abbrev pub underlines : Bool → List ℕ
 underlines times = if times then codes "---- -------------------- ---------\n" else codes "---- ---------\n"
 
--- what comes before the records
+-- the heading, before the lines of entries
 abbrev pub heading : List ℕ → Bool → List ℕ
 heading name times = codes "Keytab name: FILE:" ++ (name ++ (codes "\n" ++ (titles times ++ underlines times)))
 
--- the lines of all entries
+-- the lines of all entries, in file order
 abbrev pub entry_lines : KtColumns → KeytabState → List ℕ
 entry_lines columns k = flat_map (entry_line columns) (entries k)
 
@@ -28,6 +28,6 @@ abbrev pub fault_line : Option Fault → List ℕ
 fault_line None = []
 fault_line (Some fault) = fault_text fault
 
--- the listing of a keytab under a name
+-- the listing of a keytab whose file has the name
 abbrev pub list_text : KtColumns → List ℕ → KeytabState → List ℕ
 list_text columns name k = heading name columns.times ++ (entry_lines columns k ++ fault_line (fault_of (store_of k)))

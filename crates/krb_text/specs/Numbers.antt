@@ -8,7 +8,7 @@ use Rattle.std.specs.Str.Parse.{digits_value}
 abbrev pub is_numeral : List ℕ → Bool
 is_numeral text = nat_lt 0 (length text) && (nat_le (length text) 10 && list_all is_ascii_digit text)
 
--- the value of one to ten decimal digits, where it has at most so many bits
+-- the value of one to ten decimal digits, if it fits that many bits
 abbrev pub number_in : ℕ → List ℕ → Option ℕ
 number_in bits text =
     if is_numeral text && nat_lt (digits_value 10 text) (2 ^ bits) then Some (digits_value 10 text) else None

@@ -1,4 +1,4 @@
--- The lines of replies.
+-- Replies of a session as lines of text.
 use Rattle.std.specs.Prelude.{ℕ, List, [], ◌∷◌, ◌++◌, decimal, codes, Option, None, Some}
 use Rattle.krb_wire.specs.declared.format.KtFormat.{KtFormat}
 use Rattle.krb_walk.specs.Numbers.{code_number}
@@ -6,15 +6,15 @@ use Rattle.krb_walk.specs.Said.{Said, Started, Gave, Ended, Faulted, Placed, Gon
 use Rattle.krb_keytab.specs.Entry.{EntryParts, entry_at}
 use Rattle.krb_text.specs.Line.{entry_tail, fault_text}
 
--- a walk, and what the line says of it
+-- a line about a walk: its number, and the rest
 abbrev pub walk_line : ℕ → List ℕ → List ℕ
 walk_line walk rest = codes "walk " ++ (decimal walk ++ rest)
 
--- what a number is, the number, and the end of the line
+-- a label, a number, and the end of the line
 abbrev pub number_line : List ℕ → ℕ → List ℕ
 number_line label n = label ++ (decimal n ++ codes "\n")
 
--- the line of a reply, where the line of a record ends with its tail in the format
+-- the line of a reply; the line of a record given to a walk ends with the record's tail in the format
 abbrev pub reply_text_by : {F : Type 0} → (F → List ℕ → List ℕ) → F → Said → List ℕ
 reply_text_by tail_of f (Started w next) = walk_line w (number_line (codes " at ") next)
 reply_text_by tail_of f (Gave w place next bytes) =
@@ -26,7 +26,7 @@ reply_text_by tail_of f (Gone place) = number_line (codes "gone ") place
 reply_text_by tail_of f (Rewritten end) = number_line (codes "rewritten ") end
 reply_text_by tail_of f (Refused code) = number_line (codes "refused ") (code_number code)
 
--- the format after a reply, where a rewrite makes it the first one
+-- the format after a reply: a rewrite makes it `rewritten`
 abbrev pub format_after_by : {F : Type 0} → F → F → Said → F
 format_after_by rewritten f (Rewritten end) = rewritten
 format_after_by rewritten f said = f
@@ -39,7 +39,7 @@ reply_texts_by tail_of rewritten f (reply ∷ replies) =
 
 -- ---- of a keytab
 
--- the end of the line of a record that holds the entry; where it held none, the line would end there
+-- the end of the line of a record that holds the entry; if it held none, the line would end there
 abbrev pub given_tail : Option EntryParts → List ℕ
 given_tail None = codes "\n"
 given_tail (Some e) = entry_tail e
@@ -48,6 +48,6 @@ given_tail (Some e) = entry_tail e
 abbrev pub record_tail : KtFormat → List ℕ → List ℕ
 record_tail f bytes = given_tail (entry_at f bytes)
 
--- the line of a reply, where a record's bytes are read in the format
+-- the line of a reply; a record's bytes are read in the format
 abbrev pub reply_text : KtFormat → Said → List ℕ
 reply_text f reply = reply_text_by record_tail f reply

@@ -1,4 +1,4 @@
--- The text of an instant in UTC.
+-- Times as text, in UTC.
 use Rattle.std.specs.Prelude.{ℕ, ◌+◌, ◌/◌, ◌%◌, List, [], ◌∷◌, ◌++◌, codes}
 
 -- the last decimal digit of a number, as a byte: `0` is 48
@@ -13,7 +13,7 @@ two_digits n = digit (n / 10) ∷ digit n ∷ []
 abbrev pub four_digits : ℕ → List ℕ
 four_digits n = digit (n / 1000) ∷ digit (n / 100) ∷ digit (n / 10) ∷ digit n ∷ []
 
--- the text of a date and of a second of its day, `YYYY-MM-DDTHH:MM:SSZ`
+-- a date and a second of its day as text: `YYYY-MM-DDTHH:MM:SSZ`
 abbrev pub moment_text : ℕ → ℕ → ℕ → ℕ → List ℕ
 moment_text year month day second =
     four_digits year ++ codes "-" ++ two_digits month ++ codes "-" ++ two_digits day ++ codes "T"

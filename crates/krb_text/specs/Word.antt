@@ -9,18 +9,18 @@ use Rattle.krb_text.specs.Numbers.{number_in}
 use Rattle.krb_text.specs.Etype.{etype_in}
 use Rattle.krb_text.specs.Key.{key_in}
 
--- the number of 32 bits that a word is
+-- the 32-bit number that a word is
 abbrev pub number_word : List ℕ → Result ℕ LineFault
 number_word word = ok_or (number_in 32 word) BadNumber
 
--- the encryption type that a word is
+-- the enctype that a word is, by name or by number
 abbrev pub etype_word : List ℕ → Result ℕ LineFault
 etype_word word = ok_or (etype_in word) BadEtype
 
--- the key of an encryption type that a word is
+-- the key of an enctype that a word is in hexadecimal
 abbrev pub key_word : ℕ → List ℕ → Result (List ℕ) LineFault
 key_word etype word = ok_or (key_in etype word) BadKey
 
--- the name that a word is, which has a realm of its own
+-- the principal name that a word is, which must include its realm
 abbrev pub name_word : List ℕ → Result Parts LineFault
 name_word word = ok_or (result_ok (name_of word None)) BadName

@@ -1,4 +1,4 @@
-//! Bytes and numbers behind others.
+//! Appending bytes and numbers to a `Vec`.
 
 ghost use Rattle.std.specs.Prelude.{◌++◌, ◌∷◌, [], decimal};
 ghost use Rattle.krb_wire.specs.Text.{Appended, AppendedPart};
@@ -15,14 +15,14 @@ pub fn append<A: Allocator>(bytes: &[u8], out: &mut Vec<u8, A>) -> Result<(), No
     Ok(out.extend_from_slice(bytes)?)
 }
 
-/// Appends a byte.
+/// Appends one byte.
 pub fn append_byte<A: Allocator>(byte: u8, out: &mut Vec<u8, A>) -> Result<(), NoMemory>
     ensures { Appended (byte ∷ []) out.old out.new result }
 {
     Ok(out.push(byte)?)
 }
 
-/// Appends a label and a number in decimal.
+/// Appends `label` and `number` in decimal.
 pub fn append_labelled<A: Allocator>(
     label: &[u8],
     number: u32,
@@ -35,7 +35,7 @@ pub fn append_labelled<A: Allocator>(
     append(buffer.format(number).as_bytes(), out)
 }
 
-/// Appends a number in decimal, right in four places, and a space.
+/// Appends a number in decimal, right-aligned in four columns, and a space.
 #[inline(always)]
 pub fn append_right_in_4<A: Allocator>(number: u64, out: &mut Vec<u8, A>) -> Result<(), NoMemory>
     ensures { Appended (right_in_4 number ++ 32 ∷ []) out.old out.new result }
@@ -45,6 +45,6 @@ pub fn append_right_in_4<A: Allocator>(number: u64, out: &mut Vec<u8, A>) -> Res
     if start < 16 {
         return append(&text[start..], out);
     }
-    // Few digits, as a rule: so many bytes are copied without a call.
+    // There are rarely more than four digits: a slice of this fixed length is copied without a call.
     append(&text[16..], out)
 }

@@ -1,11 +1,11 @@
-//! What a listing shows.
+//! The columns of a listing.
 
-/// What a listing of a keytab shows beside each entry's version and name.
+/// What a listing of a keytab shows besides each entry's kvno and principal.
 #[derive(Clone, Copy, Debug, Default, PartialEq, Eq)]
 pub struct KtColumns {
-    /// When each was written.
+    /// Each entry's timestamp.
     pub times: bool,
-    /// The name of each key's encryption type.
+    /// Each key's enctype, by name if it has one.
     pub etypes: bool,
     /// The keys themselves, in hexadecimal.
     pub keys: bool,

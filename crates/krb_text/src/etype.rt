@@ -1,5 +1,5 @@
-//! Encryption types by number and by name: those of RFC 3961, 3962, 4757, 6803 and 8009, under the
-//! names that MIT prints, and others that MIT calls weak or deprecated.
+//! Encryption types by number and by name: those of RFC 3961, 3962, 4757, 6803 and 8009, under the names that MIT
+//! prints, and others that MIT calls weak or deprecated.
 
 ghost use Rattle.std.specs.Prelude.{◌≡◌, IsSome, MatchOption, option_copied};
 ghost use Rattle.std.specs.List.{find};
@@ -12,8 +12,7 @@ use itoa::Buffer;
 use krb_wire::NoMemory;
 use std::alloc::Allocator;
 
-// The name of an encryption type and the size of its keys if it has a name here, and whether MIT calls it weak or
-// deprecated.
+// Returns an enctype's name and key size, if the table names it, and whether MIT calls it weak or deprecated.
 #[tactic(auto, unfolding(crate::specs::Etype::etype_table))]
 fn row_of(etype: u16) -> (Option<(&'static str, usize)>, bool)
     ensures named { MatchOption result.0 (named_of etype ≡ None)
@@ -46,12 +45,12 @@ fn unnamed_text<A: Allocator>(etype: u16, out: &mut Vec<u8, A>) -> Result<(), No
     append(&text[..end], out)
 }
 
-/// Appends the name of an encryption type, or `etype ` and its number where it has no name here.
+/// Appends the name of an enctype, or `etype ` and its number if the table has no name for it.
 #[tactic(auto, using(crate::proofs::Etypes::read_text))]
 pub fn etype_text<A: Allocator>(etype: u16, out: &mut Vec<u8, A>) -> Result<(), NoMemory>
     ensures text { Appended (etype_text_of etype) out.old out.new result }
 
-    // The name of a number is read as that number.
+    // `etype_of` reads the name of an enctype back as its number.
     ensures read { IsSome (etype_name_of etype) → etype_in (etype_text_of etype) ≡ Some etype }
 {
     match etype_name(etype) {
@@ -60,21 +59,21 @@ pub fn etype_text<A: Allocator>(etype: u16, out: &mut Vec<u8, A>) -> Result<(), 
     }
 }
 
-/// The name of an encryption type, as `aes128-cts-hmac-sha1-96`, if it has one here.
+/// Returns the name of an enctype, e.g. `aes128-cts-hmac-sha1-96`, or `None` if the table has none for it.
 pub fn etype_name(etype: u16) -> Option<&'static str>
     ensures { option_copied result ≡ etype_name_of etype }
 {
     Some(row_of(etype).0?.0)
 }
 
-/// The number of bytes of a key, if the encryption type has a name here.
+/// Returns the key size of an enctype in bytes, or `None` if the table has no name for it.
 pub fn key_size(etype: u16) -> Option<usize>
     ensures { result ≡ key_size_of etype }
 {
     Some(row_of(etype).0?.1)
 }
 
-/// Whether MIT names an encryption type, and calls it weak or deprecated.
+/// Returns whether the enctype is one that MIT calls weak or deprecated.
 pub fn is_weak(etype: u16) -> bool
     ensures { result ≡ is_weak etype }
 {
@@ -87,7 +86,7 @@ fn is_name_of(etype: u16, text: &[u8]) -> bool
     etype_name(etype).is_some_and(|name| name.as_bytes() == text)
 }
 
-// The first of the numbers that has the name.
+// Returns the first of the numbers whose name is `text`.
 fn named_among(numbers: &[u16], text: &[u8]) -> Option<u16>
     ensures { result ≡ find (is_named text.now) numbers.now }
 {
@@ -104,8 +103,8 @@ fn named(text: &[u8]) -> Option<u16>
     named_among(&[16, 17, 18, 19, 20, 23, 25, 26], text)
 }
 
-/// The number of an encryption type from its name, in just these letters, or from one
-/// to ten decimal digits with a value up to 65,535.
+/// Returns the number of the enctype that `text` is: its name, case-sensitive, or one to ten decimal digits with a
+/// value up to 65,535.
 #[tactic(auto, unfolding(crate::specs::Etype::etype_in))]
 pub fn etype_of(text: &[u8]) -> Option<u16>
     ensures { result ≡ etype_in text.now }

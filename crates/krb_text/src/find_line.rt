@@ -1,4 +1,4 @@
-//! The line of an entry with its place.
+//! Lines of an entry and its place.
 
 ghost use Rattle.std.specs.Prelude.{◌≡◌, IfOk};
 ghost use Rattle.krb_wire.specs.Text.{AppendedPart};
@@ -10,7 +10,7 @@ use krb_keytab::EntryView;
 use krb_wire::NoMemory;
 use std::alloc::Allocator;
 
-/// Appends the line of an entry that stands at a place, behind a label.
+/// Appends the line of the entry at `place`, after `label`.
 pub fn append_placed<A: Allocator>(
     label: &[u8],
     place: u32,
@@ -23,7 +23,7 @@ pub fn append_placed<A: Allocator>(
     append_tail(&entry.fields(), out)
 }
 
-/// Makes the line of an entry that was found at a place.
+/// Returns the line that reports the entry found at `place`.
 pub fn found_text<A: Allocator>(
     alloc: A,
     place: u32,

@@ -25,7 +25,7 @@ const FLAGS: [(u32, u8); 14] = [
     (0x0000_8000, b'a'),
 ];
 
-// The letters of those of some flags that are set.
+// Appends the letters of the flags in `table` that are set.
 fn append_letters<A: Allocator>(
     table: &[(u32, u8)],
     flags: u32,

@@ -1,4 +1,4 @@
-//! Text on its way to a writer, gathered into large writes.
+//! Buffered output: text is gathered into large writes.
 
 ghost use Rattle.std.specs.Prelude.{◌≡◌, ◌<◌, [], vec_len, is_err, IsFalse, OnOk, OnErr, IfOk, IfErr};
 ghost use Rattle.krb_files.specs.Bytes.{AppendsPrefix};
@@ -9,18 +9,18 @@ use krb_wire::NoMemory;
 use std::alloc::Allocator;
 use std::io::Write;
 
-// Once this many bytes are gathered they are written.
+// Once this many bytes are gathered, they are written.
 const FULL: usize = 32_768;
 
-/// Nothing gathered yet, and room for the first lines. A long listing takes more, at most twice what is
-/// gathered before it is written, where no line is longer than that.
+/// Returns an empty buffer with room for the first lines. It grows for a long listing, to at most twice what is
+/// gathered before a write, if no line is longer than that.
 pub fn room_to_gather<A: Allocator>(alloc: A) -> Result<Vec<u8, A>, NoMemory>
     ensures { IfOk result (λ gathered. gathered.items ≡ []) }
 {
     Ok(Vec::with_capacity(alloc, FULL / 8)?)
 }
 
-/// Writes what is gathered once it is 32,768 bytes or more, and else leaves it.
+/// Writes what is gathered if it is 32,768 bytes or more; otherwise does nothing.
 pub fn send_if_full<A: Allocator, W: Write>(
     gathered: &mut Vec<u8, A>,
     out: &mut Watched<W>,

@@ -14,7 +14,7 @@ use crate::line_fault::{LineFault, LineRefusal};
 use krb_wire::NoMemory;
 use std::alloc::Allocator;
 
-// Fills the room, which is as long as the text of the key, with that text.
+// Writes the text of the key to `room`, which is exactly as long.
 fn fill_text(key: &[u8], room: &mut [u8])
     requires { length room.old ≡ 2 + 2 * length key.now }
     ensures { room.new ≡ key_text_of key.now }
@@ -23,7 +23,7 @@ fn fill_text(key: &[u8], room: &mut [u8])
     hex::encode_to_slice(key, &mut room[2..]).unwrap();
 }
 
-// Where the text of a key of so many bytes ends that begins at `start`, if a usize can say it.
+// Returns where the text of a key of `key` bytes ends if it begins at `start`, or `None` on overflow.
 fn end_of(start: usize, key: usize) -> Option<usize>
     ensures { MatchOption result (2 ^ 64 ≤ start + 2 + 2 * key)
         (λ end. end ≡ start + 2 + 2 * key) }
@@ -31,7 +31,7 @@ fn end_of(start: usize, key: usize) -> Option<usize>
     key.checked_mul(2)?.checked_add(2)?.checked_add(start)
 }
 
-/// Appends `0x` and the key's bytes, each as two hexadecimal digits in lower case.
+/// Appends `0x` and the key's bytes in lower-case hexadecimal.
 pub fn key_text<A: Allocator>(key: &[u8], out: &mut Vec<u8, A>) -> Result<(), NoMemory>
     ensures { Appended (key_text_of key.now) out.old out.new result }
 {
@@ -44,7 +44,7 @@ pub fn key_text<A: Allocator>(key: &[u8], out: &mut Vec<u8, A>) -> Result<(), No
     Ok(())
 }
 
-// Whether keys of an encryption type may have so many bytes.
+// Whether a key of the enctype may have `size` bytes. Any size will do if the enctype's is not known.
 fn is_key_size(etype: u16, size: usize) -> bool
     ensures { result ≡ is_key_size etype size }
 {
@@ -57,22 +57,22 @@ fn are_hex_digits(text: &[u8]) -> bool
     text.iter().all(u8::is_ascii_hexdigit)
 }
 
-// Whether a text spells bytes in hexadecimal.
+// Whether the text is bytes in hexadecimal, two digits each.
 fn is_hexadecimal(text: &[u8]) -> bool
     ensures { result ≡ is_ok (decode_of text.now) }
 {
     text.len() % 2 == 0 && are_hex_digits(text)
 }
 
-/// Whether a text spells a key of an encryption type.
+/// Returns whether `digits` is a key of the enctype in hexadecimal.
 pub fn is_key(etype: u16, digits: &[u8]) -> bool
     ensures { result ≡ is_some (key_in etype digits.now) }
 {
     is_hexadecimal(digits) && is_key_size(etype, digits.len() / 2)
 }
 
-/// The key that hexadecimal digits in either case spell, two for each byte. Where the table has the
-/// encryption type, the key has its size.
+/// Returns the key that `digits` is in hexadecimal, in either case. If the table has the enctype, the key must have
+/// that enctype's size.
 pub fn parse_key<A: Allocator>(
     alloc: A,
     etype: u16,

@@ -1,4 +1,4 @@
-//! Keytabs as text, and what the texts of credential caches are made of.
+//! Keytabs as text, and the parts that the text of credential caches shares with it.
 #![tactic(auto)]
 
 mod bytes;

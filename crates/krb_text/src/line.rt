@@ -1,4 +1,4 @@
-//! Lines of entries and of faults. Where an allocation failed, some of a line may stand there.
+//! Lines of entries and of faults. If an allocation fails, part of a line may have been appended.
 
 ghost use Rattle.krb_wire.specs.Text.{AppendedPart};
 ghost use Rattle.krb_text.specs.Line.{entry_line, time_column, etype_column, key_column, entry_tail, fault_text};
@@ -13,7 +13,7 @@ use krb_walk::Fault;
 use krb_wire::{Name, NoMemory, write_name};
 use std::alloc::Allocator;
 
-// The time and a space, if times are shown.
+// Appends the time and a space, if times are shown.
 fn append_time<A: Allocator>(
     is_shown: bool,
     last: &mut LastTime,
@@ -29,7 +29,7 @@ fn append_time<A: Allocator>(
     append_byte(b' ', out)
 }
 
-// The encryption type in parentheses, if those are shown.
+// Appends the enctype in parentheses, if enctypes are shown.
 fn append_etype<A: Allocator>(
     is_shown: bool,
     etype: u16,
@@ -45,7 +45,7 @@ fn append_etype<A: Allocator>(
     append_byte(b')', out)
 }
 
-// The key in parentheses, if keys are shown.
+// Appends the key in parentheses, if keys are shown.
 #[inline(always)]
 fn append_key<A: Allocator>(
     is_shown: bool,
@@ -62,7 +62,7 @@ fn append_key<A: Allocator>(
     append_byte(b')', out)
 }
 
-/// Appends the line of an entry in a listing.
+/// Appends an entry's line of a listing.
 pub fn append_entry<N: Name, A: Allocator>(
     columns: KtColumns,
     last: &mut LastTime,
@@ -79,8 +79,7 @@ pub fn append_entry<N: Name, A: Allocator>(
     append_byte(b'\n', out)
 }
 
-/// Appends the end of the line of a found entry: its version, the number of its encryption type and its
-/// name.
+/// Appends the end of an entry's line after its place: its kvno, its enctype as a number, and its principal.
 pub fn append_tail<N: Name, A: Allocator>(
     entry: &Fields<'_, N>,
     out: &mut Vec<u8, A>,
@@ -94,7 +93,7 @@ pub fn append_tail<N: Name, A: Allocator>(
     append_byte(b'\n', out)
 }
 
-/// Appends the kind of a fault and its place, and ends the line.
+/// Appends a fault's kind, as a number, and its place, and ends the line.
 pub fn append_fault<A: Allocator>(fault: Fault, out: &mut Vec<u8, A>) -> Result<(), NoMemory>
     ensures { AppendedPart (fault_text fault) out.old out.new result }
 {

@@ -1,4 +1,4 @@
-//! What is wrong with a line that is read.
+//! Faults of lines that are read.
 
 ghost use Rattle.std.specs.Prelude.{◌≡◌};
 ghost use Rattle.krb_text.specs.declared.line_fault.LineRefusal.TheVariants.{Fault as Faulty, NoMemory as OutOfMemory};
@@ -8,7 +8,7 @@ use krb_wire::NoMemory;
 use std::fmt;
 use thiserror::Error;
 
-/// What is wrong with a line of a script, or with one that ktutil reads.
+/// What is wrong with a line of a script, or with a line that ktutil reads.
 #[derive(Clone, Copy, Debug, PartialEq, Eq, Error)]
 pub enum LineFault {
     UnknownWord = 1,
@@ -22,14 +22,14 @@ pub enum LineFault {
 }
 
 impl LineFault {
-    /// The number that is printed for it.
+    /// Returns the number that is printed for this fault.
     pub fn number(self) -> u32
         ensures { result ≡ line_fault_number self }
     {
         self as u32
     }
 
-    /// What is wrong with a line of a script, in words.
+    /// Returns the message for a line of a script.
     pub fn phrase(self) -> &'static str
         ensures { result.now ≡ line_phrase self }
     {
@@ -45,7 +45,7 @@ impl LineFault {
         }
     }
 
-    /// What is wrong with a line of ktutil, in words.
+    /// Returns the message for a line that ktutil reads.
     pub fn ktutil_phrase(self) -> &'static str
         ensures { result.now ≡ ktutil_phrase self }
     {
@@ -68,7 +68,7 @@ impl fmt::Display for LineFault {
     }
 }
 
-/// Why a line, or a word of it, gives nothing.
+/// Why a line, or a word of it, could not be read.
 #[derive(Clone, Copy, Debug, PartialEq, Eq, Error)]
 pub enum LineRefusal {
     Fault(LineFault),

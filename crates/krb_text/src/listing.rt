@@ -16,7 +16,7 @@ use krb_wire::NoMemory;
 use std::alloc::Allocator;
 use std::io::Write;
 
-/// The titles of the columns.
+/// Returns the line of column titles, with a `Timestamp` column if `times`.
 pub fn titles(times: bool) -> &'static [u8]
     ensures { result.now ≡ titles times }
 {
@@ -27,7 +27,7 @@ pub fn titles(times: bool) -> &'static [u8]
     }
 }
 
-/// The lines under them.
+/// Returns the line of dashes below the titles.
 pub fn underlines(times: bool) -> &'static [u8]
     ensures { result.now ≡ underlines times }
 {
@@ -52,7 +52,7 @@ fn append_heading<A: Allocator>(
     append(underlines(times), out)
 }
 
-// The lines of all entries.
+// Gathers the lines of all entries, and writes them as they fill up.
 fn list_entries<A: Allocator, B: Allocator, W: Write>(
     keytab: &Keytab<B>,
     columns: KtColumns,
@@ -71,7 +71,7 @@ fn list_entries<A: Allocator, B: Allocator, W: Write>(
     Ok(())
 }
 
-/// Appends the line of a fault, if there is one.
+/// Appends the line of the fault, if there is one.
 pub fn append_fault_line<A: Allocator>(
     fault: Option<Fault>,
     out: &mut Vec<u8, A>,
@@ -84,7 +84,7 @@ pub fn append_fault_line<A: Allocator>(
     }
 }
 
-/// Writes what is gathered, and behind it the line of a fault, if there is one.
+/// Writes what is gathered, and after it the line of the fault, if there is one.
 pub fn send_last<A: Allocator, W: Write>(
     fault: Option<Fault>,
     gathered: &mut Vec<u8, A>,
@@ -97,9 +97,9 @@ pub fn send_last<A: Allocator, W: Write>(
     put(out, gathered)
 }
 
-/// Writes the listing of a keytab under that name: a heading, a line for each record in file order, and
-/// where the image is damaged its fault. It is gathered into large writes; where one fails, what went
-/// out is a prefix of the text.
+/// Writes the listing of a keytab whose file is `name`: a heading, a line for each entry in file order, and the line
+/// of the fault if the keytab is damaged. The text goes out in large writes; if one fails, a prefix of the text has
+/// been written.
 pub fn list_keytab<A: Allocator, B: Allocator, W: Write>(
     alloc: A,
     name: &str,

@@ -1,4 +1,4 @@
-//! Numbers read from decimal digits.
+//! Parsing of decimal numbers.
 
 ghost use Rattle.std.specs.Prelude.{◌≡◌, MatchOption, false, nat_le, true};
 ghost use Rattle.std.specs.Char.{is_ascii_digit};
@@ -11,7 +11,7 @@ fn are_digits(text: &[u8]) -> bool
     text.iter().all(u8::is_ascii_digit)
 }
 
-// Numbers of 32 bits have at most ten digits.
+// A 32-bit number has at most ten digits.
 fn are_few(count: usize) -> bool
     ensures { result ≡ nat_le count 10 }
 {
@@ -34,14 +34,14 @@ fn numeral(text: &[u8]) -> Option<&str>
     str::from_utf8(text).ok()
 }
 
-/// The value of one to ten decimal digits, where it fits 16 bits.
+/// Parses one to ten decimal digits; `None` for other text, and for a value that does not fit 16 bits.
 pub fn parse_u16(text: &[u8]) -> Option<u16>
     ensures { result ≡ number_in 16 text.now }
 {
     numeral(text)?.parse().ok()
 }
 
-/// The value of one to ten decimal digits, where it fits 32 bits.
+/// Parses one to ten decimal digits; `None` for other text, and for a value that does not fit 32 bits.
 pub fn parse_u32(text: &[u8]) -> Option<u32>
     ensures { result ≡ number_in 32 text.now }
 {

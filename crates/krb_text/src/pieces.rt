@@ -1,4 +1,4 @@
-//! Texts that are cut at a byte.
+//! Splitting a text at each occurrence of a byte.
 
 ghost use Rattle.std.specs.Prelude.{◌≡◌, ◌==◌, ◌<◌, ◌∷◌, List, ℕ, length, IfSome, option_copied};
 ghost use Rattle.std.specs.List.{position_from};
@@ -7,7 +7,7 @@ ghost use Rattle.krb_text.specs.Pieces.{pieces, pieces_left, joined};
 
 use std::marker::Model;
 
-/// The pieces of a text that are still to come, where it is cut at each byte `AT`.
+/// An iterator over the pieces of a text, split at each byte `AT`.
 #[derive(Drop)]
 pub struct Pieces<'a, const AT: u8> {
     rest: Option<&'a [u8]>,
@@ -25,7 +25,7 @@ impl<'a, const AT: u8> Model for Pieces<'a, AT> {
     ghost view = { λ p. pieces_left AT (option_copied p.rest) };
 }
 
-// Where the first piece ends, if it is not the last.
+// Returns where the first piece ends, or `None` if it is the only one.
 fn end_of(text: &[u8], at: u8) -> Option<usize>
     ensures is { result ≡ position_from (λ b. b == at) 0 text.now }
     ensures within { IfSome result (λ end. end < length text.now) }
@@ -33,7 +33,7 @@ fn end_of(text: &[u8], at: u8) -> Option<usize>
     text.iter().position(|byte| *byte == at)
 }
 
-// The first piece, and what follows the byte that ends it, if one does.
+// Returns the first piece, and what follows the byte that ends it, if one does.
 fn cut(text: &[u8], at: u8) -> (&[u8], Option<&[u8]>)
     ensures { pieces at text.now ≡ result.0.now ∷ pieces_left at (option_copied result.1) }
 {
@@ -44,14 +44,14 @@ fn cut(text: &[u8], at: u8) -> (&[u8], Option<&[u8]>)
 }
 
 impl<'a, const AT: u8> Pieces<'a, AT> {
-    /// Those of a text: one more than it has such bytes.
+    /// Returns an iterator over all pieces of `text`: one more than it has bytes `AT`.
     pub fn of(text: &'a [u8]) -> Pieces<'a, AT>
         ensures { result ≡ pieces AT text.now }
     {
         Pieces { rest: Some(text) }
     }
 
-    /// All that is left of the text, if a piece is left.
+    /// Returns the rest of the text unsplit, or `None` if no piece is left.
     pub fn rest(self) -> Option<&'a [u8]>
         ensures { option_copied result ≡ joined AT self.entry }
     {

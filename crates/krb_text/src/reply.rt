@@ -1,4 +1,4 @@
-//! The lines of replies.
+//! Replies of a session as lines of text.
 
 ghost use Rattle.std.specs.Prelude.{◌≡◌, ◌++◌, decimal, codes, map};
 ghost use Rattle.krb_wire.specs.Text.{Appended, AppendedPart};
@@ -15,7 +15,7 @@ use krb_walk::{Fault, Reply};
 use krb_wire::{NoMemory, all_or_nothing};
 use std::alloc::Allocator;
 
-// What a number is, and the number.
+// Appends a label and a number, and ends the line.
 fn append_number_line<A: Allocator>(
     label: &[u8],
     number: u32,
@@ -27,7 +27,7 @@ fn append_number_line<A: Allocator>(
     append_byte(b'\n', out)
 }
 
-// Where a walk stands.
+// Appends the line that reports where a walk is.
 fn append_place<A: Allocator>(
     walk: u32,
     label: &[u8],
@@ -40,7 +40,7 @@ fn append_place<A: Allocator>(
     append_number_line(label, next, out)
 }
 
-// The fault that a walk met.
+// Appends the line that reports the fault that a walk met.
 fn append_walk_fault<A: Allocator>(
     walk: u32,
     fault: Fault,
@@ -53,7 +53,7 @@ fn append_walk_fault<A: Allocator>(
     append_fault(fault, out)
 }
 
-// The record that a walk was given.
+// Appends the line that reports the record given to a walk.
 fn append_gave<F: RecordFormat, A: Allocator>(
     format: F,
     walk: u32,
@@ -95,7 +95,7 @@ fn append_reply<F: RecordFormat, A: Allocator, B: Allocator>(
     }
 }
 
-// The format after a reply.
+// Returns the format after a reply: only a rewrite changes it.
 fn format_after<F: RecordFormat, B: Allocator>(format: F, reply: &Reply<B>) -> F
     ensures { result ≡ format_after_by F.rewritten format (said reply.now) }
 {
@@ -120,7 +120,7 @@ fn append_replies<F: RecordFormat, A: Allocator, B: Allocator>(
     Ok(())
 }
 
-/// Appends the line of a reply. The bytes that it gives are read in that format.
+/// Appends the line of a reply. The bytes of a record given to a walk are read in `format`.
 pub fn reply_line<F: RecordFormat, A: Allocator, B: Allocator>(
     format: F,
     reply: &Reply<B>,
@@ -133,7 +133,7 @@ pub fn reply_line<F: RecordFormat, A: Allocator, B: Allocator>(
     all_or_nothing(appended, len, out)
 }
 
-/// Appends the lines of replies in order. A rewrite changes the format.
+/// Appends the lines of replies in order. After a rewrite, records are read in the format that it writes.
 pub fn reply_lines<F: RecordFormat, A: Allocator, B: Allocator>(
     format: F,
     replies: &[Reply<B>],

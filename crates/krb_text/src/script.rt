@@ -1,4 +1,4 @@
-//! Scripts: lines that ask for events, and for values to be set.
+//! Scripts: text whose lines are commands.
 
 ghost use Rattle.std.specs.Prelude.{◌≡◌, ◌++◌, ◌∷◌, [], Ok, IfOk, IfErr, OnOk, IsOkAnd, IsErrOf};
 ghost use Rattle.krb_text.specs.declared.script.ScriptRefusal.TheVariants.{NoMemory as OutOfMemory};
@@ -20,7 +20,7 @@ use thiserror::Error;
 /// Why a script is refused.
 #[derive(Clone, Copy, Debug, PartialEq, Eq, Error)]
 pub enum ScriptRefusal {
-    /// The first faulty line, counted from 1, and its first fault.
+    /// The number of the first faulty line, counted from 1, and its first fault.
     Fault { line: u64, kind: LineFault },
     /// An allocation failed.
     NoMemory,
@@ -47,14 +47,14 @@ impl<T: Drop> From<AllocFailed<T>> for ScriptRefusal {
     }
 }
 
-// Whether a line asks for something: it is not empty, and no comment.
+// Whether a line is a command: it is neither empty nor a comment.
 fn is_asked(line: &[u8]) -> bool
     ensures { result ≡ is_asked line.now }
 {
     line.first().is_some_and(|first| *first != b'#')
 }
 
-// Appends what a line asks for.
+// Parses a line and appends the result.
 fn add_line<A: Allocator, L: ScriptLine<A>>(
     alloc: A,
     number: u64,
@@ -74,8 +74,8 @@ fn add_line<A: Allocator, L: ScriptLine<A>>(
     }
 }
 
-/// What the lines of a script ask for, in order. Empty lines and those that begin with `#` ask for nothing,
-/// and count. Lines are read in order: where an allocation fails, a fault may follow.
+/// Parses the lines of a script, in order. Empty lines and lines that begin with `#` are skipped, but counted. If an
+/// allocation fails, a later line may have a fault that is not reported.
 pub fn parse_script<A: Allocator + Copy, L: ScriptLine<A>>(
     alloc: A,
     text: &[u8],

@@ -1,4 +1,4 @@
-//! The listing of slots.
+//! The listing of ktutil's slots.
 
 ghost use Rattle.std.specs.Prelude.{◌≡◌, ◌≤◌, ◌++◌, OnOk, OnErr, vec_capacity};
 ghost use Rattle.krb_wire.specs.Text.{AppendedPart};
@@ -62,7 +62,7 @@ fn append_listing<A: Allocator, B: Allocator>(
     append_slots(columns, entries, out)
 }
 
-/// Appends the listing of entries in slots: a heading, and a line for each entry with its slot.
+/// Appends the listing of a list of entries: a heading, and for each entry a line with its slot number, from 1 on.
 pub fn list_slots<A: Allocator>(
     alloc: A,
     entries: &[NewEntry<A>],

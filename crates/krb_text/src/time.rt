@@ -1,4 +1,4 @@
-//! Instants as text.
+//! Times as text, in UTC.
 
 ghost use Rattle.std.specs.Prelude.{◌≡◌, ◌≤◌, ℕ, pos};
 ghost use Rattle.krb_wire.specs.Text.{Appended};
@@ -11,8 +11,8 @@ use jiff_core::civil;
 use krb_wire::NoMemory;
 use std::alloc::Allocator;
 
-// The date that many days after 1970-01-01, up to the last day that 32-bit seconds reach. To add a span of days to
-// the first takes eight times the instructions.
+// Returns the date `days` days after 1970-01-01, up to the last day that 32-bit seconds reach. Adding a span of days
+// to the first date would take eight times the instructions.
 #[tactic(auto, using(crate::proofs::Numbering::same_day))]
 fn date_of(days: u32) -> Date
     requires { days ≤ 49_710 }
@@ -23,14 +23,14 @@ fn date_of(days: u32) -> Date
     Date::from_plain(civil::Date::from_unix_epoch_day(days as i64).unwrap())
 }
 
-// The last decimal digit.
+// Returns the last decimal digit, in ASCII.
 fn digit_of(n: u32) -> u8
     ensures { result ≡ digit n }
 {
     b'0' + (n % 10) as u8
 }
 
-// The text of the first second of that day, of days that count from 1970-01-01.
+// Returns the text of the first second of the day `days` days after 1970-01-01.
 fn midnight(days: u32) -> [u8; 20]
     requires { days ≤ 49_710 }
     ensures { result ≡ day_text (day_number days) 0 }
@@ -62,7 +62,7 @@ fn midnight(days: u32) -> [u8; 20]
     ]
 }
 
-// The text of another second of the same day.
+// Returns the text of another second of the same day, from the text of any second of it.
 fn at_second(day: &[u8; 20], second: u32) -> [u8; 20]
     ensures { (d : Day) (other : ℕ) → day.now ≡ day_text d other → result ≡ day_text d second }
 {
@@ -90,7 +90,7 @@ fn at_second(day: &[u8; 20], second: u32) -> [u8; 20]
     ]
 }
 
-/// The last time that was spelled. The next time in a file is often the same, or of the same day.
+/// A cache of the last time that was formatted. The next time in a file is often the same, or on the same day.
 #[derive(Drop)]
 pub struct LastTime {
     seconds: u32,
@@ -99,7 +99,7 @@ pub struct LastTime {
 }
 
 impl LastTime {
-    /// Before the first time.
+    /// Returns a cache that holds 1970-01-01T00:00:00Z.
     pub fn new() -> LastTime {
         LastTime {
             seconds: 0,
@@ -107,7 +107,7 @@ impl LastTime {
         }
     }
 
-    // The text of some second of that day.
+    // Returns the text of some second of that day.
     fn text_of_day(&self, days: u32) -> [u8; 20]
         requires { days ≤ 49_710 }
         ensures { (second : ℕ) × (result ≡ day_text (day_number days) second) }
@@ -129,7 +129,7 @@ impl LastTime {
         };
     }
 
-    /// Appends the same text as `time_text`.
+    /// Appends the same text as `time_text`, and remembers it.
     pub fn append<A: Allocator>(
         &mut self,
         seconds: u32,
@@ -144,7 +144,7 @@ impl LastTime {
     }
 }
 
-/// Appends the instant that many seconds after 1970-01-01T00:00:00Z, as `2023-11-14T22:13:20Z`.
+/// Appends the time `seconds` seconds after 1970-01-01T00:00:00Z, e.g. `2023-11-14T22:13:20Z`.
 pub fn time_text<A: Allocator>(seconds: u32, out: &mut Vec<u8, A>) -> Result<(), NoMemory>
     ensures { Appended (time_text_of seconds) out.old out.new result }
 {

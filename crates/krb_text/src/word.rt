@@ -1,4 +1,4 @@
-//! The words of a line.
+//! Parsing of the words of a line.
 
 ghost use Rattle.std.specs.Prelude.{◌≡◌};
 ghost use Rattle.krb_wire.specs.Reading.{principal_parts};
@@ -11,21 +11,21 @@ use crate::numbers::parse_u32;
 use krb_wire::{NameFault, Principal, parse_name};
 use std::alloc::Allocator;
 
-/// A number of 32 bits, in decimal.
+/// Parses a 32-bit number in decimal.
 pub fn number_word(word: &[u8]) -> Result<u32, LineFault>
     ensures { result ≡ number_word word.now }
 {
     parse_u32(word).ok_or(LineFault::BadNumber)
 }
 
-/// An encryption type, by its name or its number.
+/// Parses an enctype, by name or by number.
 pub fn etype_word(word: &[u8]) -> Result<u16, LineFault>
     ensures { result ≡ etype_word word.now }
 {
     etype_of(word).ok_or(LineFault::BadEtype)
 }
 
-/// A name with its realm.
+/// Parses a principal name that includes its realm.
 pub fn name_word<A: Allocator + Copy>(alloc: A, word: &[u8]) -> Result<Principal<A>, LineRefusal>
     ensures { Reads principal_parts (name_word word.now) result }
 {

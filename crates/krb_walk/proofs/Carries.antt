@@ -9,7 +9,7 @@ use Rattle.krb_walk.specs.Track.{RecordName}
 use Rattle.krb_walk.specs.Records.{is_name, place_among}
 use Rattle.krb_walk.proofs.Lives.{lives}
 
--- numbers that rise, from lo on, up to an end
+-- strictly ascending numbers, at least lo, and below an end
 abbrev pub Rises : ℕ → List ℕ → ℕ → Type 0
 Rises lo [] end = lo ≤ end
 Rises lo (p ∷ ps) end = (lo ≤ p) × Rises (suc p) ps end
@@ -29,7 +29,7 @@ lives_rise at (x ∷ cells) sound = lives_rise_cons at x.width _ x.live cells so
 pub places_rise : (s : Store) → IsSound s → Rises s.first (live_places s) (end_of s)
 places_rise s sound = lives_rise s.first s.cells sound
 
--- how many of these numbers are below c
+-- how many of some numbers are below c
 abbrev pub below : ℕ → List ℕ → ℕ
 below c ps = length (filter (λ q. nat_lt q c) ps)
 
@@ -48,7 +48,7 @@ pub below_few : (c : ℕ) (ps : List ℕ) → below c ps ≤ length ps
 below_few c [] = omega arith
 below_few c (p ∷ ps) = below_few_cons (nat_lt p c) p (filter (λ q. nat_lt q c) ps) (length ps) (below_few c ps)
 
--- an element of numbers that rise
+-- an element of ascending numbers, or their end, is at least lo
 pub nth_ge : (lo end k : ℕ) (ps : List ℕ) → Rises lo ps end → lo ≤ nth_or end ps k
 nth_ge lo end k [] h = h
 nth_ge lo end zero (p ∷ ps) h = h.0
@@ -78,7 +78,7 @@ among_ge r lo end p [] ps h is = cc
 among_ge r lo end p (x ∷ names) [] h is = cc
 among_ge r lo end p (x ∷ names) (q ∷ ps) h is = among_ge_by r lo p q (is_name r x) (place_among r names ps) h.0 (λ e. among_ge r (suc q) end p names ps h.1 e) is
 
--- one place is ahead of a cursor exactly where the other is ahead of the other cursor
+-- one place is ahead of a cursor iff the other is ahead of the other cursor
 pub record SameSide (c d p q : ℕ) : Type 0 where
   pub on : c ≤ p → d ≤ q
   pub back : d ≤ q → c ≤ p
@@ -105,18 +105,18 @@ side_cons r lo mo end fin c p q u v x names ps qs false t h k was is ih =
     subst (λ (j : ℕ). SameSide c (nth_or fin (v ∷ qs) j) p q) (sym (below_none c u end (u ∷ ps) le (omega arith, h.1)))
     (record { on = λ _. ge_q; back = λ _. omega arith })
 
--- a record that stands among both is ahead of a cursor in the one exactly where it is ahead of the carried one in the other
+-- a record in both lists is ahead of a cursor in the one iff it is ahead of the carried cursor in the other
 pub same_side : (r : RecordName) (lo mo end fin c p q : ℕ) (names : List RecordName) (ps qs : List ℕ) → Rises lo ps end → Rises mo qs fin → place_among r names ps ≡ Some p → place_among r names qs ≡ Some q → SameSide c (nth_or fin qs (below c ps)) p q
 same_side r lo mo end fin c p q [] ps qs h k was is = cc
 same_side r lo mo end fin c p q (x ∷ names) [] qs h k was is = cc
 same_side r lo mo end fin c p q (x ∷ names) (u ∷ ps) [] h k was is = cc
 same_side r lo mo end fin c p q (x ∷ names) (u ∷ ps) (v ∷ qs) h k was is = side_cons r lo mo end fin c p q u v x names ps qs (nat_lt u c) refl h k was is (λ e f. same_side r (suc u) (suc v) end fin c p q names ps qs h.1 k.1 e f)
 
--- a rewrite keeps each record ahead of each cursor, or behind it
+-- a rewrite keeps each record ahead of each cursor, or not ahead of it
 pub carry_same_side : (r : RecordName) (old new : Store) (names : List RecordName) (c p q : ℕ) → IsSound old → Rewrites old new → place_among r names (live_places old) ≡ Some p → place_among r names (live_places new) ≡ Some q → SameSide c (carry old new c) p q
 carry_same_side r old new names c p q sound h was is = same_side r old.first new.first (end_of old) (end_of new) c p q names (live_places old) (live_places new) (places_rise old sound) (places_rise new h.sound) was is
 
--- and each record that stood, stands
+-- a rewrite keeps each record that has a place
 still_some_by : (b : Bool) (u v : ℕ) (was is : Option ℕ) → cond b (Some v) is ≡ None → (is ≡ None → was ≡ None) → cond b (Some u) was ≡ None
 still_some_by true u v was is none ih = cc
 still_some_by false u v was is none ih = ih none

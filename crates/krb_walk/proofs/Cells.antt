@@ -1,4 +1,4 @@
--- The cells of a store: what a cursor passes.
+-- The cells of a store that a cursor passes.
 use Rattle.std.proofs.Common.{◌≡◌, ℕ, ◌+◌, ◌<◌, ◌≤◌, Bool, true, false, List, [], ◌∷◌, ◌++◌, map, Option, Some, None, refl, sym, ap, ◌∙◌, arith}
 use Rattle.std.specs.Prelude.{◌&&◌, ◌==◌, nat_le, is_some}
 use Rattle.std.specs.List.{find, filter_map, AllByRecursion}
@@ -22,7 +22,7 @@ pub places_spots : (at : ℕ) (cells : List Cell) → map (λ x. x.place) (stand
 places_spots at [] = refl
 places_spots at (c ∷ cells) = ap (λ ps. at ∷ ps) (places_spots (at + c.width) cells)
 
--- the cell at p, of cells from a place on
+-- the record at p, of cells from a place on
 abbrev pub live_from : ℕ → List Cell → ℕ → Option Record
 live_from at cells p = record_of_some (find (λ x. x.place == p) (standing at cells))
 
@@ -33,7 +33,7 @@ abbrev pub rows_of_next : ℕ → Option Record → List Row
 rows_of_next n None = []
 rows_of_next n (Some r) = record { event = n; stood = r } ∷ []
 
--- a cell before the cursor, or free
+-- a stop skips a cell that is free or before the cursor
 pub stop_skips : (at c w : ℕ) (live : Option (List ℕ)) (cells : List Cell) → (nat_le c at && is_some live) ≡ false → stop_from at (record { width = w; live = live } ∷ cells) c ≡ stop_from (at + w) cells c
 stop_skips at c w live cells e = ap (stop_cursor (end_from (at + w) cells)) (next_skips at c w live cells e)
 
@@ -50,12 +50,12 @@ pub stop_from-ge : (at c : ℕ) (cells : List Cell) → at ≤ stop_from at cell
 stop_from-ge at c [] = omega arith
 stop_from-ge at c (x ∷ cells) = stop_from-ge_cons at c x.width x.live (nat_le c at) cells refl (stop_from-ge (at + x.width) c cells)
 
--- functions that agree from a place on
+-- functions that agree from a place on give the same rows there
 pub same_from : (f g : ℕ → Option Row) (at : ℕ) (ws : List ℕ) → ((p : ℕ) → at ≤ p → f p ≡ g p) → filter_map f (spots at ws) ≡ filter_map g (spots at ws)
 same_from f g at [] same = refl
 same_from f g at (w ∷ ws) same = rw (same at (omega arith), same_from f g (at + w) ws (λ p h. same p (omega arith))) refl
 
--- what a step does to the rows that are due: f is before it, g after it
+-- how a step changes the rows that are due: f before it, g after it
 pub record StepsRows (f g : ℕ → Option Row) (n c end : ℕ) (found : ℕ → Option Record) : Type 0 where
   pub forward : c ≤ end
   pub passed : (p : ℕ) → c ≤ p → p < end → f p ≡ row_of n (found p)
@@ -97,7 +97,7 @@ step_cons f g n c end at w live false cells more found e steps some look is_end 
     let lt_end : at < end = omega (arith, steps.forward) in
     step_skips f g n c end at w live cells more skip (steps.behind at lt) (steps.none at lt_end) (ih (is_end ∙ stop_skips at c w live cells skip))
 
--- a step's row stands before the rows of the rest
+-- a step's row comes before the rows of the rest
 pub step_gives : (f g : ℕ → Option Row) (n c end at : ℕ) (cells : List Cell) (more : List ℕ) (found : ℕ → Option Record) → StepsRows f g n c end found → AllByRecursion (λ x. 0 < x.width) cells
     → ((p : ℕ) → at ≤ p → found p ≡ live_from at cells p) → end ≡ stop_from at cells c → StepGives f g n c end at cells more
 step_gives f g n c end at [] more found steps sound look is_end = same_from f g at more (λ p h. steps.ahead p (omega arith))
@@ -105,7 +105,7 @@ step_gives f g n c end at (x ∷ cells) more found steps sound look is_end =
     step_cons f g n c end at x.width x.live (nat_le c at) cells more found refl steps sound.0 look is_end
     (λ ends. step_gives f g n c end (at + x.width) cells more found steps sound.1 (λ p h. look p (omega arith) ∙ find_tail at x.width p x.live cells (omega (arith, sound.0))) ends)
 
--- what a stop at a live cell tells
+-- what holds of a stop at a live cell
 pub record StopsLive (s : Store) (c p n : ℕ) : Type 0 where
   pub bytes : List ℕ
   pub next : next_live s c ≡ Some (record { place = p; next = n; bytes = bytes })
@@ -130,7 +130,7 @@ stops_live_of s c p n (Some r) sound is e =
 pub stops_live : (s : Store) (c p n : ℕ) → IsSound s → Live p n ≡ stop_at s c → StopsLive s c p n
 stops_live s c p n sound e = stops_live_of s c p n (next_live s c) sound refl e
 
--- the reply that tells it
+-- the reply to a step with that stop
 pub gave_told : (s : Store) (w c p n : ℕ) (items : List ℕ) → StopsLive s c p n → live_bytes s p ≡ Some items → Gave w p n items ≡ stop_said s w (next_live s c)
 gave_told s w c p n items live here =
     let same : items ≡ live.bytes = cc (here, live.stands) in

@@ -1,4 +1,4 @@
--- A record comes exactly if a step passes it where it stands.
+-- A record comes iff a step passes it at its place.
 use Rattle.std.proofs.Common.{◌≡◌, ℕ, suc, ◌<◌, ◌≤◌, Bool, true, false, cond, List, [], ◌∷◌, ◌++◌, length, Option, Some, None, inl, inr, refl, sym, ap, ◌∙◌, subst, arith}
 use Rattle.std.specs.Prelude.{◌&&◌, ◌==◌, ◌⊎◌, nat_le, nat_lt, IsSome}
 use Rattle.std.specs.List.{list_any}
@@ -17,7 +17,7 @@ use Rattle.krb_walk.proofs.StepRows.{step_at}
 use Rattle.krb_walk.proofs.Carries.{le_or}
 use Rattle.krb_walk.proofs.Ranked.{Keeps, keeps_after, Still, still_after}
 
--- a record that stands, stands at a live cell, and is born
+-- a record that has a place is at a live cell, and is born
 among_any_by : (b : Bool) (q p : ℕ) (rest : Option ℕ) (ps : List ℕ) → cond b (Some q) rest ≡ Some p → (rest ≡ Some p → list_any (λ x. x == p) ps ≡ true) → list_any (λ x. x == p) (q ∷ ps) ≡ true
 among_any_by true q p rest ps e ih = let same : q ≡ p = cc in let here : (q == p) ≡ true = grind (arith, nat_tests) in or_left (q == p) _ here
 among_any_by false q p rest ps e ih = or_true (q == p) _ (ih e)
@@ -76,7 +76,7 @@ turn_later r x xs e = ap (λ (b : Bool). cond {A = Option WalkEvent} b (Some x) 
 pub turn_first : (r : RecordName) (x : WalkEvent) (xs : Track) → passes_record r x ≡ true → turn_of r (x ∷ xs) ≡ Some x
 turn_first r x xs e = ap (λ (b : Bool). cond {A = Option WalkEvent} b (Some x) (turn_of r xs)) e
 
--- a record behind a cursor stays behind it, so it has no turn
+-- a record before a cursor stays before it, so it has no turn
 abbrev pub IsBehind : RecordName → List RecordName → Store → ℕ → Type 0
 IsBehind r names s d = (q : ℕ) → place_among r names (live_places s) ≡ Some q → q < d
 
@@ -97,13 +97,13 @@ misses_by : (r : RecordName) (x : WalkEvent) (g : Advances x) (o : Option ℕ) �
 misses_by r x g None e b = passes_none r x e
 misses_by r x g (Some p) e b = let lt = b p refl in let misses : (nat_le g.at p && nat_lt p (end_of_step x g.at)) ≡ false = grind (arith, nat_tests) in passes_by r x p g.at _ g.stepped e g.stood g.stands ∙ misses
 
--- a record is behind the cursor after an event
+-- a record is before the cursor after an event
 pub record StaysBehind (r : RecordName) (x : WalkEvent) : Type 0 where
   pub to : ℕ
   pub is : x.to ≡ Some to
   pub behind : IsBehind r (names_after x.number x.reply x.before x.after x.names) x.after to
 
--- a step leaves it behind where it was behind the place that the step goes to
+-- a record before the place that a step goes to is before the cursor after the step
 behind_step : (r : RecordName) (n : ℕ) (s : Store) (names : List RecordName) (c : Option ℕ) (x : WalkEvent) (g : Advances x) → IsWalkEvent n s names c x → Keeps n s names → r.birth < n → ((p : ℕ) → place_of r x ≡ Some p → p < end_of_step x g.at) → StaysBehind r x
 behind_step r n s names c x g h k lt b =
     let to = end_of_step x g.at in
@@ -126,7 +126,7 @@ behind_event r n s names c x d h k lt at b =
           behind_step r n s names c x goes h k lt (λ p e. omega (arith, bx p e)))
     ]
 
--- and no step passes it
+-- no step passes a record before the cursor
 behind_missed : (r : RecordName) (n : ℕ) (s : Store) (names : List RecordName) (c : Option ℕ) (x : WalkEvent) (d : ℕ) → IsWalkEvent n s names c x → c ≡ Some d → IsBehind r names s d → passes_record r x ≡ false
 behind_missed r n s names c x d h at b = elim (effect_of x h.effect) [
   | inl holds ↦ passes_other r x holds.idle
@@ -183,7 +183,7 @@ comes_now r x xs e here none c = elim c [
   | inr one ↦ cc (none, one.0.is)
 ]
 
--- a record that is passed is behind the cursor from then on, so it is not passed again
+-- a record that is passed is before the cursor from then on, so it is not passed again
 pub record IsPassed (r : RecordName) (n : ℕ) (x : WalkEvent) : Type 0 where
   pub born : r.birth < n
   pub on : StaysBehind r x

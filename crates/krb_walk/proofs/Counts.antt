@@ -46,7 +46,7 @@ count_out : (f : ℕ → Bool) (front back : List ℕ) (p : ℕ) → length (fil
 count_out f [] back p = no_less (f p) p (filter f back)
 count_out f (x ∷ front) back p = less_more (f x) 0 x (filter f (front ++ back)) (filter f (front ++ p ∷ back)) (count_out f front back p)
 
--- how many places are at or after c
+-- the number of places at or after c
 abbrev ahead_of : ℕ → List ℕ → ℕ
 ahead_of c ps = length (filter (λ p. nat_le c p) ps)
 
@@ -66,12 +66,12 @@ left_none e (r ∷ rs) all = let misses : nat_le e r.place ≡ false = grind (ar
 pub none_at_end : (s : Store) → IsSound s → records_from s (end_of s) ≡ []
 none_at_end s sound = left_none (end_of s) (records s) (lives_lt s.first s.cells sound)
 
--- a step gives the first record that is left
+-- a step gives the first record left
 go_count : (n : ℕ) (s : Store) (c : ℕ) (found : Option Record) → IsSound s → next_live s c ≡ found → length (rows_of_next n found) + length (records_from s (stop_cursor (end_of s) found)) ≤ length (records_from s c)
 go_count n s c None sound is = omega (arith, ap length (none_at_end s sound))
 go_count n s c (Some r) sound is = omega (arith, ap length (stops_give_records s c r sound is).first)
 
--- an addition is one more at most
+-- 1 if a reply accepts an addition, or else 0
 abbrev added : Said → ℕ
 added told = cond (is_placed told) 1 0
 

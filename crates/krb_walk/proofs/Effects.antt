@@ -1,4 +1,4 @@
--- What each event does to a walk, and the law of whole histories.
+-- What each event does to a walk, and the law of histories.
 use Rattle.std.proofs.Common.{◌≡◌, ◌≢◌, ℕ, zero, suc, ◌+◌, Bool, true, false, cond, List, [], ◌∷◌, ◌++◌, length, map, Option, Some, None, Result, Ok, Err, inl, inr, refl, sym, ap, ◌∙◌, subst, arith}
 use Rattle.std.specs.Prelude.{◌&&◌, ◌==◌, ◌⊎◌, nat_lt, is_some, slice_get, slice_set}
 use Rattle.std.proofs.lemmas.Bool.Decides.{nat_tests}
@@ -37,7 +37,7 @@ cut_extends : {S : Type 0} (p : ℕ) (given : Result S Code) (old new : Store) �
 cut_extends p (Ok given) old new h = cuts-extends old new p h
 cut_extends p (Err code) old new h = same_extends old new h
 
--- what changes no store is lawful
+-- an event that leaves the store unchanged is lawful
 changes_end : (w end : ℕ) (fault : Option FaultKind) (s : Store) → Changes (end_said w end fault) s s
 changes_end w end None s = refl
 changes_end w end (Some kind) s = refl
@@ -53,7 +53,7 @@ changes_step s w (Some c) = changes_stop s w (next_live s c)
 pub lawful_step : {S I : Type 0} (r : Rules S I) (s : SessionState S) (w : ℕ) → IsLawful {I = I} r (moment r s (Step w))
 lawful_step r s w = changes_step (r.seen s.store) w (slice_get s.cursors w)
 
--- where a cursor is carried, there is a place
+-- a cursor is carried to a place
 place_at_nth_cons : (at w : ℕ) (live : Option (List ℕ)) (cells : List Cell) (k : ℕ) → ((j : ℕ) → is_place_from (at + w) cells (nth_or (end_from (at + w) cells) (lives (at + w) cells) j) ≡ true)
     → is_place_from at (record { width = w; live = live } ∷ cells) (nth_or (end_from (at + w) cells) (lives at (record { width = w; live = live } ∷ cells)) k) ≡ true
 place_at_nth_cons at w None cells k ih = or_true (at == nth_or (end_from (at + w) cells) (lives (at + w) cells) k) _ (ih k)
@@ -67,7 +67,7 @@ place_at_nth at (x ∷ cells) k = place_at_nth_cons at x.width x.live cells k (�
 pub place_carried : (old new : Store) (c : ℕ) → is_place new (carry old new c) ≡ true
 place_carried old new c = place_at_nth new.first new.cells (rank old c)
 
--- a table that is mapped
+-- elements of a mapped table
 pub get_map : (f : ℕ → ℕ) (xs : List ℕ) (w d : ℕ) → slice_get xs w ≡ Some d → slice_get (map f xs) w ≡ Some (f d)
 get_map f [] w d h = cc
 get_map f (x ∷ xs) zero d h = let same : x ≡ d = cc in ap (λ (y : ℕ). Some (f y)) same
@@ -82,7 +82,7 @@ was_map f [] w c h = cc
 was_map f (x ∷ xs) zero c h = record { at = x; is = cc }
 was_map f (x ∷ xs) (suc w) c h = was_map f xs w c h
 
--- cursors that stand at places
+-- cursors that are at places
 abbrev pub AtPlaces : Store → List ℕ → Type 0
 AtPlaces s cursors = (w c : ℕ) → slice_get cursors w ≡ Some c → is_place s c ≡ true
 
@@ -147,7 +147,7 @@ pub record Moves {S I : Type 0} (r : Rules S I) (s : SessionState S) (e : Event 
   pub stands : slice_get (cursors_after r s e) w ≡ Some (stop_cursor (end_of (r.seen s.store)) (next_live (r.seen s.store) at))
   pub answered : AnswersStep (r.seen s.store) w at (reply_to r s e) (stop_cursor (end_of (r.seen s.store)) (next_live (r.seen s.store) at))
 
--- replies that tell a walk no step
+-- replies that are not to a step of the walk
 other_cond : (w : ℕ) (b : Bool) (x y : Said) → tells_step w x ≡ false → tells_step w y ≡ false → tells_step w (cond b x y) ≡ false
 other_cond w true x y h k = h
 other_cond w false x y h k = k
@@ -164,7 +164,7 @@ other_rewrite : {S : Type 0} (w : ℕ) (seen : S → Store) (given : Result S Co
 other_rewrite w seen (Ok new) = refl
 other_rewrite w seen (Err code) = refl
 
--- replies that tell no rewrite
+-- replies that accept no rewrite
 plain_cond : (b : Bool) (x y : Said) → is_rewritten x ≡ false → is_rewritten y ≡ false → is_rewritten (cond b x y) ≡ false
 plain_cond true x y h k = h
 plain_cond false x y h k = k
@@ -208,7 +208,7 @@ pub get_push_cond : (b : Bool) (cursors : List ℕ) (p w d : ℕ) → slice_get 
 get_push_cond true cursors p w d h = get-append cursors (p ∷ []) w d h
 get_push_cond false cursors p w d h = h
 
--- what a step of the walk is answered
+-- the reply to a step of the walk
 answered_none : (s : Store) (w c : ℕ) (fault : Option FaultKind) → next_live s c ≡ None → s.fault ≡ fault → AnswersStep s w c (end_said w (end_of s) fault) (end_of s)
 answered_none s w c None is e = (refl, is, e, refl, refl)
 answered_none s w c (Some kind) is e = (refl, is, ap (fault_from (end_of s)) e, refl)
@@ -271,7 +271,7 @@ effect r s (Put item) w = inl (record { idle = refl; stays = λ d h. stays_plain
 effect r s (Cut p) w = inl (record { idle = refl; stays = λ d h. stays_plain _ _ _ _ d (plain_cut p (r.cut s.store p)) h; other = other_cut w p (r.cut s.store p) })
 effect r s Rewrite w = inl (record { idle = refl; stays = λ d h. rewrite_stays r.seen s.store s.cursors (r.rewrite s.store) w d h; other = other_rewrite w r.seen (r.rewrite s.store) })
 
--- a whole history: its last store has the first one's cells where they were
+-- a history without rewrites: its last store has the cells of the first where they were
 pub history_extends : {S I : Type 0} (r : Rules S I) (s : SessionState S) (es : List (Event I)) → AllPlain (history r s es) → AllLawful r (history r s es) → Extends (r.seen s.store) (r.seen (state_after r s es).store)
 history_extends r s [] plain h = extends_self (r.seen s.store)
 history_extends r s (e ∷ es) plain h = extends_on _ _ _ (changes-extends _ _ _ plain.0 h.0) (history_extends r (after r s e) es plain.1 h.1)

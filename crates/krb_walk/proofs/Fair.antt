@@ -1,4 +1,4 @@
--- The laws of a walk, over one run and over runs that join.
+-- The laws of a walk, over one run and over joined runs.
 use Rattle.std.proofs.Common.{◌≡◌, ℕ, suc, ◌+◌, ◌≤◌, List, [], ◌∷◌, ◌++◌, length, Option, Some, None, refl, sym, ap, ◌∙◌, subst, arith}
 use Rattle.std.specs.List.{AllByRecursion}
 use Rattle.std.proofs.lemmas.Grind.{flat_map-append}
@@ -32,12 +32,12 @@ few_of n s names c t last h earlier x steps later d is at =
     let few = few_steps _ _ _ _ (x ∷ steps) later last d rest (sym rest.0.from ∙ at) in
     omega (arith, few, ap (λ (z : Store). length (records_from z d)) rest.0.before)
 
--- the cursor keeps to places
+-- the cursor is sound at each event
 cursors_keep : (n : ℕ) (s : Store) (names : List RecordName) (c : Option ℕ) (t : Track) (last : Store) → IsTrack n s names c t last → AllByRecursion (λ x. (d : ℕ) → x.from ≡ Some d → CursorIsSound x d) t
 cursors_keep n s names c [] last h = tt
 cursors_keep n s names c (x ∷ xs) last h = (λ d at. cursor_is_sound n s names c x d h.0 at, cursors_keep (suc n) x.after _ x.to xs last h.1)
 
--- each walk is fair, over one run or over runs that join
+-- each walk satisfies `IsFair`, over one run or over joined runs
 pub walk_fair : (first : Store) (start : Option ℕ) (t : Track) (last : Store) → IsWalk first start t last → IsFair t last
 walk_fair first start t last walk =
     let names = first_names first in
@@ -64,7 +64,7 @@ history_fair r s es w ready h = walk_fair _ _ _ _ (history_walks r s es w ready 
 pub joined_fair : {S T I J : Type 0} (r : Rules S I) (s : SessionState S) (es : List (Event I)) (w : ℕ) (q : Rules T J) (z : SessionState T) (gs : List (Event J)) (v c : ℕ) → Join r s es w q z gs v c → IsFair (joined r s es w q z gs v c) (q.seen (state_after q z gs).store)
 joined_fair r s es w q z gs v c j = walk_fair _ _ _ _ (walk_goes_on _ _ _ _ q z gs v c (history_walks r s es w j.run.ready j.run.lawful) (joined_next r s es w q z gs v c j))
 
--- the rows of a track are those of the replies
+-- the rows of a track are those that the replies give
 given_track : {S I : Type 0} (r : Rules S I) (n w : ℕ) (names : List RecordName) (c : Option ℕ) (h : List (Moment S I)) → given_over (track_on n names c r w h) ≡ given_from n w h
 given_track r n w names c [] = refl
 given_track r n w names c (m ∷ ms) = ap (λ (rows : List Row). rows_of_reply w n m.reply ++ rows) (given_track r (suc n) w _ c ms)

@@ -1,4 +1,4 @@
--- Over a store with a fault, the steps of a walk are told the records from its cursor on, and then the fault.
+-- Over a store with a fault, the steps of a walk give the records from its cursor on, and then the fault.
 use Rattle.std.proofs.Common.{◌≡◌, ℕ, zero, suc, ◌≤◌, Bool, true, false, cond, List, [], ◌∷◌, ◌++◌, length, map, take, replicate, Option, Some, None, inl, inr, refl, sym, ap, ◌∙◌, subst, arith}
 use Rattle.std.specs.Prelude.{filter}
 use Rattle.std.specs.List.{AllByRecursion}
@@ -17,7 +17,7 @@ use Rattle.krb_walk.proofs.WalkEvents.{end_of_step, effect_of, carry_by-same}
 use Rattle.krb_walk.proofs.Counts.{none_at_end}
 use Rattle.krb_walk.proofs.Parts.{track_rest}
 
--- the records from a place on are the next one, and those from where a step from there leads
+-- the records from a place on are the next one, and those from where a step leads
 pub records_next : (s : Store) (c : ℕ) (found : Option Record) → IsSound s → next_live s c ≡ found → records_from s c ≡ option_to_list found ++ records_from s (stop_cursor (end_of s) found)
 records_next s c None sound is = stops_end s c is ∙ sym (none_at_end s sound)
 records_next s c (Some r) sound is = (stops_give_records s c r sound is).first
@@ -40,7 +40,7 @@ damaged_step s w c (suc m) k kind (Some r) rest fault is from empty le ih =
 abbrev pub ToldBy : List Said → Store → ℕ → ℕ → ℕ → FaultKind → Type 0
 ToldBy told s w c m kind = length told ≤ m → told ≡ take (length told) (told_damaged s w c m kind)
 
--- what a step is told, with another number for its walk
+-- the reply to a step, with another number for its walk
 fault_said : (w end : ℕ) (o : Option FaultKind) (f : Fault) → fault_from end o ≡ Some f → end_said w end o ≡ Faulted w f
 fault_said w end None f is = cc
 fault_said w end (Some kind) f is = let same : record { place = end; kind = kind } ≡ f = cc in ap (Faulted w) same
@@ -55,7 +55,7 @@ answer_is s w c u (Gone p) to a = absurd a
 answer_is s w c u (Rewritten p) to a = absurd a
 answer_is s w c u (Refused code) to a = absurd a
 
--- a store with a fault stays, and is not rewritten
+-- a store with a fault is unchanged, and is not rewritten
 fault_stays : (told : Said) (old new : Store) (kind : FaultKind) → old.fault ≡ Some kind → Changes told old new → new ≡ old
 fault_stays (Placed p) old new kind fault h = cc (fault, h.whole)
 fault_stays (Gone p) old new kind fault h = cc (fault, h.whole)
@@ -105,7 +105,7 @@ faulted_from n s names c t last h earlier x later d kind is at fault =
     let all = told_over x.walk (x ∷ later) in
     subst (λ (z : Store). IsToldToFault z x.walk d kind all) (sym rest.0.before) (faulted_told x.walk _ _ _ _ (x ∷ later) last d (length all) kind fault_s rest (sym rest.0.from ∙ at) (omega arith))
 
--- each step of the walk is told what it met, and those that give no record are told that nothing is left
+-- each step of the walk gets a reply to it; without a record, the reply is the end or the fault
 answer_completes : (s : Store) (w c : ℕ) (told : Said) (to : ℕ) → AnswersStep s w c told to → tells_step w told ≡ true → is_gave told ≡ false → completes w told ≡ true
 answer_completes s w c (Gave v p next bytes) to a own e = cc
 answer_completes s w c (Ended v next) to a own e = own

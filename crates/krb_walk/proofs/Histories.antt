@@ -13,7 +13,7 @@ use Rattle.krb_walk.proofs.Places.{place_kept}
 use Rattle.krb_walk.proofs.Effects.{ready_after, effect, changes-extends}
 use Rattle.krb_walk.proofs.WalkEvents.{carry_by-same}
 
--- where the walk is made, it is made at c, and before that no event rewrites the store
+-- if the event starts the walk, it starts at c, and until then no event rewrites the store
 pub record Fits {S I : Type 0} (c : Option ℕ) (r : Rules S I) (w : ℕ) (s : SessionState S) (e : Event I) : Type 0 where
   pub made : (d a : ℕ) → c ≡ Some d → slice_get s.cursors w ≡ None → slice_get (cursors_after r s e) w ≡ Some a → a ≡ d
   pub plain : (d : ℕ) → c ≡ Some d → slice_get s.cursors w ≡ None → is_rewritten (reply_to r s e) ≡ false
@@ -36,7 +36,7 @@ places_on : {S I : Type 0} (r : Rules S I) (s : SessionState S) (c o : Option �
 places_on r s c None all made d h = made d h refl
 places_on r s c (Some x) all made d h = all d h
 
--- a walk that is not made after an event was not made before it
+-- a walk that does not exist after an event did not exist before it
 not_made : {S I : Type 0} (r : Rules S I) (s : SessionState S) (e : Event I) (w : ℕ) (o : Option ℕ) → slice_get s.cursors w ≡ o → slice_get (cursors_after r s e) w ≡ None → o ≡ None
 not_made r s e w None is none = refl
 not_made r s e w (Some d) is none = elim (effect r s e w) [ inl still ↦ cc (still.stays d is, none) | inr moves ↦ cc (moves.stands, none) ]

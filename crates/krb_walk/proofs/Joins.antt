@@ -1,4 +1,4 @@
--- Runs that join.
+-- Joined runs.
 use Rattle.std.proofs.Common.{◌≡◌, ℕ, suc, ◌+◌, Bool, true, false, cond, List, [], ◌∷◌, ◌++◌, length, Option, Some, None, inl, inr, refl, sym, ap, ◌∙◌, subst, arith}
 use Rattle.std.specs.Prelude.{◌&&◌, nat_lt, slice_get}
 use Rattle.std.specs.List.{AllByRecursion}
@@ -18,7 +18,7 @@ use Rattle.krb_walk.proofs.Effects.{effect}
 use Rattle.krb_walk.proofs.Tracks.{tracks_join}
 use Rattle.krb_walk.proofs.Histories.{MadeAt, made_none, track_is}
 
--- a walk that stands goes on standing
+-- a walk exists, and still does after any event
 pub record Stands (cursors : List ℕ) (w : ℕ) : Type 0 where
   pub at : ℕ
   pub is : slice_get cursors w ≡ Some at
@@ -91,7 +91,7 @@ begins_at r s es w c on = elim on [
   | inr res ↦ begins_none s.cursors w c (slice_get s.cursors w) refl (λ stands. not_yet _ w (resumed r (state_after r s res.earlier) c w c res.told).number (stands_to r s res.earlier w stands))
 ]
 
--- where the track of a history ends
+-- the cursor at the end of a history's track
 cursor_last : {S I : Type 0} (r : Rules S I) (s : SessionState S) (es : List (Event I)) (n w : ℕ) (names : List RecordName) (c : Option ℕ) → last_cursor (option_or (slice_get s.cursors w) c) (track_on n names c r w (history r s es)) ≡ option_or (slice_get (state_after r s es).cursors w) c
 cursor_last r s [] n w names c = refl
 cursor_last r s (e ∷ es) n w names c = cursor_last r (after r s e) es (suc n) w _ c
@@ -120,7 +120,7 @@ last_place : (n : ℕ) (s : Store) (names : List RecordName) (c : Option ℕ) (t
 last_place n s names c [] last d h here is = subst (λ (x : Store). is_place x d ≡ true) (sym h) (here d is)
 last_place n s names c (x ∷ xs) last d h here is = last_place (suc n) x.after _ x.to xs last d h.1 h.0.there is
 
--- a track goes on over the next run
+-- a track extended over the next run is that of a walk
 pub walk_goes_on : {T J : Type 0} (first : Store) (start : Option ℕ) (t : Track) (last : Store) (q : Rules T J) (z : SessionState T) (gs : List (Event J)) (v c : ℕ) → IsWalk first start t last → Next first start t last q z gs v c
     → IsWalk first start (track_then first t q v c (history q z gs)) (q.seen (state_after q z gs).store)
 walk_goes_on first start t last q z gs v c walk next =
@@ -141,7 +141,7 @@ walk_goes_on first start t last q z gs v c walk next =
           (subst (λ (x : Store). IsTrack (suc (length t)) x names (option_or (slice_get z.cursors v) (Some c)) u end) next.store is)));
     }
 
--- two runs that join
+-- two joined runs satisfy `Next`
 pub joined_next : {S T I J : Type 0} (r : Rules S I) (s : SessionState S) (es : List (Event I)) (w : ℕ) (q : Rules T J) (z : SessionState T) (gs : List (Event J)) (v c : ℕ) → Join r s es w q z gs v c
     → Next (r.seen s.store) (slice_get s.cursors w) (track r s w (history r s es)) (r.seen (state_after r s es).store) q z gs v c
 joined_next r s es w q z gs v c j = record {

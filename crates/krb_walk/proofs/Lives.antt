@@ -1,4 +1,4 @@
--- The places of live cells, and what a change makes of them.
+-- The places of live cells, and how a change affects them.
 use Rattle.std.proofs.Common.{◌≡◌, ℕ, ◌+◌, ◌<◌, ◌≤◌, true, false, List, [], ◌∷◌, ◌++◌, length, map, Option, Some, None, inl, inr, refl, sym, ap, ◌∙◌, subst, arith}
 use Rattle.std.specs.Prelude.{nat_lt, filter}
 use Rattle.std.specs.List.{AllByRecursion}
@@ -10,7 +10,7 @@ use Rattle.krb_walk.specs.Ranks.{live_places, rank}
 use Rattle.krb_walk.proofs.Stops.{records_of, end_from-ge}
 use Rattle.krb_walk.proofs.Places.{sound_kept, puts-extends}
 
--- the places of live cells, the first cell at a place
+-- the places of the live cells among cells from a place on
 abbrev pub lives : ℕ → List Cell → List ℕ
 lives at cells = map (λ r. r.place) (records_of at cells)
 

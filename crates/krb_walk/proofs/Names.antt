@@ -1,4 +1,4 @@
--- The names of records stand as the live cells do.
+-- The names of records follow the live cells.
 use Rattle.std.proofs.Common.{◌≡◌, ℕ, zero, suc, ◌+◌, ◌<◌, ◌≤◌, Bool, true, false, List, [], ◌∷◌, ◌++◌, length, map, take, drop, Option, Some, None, inl, inr, refl, sym, ap, ◌∙◌, arith}
 use Rattle.std.specs.Prelude.{◌||◌, ◌==◌, insert, remove}
 use Rattle.std.specs.List.{AllByRecursion, list_any, take-map, drop-map}
@@ -14,7 +14,7 @@ use Rattle.krb_walk.proofs.Cells.{live_from, find_head, find_tail}
 use Rattle.krb_walk.proofs.Places.{or_cases}
 use Rattle.krb_walk.proofs.Lives.{lives, lives_ge, puts_insert, cuts_insert}
 
--- the names stand as the live cells
+-- the names have the places of the live cells, in order
 abbrev pub AreNamed : Store → List RecordName → Type 0
 AreNamed s names = map (λ x. x.place) names ≡ live_places s
 
@@ -46,7 +46,7 @@ map_place (p ∷ ps) = ap (λ (l : List ℕ). p ∷ l) (map_place ps)
 pub first_named : (s : Store) → AreNamed s (first_names s)
 first_named s = map_place (live_places s)
 
--- a name is alive: a live cell stands at its place
+-- a name is alive: there is a live cell at its place
 pub or_left : (b c : Bool) → b ≡ true → (b || c) ≡ true
 or_left true c e = refl
 or_left false c e = cc
@@ -96,7 +96,7 @@ in_lives at p (x ∷ cells) sound h = in_lives_cons at x.width p x.live (at == p
 abbrev pub AreBorn : ℕ → List RecordName → Type 0
 AreBorn n names = AllByRecursion (λ x. x.birth < n) names
 
--- lists with one more and one less
+-- lists with one more element, and with one less
 all_take : {X : Type 0} (P : X → Type 0) (k : ℕ) (xs : List X) → AllByRecursion P xs → AllByRecursion P (take k xs)
 all_take P zero xs h = tt
 all_take P (suc k) [] h = tt
@@ -133,7 +133,7 @@ first_born_of (p ∷ ps) = (omega arith, first_born_of ps)
 pub first_born : (s : Store) → AreBorn 1 (first_names s)
 first_born s = first_born_of (live_places s)
 
--- no name of a cut cell is left
+-- no name of a removed cell is left
 pub apart : (p : ℕ) (front back : List ℕ) → AllByRecursion (λ q. q < p) front → AllByRecursion (λ q. p < q) back → list_any (λ q. q == p) (front ++ back) ≡ true → ⊥
 apart p [] [] h k e = cc
 apart p [] (q ∷ back) h k e = elim (or_cases (q == p) (list_any (λ x. x == p) back) e) [

@@ -13,7 +13,7 @@ use Rattle.krb_walk.proofs.Ranked.{Keeps, still_after}
 use Rattle.krb_walk.proofs.Comes.{among_born, keeps_here, keeps_next, place_here, turn_later, IsBehind, behind_event, passed, comes, turn_if_row}
 use Rattle.krb_walk.proofs.Parts.{track_front}
 
--- a record that is behind the cursor is behind it at each later event
+-- a record that is before the cursor is before it at each later event
 behind_later : (r : RecordName) (n : ℕ) (s : Store) (names : List RecordName) (c : Option ℕ) (ys : Track) (x : WalkEvent) (later : Track) (last : Store) (d e p : ℕ) → IsTrack n s names c (ys ++ x ∷ later) last → Keeps n s names → r.birth < n
     → c ≡ Some d → IsBehind r names s d → x.from ≡ Some e → place_of r x ≡ Some p → p < e
 behind_later r n s names c [] x later last d e p h k lt at b from is =
@@ -23,7 +23,7 @@ behind_later r n s names c (y ∷ ys) x later last d e p h k lt at b from is =
     let on = behind_event r n s names c y d h.0 k lt at b in
     behind_later r (suc n) y.after _ y.to ys x later last on.to e p h.1 (keeps_next n s names c y h.0 k) (omega arith) on.is on.behind from is
 
--- so is one that was passed
+-- a record that was passed is before the cursor at each later event
 passed_first : (r : RecordName) (n : ℕ) (s : Store) (names : List RecordName) (c : Option ℕ) (y : WalkEvent) (ys : Track) (x : WalkEvent) (later : Track) (last : Store) (e p : ℕ) (b : Bool) → passes_record r y ≡ b → IsTrack n s names c (y ∷ ys ++ x ∷ later) last → Keeps n s names
     → HasTurn r (y ∷ ys) → x.from ≡ Some e → place_of r x ≡ Some p → (HasTurn r ys → p < e) → p < e
 passed_first r n s names c y ys x later last e p true now h k has from is ih =
@@ -38,7 +38,7 @@ passed_later r n s names c [] x later last e p h k has from is = cc (has.is)
 passed_later r n s names c (y ∷ ys) x later last e p h k has from is =
     passed_first r n s names c y ys x later last e p (passes_record r y) refl h k has from is (λ on. passed_later r (suc n) y.after _ y.to ys x later last e p h.1 (keeps_next n s names c y h.0 k) on from is)
 
--- a step that passes a record begins at or before it
+-- the cursor before a step that passes a record is at or before it
 record BeginsBefore (from : Option ℕ) (p : ℕ) : Type 0 where
   at : ℕ
   is : from ≡ Some at
@@ -51,7 +51,7 @@ begins_before true (Some q) (Some c) None p h is = cc
 begins_before true (Some q) (Some c) (Some d) p h is = let same : q ≡ p = cc in let le : c ≤ q = grind (arith, nat_tests) in record { at = c; is = refl; le = omega arith }
 begins_before false o from to p h is = cc
 
--- of two records that come in turn the first stands before the second
+-- of two records that come in turn, the first is before the second
 pub in_order : (q r : RecordName) (n : ℕ) (s : Store) (names : List RecordName) (c : Option ℕ) (t : Track) (last : Store) → IsTrack n s names c t last → Keeps n s names → (a : ComeInTurn q r t) → a.first_place < a.second_place
 in_order q r n s names c t last h k a =
     let x = a.at in

@@ -1,4 +1,4 @@
--- What an addition or a removal keeps: the places, and that cursors stand at places.
+-- What an addition or a removal keeps: the places, and that cursors are at places.
 use Rattle.std.proofs.Common.{◌≡◌, ℕ, ◌+◌, ◌<◌, ◌≤◌, Bool, true, false, List, [], ◌∷◌, ◌++◌, map, Option, Some, None, inl, inr, refl, sym, ap, ◌∙◌, arith, append_assoc}
 use Rattle.std.specs.Prelude.{◌&&◌, ◌||◌, ◌==◌, ◌⊎◌, nat_le, is_some}
 use Rattle.std.specs.List.{AllByRecursion}
@@ -14,7 +14,7 @@ use Rattle.krb_walk.proofs.Cells.{stop_from, stop_skips}
 abbrev pub widths : List Cell → List ℕ
 widths cells = map (λ c. c.width) cells
 
--- the new store has the old one's cells where they were, and perhaps more behind them
+-- the new store has the old one's cells where they were, and perhaps more after them
 pub record Extends (old new : Store) : Type 0 where
   pub first : new.first ≡ old.first
   pub more : List ℕ
@@ -118,7 +118,7 @@ place_in at (c ∷ cells) p h =
       | inr e ↦ place_in (at + c.width) cells p e
     ]
 
--- where a step leads
+-- the place that a step leads to
 pub or_true : (b c : Bool) → c ≡ true → (b || c) ≡ true
 or_true true c e = refl
 or_true false c e = e

@@ -30,7 +30,7 @@ right_false : (a b : Bool) → (a || b) ≡ false → b ≡ false
 right_false true b e = cc
 right_false false b e = e
 
--- names that are no two the same
+-- names of which no two are the same
 abbrev pub AreDistinct : List RecordName → Type 0
 AreDistinct [] = Unit {0}
 AreDistinct (x ∷ names) = (list_any (is_name x) names ≡ false) × AreDistinct names
@@ -98,7 +98,7 @@ len_first : (ps : List ℕ) → length (map {A = ℕ} {B = RecordName} (λ p. re
 len_first [] = refl
 len_first (p ∷ ps) = ap suc (len_first ps)
 
--- names as the live cells have them: as many, born, and no two the same
+-- names that fit the live cells: as many, all born, and no two the same
 pub record Keeps (n : ℕ) (s : Store) (names : List RecordName) : Type 0 where
   pub as_many : length names ≡ length (live_places s)
   pub born : AreBorn n names
@@ -130,7 +130,7 @@ keeps_after n (Gone p) old new names sound h k =
 keeps_after n (Rewritten p) old new names sound h k = record { as_many = k.as_many ∙ sym h.as_many; born = born_after n (Rewritten p) old new names k.born; distinct = k.distinct }
 keeps_after n told old new names sound h k = record { as_many = k.as_many ∙ sym (ap (λ (s : Store). length (live_places s)) h); born = born_after n told old new names k.born; distinct = k.distinct }
 
--- a record that stood, and stands on the same side of a cursor
+-- a record had a place and has one, on the same side of a cursor
 pub record Still (was is : Option ℕ) (c d : ℕ) : Type 0 where
   pub p : ℕ
   pub q : ℕ
@@ -179,7 +179,7 @@ rewrite_still r old new names c d was None a b e side = inl refl
 rewrite_still r old new names c d None (Some q) a b e side = cc (still_some r names (live_places new) (live_places old) e a, b)
 rewrite_still r old new names c d (Some p) (Some q) a b e side = inr (record { p = p; q = q; was_at = refl; is_at = refl; side = side p q refl refl })
 
--- an event leaves a record on its side of each cursor, or the record is no more
+-- an event keeps a record on its side of each cursor, or the record is gone
 pub still_after : (n : ℕ) (told : Said) (old new : Store) (names : List RecordName) (r : RecordName) (c : ℕ) → IsSound old → Changes told old new → Keeps n old names → r.birth < n
     → (place_among r (names_after n told old new names) (live_places new) ≡ None) ⊎ Still (place_among r names (live_places old)) (place_among r (names_after n told old new names) (live_places new)) c (carry_by told old new c)
 still_after n (Placed p) old new names r c sound h k lt =

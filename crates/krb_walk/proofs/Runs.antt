@@ -1,4 +1,4 @@
--- A run goes on by one event.
+-- Extending a run by one event.
 use Rattle.std.specs.Prelude.{IfOk, OnOk, OnErr}
 use Rattle.std.proofs.Common.{◌≡◌, ℕ, Result, Ok, Err, List, [], ◌∷◌, ◌++◌, refl, sym, ap, ◌∙◌, subst, append_assoc}
 use Rattle.std.proofs.lemmas.List.{append-nil}
@@ -29,7 +29,7 @@ pub lawful_more : {S I : Type 0} (r : Rules S I) (s : SessionState S) (es : List
 lawful_more r s [] e all last = (last, tt)
 lawful_more r s (x ∷ es) e all last = (all.0, lawful_more r (after r s x) es e all.1 last)
 
--- the parts of a run from which the law follows
+-- the parts of a run from which `Ran` follows
 pub ran_of : {S I : Type 0} (r : Rules S I) (old new : SessionState S) (es : List (Event I)) (told_old told_new : List Said) → IsReady r old → told_new ≡ told_old ++ replies (history r old es) → new ≡ state_after r old es → AllLawful r (history r old es) → Ran r old new es told_old told_new
 ran_of {S} r old new es told_old told_new ready told is lawful = record {
   replies_are = told;
@@ -57,7 +57,7 @@ ran_more {S} r old mid new es e t u v ready ran is lawful told =
 pub ran_one : {S I : Type 0} (r : Rules S I) (old new : SessionState S) (e : Event I) (told : Said) → IsReady r old → told ≡ reply_to r old e → new ≡ after r old e → IsLawful r (moment r old e) → Ran r old new (e ∷ []) [] (told ∷ [])
 ran_one r old new e told ready says is lawful = ran_of r old new (e ∷ []) [] (told ∷ []) ready (ap (λ (x : Said). x ∷ []) says) is (lawful, tt)
 
--- a step, of which the reply is not told
+-- a step whose reply is not appended
 pub ran_step : {S I : Type 0} (r : Rules S I) (old new : SessionState S) (w : ℕ) → IsReady r old → new ≡ after {I = I} r old (Step w) → Ran {I = I} r old new (Step w ∷ []) [] (reply_to {I = I} r old (Step w) ∷ [])
 ran_step r old new w ready is = ran_one r old new (Step w) _ ready refl is (lawful_step r old w)
 
@@ -66,7 +66,7 @@ pub ran_applied : {S I A E : Type 0} (r : Rules S I) (old new : SessionState S) 
 ran_applied r old new e (Ok x) ready says is lawful = ran_one r old new e (said x) ready says is lawful
 ran_applied r old new e (Err want) ready says is lawful = tt
 
--- what holds anyway holds where there is an error
+-- what always holds, holds if there is an error
 pub on_err : {T E P : Type 0} (r : Result T E) → P → OnErr r P
 on_err (Ok _) holds = tt
 on_err (Err _) holds = holds

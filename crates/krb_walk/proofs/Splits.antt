@@ -1,4 +1,4 @@
--- Cells that are split at a place: what whoever implements Placed wants to prove.
+-- Cells split at a place: lemmas for implementations of `Placed`.
 use Rattle.std.proofs.Common.{◌≡◌, ℕ, ◌+◌, ◌<◌, ◌≤◌, Bool, true, false, List, [], ◌∷◌, ◌++◌, Option, Some, None, refl, sym, ap, ◌∙◌, arith}
 use Rattle.std.specs.Prelude.{◌&&◌, ◌==◌, nat_le, is_some}
 use Rattle.std.specs.List.{AllByRecursion}
@@ -14,12 +14,12 @@ pub end_from-append : (at : ℕ) (before after : List Cell) → end_from at (bef
 end_from-append at [] after = refl
 end_from-append at (c ∷ before) after = end_from-append (at + c.width) before after
 
--- the place where cells are split is one
+-- the place where cells are split is a place
 pub split_is_place : (at : ℕ) (before after : List Cell) → is_place_from at (before ++ after) (end_from at before) ≡ true
 split_is_place at [] after = is_place_from-first at after
 split_is_place at (c ∷ before) after = is_place_from-cons at c.width (end_from (at + c.width) before) c.live (before ++ after) (split_is_place (at + c.width) before after)
 
--- a stop at or after that place passes the cells before it
+-- a look-up of the next record at or after a split skips the cells before it
 pub next_ahead : (at p : ℕ) (before after : List Cell) → AllByRecursion (λ c. 0 < c.width) before → end_from at before ≤ p → next_from at (before ++ after) p ≡ next_from (end_from at before) after p
 next_ahead at p [] after sound le = refl
 next_ahead at p (c ∷ before) after sound le =
@@ -29,7 +29,7 @@ next_ahead at p (c ∷ before) after sound le =
     let skip : (nat_le p at && is_some c.live) ≡ false = grind (arith, nat_tests) in
     next_skips at p c.width c.live (before ++ after) skip ∙ next_ahead (at + c.width) p before after sound.1 le
 
--- so does what looks for bytes
+-- so does a look-up of bytes
 pub bytes_ahead : (at p : ℕ) (before after : List Cell) → AllByRecursion (λ c. 0 < c.width) before → end_from at before ≤ p → bytes_from at (before ++ after) p ≡ bytes_from (end_from at before) after p
 bytes_ahead at p [] after sound le = refl
 bytes_ahead at p (c ∷ before) after sound le =
@@ -41,7 +41,7 @@ bytes_of_cell : (at w : ℕ) (live : Option (List ℕ)) (cells : List Cell) → 
 bytes_of_cell at w None cells = ap bytes_of_some (find_head at w None cells)
 bytes_of_cell at w (Some bytes) cells = ap bytes_of_some (find_head at w (Some bytes) cells)
 
--- the bytes at that place are those of the cell there
+-- the bytes at a split are those of the cell there
 pub bytes_here : (at w : ℕ) (live : Option (List ℕ)) (before after : List Cell) → AllByRecursion (λ c. 0 < c.width) before → bytes_from at (before ++ record { width = w; live = live } ∷ after) (end_from at before) ≡ live
 bytes_here at w live before after sound =
     bytes_ahead at (end_from at before) before (record { width = w; live = live } ∷ after) sound (omega arith) ∙ bytes_of_cell (end_from at before) w live after
@@ -67,7 +67,7 @@ live_splits_cons at w p live cells bytes false e ih is =
     let rest = ih (rw e at is) in
     record { before = record { width = w; live = live } ∷ rest.before; width = rest.width; after = rest.after; place = rest.place; is = ap (λ (cs : List Cell). record { width = w; live = live } ∷ cs) rest.is }
 
--- where bytes stand they are
+-- cells with bytes at p can be split before the live cell there
 pub live_splits : (at p : ℕ) (cells : List Cell) (bytes : List ℕ) → bytes_from at cells p ≡ Some bytes → SplitsLive at cells p bytes
 live_splits at p [] bytes is = cc
 live_splits at p (c ∷ cells) bytes is = live_splits_cons at c.width p c.live cells bytes (at == p) refl (live_splits (at + c.width) p cells bytes) is

@@ -14,7 +14,7 @@ use Rattle.krb_walk.proofs.Places.{stop_place, place_in, widths}
 use Rattle.krb_walk.proofs.RowsAt.{AtOwnPlace, skip_head, one_at, live_place, row_of_place}
 use Rattle.krb_walk.proofs.Tracks.{between}
 
--- the rows at a place, of a function on places
+-- the rows at a place, given by a function on places
 none_at_cons : (f : ℕ → Option Row) (p q : ℕ) (ps : List ℕ) (b : Bool) → (q == p) ≡ b → AtOwnPlace f → f p ≡ None → rows_at p (filter_map f ps) ≡ [] → rows_at p (filter_map f (q ∷ ps)) ≡ []
 none_at_cons f p q ps true e own none ih = let same : q ≡ p = grind (arith, nat_tests) in let here : f q ≡ None = ap f same ∙ none in rw here ih
 none_at_cons f p q ps false e own none ih = let ne : q ≢ p = grind (arith, nat_tests) in skip_head f p q _ (f q) own refl ne ∙ ih

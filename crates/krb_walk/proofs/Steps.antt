@@ -1,4 +1,4 @@
--- What steps are answered, how cursors move, and that places stay.
+-- The replies to steps, how cursors move, and that places stay.
 use Rattle.std.proofs.Common.{◌≡◌, ◌≢◌, ℕ, ◌+◌, ◌<◌, ◌≤◌, Bool, true, false, cond, List, [], ◌∷◌, ◌++◌, length, Option, Some, None, Result, Ok, Err, inl, inr, refl, sym, ap, ◌∙◌, subst, arith}
 use Rattle.std.specs.Prelude.{◌&&◌, ◌==◌, ◌⊎◌, nat_lt, slice_get, IsSomeAnd}
 use Rattle.std.specs.List.{find}
@@ -19,13 +19,13 @@ use Rattle.krb_walk.proofs.Places.{Extends, place_kept, stop_forward, widths}
 use Rattle.krb_walk.proofs.Effects.{effect, own_step, ready_after, history_extends, get_push_cond}
 use Rattle.krb_walk.proofs.WalkEvents.{carry_by-same}
 
--- what a step is answered
+-- the reply to a step
 pub step_answered : {S I : Type 0} (r : Rules S I) (s : SessionState S) (w c : ℕ) → slice_get s.cursors w ≡ Some c → IsSomeAnd (slice_get (after {I = I} r s (Step w)).cursors w) (AnswersStep (r.seen s.store) w c (reply_to {I = I} r s (Step w)))
 step_answered {I = I} r s w c at =
     let moves = own_step r s w c at in
     subst (λ (o : Option ℕ). IsSomeAnd o (AnswersStep (r.seen s.store) w c (reply_to {I = I} r s (Step w)))) (sym moves.stands) moves.answered
 
--- a cursor moves at a step of its walk alone
+-- a cursor moves only at a step of its walk
 step_other : (s : Store) (cursors : List ℕ) (v w c : ℕ) (o : Option ℕ) → v ≢ w → slice_get cursors w ≡ Some c → slice_get (step_cursors s cursors v o) w ≡ Some c
 step_other s cursors v w c None ne at = at
 step_other s cursors v w c (Some d) ne at = get-set_other cursors v (stop_cursor (end_of s) (next_live s d)) w ne ∙ at
@@ -90,7 +90,7 @@ places_kept r s es p plain h is = place_kept _ _ p (history_extends r s es plain
 pub sizes_kept : {S I : Type 0} (r : Rules S I) (s : SessionState S) (es : List (Event I)) (p n : ℕ) → AllPlain (history r s es) → AllLawful r (history r s es) → size_at (r.seen s.store) p ≡ Some n → size_at (r.seen (state_after r s es).store) p ≡ Some n
 sizes_kept r s es p n plain h is = size_kept _ _ p n (history_extends r s es plain h) is
 
--- what is appended stands at the old end
+-- an appended record is at the old end
 fills_end : (old new : Store) (p : ℕ) → Fills old new p → end_of new ≡ end_of old
 fills_end old new p f =
     let one = f.cell in

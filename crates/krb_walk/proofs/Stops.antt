@@ -1,4 +1,4 @@
--- Where a walk stops: at the first record that is left.
+-- Where a walk stops: at the first record left.
 use Rattle.std.proofs.Common.{◌≡◌, ℕ, ◌+◌, ◌<◌, ◌≤◌, Bool, true, false, List, [], ◌∷◌, Option, Some, None, refl, sym, ap, subst, ◌∙◌, arith}
 use Rattle.std.specs.Prelude.{◌&&◌, ◌||◌, ◌==◌, nat_le, is_some, filter}
 use Rattle.std.specs.List.{find, filter_map, AllByRecursion}
@@ -33,11 +33,11 @@ next_skips at p w live cells e = rw e refl
 pub next_stops : (at p w : ℕ) (bytes : List ℕ) (cells : List Cell) → p ≤ at → next_from at (record { width = w; live = Some bytes } ∷ cells) p ≡ Some (record { place = at; next = at + w; bytes = bytes })
 next_stops at p w bytes cells le = rw (le-leb p at le) refl
 
--- a free cell is passed, wherever it stands
+-- a free cell is passed, wherever it is
 free_is_passed : (at p : ℕ) → (nat_le p at && false) ≡ false
 free_is_passed at p = grind (arith, nat_tests)
 
--- from no later than their first place on, all records are left
+-- from their first place, or from before it, all records are left
 all_left_cons : (at w p : ℕ) (live : Option (List ℕ)) (cells : List Cell) → p ≤ at → left p (records_of (at + w) cells) ≡ records_of (at + w) cells → left p (records_of at (record { width = w; live = live } ∷ cells)) ≡ records_of at (record { width = w; live = live } ∷ cells)
 all_left_cons at w p None cells le ih = ih
 all_left_cons at w p (Some bytes) cells le ih = rw (le-leb p at le) (ap (λ (rs : List Record). record { place = at; next = at + w; bytes = bytes } ∷ rs) ih)
@@ -46,7 +46,7 @@ pub all_left : (at p : ℕ) (cells : List Cell) → p ≤ at → left p (records
 all_left at p [] le = refl
 all_left at p (c ∷ cells) le = all_left_cons at c.width p c.live cells le (all_left (at + c.width) p cells (omega arith))
 
--- the cell before a place is none of those left
+-- a cell that begins before a place is not among the records left there
 left_behind : (at w q : ℕ) (live : Option (List ℕ)) (cells : List Cell) → at < q → left q (records_of at (record { width = w; live = live } ∷ cells)) ≡ left q (records_of (at + w) cells)
 left_behind at w q None cells lt = refl
 left_behind at w q (Some bytes) cells lt = rw (lt-leb q at lt) refl
@@ -57,7 +57,7 @@ bytes_behind at w q live cells lt = let e : (at == q) ≡ false = grind (arith, 
 bytes_here : (at w : ℕ) (bytes : List ℕ) (cells : List Cell) → bytes_from at (record { width = w; live = Some bytes } ∷ cells) at ≡ Some bytes
 bytes_here at w bytes cells = let e : (at == at) ≡ true = grind (arith, nat_tests) in rw e refl
 
--- the place after a cell is one
+-- the first place of cells is a place
 pub is_place_from-first : (at : ℕ) (cells : List Cell) → is_place_from at cells at ≡ true
 is_place_from-first at [] = let e : (at == at) ≡ true = grind (arith, nat_tests) in e
 is_place_from-first at (c ∷ cells) = let e : (at == at) ≡ true = grind (arith, nat_tests) in rw e refl
@@ -69,7 +69,7 @@ or_true false = refl
 pub is_place_from-cons : (at w q : ℕ) (live : Option (List ℕ)) (cells : List Cell) → is_place_from (at + w) cells q ≡ true → is_place_from at (record { width = w; live = live } ∷ cells) q ≡ true
 is_place_from-cons at w q live cells e = ap (λ (b : Bool). (at == q) || b) e ∙ or_true (at == q)
 
--- what a stop at a record tells, of cells from a place on
+-- what holds of a stop at a record, for cells from a place on
 pub record Found (at : ℕ) (cells : List Cell) (p : ℕ) (r : Record) : Type 0 where
   pub first : left p (records_of at cells) ≡ r ∷ left r.next (records_of at cells)
   pub bytes : bytes_from at cells r.place ≡ Some r.bytes
@@ -79,7 +79,7 @@ pub record Found (at : ℕ) (cells : List Cell) (p : ℕ) (r : Record) : Type 0 
   pub ahead : r.place < r.next
   pub within : r.next ≤ end_from at cells
 
--- it is found after a cell that is passed
+-- the record is found after a cell that is passed
 found_after : (at w p : ℕ) (live : Option (List ℕ)) (cells : List Cell) (r : Record) → 0 < w → left p (records_of at (record { width = w; live = live } ∷ cells)) ≡ left p (records_of (at + w) cells) → Found (at + w) cells p r → Found at (record { width = w; live = live } ∷ cells) p r
 found_after at w p live cells r some same rest =
     let begins = rest.begins in
@@ -96,7 +96,7 @@ found_after at w p live cells r some same rest =
       within = rest.within;
     }
 
--- it is the first cell
+-- or the record is the first cell
 found_here : (at w p : ℕ) (bytes : List ℕ) (cells : List Cell) → 0 < w → p ≤ at → Found at (record { width = w; live = Some bytes } ∷ cells) p (record { place = at; next = at + w; bytes = bytes })
 found_here at w p bytes cells some le =
     let after : left p (records_of (at + w) cells) ≡ left (at + w) (records_of (at + w) cells) = all_left (at + w) p cells (omega arith) ∙ sym (all_left (at + w) (at + w) cells (omega arith)) in
@@ -111,7 +111,7 @@ found_here at w p bytes cells some le =
       within = end_from-ge (at + w) cells;
     }
 
--- a free cell leaves the records as they are
+-- a free cell does not change the records left
 left_free : (at w p : ℕ) (cells : List Cell) → left p (records_of at (record { width = w; live = None } ∷ cells)) ≡ left p (records_of (at + w) cells)
 left_free at w p cells = refl
 
@@ -130,7 +130,7 @@ pub found : (at p : ℕ) (cells : List Cell) (r : Record) → AllByRecursion (λ
 found at p [] r sound is = cc
 found at p (c ∷ cells) r sound is = found_cons at c.width p c.live (nat_le p at) cells r refl sound.0 (λ e. found (at + c.width) p cells r sound.1 e) is
 
--- where none is found, none is left
+-- if no record is found, none is left
 none_cons : (at w p : ℕ) (live : Option (List ℕ)) (b : Bool) (cells : List Cell) → nat_le p at ≡ b → (next_from (at + w) cells p ≡ None → left p (records_of (at + w) cells) ≡ []) → next_from at (record { width = w; live = live } ∷ cells) p ≡ None → left p (records_of at (record { width = w; live = live } ∷ cells)) ≡ []
 none_cons at w p (Some bytes) true cells e ih is = let stops = next_stops at p w bytes cells (leb-true p at e) in cc
 none_cons at w p None b cells e ih is = ih (sym (next_skips at p w None cells (free_is_passed at p)) ∙ is)

@@ -1,4 +1,4 @@
--- How a session's table of cursors follows the events.
+-- How the events change a session's table of cursors.
 use Rattle.std.proofs.Common.{◌≡◌, ℕ, ◌<◌, ◌≤◌, true, List, ◌++◌, length, map, take, drop, set, Option, Some, None, Result, Ok, Err, refl, sym, ap, ◌∙◌, subst, arith}
 use Rattle.std.specs.Prelude.{IfOk, OnOk, OnErr, slice_get}
 use Rattle.std.proofs.lemmas.List.{length-take, length-append, length-map, take-append-drop}
@@ -16,7 +16,7 @@ use Rattle.krb_walk.specs.Kept.{IsKept, place_after}
 use Rattle.krb_walk.proofs.Places.{Extends, puts-extends, cuts-extends, sound_kept, place_kept}
 use Rattle.krb_walk.proofs.Effects.{was_map, place_carried}
 
--- the state that a table shows
+-- the state that a table represents
 abbrev pub shown : {S : Type 0} → S → List ℕ → ℕ → SessionState S
 shown store table count = record { store = store; cursors = take count table }
 
@@ -38,7 +38,7 @@ go_shown {S} s store table count walk to is stands =
     let within : walk < count = omega (arith, stands, length-take count table, ap (λ (x : SessionState S). length x.cursors) is) in
     ap (λ (cs : List ℕ). record { store = store; cursors = cs }) (take-set-lt count table walk to within) ∙ ap (λ (x : SessionState S). record { store = x.store; cursors = set x.cursors walk to }) is
 
--- a change of the store leaves the table
+-- a change of the store without a rewrite keeps the table valid
 extends_kept : {S I : Type 0} (r : Rules S I) (old new : S) (table : List ℕ) (count : ℕ) → Extends (r.seen old) (r.seen new) → IsKept r old table count → IsKept r new table count
 extends_kept r old new table count e kept = record {
   few = kept.few;
@@ -58,7 +58,7 @@ pub cut_kept : {S I : Type 0} (r : Rules S I) (old new : S) (p : ℕ) (result : 
 cut_kept r old new p (Ok done) table count gives cuts kept = extends_kept r old new table count (cuts-extends _ _ p cuts) kept
 cut_kept r old new p (Err code) table count gives cuts kept = same_kept r old new table count gives.1 kept
 
--- a rewrite carries the cursors in the front of the table
+-- a rewrite carries the cursors in the prefix of the table
 carried_kept : {S I : Type 0} (r : Rules S I) (old new : S) (front back now : List ℕ) (count : ℕ) → Rewrites (r.seen old) (r.seen new) → now ≡ map (carry (r.seen old) (r.seen new)) front → length front ≡ count → count ≤ 1024 → length (front ++ back) ≡ 1024 → IsKept r new (now ++ back) count
 carried_kept r old new front back now count h is len few room =
     let same : length now ≡ length front = ap length is ∙ length-map front (carry (r.seen old) (r.seen new)) in

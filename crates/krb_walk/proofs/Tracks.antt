@@ -14,7 +14,7 @@ use Rattle.krb_walk.proofs.Places.{Extends, extends_on, stop_forward, widths}
 use Rattle.krb_walk.proofs.Effects.{same_extends, changes-extends}
 use Rattle.krb_walk.proofs.WalkEvents.{end_of_step, Advances, effect_of, stays_put}
 
--- no place behind a cursor has a turn
+-- a cursor that does not move passes no place
 pub past_none : (p : ℕ) (o q : Option ℕ) → ((d : ℕ) → o ≡ Some d → q ≡ Some d) → goes_past p o q ≡ false
 past_none p None q h = refl
 past_none p (Some d) q h = ap (goes_past p (Some d)) (h d refl) ∙ grind (arith, nat_tests)
@@ -26,7 +26,7 @@ pub none_due : (ps : List ℕ) → filter_map {X = ℕ} {Y = Row} (λ p. None) p
 none_due [] = refl
 none_due (p ∷ ps) = none_due ps
 
--- a track after another
+-- one track after another is a track
 pub tracks_join : (n : ℕ) (s : Store) (names : List RecordName) (c : Option ℕ) (t u : Track) (mid last : Store) → IsTrack n s names c t mid → IsTrack (n + length t) mid (last_names names t) (last_cursor c t) u last → IsTrack n s names c (t ++ u) last
 tracks_join n s names c [] u mid last h k =
     let e : n + 0 ≡ n = omega arith in
@@ -46,7 +46,7 @@ turn_later p x xs e = ap (λ (b : Bool). cond {A = Option WalkEvent} b (Some x) 
 pub turn_first : (p : ℕ) (x : WalkEvent) (xs : Track) → goes_past p x.from x.to ≡ true → turn p (x ∷ xs) ≡ Some x
 turn_first p x xs e = ap (λ (b : Bool). cond {A = Option WalkEvent} b (Some x) (turn p xs)) e
 
--- no place behind the cursor has a turn
+-- no place before the cursor has a turn
 pub behind_none : (p n : ℕ) (s : Store) (names : List RecordName) (c : Option ℕ) (t : Track) (last : Store) (d : ℕ) → PlacesStay t → IsTrack n s names c t last → c ≡ Some d → p < d → turn p t ≡ None
 behind_none p n s names c [] last d k h at lt = refl
 behind_none p n s names c (x ∷ xs) last d k h at lt = elim (effect_of x h.0.effect) [
@@ -100,7 +100,7 @@ given_spots n s names c (x ∷ xs) last k h =
           ∙ sym (ap (filter_map f) same))
     ]
 
--- what a track gives is what is due over it
+-- what a track gives is what is due over it, if no event rewrites the store
 pub track_gives : (n : ℕ) (s : Store) (names : List RecordName) (c : Option ℕ) (t : Track) (last : Store) → PlacesStay t → IsTrack n s names c t last → given_over t ≡ due_over t last
 track_gives n s names c t last k h = given_spots n s names c t last k h ∙ sym (ap (filter_map (λ p. row_at_turn p (turn p t))) (places_spots last.first last.cells))
 

@@ -1,4 +1,4 @@
--- A walk passes a record once, and where no event rewrites the store it passes a place once.
+-- A walk passes a record at most once; if no event rewrites the store, also a place.
 use Rattle.std.proofs.Common.{◌≡◌, ℕ, suc, ◌<◌, ◌≤◌, Bool, true, false, cond, List, [], ◌∷◌, length, map, Option, Some, None, refl, sym, ap, ◌∙◌, subst, arith}
 use Rattle.std.specs.Prelude.{filter}
 use Rattle.std.specs.List.{AllByRecursion, find}
@@ -12,7 +12,7 @@ use Rattle.krb_walk.proofs.Tracks.{behind_none}
 use Rattle.krb_walk.proofs.Ranked.{Keeps}
 use Rattle.krb_walk.proofs.Comes.{keeps_here, keeps_next, passed_once}
 
--- where none is found, none is kept
+-- if `find` finds no event, `filter` keeps none
 none_kept_by : (f : WalkEvent → Bool) (x : WalkEvent) (t : Track) (b : Bool) → f x ≡ b → find f (x ∷ t) ≡ None → (find f t ≡ None → filter f t ≡ []) → filter f (x ∷ t) ≡ []
 none_kept_by f x t true e none ih = cc (ap (λ (b : Bool). cond {A = Option WalkEvent} b (Some x) (find f t)) e, none)
 none_kept_by f x t false e none ih = ap (λ (b : Bool). cond {A = Track} b (x ∷ filter f t) (filter f t)) e ∙ ih (sym (ap (λ (b : Bool). cond {A = Option WalkEvent} b (Some x) (find f t)) e) ∙ none)
@@ -29,12 +29,12 @@ one_kept f x t false e none ih =
     let now = ap (λ (b : Bool). cond {A = Track} b (x ∷ filter f t) (filter f t)) e in
     omega (arith, ap length now, ih)
 
--- one turn of a record at most
+-- a record has at most one turn
 pub one_turn : (r : RecordName) (n : ℕ) (s : Store) (names : List RecordName) (c : Option ℕ) (t : Track) (last : Store) → IsTrack n s names c t last → Keeps n s names → length (filter (passes_record r) t) ≤ 1
 one_turn r n s names c [] last h k = omega arith
 one_turn r n s names c (x ∷ t) last h k = one_kept (passes_record r) x t (passes_record r x) refl (passed_once r n s names c x t last h k) (one_turn r (suc n) x.after _ x.to t last h.1 (keeps_next n s names c x h.0 k))
 
--- one turn of a place at most
+-- a place has at most one turn, if no event rewrites the store
 record Past (p : ℕ) (q : Option ℕ) : Type 0 where
   to : ℕ
   is : q ≡ Some to
@@ -52,7 +52,7 @@ pub one_past : (p n : ℕ) (s : Store) (names : List RecordName) (c : Option ℕ
 one_past p n s names c [] last k h = omega arith
 one_past p n s names c (x ∷ t) last k h = one_kept (passes p) x t (passes p x) refl (place_once p n s names c x t last k.1 h) (one_past p (suc n) x.after _ x.to t last k.1 h.1)
 
--- there is a name for each live cell, in order
+-- there are as many names as live cells
 pub names_many : (n : ℕ) (s : Store) (names : List RecordName) (c : Option ℕ) (t : Track) (last : Store) → IsTrack n s names c t last → Keeps n s names → AllByRecursion (λ x. length x.names ≡ length (live_places x.before)) t
 names_many n s names c [] last h k = tt
 names_many n s names c (x ∷ t) last h k = ((keeps_here n s names c x h.0 k).as_many, names_many (suc n) x.after _ x.to t last h.1 (keeps_next n s names c x h.0 k))

@@ -1,4 +1,4 @@
--- What one event of a walk does to its cursor, and gives.
+-- What one event does to a walk's cursor, and what it gives.
 use Rattle.std.proofs.Common.{◌≡◌, ℕ, true, false, List, [], Option, Some, None, inl, inr, refl, sym, ap, ◌∙◌, subst, arith}
 use Rattle.std.specs.Prelude.{◌==◌, ◌⊎◌, IsSomeAnd}
 use Rattle.std.proofs.lemmas.Bool.Decides.{nat_tests}
@@ -12,11 +12,11 @@ use Rattle.krb_walk.specs.Cursors.{CursorIsSound, CursorMayGo}
 use Rattle.krb_walk.proofs.Cells.{rows_of_next}
 use Rattle.krb_walk.proofs.Places.{stop_forward}
 
--- where a step from a place leads
+-- the place that a step from a place leads to
 abbrev pub end_of_step : WalkEvent → ℕ → ℕ
 end_of_step x at = stop_cursor (end_of x.before) (next_live x.before at)
 
--- an event that leaves the cursor gives no row, and one that moves it that of the next live cell
+-- an event that is no step gives no row, and a step gives the row of the next live cell
 pub record Holds (x : WalkEvent) : Type 0 where
   pub idle : x.stepped ≡ false
   pub other : tells_step x.walk x.reply ≡ false
@@ -32,12 +32,12 @@ pub record Advances (x : WalkEvent) : Type 0 where
   pub answered : AnswersStep x.before x.walk at x.reply (end_of_step x at)
   pub own : tells_step x.walk x.reply ≡ true
 
--- a reply that tells no step gives no row
+-- a reply that is not to a step of the walk gives no row
 silent_of : (w n : ℕ) (told : Said) → tells_step w told ≡ false → rows_of_reply w n told ≡ []
 silent_of w n (Gave v p next bytes) e = rw e refl
 silent_of w n told e = refl
 
--- what an answered step tells
+-- what holds of a step with its reply
 record Answered (s : Store) (w c : ℕ) (told : Said) (to : ℕ) : Type 0 where
   leads : to ≡ stop_cursor (end_of s) (next_live s c)
   tells : (n : ℕ) → rows_of_reply w n told ≡ rows_of_next n (next_live s c)
@@ -92,7 +92,7 @@ effect_of x effect = elim effect [
   | inr steps ↦ inr (goes_by x steps.at x.to steps.stepped steps.stood refl steps.answered)
 ]
 
--- a walk that is told that nothing is left stands at the end
+-- after a reply that no record is left, the walk's cursor is at the end
 pub completes_tells : (w : ℕ) (told : Said) → completes w told ≡ true → tells_step w told ≡ true
 completes_tells w (Gave v p next bytes) h = cc
 completes_tells w (Ended v next) h = h
@@ -121,7 +121,7 @@ completes_stepped x effect told = elim (effect_of x effect) [
   | inr goes ↦ goes.stepped
 ]
 
--- where no rewrite is told, a cursor is carried nowhere
+-- without an accepted rewrite, a cursor is not carried
 pub carry_by-same : (told : Said) (old new : Store) (c : ℕ) → is_rewritten told ≡ false → carry_by told old new c ≡ c
 carry_by-same (Rewritten p) old new c e = cc
 carry_by-same told old new c e = refl
@@ -130,14 +130,14 @@ own_no_rewrite : (w : ℕ) (told : Said) → tells_step w told ≡ true → is_r
 own_no_rewrite w (Rewritten p) e = cc
 own_no_rewrite w told e = refl
 
--- nor at a step
+-- at a step, a cursor is not carried
 pub carry_by-own : (w : ℕ) (told : Said) (old new : Store) (c : ℕ) → tells_step w told ≡ true → carry_by told old new c ≡ c
 carry_by-own w told old new c e = carry_by-same told old new c (own_no_rewrite w told e)
 
 pub stays_put : (x : WalkEvent) (d : ℕ) → Holds x → is_rewritten x.reply ≡ false → x.from ≡ Some d → x.to ≡ Some d
 stays_put x d holds put_by at = holds.stays d at ∙ ap Some (carry_by-same x.reply x.before x.after d put_by)
 
--- a cursor is a place, and goes on as it may
+-- a cursor is a place, and moves as it may
 pub cursor_is_sound : (n : ℕ) (s : Store) (names : List RecordName) (c : Option ℕ) (x : WalkEvent) (d : ℕ) → IsWalkEvent n s names c x → x.from ≡ Some d → CursorIsSound x d
 cursor_is_sound n s names c x d h at = elim (effect_of x h.effect) [
   | inl holds ↦ record {

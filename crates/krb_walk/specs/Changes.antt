@@ -1,10 +1,10 @@
--- How a store changes: one cell becomes another of its size, or one is put at the end, or all are written anew.
+-- How a store changes: one cell becomes another of its size, or one is appended, or the store is rewritten.
 use Rattle.std.specs.Prelude.{◌≡◌, ℕ, ◌<◌, ◌⊎◌, List, [], ◌∷◌, ◌++◌, Some, None}
 use Rattle.krb_walk.specs.Store.{Cell, Store, end_from, end_of}
 use Rattle.krb_walk.specs.Ranks.{Rewrites}
 use Rattle.krb_walk.specs.Said.{Said, Placed, Gone, Rewritten}
 
--- one cell, at a place, becomes another; all else stays
+-- one cell, at a place, becomes another; all else is unchanged
 pub record OneCell (old new : Store) (p : ℕ) (was is : Cell) : Type 0 where
   pub before : List Cell
   pub after : List Cell
@@ -26,7 +26,7 @@ pub record Frees (old new : Store) (p : ℕ) : Type 0 where
   pub bytes : List ℕ
   pub cell : OneCell old new p (record { width = width; live = Some bytes }) (record { width = width; live = None })
 
--- a live cell is put at the end place
+-- a live cell is appended at the end place
 pub record Appends (old new : Store) (p : ℕ) : Type 0 where
   pub width : ℕ
   pub bytes : List ℕ
@@ -46,7 +46,7 @@ pub record Cuts (old new : Store) (p : ℕ) : Type 0 where
   pub whole : old.fault ≡ None
   pub how : Frees old new p
 
--- a store changes as the reply says: by one cell, or it is rewritten, or it stays
+-- a store changes as the reply reports: by one cell, or it is rewritten, or it is unchanged
 abbrev pub Changes : Said → Store → Store → Type 0
 Changes (Placed p) old new = Puts old new p
 Changes (Gone p) old new = Cuts old new p

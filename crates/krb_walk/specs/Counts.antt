@@ -9,7 +9,7 @@ use Rattle.krb_walk.specs.Due.{given_over}
 abbrev pub additions : Track → ℕ
 additions t = length (filter (λ x. is_placed x.reply) t)
 
--- from any event on, at which the walk stands at c, and up to any other: at most as many steps give a record as live cells stood at or after c, and additions came since
+-- from any event, with the cursor at c, to any later: no more rows than live cells at or after c plus additions since
 abbrev pub FewStepsGive : Track → Type 0
 FewStepsGive t = (earlier : Track) (x : WalkEvent) (steps later : Track) (c : ℕ) → t ≡ earlier ++ (x ∷ steps ++ later) → x.from ≡ Some c
     → length (given_over (x ∷ steps)) ≤ length (records_from x.before c) + additions (x ∷ steps)

@@ -16,12 +16,12 @@ given_over t = flat_map rows_at_event t
 abbrev pub turn : ℕ → Track → Option WalkEvent
 turn p t = find (passes p) t
 
--- the row of an event, if a record stood there
+-- the row of an event, if there is a record
 abbrev pub row_of : ℕ → Option Record → Option Row
 row_of n None = None
 row_of n (Some r) = Some (record { event = n; stood = r })
 
--- the row of a turn: the live cell that stood at the place just before
+-- the row of a turn: the live cell that was at the place just before
 abbrev pub row_at_turn : ℕ → Option WalkEvent → Option Row
 row_at_turn p None = None
 row_at_turn p (Some x) = row_of x.number (live_at x.before p)
@@ -35,10 +35,10 @@ abbrev pub rows_between : ℕ → Store → Option ℕ → Option ℕ → List R
 rows_between n s (Some c) (Some d) = filter_map (λ p. cond (nat_le c p && nat_lt p d) (row_of n (live_at s p)) None) (places s)
 rows_between n s c d = []
 
--- what is due at an event: if it is a step of the walk, the live cells that its cursor goes past
+-- what is due at an event: if it is a step of the walk, the live cells that its cursor passes
 abbrev pub due_at_event : WalkEvent → List Row
 due_at_event x = cond x.stepped (rows_between x.number x.before x.from x.to) []
 
--- what is due step by step: this speaks of no last store, so it holds also where places change between steps
+-- what is due step by step: this uses no last store, so it holds even if places change between steps
 abbrev pub due_by_steps : Track → List Row
 due_by_steps t = flat_map due_at_event t

@@ -1,4 +1,4 @@
--- What each event is answered, and what it leaves.
+-- The reply to each event, and the state after it.
 use Rattle.std.specs.Prelude.{ℕ, cond, ◌&&◌, nat_lt, List, [], ◌∷◌, ◌++◌, length, map, Option, Some, None, Result, Ok, Err, slice_get, slice_set}
 use Rattle.krb_walk.specs.declared.event.Event.{Event}
 use Rattle.krb_walk.specs.declared.event.Event.TheVariants.{Start, Resume, Step, Put, Cut, Rewrite}
@@ -16,11 +16,11 @@ pub record SessionState (S : Type 0) : Type 0 where
   pub store : S
   pub cursors : List ℕ
 
--- a session, where its store is in a state
+-- a session, with the state of its store
 abbrev pub session_of : {S T : Type 0} → (S → T) → SessionState S → SessionState T
 session_of state s = record { store = state s.store; cursors = s.cursors }
 
--- ---- Start and Resume: a new walk stands at a place; up to 1,024 walks stand
+-- ---- Start and Resume: a new walk at a place; a session has up to 1,024 walks
 
 -- the reply to Start, where p is the first place
 abbrev pub start_said : List ℕ → ℕ → Said
@@ -38,9 +38,9 @@ resume_said s cursors p = cond (nat_lt (length cursors) 1024) (cond (is_place s 
 abbrev pub resume_cursors : Store → List ℕ → ℕ → List ℕ
 resume_cursors s cursors p = cond (nat_lt (length cursors) 1024 && is_place s p) (cursors ++ p ∷ []) cursors
 
--- ---- Step: the cursor goes past the next live cell; where there is none, to the end place
+-- ---- Step: the cursor goes past the next live cell; if there is none, to the end place
 
--- the reply where no live cell is left
+-- the reply if no live cell is left
 abbrev pub end_said : ℕ → ℕ → Option FaultKind → Said
 end_said w end None = Ended w end
 end_said w end (Some kind) = Faulted w (record { place = end; kind = kind })
@@ -50,22 +50,22 @@ abbrev pub stop_said : Store → ℕ → Option Record → Said
 stop_said s w (Some r) = Gave w r.place r.next r.bytes
 stop_said s w None = end_said w (end_of s) s.fault
 
--- where the cursor then stands
+-- the cursor after that step
 abbrev pub stop_cursor : ℕ → Option Record → ℕ
 stop_cursor end (Some r) = r.next
 stop_cursor end None = end
 
--- the reply to a step of walk w, which stands at a place, or is no walk
+-- the reply to a step of walk w, whose cursor is given, or which does not exist
 abbrev pub step_said : Store → ℕ → Option ℕ → Said
 step_said s w None = Refused NoSuchWalk
 step_said s w (Some c) = stop_said s w (next_live s c)
 
--- the cursors after it
+-- the cursors after a step
 abbrev pub step_cursors : Store → List ℕ → ℕ → Option ℕ → List ℕ
 step_cursors s cursors w None = cursors
 step_cursors s cursors w (Some c) = slice_set cursors w (stop_cursor (end_of s) (next_live s c))
 
--- what the step answers without the record's bytes
+-- the result of a step without the record's bytes
 abbrev pub step_result : Store → Option ℕ → Result Stop Code
 step_result s None = Err NoSuchWalk
 step_result s (Some c) = Ok (stop_at s c)

@@ -33,7 +33,7 @@ abbrev pub state_after : {S I : Type 0} → Rules S I → SessionState S → Lis
 state_after r s [] = s
 state_after r s (e ∷ es) = state_after r (after r s e) es
 
--- a moment at which the store changes as it may
+-- a moment at which the store changes as its reply allows
 abbrev pub IsLawful : {S I : Type 0} → Rules S I → Moment S I → Type 0
 IsLawful r m = Changes m.reply (r.seen m.before.store) (r.seen m.after.store)
 
@@ -52,7 +52,7 @@ pub record IsReady {S I : Type 0} (r : Rules S I) (s : SessionState S) : Type 0 
   pub sound : IsSound (r.seen s.store)
   pub cursors : (w c : ℕ) → slice_get s.cursors w ≡ Some c → IsPlace (r.seen s.store) c
 
--- a history that begins ready, and changes the store as it may
+-- a history that begins in a ready state, and changes the store as its replies allow
 pub record IsRun {S I : Type 0} (r : Rules S I) (s : SessionState S) (events : List (Event I)) : Type 0 where
   pub ready : IsReady r s
   pub lawful : AllLawful r (history r s events)
@@ -61,7 +61,7 @@ pub record IsRun {S I : Type 0} (r : Rules S I) (s : SessionState S) (events : L
 abbrev pub last_store : {S I : Type 0} → Rules S I → SessionState S → List (Event I) → Store
 last_store r s events = r.seen (state_after r s events).store
 
--- a row: the number of an event, and the record that stood there just before it
+-- a row: the number of an event, and the record that it gives, as it was just before
 pub record Row : Type 0 where
   pub event : ℕ
   pub stood : Record
@@ -71,7 +71,7 @@ abbrev pub rows_of_reply : ℕ → ℕ → Said → List Row
 rows_of_reply w n (Gave v p next bytes) = cond (v == w) (record { event = n; stood = record { place = p; next = next; bytes = bytes } } ∷ []) []
 rows_of_reply w n said = []
 
--- what walk w is given by replies to events that are numbered from n
+-- what walk w is given by replies to events numbered from n
 abbrev pub given_from : {S I : Type 0} → ℕ → ℕ → List (Moment S I) → List Row
 given_from n w [] = []
 given_from n w (m ∷ ms) = rows_of_reply w n m.reply ++ given_from (suc n) w ms
@@ -85,6 +85,6 @@ abbrev pub is_step : {I : Type 0} → ℕ → Event I → Bool
 is_step w (Step v) = v == w
 is_step w e = false
 
--- an event is a step of walk w, which stands
+-- an event is a step of walk w, which exists
 abbrev pub steps_walk : {S I : Type 0} → SessionState S → Event I → ℕ → Bool
 steps_walk s e w = is_step w e && is_some (slice_get s.cursors w)

@@ -1,4 +1,4 @@
--- How a session keeps its state. Clauses of private functions cite this, and no public one.
+-- How a session keeps its state. Only clauses of private functions use this.
 use Rattle.std.specs.Prelude.{◌≡◌, ℕ, ◌≤◌, List, length, take}
 use Rattle.krb_walk.specs.declared.stop.Stop.{Stop}
 use Rattle.krb_walk.specs.declared.stop.Stop.TheVariants.{Live, End, Fault as AtFault}
@@ -11,7 +11,7 @@ place_after (Live p next) = next
 place_after (End next) = next
 place_after (AtFault fault) = fault.place
 
--- the cursors stand in the first places of a table of 1,024
+-- the cursors are the first `count` elements of a table of 1,024
 pub record IsKept {S I : Type 0} (r : Rules S I) (store : S) (table : List ℕ) (count : ℕ) : Type 0 where
   pub few : count ≤ 1024
   pub room : length table ≡ 1024

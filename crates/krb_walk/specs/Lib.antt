@@ -1,14 +1,14 @@
--- What the contracts of this crate say, in ten words:
--- store: a first place, cells that touch one another, and perhaps a fault after them
--- cell: a width of places, live with bytes, or free without
+-- The terms of this crate's contracts, in ten words:
+-- store: a first place, adjacent cells, and perhaps a fault after them
+-- cell: takes up a width of places; live, with bytes, or free, without
 -- place: where a cell begins, or the end of the last one
--- walk: what goes from record to record, a step at a time; its cursor is the place where it stands
--- record: a live cell as it stands; over events it goes by its name, the place where it was put and its birth, the number of that event, and stands at the live cell of its rank
--- track: what each event of a run, or of runs that join, is to one walk
--- turn: the step of a walk that passes a record where it stands
+-- walk: goes from record to record, a step at a time; its cursor is the place where it is
+-- record: a live cell; its name, kept over events, is where it was added and when; it is the live cell of its rank
+-- track: the events of a run, or of joined runs, as one walk sees them
+-- turn: the step of a walk that passes a record at its place
 -- row: an event and the record that it gives
 -- due: the rows of the live cells that the cursor passes, step by step
--- rewrite: the live cells alone are written anew, in order, and each cursor is carried to the first that it had ahead
+-- rewrite: only the live cells stay, in order, and each cursor is carried to the first that was at or after it
 pub mod Numbers
 pub mod Phrases
 pub mod Store

@@ -13,7 +13,7 @@ abbrev pub HadMemory : Result ℕ Refusal → Type 0
 HadMemory (Err NoMemory) = ⊥
 HadMemory result = Unit {0}
 
--- an event that takes no memory: all but a step that gives a record, an addition whose store grows, and a rewrite that is not refused
+-- an event that takes no memory: any but a step that gives a record, an addition not `takes_none`, an accepted rewrite
 abbrev pub TakesNone : {S I : Type 0} → Rules S I → SessionState S → Event I → Type 0
 TakesNone r s (Step w) = is_gave (reply_to r s (Step w)) ≡ false
 TakesNone r s (Put item) = r.takes_none s.store item ≡ true

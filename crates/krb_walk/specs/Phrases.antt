@@ -1,4 +1,4 @@
--- The phrases that say in words what codes and faults are.
+-- The phrases of faults and codes.
 use Rattle.std.specs.Prelude.{ℕ, List, ◌++◌, codes, decimal}
 use Rattle.krb_walk.specs.declared.fault.Fault.{Fault}
 use Rattle.krb_walk.specs.declared.fault.FaultKind.{FaultKind}
@@ -9,18 +9,18 @@ use Rattle.krb_walk.specs.declared.refusal.Refusal.{Refusal}
 use Rattle.krb_walk.specs.declared.refusal.Refusal.TheVariants.{Code as ByCode, NoMemory}
 use Rattle.krb_walk.specs.Numbers.{fault_number}
 
--- what a fault is
+-- the phrase of a fault
 abbrev pub fault_phrase : FaultKind → List ℕ
 fault_phrase CutLength = codes "the file ends within a length"
 fault_phrase Overrun = codes "a record or a hole is longer than the rest of the file"
 fault_phrase BadEntry = codes "a record holds no entry"
 fault_phrase BadCredential = codes "no whole credential follows; cut off, or being written"
 
--- a fault, by its number, its place and its phrase
+-- the text of a fault: its number, its place and its phrase
 abbrev pub fault_text : Fault → List ℕ
 fault_text fault = codes "fault " ++ decimal (fault_number fault.kind) ++ codes " at " ++ decimal fault.place ++ codes ": " ++ fault_phrase fault.kind
 
--- why a request is refused, where no command is known
+-- the phrase of a refusal code, whatever the command is
 abbrev pub code_phrase : Code → List ℕ
 code_phrase Damaged = codes "the file is damaged; klist tells where"
 code_phrase TooLong = codes "a name or a key is too long for a keytab"
@@ -34,7 +34,7 @@ code_phrase NotFound = codes "no entry of this name and encryption type"
 code_phrase KvnoNotFound = codes "this name and encryption type have no such version"
 code_phrase Marked = codes "the credential bears the mark of a removed one"
 
--- why a request is refused, or that memory ran out
+-- the phrase of a refusal, or of a failed allocation
 abbrev pub refusal_phrase : Refusal → List ℕ
 refusal_phrase (ByCode code) = code_phrase code
 refusal_phrase NoMemory = codes "out of memory"

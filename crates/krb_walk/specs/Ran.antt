@@ -22,7 +22,7 @@ pub record Ran {S I : Type 0} (r : Rules S I) (old new : SessionState S) (events
   pub fair : (w : ℕ) → IsFair (track_of r old events w) (r.seen new.store)
   pub damaged_refuses : (kind : FaultKind) → (r.seen old.store).fault ≡ Some kind → RefusesChanges r old events
 
--- a run that ran out of memory: it is a run of the events before one of them
+-- a run that ran out of memory: a run of the events before one of them
 pub record RanSome {S I : Type 0} (r : Rules S I) (old new : SessionState S) (events : List (Event I)) (told_old told_new : List Said) : Type 0 where
   pub done : ℕ
   pub fewer : done < length events

@@ -7,21 +7,21 @@ use Rattle.krb_walk.specs.Store.{Store, IsSound, records, end_of}
 abbrev pub live_places : Store → List ℕ
 live_places s = map (λ r. r.place) (records s)
 
--- the rank of a place: how many live cells stand before it
+-- the rank of a place: how many live cells are before it
 abbrev pub rank : Store → ℕ → ℕ
 rank s p = length (filter (λ q. nat_lt q p) (live_places s))
 
--- the element of a list at a rank, or else this one
+-- the element of a list at an index, or `end` if the list is not that long
 abbrev pub nth_or : ℕ → List ℕ → ℕ → ℕ
 nth_or end [] k = end
 nth_or end (p ∷ ps) zero = p
 nth_or end (p ∷ ps) (suc k) = nth_or end ps k
 
--- where a rewrite carries a cursor: to the new place of the first live cell at or after it, which keeps its rank, or to the new end place
+-- where a rewrite carries a cursor: to the new place of the first live cell at or after it, by rank, or to the new end
 abbrev pub carry : Store → Store → ℕ → ℕ
 carry old new c = nth_or (end_of new) (live_places new) (rank old c)
 
--- a store is rewritten: it has no fault before or after, and holds as many live cells as before, and no others
+-- a store is rewritten: it has no fault before or after, as many live cells as before, and no free ones
 pub record Rewrites (old new : Store) : Type 0 where
   pub whole : old.fault ≡ None
   pub fault : new.fault ≡ None

@@ -1,4 +1,4 @@
--- Records along a track, on which the store may be rewritten: how often each comes.
+-- How often each record comes along a track, on which the store may be rewritten.
 use Rattle.std.specs.Prelude.{◌≡◌, ◌↔◌, ℕ, ◌<◌, ◌≤◌, Bool, false, true, cond, ◌&&◌, ◌==◌, IsSome, List, [], ◌∷◌, ◌++◌, length, find, filter, flat_map, Option, Some, None}
 use Rattle.std.specs.List.{AllByRecursion}
 use Rattle.krb_walk.specs.Ranks.{live_places}
@@ -23,7 +23,7 @@ abbrev pub begins : Track → Option ℕ
 begins [] = None
 begins (x ∷ xs) = x.from
 
--- ---- a record stands at the live cell of its rank
+-- ---- a record is at the live cell of its rank
 
 -- two names are the same
 abbrev pub is_name : RecordName → RecordName → Bool
@@ -34,11 +34,11 @@ abbrev pub place_among : RecordName → List RecordName → List ℕ → Option 
 place_among r (x ∷ names) (p ∷ ps) = cond (is_name r x) (Some p) (place_among r names ps)
 place_among r names ps = None
 
--- where a record stands before an event, if it is alive: at the live cell of its rank
+-- the place of a record before an event, if it is alive: that of the live cell of its rank
 abbrev pub place_of : RecordName → WalkEvent → Option ℕ
 place_of r x = place_among r x.names (live_places x.before)
 
--- a record that is alive stands at a place
+-- there is a record alive at a place
 pub record IsNamed (x : WalkEvent) (p : ℕ) : Type 0 where
   pub name : RecordName
   pub stands : place_of name x ≡ Some p
@@ -48,7 +48,7 @@ abbrev pub rows_at_some : Option ℕ → List Row → List Row
 rows_at_some None rows = []
 rows_at_some (Some p) rows = rows_at p rows
 
--- the rows of a record: at each event, those at the place where it stands
+-- the rows of a record at an event: those at its place
 abbrev pub rows_here : RecordName → WalkEvent → List Row
 rows_here r x = rows_at_some (place_of r x) (rows_at_event x)
 
@@ -56,12 +56,12 @@ rows_here r x = rows_at_some (place_of r x) (rows_at_event x)
 abbrev pub rows_of : RecordName → Track → List Row
 rows_of r t = flat_map (rows_here r) t
 
--- a cursor goes past the place, if there is one
+-- there is a place, and a cursor goes past it
 abbrev pub goes_past_some : Option ℕ → Option ℕ → Option ℕ → Bool
 goes_past_some None c d = false
 goes_past_some (Some p) c d = goes_past p c d
 
--- a step of the walk passes the record where it stands
+-- a step of the walk passes the record at its place
 abbrev pub passes_record : RecordName → WalkEvent → Bool
 passes_record r x = x.stepped && goes_past_some (place_of r x) x.from x.to
 
@@ -75,12 +75,12 @@ pub record HasTurn (r : RecordName) (t : Track) : Type 0 where
   pub is : turn_of r t ≡ Some at
   pub alive : IsSome (place_of r at)
 
--- where a record stands at the first event
+-- the place of a record at the first event
 abbrev pub place_at_first : RecordName → Track → Option ℕ
 place_at_first r [] = None
 place_at_first r (x ∷ xs) = place_of r x
 
--- the walk stands at or before the record, and from then on until the walk is completed the record is alive
+-- from an event with the cursor at or before the record, until the walk is completed, the record is alive
 pub record IsAliveUntilDone (r : RecordName) (t : Track) : Type 0 where
   pub earlier : Track
   pub steps : Track
@@ -96,7 +96,7 @@ pub record IsAliveUntilDone (r : RecordName) (t : Track) : Type 0 where
   pub alive_last : IsSome (place_of r done)
   pub completed : completes done.walk done.reply ≡ true
 
--- a record is cut where it stands, before a step passed it
+-- a record is removed before a step passed it
 pub record IsCutBefore (r : RecordName) (t : Track) : Type 0 where
   pub earlier : Track
   pub cut : WalkEvent
@@ -107,7 +107,7 @@ pub record IsCutBefore (r : RecordName) (t : Track) : Type 0 where
   pub gone : cut.reply ≡ Gone place
   pub no_turn : turn_of r (earlier ++ cut ∷ []) ≡ None
 
--- a record is added while the walk stands at c
+-- a record is added while the walk's cursor is at c
 pub record IsAddedAt (r : RecordName) (c : ℕ) (t : Track) : Type 0 where
   pub earlier : Track
   pub put : WalkEvent
@@ -136,7 +136,7 @@ pub record EachComesAsDue (t : Track) : Type 0 where
   pub at_most_once : (r : RecordName) → length (rows_of r t) ≤ 1
   -- "when its cursor passes their place": once, if ever
   pub turn_is_unique : (r : RecordName) → length (filter (passes_record r) t) ≤ 1
-  -- "in file order": of two that come in turn, the first stands before the second
+  -- "in file order": of two that come in turn, the first is before the second
   pub in_file_order : (first second : RecordName) (a : ComeInTurn first second t) → a.first_place < a.second_place
   -- "exactly the records alive when its cursor passes their place"
   pub once_if_it_has_a_turn : (r : RecordName) → OneRow (rows_of r t) ↔ HasTurn r t

@@ -1,4 +1,4 @@
--- What a reply says, without the memory that its bytes lie in.
+-- The content of a reply, apart from where its bytes are in memory.
 use Rattle.std.specs.Prelude.{ℕ, Bool, true, false, ◌==◌, List}
 use Rattle.krb_walk.specs.declared.fault.Fault.{Fault}
 use Rattle.krb_walk.specs.declared.refusal.Code.{Code}
@@ -16,7 +16,7 @@ pub data Said : Type 0 where
   Rewritten : (end : ℕ) → Said
   Refused : (code : Code) → Said
 
--- what a reply says
+-- the content of a reply
 abbrev pub said : {A : Type 0} → Reply A → Said
 said (reply.Started w n) = Started w n
 said (reply.Gave w p n bytes) = Gave w p n bytes.items
@@ -27,14 +27,14 @@ said (reply.Gone p) = Gone p
 said (reply.Rewritten p) = Rewritten p
 said (reply.Refused c) = Refused c
 
--- a walk is told what a step of it met
+-- a reply to a step of walk w: a record, the end or the fault
 abbrev pub tells_step : ℕ → Said → Bool
 tells_step w (Gave v p next bytes) = v == w
 tells_step w (Ended v next) = v == w
 tells_step w (Faulted v fault) = v == w
 tells_step w said = false
 
--- a walk is told that nothing is left
+-- a reply to a step of walk w that no record is left: the end or the fault
 abbrev pub completes : ℕ → Said → Bool
 completes w (Ended v next) = v == w
 completes w (Faulted v fault) = v == w

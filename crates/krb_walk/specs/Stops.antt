@@ -6,7 +6,7 @@ use Rattle.krb_walk.specs.Store.{Store, Record, IsSound, IsPlace, records, next_
 abbrev pub records_from : Store → ℕ → List Record
 records_from s p = filter (λ r. nat_le p r.place) (records s)
 
--- a stop at a record: it is the first from the place on, its bytes stand there, and the rest are those from its next place on, which lies ahead
+-- a stop at a record: the first at or after the place, with its bytes; the rest are those from `next`, a later place
 pub record StopsAt (s : Store) (p : ℕ) (r : Record) : Type 0 where
   pub first : records_from s p ≡ r ∷ records_from s r.next
   pub bytes : live_bytes s r.place ≡ Some r.bytes
@@ -15,15 +15,15 @@ pub record StopsAt (s : Store) (p : ℕ) (r : Record) : Type 0 where
   pub ahead : r.place < r.next
   pub within : r.next ≤ end_of s
 
--- where a walk stops at a record, it is the first that is left
+-- if a walk stops at a record, it is the first one left
 abbrev pub StopsGiveRecords : Type 0
 StopsGiveRecords = (s : Store) (p : ℕ) (r : Record) → IsSound s → next_live s p ≡ Some r → StopsAt s p r
 
--- where a walk finds none, none is left
+-- if a walk finds no record, none is left
 abbrev pub StopsEnd : Type 0
 StopsEnd = (s : Store) (p : ℕ) → next_live s p ≡ None → records_from s p ≡ []
 
--- from the first place on there are all records, and the first place is one
+-- all records are at or after the first place, which is a place
 pub record BeginsWithAll (s : Store) : Type 0 where
   pub all : records_from s s.first ≡ records s
   pub place : IsPlace s s.first

@@ -1,4 +1,4 @@
--- A store: cells that touch one another, and perhaps a fault after the last of them.
+-- A store: adjacent cells, and perhaps a fault after the last of them.
 use Rattle.std.specs.Prelude.{◌≡◌, ℕ, ◌+◌, ◌<◌, Bool, true, ◌&&◌, ◌||◌, ◌==◌, nat_le, List, [], ◌∷◌, map, find, Option, Some, None, is_some}
 use Rattle.std.specs.List.{AllByRecursion, filter_map}
 use Rattle.std.specs.Option.{option_map}
@@ -12,18 +12,18 @@ pub record Cell : Type 0 where
   pub width : ℕ
   pub live : Option (List ℕ)
 
--- a first place, the cells from there on, and what is wrong after them, if something is
+-- a first place, the cells from there on, and the kind of the fault after them, if there is one
 pub record Store : Type 0 where
   pub first : ℕ
   pub cells : List Cell
   pub fault : Option FaultKind
 
--- a cell where it stands
+-- a cell and its place
 pub record Standing : Type 0 where
   pub place : ℕ
   pub cell : Cell
 
--- the cells where they stand, the first at a place
+-- the cells with their places, the first at `at`
 abbrev pub standing : ℕ → List Cell → List Standing
 standing at [] = []
 standing at (c ∷ cs) = record { place = at; cell = c } ∷ standing (at + c.width) cs
@@ -54,7 +54,7 @@ is_place s p = is_place_from s.first s.cells p
 abbrev pub IsPlace : Store → ℕ → Type 0
 IsPlace s p = is_place s p ≡ true
 
--- the cell that stands at a place
+-- the cell at a place, with its place
 abbrev pub cell_at : Store → ℕ → Option Standing
 cell_at s p = find (λ x. x.place == p) (standing s.first s.cells)
 
@@ -62,7 +62,7 @@ cell_at s p = find (λ x. x.place == p) (standing s.first s.cells)
 abbrev pub size_at : Store → ℕ → Option ℕ
 size_at s p = option_map (λ x. x.cell.width) (cell_at s p)
 
--- a record, a live cell as it stands: its place, the place after it, its bytes
+-- a record, that is a live cell: its place, the place after it, its bytes
 pub record Record : Type 0 where
   pub place : ℕ
   pub next : ℕ
@@ -86,7 +86,7 @@ abbrev pub record_of_some : Option Standing → Option Record
 record_of_some None = None
 record_of_some (Some x) = record_of x
 
--- the record at a place, if one stands there
+-- the record at a place, if there is one
 abbrev pub live_at : Store → ℕ → Option Record
 live_at s p = record_of_some (cell_at s p)
 
@@ -103,26 +103,26 @@ live_bytes s p = bytes_of_some (live_at s p)
 abbrev pub next_live : Store → ℕ → Option Record
 next_live s p = record_of_some (find (λ x. nat_le p x.place && is_some x.cell.live) (standing s.first s.cells))
 
--- where a walk stops that finds no record
+-- the stop if there is no record
 abbrev pub end_stop : ℕ → Option FaultKind → Stop
 end_stop end None = End end
 end_stop end (Some kind) = AtFault (record { place = end; kind = kind })
 
--- a fault at a place, if something is wrong there
+-- the fault at a place, if there is one
 abbrev pub fault_from : ℕ → Option FaultKind → Option Fault
 fault_from end None = None
 fault_from end (Some kind) = Some (record { place = end; kind = kind })
 
--- the fault stands at the end place
+-- the fault of a store, at its end place, if there is one
 abbrev pub fault_of : Store → Option Fault
 fault_of s = fault_from (end_of s) s.fault
 
--- where a walk stops that finds this record, or none
+-- the stop at this record; if there is none, at the end or the fault
 abbrev pub stop_of : Store → Option Record → Stop
 stop_of s (Some r) = Live r.place r.next
 stop_of s None = end_stop (end_of s) s.fault
 
--- the first record at or after a place; where there is none, the fault, or else the end
+-- the first record at or after a place; if there is none, the fault, or else the end
 abbrev pub stop_at : Store → ℕ → Stop
 stop_at s p = stop_of s (next_live s p)
 

@@ -11,7 +11,7 @@ use Rattle.krb_walk.specs.Rules.{Rules}
 use Rattle.krb_walk.specs.Events.{SessionState}
 use Rattle.krb_walk.specs.History.{Moment, history, steps_walk}
 
--- the name of a record: the place where it was put, and its birth, the number of the event that put it, or 0
+-- the name of a record: the place where it was added, and its birth, the number of the event that added it, or 0
 pub record RecordName : Type 0 where
   pub place : ℕ
   pub birth : ℕ
@@ -20,17 +20,17 @@ pub record RecordName : Type 0 where
 abbrev pub first_names : Store → List RecordName
 first_names s = map (λ p. record { place = p; birth = 0 }) (live_places s)
 
--- the names after event n: an addition inserts one at the rank of its cell, a removal takes out that of its cell
+-- the names after event n: an addition inserts one at the rank of its cell, a removal removes that of its cell
 abbrev pub names_after : ℕ → Said → Store → Store → List RecordName → List RecordName
 names_after n (Placed p) old new names = insert names (rank new p) (record { place = p; birth = n })
 names_after n (Gone p) old new names = remove names (rank old p)
 names_after n said old new names = names
 
--- what one event is to a walk
+-- one event, as a walk sees it
 pub record WalkEvent : Type 0 where
   pub number : ℕ
   pub walk : ℕ
-  -- whether it is a step of the walk, which stands
+  -- whether it is a step of the walk, which exists
   pub stepped : Bool
   -- the store, and the walk's cursor, before the event and after it
   pub before : Store
@@ -41,11 +41,11 @@ pub record WalkEvent : Type 0 where
   pub names : List RecordName
   pub reply : Said
 
--- what each event is to it, in order
+-- the events as a walk sees them, in order
 abbrev pub Track : Type 0
 Track = List WalkEvent
 
--- the track of a walk over a history whose first event has number n; while the walk is not made its cursor counts as c
+-- the track of a walk over a history whose first event has number n; until the walk is started its cursor counts as c
 abbrev pub track_on : {S I : Type 0} → ℕ → List RecordName → Option ℕ → Rules S I → ℕ → List (Moment S I) → Track
 track_on n names c r w [] = []
 track_on n names c r w (m ∷ ms) =
@@ -95,25 +95,25 @@ PlacesStay t = AllByRecursion (λ x. is_rewritten x.reply ≡ false) t
 
 -- ---- what makes a track that of one walk
 
--- a step of walk w that stands at c is answered with the next live cell, or else the fault, or the end; then it stands at the place after that
+-- a step of walk w at c replies with the next live cell, or else the fault, or the end; `to` is the place after that
 abbrev pub AnswersStep : Store → ℕ → ℕ → Said → ℕ → Type 0
 AnswersStep s w c (Gave v p next bytes) to = (v ≡ w) × (next_live s c ≡ Some (record { place = p; next = next; bytes = bytes })) × (to ≡ next)
 AnswersStep s w c (Ended v next) to = (v ≡ w) × (next_live s c ≡ None) × (s.fault ≡ None) × (next ≡ end_of s) × (to ≡ end_of s)
 AnswersStep s w c (Faulted v fault) to = (v ≡ w) × (next_live s c ≡ None) × (fault_of s ≡ Some fault) × (to ≡ end_of s)
 AnswersStep s w c said to = ⊥
 
--- where a cursor then stands that no step moves: a rewrite carries it, all else leaves it
+-- where a cursor is after an event that is no step of its walk: a rewrite carries it, any other leaves it
 abbrev pub carry_by : Said → Store → Store → ℕ → ℕ
 carry_by (Rewritten p) old new c = carry old new c
 carry_by said old new c = c
 
--- an event that is no step of the walk leaves its cursor, or carries it
+-- an event that is no step of the walk, nor replied to as one, leaves its cursor or carries it
 pub record Stays (x : WalkEvent) : Type 0 where
   pub idle : x.stepped ≡ false
   pub other : tells_step x.walk x.reply ≡ false
   pub stays : (c : ℕ) → x.from ≡ Some c → x.to ≡ Some (carry_by x.reply x.before x.after c)
 
--- a step of the walk moves it, and is answered so
+-- a step of the walk moves its cursor, and replies as `AnswersStep` has it
 pub record MovesCursor (x : WalkEvent) : Type 0 where
   pub stepped : x.stepped ≡ true
   pub at : ℕ
@@ -137,7 +137,7 @@ abbrev pub IsTrack : ℕ → Store → List RecordName → Option ℕ → Track 
 IsTrack n s names c [] last = last ≡ s
 IsTrack n s names c (x ∷ xs) last = IsWalkEvent n s names c x × IsTrack (suc n) x.after (names_after x.number x.reply x.before x.after x.names) x.to xs last
 
--- the track of one walk, from the first event on, that begins in a store with a cursor and ends with a store: over one run, or over runs that join
+-- the track of one walk from event 1 on, from a store and a cursor to a last store: over one run, or over joined runs
 pub record IsWalk (s : Store) (c : Option ℕ) (t : Track) (last : Store) : Type 0 where
   pub sound : IsSound s
   pub here : (d : ℕ) → c ≡ Some d → IsPlace s d

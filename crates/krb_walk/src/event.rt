@@ -1,28 +1,27 @@
-//! What is asked of a session, and what it replies.
+//! The events of a session, and its replies.
 
 use crate::fault::Fault;
 use crate::refusal::Code;
 use std::alloc::Allocator;
 
-/// What may be asked of a session over a store that takes items of type `I`.
+/// An event of a session, over a store that takes items of type `I`.
 #[derive(Drop)]
 pub enum Event<I> {
-    /// A new walk, at the first place.
+    /// Starts a new walk at the first place.
     Start,
-    /// A new walk, at this place.
+    /// Starts a new walk at this place.
     Resume(u32),
-    /// The next record of this walk.
+    /// Gives this walk its next record.
     Step(u32),
-    /// An addition.
+    /// Adds a record.
     Put(I),
-    /// The removal of the record at this place.
+    /// Removes the record at this place.
     Cut(u32),
-    /// A rewrite of the store; each cursor is carried.
+    /// Rewrites the store and carries each cursor.
     Rewrite,
 }
 
-/// What a session replies. Walks are numbered from 0 in order of making; `next` is where the walk's
-/// cursor then stands.
+/// The reply to an event. Walks are numbered from 0 in order of creation; `next` is the walk's cursor after the event.
 #[derive(Debug, PartialEq, Eq, Drop)]
 pub enum Reply<A: Allocator> {
     Started {

@@ -10,18 +10,18 @@ use thiserror::Error;
 /// What is wrong with the bytes after the last sound cell.
 #[derive(Clone, Copy, Debug, PartialEq, Eq, Error)]
 pub enum FaultKind {
-    /// One to three bytes are left where a length should stand.
+    /// One to three bytes are left where a length should be.
     CutLength = 1,
-    /// A length says more bytes than there are.
+    /// A length is greater than the number of bytes left.
     Overrun = 2,
-    /// A record begins with no entry.
+    /// A record does not begin with an entry.
     BadEntry = 3,
-    /// The bytes begin with no credential.
+    /// The bytes do not begin with a whole credential.
     BadCredential = 4,
 }
 
 impl FaultKind {
-    /// The number that is printed for it.
+    /// Returns the number that is printed for it.
     pub fn number(self) -> u32
         ensures { result ≡ fault_number self }
     {
@@ -33,7 +33,7 @@ impl FaultKind {
         }
     }
 
-    /// What it is, in words.
+    /// Returns its description in words.
     pub fn phrase(self) -> &'static str
         ensures { result.now ≡ fault_phrase self }
     {

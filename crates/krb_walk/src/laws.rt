@@ -1,5 +1,4 @@
-//! Laws: what holds of all stores, of all histories and of all walks. Each is a function with an empty
-//! body, whose contract says it.
+//! Laws of all stores, all histories and all walks. Each is a function with an empty body, whose contract states it.
 
 pub mod cursors;
 pub mod damaged;

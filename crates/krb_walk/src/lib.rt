@@ -1,4 +1,4 @@
-//! Stores of cells, and sessions in which a store is walked while it is changed.
+//! Stores of cells, and sessions in which walks iterate over a store while it is changed.
 #![tactic(auto)]
 
 mod event;

@@ -10,7 +10,7 @@ use std::alloc::{AllocError, AllocFailed};
 use std::fmt;
 use thiserror::Error;
 
-/// Why a request is refused.
+/// Why an event is refused.
 #[derive(Clone, Copy, Debug, PartialEq, Eq, Error)]
 pub enum Code {
     Damaged = 1,
@@ -27,7 +27,7 @@ pub enum Code {
 }
 
 impl Code {
-    /// The number that is printed for it.
+    /// Returns the number that is printed for it.
     pub fn number(self) -> u32
         ensures { result ≡ code_number self }
     {
@@ -46,7 +46,7 @@ impl Code {
         }
     }
 
-    /// What it is, in words that fit any command.
+    /// Returns its description, in words that fit any command.
     pub fn phrase(self) -> &'static str
         ensures { result.now ≡ code_phrase self }
     {
@@ -84,7 +84,7 @@ pub enum Refusal {
 }
 
 impl Refusal {
-    /// What it is, in words that fit any command.
+    /// Returns its description, in words that fit any command.
     pub fn phrase(self) -> &'static str
         ensures { result.now ≡ refusal_phrase self }
     {
@@ -129,7 +129,7 @@ impl From<AllocError> for Refusal {
     }
 }
 
-/// What was not stored is dropped.
+/// Drops what was not stored.
 impl<T: Drop> From<AllocFailed<T>> for Refusal {
     ghost from_gives = { λ _ refusal. refusal ≡ NoMemory };
 

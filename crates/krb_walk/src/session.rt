@@ -16,7 +16,7 @@ use crate::stop::Stop;
 use std::alloc::Allocator;
 use std::marker::Model;
 
-/// A store with up to 1,024 walks, numbered from 0 in order of making.
+/// A store with up to 1,024 walks, numbered from 0 in order of creation.
 #[derive(Drop)]
 pub struct Session<P: Placed, A: Allocator + Copy> {
     store: P,
@@ -39,7 +39,7 @@ impl<P: Placed, A: Allocator + Copy> Model for Session<P, A> {
 }
 
 impl<P: Placed, A: Allocator + Copy> Session<P, A> {
-    /// A session without walks. Takes no memory: `alloc` is kept for the bytes of records.
+    /// Returns a session without walks. Takes no memory: `alloc` is kept for the bytes of records.
     pub fn new(alloc: A, store: P) -> Self
         ensures is { result ≡ record { store = store; cursors = [] } }
         ensures ready { IsReady P.rules (session_of P.state_of result) }
@@ -53,14 +53,14 @@ impl<P: Placed, A: Allocator + Copy> Session<P, A> {
         }
     }
 
-    /// How many walks there are.
+    /// Returns the number of walks.
     pub fn walks(&self) -> u32
         ensures { result ≡ length self.now.cursors }
     {
         self.count
     }
 
-    /// The place where a walk stands.
+    /// Returns the place of a walk's cursor, or `None` if there is no such walk.
     pub fn cursor(&self, walk: u32) -> Option<u32>
         ensures { result ≡ slice_get self.now.cursors walk }
     {
@@ -89,7 +89,7 @@ impl<P: Placed, A: Allocator + Copy> Session<P, A> {
         store
     }
 
-    /// The event `Step` without the record's bytes: moves a walk on, and says where it stopped. It takes no memory.
+    /// Applies `Step` without copying the record: returns where the walk stopped. Takes no memory.
     pub fn step(&mut self, walk: u32) -> Result<Stop, Code>
         ensures stop { result ≡ step_result (P.rules.seen (P.state_of self.old.store)) (slice_get self.old.cursors walk) }
         ensures ran { Ran P.rules (session_of P.state_of self.old) (session_of P.state_of self.new) (Step walk ∷ []) [] (reply_to P.rules (session_of P.state_of self.old) (Step walk) ∷ []) }
@@ -119,7 +119,7 @@ impl<P: Placed, A: Allocator + Copy> Session<P, A> {
     }
 }
 
-/// Where a walk that stands at a place stops next, and the place that it then stands at.
+/// Returns where a walk at `cursor` stops next, and its cursor after that.
 fn stop_from<P: Placed>(store: &P, cursor: u32) -> (Stop, u32)
     requires { IsPlace (P.rules.seen (P.state_of store.now)) cursor }
     ensures stop { result.0 ≡ stop_at (P.rules.seen (P.state_of store.now)) cursor }

@@ -13,7 +13,7 @@ use Rattle.krb_wire.specs.Atoms.{byte_of, is_slash, before_at, after_at}
 use Rattle.krb_wire.specs.NameOf.{component_fault, realm_fault, faults_of, first_fault, components_of, realm_of, name_or_fault}
 use Rattle.krb_wire.specs.FirstComponent.{first_component, after_first}
 
--- a byte before the first part, and the bytes of each part
+-- prepending an atom to the first part, and taking the bytes of each part
 map-onto_first : (a : Atom) (ps : List (List Atom)) → map (map byte_of) (onto_first a ps) ≡ onto_first (byte_of a) (map (map byte_of) ps)
 map-onto_first a [] = refl
 map-onto_first a (p ∷ ps) = refl
@@ -26,7 +26,7 @@ components_of-first (Slash ∷ rest) = refl
 components_of-first (At ∷ rest) = refl
 components_of-first (Lone ∷ rest) = map-onto_first Lone (slice_split is_slash (before_at rest)) ∙ ap (onto_first 92) (components_of-first rest)
 
--- a realm with nothing wrong is one component
+-- a realm without a fault is one component
 first_component-realm : (text : List Atom) → filter_map realm_fault text ≡ [] → first_component text ≡ map byte_of text
 first_component-realm [] e = refl
 first_component-realm (Byte b ∷ rest) e = ap (λ (bs : List ℕ). b ∷ bs) (first_component-realm rest e)
@@ -34,19 +34,19 @@ first_component-realm (Slash ∷ rest) e = absurd cc
 first_component-realm (At ∷ rest) e = absurd cc
 first_component-realm (Lone ∷ rest) e = absurd cc
 
--- where no fault is leftmost, there is none
+-- if there is no leftmost fault, there is no fault
 none_left : (a b : List NameFault) → first_fault (a ++ b) ≡ None → b ≡ []
 none_left [] [] e = refl
 none_left [] (y ∷ b) e = absurd cc
 none_left (x ∷ a) b e = absurd cc
 
--- where a text has a name, nothing is wrong and there is a realm
+-- if a text is a name, there is no fault and there is a realm
 pub named : (fault : Option NameFault) (realm : Option (List ℕ)) (components : List (List ℕ)) → IsOk (name_or_fault fault realm components) → (fault ≡ None) × ((r : List ℕ) × (realm ≡ Some r))
 named (Some f) realm components h = absurd cc
 named None None components h = absurd cc
 named None (Some r) components h = (refl, (r, refl))
 
--- the realm after the `@` is what is read there
+-- the realm is what is read after the `@`
 pub realm_of-first : (text realm : List Atom) (default_realm : Option (List ℕ)) → first_fault (faults_of text) ≡ None → Some realm ≡ after_at text → realm_of text default_realm ≡ Some (first_component realm)
 realm_of-first text realm default_realm e is_realm =
     let sound : filter_map realm_fault (unwrap_or (after_at text) []) ≡ [] = none_left (filter_map component_fault (before_at text)) _ e in
@@ -62,7 +62,7 @@ pub named-is : (fault : Option NameFault) (realm : Option (List ℕ)) (component
     → name_or_fault fault realm components ≡ Ok (record { name_type = 1; realm = r; components = cs })
 named-is fault realm components r cs h is_realm is_components = rw ((named fault realm components h).0, is_realm, sym is_components) refl
 
--- one component more is read, and those after its `/` are left
+-- one more component is read, and those after its `/` are left
 pub components_step : {Z : Type 0} (old new : List (Vec ℕ Z)) (v : Vec ℕ Z) (text : List Atom) (next : Option (List Atom)) (whole : List (List ℕ)) → new ≡ old ++ v ∷ [] → v.items ≡ first_component text → next ≡ after_first text
     → items_of old ++ components_of text ≡ whole → items_of new ++ option_map_or components_of next [] ≡ whole
 components_step old new v text next whole is_new is_front is_next e =

@@ -1,4 +1,4 @@
--- A field that is read is the field that was written, and what was written is read again.
+-- What is read as a field is the encoding of that field, and an encoded field is read back.
 use Rattle.std.proofs.Common.{◌≡◌, ℕ, ◌+◌, ◌^◌, ◌<◌, ◌≤◌, Bool, true, false, cond, ltb, List, ◌++◌, length, get_or, take, drop, Option, Some, None, refl, sym, ap, subst, ◌∙◌, append_assoc, arith, inl, inr}
 use Rattle.std.specs.Prelude.{IsSome}
 use Rattle.std.specs.Int.{Width, w16, w32, byte_len}
@@ -43,7 +43,7 @@ pub is_some_has : {A : Type 0} (o : Option A) → IsSome o → (x : A) × (o ≡
 is_some_has (Some x) h = (x, refl)
 is_some_has None h = absurd cc
 
--- what a reader took from the start
+-- what a reader took from the front of the bytes
 pub record Takes (bytes text rest : List ℕ) : Type 0 where
   pub parts : bytes ≡ text ++ rest
   pub rest_fits : IsBytes rest

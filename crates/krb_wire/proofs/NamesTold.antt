@@ -1,4 +1,4 @@
--- What the tests of names tell: whether one fits its spelling, and whether two are the same.
+-- Tests of names: whether a name can be encoded, and whether two names are the same.
 use Rattle.std.proofs.Common.{◌≡◌, ℕ, ◌^◌, ◌<◌, ◌≤◌, Bool, true, false, ltb, List, [], ◌∷◌, length, refl, sym, ap, arith}
 use Rattle.std.specs.Prelude.{◌&&◌}
 use Rattle.std.specs.List.{flat_map, list_all, AllByRecursion}
@@ -91,7 +91,7 @@ long_lengths_fit p h =
     both_and (ltb (length p.components) (2 ^ 32)) (is_long p.realm && list_all is_long p.components) (lt-ltb (length p.components) (2 ^ 32) h.count)
     (both_and (is_long p.realm) (list_all is_long p.components) (lt-ltb (length p.realm) (2 ^ 32) h.realm) (fit_all (2 ^ 32) p.components h.components))
 
--- whether a name in a credential cache has a length of 64 bits
+-- whether the length of a name in a credential cache fits 64 bits
 abbrev pub has_cc_len : Parts → Bool
 has_cc_len p = cc_name_fits p && ltb (length (cc_principal p)) (2 ^ 64)
 
@@ -104,12 +104,12 @@ no_cc_len p not_so =
 pub some_cc_len : (p : Parts) → LongLengths p → length (cc_principal p) < 2 ^ 64 → true ≡ has_cc_len p
 some_cc_len p h lt = sym (both_and (cc_name_fits p) (ltb (length (cc_principal p)) (2 ^ 64)) (long_lengths_fit p h) (lt-ltb (length (cc_principal p)) (2 ^ 64) lt))
 
--- each component takes a byte at least
+-- each component takes at least one byte
 count_le : (o : Order) (cs : List (List ℕ)) → length cs ≤ length (flat_map (data32 o) cs)
 count_le o [] = omega arith
 count_le o (c ∷ cs) = omega (arith, count_le o cs, ap length (flat_map-cons (data32 o) c cs), length-append (data32 o c) (flat_map (data32 o) cs), length-append (digits o w32 (length c)) c, (wide32 o).len (length c))
 
--- more components than a count can tell are too long
+-- a name with more components than a count can hold is too long
 pub many_long : (p : Parts) → 2 ^ 32 ≤ length p.components → 2 ^ 32 ≤ length (cc_principal p)
 many_long p many =
     omega (arith, many, count_le Big p.components, length-append p.realm (flat_map (data32 Big) p.components))
@@ -127,7 +127,7 @@ same_told p q same_realm same_components =
     let components : pointwise bytes_eq p.components q.components ≡ true = (slice_eq-Decides bytes_eq-Decides p.components q.components (pointwise bytes_eq p.components q.components) refl).1 same_components in
     rw (realm, components) refl
 
--- a test whether realms and components are equal is the definition's
+-- a test whether realms and components are equal computes `have_same_name`
 pub same_name_is : (p q : Parts) (answer : Bool) → (answer ≡ true → (p.realm ≡ q.realm) × (p.components ≡ q.components)) → (p.realm ≡ q.realm → p.components ≡ q.components → answer ≡ true) → answer ≡ have_same_name p q
 same_name_is p q answer to from =
     same_bool answer (have_same_name p q) (λ e. let both = to e in same_told p q both.0 both.1) (λ e. let both = told_same p q e in from both.0 both.1)

@@ -21,7 +21,7 @@ unquoted-plain false true backslash b bs e = absurd (cc)
 unquoted-plain false false true b bs e = absurd (cc)
 unquoted-plain false false false b bs e = refl
 
--- a plain byte is an atom
+-- a plain byte is an atom of its own
 atoms-plain : (b : ℕ) (bs : List ℕ) → is_special b ≡ false → atoms (b ∷ bs) ≡ Byte b ∷ atoms bs
 atoms-plain b bs e = unquoted-plain (b == 47) (b == 64) (b == 92) b bs e
 
@@ -44,30 +44,30 @@ not-found : (count len : ℕ) (within : Bool) → nat_lt count len ≡ within �
 not-found count len true e none = absurd (cc)
 not-found count len false e none = ltb-false count len e
 
--- the text is cut where its first special byte stands
+-- a text is split at its first special byte
 pub plain_before : (text : List ℕ) (end : ℕ) → Some end ≡ position is_special text → (end < length text) × (atoms text ≡ map Byte (take end text) ++ atoms (drop end text))
 plain_before text end found =
     let at = found-within (plain_count text) (length text) end (nat_lt (plain_count text) (length text)) refl found in
     (at.1, subst (λ n. atoms text ≡ map Byte (take n text) ++ atoms (drop n text)) at.0 (cut-plain text))
 
--- without a special byte all are plain
+-- without a special byte, all bytes are plain
 pub plain_whole : (text : List ℕ) → None ≡ position is_special text → atoms text ≡ map Byte text ++ atoms []
 plain_whole text none =
     let all = not-found (plain_count text) (length text) (nat_lt (plain_count text) (length text)) refl none in
     subst (λ (run : List ℕ). atoms text ≡ map Byte run ++ atoms []) (take_all (plain_count text) text all)
     (subst (λ (rest : List ℕ). atoms text ≡ map Byte (take (plain_count text) text) ++ atoms rest) (drop_all (plain_count text) text all) (cut-plain text))
 
--- plain bytes before a text are of its first component
+-- plain bytes before a text belong to its first component
 pub first_component-plain : (run : List ℕ) (rest : List Atom) → first_component (map Byte run ++ rest) ≡ run ++ first_component rest
 first_component-plain [] rest = refl
 first_component-plain (b ∷ bs) rest = ap (λ (bytes : List ℕ). b ∷ bytes) (first_component-plain bs rest)
 
--- they end no component
+-- plain bytes end no component
 pub after_first-plain : (run : List ℕ) (rest : List Atom) → after_first (map Byte run ++ rest) ≡ after_first rest
 after_first-plain [] rest = refl
 after_first-plain (b ∷ bs) rest = after_first-plain bs rest
 
--- nor do they begin a realm
+-- plain bytes begin no realm
 pub after_at-plain : (run : List ℕ) (rest : List Atom) → after_at (map Byte run ++ rest) ≡ after_at rest
 after_at-plain [] rest = refl
 after_at-plain (b ∷ bs) rest = after_at-plain bs rest
@@ -84,7 +84,7 @@ realm_faults-plain : (run : List ℕ) (rest : List Atom) → filter_map realm_fa
 realm_faults-plain [] rest = refl
 realm_faults-plain (b ∷ bs) rest = realm_faults-plain bs rest
 
--- nothing is wrong with them
+-- plain bytes have no fault
 pub faults_from-plain : (in_realm : Bool) (run : List ℕ) (rest : List Atom) → faults_from in_realm (map Byte run ++ rest) ≡ faults_from in_realm rest
 faults_from-plain false run rest = rw (before_at-plain run rest, component_faults-plain run (before_at rest), after_at-plain run rest) refl
 faults_from-plain true run rest = realm_faults-plain run rest

@@ -1,4 +1,4 @@
--- Bytes that are quoted one by one, run by run and batch by batch.
+-- Quoting byte by byte, run by run and batch by batch.
 use Rattle.std.proofs.Common.{◌≡◌, ◌≢◌, ℕ, ◌+◌, ◌<◌, ◌≤◌, List, [], ◌∷◌, ◌++◌, cond, eqb, length, map, take, drop, set, get_or, refl, sym, ap, subst, ◌∙◌, append_assoc, append-nil, length-set, arith}
 use Rattle.std.specs.List.{All, flat_map, range_with_len}
 use Rattle.std.proofs.Math.Seq.{take-add}
@@ -12,11 +12,11 @@ use Rattle.krb_wire.specs.Quote.{quoted_byte, IsPlain, quote}
 
 -- ---- plain bytes
 
--- a plain byte more
+-- one more plain byte
 pub plain_step : (bytes : List ℕ) (i : ℕ) → i < length bytes → All IsPlain (take i bytes) → IsPlain (get_or bytes i 0) → All IsPlain (take (i + 1) bytes)
 plain_step bytes i lt before one = subst (All IsPlain) (sym (take_more bytes i 0 lt)) (All-append IsPlain (take i bytes) _ before (All-cons IsPlain _ [] one (All-nil IsPlain)))
 
--- a plain run more
+-- one more plain run
 pub plain_more : (bytes : List ℕ) (at n : ℕ) → All IsPlain (take at bytes) → All IsPlain (take n (drop at bytes)) → All IsPlain (take (at + n) bytes)
 plain_more bytes at n before run = subst (All IsPlain) (sym (take-add at n bytes)) (All-append IsPlain (take at bytes) _ before run)
 
@@ -26,7 +26,7 @@ plain_whole bytes at last le prefix rest =
     let before = subst (All IsPlain) (take-take last at bytes le) (All-take IsPlain last (take at bytes) prefix) in
     subst (All IsPlain) (take-append-drop last bytes) (All-append IsPlain (take last bytes) _ before rest)
 
--- plain bytes stand for themselves
+-- plain bytes are not quoted
 pub quote_plain : (bytes : List ℕ) → All IsPlain bytes → quote bytes ≡ bytes
 unfolding quote
 quote_plain [] p = refl
@@ -36,28 +36,28 @@ quote_plain (b ∷ bytes) p =
 
 -- ---- the table of letters
 
--- a byte as a table has it
+-- a byte as text, by a table
 by_table : List ℕ → ℕ → List ℕ
 by_table table b = cond (eqb (get_or table b 0) 46) (b ∷ []) (92 ∷ get_or table b 0 ∷ [])
 
--- two functions that are equal at the numbers below 256, listed
+-- functions with the same values in the list of the numbers below 256 are equal there
 same_at : (f h : ℕ → List ℕ) → map f (range_with_len 0 256) ≡ map h (range_with_len 0 256) → (b : ℕ) → b < 256 → f b ≡ h b
 same_at f h all b lt =
     sym (get_or-map-range_with_len f 0 256 b b [] lt (omega arith))
     ∙ ap (λ (l : List (List ℕ)). get_or l b []) all
     ∙ get_or-map-range_with_len h 0 256 b b [] lt (omega arith)
 
--- the table has each of the 256 bytes as the definition has it: both are computed
+-- the table agrees with the definition at each of the 256 bytes: both are computed
 quoted-table : (b : ℕ) → b < 256 → quoted_byte b ≡ by_table LETTERS b
 unfolding by_table
 quoted-table b lt = same_at quoted_byte (by_table LETTERS) refl b lt
 
--- a letter stands after a backslash
+-- a letter is written after a backslash
 by_table-letter : (table : List ℕ) (b : ℕ) → get_or table b 0 ≢ 46 → by_table table b ≡ 92 ∷ get_or table b 0 ∷ []
 unfolding by_table
 by_table-letter table b other = cond-false _ _ _ (ne_eqb _ _ other)
 
--- a byte that has a letter is a backslash and that letter
+-- a byte with a letter is quoted as a backslash and that letter
 pub quoted-letter : (b : ℕ) → b < 256 → get_or LETTERS b 0 ≢ 46 → quoted_byte b ≡ 92 ∷ get_or LETTERS b 0 ∷ []
 quoted-letter b lt other = quoted-table b lt ∙ by_table-letter LETTERS b other
 
@@ -69,7 +69,7 @@ stored text at x y room =
 
 -- ---- bytes as text
 
--- a byte more is quoted
+-- one more byte is quoted
 pub quote_step : (bytes : List ℕ) (i : ℕ) → i < length bytes → quote (take i bytes) ++ quoted_byte (get_or bytes i 0) ≡ quote (take (i + 1) bytes)
 unfolding quote
 quote_step bytes i lt =
@@ -87,7 +87,7 @@ pub quote_batch : (rest batch after : List ℕ) (n : ℕ) → batch ≡ take n r
 quote_batch rest batch after n is_batch is_after =
     sym (quote_parts n rest) ∙ ap (λ (t : List ℕ). quote t ++ quote (drop n rest)) (sym is_batch) ∙ ap (λ (t : List ℕ). quote batch ++ quote t) (sym is_after)
 
--- nothing is quoted as nothing
+-- empty text is quoted as empty text
 pub quote_none : (rest : List ℕ) → length rest ≡ 0 → quote rest ≡ []
 unfolding quote
 quote_none [] none = refl

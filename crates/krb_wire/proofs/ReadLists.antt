@@ -1,4 +1,4 @@
--- Items one after the other, each read in the same way.
+-- Lists of items, each read in the same way.
 use Rattle.std.proofs.Common.{◌≡◌, ℕ, zero, suc, ◌+◌, ◌-◌, ◌<◌, ◌≤◌, List, [], ◌∷◌, ◌++◌, length, Option, Some, None, refl, sym, ap, subst, ◌∙◌, append_assoc, arith}
 use Rattle.std.specs.Prelude.{option_map, slice_get, IsSome}
 use Rattle.std.specs.List.{flat_map, AllByRecursion}
@@ -8,7 +8,7 @@ use Rattle.krb_wire.specs.Reading.{◌>>=◌, list_at, list_in, list_end}
 use Rattle.krb_wire.proofs.Fields.{IsBytes, bind_some, some_is, is_some_has, Takes, Takes-then}
 use Rattle.krb_wire.proofs.Places.{IsField}
 
--- what reads one of them
+-- what reads one item
 abbrev pub Reader : Type 0 → Type 0
 Reader X = List ℕ → Option (X × List ℕ)
 
@@ -16,7 +16,7 @@ end_of_bind : {X : Type 0} (x : X) (o : Option (List X × List ℕ)) → option_
 end_of_bind x (Some y) = refl
 end_of_bind x None = refl
 
--- one more to skip
+-- skipping one more item
 skip_one : {X : Type 0} (read : Reader X) (n : ℕ) (bytes : List ℕ) (x : X) (after : List ℕ) → read bytes ≡ Some (x, after) → list_end read (suc n) bytes ≡ list_end read n after
 skip_one read n bytes x after e = rw e (end_of_bind x (list_at read n after))
 
@@ -51,7 +51,7 @@ first_and_others read n bytes x e =
 nothing : {X : Type 0} (read : Reader X) (bytes : List ℕ) (x : List X × List ℕ) → list_at read 0 bytes ≡ Some x → ([], bytes) ≡ x
 nothing read bytes x e = some_is ([], bytes) x e
 
--- as many as the count says
+-- the list has as many items as the count
 pub length_list : {X : Type 0} (read : Reader X) (n : ℕ) (bytes : List ℕ) (x : List X × List ℕ) → list_at read n bytes ≡ Some x → length x.0 ≡ n
 length_list {X = X} read zero bytes x e = ap (λ (y : List X × List ℕ). length y.0) (sym (nothing read bytes x e))
 length_list {X = X} read (suc n) bytes x e =
@@ -59,7 +59,7 @@ length_list {X = X} read (suc n) bytes x e =
     let ih : length f.1.0 ≡ n = length_list read n f.0.1 f.1 f.3 in
     ap (λ (y : List X × List ℕ). length y.0) (sym f.4) ∙ ap suc ih
 
--- the one at a place stands after those before it
+-- the item at an index is read after those before it
 pub nth : {X : Type 0} (read : Reader X) (n i : ℕ) (bytes : List ℕ) (x : List X × List ℕ) → list_at read n bytes ≡ Some x → i < n
     → (rest : List ℕ) × (found : X × List ℕ) × (list_end read i bytes ≡ Some rest) × (read rest ≡ Some found) × (slice_get x.0 i ≡ Some found.0)
 nth read zero i bytes x e lt = absurd (omega arith)

@@ -1,4 +1,4 @@
--- The text of a name has that name.
+-- The text of a name parses as that name.
 use Rattle.std.proofs.Common.{◌≡◌, ℕ, ◌<◌, false, List, [], ◌∷◌, ◌++◌, length, map, Option, None, Some, Ok, refl, sym, ap, ◌∙◌, arith, append_assoc, append-nil}
 use Rattle.std.specs.List.{filter_map, slice_split, onto_first}
 use Rattle.std.proofs.lemmas.Bool.Decides.{nat_tests}
@@ -15,7 +15,7 @@ use Rattle.krb_wire.proofs.TextLemmas.{joined_from, joined_is}
 atoms-quoted_byte : (b : ℕ) (rest : List ℕ) → atoms (quoted_byte b ++ rest) ≡ Byte b ∷ atoms rest
 atoms-quoted_byte b rest = grind (arith, nat_tests)
 
--- quoted bytes are their atoms
+-- the atoms of quoted bytes
 atoms-quote : (bs rest : List ℕ) → atoms (quote bs ++ rest) ≡ map Byte bs ++ atoms rest
 unfolding quote
 atoms-quote [] rest = refl
@@ -26,7 +26,7 @@ abbrev others_atoms : List (List ℕ) → List Atom → List Atom
 others_atoms [] tail = tail
 others_atoms (c ∷ cs) tail = Slash ∷ (map Byte c ++ others_atoms cs tail)
 
--- components after a `/` each are their atoms
+-- the atoms of the text of components, each after a `/`
 atoms-others : (cs : List (List ℕ)) (rest : List ℕ) → atoms (joined_from false cs ++ rest) ≡ others_atoms cs (atoms rest)
 atoms-others [] rest = refl
 atoms-others (c ∷ cs) rest =
@@ -36,11 +36,11 @@ atoms-others (c ∷ cs) rest =
 abbrev text_atoms : List ℕ → List (List ℕ) → List ℕ → List Atom
 text_atoms c cs realm = map Byte c ++ others_atoms cs (At ∷ map Byte realm)
 
--- the `@` and the realm are their atoms
+-- the atoms of the `@` and the realm
 atoms-realm : (realm : List ℕ) → atoms (64 ∷ quote realm) ≡ At ∷ map Byte realm
 atoms-realm realm = ap (λ (l : List Atom). At ∷ l) (ap atoms (sym (append-nil (quote realm))) ∙ atoms-quote realm [] ∙ append-nil (map Byte realm))
 
--- the text of a name is its atoms
+-- the text of a name has these atoms
 atoms-name_text : (p : Parts) (c : List ℕ) (cs : List (List ℕ)) → p.components ≡ c ∷ cs → atoms (name_text p) ≡ text_atoms c cs p.realm
 atoms-name_text p c cs e =
     let text : List ℕ = 64 ∷ quote p.realm in
@@ -48,17 +48,17 @@ atoms-name_text p c cs e =
     ∙ ap atoms (append_assoc (quote c) (joined_from false cs) text) ∙ atoms-quote c (joined_from false cs ++ text)
     ∙ ap (λ (l : List Atom). map Byte c ++ l) (atoms-others cs text ∙ ap (others_atoms cs) (atoms-realm p.realm))
 
--- nothing is wrong with bytes before an `@`
+-- bytes before an `@` have no fault
 faults_of-bytes : (bs : List ℕ) (rest : List Atom) → faults_of (map Byte bs ++ rest) ≡ faults_of rest
 faults_of-bytes [] rest = refl
 faults_of-bytes (b ∷ bs) rest = faults_of-bytes bs rest
 
--- nothing is wrong with bytes in a realm
+-- bytes in a realm have no fault
 faults-realm : (bs : List ℕ) → filter_map realm_fault (map Byte bs) ≡ []
 faults-realm [] = refl
 faults-realm (b ∷ bs) = faults-realm bs
 
--- nothing is wrong with a name's text
+-- a name's text has no fault
 faults_of-others : (cs : List (List ℕ)) (realm : List ℕ) → faults_of (others_atoms cs (At ∷ map Byte realm)) ≡ []
 faults_of-others [] realm = faults-realm realm
 faults_of-others (c ∷ cs) realm = faults_of-bytes c (others_atoms cs (At ∷ map Byte realm)) ∙ faults_of-others cs realm
@@ -68,7 +68,7 @@ split-bytes : (bs : List ℕ) (rest : List Atom) (ps : List (List Atom)) → sli
 split-bytes [] rest ps e = e
 split-bytes (b ∷ bs) rest ps e = ap (onto_first (Byte b)) (split-bytes bs rest ps e)
 
--- components after a `/` each are split there
+-- components, each after a `/`, are split there
 split-others : (cs : List (List ℕ)) (realm : List ℕ) → slice_split is_slash (before_at (others_atoms cs (At ∷ map Byte realm))) ≡ [] ∷ map (map Byte) cs
 split-others [] realm = refl
 split-others (c ∷ cs) realm = ap (λ (ps : List (List Atom)). [] ∷ ps) (split-bytes c (others_atoms cs (At ∷ map Byte realm)) (map (map Byte) cs) (split-others cs realm))
@@ -92,7 +92,7 @@ after_at-bytes : (bs : List ℕ) (rest : List Atom) → after_at (map Byte bs ++
 after_at-bytes [] rest = refl
 after_at-bytes (b ∷ bs) rest = after_at-bytes bs rest
 
--- the realm stands after the components
+-- the realm comes after the components
 after_at-others : (cs : List (List ℕ)) (realm : List ℕ) → after_at (others_atoms cs (At ∷ map Byte realm)) ≡ Some (map Byte realm)
 after_at-others [] realm = refl
 after_at-others (c ∷ cs) realm = after_at-bytes c (others_atoms cs (At ∷ map Byte realm)) ∙ after_at-others cs realm
@@ -102,7 +102,7 @@ realm-text : (c : List ℕ) (cs : List (List ℕ)) (realm : List ℕ) (d : Optio
 realm-text c cs realm d =
     rw (after_at-bytes c (others_atoms cs (At ∷ map Byte realm)) ∙ after_at-others cs realm) (ap Some (bytes_again realm))
 
--- the text of a name with these components has that name
+-- the text of a name with these components parses as that name
 named_again : (p : Parts) (d : Option (List ℕ)) (cs : List (List ℕ)) → p.components ≡ cs → 0 < length cs → name_of (name_text p) d ≡ Ok (record p { name_type = 1 })
 named_again p d [] e lt = absurd (omega arith)
 named_again p d (c ∷ cs) e lt =
@@ -110,7 +110,7 @@ named_again p d (c ∷ cs) e lt =
     let fault : first_fault (faults_of (text_atoms c cs p.realm)) ≡ None = ap first_fault (faults_of-bytes c (others_atoms cs (At ∷ map Byte p.realm)) ∙ faults_of-others cs p.realm) in
     rw (cut, fault, realm-text c cs p.realm d, components-text c cs p.realm ∙ sym e) refl
 
--- the text of a name with a component has that name
+-- the text of a name with a component parses as that name
 pub name_of-name_text : (p : Parts) (d : Option (List ℕ)) → 0 < length p.components → name_of (name_text p) d ≡ Ok (record p { name_type = 1 })
 name_of-name_text p d lt = named_again p d p.components refl lt
 

@@ -1,4 +1,4 @@
--- How a text grows, piece by piece.
+-- Appending a text piece by piece.
 use Rattle.std.proofs.Common.{◌≡◌, ℕ, ◌≤◌, List, [], ◌∷◌, ◌++◌, Bool, true, false, length, Vec, Result, Ok, Err, refl, sym, ap, ◌∙◌, append_assoc, append-nil, length-append, vec_capacity, arith}
 use Rattle.std.proofs.lemmas.Result.{on_err_weaker}
 use Rattle.krb_wire.specs.Quote.{quote}
@@ -13,17 +13,17 @@ Grew-none a b same = record { more = []; parts = same ∙ sym (append-nil a) }
 Grew-then : (a b c : List ℕ) → Grew a b → Grew b c → Grew a c
 Grew-then a b c p q = record { more = p.more ++ q.more; parts = q.parts ∙ ap (λ (x : List ℕ). x ++ q.more) p.parts ∙ append_assoc a p.more q.more }
 
--- who appended all or nothing appended all or a part
+-- appending all or nothing is appending all or a part
 pub appended_part : {A E : Type 0} (text : List ℕ) (old new : Vec ℕ A) (r : Result (Unit {0}) E) → Appended text old new r → AppendedPart text old new r
 appended_part text old new r h = record { ok = h.ok; err = on_err_weaker r (Grew-none old.items new.items) h.err; capacity = h.capacity; full = h.full }
 
--- one part of a text was appended, and the other is left
+-- one part of a text was appended, and the rest is left
 pub record Left {A : Type 0} (text left : List ℕ) (old out : Vec ℕ A) : Type 0 where
   pub parts : old.items ++ text ≡ out.items ++ left
   pub grew : Grew old.items out.items
   pub capacity : vec_capacity old ≤ vec_capacity out
 
--- at first all of it is left
+-- at first all of the text is left
 pub left_all : {A : Type 0} (text left : List ℕ) (out : Vec ℕ A) → text ≡ left → Left text left out out
 left_all text left out is = record { parts = ap (λ (t : List ℕ). out.items ++ t) is; grew = Grew-none out.items out.items refl; capacity = omega arith }
 
@@ -50,16 +50,16 @@ left_fails text left piece rest old out new e f h is refused = record {
       omega (arith, before, now, capacity, full, all, length-append old.items text, length-append out.items (piece ++ rest), length-append piece rest));
 }
 
--- nothing is left
+-- if nothing is left, the text was appended
 pub left_none : {A E : Type 0} (text left : List ℕ) (old out : Vec ℕ A) → Left text left old out → left ≡ [] → AppendedPart {E = E} text old out (Ok tt)
 left_none text left old out h none = record { ok = sym (append-nil out.items) ∙ ap (λ (t : List ℕ). out.items ++ t) (sym none) ∙ sym h.parts; err = tt; capacity = h.capacity; full = tt }
 
--- components of which the first has a `/` before it, or has none
+-- components as text, with a `/` before the first or not
 abbrev pub joined_from : Bool → List (List ℕ) → List ℕ
 joined_from first [] = []
 joined_from first (c ∷ cs) = (separator first ++ quote c) ++ joined_from false cs
 
--- joined with a `/` between each two, or with one before each but the first, is the same
+-- joining with a `/` between each two is the same as with one before each but the first
 pub joined_is : (cs : List (List ℕ)) → joined_components cs ≡ joined_from true cs
 unfolding joined_components
 joined_is [] = refl

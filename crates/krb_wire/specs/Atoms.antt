@@ -1,9 +1,9 @@
--- The text of a name, cut from the left into atoms: a backslash and the byte after it, or one byte.
+-- The text of a name, split from the left into atoms: a backslash and the byte after it, or one byte.
 use Rattle.std.specs.Prelude.{ℕ, Bool, true, false, List, [], ◌∷◌, Option, Some, None, if◌then◌else◌, ◌==◌, ◌||◌}
 use Rattle.krb_wire.specs.declared.atom.Atom.{Atom}
 use Rattle.krb_wire.specs.declared.atom.Atom.TheVariants.{Byte, Slash, At, Lone}
 
--- what a byte after a backslash stands for: `n`, `t`, `b` and `0` are newline, tab, backspace and NUL, and any other is itself
+-- what a byte after a backslash means: `n`, `t`, `b`, `0` are newline, tab, backspace, NUL, and any other is itself
 abbrev pub meaning : ℕ → ℕ
 meaning b =
     if b == 110 then 10
@@ -11,15 +11,15 @@ meaning b =
     else (if b == 98 then 8
     else (if b == 48 then 0 else b)))
 
--- an unquoted byte
+-- the atom of an unquoted byte
 abbrev pub unquoted_atom : ℕ → Atom
 unquoted_atom b = if b == 47 then Slash else (if b == 64 then At else Byte b)
 
--- a byte that stands for more than itself where it is not quoted: `/`, `@` and the backslash
+-- whether an unquoted byte is special: `/`, `@` or the backslash
 abbrev pub is_special : ℕ → Bool
 is_special b = b == 47 || b == 64 || b == 92
 
--- the atoms of a text, after a backslash or not
+-- the atoms of a text, after an open backslash or not
 abbrev pub atoms_after : Bool → List ℕ → List Atom
 atoms_after false [] = []
 atoms_after true [] = Lone ∷ []
@@ -30,7 +30,7 @@ atoms_after false (b ∷ bs) = if b == 92 then atoms_after true bs else unquoted
 abbrev pub atoms : List ℕ → List Atom
 atoms text = atoms_after false text
 
--- the byte that an atom stands for
+-- the byte of an atom
 abbrev pub byte_of : Atom → ℕ
 byte_of (Byte b) = b
 byte_of Slash = 47
@@ -44,7 +44,7 @@ is_slash Slash = true
 is_slash At = false
 is_slash Lone = false
 
--- what stands before the first `@`, or all where there is none
+-- the atoms before the first `@`, or all of them if there is none
 abbrev pub before_at : List Atom → List Atom
 before_at [] = []
 before_at (At ∷ rest) = []
@@ -52,7 +52,7 @@ before_at (Byte b ∷ rest) = Byte b ∷ before_at rest
 before_at (Slash ∷ rest) = Slash ∷ before_at rest
 before_at (Lone ∷ rest) = Lone ∷ before_at rest
 
--- what stands after the first `@`, if there is one
+-- the atoms after the first `@`, if there is one
 abbrev pub after_at : List Atom → Option (List Atom)
 after_at [] = None
 after_at (At ∷ rest) = Some rest

@@ -1,4 +1,4 @@
--- The name that a text has, or what is wrong with the text.
+-- The name that a text parses as, or the fault of the text.
 use Rattle.std.specs.Prelude.{ℕ, List, [], ◌∷◌, ◌++◌, map, Option, Some, None, option_map, unwrap_or, Result, Ok, Err, codes}
 use Rattle.std.specs.List.{filter_map, slice_split}
 use Rattle.std.specs.Option.{option_or}
@@ -25,21 +25,21 @@ name_fault_phrase SecondAt = codes "a second @"
 name_fault_phrase SlashInRealm = codes "a / in the realm"
 name_fault_phrase NoMemory = codes "out of memory"
 
--- what is wrong with an atom before any `@`
+-- the fault of an atom before any `@`
 abbrev pub component_fault : Atom → Option NameFault
 component_fault (Byte b) = None
 component_fault Slash = None
 component_fault At = None
 component_fault Lone = Some LoneBackslash
 
--- what is wrong with an atom of the realm
+-- the fault of an atom of the realm
 abbrev pub realm_fault : Atom → Option NameFault
 realm_fault (Byte b) = None
 realm_fault Slash = Some SlashInRealm
 realm_fault At = Some SecondAt
 realm_fault Lone = Some LoneBackslash
 
--- all that is wrong, from left to right: before the first `@`, then after it
+-- all faults, from left to right: before the first `@`, then after it
 abbrev pub faults_of : List Atom → List NameFault
 faults_of text = filter_map component_fault (before_at text) ++ filter_map realm_fault (unwrap_or (after_at text) [])
 
@@ -48,20 +48,20 @@ abbrev pub first_fault : List NameFault → Option NameFault
 first_fault [] = None
 first_fault (fault ∷ others) = Some fault
 
--- the components: what stands before any `@`, split at each `/`
+-- the components: the text before any `@`, split at each `/`
 abbrev pub components_of : List Atom → List (List ℕ)
 components_of text = map (map byte_of) (slice_split is_slash (before_at text))
 
--- the realm: what stands after the `@`, or else the default realm
+-- the realm: the text after the first `@`, or else the default realm
 abbrev pub realm_of : List Atom → Option (List ℕ) → Option (List ℕ)
 realm_of text default_realm = option_or (option_map (map byte_of) (after_at text)) default_realm
 
--- the leftmost fault, or that there is no realm, or the name, of type 1: a principal
+-- the leftmost fault, or `NoRealm` if there is no realm, or else the name, of type 1: a principal
 abbrev pub name_or_fault : Option NameFault → Option (List ℕ) → List (List ℕ) → Result Parts NameFault
 name_or_fault (Some fault) realm components = Err fault
 name_or_fault None None components = Err NoRealm
 name_or_fault None (Some realm) components = Ok (record { name_type = 1; realm = realm; components = components })
 
--- the name of a text, or its fault
+-- the name that a text parses as, or its fault
 abbrev pub name_of : List ℕ → Option (List ℕ) → Result Parts NameFault
 name_of text default_realm = name_or_fault (first_fault (faults_of (atoms text))) (realm_of (atoms text) default_realm) (components_of (atoms text))

@@ -4,17 +4,17 @@ use Rattle.std.specs.Borrow.{MutBor}
 use Rattle.std.specs.List.{splice}
 use Rattle.krb_wire.specs.declared.pen.Pen.{Pen}
 
--- a pen writes over these bytes, and begins at this place
+-- a pen writes over these bytes and starts at this place
 pub record IsAt (out : MutBor (List ℕ)) (at : ℕ) (pen : Pen) : Type 0 where
   pub same_bytes : pen.out.ghost_name ≡ out.ghost_name
   pub bytes : pen.out.now ≡ out.now
   pub place : pen.at ≡ at
 
--- there is room for a text from the place on
+-- there is room for a text from the pen's place on
 abbrev pub HasRoom : Pen → List ℕ → Type 0
 HasRoom pen text = pen.at + length text ≤ length pen.out.now
 
--- a text was written at the place, which is now after it, and no other byte was
+-- a text was written at the pen's place, which is now after it, and no other byte was
 pub record Puts (old new : Pen) (text : List ℕ) : Type 0 where
   pub same_bytes : new.out.ghost_name ≡ old.out.ghost_name
   pub place : new.at ≡ old.at + length text

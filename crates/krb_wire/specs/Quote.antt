@@ -2,7 +2,7 @@
 use Rattle.std.specs.Prelude.{◌≡◌, ℕ, List, [], ◌∷◌, if◌then◌else◌, ◌==◌}
 use Rattle.std.specs.List.{flat_map}
 
--- a byte as text: `/`, `@` and the backslash after a backslash, newline, tab, backspace and NUL as `\n`, `\t`, `\b` and `\0`, and any other byte as itself
+-- a byte as text: `\/`, `\@`, `\\`; `\n`, `\t`, `\b`, `\0` for newline, tab, backspace, NUL; any other as itself
 abbrev pub quoted_byte : ℕ → List ℕ
 quoted_byte b =
     if b == 47 then 92 ∷ 47 ∷ []
@@ -14,7 +14,7 @@ quoted_byte b =
     else (if b == 0 then 92 ∷ 48 ∷ []
     else b ∷ []))))))
 
--- a byte that stands for itself
+-- a byte that is not quoted
 abbrev pub IsPlain : ℕ → Type 0
 IsPlain b = quoted_byte b ≡ b ∷ []
 

@@ -1,4 +1,4 @@
--- Reading from left to right: a part and the bytes after it, where the bytes begin with one.
+-- Reading from left to right: a part and the bytes after it, if the bytes begin with one.
 use Rattle.std.specs.Prelude.{◌≡◌, ℕ, zero, suc, ◌≤◌, ◌-◌, List, [], ◌∷◌, length, take, drop, Option, Some, None, nat_lt, if◌then◌else◌, option_map, unwrap_or, map, Vec}
 use Rattle.std.specs.Int.{Width, w16, w32, byte_len}
 use Rattle.std.specs.Vec.{vec_items}
@@ -11,12 +11,12 @@ use Rattle.krb_wire.specs.declared.format.KtFormat.{KtFormat}
 use Rattle.krb_wire.specs.Spelling.{Parts, number, order_of, counted_realms, has_name_type}
 
 infixl 10 ◌>>=◌
--- the next step of a reading, where the step before it found something
+-- the next step of a reading, if the step before it found something
 abbrev pub ◌>>=◌ : {A B : Type 0} → Option A → (A → Option B) → Option B
 (Some x) >>= f = f x
 None >>= f = None
 
--- the answer of a call, seen by view, is what the definition reads
+-- the result of a call, mapped by `view`, is what the definition reads
 abbrev pub Gives : {X Y : Type 0} → (X → Y) → Option X → Option Y → Type 0
 Gives view (Some x) read = read ≡ Some (view x)
 Gives view None read = read ≡ None
@@ -40,11 +40,11 @@ counted_at o w bytes = do
   n ← number_at o w bytes
   bytes_at n.0 n.1
 
--- the counted data that the bytes begin with, where its length has sixteen bits
+-- the counted data that the bytes begin with, with a length of 16 bits
 unfoldable pub data16_at : Order → List ℕ → Option (List ℕ × List ℕ)
 data16_at o bytes = counted_at o w16 bytes
 
--- the counted data that the bytes begin with, where its length has thirty-two bits
+-- the counted data that the bytes begin with, with a length of 32 bits
 unfoldable pub data32_at : Order → List ℕ → Option (List ℕ × List ℕ)
 data32_at o bytes = counted_at o w32 bytes
 
@@ -61,11 +61,11 @@ list_at read (suc n) bytes = do
   others ← list_at read n first.1
   Some (first.0 ∷ others.0, others.1)
 
--- those items, or none where the bytes begin with fewer
+-- those items, or none if the bytes begin with fewer
 abbrev pub list_in : {X : Type 0} → (List ℕ → Option (X × List ℕ)) → ℕ → List ℕ → List X
 list_in read n bytes = unwrap_or (option_map (λ x. x.0) (list_at read n bytes)) []
 
--- the bytes after them
+-- the bytes after those items, if there are that many
 abbrev pub list_end : {X : Type 0} → (List ℕ → Option (X × List ℕ)) → ℕ → List ℕ → Option (List ℕ)
 list_end read n bytes = option_map (λ x. x.1) (list_at read n bytes)
 
@@ -73,11 +73,11 @@ list_end read n bytes = option_map (λ x. x.1) (list_at read n bytes)
 unfoldable pub components_at : Order → ℕ → List ℕ → Option (List (List ℕ) × List ℕ)
 components_at o n bytes = list_at (data16_at o) n bytes
 
--- how many components a count stands for
+-- how many components a count field means, or `None` if it is less than the realms that it counts
 abbrev pub components_of_count : KtFormat → ℕ → Option ℕ
 components_of_count f n = if nat_lt n (counted_realms f) then None else Some (n - counted_realms f)
 
--- the name type that the bytes begin with, or 0 where none is written
+-- the name type that the bytes begin with, or 0 if the format has none
 abbrev pub name_type_at : KtFormat → List ℕ → Option (ℕ × List ℕ)
 name_type_at f bytes = if has_name_type f then number_at Big w32 bytes else Some (0, bytes)
 
@@ -100,7 +100,7 @@ cc_principal_at bytes = do
   components ← list_at (data32_at Big) count.0 realm.1
   Some (record { name_type = name_type.0; realm = realm.0; components = components.0 }, components.1)
 
--- the answer of a call at a place, a part seen by view and the place after it, is what the definition reads there
+-- the result of a call at a place, a part mapped by `view` and the place after it, is what the definition reads there
 abbrev pub ReadsAt : {X Y : Type 0} → (X → Y) → List ℕ → Option (X × ℕ) → Option (Y × List ℕ) → Type 0
 ReadsAt view bytes (Some x) read = (read ≡ Some (view x.0, drop x.1 bytes)) × (x.1 ≤ length bytes)
 ReadsAt view bytes None read = read ≡ None
@@ -109,6 +109,6 @@ ReadsAt view bytes None read = read ≡ None
 abbrev pub items_of : {A Z : Type 0} → List (Vec A Z) → List (List A)
 items_of vs = map vec_items vs
 
--- what an owned name is
+-- the name type, realm and components of an owned name
 abbrev pub principal_parts : {A : Type 0} → Principal A → Parts
 principal_parts p = record { name_type = p.name_type; realm = vec_items p.realm; components = items_of (vec_items p.components) }

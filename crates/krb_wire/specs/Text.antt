@@ -1,8 +1,8 @@
--- Text that is appended.
+-- Appending text.
 use Rattle.std.specs.Prelude.{◌≡◌, ◌<◌, ◌≤◌, ℕ, ◌+◌, List, [], ◌∷◌, ◌++◌, length, if◌then◌else◌, Bool, Vec, Result, OnOk, OnErr}
 use Rattle.std.specs.Vec.{vec_len, vec_capacity}
 
--- what stands before a component: a `/`, but nothing before the first
+-- what comes before a component: a `/`, but nothing before the first
 abbrev pub separator : Bool → List ℕ
 separator first = if first then [] else 47 ∷ []
 
@@ -11,11 +11,11 @@ pub record Grew (old new : List ℕ) : Type 0 where
   pub more : List ℕ
   pub parts : new ≡ old ++ more
 
--- the text did not fit the room that was there
+-- the text did not fit the free capacity
 abbrev pub HadNoRoom : {A : Type 0} → Vec ℕ A → List ℕ → Type 0
 HadNoRoom old text = vec_capacity old < vec_len old + length text
 
--- the text was appended; or an allocation failed, nothing was appended, and the text did not fit the room that was there
+-- the text was appended; or an allocation failed, nothing was appended, and the text did not fit the free capacity
 pub record Appended {A E : Type 0} (text : List ℕ) (old new : Vec ℕ A) (result : Result (Unit {0}) E) : Type 0 where
   pub ok : OnOk result (new.items ≡ old.items ++ text)
   pub err : OnErr result (new.items ≡ old.items)

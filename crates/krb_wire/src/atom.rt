@@ -1,11 +1,11 @@
-//! The text of a name, cut into atoms.
+//! The text of a name, split into atoms.
 
 ghost use Rattle.std.specs.Prelude.{◌≡◌, ◌<◌, ◌≤◌, [], ◌∷◌, ◌++◌, length, map, MatchOption};
 ghost use Rattle.std.specs.List.{position};
 ghost use Rattle.krb_wire.specs.declared.atom.Atom.TheVariants.{Byte};
 ghost use Rattle.krb_wire.specs.Atoms.{atoms, is_special, meaning, unquoted_atom};
 
-// A byte that stands for itself or is quoted, an unquoted `/` or `@`, or a backslash that ends the text.
+// A plain or quoted byte, an unquoted `/` or `@`, or a backslash that ends the text.
 #[derive(Clone, Copy, PartialEq, Eq)]
 pub enum Atom {
     Byte(u8),
@@ -36,21 +36,21 @@ fn plain_atom(byte: u8) -> Atom
     }
 }
 
-// Whether an unquoted byte stands for more than itself: `/`, `@` and the backslash.
+// Returns whether an unquoted byte is special: `/`, `@` or the backslash.
 fn is_special(byte: u8) -> bool
     ensures { result ≡ is_special byte }
 {
     matches!(byte, b'/' | b'@' | b'\\')
 }
 
-// Where the first special byte stands.
+// Returns the index of the first special byte.
 fn plain_end(text: &[u8]) -> Option<usize>
     ensures { result ≡ position is_special text.now }
 {
     text.iter().position(|byte| is_special(*byte))
 }
 
-// The plain bytes that a text begins with, and the text after them.
+// Splits off the plain bytes that a text begins with.
 pub fn split_plain(text: &[u8]) -> (&[u8], &[u8])
     ensures cut { atoms text.now ≡ map Byte result.0.now ++ atoms result.1.now }
     ensures shorter { length result.1.now ≤ length text.now }
@@ -61,7 +61,7 @@ pub fn split_plain(text: &[u8]) -> (&[u8], &[u8])
     }
 }
 
-// The first atom of a text, and the text after it.
+// Splits off the first atom of a text, or returns `None` if the text is empty.
 pub fn next_atom(text: &[u8]) -> Option<(Atom, &[u8])>
     ensures cut { MatchOption result (text.now ≡ []) (λ x. atoms text.now ≡ x.0 ∷ atoms x.1.now) }
     ensures shorter { MatchOption result (text.now ≡ []) (λ x. length x.1.now < length text.now) }

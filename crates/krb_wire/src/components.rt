@@ -9,8 +9,7 @@ use crate::format::{Lengths, Order};
 use std::alloc::Allocator;
 use std::marker::Model;
 
-/// The components of a name that are still to come: first those that are owned, then those that are
-/// spelled in bytes.
+/// An iterator over the components of a name: first those that are owned, then those that are encoded in bytes.
 #[derive(Drop)]
 pub struct Components<'a, A: Allocator> {
     kept: &'a [Vec<u8, A>],
@@ -27,7 +26,7 @@ impl<'a, A: Allocator> Model for Components<'a, A> {
     ghost invariant = { λ c. IsSome (list_at (data_at c.lengths) c.count c.spelled.now) };
 }
 
-// The first of the `count` components that the bytes begin with, and the bytes after it.
+// Splits off the first of the `count` components that the bytes begin with, or returns `None` if `count` is 0.
 fn first_of(lengths: Lengths, count: usize, bytes: &[u8]) -> Option<(&[u8], &[u8])>
     requires { IsSome (list_at (data_at lengths) count bytes.now) }
     ensures first { MatchOption result (list_in (data_at lengths) count bytes.now ≡ [])
@@ -45,7 +44,7 @@ fn first_of(lengths: Lengths, count: usize, bytes: &[u8]) -> Option<(&[u8], &[u8
 }
 
 impl<'a, A: Allocator> Components<'a, A> {
-    /// Owned components.
+    /// Returns an iterator over owned components.
     pub fn kept(components: &'a [Vec<u8, A>]) -> Components<'a, A>
         ensures { result ≡ items_of components.now }
     {
@@ -57,7 +56,7 @@ impl<'a, A: Allocator> Components<'a, A> {
         }
     }
 
-    /// The `count` components that the bytes begin with.
+    /// Returns an iterator over the `count` components that the bytes begin with.
     pub fn spelled(lengths: Lengths, count: usize, bytes: &'a [u8]) -> Components<'a, A>
         requires { IsSome (list_at (data_at lengths) count bytes.now) }
         ensures { result ≡ list_in (data_at lengths) count bytes.now }

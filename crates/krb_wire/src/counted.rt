@@ -7,7 +7,7 @@ ghost use Rattle.krb_wire.specs.Reading.{Gives, ReadsAt, bytes_at, data16_at, da
 use crate::format::{Lengths, Order};
 use crate::numbers::{split_u16, split_u32};
 
-// The first `len` bytes, and those after them.
+// Splits off the first `len` bytes.
 #[inline(always)]
 fn split_len(len: usize, bytes: &[u8]) -> Option<(&[u8], &[u8])>
     ensures { Gives (λ x. (x.0.now, x.1.now)) result (bytes_at len bytes.now) }
@@ -18,7 +18,7 @@ fn split_len(len: usize, bytes: &[u8]) -> Option<(&[u8], &[u8])>
     Some(bytes.split_at(len))
 }
 
-/// The counted data that the bytes begin with, without its length of 16 bits, and the bytes after it.
+/// Splits off counted data with a length of 16 bits. Returns it without its length, and the bytes after it.
 #[tactic(auto, unfolding(crate::specs::Reading::data16_at))]
 pub fn split_data16(order: Order, bytes: &[u8]) -> Option<(&[u8], &[u8])>
     ensures { Gives (λ x. (x.0.now, x.1.now)) result (data16_at order bytes.now) }
@@ -27,7 +27,7 @@ pub fn split_data16(order: Order, bytes: &[u8]) -> Option<(&[u8], &[u8])>
     split_len(len as usize, rest)
 }
 
-/// The counted data that the bytes begin with, without its length of 32 bits, and the bytes after it.
+/// Splits off counted data with a length of 32 bits. Returns it without its length, and the bytes after it.
 #[tactic(auto, unfolding(crate::specs::Reading::data32_at))]
 pub fn split_data32(order: Order, bytes: &[u8]) -> Option<(&[u8], &[u8])>
     ensures { Gives (λ x. (x.0.now, x.1.now)) result (data32_at order bytes.now) }
@@ -36,7 +36,7 @@ pub fn split_data32(order: Order, bytes: &[u8]) -> Option<(&[u8], &[u8])>
     split_len(len as usize, rest)
 }
 
-/// The counted data that the bytes begin with, without its length, and the bytes after it.
+/// Splits off counted data. Returns it without its length, and the bytes after it.
 #[inline(always)]
 pub fn split_data(lengths: Lengths, bytes: &[u8]) -> Option<(&[u8], &[u8])>
     ensures { Gives (λ x. (x.0.now, x.1.now)) result (data_at lengths bytes.now) }
@@ -47,7 +47,7 @@ pub fn split_data(lengths: Lengths, bytes: &[u8]) -> Option<(&[u8], &[u8])>
     }
 }
 
-/// The bytes from a place on.
+/// Returns the bytes from `at` on.
 pub fn tail(bytes: &[u8], at: usize) -> &[u8]
     requires { at ≤ length bytes.now }
     ensures { result.now ≡ drop at bytes.now }
@@ -55,7 +55,7 @@ pub fn tail(bytes: &[u8], at: usize) -> &[u8]
     bytes.split_at(at).1
 }
 
-// The counted data at a place, without its length, and the place after it.
+// Reads the counted data at `at`. Returns it without its length, and the place after it.
 #[inline(always)]
 fn data_from(lengths: Lengths, bytes: &[u8], at: usize) -> Option<(&[u8], usize)>
     ensures { ReadsAt (λ v. v.now) bytes.now result (data_at lengths (drop at bytes.now)) }
@@ -68,12 +68,12 @@ fn data_from(lengths: Lengths, bytes: &[u8], at: usize) -> Option<(&[u8], usize)
     Some((text, bytes.len() - after.len()))
 }
 
-/// The counted data at a place, without its length of 16 bits, and the place after it.
+/// Reads the counted data at `at`, with a length of 16 bits. Returns it without its length, and the place after it.
 pub fn read_data16(order: Order, bytes: &[u8], at: usize) -> Option<(&[u8], usize)>
-    // What is read has this spelling.
+    // What is read has this encoding.
     ensures found { IfSome result (λ x. IsShort x.0.now
         × Stands bytes.now at x.1 (data16 order x.0.now)) }
-    // What has this spelling is read.
+    // What has this encoding is read.
     ensures only { (text rest : List ℕ) → IsShort text
         → drop at bytes.now ≡ data16 order text ++ rest
         → ReadsAt (λ v. v.now) bytes.now result (Some (text, rest)) }
@@ -82,12 +82,12 @@ pub fn read_data16(order: Order, bytes: &[u8], at: usize) -> Option<(&[u8], usiz
     data_from(Lengths::Bits16(order), bytes, at)
 }
 
-/// The counted data at a place, without its length of 32 bits, and the place after it.
+/// Reads the counted data at `at`, with a length of 32 bits. Returns it without its length, and the place after it.
 pub fn read_data32(order: Order, bytes: &[u8], at: usize) -> Option<(&[u8], usize)>
-    // What is read has this spelling.
+    // What is read has this encoding.
     ensures found { IfSome result (λ x. IsLong x.0.now
         × Stands bytes.now at x.1 (data32 order x.0.now)) }
-    // What has this spelling is read.
+    // What has this encoding is read.
     ensures only { (text rest : List ℕ) → IsLong text
         → drop at bytes.now ≡ data32 order text ++ rest
         → ReadsAt (λ v. v.now) bytes.now result (Some (text, rest)) }

@@ -1,25 +1,25 @@
-//! How a keytab spells its numbers and names.
+//! How a keytab encodes its numbers and names.
 
 ghost use Rattle.std.specs.Prelude.{◌≡◌, ◌<◌, ◌^◌, ◌↔◌, IsSome, IfSome};
 ghost use Rattle.krb_wire.specs.Spelling.{version_byte, order_of, counted_realms, has_name_type, count_field};
 ghost use Rattle.krb_wire.specs.Reading.{components_of_count};
 
-/// Which byte of a number comes first.
+/// The byte order of a number.
 #[derive(Clone, Copy, Debug, PartialEq, Eq)]
 pub enum Order {
     Big,
     Little,
 }
 
-/// How wide the lengths of counted data are, and which byte of them comes first.
+/// The width and the byte order of the lengths of counted data.
 #[derive(Clone, Copy, Debug, PartialEq, Eq)]
 pub enum Lengths {
     Bits16(Order),
     Bits32(Order),
 }
 
-/// The version of a keytab. Version 1 has the order of the machine that wrote it; version 2 is
-/// big-endian (MIT krb5, "Keytab file format").
+/// The version of a keytab. Version 1 has the byte order of the machine that wrote it; version 2 is big-endian (MIT
+/// krb5, "Keytab file format").
 #[derive(Clone, Copy, Debug, PartialEq, Eq)]
 pub enum KtFormat {
     V1(Order),
@@ -27,7 +27,7 @@ pub enum KtFormat {
 }
 
 impl KtFormat {
-    /// The order of its numbers.
+    /// Returns the byte order of its numbers.
     pub fn order(self) -> Order
         ensures { result ≡ order_of self }
     {
@@ -37,7 +37,7 @@ impl KtFormat {
         }
     }
 
-    /// The second byte of a keytab.
+    /// Returns the second byte of a keytab.
     pub fn version(self) -> u8
         ensures { result ≡ version_byte self }
     {
@@ -57,14 +57,14 @@ impl KtFormat {
         }
     }
 
-    /// How many components a count stands for. Version 1 counts the realm too, so there 0 is no count.
+    /// Returns how many components the count field means. Version 1 counts the realm too, so a count of 0 gives `None`.
     pub fn components_of(self, field: u16) -> Option<usize>
         ensures { result ≡ components_of_count self field }
     {
         (field as usize).checked_sub(self.counted_realms())
     }
 
-    /// The count that is written for this many components, if it fits 16 bits.
+    /// Returns the count field for that many components, or `None` if it does not fit 16 bits.
     pub fn count_of(self, components: usize) -> Option<u16>
         ensures some { IsSome result ↔ (count_field self components < 2 ^ 16) }
         ensures value { IfSome result (λ n. n ≡ count_field self components) }
@@ -73,7 +73,7 @@ impl KtFormat {
         u16::try_from(field).ok()
     }
 
-    /// Whether names have a type. Version 1 has none, and each reads as 0.
+    /// Returns whether names have a type. Version 1 has none, and each reads as 0.
     pub fn has_name_type(self) -> bool
         ensures { result ≡ has_name_type self }
     {

@@ -1,4 +1,4 @@
-//! Names, counted data and numbers of Kerberos files, read from bytes and written over them without
+//! Principal names, counted data and numbers of Kerberos files, read from bytes and written in place without
 //! allocating, and names as text.
 #![tactic(auto)]
 

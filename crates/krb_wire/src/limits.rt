@@ -8,7 +8,7 @@ const LEAST: u32 = 2;
 
 const MOST: u32 = 1 << 30;
 
-/// The usual limit of an image, and of all that is read of one input: 16 MiB.
+/// The usual limit of an image, and of what is read of one input: 16 MiB.
 pub const USUAL_LIMIT: u32 = 1 << 24;
 
 /// The greatest length of an image, in bytes: at least 2 and at most 1,073,741,824.
@@ -28,7 +28,7 @@ impl Model for Limits {
 }
 
 impl Limits {
-    /// At most that many bytes.
+    /// Returns a limit of `image` bytes, or `None` if it is out of range.
     pub fn of(image: u32) -> Option<Limits>
         ensures range { IsSome result ↔ ((2 ≤ image) × (image ≤ 1073741824)) }
         ensures value { IfSome result (λ l. l ≡ image) }
@@ -39,14 +39,14 @@ impl Limits {
         Some(Limits { image })
     }
 
-    /// At most 16,777,216 bytes.
+    /// Returns the limit of 16,777,216 bytes.
     pub fn usual() -> Limits
         ensures { result ≡ 16777216 }
     {
         Limits { image: USUAL_LIMIT }
     }
 
-    /// The greatest length.
+    /// Returns the greatest length of an image, in bytes.
     pub fn image(&self) -> u32
         ensures value { result ≡ self.now }
         ensures least { 2 ≤ result }

@@ -11,7 +11,7 @@ use thiserror::Error;
 pub struct NoMemory;
 
 impl NoMemory {
-    /// What it is, in words.
+    /// Returns its description in words.
     pub fn phrase(self) -> &'static str
         ensures { result.now ≡ codes "out of memory" }
     {

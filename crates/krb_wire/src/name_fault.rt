@@ -6,7 +6,7 @@ ghost use Rattle.krb_wire.specs.NameOf.{name_fault_number, name_fault_phrase};
 use std::fmt;
 use thiserror::Error;
 
-/// Why a text gives no name.
+/// Why a text is not a name.
 #[derive(Clone, Copy, Debug, PartialEq, Eq, Error)]
 pub enum NameFault {
     /// It has no unquoted `@`, and there is no default realm.
@@ -22,7 +22,7 @@ pub enum NameFault {
 }
 
 impl NameFault {
-    /// Its number, from 1 on in the order above.
+    /// Returns its number, counted from 1 in the order above.
     pub fn number(self) -> u32
         ensures { result ≡ name_fault_number self }
     {
@@ -35,7 +35,7 @@ impl NameFault {
         }
     }
 
-    /// What it is, in words.
+    /// Returns its description in words.
     pub fn phrase(self) -> &'static str
         ensures { result.now ≡ name_fault_phrase self }
     {

@@ -1,4 +1,4 @@
-//! Numbers of 8, 16 and 32 bits, in either order.
+//! Numbers of 8, 16 and 32 bits, in either byte order.
 
 ghost use Rattle.std.specs.Prelude.{◌≡◌, ◌≤◌, length};
 ghost use Rattle.std.specs.Int.{w16, w32};
@@ -8,7 +8,7 @@ ghost use Rattle.krb_wire.specs.Reading.{Gives, number_at, byte_at};
 use crate::format::Order;
 use byteorder::{BigEndian, ByteOrder, LittleEndian};
 
-/// The number in the first two bytes.
+/// Returns the number in the first two bytes.
 pub fn read_u16(order: Order, bytes: &[u8]) -> u16
     requires { 2 ≤ length bytes.now }
     ensures { result ≡ number order w16 bytes.now }
@@ -19,7 +19,7 @@ pub fn read_u16(order: Order, bytes: &[u8]) -> u16
     }
 }
 
-/// The number in the first four bytes.
+/// Returns the number in the first four bytes.
 pub fn read_u32(order: Order, bytes: &[u8]) -> u32
     requires { 4 ≤ length bytes.now }
     ensures { result ≡ number order w32 bytes.now }
@@ -30,7 +30,7 @@ pub fn read_u32(order: Order, bytes: &[u8]) -> u32
     }
 }
 
-/// The first byte, and the bytes after it.
+/// Splits off the first byte.
 pub fn split_u8(bytes: &[u8]) -> Option<(u8, &[u8])>
     ensures { Gives (λ x. (x.0, x.1.now)) result (byte_at bytes.now) }
 {
@@ -38,7 +38,7 @@ pub fn split_u8(bytes: &[u8]) -> Option<(u8, &[u8])>
     Some((*first, rest))
 }
 
-/// The number in the first two bytes, and the bytes after it.
+/// Splits off the number in the first two bytes.
 pub fn split_u16(order: Order, bytes: &[u8]) -> Option<(u16, &[u8])>
     ensures { Gives (λ x. (x.0, x.1.now)) result (number_at order w16 bytes.now) }
 {
@@ -49,7 +49,7 @@ pub fn split_u16(order: Order, bytes: &[u8]) -> Option<(u16, &[u8])>
     Some((read_u16(order, front), rest))
 }
 
-/// The number in the first four bytes, and the bytes after it.
+/// Splits off the number in the first four bytes.
 pub fn split_u32(order: Order, bytes: &[u8]) -> Option<(u32, &[u8])>
     ensures { Gives (λ x. (x.0, x.1.now)) result (number_at order w32 bytes.now) }
 {
@@ -60,7 +60,7 @@ pub fn split_u32(order: Order, bytes: &[u8]) -> Option<(u32, &[u8])>
     Some((read_u32(order, front), rest))
 }
 
-/// The two bytes of a number.
+/// Returns the two bytes of a number.
 #[inline]
 pub fn bytes_of_u16(order: Order, n: u16) -> [u8; 2]
     ensures { result ≡ digits order w16 n }
@@ -73,7 +73,7 @@ pub fn bytes_of_u16(order: Order, n: u16) -> [u8; 2]
     bytes
 }
 
-/// The four bytes of a number.
+/// Returns the four bytes of a number.
 #[inline]
 pub fn bytes_of_u32(order: Order, n: u32) -> [u8; 4]
     ensures { result ≡ digits order w32 n }

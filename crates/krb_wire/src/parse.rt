@@ -1,4 +1,4 @@
-//! Names from text, after krb5_parse_name.
+//! Names from text, like krb5_parse_name.
 
 ghost use Rattle.std.specs.Prelude.{◌≡◌, ◌<◌, ◌≤◌, Bool, ◌⊎◌, length, Ok, Err, Some, None, IsOk, IfOk, IfErr, IfSome, MatchOption, option_map, option_copied};
 ghost use Rattle.krb_wire.specs.Reading.{items_of, principal_parts};
@@ -11,7 +11,7 @@ use crate::name_fault::NameFault;
 use crate::principal::Principal;
 use std::alloc::{AllocError, Allocator};
 
-// The text from its first special byte on. The plain bytes before it have no fault and begin no realm.
+// Returns the text from its first special byte on. The plain bytes before it have no fault and begin no realm.
 fn from_special(text: &[u8]) -> &[u8]
     ensures faults { (in_realm : Bool) → first_fault (faults_from in_realm (atoms result.now))
         ≡ first_fault (faults_from in_realm (atoms text.now)) }
@@ -21,7 +21,7 @@ fn from_special(text: &[u8]) -> &[u8]
     split_plain(text).1
 }
 
-// The leftmost fault. What follows it is not read.
+// Returns the leftmost fault. What follows it is not read.
 fn leftmost_fault(text: &[u8]) -> Option<NameFault>
     ensures { result ≡ first_fault (faults_of (atoms text.now)) }
 {
@@ -40,7 +40,7 @@ fn leftmost_fault(text: &[u8]) -> Option<NameFault>
     None
 }
 
-// The text after the first unquoted `@`.
+// Returns the text after the first unquoted `@`.
 fn realm_text(text: &[u8]) -> Option<&[u8]>
     ensures { option_map (λ realm. atoms realm.now) result ≡ after_at (atoms text.now) }
 {
@@ -54,7 +54,7 @@ fn realm_text(text: &[u8]) -> Option<&[u8]>
     None
 }
 
-// Why a text gives no name, apart from memory.
+// Returns why a text is not a name, apart from memory.
 fn fault_of(text: &[u8], default_realm: Option<&[u8]>) -> Option<NameFault>
     ensures { MatchOption result (IsOk (name_of text.now (option_copied default_realm.entry)))
         (λ fault. name_of text.now (option_copied default_realm.entry) ≡ Err fault) }
@@ -68,7 +68,7 @@ fn fault_of(text: &[u8], default_realm: Option<&[u8]>) -> Option<NameFault>
     None
 }
 
-// The first component, and the text after the `/` that ends it, if one does.
+// Returns the first component, and the text after the `/` that ends it, if one does.
 fn read_first_component<A: Allocator>(
     alloc: A,
     text: &[u8],
@@ -94,7 +94,7 @@ fn read_first_component<A: Allocator>(
     Ok((bytes, None))
 }
 
-// All components, in order.
+// Returns all components, in order.
 fn read_components<A: Allocator + Copy>(
     alloc: A,
     text: &[u8],
@@ -113,7 +113,7 @@ fn read_components<A: Allocator + Copy>(
     }
 }
 
-// What stands after the `@`, or else a copy of the default realm.
+// Returns the realm after the `@`, or else a copy of the default realm.
 fn read_realm<A: Allocator>(
     alloc: A,
     text: &[u8],
@@ -123,7 +123,7 @@ fn read_realm<A: Allocator>(
     ensures { IfOk result (λ v. realm_of (atoms text.now) (option_copied default_realm.entry)
         ≡ Some v.items) }
 {
-    // A sound realm has neither `/` nor `@`, so it reads like a component.
+    // A realm without a fault has neither `/` nor `@`, so it reads like a component.
     if let Some(realm) = realm_text(text) {
         let (bytes, _) = read_first_component(alloc, realm)?;
         return Ok(bytes);
@@ -152,10 +152,10 @@ fn read_name<A: Allocator + Copy>(
     })
 }
 
-/// The name that a text has, of type 1. Components are separated by `/`, and the realm stands after
-/// an `@` or is the default realm. A backslash quotes the next byte: `\n`, `\t`, `\b` and `\0` are
-/// newline, tab, backspace and NUL, and any other byte is itself. The fault is the leftmost of a
-/// backslash at the end, a second `@` and a `/` in the realm; a missing realm comes after these.
+/// Parses a text as a name of type 1. Components are separated by `/`, and the realm follows an `@` or is the default
+/// realm. A backslash quotes the next byte: `\n`, `\t`, `\b` and `\0` are newline, tab, backspace and NUL, and any
+/// other byte is itself. The fault is the leftmost of a backslash at the end, a second `@` and a `/` in the realm; a
+/// missing realm comes after these.
 pub fn parse_name<A: Allocator + Copy>(
     alloc: A,
     text: &[u8],

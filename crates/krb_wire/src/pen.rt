@@ -1,4 +1,4 @@
-//! Bytes that are written over, one part after the other.
+//! Overwriting bytes in place, one part after the other.
 
 ghost use Rattle.std.specs.Prelude.{◌≡◌, ◌∷◌, [], replicate};
 ghost use Rattle.std.specs.Int.{w16, w32};
@@ -7,7 +7,7 @@ ghost use Rattle.krb_wire.specs.Spelling.{digits, data16, data32, data_text, Fit
 use crate::format::{Lengths, Order};
 use crate::numbers::{bytes_of_u16, bytes_of_u32};
 
-/// Bytes, and the place in them where the next ones are written.
+/// A writer over existing bytes, and the place where it writes next.
 #[derive(Drop)]
 pub struct Pen<'a> {
     out: &'a mut [u8],
@@ -17,7 +17,7 @@ pub struct Pen<'a> {
 impl<'a> Pen<'a> {
     ghost use Rattle.krb_wire.specs.Pen.{IsAt, HasRoom, Puts};
 
-    /// A pen that writes over the bytes from a place on.
+    /// Returns a pen that overwrites `out` from `at` on.
     #[inline]
     pub fn new(out: &'a mut [u8], at: usize) -> Pen<'a>
         ensures { IsAt out.entry at result }
@@ -25,7 +25,7 @@ impl<'a> Pen<'a> {
         Pen { out, at }
     }
 
-    /// The place where the next bytes are written.
+    /// Returns the place where the next bytes are written.
     #[inline]
     pub fn place(&self) -> usize
         ensures { result ≡ self.now.at }
@@ -72,7 +72,7 @@ impl<'a> Pen<'a> {
         self.at = end;
     }
 
-    /// Writes this many zeros.
+    /// Writes `count` zeros.
     #[inline]
     pub fn put_zeros(&mut self, count: usize)
         requires { HasRoom self.old (replicate count 0) }

@@ -58,7 +58,7 @@ fn copy_components<N: Name, A: Allocator + Copy>(
     Ok(all)
 }
 
-/// An owned copy: the same name type, realm and components.
+/// Returns an owned copy with the same name type, realm and components.
 pub fn copy_name<N: Name, A: Allocator + Copy>(alloc: A, name: &N) -> Result<Principal<A>, NoMemory>
     ensures { IfOk result (λ p. principal_parts p ≡ N.parts name.now) }
 {

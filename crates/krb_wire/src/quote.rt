@@ -7,14 +7,14 @@ ghost use Rattle.krb_wire.specs.Text.{Appended, AppendedPart};
 
 use std::alloc::{AllocError, Allocator};
 
-// False of each byte that is quoted.
+// Returns false for each byte that is quoted.
 fn is_plain(byte: u8) -> bool
     ensures { IsTrue result → IsPlain byte }
 {
     (byte > b'\n') & (byte != b'/') & (byte != b'@') & (byte != b'\\')
 }
 
-// False where a byte is quoted. It reads all bytes, many at once.
+// Returns false if a byte is quoted. Reads all bytes, many at once.
 #[inline(always)]
 fn is_plain_run(bytes: &[u8]) -> bool
     ensures { IsTrue result → All IsPlain bytes.now }
@@ -26,7 +26,7 @@ fn is_plain_run(bytes: &[u8]) -> bool
     plain
 }
 
-// False where a byte is quoted. It tests N bytes at a time; the last run may overlap the one before.
+// Returns false if a byte is quoted. Tests N bytes at a time; the last run may overlap the one before.
 #[inline(always)]
 fn is_plain_in_runs<const N: usize>(bytes: &[u8]) -> bool
     requires nonzero { 0 < N }
@@ -44,12 +44,12 @@ fn is_plain_in_runs<const N: usize>(bytes: &[u8]) -> bool
     is_plain_run(&bytes[last..])
 }
 
-// How many bytes are tested at once, in texts that are at least as long.
+// How many bytes are tested at once, if the text is that long.
 const LONG_RUN: usize = 16;
 
 const SHORT_RUN: usize = 4;
 
-// Whether the bytes stand for themselves, as those of most names do.
+// True only if no byte is quoted, as in most names.
 fn is_plain_text(bytes: &[u8]) -> bool
     ensures { IsTrue result → All IsPlain bytes.now }
 {
@@ -73,7 +73,7 @@ static LETTERS: [u8; 256] = *b"\
     ................................\
     ................................";
 
-// Writes a byte, quoted where it has to be; the answer is the place after it.
+// Writes a byte, quoted if it has to be, and returns the place after it.
 #[inline(always)]
 fn put_quoted(byte: u8, text: &mut [u8], at: usize) -> usize
     requires { at + 2 ≤ length text.old }
@@ -119,7 +119,7 @@ fn push_in_batches<A: Allocator>(out: &mut Vec<u8, A>, bytes: &[u8]) -> Result<(
     Ok(())
 }
 
-// Appends a component or a realm.
+// Appends a component or a realm, quoted.
 #[inline]
 pub fn push_quote<A: Allocator>(out: &mut Vec<u8, A>, bytes: &[u8]) -> Result<(), AllocError>
     ensures { AppendedPart (quote bytes.now) out.old out.new result }

@@ -24,7 +24,7 @@ fn same_components<A: Allocator, B: Allocator>(
     other.next().is_none()
 }
 
-/// Whether the realms and the components are equal. Name types do not count.
+/// Returns whether the realms and the components are equal. Name types are ignored.
 pub fn same_name<N: Name, M: Name>(one: &N, other: &M) -> bool
     ensures { result ≡ have_same_name (N.parts one.now) (M.parts other.now) }
 {

@@ -1,4 +1,4 @@
-//! Names as files spell them.
+//! Names as files encode them.
 
 ghost use Rattle.std.specs.List.{flat_map, AllByRecursion};
 ghost use Rattle.krb_wire.specs.Pen.{HasRoom, Puts};

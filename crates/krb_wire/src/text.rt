@@ -1,4 +1,4 @@
-//! Text that is appended, and names as text, after krb5_unparse_name.
+//! Appending text, and names as text, like krb5_unparse_name.
 
 ghost use Rattle.std.specs.Prelude.{◌≡◌, ◌++◌, ℕ, List, Vec, vec_len};
 ghost use Rattle.krb_wire.specs.Quote.{quote};
@@ -10,7 +10,7 @@ use crate::name::Name;
 use crate::quote::push_quote;
 use std::alloc::{AllocError, Allocator};
 
-/// Cuts `out` back to its first `len` bytes where an append failed.
+/// Truncates `out` to its first `len` bytes if an append failed.
 pub fn all_or_nothing<E: Drop, A: Allocator>(
     appended: Result<(), E>,
     len: usize,
@@ -63,8 +63,8 @@ fn push_name<N: Name, A: Allocator>(name: &N, out: &mut Vec<u8, A>) -> Result<()
     push_quote(out, name.realm())
 }
 
-/// Appends the name's text: the components joined by `/`, an `@` and the realm, with a backslash
-/// before what would be read otherwise. A name without components is `@` and its realm.
+/// Appends the name's text: the components joined by `/`, an `@` and the realm, with a backslash before each byte that
+/// must be quoted. A name without components is `@` and its realm.
 pub fn write_name<N: Name, A: Allocator>(name: &N, out: &mut Vec<u8, A>) -> Result<(), NoMemory>
     ensures { Appended (name_text (N.parts name.now)) out.old out.new result }
 {

@@ -30,7 +30,7 @@ impl<'a> Model for PrincipalView<'a> {
     ghost invariant = { λ v. IsSome (list_at (data_at v.lengths) v.count v.components.now) };
 }
 
-// The name type that the bytes begin with, or 0 where the format has none.
+// Splits off the name type, or returns 0 if the format has none.
 fn name_type_of(format: KtFormat, bytes: &[u8]) -> Option<(u32, &[u8])>
     ensures { Gives (λ x. (x.0, x.1.now)) result (name_type_at format bytes.now) }
 {
@@ -40,7 +40,7 @@ fn name_type_of(format: KtFormat, bytes: &[u8]) -> Option<(u32, &[u8])>
     split_u32(Order::Big, bytes)
 }
 
-// The bytes after `count` components.
+// Returns the bytes after `count` components.
 fn skip_components(lengths: Lengths, count: usize, bytes: &[u8]) -> Option<&[u8]>
     ensures { Gives (λ x. x.now) result (list_end (data_at lengths) count bytes.now) }
 {
@@ -64,7 +64,7 @@ fn component_at(lengths: Lengths, count: usize, bytes: &[u8], i: usize) -> Optio
     Some(component)
 }
 
-/// The name that the bytes begin with, as a keytab spells it, and the bytes after it.
+/// Splits off the name that the bytes begin with, as a keytab encodes it. Returns it and the bytes after it.
 #[inline(always)]
 #[tactic(auto, unfolding(crate::specs::Reading::kt_principal_at, crate::specs::Reading::components_at))]
 pub fn split_kt_principal(format: KtFormat, bytes: &[u8]) -> Option<(PrincipalView<'_>, &[u8])>
@@ -89,7 +89,7 @@ pub fn split_kt_principal(format: KtFormat, bytes: &[u8]) -> Option<(PrincipalVi
     ))
 }
 
-/// The name that the bytes begin with, as a credential cache spells it, and the bytes after it.
+/// Splits off the name that the bytes begin with, as a credential cache encodes it. Returns it and the bytes after it.
 #[inline(always)]
 #[tactic(auto, unfolding(crate::specs::Reading::cc_principal_at))]
 pub fn split_cc_principal(bytes: &[u8]) -> Option<(PrincipalView<'_>, &[u8])>
@@ -154,16 +154,16 @@ fn kt_principal_from(
     Some((name, bytes.len() - after.len()))
 }
 
-/// The name that a keytab has at a place, and the place after it.
+/// Reads the name at `at` in a keytab. Returns it and the place after it.
 pub fn read_kt_principal(
     format: KtFormat,
     bytes: &[u8],
     at: usize,
 ) -> Option<(PrincipalView<'_>, usize)>
-    // What is read has this spelling.
+    // What is read has this encoding.
     ensures found { IfSome result (λ x. FitsKt format x.0
         × Stands bytes.now at x.1 (kt_principal format x.0)) }
-    // What has this spelling is read.
+    // What has this encoding is read.
     ensures only { (p : Parts) (rest : List ℕ) → FitsKt format p
         → drop at bytes.now ≡ kt_principal format p ++ rest
         → ReadsAt (λ v. v) bytes.now result (Some (p, rest)) }
@@ -184,13 +184,13 @@ fn cc_principal_from(bytes: &[u8], at: usize) -> Option<(PrincipalView<'_>, usiz
     Some((name, bytes.len() - after.len()))
 }
 
-/// The name that a credential cache has at a place, and the place after it (MIT krb5, "Credential cache
-/// file format", section "Principal").
+/// Reads the name at `at` in a credential cache (MIT krb5, "Credential cache file format", section "Principal").
+/// Returns it and the place after it.
 pub fn read_cc_principal(bytes: &[u8], at: usize) -> Option<(PrincipalView<'_>, usize)>
-    // What is read has this spelling.
+    // What is read has this encoding.
     ensures found { IfSome result (λ x. FitsCc x.0
         × Stands bytes.now at x.1 (cc_principal x.0)) }
-    // What has this spelling is read.
+    // What has this encoding is read.
     ensures only { (p : Parts) (rest : List ℕ) → FitsCc p
         → drop at bytes.now ≡ cc_principal p ++ rest
         → ReadsAt (λ v. v) bytes.now result (Some (p, rest)) }

@@ -1,9 +1,9 @@
-//! What is wrong with a command line that was not matched.
+//! Finds the mistake in a command line that clap did not match.
 
 use clap::{Arg, ArgAction, Command};
 use krb_commands::{BadLine, Mistake};
 
-// Whether a word is an option, or a bundle of options, unless `--` stands before it.
+// Returns whether a word is an option or a bundle of options, if no `--` comes before it.
 fn is_option(word: &str) -> bool {
     word.len() > 1 && word.starts_with('-')
 }
@@ -12,22 +12,22 @@ fn has_long(options: &[Arg<'_>], name: &str) -> bool {
     options.iter().any(|option| option.get_long() == Some(name))
 }
 
-/// Whether an option has that letter.
+/// Returns whether an option has that letter.
 pub fn has_letter(options: &[Arg<'_>], letter: char) -> bool {
     options
         .iter()
         .any(|option| option.get_short() == Some(letter))
 }
 
-/// Whether the option of that letter takes a value.
+/// Returns whether the option of that letter takes a value.
 pub fn takes_value(options: &[Arg<'_>], letter: char) -> bool {
     options.iter().any(|option| {
         option.get_short() == Some(letter) && option.get_action() == ArgAction::Append
     })
 }
 
-// Whether the value of an option of that bundle is the next word, or the first letter that the command does not
-// know. A bundle of flags that gives a value is named whole.
+// Returns whether a bundle needs the next word as a value, or else its first unknown letter as a mistake. If that is
+// `=`, after flags, the mistake names the whole bundle.
 fn wants_next<'a>(options: &[Arg<'_>], word: &'a str) -> Result<bool, Mistake<'a>> {
     let Some(letters) = word.strip_prefix("-") else {
         return Ok(false);
@@ -46,7 +46,7 @@ fn wants_next<'a>(options: &[Arg<'_>], word: &'a str) -> Result<bool, Mistake<'a
     }
 }
 
-// The same of a word that is an option or a bundle of them.
+// Returns whether an option or a bundle of options needs the next word as a value, or else the mistake in it.
 fn wants_value<'a>(options: &[Arg<'_>], word: &'a str) -> Result<bool, Mistake<'a>> {
     match word.strip_prefix("--") {
         Some(name) if has_long(options, name) => Ok(false),
@@ -55,7 +55,7 @@ fn wants_value<'a>(options: &[Arg<'_>], word: &'a str) -> Result<bool, Mistake<'
     }
 }
 
-// The first mistake in the words behind a command: one that it does not know, or else what it lacks.
+// Returns the first mistake in the words after a command: one that it does not accept, or else what is missing.
 fn mistake_behind<'a>(command: &Command<'a>, words: &'a [String]) -> Mistake<'a> {
     let options = command.get_arguments();
     let mut operands = options.iter().filter(|arg| arg.is_positional());
@@ -90,7 +90,7 @@ fn mistake_behind<'a>(command: &Command<'a>, words: &'a [String]) -> Mistake<'a>
     }
 }
 
-// That a word stands where a command is due.
+// Returns the mistake of a word where a command is expected.
 fn no_command(word: &str) -> Mistake<'_> {
     if word == "--explain" {
         Mistake::Twice(word)
@@ -101,7 +101,7 @@ fn no_command(word: &str) -> Mistake<'_> {
     }
 }
 
-// The mistake in words that ask for the help of a command.
+// Returns the mistake in the words after `help`.
 fn mistake_of_help<'a>(krbfile: &Command<'a>, words: &'a [String]) -> Mistake<'a> {
     match words {
         [] => Mistake::NoCommand,
@@ -116,7 +116,7 @@ fn mistake_of_help<'a>(krbfile: &Command<'a>, words: &'a [String]) -> Mistake<'a
     }
 }
 
-/// The words behind the program's name, and behind `--explain` where it stands first.
+/// Returns the words after the program's name, and after `--explain` if that comes first.
 pub fn words_behind(words: &[String]) -> &[String] {
     match words {
         [_, first, rest @ ..] if first.as_str() == "--explain" => rest,
@@ -125,7 +125,7 @@ pub fn words_behind(words: &[String]) -> &[String] {
     }
 }
 
-/// The first mistake in words that `krbfile` has not matched; the first of them is the program's name.
+/// Returns the first mistake in words that `krbfile` did not match; the first word is the program's name.
 pub fn bad_line<'a>(krbfile: &Command<'a>, words: &'a [String]) -> BadLine<'a> {
     let (mistake, command) = match words_behind(words) {
         [] => (Mistake::NoCommand, None),

@@ -2,7 +2,7 @@
 
 use std::time::{Clock, SystemTime, UNIX_EPOCH};
 
-/// The seconds since 1970, unless the clock fails or they do not fit.
+/// Returns the seconds since 1970, or `None` if the clock fails or they do not fit.
 pub fn seconds_now<C: Clock>(clock: &C) -> Option<u32> {
     let now = SystemTime::now(clock).ok()?;
     let since_1970 = now.duration_since(UNIX_EPOCH).ok()?;

@@ -1,10 +1,10 @@
-//! The command lines, as clap knows them.
+//! The command lines, for clap.
 
 use clap::{Arg, ArgAction, Command};
 use krb_commands::{COMMANDS, CommandWords, Word};
 use std::alloc::{AllocError, Global};
 
-/// The version, and the toolchain whose proofs and compiler it stands on.
+/// The version, and the toolchain that proves and compiles it.
 const VERSION: &str = "1.0 (rattle logic dac8208d650f15bf)";
 
 fn arg_of<'a>(alloc: Global, word: Word) -> Arg<'a> {
@@ -45,7 +45,7 @@ fn command_of<'a>(alloc: Global, line: &CommandWords) -> Result<Command<'a>, All
     Ok(command)
 }
 
-// The program's own words.
+// Returns the program's command without subcommands.
 fn top_command<'a>(alloc: Global) -> Result<Command<'a>, AllocError> {
     let help = "Say in words too what goes wrong, as on a terminal; stands first";
     Command::new(alloc, "krbfile")
@@ -55,7 +55,7 @@ fn top_command<'a>(alloc: Global) -> Result<Command<'a>, AllocError> {
         .arg(arg_of(alloc, Word::LongFlag("explain", help)))
 }
 
-// Whether a word is the name of a command.
+// Returns whether a word is the name of a command.
 fn is_command(word: Option<&str>) -> bool {
     COMMANDS.iter().any(|line| word == Some(line.name))
 }
@@ -68,8 +68,8 @@ fn with_line<'a>(
     all.subcommand(command_of(alloc, line)?)
 }
 
-/// The command lines: where the word is a command's name that of this command alone, so that a run does not build
-/// the others, and else all.
+/// Returns the command lines: if the word is a command's name, only that command's, so that a run does not build the
+/// others, and otherwise all.
 pub fn krbfile_command<'a>(alloc: Global, word: Option<&str>) -> Result<Command<'a>, AllocError> {
     let mut krbfile = top_command(alloc)?;
     let is_alone = is_command(word);

@@ -4,7 +4,7 @@ use crate::bad_line::{has_letter, takes_value, words_behind};
 use clap::{Arg, Command};
 use std::alloc::{AllocError, Global};
 
-// A word of letters whose last takes the rest as its value, where that begins with `=`: up to the value, and the value.
+// Splits a bundle of known letters before its value, if that begins with `=`, and returns both parts.
 fn split_at_equals<'a>(options: &[Arg<'_>], word: &'a str) -> Option<(&'a str, &'a str)> {
     let letters = word.strip_prefix("-")?;
     let (flags, value) = letters.split_once(|letter: char| takes_value(options, letter))?;
@@ -13,7 +13,7 @@ fn split_at_equals<'a>(options: &[Arg<'_>], word: &'a str) -> Option<(&'a str, &
     (is_known && value.starts_with("=")).then_some((front, value))
 }
 
-/// Doubles each `=` with which the value of a short option begins: clap takes one away, as behind a long option.
+/// Doubles each `=` at the start of a short option's value: clap removes one, as after a long option.
 pub fn double_equals(
     alloc: Global,
     krbfile: &Command<'_>,

@@ -1,4 +1,4 @@
-//! From the words of the command line to the status.
+//! Runs the command line and returns the exit status.
 
 ghost use Rattle.std.specs.Prelude.{ℕ, Option, Result, IsFalse};
 ghost use Rattle.krb_commands.specs.declared.action.Action.{Action};
@@ -14,13 +14,13 @@ use std::io::{Read, Write};
 use std::{env, io, rt};
 use wiping::Wiping;
 
-/// Whether `--explain` is the first word after the program's name. The others may be no text.
+/// Returns whether `--explain` is the first word after the program's name. The others need not be UTF-8.
 pub fn asks_to_explain<R: rt::Env>(rt: &R) -> bool {
     let mut word = [0; 9];
     matches!(rt.arg(1, &mut word), Ok(9)) && word == *b"--explain"
 }
 
-// The words of the command line. One that is not text makes a bad line.
+// Returns the words of the command line. If one is not UTF-8, the line is bad.
 fn words_of<R: rt::Env + AllocGlobal>(rt: &R) -> Result<Vec<String>, WordFault<'static>> {
     match env::args(rt) {
         Ok(words) => Ok(words.collect(rt.alloc())?),
@@ -29,7 +29,7 @@ fn words_of<R: rt::Env + AllocGlobal>(rt: &R) -> Result<Vec<String>, WordFault<'
     }
 }
 
-// What the words of the command line ask for.
+// Returns the action that the words of the command line request.
 fn asked<'a>(
     alloc: Global,
     words: &'a mut Result<Vec<String>, WordFault<'static>>,
@@ -40,8 +40,8 @@ fn asked<'a>(
     }
 }
 
-/// Does what the words of the command line ask for, and answers the status. The clock is read once, and only where
-/// the run needs it. Memory that it gives back is cleared.
+/// Runs the command line and returns the exit status. The clock is read at most once, and only if the run needs it.
+/// The action runs in memory that is cleared before it is freed.
 pub fn run<H: rt::Env + rt::Clock + AllocGlobal, F: Files, R: Read, W: Write, E: Write>(
     rt: &H,
     files: &mut F,
@@ -49,7 +49,7 @@ pub fn run<H: rt::Env + rt::Clock + AllocGlobal, F: Files, R: Read, W: Write, E:
 ) -> u8
     requires { IsFalse streams.old.out.failed }
 
-    // Something was asked for, or the line was not read, and that and the clock decide the run.
+    // The action, or the mistake in the line, and the clock decide the run.
     ensures { (asked : Result Action WordFault) × (now : Option ℕ)
         × EndsAsked F.Files now streams.old.input streams.new.input files.old files.new
         streams.old.out streams.new.out streams.old.err streams.new.err result asked }

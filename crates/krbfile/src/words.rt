@@ -1,4 +1,4 @@
-//! The words of a command line.
+//! Parses the words of a command line.
 
 use crate::bad_line::{bad_line, words_behind};
 use crate::command_lines::krbfile_command;
@@ -8,11 +8,11 @@ use clap::error::ErrorKind;
 use krb_commands::{Action, COMMANDS, Matches, Mistake, WordFault, action_of};
 use std::alloc::Global;
 
-/// What clap matched of a command's words.
+/// The matches of clap for a command's words.
 #[derive(Drop)]
 struct Matched<'m, 'a> {
     found: &'m ArgMatches<'a>,
-    /// The values of an option that is not given.
+    /// The values of an absent option: none.
     none: &'m [&'a str],
 }
 
@@ -47,7 +47,7 @@ impl<'a> Matches<'a> for Matched<'_, 'a> {
     }
 }
 
-// What a command and its words ask for.
+// Returns the action that a command and its words request.
 fn command_action<'a>(
     alloc: Global,
     matches: &ArgMatches<'a>,
@@ -62,7 +62,7 @@ fn command_action<'a>(
     Err(WordFault::of(Mistake::NoCommand))
 }
 
-/// What the words ask for; the first is the program's name.
+/// Returns the action that the words request; the first word is the program's name.
 pub fn parse_words<'a>(
     alloc: Global,
     words: &'a mut [String],
@@ -77,7 +77,7 @@ pub fn parse_words<'a>(
     };
     match error.kind() {
         ErrorKind::OutOfMemory => Err(WordFault::NoMemory),
-        // Help or the version, where it was asked for, is no fault.
+        // Requested help, or the version, is no error.
         ErrorKind::DisplayHelp | ErrorKind::DisplayVersion => {
             Ok(Action::Help(format!(in alloc; "{error}")?))
         }

@@ -1,5 +1,5 @@
-//! Tests of the program's crates by their public calls, and of what tests stand on. They are a crate of their own, since
-//! a crate with tests is proved twice.
+//! Tests of the program's crates through their public calls, and of the test helpers. They are a crate of their own,
+//! since a crate with tests is proved twice.
 #![tactic(auto)]
 
 #[cfg(test)]

@@ -1,3 +1,3 @@
--- What the contracts of this crate say.
+-- The definitions that the contracts of this crate use.
 pub mod Plan
 pub mod Refusing

@@ -1,4 +1,4 @@
--- What a refusing allocator shows.
+-- What contracts see of a refusing allocator.
 use Rattle.refusing.specs.declared.allocator.Refusing.{Refusing}
 
 -- the allocator that it passes requests on to

@@ -4,7 +4,7 @@ use crate::meter::Meter;
 use crate::plan::Plan;
 use std::alloc::{AllocError, Allocator};
 
-/// Passes each request on to the allocator below it, but for those that it is told to refuse.
+/// An allocator that refuses chosen requests, and passes the others on to the allocator below it.
 ///
 /// A request is a call of `allocate`: a collection's first block, each growth and each shrinking.
 pub struct Refusing<B: Allocator> {
@@ -15,7 +15,7 @@ pub struct Refusing<B: Allocator> {
 impl<B: Allocator> Refusing<B> {
     ghost use Rattle.refusing.specs.Refusing.{inner_of};
 
-    /// An allocator that refuses nothing yet.
+    /// Returns an allocator over `inner` that refuses nothing yet.
     pub fn new(inner: B) -> Refusing<B>
         ensures { inner_of result ≡ inner }
     {
@@ -25,12 +25,12 @@ impl<B: Allocator> Refusing<B> {
         }
     }
 
-    /// Refuses the n-th request from now on and no other; none where n is 0.
+    /// Refuses the n-th request from now on and no other; none if n is 0.
     pub fn refuse(&self, nth: u64) {
         self.meter.follow(Plan::RefuseOne(nth));
     }
 
-    /// Refuses the n-th request from now on and each one after it, until `grant`; each where n is 0.
+    /// Refuses the n-th request from now on and each one after it, until `grant`; each if n is 0.
     pub fn refuse_from(&self, nth: u64) {
         self.meter.follow(Plan::RefuseFrom(nth));
     }
@@ -40,17 +40,17 @@ impl<B: Allocator> Refusing<B> {
         self.meter.grant();
     }
 
-    /// Whether a request was refused since the last `refuse` or `refuse_from`.
+    /// Returns whether a request was refused since the last `refuse` or `refuse_from`.
     pub fn refused(&self) -> bool {
         self.meter.tally().refusals != 0
     }
 
-    /// The requests since then, with those refused.
+    /// Returns the number of requests since then, refused ones included.
     pub fn requests(&self) -> u64 {
         self.meter.tally().requests
     }
 
-    /// The blocks that were granted and not given back. One that the allocator below refused counts as granted.
+    /// Returns how many blocks were granted and not freed. One that the allocator below refused counts as granted.
     pub fn live_blocks(&self) -> u64 {
         self.meter.tally().live_blocks
     }

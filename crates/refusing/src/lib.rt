@@ -1,4 +1,4 @@
-//! An allocator that refuses chosen requests, a sweep that refuses each request of a call in turn, and a reader that counts its calls.
+//! An allocator that refuses chosen requests, a sweep over the requests of a call, and a reader that counts its calls.
 #![tactic(auto)]
 
 mod allocator;

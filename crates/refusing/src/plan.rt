@@ -1,6 +1,6 @@
 ghost use Rattle.std.specs.Prelude.{◌↔◌, ℕ, ◌+◌, ◌<◌, IsTrue};
 
-/// Which of the requests to come are refused. The next one is the first.
+/// Which of the requests from now on are refused. The next one is the first.
 #[derive(Clone, Copy)]
 pub enum Plan {
     GrantAll,
@@ -13,7 +13,7 @@ pub enum Plan {
 impl Plan {
     ghost use Rattle.refusing.specs.Plan.{Refuses};
 
-    /// Whether the next request is refused.
+    /// Returns whether the next request is refused.
     pub fn refuses_next(self) -> bool
         ensures { IsTrue result ↔ Refuses self 1 }
     {
@@ -24,7 +24,7 @@ impl Plan {
         }
     }
 
-    /// The plan for the requests after the next one.
+    /// Returns the plan for the requests after the next one.
     pub fn after_next(self) -> Plan
         ensures { (nth : ℕ) → 0 < nth → (Refuses result nth ↔ Refuses self (nth + 1)) }
     {

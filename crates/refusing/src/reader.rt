@@ -4,19 +4,19 @@ ghost use Rattle.std.specs.Io.KnownBytes.{ReadConsumes};
 
 use std::io::{self, Read};
 
-/// Gives the bytes of a slice, at most `most` at a time, and counts the calls.
+/// A reader of the bytes of a slice, at most `most` at a time, that counts its calls.
 #[derive(Drop)]
 pub struct CountedReader<'a> {
-    /// The bytes that were not given yet.
+    /// The bytes that were not read yet.
     pub rest: &'a [u8],
     most: usize,
-    /// The calls of `read`.
+    /// The number of calls of `read`.
     pub calls: u64,
     ghost gives_some: { 0 < most },
 }
 
 impl<'a> CountedReader<'a> {
-    /// A reader of those bytes.
+    /// Returns a reader of `bytes`.
     pub fn new(bytes: &'a [u8], most: usize) -> CountedReader<'a>
         requires { 0 < most }
         ensures rest { result.rest ≡ bytes.entry }
@@ -30,7 +30,7 @@ impl<'a> CountedReader<'a> {
     }
 }
 
-// The first of these bytes, which are then no longer there.
+// Removes the first `count` bytes and returns them.
 fn take_front<'a>(bytes: &mut &'a [u8], count: usize) -> &'a [u8]
     requires { count ≤ length bytes.old.now }
     ensures front { result.now ≡ take count bytes.old.now }

@@ -4,15 +4,15 @@ ghost use Rattle.refusing.specs.Plan.{Refuses};
 
 use crate::plan::Plan;
 
-/// What an allocator is told to refuse, and what it counted. A count stops at the greatest u64.
+/// What an allocator is to refuse, and what it counted. A count stops at the greatest u64.
 #[derive(Clone, Copy)]
 pub struct Tally {
     pub plan: Plan,
-    /// The requests since the plan was made, with those refused.
+    /// The requests since the plan was set, refused ones included.
     pub requests: u64,
     /// Those of them that were refused.
     pub refusals: u64,
-    /// The blocks that were granted and not given back.
+    /// The blocks that were granted and not freed.
     pub live_blocks: u64,
 }
 
@@ -33,7 +33,7 @@ impl Tally {
         }
     }
 
-    /// Counts requests anew under another plan.
+    /// Switches to another plan and counts requests from 0 again.
     pub fn follow(&mut self, plan: Plan)
         ensures { self.new ≡ record self.old { plan = plan; requests = 0; refusals = 0 } }
     {
@@ -42,7 +42,7 @@ impl Tally {
         self.refusals = 0;
     }
 
-    /// Counts a request, and answers whether it is refused.
+    /// Counts a request and returns whether it is refused.
     pub fn refuses(&mut self) -> bool
         ensures answer { IsTrue result ↔ Refuses self.old.plan 1 }
         ensures later { (nth : ℕ) → 0 < nth
@@ -66,7 +66,7 @@ impl Tally {
         is_refused
     }
 
-    /// Counts a block that is given back.
+    /// Counts a block that is freed.
     pub fn take_back(&mut self)
         ensures { self.new ≡ record self.old { live_blocks = self.old.live_blocks - 1 } }
     {

@@ -8,7 +8,7 @@ use Rattle.krb_keytab.specs.Entry.{EntryParts}
 use Rattle.krb_keytab.specs.Find.{PlacedEntry, placed_entries}
 use Rattle.krb_keytab.specs.Store.{KeytabState}
 
--- it is an entry of the name, of a version before that one
+-- an entry has this name, and a version before this one
 abbrev pub is_before : Parts → ℕ → PlacedEntry → Bool
 is_before name kvno x = nat_lt x.1.version kvno && have_same_name name x.1.principal
 
@@ -22,7 +22,7 @@ without [] k = k
 without (p ∷ ps) (Ok k) = without ps (cut_result k p)
 without (p ∷ ps) (Err refused) = Err refused
 
--- an addition, where nothing was refused before
+-- an addition, if nothing was refused before
 abbrev pub with_new : EntryParts → Result KeytabState Code → Result (ℕ × KeytabState) Code
 with_new e (Ok k) = put_result k e
 with_new e (Err refused) = Err refused

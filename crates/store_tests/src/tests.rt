@@ -10,12 +10,12 @@ mod turns;
 
 use std::test::Fail;
 
-/// Fails with these words where something does not hold.
+/// Fails with these words unless something holds.
 fn is(holds: bool, what: &str) -> Result<(), Fail> {
     if holds { Ok(()) } else { Err(Fail::from(what)) }
 }
 
-/// Whether bytes are these pieces, one after the other.
+/// Returns whether bytes are these pieces, one after the other.
 fn are(bytes: &[u8], pieces: &[&[u8]]) -> bool {
     let mut rest = bytes;
     for piece in pieces {

@@ -1,5 +1,5 @@
-//! Tests of `krb_ccache`, `krb_text`, `krb_cache_text`, `krb_json` and `krb_audit` by their public calls, in a crate of their own:
-//! one with tests is proved twice.
+//! Tests of `krb_ccache`, `krb_text`, `krb_cache_text`, `krb_json` and `krb_audit` through their public calls. They are
+//! a crate of their own, since a crate with tests is proved twice.
 #![tactic(auto)]
 
 #[cfg(test)]

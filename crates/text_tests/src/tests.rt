@@ -1,5 +1,5 @@
-//! Each call that takes memory has each of its requests refused in turn, and gives its text where none is. Images and texts are
-//! spelled out by hand.
+//! For each call that takes memory, each allocation is refused in turn; without a refusal the call returns its text.
+//! Images and texts are spelled out by hand.
 
 mod caches;
 mod files;

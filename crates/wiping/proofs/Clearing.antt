@@ -1,4 +1,4 @@
--- The room of a block as bytes, which are cleared one after another. Assumes `Logic`.
+-- The room of a block as bytes, which are cleared one after the other. Assumes `Logic`.
 use Rattle.wiping.proofs.Steps.{◌≡◌, ℕ, ◌+◌, ◌-◌, ◌<◌, ◌≤◌, List, [], ◌∷◌, refl, arith, Ura, SProp, ent, sep, apply∗, Fml, fsep, froom, Ty, ty_array, vint, size, align, Logic, sem, ‵, raw, ◌⊛◌, ◌$◌, ◌∵◌, !, qed, by, move, keep, use1, use2, split, rewrite, fsplit, fjoin, feq_i, feq_l, done, block_ptr, nothing, HasSize, zeros}
 use Rattle.std.proofs.Common.{suc, ◌*◌, ◌++◌, sym, length}
 use native.Mathlib.Nat.{sub-zero}
@@ -23,23 +23,23 @@ byte = ty_int w8
 abbrev pub zeroed : ℕ → List ℕ
 zeroed n = replicate n 0
 
--- the bytes that are cleared lie in the block
+-- the bytes that are cleared are in the block
 inside : (τ : Ty) (n : ℕ) → HasSize τ n → n ≤ size τ
 inside τ n e = grind (arith, e)
 
 module _ {M : Type 1} {𝓤 : Ura M} (𝓛 : Logic 𝓤) (b o : ℕ) where
   open 𝓛 use {H}
 
-  -- i of n bytes are 0, and the others are room
+  -- the first i of n bytes are 0, and the others are room
   abbrev pub Half : ℕ → ℕ → Fml
   Half n i = fsep (bytes full_share (zeroed i) b o) (froom (ty_array byte (n - i)) b (i + o))
 
   module _ (n : ℕ) where
-    -- each is 0
+    -- at the end each byte is 0
     pub ends : ent 𝓤 (sem 𝓛 (Half n n)) (sem 𝓛 (zeros n (block_ptr b o)))
     ends = qed 𝓛 (‵ (Half n n) ∷ []) ∵ fsplit ! $ keep ! (0 ∷ []) $ feq_i ! ℕ (length (zeroed n)) n (length-replicate n 0) $ fjoin ! $ by ! (bytes_whole 𝓛 full_share n (zeroed n) b o)
 
-    -- the next byte is room, and the way on from a 0 there
+    -- the next byte is room, and once it is 0, one more byte is
     pub next : (i : ℕ) → i < n → ent 𝓤 (sem 𝓛 (Half n i)) (sep 𝓤 (H.room byte b (i + o)) (wand 𝓤 (H.at full_share byte b (i + o) (vint w8 0)) (sem 𝓛 (Half n (i + 1)))))
     next i less =
         let far : i + o ≡ o + length (zeroed i) = (let l : length (zeroed i) ≡ i = length-replicate i 0 in omega arith) in
@@ -57,7 +57,7 @@ module _ {M : Type 1} {𝓤 : Ura M} (𝓛 : Logic 𝓤) (b o : ℕ) where
     abbrev Rest : SProp 𝓤
     Rest = H.room (ty_array byte (size τ - n)) b (past byte n o)
 
-    -- the block's room as its bytes, none of which is 0 yet, and the way back from zeros
+    -- the block's room as bytes, none of them cleared yet, and the way back from zeros
     pub spread : ent 𝓤 (H.room τ b o) (sep 𝓤 (sem 𝓛 (Half n 0)) (wand 𝓤 (sem 𝓛 (zeros n (block_ptr b o))) (H.room τ b o)))
     spread =
         let All : SProp 𝓤 = H.room (ty_array byte (n + (size τ - n))) b o in

@@ -1,4 +1,4 @@
--- The names that the walks cite, passed on from one place. Declares nothing.
+-- The names that the walks cite, re-exported from one place. Declares nothing.
 pub use Rattle.std.proofs.Common.{ℕ, ◌+◌, Bool, false, List, [], ◌∷◌, refl, ap, ◌≡◌, Bor, ◌^◌, w64, ◌<◌, true, ◌-◌, ◌≤◌, arith}
 pub use seplogic.Ra.Ura.{Ura}
 pub use base.Fml.{ftrue, fsep, flft, froom, Fml, fwand}

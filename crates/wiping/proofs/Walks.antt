@@ -1,4 +1,4 @@
--- What the methods of a struct over an allocator begin and end with. Assumes `Logic`.
+-- How the proofs of the methods of a struct over an allocator begin and end. Assumes `Logic`.
 --     Over           such a struct.    Block     what goes back to it.    Call, inside      what a call binds, and what one that the body makes binds
 --     takes_met      `allocate` and its like meet their contract, by a walk.    taken          how the walk ends.    asks      a call of such a method
 --     gives_met      `deallocate` and its like meet theirs.                     given_back     how the walk ends.    hands     a call of such a method
@@ -29,7 +29,7 @@ use denote.Triple.Table.{framed}
 use Rattle.std.proofs.alloc.Calls.{Answer, answer_val, got, Answer-Ok, Answer-err}
 use Rattle.std.specs.Allocator.{HasLayout, block_if_ok}
 
--- a struct over the allocator `heap`, by its row and by what lets a block go back
+-- a struct over the allocator `heap`, by its row and by the right to free a block
 pub record Over : Type 2 where
   pub heap : Al
   pub row : RattleType
@@ -39,7 +39,7 @@ pub record Over : Type 2 where
 abbrev pub args : Al → Args
 args Z = bounded (a_type ∷ []) (Z.row, tt) (dcons Z.d (dcons Z.drops dnil))
 
--- what a call binds beside `self` and a pointer, and what is known of it
+-- what a call binds besides `self` and a pointer, and what is known of it
 pub record Call (Z : Al) : Type 0 where
   pub κs : Lfts 2
   pub qs : Shares 2
@@ -52,7 +52,7 @@ pub record Call (Z : Al) : Type 0 where
   pub size_fits : size < 2 ^ 64
   pub align_fits : align < 2 ^ 64
 
--- what a call binds that the body makes, with the token of `&self` in two
+-- what a call that the body makes binds, with the token of `&self` split in two
 abbrev pub inside : {Z : Al} → Call Z → Call Z
 inside {Z} x = record x {
   κs = (x.κs.0, (x.κs.0, tt));
@@ -64,19 +64,19 @@ inside {Z} x = record x {
 module _ {M : Type 1} {𝓤 : Ura M} (𝓛 : Logic 𝓤) where
   open 𝓛 use {A, H}
 
-  -- what there is at a pointer, which is not null
+  -- what is at a pointer that is not null
   pub record Block : Type 1 where
     pub at : Ty → ℕ → Ptr → Fml
     pub not_null : (τ : Ty) (n : ℕ) → ent 𝓤 (sem 𝓛 (at τ n null_ptr)) (never 𝓤)
 
-  -- a block's room, and a block that is cleared
+  -- the room of a block, and a cleared block
   abbrev pub room : Block
   room = record { at = λ τ n. room_for τ; not_null = λ τ n. id⊢ 𝓤 (never 𝓤) }
 
   abbrev pub clear : Block
   clear = record { at = cleared; not_null = λ τ n. fst∗ 𝓤 (never 𝓤) (sem 𝓛 (fwand (zeros n null_ptr) (room_for τ null_ptr))) }
 
-  -- what `allocate` answered
+  -- what `allocate` returned
   abbrev pub Answered : (Z : Al) → Z.row.Denot → Ty → Val → Item 𝓤
   Answered Z h τ v = some (λ (c : Bool × (ℕ × ℕ)). given (v ≡ answer_val c.0 c.1.0 c.1.1) (‵ (got (token Z h) τ c.0 c.1.0 c.1.1)))
 
@@ -190,7 +190,7 @@ module _ (O : Over) where
           walk (record { κs = κs; qs = qs; outlives = outlives.0; lives = lives; size = a.1.0; align = a.1.1.0; ty = τ; layout = layout; size_fits = are.1.0.1; align_fits = are.1.1.0.1 }) a.0)))
 
     module _ (B : Block 𝓛) where
-      -- what goes back
+      -- what is given back: the block, with the right to free it
       abbrev Back : O.row.Denot → Ty → ℕ → Ptr → Fml
       Back d τ n p = fsep (B.at τ n p) (O.right d τ p)
 

@@ -1,3 +1,3 @@
--- What it means that a block is cleared.
+-- What a cleared block is.
 pub mod Wiping
 pub mod Zeros

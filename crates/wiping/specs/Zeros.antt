@@ -1,4 +1,4 @@
--- A block that is cleared.
+-- A cleared block.
 use Rattle.std.specs.Prelude.{◌≡◌, ℕ}
 use lib.ListN.{replicate}
 use mir.Syntax.{Ty}
@@ -9,11 +9,11 @@ use denote.Array.{Array}
 use denote.Builtin.{u8}
 use denote.RawPtr.{Ptr, lies_at, room_for}
 
--- n is `size_of` ty, where a size past `usize::MAX` counts as `usize::MAX`
+-- n is the `size_of` ty, capped at `usize::MAX`
 abbrev pub HasSize : Ty → ℕ → Type 0
 HasSize ty n = capped (size ty) ≡ n
 
--- n bytes lie at p, and each is 0
+-- there are n bytes at p, and each is 0
 abbrev pub zeros : ℕ → Ptr → Fml
 zeros n p = lies_at (Array u8 n) full_share p (replicate n 0)
 

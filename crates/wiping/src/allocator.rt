@@ -5,9 +5,9 @@ use crate::below::Below;
 use crate::zeros::wipe;
 use std::alloc::{AllocError, Allocator};
 
-/// Passes each request on to the allocator below it, and writes zeros over each block before it gives the block back.
-///
-/// So what lay in a vector over it is not left in free memory. A vector that grows or shrinks moves to a new block, and the old one is cleared.
+/// An allocator that passes each request on to the one below it, and writes zeros over each block before freeing it.
+/// So the contents of a vector over it are not left in free memory: a vector that grows or shrinks moves to a new
+/// block, and the old one is cleared.
 #[derive(Clone, Copy)]
 pub struct Wiping<B: Allocator> {
     inner: Below<B>,
@@ -16,7 +16,7 @@ pub struct Wiping<B: Allocator> {
 impl<B: Allocator> Wiping<B> {
     ghost use Rattle.wiping.specs.Wiping.{inner_of};
 
-    /// An allocator over `inner`.
+    /// Returns an allocator over `inner`.
     pub const fn new(inner: B) -> Wiping<B>
         ensures { inner_of result ≡ inner }
     {

@@ -7,21 +7,21 @@ ghost use types.Logic.{sem};
 
 use std::alloc::{AllocError, Allocator};
 
-/// An allocator that is reached by these calls alone.
+/// An allocator that only these calls reach.
 #[derive(Clone, Copy)]
 pub struct Below<B: Allocator> {
     heap: B,
 }
 
 impl<B: Allocator> Below<B> {
-    /// Keeps `heap`.
+    /// Returns `heap` in this wrapper.
     pub const fn new(heap: B) -> Below<B>
         ensures { result.heap ≡ heap }
     {
         Below { heap }
     }
 
-    /// Takes a block from the allocator.
+    /// Allocates a block.
     pub fn allocate(&self, size: usize, align: usize) -> Result<*mut u8, AllocError>
         ghost ty: { Ty }
         requires layout { HasLayout ty size align }
@@ -30,7 +30,7 @@ impl<B: Allocator> Below<B> {
         self.heap.allocate(size, align)
     }
 
-    /// Gives the block at `ptr` back to the allocator that it came from. Each of its bytes is 0.
+    /// Gives the block at `ptr`, whose bytes are all 0, back to the allocator.
     pub unsafe fn give_back(&self, ptr: *mut u8, size: usize, align: usize)
         ghost ty: { Ty }
         requires layout { HasLayout ty size align }

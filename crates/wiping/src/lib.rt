@@ -1,4 +1,4 @@
-//! An allocator that clears each block before it gives the block back.
+//! An allocator that clears each block before it frees the block.
 #![tactic(auto)]
 
 mod allocator;

@@ -1,4 +1,4 @@
-//! A block is cleared.
+//! Clearing a block.
 ghost use Rattle.wiping.specs.Zeros.{HasSize, cleared};
 ghost use mir.Syntax.{Ty};
 ghost use types.Logic.{sem};

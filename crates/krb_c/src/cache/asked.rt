@@ -1,4 +1,4 @@
-//! Credentials that C asks to store.
+//! Credentials that C stores.
 
 ghost use Rattle.std.specs.Prelude.{◌≡◌, ◌⊎◌, Ok, Err, IfOk, IfErr};
 ghost use Rattle.krb_wire.specs.Reading.{principal_parts};
@@ -13,7 +13,7 @@ use krb_wire::Principal;
 use std::alloc::Global;
 use std::marker::Model;
 
-/// What a credential is made of: the texts of its names, its key, its tickets and its numbers.
+/// The parts of a credential to store: the texts of its names, its key, its tickets and its numbers.
 #[derive(Drop)]
 pub struct Asked<'a> {
     pub client: &'a [u8],
@@ -40,7 +40,7 @@ impl<'a> Model for Asked<'a> {
 }
 
 impl<'a> Asked<'a> {
-    /// The credential between two names.
+    /// Returns the credential of this client and this server, or the status that says why there is none.
     pub fn between(
         &self,
         alloc: Global,

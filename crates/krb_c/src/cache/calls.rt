@@ -1,4 +1,4 @@
-//! The calls of the static library over a cache: first those that look, then those that change.
+//! The functions of the static library over a cache: first those that read it, then those that change it.
 
 ghost use Rattle.std.specs.Prelude.{◌≡◌, ◌<◌, None, IsSome, map, option_map};
 ghost use Rattle.krb_wire.specs.Names.{name_text};
@@ -31,7 +31,7 @@ use crate::status::{DONE, kind_of};
 use crate::text::tell_name;
 use std::alloc::Global;
 
-/// Puts the text of the default principal into a room, as much as it takes, and tells its length.
+/// Copies the default principal's text into the buffer `room`, as much as fits, and reports the length of the text.
 #[unsafe(no_mangle)]
 pub extern "C" fn krbf_cc_principal(
     alloc: Global,
@@ -45,7 +45,7 @@ pub extern "C" fn krbf_cc_principal(
     with_held!(cc, alloc, held => tell_name(alloc, &held.cache().store().default_principal(), room, len))
 }
 
-/// Tells the place of the first credential, where a walk begins.
+/// Reports the place of the first credential, where a walk starts.
 #[unsafe(no_mangle)]
 pub extern "C" fn krbf_cc_first(alloc: Global, cc: &mut KrbfCcache, cursor: &mut u32) -> u32
     requires { IsSome (cache_of cc.old) }
@@ -58,7 +58,7 @@ pub extern "C" fn krbf_cc_first(alloc: Global, cc: &mut KrbfCcache, cursor: &mut
     })
 }
 
-/// Shows the first live credential at or after a cursor, and moves the cursor after it.
+/// Shows the first live credential at or after the cursor, and moves the cursor past it.
 #[unsafe(no_mangle)]
 pub extern "C" fn krbf_cc_next(
     alloc: Global,
@@ -73,7 +73,7 @@ pub extern "C" fn krbf_cc_next(
     with_held!(cc, alloc, held => held.cache().step(cursor, ticket))
 }
 
-/// Shows the live credential at a place.
+/// Shows the live credential at `place`.
 #[unsafe(no_mangle)]
 pub extern "C" fn krbf_cc_ticket(
     alloc: Global,
@@ -87,7 +87,7 @@ pub extern "C" fn krbf_cc_ticket(
     with_held!(cc, alloc, held => look_at(held.cache(), place, ticket))
 }
 
-/// Puts the text of the client of the credential at a place into a room, as much as it takes, and tells its length.
+/// Copies the text of the client of the credential at `place` into `room`, as much as fits, and reports its length.
 #[unsafe(no_mangle)]
 pub extern "C" fn krbf_cc_client(
     alloc: Global,
@@ -103,7 +103,7 @@ pub extern "C" fn krbf_cc_client(
     with_held!(cc, alloc, held => tell_client(alloc, held.cache(), place, room, len))
 }
 
-/// Puts the text of the server of the credential at a place into a room, as much as it takes, and tells its length.
+/// Copies the text of the server of the credential at `place` into `room`, as much as fits, and reports its length.
 #[unsafe(no_mangle)]
 pub extern "C" fn krbf_cc_server(
     alloc: Global,
@@ -119,8 +119,8 @@ pub extern "C" fn krbf_cc_server(
     with_held!(cc, alloc, held => tell_server(alloc, held.cache(), place, room, len))
 }
 
-/// Shows the first live ticket for the server that a text names. Configuration entries are passed, and of a damaged
-/// cache the credentials before its fault are looked at.
+/// Shows the first live ticket for the server that a text names. Skips configuration entries. In a damaged cache, looks
+/// at the credentials before its fault.
 #[unsafe(no_mangle)]
 pub extern "C" fn krbf_cc_find(
     alloc: Global,
@@ -134,7 +134,7 @@ pub extern "C" fn krbf_cc_find(
     with_held!(cc, alloc, held => find(alloc, held.cache().store(), server, ticket))
 }
 
-/// Tells the number of what is wrong where the sound credentials end, 0 where nothing is, and where they end.
+/// Reports the number of the fault where the sound credentials end, 0 if there is none, and where they end.
 #[unsafe(no_mangle)]
 pub extern "C" fn krbf_cc_fault(
     alloc: Global,
@@ -154,8 +154,8 @@ pub extern "C" fn krbf_cc_fault(
     })
 }
 
-/// Shows the value of the configuration entry of the default principal for a key and a principal's text, or for the
-/// key alone where that text has no bytes.
+/// Shows the value of the default principal's configuration entry for a key and a principal's text, or for the key
+/// alone if that text is empty.
 #[unsafe(no_mangle)]
 pub extern "C" fn krbf_cc_config(
     alloc: Global,
@@ -170,7 +170,7 @@ pub extern "C" fn krbf_cc_config(
     with_held!(cc, alloc, held => config(held.cache().store(), key, principal, value))
 }
 
-/// Shows the image, which lies there until the cache is changed or closed.
+/// Shows the image, which is there until the cache is changed or closed.
 #[unsafe(no_mangle)]
 pub extern "C" fn krbf_cc_image(alloc: Global, cc: &mut KrbfCcache, image: &mut KrbfBytes) -> u32
     requires { IsSome (cache_of cc.old) }
@@ -183,8 +183,8 @@ pub extern "C" fn krbf_cc_image(alloc: Global, cc: &mut KrbfCcache, image: &mut 
     })
 }
 
-/// Puts a credential between two names after the last, without addresses and authorization data, and tells its place.
-/// Refused are a text that is no name, then numbers that do not fit, and then what `Ccache::store` refuses.
+/// Adds a credential of a client and a server after the last, without addresses and authorization data, and reports its
+/// place. Refused, in this order: a text that is not a name, numbers that do not fit, what `Ccache::store` refuses.
 #[unsafe(no_mangle)]
 pub extern "C" fn krbf_cc_store(
     alloc: Global,
@@ -213,7 +213,7 @@ pub extern "C" fn krbf_cc_store(
     with_held!(cc, alloc, held => store(alloc, held.cache(), &asked, place))
 }
 
-/// Marks the credential at a place as removed.
+/// Marks the credential at `place` as removed.
 #[unsafe(no_mangle)]
 pub extern "C" fn krbf_cc_remove_at(alloc: Global, cc: &mut KrbfCcache, place: u32) -> u32
     requires { IsSome (cache_of cc.old) }
@@ -222,8 +222,8 @@ pub extern "C" fn krbf_cc_remove_at(alloc: Global, cc: &mut KrbfCcache, place: u
     with_held!(cc, alloc, held => held.cache().remove(place))
 }
 
-/// Sets the value of the default principal for a key and a principal's text, or for the key alone where that text has
-/// no bytes, and tells the place of its entry.
+/// Sets the value of the default principal's configuration entry for a key and a principal's text, or for the key alone
+/// if that text is empty, and reports the place of the entry.
 #[unsafe(no_mangle)]
 pub extern "C" fn krbf_cc_set_config(
     alloc: Global,
@@ -241,7 +241,7 @@ pub extern "C" fn krbf_cc_set_config(
     with_held!(cc, alloc, held => held.cache().set_config(alloc, key, principal, value, place))
 }
 
-/// Writes the live credentials anew, in version 4 and in order, and carries each cursor along. Each has to be a place.
+/// Rewrites the live credentials in version 4, in order, and moves each cursor along. Each cursor has to be a place.
 #[unsafe(no_mangle)]
 pub extern "C" fn krbf_cc_rewrite(alloc: Global, cc: &mut KrbfCcache, cursors: &mut [u32]) -> u32
     requires { IsSome (cache_of cc.old) }

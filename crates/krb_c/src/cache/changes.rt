@@ -1,4 +1,4 @@
-//! Changes of a cache, and what C is answered.
+//! Changes to a cache, and the status that C gets.
 
 ghost use Rattle.krb_ccache.specs.SetConfig.{set_config_result};
 ghost use Rattle.krb_c.specs.CacheLooks.{text_or_none};
@@ -15,7 +15,7 @@ use crate::walked::Walked;
 use krb_ccache::Ccache;
 use std::alloc::Global;
 
-/// Stores the credential that is asked for, and tells its place.
+/// Stores a credential of these parts, and reports its place.
 #[tactic(auto, using(crate::proofs::NameLemmas::unread))]
 pub fn store(alloc: Global, held: &mut HeldCache, asked: &Asked<'_>, place: &mut u32) -> u32
     ensures { Stores asked.now held.old.state result place.old place.new held.new.state }
@@ -35,7 +35,7 @@ pub fn store(alloc: Global, held: &mut HeldCache, asked: &Asked<'_>, place: &mut
 }
 
 impl Walked<Ccache<Heap>> {
-    // Sets a configuration value, and tells the place of its entry.
+    // Sets a configuration value, and reports the place of its entry.
     #[tactic(auto, using(crate::proofs::StoreLemmas::refused))]
     fn set(&mut self, key: &[u8], principal: &[u8], value: &[u8], place: &mut u32) -> u32
         ensures { Adds (set_config_result self.old.state key.now (text_or_none principal.now) value.now)
@@ -52,7 +52,7 @@ impl Walked<Ccache<Heap>> {
         }
     }
 
-    /// Sets a configuration value, whose bytes may lie in the cache, and tells the place of its entry.
+    /// Sets a configuration value, whose bytes may be in the cache, and reports the place of its entry.
     pub fn set_config(
         &mut self,
         alloc: Global,

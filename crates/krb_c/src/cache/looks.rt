@@ -1,4 +1,4 @@
-//! What calls ask of a cache.
+//! Reading a cache for C.
 
 ghost use Rattle.std.specs.Prelude.{◌≡◌, None, option_copied, option_map};
 ghost use Rattle.krb_wire.specs.Reading.{principal_parts};
@@ -22,7 +22,7 @@ use krb_walk::Code;
 use krb_wire::{Principal, same_name};
 use std::alloc::Global;
 
-/// Shows the live credential at a place.
+/// Shows the live credential at `place`.
 pub fn look_at(held: &HeldCache, place: u32, ticket: &mut KrbfTicket) -> u32
     ensures { LooksAt Shows (credential_at_place held.now.state place) place result ticket.old ticket.new }
 {
@@ -35,14 +35,14 @@ pub fn look_at(held: &HeldCache, place: u32, ticket: &mut KrbfTicket) -> u32
     }
 }
 
-// Whether a credential is a ticket for a server.
+// True if a credential is a ticket for this server: it is no configuration entry.
 fn is_for(server: &Principal<Heap>, credential: &CredView<'_>) -> bool
     ensures { result ≡ is_ticket_for (principal_parts server.now) credential.now }
 {
     !is_config(credential) && same_name(server, credential.server())
 }
 
-// The first live ticket for a server, with its place.
+// Returns the first live ticket for a server, with its place, or `None`.
 fn first_for<'a>(cache: &'a Ccache<Heap>, server: &Principal<Heap>) -> Option<(u32, CredView<'a>)>
     ensures { result ≡ ticket_for cache.now.state (principal_parts server.now) }
 {
@@ -78,7 +78,7 @@ pub fn find(alloc: Global, cache: &Ccache<Heap>, server: &[u8], ticket: &mut Krb
     }
 }
 
-/// A text, or none where it has no bytes.
+/// Returns the text, or `None` if it is empty.
 pub fn some_text(text: &[u8]) -> Option<&[u8]>
     ensures { option_copied result ≡ text_or_none text.now }
 {
@@ -88,7 +88,7 @@ pub fn some_text(text: &[u8]) -> Option<&[u8]>
     Some(text)
 }
 
-/// Tells where a configuration value lies.
+/// Shows a configuration value.
 pub fn config(cache: &Ccache<Heap>, key: &[u8], principal: &[u8], value: &mut KrbfBytes) -> u32
     ensures { ShowsBytes (config_of cache.now.state key.now (text_or_none principal.now)) result value.old value.new }
 {
@@ -101,7 +101,7 @@ pub fn config(cache: &Ccache<Heap>, key: &[u8], principal: &[u8], value: &mut Kr
     }
 }
 
-/// Tells the client of the credential at a place.
+/// Copies the text of the client of the credential at `place` into `room`, as much as fits, and reports its length.
 pub fn tell_client(
     alloc: Global,
     held: &HeldCache,
@@ -118,7 +118,7 @@ pub fn tell_client(
     }
 }
 
-/// Tells the server of the credential at a place.
+/// Copies the text of the server of the credential at `place` into `room`, as much as fits, and reports its length.
 pub fn tell_server(
     alloc: Global,
     held: &HeldCache,

@@ -1,4 +1,4 @@
-//! The numbers of a credential, as C gives them.
+//! The numbers of a credential, as C passes them.
 
 ghost use Rattle.std.specs.Prelude.{◌≡◌};
 ghost use Rattle.krb_c.specs.CacheStore.{numbers_fit};
@@ -17,7 +17,7 @@ pub struct KrbfNumbers {
 }
 
 impl KrbfNumbers {
-    /// Whether each fits its field: an enctype has sixteen bits, and `is_skey` is 0 or 1.
+    /// True if each fits its field: an enctype has sixteen bits, and `is_skey` is 0 or 1.
     pub fn fit(&self) -> bool
         ensures { result ≡ numbers_fit self.now }
     {

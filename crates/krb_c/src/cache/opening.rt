@@ -1,4 +1,4 @@
-//! Opening caches, making them, and closing them.
+//! Opening, creating and closing caches.
 
 ghost use Rattle.std.specs.Prelude.{◌≡◌, ◌≤◌, length, Err, None, IfOk, IfErr};
 ghost use Rattle.krb_wire.specs.NameOf.{name_of};
@@ -17,7 +17,7 @@ use krb_ccache::{CcOpenFault, Ccache, Version};
 use krb_wire::Limits;
 use std::alloc::Global;
 
-// The version that the first two bytes tell.
+// Returns the version by the first two bytes, or `None`.
 fn version_in(image: &[u8]) -> Option<Version>
     requires { 2 ≤ length image.now }
     ensures { result ≡ version_in image.now }
@@ -32,7 +32,7 @@ fn version_in(image: &[u8]) -> Option<Version>
     }
 }
 
-// Why an image is no cache, where its length and its first two bytes tell it.
+// Checks the length and the first two bytes of an image: `Err` if by these alone it is not a cache.
 #[tactic(auto, using(crate::proofs::Deeper::header_is_deeper))]
 fn look_at_front(image: &[u8], limits: Limits) -> Result<(), CcOpenFault>
     ensures ok { IfOk result (λ _. IfErr (open_result limits image.now) IsDeeper) }
@@ -50,8 +50,8 @@ fn look_at_front(image: &[u8], limits: Limits) -> Result<(), CcOpenFault>
     Ok(())
 }
 
-/// Opens the cache of a copy of an image. The limit is the greatest length of its image: 0 stands for 16,777,216. What
-/// its length and its version refuse is refused before it is copied.
+/// Opens the cache of a copy of an image. The limit is the greatest length of its image: 0 means 16,777,216. An image
+/// that is refused by its length or its version is refused before it is copied.
 #[unsafe(no_mangle)]
 pub extern "C" fn krbf_cc_open(alloc: Global, image: &[u8], limit: u32, cc: &mut KrbfCcache) -> u32
     requires { cc.old.held ≡ None }
@@ -73,7 +73,7 @@ pub extern "C" fn krbf_cc_open(alloc: Global, image: &[u8], limit: u32, cc: &mut
     }
 }
 
-/// Makes a cache of version 4 without credentials, of the default principal that a text names.
+/// Creates a cache of version 4 without credentials, with the default principal that a text names.
 #[unsafe(no_mangle)]
 #[tactic(auto, using(crate::proofs::NameLemmas::unread))]
 pub extern "C" fn krbf_cc_create(
@@ -98,7 +98,7 @@ pub extern "C" fn krbf_cc_create(
     }
 }
 
-/// Frees a cache, and leaves its handle empty. One that is empty stays so.
+/// Frees a cache, and leaves its handle empty. An empty one stays so.
 #[unsafe(no_mangle)]
 pub extern "C" fn krbf_cc_close(alloc: Global, cc: &mut KrbfCcache) -> u32
     ensures done { result ≡ 0 }

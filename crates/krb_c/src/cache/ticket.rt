@@ -10,7 +10,7 @@ use crate::heap::Heap;
 use crate::records::Records;
 use krb_ccache::{Ccache, CredView, is_config, read_credential};
 
-/// A credential: its place, its numbers, and where its key and tickets lie.
+/// A credential: its place, its numbers, and where its key and tickets are.
 #[repr(C)]
 #[derive(Drop)]
 pub struct KrbfTicket {
@@ -28,7 +28,7 @@ pub struct KrbfTicket {
     pub second_ticket: KrbfBytes,
 }
 
-/// The credential at a place, as C sees it.
+/// Returns a credential at `place`, as C sees it.
 pub fn shown(place: u32, credential: &CredView<'_>) -> KrbfTicket
     ensures { Shows result place credential.now }
 {
@@ -48,7 +48,7 @@ pub fn shown(place: u32, credential: &CredView<'_>) -> KrbfTicket
     }
 }
 
-/// The live credential at a place. It reads that one.
+/// Returns the live credential at `place`. Reads no other credential.
 pub fn read_at(cache: &Ccache<Heap>, place: u32) -> CredView<'_>
     requires { IsSome (live_bytes (store_of cache.now.state) place) }
     ensures { credential_at_place cache.now.state place ≡ Some result }

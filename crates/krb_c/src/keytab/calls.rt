@@ -1,4 +1,4 @@
-//! The calls of the static library over a keytab: first those that look, then those that change.
+//! The functions of the static library over a keytab: first those that read it, then those that change it.
 
 ghost use Rattle.std.specs.Prelude.{◌≡◌, None, IsSome, option_map, ◌⊎◌, map};
 ghost use Rattle.krb_wire.specs.NameOf.{name_of};
@@ -26,7 +26,7 @@ use crate::keytab::looks::{find, look_at, show_component, tell_name_at};
 use crate::status::{DONE, kind_of};
 use std::alloc::Global;
 
-/// Shows the first entry at or after a cursor, and moves the cursor after it. A walk begins at 2.
+/// Shows the first entry at or after the cursor, and moves the cursor past it. A walk starts at 2.
 #[unsafe(no_mangle)]
 pub extern "C" fn krbf_kt_next(
     alloc: Global,
@@ -41,7 +41,7 @@ pub extern "C" fn krbf_kt_next(
     with_held!(kt, alloc, held => held.keytab().step(cursor, entry))
 }
 
-/// Shows the entry at a place.
+/// Shows the entry at `place`.
 #[unsafe(no_mangle)]
 pub extern "C" fn krbf_kt_entry(
     alloc: Global,
@@ -55,7 +55,7 @@ pub extern "C" fn krbf_kt_entry(
     with_held!(kt, alloc, held => look_at(held.keytab(), place, entry))
 }
 
-/// Tells the number of what is wrong where the sound cells end, 0 where nothing is, and where they end.
+/// Reports the number of the fault where the sound cells end, 0 if there is none, and where they end.
 #[unsafe(no_mangle)]
 pub extern "C" fn krbf_kt_fault(
     alloc: Global,
@@ -75,7 +75,7 @@ pub extern "C" fn krbf_kt_fault(
     })
 }
 
-/// Shows the entry of a name, version (0: the highest) and enctype (0: any).
+/// Shows the first entry of a name, kvno (0: the highest) and enctype (0: any).
 #[unsafe(no_mangle)]
 pub extern "C" fn krbf_kt_find(
     alloc: Global,
@@ -91,7 +91,7 @@ pub extern "C" fn krbf_kt_find(
     with_held!(kt, alloc, held => find(alloc, held.keytab(), name, kvno, enctype, entry))
 }
 
-/// Puts the text of the name of the entry at a place into a room, as much as it takes, and tells its length.
+/// Copies the text of the name of the entry at `place` into `room`, as much as fits, and reports its length.
 #[unsafe(no_mangle)]
 pub extern "C" fn krbf_kt_name(
     alloc: Global,
@@ -106,7 +106,7 @@ pub extern "C" fn krbf_kt_name(
     with_held!(kt, alloc, held => tell_name_at(alloc, held.keytab(), place, room, len))
 }
 
-/// Shows a component, from 0 on, of the name of the entry at a place.
+/// Shows component `number`, from 0 on, of the name of the entry at `place`.
 #[unsafe(no_mangle)]
 pub extern "C" fn krbf_kt_component(
     alloc: Global,
@@ -121,7 +121,7 @@ pub extern "C" fn krbf_kt_component(
     with_held!(kt, alloc, held => show_component(held.keytab(), place, number, component))
 }
 
-/// Shows the image, which lies there until the keytab is changed or closed.
+/// Shows the image, which is there until the keytab is changed or closed.
 #[unsafe(no_mangle)]
 pub extern "C" fn krbf_kt_image(alloc: Global, kt: &mut KrbfKeytab, image: &mut KrbfBytes) -> u32
     requires { IsSome (keytab_of kt.old) }
@@ -134,7 +134,7 @@ pub extern "C" fn krbf_kt_image(alloc: Global, kt: &mut KrbfKeytab, image: &mut 
     })
 }
 
-/// Adds an entry of a name of type 1, and tells the place of its record.
+/// Adds an entry whose name has type 1, and reports the place of its record.
 #[unsafe(no_mangle)]
 pub extern "C" fn krbf_kt_add(
     alloc: Global,
@@ -160,7 +160,7 @@ pub extern "C" fn krbf_kt_add(
     with_held!(kt, alloc, held => add(alloc, held.keytab(), name, numbers, key, place))
 }
 
-/// Makes the record at a place a hole of zeros.
+/// Removes the record at `place`: it becomes a hole of zeros.
 #[unsafe(no_mangle)]
 pub extern "C" fn krbf_kt_remove_at(alloc: Global, kt: &mut KrbfKeytab, place: u32) -> u32
     requires { IsSome (keytab_of kt.old) }
@@ -169,7 +169,7 @@ pub extern "C" fn krbf_kt_remove_at(alloc: Global, kt: &mut KrbfKeytab, place: u
     with_held!(kt, alloc, held => held.keytab().remove(place))
 }
 
-/// Writes the records anew in version 2, without holes, and carries each cursor to its record's new place.
+/// Rewrites the keytab in version 2, without holes, and moves each cursor to its record's new place.
 #[unsafe(no_mangle)]
 pub extern "C" fn krbf_kt_rewrite(alloc: Global, kt: &mut KrbfKeytab, cursors: &mut [u32]) -> u32
     requires { IsSome (keytab_of kt.old) }

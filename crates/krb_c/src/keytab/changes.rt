@@ -1,4 +1,4 @@
-//! Changes of keytabs.
+//! Changes to keytabs.
 
 ghost use Rattle.std.specs.Prelude.{◌≡◌, None};
 ghost use Rattle.krb_wire.specs.NameOf.{name_of};
@@ -19,7 +19,7 @@ pub struct Numbers {
     pub enctype: u16,
 }
 
-/// Adds the entry of what a text names, and tells its place.
+/// Adds an entry of the name in a text, and reports its place.
 #[tactic(auto, using(crate::proofs::NameLemmas::unread))]
 pub fn add(
     alloc: Global,

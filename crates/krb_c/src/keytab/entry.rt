@@ -8,7 +8,7 @@ use crate::records::Records;
 use krb_keytab::{EntryView, Indexed, read_entry};
 use krb_wire::Name;
 
-/// An entry: the place of its record, its numbers, and where its realm and its key lie.
+/// An entry: the place of its record, its numbers, and where its realm and its key are.
 #[repr(C)]
 #[derive(Drop)]
 pub struct KrbfEntry {
@@ -22,7 +22,7 @@ pub struct KrbfEntry {
     pub key: KrbfBytes,
 }
 
-/// The entry at a place, as C sees it.
+/// Returns an entry at `place`, as C sees it.
 pub fn shown(place: u32, entry: &EntryView<'_>) -> KrbfEntry
     ensures { Shows result place entry.now }
 {

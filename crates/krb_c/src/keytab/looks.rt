@@ -1,4 +1,4 @@
-//! What is looked at in a keytab.
+//! Reading a keytab for C.
 
 ghost use Rattle.std.specs.Prelude.{None, option_map};
 ghost use Rattle.krb_wire.specs.NameOf.{name_of};
@@ -18,7 +18,7 @@ use krb_walk::Code;
 use krb_wire::Name;
 use std::alloc::Global;
 
-/// Shows the entry at a place.
+/// Shows the entry at `place`.
 pub fn look_at(held: &HeldKeytab, place: u32, entry: &mut KrbfEntry) -> u32
     ensures { LooksAt Shows (entry_at_place held.now.state place) place result entry.old entry.new }
 {
@@ -31,7 +31,7 @@ pub fn look_at(held: &HeldKeytab, place: u32, entry: &mut KrbfEntry) -> u32
     }
 }
 
-/// Shows the entry of what a text names, of that version and enctype.
+/// Shows the first entry of the name in a text, with this kvno and enctype.
 #[tactic(auto, using(crate::proofs::NameLemmas::unread))]
 pub fn find(
     alloc: Global,
@@ -56,7 +56,7 @@ pub fn find(
     }
 }
 
-/// Puts the text of the name of the entry at a place into a room, and tells its length.
+/// Copies the text of the name of the entry at `place` into `room`, as much as fits, and reports its length.
 pub fn tell_name_at(
     alloc: Global,
     held: &HeldKeytab,
@@ -72,7 +72,7 @@ pub fn tell_name_at(
     }
 }
 
-/// Shows a component of the name of the entry at a place.
+/// Shows component `number` of the name of the entry at `place`.
 pub fn show_component(
     held: &HeldKeytab,
     place: u32,

@@ -1,4 +1,4 @@
-//! Opening keytabs, making them, and closing them.
+//! Opening, creating and closing keytabs.
 
 ghost use Rattle.std.specs.Prelude.{◌≡◌, ◌≤◌, ◌⊎◌, length, Some, None, Err, IsOk, IfOk, IfErr};
 ghost use Rattle.krb_keytab.specs.Store.{format_of, open_result};
@@ -17,7 +17,7 @@ use krb_keytab::{Indexed, Keytab, KtOpenFault};
 use krb_wire::{KtFormat, Limits, NoMemory, Order};
 use std::alloc::Global;
 
-// The order of the numbers of version 1.
+// Returns the byte order of version 1.
 fn order_of(v1_big: u32) -> Order
     ensures { result ≡ order_of_flag v1_big }
 {
@@ -28,7 +28,7 @@ fn order_of(v1_big: u32) -> Order
     }
 }
 
-// The format that the first two bytes tell.
+// Returns the format by the first two bytes, or `None`.
 fn format_in(v1_order: Order, image: &[u8]) -> Option<KtFormat>
     requires { 2 ≤ length image.now }
     ensures { result ≡ format_of v1_order image.now }
@@ -43,7 +43,7 @@ fn format_in(v1_order: Order, image: &[u8]) -> Option<KtFormat>
     }
 }
 
-// Why an image is no keytab, which its length and its first two bytes tell.
+// Checks the length and the first two bytes of an image, which decide whether it is a keytab.
 fn look_at_front(image: &[u8], v1_order: Order, limits: Limits) -> Result<(), KtOpenFault>
     ensures ok { IfOk result (λ _. IsOk (open_result v1_order limits image.now)) }
     ensures err { IfErr result (λ why. open_result v1_order limits image.now ≡ Err why) }
@@ -60,7 +60,7 @@ fn look_at_front(image: &[u8], v1_order: Order, limits: Limits) -> Result<(), Kt
     Ok(())
 }
 
-// Puts a keytab with a table of its cells behind an empty handle.
+// Puts a keytab with a table of its cells into an empty handle.
 fn fill(alloc: Global, keytab: Keytab<Heap>, kt: &mut KrbfKeytab) -> u32
     requires { kt.old.held ≡ None }
     ensures { ((result ≡ 0) × (keytab_of kt.new ≡ Some keytab.state)) ⊎ OpensNone 1 result kt.new }
@@ -71,7 +71,7 @@ fn fill(alloc: Global, keytab: Keytab<Heap>, kt: &mut KrbfKeytab) -> u32
     }
 }
 
-/// Makes a keytab of version 2 without entries. The limit is the greatest length of its image: 0 stands for 16,777,216.
+/// Creates a keytab of version 2 without entries. The limit is the greatest length of its image: 0 means 16,777,216.
 #[unsafe(no_mangle)]
 pub extern "C" fn krbf_kt_create(alloc: Global, limit: u32, kt: &mut KrbfKeytab) -> u32
     requires { kt.old.held ≡ None }
@@ -86,8 +86,8 @@ pub extern "C" fn krbf_kt_create(alloc: Global, limit: u32, kt: &mut KrbfKeytab)
     }
 }
 
-/// Opens the keytab of a copy of an image, with such a limit. Memory runs out for a keytab alone: what is none is
-/// refused before it is copied.
+/// Opens the keytab of a copy of an image, with such a limit. An image that is not a keytab is refused before it is
+/// copied, so that only a keytab can run out of memory.
 #[unsafe(no_mangle)]
 pub extern "C" fn krbf_kt_open(
     alloc: Global,
@@ -116,7 +116,7 @@ pub extern "C" fn krbf_kt_open(
     }
 }
 
-/// Frees a keytab, and leaves its handle empty. One that is empty stays so.
+/// Frees a keytab, and leaves its handle empty. An empty one stays so.
 #[unsafe(no_mangle)]
 pub extern "C" fn krbf_kt_close(alloc: Global, kt: &mut KrbfKeytab) -> u32
     ensures done { result ≡ 0 }

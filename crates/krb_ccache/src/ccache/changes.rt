@@ -1,4 +1,4 @@
-//! Caches that are made, added to and removed from, each in place.
+//! Creating a cache, and adding and removing credentials in place.
 
 ghost use Rattle.std.specs.Prelude.{◌≡◌, [], true, None, Some, IsSome, is_some, IfOk, IfErr, OnOk, Ok};
 ghost use Rattle.krb_walk.specs.Rules.{PutGives, CutGives};
@@ -24,7 +24,7 @@ use krb_wire::{Limits, Name};
 use std::alloc::Allocator;
 
 impl<A: Allocator> Ccache<A> {
-    /// A cache of version 4 without credentials. A limit that its image would pass refuses it.
+    /// Creates a version 4 cache without credentials. Refuses if its image would be longer than the limit.
     pub fn create<N: Name>(
         alloc: A,
         default: &N,
@@ -59,7 +59,7 @@ impl<A: Allocator> Ccache<A> {
         })
     }
 
-    // Whether it refuses additions and removals.
+    // Returns whether the cache refuses additions and removals: version 3 does.
     pub(super) fn is_read_only(&self) -> bool
         ensures { result ≡ is_read_only self.now.state.version }
     {
@@ -69,7 +69,7 @@ impl<A: Allocator> Ccache<A> {
         }
     }
 
-    // Marks the live credential at a place.
+    // Marks the live credential at `place` as removed.
     fn mark(&mut self, place: u32)
         requires { IsSome (credential_at_place self.old.state place) }
         ensures marked { self.new.state ≡ with_mark self.old.state place }
@@ -79,8 +79,8 @@ impl<A: Allocator> Ccache<A> {
         self.removed = Some(place);
     }
 
-    // Whether a live credential stands at a place. It looks from the last removal on where it can, so that
-    // removals in file order take one pass.
+    // Returns whether a live credential starts at `place`. Scans from the last removal if it can, so that removals in
+    // file order take one pass.
     fn is_live(&self, place: u32) -> bool
         ensures { result ≡ is_some (live_bytes (store_of self.now.state) place) }
     {
@@ -91,13 +91,13 @@ impl<A: Allocator> Ccache<A> {
         }
     }
 
-    /// Marks the credential at a place as removed: endtime 0 and the greatest authtime are written, and no other
-    /// byte; the mark is this project's own. A cache of version 3 refuses, then a damaged one, and then each number
-    /// where no live credential stands.
+    /// Marks the credential at `place` as removed: writes endtime 0 and the greatest authtime, and no other byte. The
+    /// mark is this project's own. Refuses in version 3, then in a damaged cache, and then if no live credential starts
+    /// at `place`.
     pub fn remove_at(&mut self, place: u32) -> Result<(), Code>
         ensures gives { CutGives (cut_result self.old.state place) self.old.state result self.new.state }
         ensures cuts { OnOk result (Cuts (store_of self.old.state) (store_of self.new.state) place) }
-        // No credential stands there any more.
+        // No live credential is there any more.
         ensures gone { OnOk result (live_bytes (store_of self.new.state) place ≡ None) }
         ensures room { self.new.room ≡ self.old.room }
     {
@@ -114,8 +114,8 @@ impl<A: Allocator> Ccache<A> {
         Ok(())
     }
 
-    /// Removes the credentials at these places, one after the other. A place that `remove_at` refuses changes nothing.
-    /// It takes no memory, and one pass where credentials stand at the places and they ascend.
+    /// Removes the credentials at `places`, one after the other. A place that `remove_at` refuses changes nothing.
+    /// Takes no memory, and one pass if the places ascend and a live credential starts at each.
     pub fn remove_all(&mut self, places: &[u32])
         ensures gives { self.new.state ≡ without self.old.state places.now }
         ensures room { self.new.room ≡ self.old.room }
@@ -125,7 +125,7 @@ impl<A: Allocator> Ccache<A> {
         }
     }
 
-    // Puts a credential after the last of a cache that is whole.
+    // Appends a credential to a version 4 cache without a fault.
     fn append<B: Allocator>(&mut self, cred: &Cred<B>) -> Result<u32, Refusal>
         requires whole { (self.old.state).contents.end ≡ [] }
         requires version { self.old.state.version ≡ V4 }
@@ -144,15 +144,15 @@ impl<A: Allocator> Ccache<A> {
         Ok(place)
     }
 
-    /// Puts a credential after the last, and answers its place. The place of a removed one is never used again. A
-    /// cache of version 3 refuses, then a damaged one, then a credential that has the removed mark, and then a limit
-    /// that the image would pass.
+    /// Appends a credential and returns its place. Never reuses the place of a removed one. Refuses in version 3, then
+    /// in a damaged cache, then a credential that has the removed mark, and then if the image would be longer than the
+    /// limit.
     pub fn store<B: Allocator>(&mut self, cred: &Cred<B>) -> Result<u32, Refusal>
         ensures gives { PutGives (put_result self.old.state cred.now) self.old.state result self.new.state }
         ensures puts { IfOk result (Puts (store_of self.old.state) (store_of self.new.state)) }
         ensures there { IfOk result (λ place. credential_at_place self.new.state place ≡ Some cred.now) }
         ensures memory { takes_none self.old.state cred.now ≡ true → HadMemory result }
-        // Nor is memory asked for where there is room for the credential.
+        // Nor does it run out of memory if there is room for the credential.
         ensures room { HasRoomFor self.old cred.now → HadMemory result }
     {
         if self.is_read_only() {

@@ -22,7 +22,7 @@ use krb_wire::{NoMemory, tail};
 use std::alloc::Allocator;
 
 impl<A: Allocator> Ccache<A> {
-    // Where the credentials begin in the new image, and how long it is, if it is not too long.
+    // Returns where the credentials begin in the new image and its length, or `None` if it is longer than the limit.
     fn new_lens(&self) -> Option<(usize, usize)>
         ensures first { IfSome result (λ x. x.0 ≡ length (new_preamble self.now.state.principal (offset_in self.now.state.header))) }
         ensures len { IfSome result (λ x. x.1 ≡ length (image_of (rewrite_of self.now.state))) }
@@ -38,7 +38,7 @@ impl<A: Allocator> Ccache<A> {
 }
 
 impl<A: Allocator + Copy> Ccache<A> {
-    // The new image, in memory of exactly its length.
+    // Builds the new image, in memory of exactly its length.
     fn new_image(&self, len: usize) -> Result<Vec<u8, A>, NoMemory>
         requires { len ≡ length (image_of (rewrite_of self.now.state)) }
         ensures { IfOk result (λ v. v.items ≡ image_of (rewrite_of self.now.state)) }
@@ -55,7 +55,7 @@ impl<A: Allocator + Copy> Ccache<A> {
         )
     }
 
-    // The cache of the rewrite.
+    // Builds the rewritten cache, or returns why the rewrite is refused.
     fn new_cache(&self) -> Result<Ccache<A>, Refusal>
         ensures ok { IfOk result (λ k. k.state ≡ rewrite_of self.now.state) }
         ensures gives { OnOk result (rewrite_result self.now.state ≡ Ok (rewrite_of self.now.state)) }
@@ -87,10 +87,10 @@ impl<A: Allocator + Copy> Ccache<A> {
         })
     }
 
-    /// Writes the live credentials anew, in version 4 and in order, after a header that has the time offset alone,
-    /// if there is one, and the default principal. Each cursor is carried to the new place of the first live
-    /// credential at or after it, or to the new end. A damaged cache refuses, and then so does a limit that the new
-    /// image would pass. Memory is taken once, for the new image.
+    /// Rewrites the cache in version 4: a header with nothing but the time offset, if there is one, the default
+    /// principal, and the live credentials in order. Moves each cursor to the new place of the first live credential at
+    /// or after it, or to the new end. Refuses in a damaged cache, and then if the new image would be longer than the
+    /// limit. Allocates once, for the new image.
     pub fn rewrite(&mut self, cursors: &mut [u32]) -> Result<(), Refusal>
         requires { AllByRecursion (IsPlace (store_of self.old.state)) cursors.old }
         ensures gives { RewriteGives (rewrite_result self.old.state) self.old.state result self.new.state }

@@ -1,4 +1,4 @@
-//! Configuration values that are set in a cache: what that adds, and what it removes.
+//! Setting configuration values in a cache: the entry that is added, and those that are removed.
 
 ghost use Rattle.std.specs.Prelude.{◌≡◌, [], true, Ok, Err, Some, IfOk, IfErr, OnOk, option_copied};
 ghost use Rattle.krb_wire.specs.Reading.{items_of, principal_parts};
@@ -20,7 +20,7 @@ use krb_walk::{Code, Refusal};
 use krb_wire::{NoMemory, Principal, copy_name};
 use std::alloc::Allocator;
 
-// The components of the server of an entry.
+// Returns the components of the server of an entry.
 fn server_components<A: Allocator + Copy>(
     alloc: A,
     setting: &Setting<'_>,
@@ -36,7 +36,7 @@ fn server_components<A: Allocator + Copy>(
     Ok(components)
 }
 
-// The server of an entry.
+// Returns the server of an entry.
 fn server<A: Allocator + Copy>(alloc: A, setting: &Setting<'_>) -> Result<Principal<A>, NoMemory>
     ensures { IfOk result (λ p. principal_parts p ≡ config_server setting.now.key setting.now.principal) }
 {
@@ -50,7 +50,7 @@ fn server<A: Allocator + Copy>(alloc: A, setting: &Setting<'_>) -> Result<Princi
 }
 
 impl<A: Allocator> Ccache<A> {
-    /// The entry that setting a value adds.
+    /// Returns the entry that setting this value adds.
     pub fn setting_entry<B: Allocator + Copy>(
         &self,
         alloc: B,
@@ -79,7 +79,7 @@ impl<A: Allocator> Ccache<A> {
         })
     }
 
-    /// The places of the entries that setting a value removes, in file order. One pass.
+    /// Returns the places of the entries that setting this value removes, in file order. One pass.
     pub fn setting_places<B: Allocator>(
         &self,
         alloc: B,
@@ -102,7 +102,7 @@ impl<A: Allocator> Ccache<A> {
         Ok(places)
     }
 
-    // Why the entry of a setting cannot be added, if it cannot.
+    // Returns the refusal of the entry of a setting, if it cannot be added.
     fn check_setting(&self, setting: &Setting<'_>) -> Result<(), Code>
         ensures ok { OnOk result (put_result self.now.state (entry_of self.now.state.principal setting.now)
             ≡ Ok (end_of (store_of self.now.state), with_last self.now.state (entry_of self.now.state.principal setting.now))) }
@@ -126,9 +126,9 @@ impl<A: Allocator> Ccache<A> {
 }
 
 impl<A: Allocator + Copy> Ccache<A> {
-    /// Sets the value of the default principal for a key and a principal's text, or for the key alone: puts a new entry
-    /// after the last credential, removes every other entry that holds one, and answers the place of the new one. A cache
-    /// of version 3 refuses, then a damaged one, and then a limit that the image would pass. Memory is taken before
+    /// Sets the default principal's value for `key` and the text `principal`, or for `key` alone if that is `None`:
+    /// appends a new entry, removes every other entry for the same, and returns the place of the new one. Refuses in
+    /// version 3, then in a damaged cache, and then if the image would be longer than the limit. Takes memory before
     /// anything changes.
     pub fn set_config(
         &mut self,

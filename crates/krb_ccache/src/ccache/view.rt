@@ -1,4 +1,4 @@
-//! The image of a cache, and what is known of it.
+//! The image of a cache with its layout.
 
 ghost use Rattle.std.specs.Prelude.{◌≡◌, ◌≤◌, ◌-◌, take, drop, length};
 ghost use Rattle.krb_ccache.specs.Header.{offset_in};
@@ -18,7 +18,7 @@ use krb_walk::FaultKind;
 use krb_wire::{PrincipalView, split_cc_principal, tail};
 use std::marker::Model;
 
-/// An image that is a cache. Contracts see the cache.
+/// A borrowed image that is a cache, with its layout. Contracts see the cache.
 #[derive(Drop)]
 pub struct CacheView<'a> {
     pub layout: Layout,
@@ -36,7 +36,7 @@ impl<'a> Model for CacheView<'a> {
     ghost invariant = { λ v. IsImage v.layout v.image.now };
 }
 
-// The bytes from a place to another.
+// Returns the bytes from `from` up to `to`.
 fn between(bytes: &[u8], from: usize, to: usize) -> &[u8]
     requires ahead { from ≤ to }
     requires within { to ≤ length bytes.now }
@@ -46,7 +46,7 @@ fn between(bytes: &[u8], from: usize, to: usize) -> &[u8]
 }
 
 impl<'a> CacheView<'a> {
-    /// The bytes that spell it.
+    /// Returns the bytes of the image.
     pub fn spelled(&self) -> &'a [u8]
         ensures spelled { result.now ≡ image_of self.now }
         ensures bytes { AreBytes result.now }
@@ -55,7 +55,7 @@ impl<'a> CacheView<'a> {
         as_spelling(self.layout, self.image)
     }
 
-    // What is wrong after the last credential: bytes that begin with none are left.
+    // Returns the kind of the fault after the last credential, if bytes are left that begin with none.
     fn fault(&self) -> Option<FaultKind>
         ensures { result ≡ fault_kind self.now.contents.end }
     {
@@ -66,7 +66,7 @@ impl<'a> CacheView<'a> {
         Some(FaultKind::BadCredential)
     }
 
-    // The place of the first credential, and the bytes of all of them.
+    // Returns the place of the first credential, and the bytes of all of them.
     fn placed(&self) -> (usize, &'a [u8])
         ensures { AreCredentials self.now result.0 result.1.now }
     {
@@ -75,7 +75,7 @@ impl<'a> CacheView<'a> {
         (first, between(self.image, first, self.layout.places.end))
     }
 
-    /// The store that it is.
+    /// Returns the cells of the cache, as a store.
     pub fn cells(&self) -> Cells<'a, Version>
         ensures { result ≡ store_of self.now }
     {
@@ -84,7 +84,7 @@ impl<'a> CacheView<'a> {
         Cells::of(self.layout.version, first, bytes, self.fault())
     }
 
-    /// All credentials, removed ones too.
+    /// Returns an iterator over all credentials, removed ones too.
     pub fn credentials(&self) -> AllCredentials<'a>
         ensures { result ≡ all_credentials self.now }
     {
@@ -96,7 +96,7 @@ impl<'a> CacheView<'a> {
         }
     }
 
-    /// The name that stands after the header.
+    /// Returns the default principal, which follows the header.
     pub fn default_principal(&self) -> PrincipalView<'a>
         ensures { result ≡ self.now.principal }
     {
@@ -107,7 +107,7 @@ impl<'a> CacheView<'a> {
         name
     }
 
-    /// The time offset that the header tells.
+    /// Returns the time offset in the header, if there is one.
     pub fn offset(&self) -> Option<Offset>
         ensures { result ≡ offset_in self.now.header }
     {

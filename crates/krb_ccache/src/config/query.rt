@@ -1,4 +1,4 @@
-//! What a configuration entry is looked up by.
+//! Look-ups of configuration entries.
 
 ghost use Rattle.std.specs.Prelude.{◌≡◌, option_copied};
 ghost use Rattle.krb_ccache.specs.Config.{is_match, same_text};
@@ -8,7 +8,7 @@ use crate::credential::view::CredView;
 use krb_wire::{PrincipalView, same_name};
 use std::marker::Model;
 
-/// The owner of configuration entries, their key, and perhaps a principal's text.
+/// A query for configuration entries: their owner, their key, and optionally a principal's text.
 #[derive(Drop)]
 pub struct Query<'a> {
     pub owner: &'a PrincipalView<'a>,
@@ -25,7 +25,7 @@ impl<'a> Model for Query<'a> {
     ghost view = { λ q. record { owner = q.owner.now; key = q.key.now; principal = option_copied q.principal } };
 }
 
-// Whether two texts are the same, or neither is there.
+// Returns whether two texts are the same, or both are absent.
 fn same_text(one: Option<&[u8]>, other: Option<&[u8]>) -> bool
     ensures { result ≡ same_text (option_copied one.entry) (option_copied other.entry) }
 {
@@ -37,7 +37,7 @@ fn same_text(one: Option<&[u8]>, other: Option<&[u8]>) -> bool
 }
 
 impl<'a> Query<'a> {
-    /// Whether a credential is a configuration entry of that owner, for that key and principal.
+    /// Returns whether a credential is a configuration entry of this owner, key and principal.
     pub fn matches(&self, credential: &CredView<'_>) -> bool
         ensures { result ≡ is_match self.now credential.now }
     {

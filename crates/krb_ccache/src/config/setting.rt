@@ -1,4 +1,4 @@
-//! Configuration values to be set.
+//! Configuration values to set.
 
 ghost use Rattle.std.specs.Prelude.{◌≡◌, ◌≤◌, ◌<◌, ◌^◌, true, false, length, option_copied};
 ghost use Rattle.std.specs.List.{flat_map};
@@ -12,12 +12,11 @@ use crate::lengths::sum_within;
 use krb_wire::{Name, cc_principal_len};
 use std::marker::Model;
 
-// What an entry takes beside its client and the bytes of its key, principal and value: the lengths and the fixed texts of
-// its server, its empty key, its times and flags, and the lengths of its lists and tickets.
+// The length of an entry without its client and the bytes of its key, principal and value: the lengths and the fixed
+// texts of its server, its empty key, its times and flags, and the lengths of its lists and tickets.
 const FIXED_LEN: usize = 96;
 
-/// A configuration value to be set for the default principal, and what it is held under: a key, and perhaps a
-/// principal's text.
+/// A configuration value to set for the default principal, and its name: a key, and optionally a principal's text.
 #[derive(Drop)]
 pub struct Setting<'a> {
     pub key: &'a [u8],
@@ -34,7 +33,7 @@ impl<'a> Model for Setting<'a> {
     ghost view = { λ s. record { key = s.key.now; principal = option_copied s.principal; value = s.value.now } };
 }
 
-// How many bytes the component of a principal's text takes.
+// Returns the length of the component of a principal's text: 0 if there is none.
 fn text_len(text: Option<&[u8]>) -> usize
     ensures { result ≡ length (flat_map (data32 Big) (text_component (option_copied text.entry))) }
 {
@@ -45,7 +44,7 @@ fn text_len(text: Option<&[u8]>) -> usize
 }
 
 impl<'a> Setting<'a> {
-    /// Whether its entry takes no more bytes than that.
+    /// Returns whether its entry takes at most `most` bytes.
     pub(crate) fn fits_within<N: Name>(&self, owner: &N, most: usize) -> bool
         requires { most ≤ 2 ^ 30 }
         ensures yes { result ≡ true → length (credential V4 (entry_of (N.parts owner.now) self.now)) ≤ most }

@@ -1,4 +1,4 @@
-//! Keys of credentials.
+//! Session keys of credentials.
 
 ghost use Rattle.krb_wire.specs.Reading.{Gives};
 ghost use Rattle.krb_ccache.specs.Credential.{Key, second_enctype_at, key_at};
@@ -7,7 +7,7 @@ use crate::version::Version;
 use krb_wire::{Order, split_data32, split_u16};
 use std::marker::Model;
 
-/// A key that borrows from an image, with its enctype.
+/// A session key with its enctype, borrowed from an image.
 #[derive(Drop)]
 pub struct KeyView<'a> {
     pub enctype: u16,
@@ -21,7 +21,7 @@ impl<'a> Model for KeyView<'a> {
     ghost view = { λ k. record { enctype = k.enctype; second_enctype = k.second_enctype; bytes = k.bytes.now } };
 }
 
-// The second enctype: version 4 has none, and it reads as 0.
+// Returns the second enctype and the bytes after it. Version 4 has none: it reads as 0.
 fn split_second_enctype(version: Version, bytes: &[u8]) -> Option<(u16, &[u8])>
     ensures { Gives (λ x. (x.0, x.1.now)) result (second_enctype_at version bytes.now) }
 {
@@ -31,7 +31,7 @@ fn split_second_enctype(version: Version, bytes: &[u8]) -> Option<(u16, &[u8])>
     }
 }
 
-/// The key that the bytes begin with, and the bytes after it.
+/// Returns the key that the bytes begin with, if any, and the bytes after it.
 #[inline(always)]
 #[tactic(auto, unfolding(crate::specs::Credential::key_at))]
 pub fn split_key(version: Version, bytes: &[u8]) -> Option<(KeyView<'_>, &[u8])>

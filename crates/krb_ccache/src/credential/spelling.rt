@@ -1,4 +1,4 @@
-//! Credentials as version 4 spells them.
+//! Writing credentials in version 4.
 
 ghost use Rattle.std.specs.Prelude.{◌≡◌, ◌≤◌, ◌<◌, ◌^◌, ◌+◌, length, IfSome, IfNone};
 ghost use Rattle.std.specs.List.{flat_map, AllByRecursion};
@@ -13,10 +13,10 @@ use crate::lengths::sum_within;
 use krb_wire::{Order, Pen, cc_principal_len};
 use std::alloc::Allocator;
 
-// What a credential takes beside its names, the bytes of its key and tickets, and the items of its lists.
+// The length of a credential without its names, the bytes of its key and tickets, and the items of its lists.
 const FIXED_LEN: usize = 43;
 
-// How much room items leave, if they fit it.
+// Returns how many of `room` bytes are left after the items, or `None` if the items do not fit.
 fn room_after<A: Allocator>(room: usize, items: &[(u16, Vec<u8, A>)]) -> Option<usize>
     requires { room ≤ 2 ^ 30 }
     ensures some { IfSome result (λ n. n + length (flat_map typed_data (owned_list items.now)) ≡ room) }
@@ -73,7 +73,7 @@ fn put_items<A: Allocator>(items: &[(u16, Vec<u8, A>)], pen: &mut Pen<'_>)
     }
 }
 
-// Writes how many items there are, and the items.
+// Writes the number of items, and the items.
 fn put_list<A: Allocator>(items: &[(u16, Vec<u8, A>)], pen: &mut Pen<'_>)
     requires fits { FitsTypedList (owned_list items.now) }
     requires room { HasRoom pen.old (typed_list (owned_list items.now)) }
@@ -83,7 +83,7 @@ fn put_list<A: Allocator>(items: &[(u16, Vec<u8, A>)], pen: &mut Pen<'_>)
     put_items(items, pen);
 }
 
-// Numbers of these types are below their types' ends.
+// Shows that numbers of these types are in the ranges of their types.
 fn in_range(client: u32, server: u32, enctype: u16, is_skey: u8, flags: u32, all: Times)
     ensures client { client < 2 ^ 32 }
     ensures server { server < 2 ^ 32 }
@@ -94,7 +94,7 @@ fn in_range(client: u32, server: u32, enctype: u16, is_skey: u8, flags: u32, all
 {}
 
 impl<A: Allocator> Cred<A> {
-    // Each number is below its type's end.
+    // Shows that each number is in the range of its type.
     fn numbers_fit(&self)
         ensures client { self.now.client.name_type < 2 ^ 32 }
         ensures server { self.now.server.name_type < 2 ^ 32 }
@@ -115,7 +115,7 @@ impl<A: Allocator> Cred<A> {
         );
     }
 
-    // How many bytes it is spelled in, if these are not too many.
+    // Returns its length in version 4, or `None` if that is more than `most`.
     pub(crate) fn len_within(&self, most: usize) -> Option<usize>
         requires { most ≤ 2 ^ 30 }
         ensures some { IfSome result (λ n. n ≡ length (credential V4 self.now)) }
@@ -140,7 +140,7 @@ impl<A: Allocator> Cred<A> {
         Some(most - room)
     }
 
-    // Writes what stands between its names and its lists.
+    // Writes the fields between its names and its lists.
     fn put_middle(&self, pen: &mut Pen<'_>)
         requires fits { FitsKey V4 self.now.key }
         requires room { HasRoom pen.old (middle_text self.now) }
@@ -164,7 +164,7 @@ impl<A: Allocator> Cred<A> {
         pen.put_data32(Order::Big, &self.second_ticket);
     }
 
-    // Writes it.
+    // Writes the credential.
     pub(crate) fn put(&self, pen: &mut Pen<'_>)
         requires fits { FitsCredential V4 self.now }
         requires room { HasRoom pen.old (credential V4 self.now) }

@@ -6,7 +6,7 @@ ghost use Rattle.krb_ccache.specs.Credential.{is_mark, times_at};
 
 use krb_wire::{Order, split_u32};
 
-/// The four times of a credential, in seconds since 1970-01-01T00:00:00Z; 0 where there is none.
+/// The four times of a credential, in seconds since 1970-01-01T00:00:00Z; 0 if there is none.
 #[derive(Clone, Copy, Debug, PartialEq, Eq)]
 pub struct Times {
     pub authtime: u32,
@@ -22,7 +22,7 @@ pub const MARKED_AUTHTIME: u32 = u32::MAX;
 pub const MARKED_ENDTIME: u32 = 0;
 
 impl Times {
-    /// Whether they have the removed mark.
+    /// Returns whether they have the removed mark.
     pub fn are_marked(self) -> bool
         ensures { result ≡ is_mark self }
     {
@@ -30,7 +30,7 @@ impl Times {
     }
 }
 
-/// The times that the bytes begin with, and the bytes after them.
+/// Returns the times that the bytes begin with, if any, and the bytes after them.
 #[inline(always)]
 #[tactic(auto, unfolding(crate::specs::Credential::times_at))]
 pub fn split_times(bytes: &[u8]) -> Option<(Times, &[u8])>

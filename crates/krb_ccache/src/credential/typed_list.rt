@@ -1,4 +1,4 @@
-//! Addresses and authorization data: lists of bytes that each have a type.
+//! Addresses and authorization data: lists of typed items.
 
 ghost use Rattle.std.specs.Prelude.{◌≡◌, ◌<◌, ◌-◌, ◌∷◌, [], length, IsSome, MatchOption, option_map, slice_get};
 ghost use Rattle.std.specs.Iterator.{YieldsFirstBy, item_count};
@@ -8,8 +8,8 @@ ghost use Rattle.krb_ccache.specs.Credential.{TypedData, typed_data_at, typed_li
 use krb_wire::{Order, split_data32, split_u16, split_u32};
 use std::marker::Model;
 
-/// A list that borrows from an image. Its items are spelled one after the other, so one of them is found
-/// after those before it.
+/// A list of typed items, borrowed from an image. The lengths of items vary, so an item is found by a scan of those
+/// before it.
 #[derive(Drop)]
 pub struct TypedList<'a> {
     count: u32,
@@ -28,7 +28,7 @@ impl<'a> Model for TypedList<'a> {
     ghost invariant = { λ x. IsSome (list_at typed_data_at x.count x.items.now) };
 }
 
-// The item that the bytes begin with, and the bytes after it.
+// Returns the item that the bytes begin with, if any, and the bytes after it.
 #[inline(always)]
 #[tactic(auto, unfolding(crate::specs::Credential::typed_data_at))]
 fn split_typed_data(bytes: &[u8]) -> Option<((u16, &[u8]), &[u8])>
@@ -39,7 +39,7 @@ fn split_typed_data(bytes: &[u8]) -> Option<((u16, &[u8]), &[u8])>
     Some(((kind, text), rest))
 }
 
-// The first of `count` items that the bytes begin with, and the bytes after it.
+// Returns the first of the `count` items that the bytes begin with, or `None` if `count` is 0, and the bytes after it.
 fn split_first(count: u32, bytes: &[u8]) -> Option<((u16, &[u8]), &[u8])>
     requires { IsSome (list_at typed_data_at count bytes.now) }
     ensures first { MatchOption result (list_in typed_data_at count bytes.now ≡ [])
@@ -56,7 +56,7 @@ fn split_first(count: u32, bytes: &[u8]) -> Option<((u16, &[u8]), &[u8])>
     Some((first, others))
 }
 
-// The bytes after `count` items.
+// Returns the bytes after `count` items, or `None` if the bytes begin with fewer.
 fn skip_items(count: u32, bytes: &[u8]) -> Option<&[u8]>
     ensures { Gives (λ x. x.now) result (list_end typed_data_at count bytes.now) }
 {
@@ -80,7 +80,7 @@ fn item_at(count: u32, items: &[u8], i: usize) -> Option<(u16, &[u8])>
     Some(item)
 }
 
-/// The list that the bytes begin with, and the bytes after it.
+/// Returns the list that the bytes begin with, if any, and the bytes after it.
 #[inline(always)]
 #[tactic(auto, unfolding(crate::specs::Credential::typed_list_at))]
 pub fn split_typed_list(bytes: &[u8]) -> Option<(TypedList<'_>, &[u8])>
@@ -92,21 +92,21 @@ pub fn split_typed_list(bytes: &[u8]) -> Option<(TypedList<'_>, &[u8])>
 }
 
 impl<'a> TypedList<'a> {
-    /// How many there are.
+    /// Returns the number of items.
     pub fn len(&self) -> usize
         ensures { result ≡ length self.now }
     {
         self.count as usize
     }
 
-    /// The type and the bytes of one of them.
+    /// Returns the type and the bytes of item `i`, or `None` past the last.
     pub fn get(&self, i: usize) -> Option<(u16, &'a [u8])>
         ensures { option_map typed_data_of result ≡ slice_get self.now i }
     {
         item_at(self.count, self.items, i)
     }
 
-    /// All of them, one after the other, in one pass.
+    /// Returns an iterator over the items, which reads them in one pass.
     pub fn items(&self) -> TypedList<'a>
         ensures { result ≡ self.now }
     {

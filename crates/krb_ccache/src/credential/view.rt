@@ -11,7 +11,7 @@ use crate::version::Version;
 use krb_wire::{Order, PrincipalView, split_cc_principal, split_data32, split_u8, split_u32};
 use std::marker::Model;
 
-/// A credential that borrows from an image.
+/// A credential, borrowed from an image.
 #[derive(Drop)]
 pub struct CredView<'a> {
     client: PrincipalView<'a>,
@@ -43,7 +43,7 @@ impl<'a> Model for CredView<'a> {
     } };
 }
 
-/// The credential that the bytes begin with, and the bytes after it.
+/// Returns the credential that the bytes begin with, if any, and the bytes after it.
 #[tactic(auto, unfolding(crate::specs::Credential::credential_at))]
 pub fn split_credential(version: Version, bytes: &[u8]) -> Option<(CredView<'_>, &[u8])>
     ensures { Gives (λ x. (x.0, x.1.now)) result (credential_at version bytes.now) }
@@ -75,7 +75,7 @@ pub fn split_credential(version: Version, bytes: &[u8]) -> Option<(CredView<'_>,
     ))
 }
 
-/// The credential that the bytes begin with.
+/// Returns the credential that the bytes begin with, if any.
 pub fn read_credential(version: Version, bytes: &[u8]) -> Option<CredView<'_>>
     ensures { result ≡ credential_in version bytes.now }
 {
@@ -84,133 +84,133 @@ pub fn read_credential(version: Version, bytes: &[u8]) -> Option<CredView<'_>>
 }
 
 impl<'a> CredView<'a> {
-    /// Whose credential it is.
+    /// Returns the client principal.
     pub fn client(&self) -> &PrincipalView<'a>
         ensures { result.now ≡ self.now.client }
     {
         &self.client
     }
 
-    /// What it is for.
+    /// Returns the server principal.
     pub fn server(&self) -> &PrincipalView<'a>
         ensures { result.now ≡ self.now.server }
     {
         &self.server
     }
 
-    /// The number of the key's enctype.
+    /// Returns the enctype of the session key.
     pub fn enctype(&self) -> u16
         ensures { result ≡ self.now.key.enctype }
     {
         self.key.enctype
     }
 
-    /// The session key.
+    /// Returns the session key.
     pub fn key(&self) -> &'a [u8]
         ensures { result.now ≡ self.now.key.bytes }
     {
         self.key.bytes
     }
 
-    /// When the client was authenticated.
+    /// Returns when the client was authenticated.
     pub fn authtime(&self) -> u32
         ensures { result ≡ self.now.times.authtime }
     {
         self.times.authtime
     }
 
-    /// When it becomes valid; 0 says as soon as the client was authenticated.
+    /// Returns when it becomes valid; 0 means at `authtime`.
     pub fn starttime(&self) -> u32
         ensures { result ≡ self.now.times.starttime }
     {
         self.times.starttime
     }
 
-    /// When it expires.
+    /// Returns when it expires.
     pub fn endtime(&self) -> u32
         ensures { result ≡ self.now.times.endtime }
     {
         self.times.endtime
     }
 
-    /// Until when it can be renewed; 0 where it cannot.
+    /// Returns until when it can be renewed, or 0 if it cannot.
     pub fn renew_till(&self) -> u32
         ensures { result ≡ self.now.times.renew_till }
     {
         self.times.renew_till
     }
 
-    /// Whether the ticket is encrypted in another ticket's session key: 0 where it is not.
+    /// Returns whether the ticket is encrypted in another ticket's session key: 0 if it is not.
     pub fn is_skey(&self) -> u8
         ensures { result ≡ self.now.is_skey }
     {
         self.is_skey
     }
 
-    /// The ticket flags (RFC 4120, section 5.3), the first of them in the highest bit.
+    /// Returns the ticket flags (RFC 4120, section 5.3), the first of them in the highest bit.
     pub fn flags(&self) -> u32
         ensures { result ≡ self.now.flags }
     {
         self.flags
     }
 
-    // Its addresses.
+    // Returns its addresses.
     pub(crate) fn addresses(&self) -> &TypedList<'a>
         ensures { result.now ≡ self.now.addresses }
     {
         &self.addresses
     }
 
-    // Its authorization data.
+    // Returns its authorization data.
     pub(crate) fn authorizations(&self) -> &TypedList<'a>
         ensures { result.now ≡ self.now.authdata }
     {
         &self.authdata
     }
 
-    /// How many addresses it has.
+    /// Returns the number of addresses.
     pub fn address_count(&self) -> usize
         ensures { result ≡ length self.now.addresses }
     {
         self.addresses.len()
     }
 
-    /// The type and the bytes of an address. Those before it are passed.
+    /// Returns the type and bytes of address `i`, or `None` past the last. Scans those before it.
     pub fn address(&self, i: usize) -> Option<(u16, &'a [u8])>
         ensures { option_map typed_data_of result ≡ slice_get self.now.addresses i }
     {
         self.addresses.get(i)
     }
 
-    /// How many elements of authorization data it has.
+    /// Returns the number of elements of authorization data.
     pub fn authdata_count(&self) -> usize
         ensures { result ≡ length self.now.authdata }
     {
         self.authdata.len()
     }
 
-    /// The type and the bytes of an element of authorization data. Those before it are passed.
+    /// Returns the type and bytes of element `i` of authorization data, or `None` past the last. Scans those before it.
     pub fn authdata(&self, i: usize) -> Option<(u16, &'a [u8])>
         ensures { option_map typed_data_of result ≡ slice_get self.now.authdata i }
     {
         self.authdata.get(i)
     }
 
-    /// The ticket itself.
+    /// Returns the ticket.
     pub fn ticket(&self) -> &'a [u8]
         ensures { result.now ≡ self.now.ticket }
     {
         self.ticket
     }
 
-    /// The second ticket, which is empty for most credentials.
+    /// Returns the second ticket, which is empty in most credentials.
     pub fn second_ticket(&self) -> &'a [u8]
         ensures { result.now ≡ self.now.second_ticket }
     {
         self.second_ticket
     }
 
-    /// Whether it has the removed mark: endtime 0, and the greatest authtime.
+    /// Returns whether it has the removed mark: endtime 0 and the greatest authtime.
     pub fn is_marked(&self) -> bool
         ensures { result ≡ is_marked self.now }
     {

@@ -10,7 +10,7 @@ use crate::offset::Offset;
 use crate::version::Version;
 use krb_wire::{Order, read_u32, split_data16, split_u16};
 
-// The tag and the value of the field that the bytes begin with, and the bytes after it.
+// Returns the tag and the value of the field that the bytes begin with, if any, and the bytes after it.
 #[inline(always)]
 #[tactic(auto, unfolding(crate::specs::Header::field_at))]
 fn split_field(bytes: &[u8]) -> Option<((u16, &[u8]), &[u8])>
@@ -21,7 +21,7 @@ fn split_field(bytes: &[u8]) -> Option<((u16, &[u8]), &[u8])>
     Some(((tag, value), rest))
 }
 
-// Whether fields fill the bytes exactly.
+// Returns whether fields fill the bytes exactly.
 fn are_fields(bytes: &[u8]) -> bool
     ensures { result ≡ is_some (fields_in bytes.now) }
 {
@@ -32,7 +32,7 @@ fn are_fields(bytes: &[u8]) -> bool
     rest.is_empty()
 }
 
-/// The bytes after the header: version 3 has none.
+/// Returns the bytes after the header, or `None` if it is damaged. Version 3 has no header.
 #[tactic(auto, unfolding(crate::specs::Header::header_at))]
 pub fn skip_header(version: Version, bytes: &[u8]) -> Option<&[u8]>
     ensures { Gives (λ x. x.now) result (header_end version bytes.now) }
@@ -49,7 +49,7 @@ pub fn skip_header(version: Version, bytes: &[u8]) -> Option<&[u8]>
     }
 }
 
-// The time offset of a field that has one: its tag is 1, and its length 8.
+// Returns the time offset of a field, if it has one: its tag is 1 and its length 8.
 fn offset_of(tag: u16, value: &[u8]) -> Option<Offset>
     ensures { result ≡ offset_of (record { tag = tag; value = value.now }) }
 {
@@ -63,7 +63,7 @@ fn offset_of(tag: u16, value: &[u8]) -> Option<Offset>
     })
 }
 
-// The first time offset among the fields.
+// Returns the first time offset among the fields.
 fn first_offset(fields: &[u8]) -> Option<Offset>
     ensures { result ≡ first_of (filter_map offset_of (contents fields_format fields.now).cells) }
 {
@@ -77,7 +77,7 @@ fn first_offset(fields: &[u8]) -> Option<Offset>
     None
 }
 
-/// The time offset of the header that the bytes begin with.
+/// Returns the time offset in the header that the bytes begin with, if any.
 pub fn header_offset(version: Version, bytes: &[u8]) -> Option<Offset>
     ensures { result ≡ header_offset version bytes.now }
 {

@@ -1,4 +1,4 @@
-//! What a killed run has left under the name of a new file.
+//! A stale file: what a killed run left at the path of a new file.
 
 ghost use Rattle.std.specs.Prelude.{◌≡◌, true, IfOk};
 
@@ -9,18 +9,18 @@ use std::fs::{self, OpenOptions};
 use std::io::{self, ErrorKind};
 use std::rt;
 
-/// What stands under the name of the new file, opened.
+/// An open file found at the path of the new file.
 #[derive(Drop)]
 pub struct Leftover<'p, F> {
     path: &'p str,
     file: F,
     is_locked: bool,
-    /// It is locked, and a killed run has left it.
+    /// True if it is locked and a killed run left it.
     is_abandoned: bool,
 }
 
-// Opens what may be a leftover. To write, since a pipe that was put there meanwhile keeps nobody waiting then,
-// and some file systems lock no other; to read where its owner may not write.
+// Opens what may be a stale file: for writing, since the open then does not block on a pipe put there meanwhile, and
+// some file systems lock no other handle; for reading if its owner may not write.
 fn open_leftover<R: rt::Files>(rt: &R, path: &str) -> io::Result<R::File> {
     match OpenOptions::new().read(true).write(true).open(rt, path) {
         Err(error) if error.kind() == ErrorKind::PermissionDenied => fs::open(rt, path),
@@ -29,7 +29,7 @@ fn open_leftover<R: rt::Files>(rt: &R, path: &str) -> io::Result<R::File> {
 }
 
 impl<R: rt::Files> Calls<'_, R> {
-    /// Whether a killed run has left what was opened.
+    /// Returns whether a killed run left the open file.
     pub fn is_abandoned(&self, file: &mut Leftover<'_, R::File>, users: Users) -> io::Result<bool>
         requires { file.old.is_locked ≡ true }
         ensures { IfOk result (λ is. file.new.is_abandoned ≡ is) }
@@ -40,7 +40,7 @@ impl<R: rt::Files> Calls<'_, R> {
         Ok(file.is_abandoned)
     }
 
-    /// Removes what a killed run has left.
+    /// Removes the stale file.
     pub fn remove_leftover(&self, file: &Leftover<'_, R::File>) -> io::Result<()>
         requires abandoned { file.now.is_abandoned ≡ true }
     {
@@ -52,7 +52,7 @@ impl<R: rt::Files> Calls<'_, R>
 where
     R::File: TakeLock,
 {
-    /// Opens what stands under the name of the new file.
+    /// Opens what is at the path of the new file.
     pub fn open_leftover<'p>(&self, path: &'p str) -> io::Result<Leftover<'p, R::File>> {
         Ok(Leftover {
             path,
@@ -62,7 +62,7 @@ where
         })
     }
 
-    /// Locks it, and answers whether it was free.
+    /// Locks it and returns whether it was free.
     pub fn lock_leftover(&self, file: &mut Leftover<'_, R::File>) -> io::Result<bool>
         ensures { IfOk result (λ is. file.new.is_locked ≡ is) }
     {

@@ -1,4 +1,4 @@
-//! What is asked of the old file, and the rename that ends a save.
+//! The calls on the old file, and the rename that completes a save.
 
 ghost use Rattle.std.specs.Prelude.{◌≡◌, ◌≤◌, ◌∷◌, IfOk, OnOk, OnErr, IsTrue, string_bytes, vec_len};
 ghost use Rattle.std.specs.Path.{path_buf_bytes};
@@ -25,23 +25,23 @@ use std::fs::{self, OpenFile};
 use std::io::{self, ErrorKind};
 use std::rt;
 
-/// How many bytes a file that is loaded to be changed may gain before its image moves.
+/// How many bytes may be added to a held file's image before it is reallocated.
 const ROOM_TO_GROW: u64 = 131_072;
 
 impl<R: rt::Files> Calls<'_, R> {
-    /// What stands under the name of the old file.
+    /// Returns what is at the path of the old file. A symbolic link is not followed.
     pub fn see(&self, path: &str) -> io::Result<Option<Found>> {
         self.looks.look(path)
     }
 
-    /// Lets the names in a folder outlast a crash.
+    /// Syncs a folder, so that the names in it survive a crash.
     pub fn sync_folder(&self, folder: &str) -> io::Result<()> {
         fs::open(self.rt, folder)?.sync_all()
     }
 }
 
 impl<R: rt::Files + Alloc> Calls<'_, R> {
-    /// Loads the old file, with room to grow.
+    /// Loads the old file, with spare capacity.
     pub fn load<A: Allocator>(
         &self,
         alloc: A,
@@ -53,7 +53,7 @@ impl<R: rt::Files + Alloc> Calls<'_, R> {
         read_file(&self.looks, alloc, path, limit, ROOM_TO_GROW)
     }
 
-    /// Whether what was seen of the old file stands under its name now.
+    /// Returns whether the old file is still as it was seen.
     pub fn compare(
         &self,
         file: &mut NewFile<String<R::A>, R::File>,
@@ -75,7 +75,7 @@ impl<R: rt::Files + Alloc> Calls<'_, R> {
         Ok(is_same)
     }
 
-    /// Gives the new file, which has these bytes, the name of the old one. That ends a save.
+    /// Renames the new file, which has these bytes, over the old one. That completes the save.
     pub fn rename(
         &mut self,
         file: &mut NewFile<String<R::A>, R::File>,
@@ -101,7 +101,7 @@ impl<R: rt::Files + Alloc> Calls<'_, R> {
 }
 
 impl<R: rt::Files + rt::Clock + Alloc> Calls<'_, R> {
-    /// Whether no program has locked a file beside the new one to write in it.
+    /// Returns whether no program has or awaits a record lock to write on `file`, which is beside the new file.
     pub fn is_quiet(
         &self,
         beside: &NewFile<String<R::A>, R::File>,
@@ -112,7 +112,7 @@ impl<R: rt::Files + rt::Clock + Alloc> Calls<'_, R> {
         Ok(!is_locked(&self.looks, &file, LockKind::Record, patience)?)
     }
 
-    /// Whether no program has locked the old file, as it was compared, to write in it.
+    /// Returns whether no program has or awaits a record lock to write on the old file that was compared.
     pub fn watch(
         &self,
         file: &mut NewFile<String<R::A>, R::File>,

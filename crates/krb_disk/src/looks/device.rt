@@ -5,21 +5,21 @@ ghost use Rattle.krb_disk.specs.Device.{device_number, is_on_device, is_place_of
 
 use crate::looks::Found;
 
-/// A device by its two numbers.
+/// A device, by its major and minor numbers.
 #[derive(Clone, Copy, Drop)]
 pub struct Device {
     major: u64,
     minor: u64,
 }
 
-/// A device, and the number of a file on it.
+/// A file as the list of locks names it: its device and inode.
 #[derive(Clone, Copy, Drop)]
 pub struct Place {
     device: Device,
     inode: u64,
 }
 
-/// A file, and the device of the mount on which it is, where that is known.
+/// A file by its device and inode, with the device of its mount, if known.
 #[derive(Clone, Copy, Drop)]
 pub struct Mounted {
     device: Device,
@@ -27,14 +27,14 @@ pub struct Mounted {
     inode: u64,
 }
 
-// A number in decimal or hexadecimal digits.
+// Parses a number in decimal or hexadecimal digits.
 fn parse_number(word: &str, is_decimal: bool) -> Option<u64> {
     let radix = if is_decimal { 10 } else { 16 };
     u64::from_str_radix(word, radix).ok()
 }
 
 impl Device {
-    /// The two numbers that Linux puts into one: the major has its bits 8 to 19 and 44 to 63, the minor the others.
+    /// Splits a device number as Linux encodes it: bits 8 to 19 and 44 to 63 are the major, the others the minor.
     pub fn of(number: u64) -> Device
         ensures { result ≡ device_number number }
     {
@@ -44,7 +44,7 @@ impl Device {
         }
     }
 
-    /// The device that a word as `fe:00` names, with numbers of that radix.
+    /// Parses a device such as `fe:00`, with decimal or hexadecimal numbers.
     pub fn parse(word: &str, is_decimal: bool) -> Option<Device> {
         let (major, minor) = word.split_once(':')?;
         Some(Device {
@@ -55,7 +55,7 @@ impl Device {
 }
 
 impl Place {
-    /// The place that a word as `fe:00:131` names.
+    /// Parses a place such as `fe:00:131`: a device in hexadecimal, an inode in decimal.
     pub fn parse(word: &str) -> Option<Place> {
         let (device, inode) = word.rsplit_once(':')?;
         Some(Place {
@@ -78,7 +78,7 @@ impl Mounted {
         }
     }
 
-    // Whether a place on that device may be one on the file's.
+    // Returns whether that device is, or may be, the file's.
     fn is_on(&self, device: Device) -> bool
         ensures { result ≡ is_on_device self.now.device self.now.mount device }
     {
@@ -89,9 +89,9 @@ impl Mounted {
         }
     }
 
-    /// Whether that is, or may be, its place in the list of locks. A file system without a disk of its own may
-    /// have one device there and in the list of mounts, and another where a file is looked at. The major of
-    /// both is 0, and where the mount is not known all such devices are taken for one.
+    /// Returns whether that is, or may be, the file's place in the list of locks. A file system without a disk of its
+    /// own may have one device in the lists of locks and mounts, and another in `stat`. Both have major 0; if the
+    /// mount is unknown, all such devices count as one.
     pub fn is_at(&self, place: Place) -> bool
         ensures { result ≡ is_place_of self.now place }
     {

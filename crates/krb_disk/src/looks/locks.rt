@@ -1,4 +1,4 @@
-//! Files that other programs have locked.
+//! Finds out whether another program has locked a file.
 
 use crate::fault::DiskFault;
 use crate::looks::Looks;
@@ -8,27 +8,27 @@ use krb_files::{LoadFault, WatchedReader, append_read};
 use krb_wire::USUAL_LIMIT;
 use std::{rt, str};
 
-/// The system's list of locks, and of those that are waited for, each a line, as
+/// The system's list of locks that are taken or awaited, one a line, such as
 /// `1: -> OFDLCK ADVISORY  WRITE -1 fe:00:131 0 EOF`.
 const LOCKS: &str = "/proc/locks";
 
-/// The most bytes that are read of it. Who has more locks than that may have this one.
+/// The most bytes read of the list. If it is longer, the file counts as locked.
 const MOST_BYTES: usize = USUAL_LIMIT as usize;
 
-/// How many bytes one read asks for: the system gives no more at once.
+/// How many bytes one read requests: the system returns no more at once.
 const PIECE: usize = 4096;
 
-/// How often the list is read before a file counts as not locked. Between two pieces the system finds its place
-/// again by counting the locks before it, so where one of these goes meanwhile it leaves out a lock that is
-/// there all the time: up to 31 in 2,000 readings were without it, and so one in 10^9 are five in a row.
+/// How often the list is read before a file counts as not locked. Between two reads the system finds its place again
+/// by counting the locks before it, so if one of these goes meanwhile, it skips a lock that is there all the time:
+/// up to 31 in 2,000 readings missed it, so five in a row do about once in 10^9.
 const READINGS: u32 = 5;
 
-/// Two kinds of locks, which do not see each other.
+/// The two kinds of locks. They do not conflict with each other.
 #[derive(Clone, Copy)]
 pub enum LockKind {
-    /// Of `flock`: ours on a new file.
+    /// `flock`: ours, on a new file.
     WholeFile,
-    /// Of `fcntl`: those of MIT's programs on a file that they change.
+    /// `fcntl` record locks: MIT's, on a file that its programs change.
     Record,
 }
 
@@ -41,7 +41,7 @@ impl LockKind {
     }
 }
 
-// Whether a word is the place of that file.
+// Returns whether a word is, or may be, the place of that file.
 fn is_place(word: &str, file: &Mounted) -> bool {
     match Place::parse(word) {
         Some(place) => file.is_at(place),
@@ -49,7 +49,7 @@ fn is_place(word: &str, file: &Mounted) -> bool {
     }
 }
 
-// Whether a line is of a lock to write of that kind.
+// Returns whether a line is a write lock of that kind on that file, taken or awaited.
 fn is_lock(line: &str, kind: LockKind, file: &Mounted) -> bool {
     let mut words = line.split_ascii_whitespace();
     words.any(|word| kind.is_called(word))
@@ -57,7 +57,7 @@ fn is_lock(line: &str, kind: LockKind, file: &Mounted) -> bool {
         && words.any(|word| is_place(word, file))
 }
 
-// Whether a list has such a line.
+// Returns whether a list has such a line.
 fn has_lock(list: &[u8], kind: LockKind, file: &Mounted) -> bool {
     match str::from_utf8(list) {
         Ok(list) => list.lines().any(|line| is_lock(line, kind, file)),
@@ -65,8 +65,8 @@ fn has_lock(list: &[u8], kind: LockKind, file: &Mounted) -> bool {
     }
 }
 
-// Reads the list, in place of what was read before. The answer is whether that was all of it, or all that a
-// read that fails left, before the time was over. Where there is no list, no program has a lock.
+// Reads the list from scratch into `list`. Returns whether its end, or a read that failed, came before the deadline
+// and within `MOST_BYTES`. A list that cannot be opened has no locks.
 fn read_list<R: rt::Files + rt::Clock + Alloc>(
     looks: &Looks<'_, R>,
     list: &mut Vec<u8, R::A>,
@@ -91,8 +91,8 @@ fn read_list<R: rt::Files + rt::Clock + Alloc>(
     Ok(false)
 }
 
-/// Whether a program has locked a file to write in it, or waits to, as far as the system says. Where that is not
-/// known before the time is over, one has.
+/// Returns whether a program has or awaits a lock of that kind to write on the file, as far as the system reports.
+/// If that is not known by the deadline, returns true.
 pub fn is_locked<R: rt::Files + rt::Clock + Alloc>(
     looks: &Looks<'_, R>,
     file: &Mounted,

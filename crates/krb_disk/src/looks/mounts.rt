@@ -7,14 +7,14 @@ use crate::read::read_file;
 use krb_wire::USUAL_LIMIT;
 use std::{rt, str};
 
-/// Where the system says of an open file, by its number, on which mount it is: a line as `mnt_id: 25`.
+/// Where the system reports the mount of an open file, by its descriptor, in a line such as `mnt_id: 25`.
 const OPEN_FILES: &str = "/proc/self/fdinfo/";
 
-/// The system's list of mounts, each a line that begins with its number, that of the mount above it and its
-/// device, as `25 1 0:38 / /tmp`.
+/// The system's list of mounts, one a line. A line begins with the number of the mount, that of its parent and its
+/// device, such as `25 1 0:38 / /tmp`.
 const MOUNTS: &str = "/proc/self/mountinfo";
 
-// What the system says there, if it does.
+// Reads the text at `path`. Returns `None` if it cannot be read.
 fn read_text<R: rt::Files + Alloc>(
     looks: &Looks<'_, R>,
     path: &str,
@@ -26,7 +26,7 @@ fn read_text<R: rt::Files + Alloc>(
     }
 }
 
-// The number of the mount of an open file.
+// Returns the mount's number, in the text of an open file.
 fn mount_of(text: &[u8]) -> Option<&str> {
     for line in str::from_utf8(text).ok()?.lines() {
         if let Some(mount) = line.strip_prefix("mnt_id:") {
@@ -36,7 +36,7 @@ fn mount_of(text: &[u8]) -> Option<&str> {
     None
 }
 
-// The device of a line of the list, if it is that of the mount.
+// Returns the device in a line of the list, if the line is that of the mount.
 fn device_of(line: &[u8], mount: &str) -> Option<Device> {
     let mut words = str::from_utf8(line).ok()?.split_ascii_whitespace();
     if words.next()? != mount {
@@ -46,7 +46,7 @@ fn device_of(line: &[u8], mount: &str) -> Option<Device> {
     Device::parse(words.next()?, true)
 }
 
-// The device of a mount of the list.
+// Returns the device of a mount in the list.
 fn find_device(list: &[u8], mount: &str) -> Option<Device> {
     for line in list.split(|byte| *byte == b'\n') {
         if let Some(device) = device_of(line, mount) {
@@ -56,7 +56,7 @@ fn find_device(list: &[u8], mount: &str) -> Option<Device> {
     None
 }
 
-/// The device of the mount on which the open file of that number is, as far as the system says.
+/// Returns the device of the mount of the open file with that descriptor, or `None` if the system does not report it.
 pub fn mount_device<R: rt::Files + Alloc>(
     looks: &Looks<'_, R>,
     number: i32,

@@ -1,18 +1,18 @@
-//! Whether two looks were at one file.
+//! Compares what was seen of files.
 
 ghost use Rattle.std.specs.Prelude.{◌↔◌, IsTrue};
 ghost use Rattle.krb_disk.specs.Looks.{IsSameFile, IsUnchanged};
 
 use crate::looks::Found;
 
-/// Whether these are of one file.
+/// Returns whether both are the same file: one device and inode.
 pub fn is_same_file(one: &Found, other: &Found) -> bool
     ensures { IsTrue result ↔ IsSameFile one.now other.now }
 {
     one.device == other.device && one.inode == other.inode
 }
 
-/// Whether these are of one file whose kind, mode, owner, group and size did not change.
+/// Returns whether both are the same file, with the same type, mode, owner, group and size.
 pub fn is_unchanged(old: &Found, new: &Found) -> bool
     ensures { IsTrue result ↔ IsUnchanged old.now new.now }
 {

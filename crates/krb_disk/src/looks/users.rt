@@ -1,4 +1,4 @@
-//! Of whom a leftover may be.
+//! Which owners of a stale file are accepted.
 
 ghost use Rattle.std.specs.Prelude.{◌↔◌, IsTrue};
 ghost use Rattle.krb_disk.specs.Looks.{MayBeLeft};
@@ -6,10 +6,10 @@ ghost use Rattle.krb_disk.specs.Looks.{MayBeLeft};
 use crate::looks::{Found, Looks};
 use std::rt;
 
-/// Where the system tells which user runs this program.
+/// Where the system reports which user runs this program.
 const THIS_PROCESS: &str = "/proc/self";
 
-/// The users of whom a leftover may be.
+/// The users who may own a stale file.
 #[derive(Clone, Copy)]
 pub struct Users {
     owner: Option<u32>,
@@ -17,7 +17,7 @@ pub struct Users {
 }
 
 impl Users {
-    /// The owner of the file that is to be changed, and who runs this program, as far as the system tells.
+    /// Returns the owner of the file to be changed, and the user who runs this program, if the system reports it.
     pub fn of_run<R: rt::Files>(looks: &Looks<'_, R>, owner: Option<u32>) -> Users {
         let this = match looks.come_to(THIS_PROCESS) {
             Ok(process) => Some(process.owner),
@@ -26,7 +26,7 @@ impl Users {
         Users { owner, this }
     }
 
-    /// Whether a killed run may have left this file.
+    /// Returns whether a killed run may have left this file.
     pub fn may_have_left(self, found: &Found) -> bool
         ensures { IsTrue result ↔ MayBeLeft self.owner self.this found.now }
     {

@@ -1,4 +1,4 @@
-//! What a command line matched.
+//! A command line after it was matched against its command's words.
 
 ghost use Rattle.std.specs.Prelude.{◌≡◌, None, Ok, length, option_and_then, option_map, slice_get};
 ghost use Rattle.krb_wire.specs.NameOf.{name_of};
@@ -10,27 +10,27 @@ use crate::command_line::mistake::{Mistake, WordFault};
 use krb_wire::{NameFault, Order, Principal, parse_name};
 use std::alloc::Global;
 
-/// What a command line matched, by the names of its command's words.
+/// The flags, operands and option values of a command line, by the names of its command's words.
 pub trait Matches<'a> {
     ghost use Rattle.std.specs.Prelude.{map};
     ghost use Rattle.krb_driver.specs.Matches.{Matched};
 
     ghost matched: { Self → Matched };
 
-    /// Whether that flag is given.
+    /// Returns whether that flag is given.
     fn flag(&self, name: &str) -> bool
         ensures { result ≡ (matched self.now).flag name.now };
 
-    /// That operand. No line is matched without it.
+    /// Returns that operand. A line without it does not match.
     fn operand(&self, name: &str) -> &'a str
         ensures { result.now ≡ (matched self.now).operand name.now };
 
-    /// The values that the option is given, in their order.
+    /// Returns the values given to that option, in order.
     fn values(&self, name: &str) -> &[&'a str]
         ensures { map (λ word. word.now) result.now ≡ (matched self.now).values name.now };
 }
 
-/// How often an option is given.
+/// Returns how many times an option is given.
 #[tactic(auto, using(crate::proofs::MatchLemmas::length_words))]
 pub fn times_given<'a, M: Matches<'a>>(matches: &M, name: &str) -> usize
     ensures { result ≡ length ((M.matched matches.now).values name.now) }
@@ -38,7 +38,7 @@ pub fn times_given<'a, M: Matches<'a>>(matches: &M, name: &str) -> usize
     matches.values(name).len()
 }
 
-/// The first value of an option.
+/// Returns the first value of an option.
 #[tactic(auto, using(crate::proofs::MatchLemmas::first_word))]
 pub fn first_value<'a, M: Matches<'a>>(matches: &M, name: &str) -> Option<&'a str>
     ensures { option_map (λ word. word.now) result ≡ slice_get ((M.matched matches.now).values name.now) 0 }
@@ -46,7 +46,7 @@ pub fn first_value<'a, M: Matches<'a>>(matches: &M, name: &str) -> Option<&'a st
     matches.values(name).first().copied()
 }
 
-/// The order of a keytab of version 1.
+/// Returns the byte order of version 1 keytabs: big-endian if `--v1-big` is given.
 pub fn v1_order<'a, M: Matches<'a>>(matches: &M) -> Order
     ensures { result ≡ v1_order (M.matched matches.now) }
 {
@@ -57,7 +57,7 @@ pub fn v1_order<'a, M: Matches<'a>>(matches: &M) -> Order
     }
 }
 
-/// The name that a word spells, with its realm.
+/// Parses a word as a principal name with a realm.
 pub fn spelled_name<'a>(alloc: Global, word: &'a str) -> Result<Principal<Global>, WordFault<'a>>
     ensures { Reads (bad_name word.now) (λ name. name_of word.now None ≡ Ok (principal_parts name)) result }
 {
@@ -68,7 +68,7 @@ pub fn spelled_name<'a>(alloc: Global, word: &'a str) -> Result<Principal<Global
     }
 }
 
-/// The name that a word spells, if there is a word.
+/// Parses a word, if there is one, as a principal name with a realm.
 pub fn asked_name<'a>(
     alloc: Global,
     word: Option<&'a str>,

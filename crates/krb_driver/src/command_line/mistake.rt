@@ -6,8 +6,8 @@ ghost use Rattle.krb_driver.specs.declared.command_line.mistake.WordFault.TheVar
 use krb_wire::NameFault;
 use std::alloc::AllocError;
 
-/// What is wrong with a command line. A word is shown as it stands there, an operand that is missing by its name
-/// in the synopsis.
+/// What is wrong with a command line. Words are given as they are on the line, and a missing operand by its name in
+/// the synopsis.
 #[derive(Clone, Copy)]
 pub enum Mistake<'a> {
     NoCommand,
@@ -30,7 +30,7 @@ pub enum Mistake<'a> {
     NotText,
 }
 
-/// A mistake, and the command whose help says more, where there is one.
+/// A mistake, and the command whose help says more, if there is one.
 #[derive(Clone, Copy)]
 pub struct BadLine<'a> {
     pub mistake: Mistake<'a>,
@@ -47,7 +47,7 @@ pub enum WordFault<'a> {
 impl<'a> WordFault<'a> {
     ghost use Rattle.krb_driver.specs.Mistakes.{in_command, word_number};
 
-    /// That words have that mistake.
+    /// Returns the fault for that mistake, with no command.
     pub fn of(mistake: Mistake<'a>) -> WordFault<'a>
         ensures { result ≡ WordFault.BadLine (record { mistake = mistake.entry; command = None }) }
     {
@@ -57,7 +57,7 @@ impl<'a> WordFault<'a> {
         })
     }
 
-    /// The same of words of that command.
+    /// Returns the same fault, for words of that command.
     pub fn in_command(self, command: &'a str) -> WordFault<'a>
         ensures { result ≡ in_command command.entry self.entry }
     {
@@ -70,7 +70,7 @@ impl<'a> WordFault<'a> {
         }
     }
 
-    /// 1 for a bad line, 2 where an allocation failed.
+    /// Returns 1 for a bad line, 2 if an allocation failed.
     pub fn number(self) -> u32
         ensures { result ≡ word_number self.entry }
     {

@@ -1,6 +1,6 @@
 //! The words of a command, as help shows them.
 
-/// A word of a command line: its name, its letter if it has one, the name of its value, and what help says of it.
+/// A word of a command line: its name, its letter if it has one, the name of its value, and its help text.
 #[derive(Clone, Copy)]
 pub enum Word {
     Flag(&'static str, char, &'static str),
@@ -22,7 +22,7 @@ pub enum CommandName {
     Ktutil,
 }
 
-/// A command: which one it is, its name, what help says of it, how it is used, what help says after that, and its words.
+/// A command: which one it is, its name, its help text, its usage, the help text after that, and its words.
 #[derive(Clone, Copy)]
 pub struct CommandWords {
     pub command: CommandName,
@@ -33,10 +33,10 @@ pub struct CommandWords {
     pub words: &'static [Word],
 }
 
-/// What --v1-big does.
+/// The flag `--v1-big`.
 pub const V1_BIG: Word = Word::LongFlag("v1-big", "Version 1 files are big-endian");
 
-/// What -n does.
+/// The flag `-n`, `--dry-run`.
 pub const DRY_RUN: Word = Word::Flag(
     "dry-run",
     'n',

@@ -4,7 +4,7 @@ use krb_files::Watched;
 use std::io::Write;
 use std::marker::Model;
 
-/// An error output, and whether words are shown on it beside the messages.
+/// An error output, and whether words that explain follow its messages.
 #[derive(Drop)]
 pub struct ErrorOutput<E: Write> {
     pub to: Watched<E>,

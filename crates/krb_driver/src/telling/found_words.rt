@@ -14,7 +14,7 @@ use krb_files::Watched;
 use krb_walk::Fault;
 use std::io::Write;
 
-// A line, if its word was printed.
+// Returns a line if its word was printed, else nothing.
 fn line_if(is_told: bool, line: &'static str) -> Piece<'static>
     ensures { piece_text result ≡ (if is_told then line.now else []) }
 {
@@ -25,7 +25,7 @@ fn line_if(is_told: bool, line: &'static str) -> Piece<'static>
     }
 }
 
-// A line for each word that was printed.
+// Returns a line for each word that was printed.
 fn word_lines(told: Told) -> [Piece<'static>; 6]
     ensures { pieces_text result ≡ word_lines told }
 {
@@ -54,7 +54,7 @@ fn word_lines(told: Told) -> [Piece<'static>; 6]
     ]
 }
 
-// The fault that was found, if one was.
+// Returns the words for the fault that was found, if any.
 fn fault_words(file: &[u8], fault: Option<Fault>) -> Words<'_>
     ensures { pieces_text result ≡ found_fault_words file.now fault }
 {
@@ -64,8 +64,7 @@ fn fault_words(file: &[u8], fault: Option<Fault>) -> Words<'_>
     }
 }
 
-/// Says what the words of findings mean, each once, and the fault, in one write if they have room. A failure
-/// is passed over.
+/// Explains the words of findings, each once, and the fault, in one write if they fit. Ignores a failure.
 pub fn say_findings<E: Write>(err: &mut Watched<E>, findings: &Findings, file: &[u8])
     ensures { Says err.old err.new (found_words file.now findings.now) }
 {

@@ -1,4 +1,4 @@
-//! What is said of a command line that was not read.
+//! The messages for a command line that was not read.
 
 ghost use Rattle.std.specs.Prelude.{◌≡◌, ℕ, List, [], ◌++◌, codes, option_map};
 ghost use Rattle.krb_driver.specs.Messages.{message};
@@ -17,7 +17,7 @@ const NONE: Piece<'static> = Piece::Text("");
 
 const HEAD: Piece<'static> = Piece::Text("krbfile: bad command line\nkrbfile: ");
 
-/// The pieces of a bad command line and what is wrong with it. What is not needed is empty.
+/// The pieces of the message for a bad command line. Unused ones are empty.
 type Line<'a> = [Piece<'a>; 5];
 
 // A text alone.
@@ -71,7 +71,7 @@ fn apart<'a>(option: &'a str, other: &'a str) -> Line<'a>
     ]
 }
 
-// A bad command line, and what is wrong with it.
+// Returns the message for a mistake.
 fn mistake_pieces(mistake: Mistake<'_>) -> Line<'_>
     ensures { (rest : List ℕ) → pieces_before result rest
         ≡ mistake_head ++ mistake_line (mistake_parts mistake.entry) rest }
@@ -96,7 +96,7 @@ fn mistake_pieces(mistake: Mistake<'_>) -> Line<'_>
     }
 }
 
-// Where more is said.
+// Returns the reference to the help: krbfile's, or a command's.
 fn help_pieces(command: Option<&str>) -> [Piece<'_>; 3]
     ensures { pieces_text result ≡ help_of (option_map (λ name. name.now) command.entry) }
 {
@@ -107,7 +107,7 @@ fn help_pieces(command: Option<&str>) -> [Piece<'_>; 3]
     }
 }
 
-// Says that a command line is bad, what is wrong with it, and where more is said.
+// Reports that a command line is bad, what is wrong with it, and which help to see.
 fn say_mistake<E: Write>(line: BadLine<'_>, err: &mut Watched<E>)
     ensures { Says err.old err.new (message (codes "bad command line")
         ++ mistake_words line.entry.mistake (option_map (λ name. name.now) line.entry.command)) }
@@ -116,14 +116,14 @@ fn say_mistake<E: Write>(line: BadLine<'_>, err: &mut Watched<E>)
     say(err, &mistake, &help_pieces(line.command));
 }
 
-// Says a message without words.
+// Writes a message without words.
 fn say_alone<E: Write>(text: &'static str, err: &mut Watched<E>)
     ensures { Says err.old err.new (text.now ++ []) }
 {
     say(err, &[Piece::Text(text)], &[]);
 }
 
-/// Tells on `err` why words were not read, and answers the status. A failure of `err` is passed over.
+/// Reports on `err` why words were not read, and returns the exit status. Ignores a failure of `err`.
 pub fn tell_word_fault<E: Write>(fault: WordFault<'_>, err: &mut ErrorOutput<E>) -> u8
     ensures said { Says err.old.to err.new.to (word_text err.old.explains fault.entry) }
     ensures still { err.new.explains ≡ err.old.explains }

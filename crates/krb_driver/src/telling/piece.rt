@@ -13,11 +13,11 @@ pub enum Piece<'a> {
     Name(&'a [u8]),
     /// In decimal.
     Number(u64),
-    /// A word of the command line, its bytes that are not printable as `\x` and two digits.
+    /// A word of the command line. Each byte that is not printable becomes `\x` and two hex digits.
     Word(&'a str),
 }
 
-/// A byte of a word as it is shown.
+/// Returns a byte of a word as it is printed.
 pub fn shown_byte(byte: u8) -> ArrayVec<u8, 4>
     ensures { result.items ≡ shown_byte byte }
 {

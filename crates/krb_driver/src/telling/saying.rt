@@ -1,4 +1,4 @@
-//! Messages, each in one write.
+//! Writes each message in one write, if it fits.
 
 ghost use Rattle.std.specs.Prelude.{◌++◌, OnOk, OnErr, IsTrue};
 ghost use Rattle.krb_files.specs.Bytes.{AppendsPrefix};
@@ -12,13 +12,13 @@ use itoa::Buffer;
 use krb_files::{OutFault, Watched, put};
 use std::io::Write;
 
-// The most bytes of a message and its words that go out in one write.
+// The size of the buffer: a message and its words of at most that many bytes go out in one write.
 const ROOM: usize = 4352;
 
-/// A message as far as it is gathered.
+/// A buffer with the part of a message that is not yet written.
 pub type Gathered = ArrayVec<u8, ROOM>;
 
-// Gathers one more text. Where there is no room for it, writes what was gathered, and then the text.
+// Adds a text to the buffer. If there is no room for it, writes out the buffer and then the text.
 fn add<E: Write>(text: &[u8], gathered: &mut Gathered, err: &mut Watched<E>) -> Result<(), OutFault>
     ensures ok { OnOk result (Sent err.old.contents err.new.contents
         (gathered.old.items ++ text.now) gathered.new.items) }
@@ -36,7 +36,7 @@ fn add<E: Write>(text: &[u8], gathered: &mut Gathered, err: &mut Watched<E>) -> 
     }
 }
 
-// Gathers a word as it is shown.
+// Adds a word as it is printed.
 fn add_word<E: Write>(
     word: &[u8],
     gathered: &mut Gathered,
@@ -73,7 +73,7 @@ fn add_piece<E: Write>(
     }
 }
 
-/// Gathers pieces one after the other.
+/// Adds pieces one after the other.
 pub fn add_pieces<E: Write>(
     pieces: &[Piece<'_>],
     gathered: &mut Gathered,
@@ -91,7 +91,7 @@ pub fn add_pieces<E: Write>(
     Ok(())
 }
 
-// Gathers two texts.
+// Adds two lists of pieces.
 fn add_both<E: Write>(
     first: &[Piece<'_>],
     second: &[Piece<'_>],
@@ -108,7 +108,7 @@ fn add_both<E: Write>(
     add_pieces(second, gathered, err)
 }
 
-/// Says a message and what explains it, in one write if they have room. A failure is passed over.
+/// Writes a message and the words that explain it, in one write if they fit. Ignores a failure.
 pub fn say<E: Write>(err: &mut Watched<E>, message: &[Piece<'_>], words: &[Piece<'_>])
     ensures { Says err.old err.new (pieces_text message.now ++ pieces_text words.now) }
 {

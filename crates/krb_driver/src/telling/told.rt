@@ -1,4 +1,4 @@
-//! What replies tell of.
+//! The refusals and faults that replies report.
 
 ghost use Rattle.std.specs.Prelude.{◌≡◌};
 ghost use Rattle.std.specs.List.{list_any};
@@ -9,8 +9,8 @@ use crate::verdict::{FileKind, Verdict};
 use krb_walk::{Code, FaultKind, Reply};
 use std::alloc::Allocator;
 
-/// The kind of file that replies speak of, and the codes and the faults that they tell of, each at its place in
-/// the order of their numbers.
+/// The codes and the faults that replies report, each at its place in the order of their numbers, and the kind of
+/// file that they are about.
 #[derive(Clone, Copy)]
 pub struct Told {
     pub kind: FileKind,
@@ -18,7 +18,7 @@ pub struct Told {
     pub faults: [Option<FaultKind>; 4],
 }
 
-// Whether a reply tells of a refusal or of a fault.
+// Returns whether a reply is a refusal or a fault.
 fn is_trouble<A: Allocator>(reply: &Reply<A>) -> bool
     ensures { result ≡ is_trouble (said reply.now) }
 {
@@ -28,7 +28,7 @@ fn is_trouble<A: Allocator>(reply: &Reply<A>) -> bool
     }
 }
 
-// Whether a reply tells of that code.
+// Returns whether a reply is a refusal with that code.
 fn tells_code<A: Allocator>(code: Code, reply: &Reply<A>) -> bool
     ensures { result ≡ tells_code code (said reply.now) }
 {
@@ -38,7 +38,7 @@ fn tells_code<A: Allocator>(code: Code, reply: &Reply<A>) -> bool
     }
 }
 
-// Whether a reply tells of that fault.
+// Returns whether a reply is a fault of that kind.
 fn tells_fault<A: Allocator>(kind: FaultKind, reply: &Reply<A>) -> bool
     ensures { result ≡ tells_fault kind (said reply.now) }
 {
@@ -60,7 +60,7 @@ fn is_fault_told<A: Allocator>(replies: &[Reply<A>], kind: FaultKind) -> bool
     replies.iter().any(|reply| tells_fault(kind, reply))
 }
 
-// The code, if some reply tells of it.
+// Returns the code if some reply reports it.
 fn code_told<A: Allocator>(replies: &[Reply<A>], code: Code) -> Option<Code>
     ensures { result ≡ code_told said replies.now code }
 {
@@ -71,7 +71,7 @@ fn code_told<A: Allocator>(replies: &[Reply<A>], code: Code) -> Option<Code>
     }
 }
 
-// The fault, if some reply tells of it.
+// Returns the kind of fault if some reply reports it.
 fn fault_told<A: Allocator>(replies: &[Reply<A>], kind: FaultKind) -> Option<FaultKind>
     ensures { result ≡ fault_told said replies.now kind }
 {
@@ -117,7 +117,7 @@ fn are_trouble<A: Allocator>(replies: &[Reply<A>]) -> bool
     replies.iter().any(is_trouble)
 }
 
-/// The end of a run that printed these replies of a file of that kind.
+/// Returns the verdict of a run that printed these replies about a file of that kind.
 pub fn replied_verdict<A: Allocator>(kind: FileKind, replies: &[Reply<A>]) -> Verdict
     ensures { result ≡ replied_verdict kind said replies.now }
 {

@@ -1,4 +1,4 @@
-//! The words that explain what replies tell of.
+//! The words that explain the refusals and faults of replies.
 
 ghost use Rattle.std.specs.Prelude.{◌≡◌, ◌++◌, OnOk, OnErr, IsTrue};
 ghost use Rattle.std.specs.List.{flat_map};
@@ -18,12 +18,12 @@ use krb_files::{OutFault, Watched, put};
 use krb_walk::{Code, FaultKind};
 use std::io::Write;
 
-/// The pieces of a line. What is not needed is empty.
+/// The pieces of a line. Unused ones are empty.
 type Line = [Piece<'static>; 5];
 
 const NO_LINE: Line = [Piece::Text(""); 5];
 
-// A refusal that replies tell of, and its phrase.
+// Returns the line for a refusal: its number and its phrase.
 fn code_line(kind: FileKind, code: Option<Code>) -> Line
     ensures { pieces_text result ≡ code_words kind code }
 {
@@ -39,7 +39,7 @@ fn code_line(kind: FileKind, code: Option<Code>) -> Line
     ]
 }
 
-// A fault that replies tell of, and its phrase.
+// Returns the line for a fault: its number and its phrase.
 fn fault_line(kind: Option<FaultKind>) -> Line
     ensures { pieces_text result ≡ fault_words kind }
 {
@@ -90,7 +90,7 @@ fn add_faults<E: Write>(
     Ok(())
 }
 
-// Gathers the lines of what replies tell of.
+// Adds the lines for what replies report.
 fn add_told<E: Write>(
     told: &Told,
     gathered: &mut Gathered,
@@ -106,7 +106,7 @@ fn add_told<E: Write>(
     add_faults(&told.faults, gathered, err)
 }
 
-/// Says what replies tell of, each number once, in one write. A failure is passed over.
+/// Explains what replies report, each number once, in one write. Ignores a failure.
 pub fn say_told<E: Write>(err: &mut Watched<E>, told: &Told)
     ensures { Says err.old err.new (told_words told.now.kind told.now.codes told.now.faults) }
 {

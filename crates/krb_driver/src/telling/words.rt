@@ -16,14 +16,14 @@ use krb_keytab::KtOpenFault;
 use krb_text::LineFault;
 use krb_walk::{Code, Fault};
 
-/// The pieces of words. What is not needed is empty.
+/// The pieces of words. Unused ones are empty.
 pub type Words<'a> = [Piece<'a>; 9];
 
 const NONE: Piece<'static> = Piece::Text("");
 
 const TOO_LARGE: &str = "it has more than 16,777,216 bytes";
 
-// Words of two pieces, behind the number of ktutil's line.
+// Returns words of two pieces, after the line number if they are for a line of ktutil.
 fn words<'a>(line: Option<u64>, first: Piece<'a>, second: Piece<'a>) -> Words<'a>
     ensures { pieces_text result ≡ words_line line
         (piece_text first.entry ++ (piece_text second.entry ++ codes "\n")) }
@@ -43,7 +43,7 @@ fn words<'a>(line: Option<u64>, first: Piece<'a>, second: Piece<'a>) -> Words<'a
     }
 }
 
-/// None.
+/// Returns no words.
 pub fn no_words<'a>() -> Words<'a>
     ensures { pieces_text result ≡ [] }
 {
@@ -51,14 +51,14 @@ pub fn no_words<'a>() -> Words<'a>
     [none; 9]
 }
 
-// A phrase alone.
+// Returns words that are one phrase.
 fn phrase<'a>(line: Option<u64>, text: &'static str) -> Words<'a>
     ensures { pieces_text result ≡ phrase_line line text.now }
 {
     words(line, Piece::Text(text), Piece::Text(""))
 }
 
-// Why a keytab refused something.
+// Returns the phrase for a refusal by a keytab.
 fn keytab_phrase(code: Code) -> &'static str
     ensures { result.now ≡ keytab_phrase code }
 {
@@ -70,7 +70,7 @@ fn keytab_phrase(code: Code) -> &'static str
     }
 }
 
-// Why a cache refused something.
+// Returns the phrase for a refusal by a cache.
 fn cache_phrase(code: Code) -> &'static str
     ensures { result.now ≡ cache_phrase code }
 {
@@ -81,7 +81,7 @@ fn cache_phrase(code: Code) -> &'static str
     }
 }
 
-/// Why a file refused something.
+/// Returns the phrase for a refusal by a keytab or a cache.
 pub fn refusal_phrase(kind: FileKind, code: Code) -> &'static str
     ensures { result.now ≡ refusal_phrase kind code }
 {
@@ -91,7 +91,7 @@ pub fn refusal_phrase(kind: FileKind, code: Code) -> &'static str
     }
 }
 
-// Why nothing was removed from a file.
+// Returns why nothing was removed from a file.
 fn nothing_phrase(kind: FileKind) -> &'static str
     ensures { result.now ≡ nothing_phrase kind }
 {
@@ -101,7 +101,7 @@ fn nothing_phrase(kind: FileKind) -> &'static str
     }
 }
 
-// Why an image is no keytab.
+// Returns why an image is not a keytab.
 fn no_keytab_phrase(why: NotKeytab) -> &'static str
     ensures { result.now ≡ no_keytab_phrase why.fault why.is_cache }
 {
@@ -111,7 +111,7 @@ fn no_keytab_phrase(why: NotKeytab) -> &'static str
     }
 }
 
-// The same of a file that is listed as a keytab.
+// Like `no_keytab_phrase`, for a file that is listed as a keytab.
 fn list_phrase(why: NotKeytab) -> &'static str
     ensures { result.now ≡ list_phrase why.fault why.is_cache }
 {
@@ -121,7 +121,7 @@ fn list_phrase(why: NotKeytab) -> &'static str
     }
 }
 
-// Why an image is no cache.
+// Returns why an image is not a cache.
 fn no_cache_phrase(why: NotCache) -> &'static str
     ensures { result.now ≡ no_cache_phrase why.fault why.is_keytab }
 {
@@ -133,7 +133,7 @@ fn no_cache_phrase(why: NotCache) -> &'static str
     }
 }
 
-// What is wrong with a line of a script, or of ktutil, whose messages have the line's number.
+// Returns what is wrong with a line of a script, or of ktutil (if `line` is given).
 fn line_fault_phrase(line: Option<u64>, fault: LineFault) -> &'static str
     ensures { result.now ≡ line_fault_phrase line fault }
 {
@@ -143,7 +143,7 @@ fn line_fault_phrase(line: Option<u64>, fault: LineFault) -> &'static str
     }
 }
 
-// A file that is missing: ktutil alone has words for it.
+// Returns the words for a missing file: only ktutil has some.
 fn missing_words<'a>(line: Option<u64>) -> Words<'a>
     ensures { pieces_text result ≡ missing_words line }
 {
@@ -153,7 +153,7 @@ fn missing_words<'a>(line: Option<u64>) -> Words<'a>
     }
 }
 
-// What a call failed with, where that is known.
+// Returns the words for the cause of a failed call, if it is known.
 fn cause_words(file: &[u8], line: Option<u64>, cause: Option<Cause>) -> Words<'_>
     ensures { pieces_text result ≡ cause_words file.now line cause }
 {
@@ -173,7 +173,7 @@ fn cause_words(file: &[u8], line: Option<u64>, cause: Option<Cause>) -> Words<'_
     }
 }
 
-/// The fault that a listing tells of, with the file's name, and its phrase.
+/// Returns the words for the fault that a listing reports, with the file's name and the fault's phrase.
 pub fn listed_words(file: &[u8], fault: Fault) -> Words<'_>
     ensures { pieces_text result ≡ listed_words file.now fault }
 {
@@ -190,7 +190,7 @@ pub fn listed_words(file: &[u8], fault: Fault) -> Words<'_>
     ]
 }
 
-// What explains some trouble, where the run or that line of ktutil names that file.
+// Returns the words that explain an error of a run over `file`, or of line `line` of ktutil.
 fn trouble_words(
     trouble: Trouble,
     file: &[u8],
@@ -218,7 +218,7 @@ fn trouble_words(
     }
 }
 
-// What explains the end of a run that did its work. Replies and findings have more words than these.
+// Returns the words that explain a verdict other than replies and findings, which have more words than these.
 fn verdict_words(verdict: Verdict, file: &[u8], line: Option<u64>) -> Words<'_>
     requires { IsFalse (is_itemized verdict) }
     ensures { pieces_text result ≡ verdict_words file.now line verdict }
@@ -231,8 +231,8 @@ fn verdict_words(verdict: Verdict, file: &[u8], line: Option<u64>) -> Words<'_>
     }
 }
 
-/// What explains an end, where the run or that line of ktutil names that file. Replies and findings have more
-/// words than these.
+/// Returns the words that explain the end of a run over `file`, or of line `line` of ktutil. Not for replies and
+/// findings, which have more words than these.
 pub fn ending_words(
     ending: Result<Verdict, Trouble>,
     file: &[u8],

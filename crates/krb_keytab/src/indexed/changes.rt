@@ -1,4 +1,4 @@
-//! Changes of a keytab and of its table: each is one of one cell.
+//! Changes to a keytab and its table, each of one cell.
 
 ghost use Rattle.std.specs.Prelude.{◌≡◌, ◌<◌, true, length, is_some, Some, None, Err, IfOk, IfErr, OnOk};
 ghost use Rattle.krb_walk.specs.Rules.{PutGives, CutGives};
@@ -22,7 +22,7 @@ use krb_wire::{Name, Principal};
 use std::alloc::Allocator;
 
 impl<A: Allocator> Indexed<A> {
-    // Makes the record of a number, at a place, a hole.
+    // Turns the record with this number, at `place`, into a hole.
     fn free(&mut self, number: usize, place: u32)
         requires { IsLiveNumber self.old.state place number }
         ensures freed { self.new.state ≡ with_hole self.old.state place }
@@ -34,7 +34,7 @@ impl<A: Allocator> Indexed<A> {
         put_slot(&mut self.slots, &mut self.tree, number, hole);
     }
 
-    // Puts a record into the first hole that takes it, which is the cell of a number.
+    // Writes a record into the first hole that takes it, the cell with this number, and returns its place.
     fn fill<N: Name>(&mut self, number: usize, form: &Form<'_, N>) -> u32
         requires hole { IsFit self.old.state (length form.now.bytes) (Some number) }
         requires format { form.now.format ≡ self.old.state.format }
@@ -53,7 +53,7 @@ impl<A: Allocator> Indexed<A> {
         slot.place
     }
 
-    // Puts a record after the cells of a keytab that is whole. Room for its slot is taken first.
+    // Adds a record after the cells of a keytab without a fault. Takes room for its slot first.
     fn append<N: Name>(&mut self, form: &Form<'_, N>) -> Result<u32, Refusal>
         requires whole { fault_of (store_of self.old.state) ≡ None }
         requires format { form.now.format ≡ self.old.state.format }
@@ -75,7 +75,7 @@ impl<A: Allocator> Indexed<A> {
         Ok(place)
     }
 
-    // The written form of an entry that is to be added, or why none is.
+    // Returns the written form of an entry to add, or why it is refused.
     fn form_of<'e, B: Allocator>(
         &self,
         entry: &'e NewEntry<B>,
@@ -87,7 +87,7 @@ impl<A: Allocator> Indexed<A> {
         self.keytab.form_of(entry)
     }
 
-    // The first hole that takes a record of this many bytes, by its number among the cells.
+    // Returns the number of the first cell that is a hole of at least `need` bytes, or `None`.
     fn number_for(&self, need: usize) -> Option<usize>
         requires { 0 < need }
         ensures { IsFit self.now.state need result }
@@ -100,16 +100,15 @@ impl<A: Allocator> Indexed<A> {
         number
     }
 
-    /// Puts an entry into the first hole that is large enough, or else after the cells, and answers
-    /// its place. A damaged keytab refuses it, and then so does an entry with a part too long for its
-    /// length, and then a limit that the image would pass. The hole is found by the tree. Memory is taken
-    /// only where the image becomes longer than it was, and all of it before anything is changed.
+    /// Adds an entry in the first hole that is large enough, found by the tree, or else after the cells, and returns
+    /// its place. Refused, in this order: a damaged keytab, an entry with a part too long for its length, an image
+    /// longer than the limit. Takes memory only if the image becomes longer, and all of it before anything is changed.
     #[tactic(auto, using(crate::proofs::StoreChanges::placed_read, crate::proofs::StoreChanges::addition_read))]
     pub fn add<B: Allocator>(&mut self, entry: &NewEntry<B>) -> Result<u32, Refusal>
         ensures gives { PutGives (put_result self.old.state entry.now) self.old.state result self.new.state }
         ensures memory { takes_none self.old.state entry.now ≡ true → HadMemory result }
         ensures room { takes_none self.old.state entry.now ≡ true → self.new.room ≡ self.old.room }
-        // It is read at the place that is answered; in version 1 with name type 0.
+        // The entry is read back at the returned place; in version 1 with name type 0.
         ensures read { IfOk result (λ place. entry_at_place self.new.state place
             ≡ Some (read_back self.old.state.format entry.now)) }
         ensures numbers { IsEntry entry.now }
@@ -121,11 +120,11 @@ impl<A: Allocator> Indexed<A> {
         Ok(self.fill(number, &form))
     }
 
-    /// Makes the record at a place a hole of its size, all zeros (MIT krb5, "Keytab file format"). A
+    /// Removes the record at `place`: it becomes a hole of its size, all zeros (MIT krb5, "Keytab file format"). A
     /// damaged keytab refuses.
     pub fn remove_at(&mut self, place: u32) -> Result<(), Code>
         ensures gives { CutGives (cut_result self.old.state place) self.old.state result self.new.state }
-        // No record stands there any more.
+        // No record is left there.
         ensures gone { OnOk result (live_bytes (store_of self.new.state) place ≡ None) }
         ensures room { self.new.room ≡ self.old.room }
     {
@@ -139,12 +138,11 @@ impl<A: Allocator> Indexed<A> {
         Ok(())
     }
 
-    /// Removes the record that `find` gives for the same arguments, and answers its place. It refuses
-    /// as `find` does.
+    /// Removes the record that `find` returns for the same arguments, and returns its place. Refuses as `find` does.
     pub fn remove<N: Name>(&mut self, name: &N, kvno: u32, enctype: u16) -> Result<u32, Code>
         ensures gives { AnswersRemove self.old.state (remove_result self.old.state (N.parts name.now) kvno enctype)
             result self.new.state }
-        // No record stands there any more.
+        // No record is left there.
         ensures gone { IfOk result (λ place. live_bytes (store_of self.new.state) place ≡ None) }
         ensures room { self.new.room ≡ self.old.room }
     {

@@ -1,16 +1,16 @@
-//! How high a tree is.
+//! The height of a tree.
 
 ghost use Rattle.std.specs.Prelude.{◌≡◌, ◌<◌, ◌≤◌, ◌*◌, ◌^◌};
 ghost use Rattle.krb_keytab.specs.Tree.{IsHeightFor};
 
-/// A number of levels, and how many leaves stand under them.
+/// A number of levels, and how many leaves are under them.
 #[derive(Clone, Copy, Debug, PartialEq, Eq)]
 pub struct Height {
     pub levels: u32,
     pub leaves: usize,
 }
 
-/// The least height with this many leaves: their number is a power of two.
+/// Returns the least height with at least `count` leaves. Their number is a power of two.
 pub fn height_for(count: usize) -> Height
     requires { count ≤ 2 ^ 30 }
     ensures least { IsHeightFor count result.levels }

@@ -1,4 +1,4 @@
-//! Table and tree together: one cell more, and a cell that changes.
+//! Table and tree together: adding a cell, and changing one.
 
 ghost use Rattle.std.specs.Prelude.{◌≡◌, ◌<◌, ◌≤◌, ◌+◌, ◌*◌, ◌^◌, ◌++◌, ◌∷◌, [], ℕ, length, slice_set, max, IsOk, OnOk, vec_len, vec_capacity};
 ghost use Rattle.krb_keytab.specs.Slot.{free_size};
@@ -10,9 +10,9 @@ use crate::indexed::tree::Tree;
 use krb_wire::NoMemory;
 use std::alloc::{AllocError, Allocator};
 
-// For how many cells more a full table takes room. A cell has 8 bytes there, and 8 in the tree for each leaf: with
-// one cell more both take no more than 24 bytes for each cell. Nor do they later, when the tree becomes higher,
-// since by then the table is full.
+// Returns for how many more cells a full table takes room. A cell takes 8 bytes there, and a leaf 8 in the tree: with
+// one more cell both take at most 24 bytes per cell. That still holds when the tree becomes higher, since by then the
+// table is full.
 fn more_room(count: usize) -> usize
     requires { count < 2 ^ 30 }
     ensures some { 0 < result }
@@ -24,7 +24,7 @@ fn more_room(count: usize) -> usize
     leaves.min(3 * (count + 1) - leaves) - count
 }
 
-// Takes room for more cells in a table that is full, of this many bytes.
+// Takes room for more cells if the table is full, within the bound of `bytes`.
 fn reserve_slots<A: Allocator>(slots: &mut Vec<Slot, A>) -> Result<(), AllocError>
     requires { vec_len slots.old < 2 ^ 30 }
     ensures slots { slots.new.items ≡ slots.old.items }
@@ -42,7 +42,7 @@ fn reserve_slots<A: Allocator>(slots: &mut Vec<Slot, A>) -> Result<(), AllocErro
     slots.reserve_exact(more_room(slots.len()))
 }
 
-/// Takes room for one cell more, where there is none.
+/// Takes room for one more cell, if there is none.
 pub fn reserve_one<A: Allocator>(
     slots: &mut Vec<Slot, A>,
     tree: &mut Tree<A>,
@@ -63,7 +63,7 @@ pub fn reserve_one<A: Allocator>(
     Ok(())
 }
 
-// Gives a tree over this many cells a leaf more, for which there is room.
+// Adds a leaf, for which there is room, to a tree over `count` cells.
 fn add_leaf<A: Allocator>(tree: &mut Tree<A>, count: usize)
     requires few { count < 2 ^ 30 }
     requires room { HasRoomFor (count + 1) tree.old }
@@ -89,7 +89,7 @@ pub fn push_live<A: Allocator>(slots: &mut Vec<Slot, A>, tree: &mut Tree<A>, slo
     slots.push_reserved(slot);
 }
 
-/// Writes down what is known of the cell of a number, and what may be taken there.
+/// Sets the slot of the cell with this number, and its free size in the tree.
 pub fn put_slot<A: Allocator>(
     slots: &mut Vec<Slot, A>,
     tree: &mut Tree<A>,

@@ -1,10 +1,10 @@
-//! The nodes of a tree, in one row: each has the greater of its two children.
+//! The nodes of a tree, in one slice: each has the greater of its two children.
 
 ghost use Rattle.std.specs.Prelude.{◌≡◌, ◌<◌, ◌+◌, ◌-◌, ◌*◌, ◌/◌, ◌^◌, length, drop, max, slice_index, slice_set};
 ghost use Rattle.krb_keytab.specs.Nodes.{AreNodes, AreNodesBut, IsTree, child_with};
 ghost use Rattle.krb_keytab.specs.Tree.{first_fit, looks_for};
 
-/// Reads a node. Nothing else reads one, so that `looks` counts them all.
+/// Returns the value of a node, and counts the look. Nothing else reads nodes, so that `looks` counts them all.
 pub fn look(nodes: &[u32], node: usize, looks: &mut u32) -> u32
     requires there { node < length nodes.now }
     requires few { looks.old < 64 }
@@ -15,7 +15,7 @@ pub fn look(nodes: &[u32], node: usize, looks: &mut u32) -> u32
     nodes[node]
 }
 
-// The greater of the children of a node.
+// Returns the greater of the children of a node.
 fn greater_child(nodes: &[u32], node: usize) -> u32
     requires { 2 * node + 1 < length nodes.now }
     ensures { result ≡ max (slice_index nodes.now (2 * node)) (slice_index nodes.now (2 * node + 1)) }
@@ -26,7 +26,7 @@ fn greater_child(nodes: &[u32], node: usize) -> u32
     left.max(right)
 }
 
-// Computes the nodes over one again, up to the root.
+// Recomputes the nodes over `node`, up to the root.
 fn raise(nodes: &mut [u32], leaves: usize, node: usize)
     requires len { length nodes.old ≡ 2 * leaves }
     requires above { 0 < node }
@@ -57,7 +57,7 @@ pub fn raise_all(nodes: &mut [u32], leaves: usize)
     }
 }
 
-/// Gives a leaf a size, and the nodes over it what is the greatest then.
+/// Sets the size of a leaf, and recomputes the nodes over it.
 pub fn put_leaf(nodes: &mut [u32], leaves: usize, leaf: usize, size: u32)
     requires len { length nodes.old ≡ 2 * leaves }
     requires there { leaf < leaves }
@@ -70,8 +70,8 @@ pub fn put_leaf(nodes: &mut [u32], leaves: usize, leaf: usize, size: u32)
     raise(nodes, leaves, leaves + leaf);
 }
 
-// The first child of a node with a leaf of at least a size under it, where there is one. Only the left one is
-// looked at.
+// Returns the first child of a node with a leaf of at least `need` under it, if there is one. Reads only the left
+// child.
 fn child_with(nodes: &[u32], node: usize, need: u32, looks: &mut u32) -> usize
     requires there { 2 * node + 1 < length nodes.now }
     requires few { looks.old < 64 }
@@ -85,8 +85,8 @@ fn child_with(nodes: &[u32], node: usize, need: u32, looks: &mut u32) -> usize
     left + 1
 }
 
-/// The first leaf of at least a size, and how many nodes were looked at to find it: one on each level, the
-/// right of two children without a look, or the root alone where there is no such leaf.
+/// Returns the first leaf of at least `need`, and how many nodes were read to find it: one on each level, since a
+/// right child is taken unread, or the root alone if there is no such leaf.
 pub fn first_leaf(nodes: &[u32], height: u32, need: u32) -> (Option<usize>, u32)
     requires { IsTree height nodes.now }
     ensures first { result.0 ≡ first_fit need (drop (2 ^ height) nodes.now) }

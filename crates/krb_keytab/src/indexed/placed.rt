@@ -1,4 +1,4 @@
-//! An indexed keytab as a store that is walked while it is changed: by the same rules as a keytab.
+//! An indexed keytab as a store that is walked while it changes, by the same rules as a keytab.
 
 use crate::indexed::Indexed;
 use crate::new_entry::NewEntry;

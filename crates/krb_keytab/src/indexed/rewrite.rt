@@ -1,4 +1,4 @@
-//! Writing a keytab anew, and its table and tree with it.
+//! Rewriting a keytab, with its table and tree.
 
 ghost use Rattle.std.specs.Prelude.{◌≡◌, map, Ok, Err, OnOk, OnErr};
 ghost use Rattle.std.specs.List.{AllByRecursion};
@@ -13,11 +13,10 @@ use krb_walk::Refusal;
 use std::alloc::Allocator;
 
 impl<A: Allocator + Copy> Indexed<A> {
-    /// Writes the records anew, in version 2: each entry in order in its written form, with its name type,
-    /// which is 0 from version 1, without holes, and with nothing after them. Each cursor is carried to
-    /// the new place of the first record at or after it, or to the new end. A damaged keytab refuses, and
-    /// then so does a limit that the new image would pass. Memory is taken for image, table and tree, with
-    /// room for one more cell, and all of it before anything is changed.
+    /// Rewrites the keytab in version 2: each entry in order in its written form, with its name type (0 if from
+    /// version 1), without holes, and with nothing after them. Each cursor moves to the new place of the first record
+    /// at or after it, or to the new end. Refused, in this order: a damaged keytab, a new image longer than the limit.
+    /// Takes memory for image, table and tree, with room for one more cell, and all of it before anything is changed.
     pub fn rewrite(&mut self, cursors: &mut [u32]) -> Result<(), Refusal>
         requires { AllByRecursion (IsPlace (store_of self.old.state)) cursors.old }
         ensures gives { RewriteGives (rewrite_result self.old.state) self.old.state result self.new.state }

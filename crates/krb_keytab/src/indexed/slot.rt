@@ -1,4 +1,4 @@
-//! What a table knows of one cell.
+//! A slot: what a table holds of one cell.
 
 ghost use Rattle.std.specs.Prelude.{◌≡◌, ◌<◌, ◌^◌};
 ghost use Rattle.krb_keytab.specs.Slot.{free_size, is_free, size, slot_of, negated};
@@ -9,7 +9,7 @@ ghost use Rattle.krb_keytab.specs.CellViews.{cell_of};
 use crate::cells::KtCell;
 use crate::length::Length;
 
-/// The place of a cell, and the field of its length.
+/// The place of a cell, and its length field.
 #[derive(Clone, Copy, Debug, PartialEq, Eq)]
 pub struct Slot {
     pub place: u32,
@@ -17,7 +17,7 @@ pub struct Slot {
 }
 
 impl Slot {
-    /// What is known of a cell at a place.
+    /// Returns the slot of a cell at `place`.
     pub fn of(place: usize, cell: KtCell<'_>) -> Slot
         requires place { place < 2 ^ 32 }
         requires cell { HasField (length_of_cell (cell_of cell)) }
@@ -33,14 +33,14 @@ impl Slot {
         }
     }
 
-    // Its length.
+    // Returns the length of its cell.
     fn length(self) -> Length
         ensures { result ≡ length_of self.field }
     {
         Length::of_field(self.field)
     }
 
-    /// Whether its cell is free.
+    /// True if its cell is free.
     pub fn is_free(self) -> bool
         ensures { result ≡ is_free self }
     {
@@ -50,14 +50,14 @@ impl Slot {
         }
     }
 
-    /// How many bytes its cell has after its length.
+    /// Returns how many bytes its cell has after its length.
     pub fn size(self) -> u32
         ensures { result ≡ size self }
     {
         self.length().size()
     }
 
-    /// How many bytes an entry may take in its cell: none where it is live.
+    /// Returns how many bytes an entry may take in its cell: 0 if the cell is live.
     pub fn free_size(self) -> u32
         ensures { result ≡ free_size self }
     {
@@ -67,7 +67,7 @@ impl Slot {
         }
     }
 
-    /// The same, where its cell is live if it was free, and free if it was live.
+    /// Returns the slot with its cell live if it was free, and free if it was live.
     pub fn negated(self) -> Slot
         requires { 0 < self.field }
         ensures { result ≡ negated self }

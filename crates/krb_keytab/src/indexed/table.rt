@@ -8,7 +8,7 @@ use crate::keytab::Keytab;
 use krb_wire::NoMemory;
 use std::alloc::Allocator;
 
-// Pushes a slot for each cell of a keytab into an empty table, for which there is room.
+// Pushes a slot for each cell of a keytab into an empty table that has room for them.
 fn push_slots<A: Allocator, B: Allocator>(slots: &mut Vec<Slot, A>, keytab: &Keytab<B>)
     requires empty { slots.old.items ≡ [] }
     requires room { length keytab.now.state.contents.cells ≤ vec_capacity slots.old }
@@ -21,7 +21,7 @@ fn push_slots<A: Allocator, B: Allocator>(slots: &mut Vec<Slot, A>, keytab: &Key
     }
 }
 
-/// The table of a keytab's cells. There is room for one more, and no further.
+/// Returns the table of a keytab's cells, with room for exactly one more.
 pub fn table_of<A: Allocator, B: Allocator>(
     alloc: A,
     keytab: &Keytab<B>,
@@ -36,7 +36,7 @@ pub fn table_of<A: Allocator, B: Allocator>(
     Ok(slots)
 }
 
-/// How many cells stand before a place, found by halving.
+/// Returns how many cells start before `place`, by binary search.
 pub fn rank(slots: &[Slot], place: u32) -> usize
     requires { IsRising (places slots.now) }
     ensures { IsRank (places slots.now) place result }

@@ -1,4 +1,4 @@
-//! A tree over a row of sizes.
+//! A tree over a list of sizes.
 
 ghost use Rattle.std.specs.Prelude.{◌≡◌, ◌<◌, ◌≤◌, ◌+◌, ◌-◌, ◌*◌, ◌^◌, ◌++◌, [], length, map, drop, take, replicate, slice_set, IfOk, IsOk, OnOk, vec_len, vec_capacity};
 ghost use Rattle.krb_keytab.specs.Nodes.{AreNodes};
@@ -12,8 +12,8 @@ use krb_wire::NoMemory;
 use std::alloc::{AllocError, Allocator};
 use std::marker::Model;
 
-/// Sizes in a row, as many as a power of two, and over each two the greater of them, up to the greatest of
-/// all. Contracts see the sizes, the number of levels over them, and for how many nodes there is room.
+/// A list of sizes, whose number is a power of two, and over each two the greater of them, up to the greatest of all.
+/// Contracts see the sizes, the number of levels over them, and for how many nodes there is room.
 #[derive(Drop)]
 pub struct Tree<A: Allocator> {
     nodes: Vec<u32, A>,
@@ -36,7 +36,7 @@ impl<A: Allocator> Model for Tree<A> {
     ghost invariant = { λ t. IsTree t.height t.nodes.items };
 }
 
-// Gives the leaves what may be taken in each cell, and makes the nodes over them.
+// Sets the leaves to the free size of each cell, and computes the nodes over them.
 fn put_leaves(nodes: &mut [u32], leaves: usize, slots: &[Slot])
     requires len { length nodes.old ≡ 2 * leaves }
     requires some { 0 < leaves }
@@ -49,7 +49,7 @@ fn put_leaves(nodes: &mut [u32], leaves: usize, slots: &[Slot])
     raise_all(nodes, leaves);
 }
 
-// Writes what may be taken in each cell over the first of the sizes.
+// Overwrites the first of the sizes with the free size of each cell.
 fn put_sizes(sizes: &mut [u32], slots: &[Slot])
     requires { length slots.now ≤ length sizes.old }
     ensures { sizes.new ≡ map free_size slots.now ++ drop (length slots.now) sizes.old }
@@ -59,7 +59,7 @@ fn put_sizes(sizes: &mut [u32], slots: &[Slot])
     }
 }
 
-// Puts this many zeros into an empty vector, for which there is room.
+// Appends `len` zeros to an empty `Vec` that has room for them.
 fn make_zeros<A: Allocator>(nodes: &mut Vec<u32, A>, len: usize)
     requires empty { nodes.old.items ≡ [] }
     requires room { len ≤ vec_capacity nodes.old }
@@ -70,7 +70,7 @@ fn make_zeros<A: Allocator>(nodes: &mut Vec<u32, A>, len: usize)
     let _ = nodes.resize(len, 0);
 }
 
-// Appends twice as many zeros as there are leaves, for which there is room.
+// Appends twice as many zeros as there are leaves. There is room for them.
 fn append_zeros<A: Allocator>(nodes: &mut Vec<u32, A>, leaves: usize)
     requires len { vec_len nodes.old ≡ 2 * leaves }
     requires room { 4 * leaves ≤ vec_capacity nodes.old }
@@ -81,7 +81,7 @@ fn append_zeros<A: Allocator>(nodes: &mut Vec<u32, A>, leaves: usize)
     let _ = nodes.resize(4 * leaves, 0);
 }
 
-// Makes a tree of twice as many leaves of one that stands at the front of the nodes.
+// Turns the tree at the front of the nodes into one with twice as many leaves.
 fn spread(nodes: &mut [u32], leaves: usize)
     requires len { length nodes.old ≡ 4 * leaves }
     requires some { 0 < leaves }
@@ -94,7 +94,7 @@ fn spread(nodes: &mut [u32], leaves: usize)
 }
 
 impl<A: Allocator> Tree<A> {
-    /// The tree over what may be taken in each cell. There is room for one more.
+    /// Returns the tree over the free size of each cell, with room for one more.
     pub fn of(alloc: A, slots: &[Slot]) -> Result<Tree<A>, NoMemory>
         requires { length slots.now < 2 ^ 30 }
         ensures sizes { IfOk result (λ t. t.sizes
@@ -113,7 +113,7 @@ impl<A: Allocator> Tree<A> {
         })
     }
 
-    /// How many sizes there are.
+    /// Returns how many sizes there are.
     pub fn leaves(&self) -> usize
         ensures leaves { result ≡ length self.now.sizes }
         ensures power { result ≡ 2 ^ self.now.height }
@@ -123,7 +123,7 @@ impl<A: Allocator> Tree<A> {
         self.nodes.len() / 2
     }
 
-    /// The first size that is large enough, by its number, and how many nodes were looked at to find it.
+    /// Returns the number of the first size of at least `need`, and how many nodes were read to find it.
     pub fn first_fit(&self, need: u32) -> (Option<usize>, u32)
         ensures first { result.0 ≡ first_fit need self.now.sizes }
         ensures looks { result.1 ≡ looks_for self.now.height result.0 }
@@ -131,7 +131,7 @@ impl<A: Allocator> Tree<A> {
         first_leaf(&self.nodes, self.height, need)
     }
 
-    /// Makes one size another.
+    /// Sets one of the sizes.
     pub fn set(&mut self, leaf: usize, size: u32)
         requires { leaf < length self.old.sizes }
         ensures sizes { self.new.sizes ≡ slice_set self.old.sizes leaf size }
@@ -159,7 +159,7 @@ impl<A: Allocator> Tree<A> {
         self.nodes.reserve_exact(nodes - self.nodes.len())
     }
 
-    /// Adds as many sizes of 0, for which there is room.
+    /// Doubles the number of sizes, for which there is room. The new ones are 0.
     pub fn double(&mut self)
         requires low { self.old.height < 30 }
         requires room { 4 * length self.old.sizes ≤ self.old.room }

@@ -1,4 +1,4 @@
-//! Changes of a keytab: each is one of its image, in place.
+//! Changes to a keytab: each changes its image in place.
 
 ghost use Rattle.std.specs.Prelude.{◌≡◌, ◌<◌, ◌^◌, true, length, Some, None, is_some, IsSome, IfOk, IfErr, OnOk, Ok, Err};
 ghost use Rattle.std.specs.Bool.{OnTrue, OnFalse};
@@ -23,7 +23,7 @@ use krb_wire::{Name, Principal};
 use std::alloc::Allocator;
 
 impl<A: Allocator> Keytab<A> {
-    /// Makes the record at a place a hole of its size, all zeros.
+    /// Turns the record at `place` into a hole of its size, all zeros.
     pub(crate) fn free(&mut self, place: u32)
         requires { IsSome (live_bytes (store_of self.old.state) place) }
         ensures freed { self.new.state ≡ with_hole self.old.state place }
@@ -33,12 +33,12 @@ impl<A: Allocator> Keytab<A> {
         free_cell(self.format, &mut self.image, self.end, place as usize, size);
     }
 
-    /// Makes the record at a place a hole of its size, all zeros (MIT krb5, "Keytab file format"). A
+    /// Removes the record at `place`: it becomes a hole of its size, all zeros (MIT krb5, "Keytab file format"). A
     /// damaged keytab refuses.
     #[tactic(auto, using(crate::proofs::StoreChanges::removal_gone, crate::proofs::Stores::first_is_place))]
     pub fn remove_at(&mut self, place: u32) -> Result<(), Code>
         ensures gives { CutGives (cut_result self.old.state place) self.old.state result self.new.state }
-        // No record stands there any more.
+        // No record is left there.
         ensures gone { OnOk result (live_bytes (store_of self.new.state) place ≡ None) }
         ensures room { self.new.room ≡ self.old.room }
     {
@@ -46,8 +46,8 @@ impl<A: Allocator> Keytab<A> {
         self.remove_from(&mut from, place)
     }
 
-    /// Does at each place in turn what `remove_at` does there; a place that is refused changes nothing. Places that
-    /// ascend take one pass over the cells.
+    /// Removes the record at each place in turn, as `remove_at` does; a place that is refused changes nothing.
+    /// Ascending places take one pass over the cells.
     #[tactic(auto, using(crate::proofs::Stores::first_is_place))]
     pub fn remove_all(&mut self, places: &[u32])
         ensures removed { self.new.state ≡ without self.old.state places.now }
@@ -59,7 +59,7 @@ impl<A: Allocator> Keytab<A> {
         }
     }
 
-    // As `remove_at`. The look for the place begins at another, and leaves there where the next may begin.
+    // Like `remove_at`. The scan for `place` starts at `from`, and sets it to where the next scan may start.
     fn remove_from(&mut self, from: &mut u32, place: u32) -> Result<(), Code>
         requires { IsPlace (store_of self.old.state) from.old }
         ensures gives { CutGives (cut_result self.old.state place) self.old.state result self.new.state }
@@ -78,7 +78,7 @@ impl<A: Allocator> Keytab<A> {
         Ok(())
     }
 
-    // As `look_for`, from a cell on, or from the front if the place is before that cell.
+    // Like `look_for`, from the cell at `from` on, or from the start if `place` is before it.
     fn look(&self, from: u32, place: u32) -> (u32, bool)
         requires { IsPlace (store_of self.now.state) from }
         ensures at { IsPlace (store_of self.now.state) result.0 }
@@ -90,12 +90,11 @@ impl<A: Allocator> Keytab<A> {
         look_for(self.store_from(from), place)
     }
 
-    /// Removes the record that `find` gives for the same arguments, and answers its place. It refuses
-    /// as `find` does.
+    /// Removes the record that `find` returns for the same arguments, and returns its place. Refuses as `find` does.
     pub fn remove<N: Name>(&mut self, name: &N, kvno: u32, enctype: u16) -> Result<u32, Code>
         ensures gives { AnswersRemove self.old.state (remove_result self.old.state (N.parts name.now) kvno enctype)
             result self.new.state }
-        // No record stands there any more.
+        // No record is left there.
         ensures gone { IfOk result (λ place. live_bytes (store_of self.new.state) place ≡ None) }
         ensures room { self.new.room ≡ self.old.room }
     {
@@ -104,7 +103,7 @@ impl<A: Allocator> Keytab<A> {
         Ok(place)
     }
 
-    /// Puts a record into the first hole that takes it.
+    /// Writes a record into the first hole that takes it.
     pub(crate) fn fill<N: Name>(&mut self, hole: Hole, form: &Form<'_, N>)
         requires hole { hole_from 2 (length form.now.bytes) self.old.state.contents.cells ≡ Some hole }
         requires format { form.now.format ≡ self.old.state.format }
@@ -114,7 +113,7 @@ impl<A: Allocator> Keytab<A> {
         fill_hole(&mut self.image, self.end, hole, form);
     }
 
-    /// Puts a record after the cells of a keytab that is whole.
+    /// Adds a record after the cells of a keytab without a fault, and returns its place.
     pub(crate) fn append<N: Name>(&mut self, form: &Form<'_, N>) -> Result<u32, Refusal>
         requires whole { fault_of (store_of self.old.state) ≡ None }
         requires format { form.now.format ≡ self.old.state.format }
@@ -131,7 +130,7 @@ impl<A: Allocator> Keytab<A> {
         Ok(place)
     }
 
-    /// Whether the limit allows a record after the cells of a keytab that is whole.
+    /// True if the limit allows a record after the cells of a keytab without a fault.
     pub(crate) fn has_room<N: Name>(&self, form: &Form<'_, N>) -> bool
         requires { fault_of (store_of self.now.state) ≡ None }
         ensures fits { OnTrue result (append_result self.now.state form.now.bytes
@@ -142,7 +141,7 @@ impl<A: Allocator> Keytab<A> {
         len_with(self.end, form.len()) <= self.limit as usize
     }
 
-    /// The written form of an entry that is to be added, or why none is.
+    /// Returns the written form of an entry to add, or why it is refused.
     pub(crate) fn form_of<'e, B: Allocator>(
         &self,
         entry: &'e NewEntry<B>,
@@ -162,16 +161,15 @@ impl<A: Allocator> Keytab<A> {
         }
     }
 
-    /// Puts an entry into the first hole that is large enough, or else after the cells, and answers
-    /// its place. A damaged keytab refuses it, and then so does an entry with a part too long for its
-    /// length, and then a limit that the image would pass. Memory is taken only where the image
-    /// becomes longer than it was. What is our choice here and what is MIT's is in docs/FORMATS.md.
+    /// Adds an entry in the first hole that is large enough, or else after the cells, and returns its place. Refused,
+    /// in this order: a damaged keytab, an entry with a part too long for its length, an image longer than the limit.
+    /// Takes memory only if the image becomes longer. What is our choice here and what is MIT's is in docs/FORMATS.md.
     #[tactic(auto, using(crate::proofs::StoreChanges::placed_read, crate::proofs::StoreChanges::addition_read))]
     pub fn add<B: Allocator>(&mut self, entry: &NewEntry<B>) -> Result<u32, Refusal>
         ensures gives { PutGives (put_result self.old.state entry.now) self.old.state result self.new.state }
         ensures memory { takes_none self.old.state entry.now ≡ true → HadMemory result }
         ensures room { takes_none self.old.state entry.now ≡ true → self.new.room ≡ self.old.room }
-        // It is read at the place that is answered; in version 1 with name type 0.
+        // The entry is read back at the returned place; in version 1 with name type 0.
         ensures read { IfOk result (λ place. entry_at_place self.new.state place
             ≡ Some (read_back self.old.state.format entry.now)) }
         ensures numbers { IsEntry entry.now }

@@ -1,4 +1,4 @@
-//! Writing the records of a keytab anew, in version 2.
+//! Rewriting a keytab in version 2.
 
 ghost use Rattle.std.specs.Prelude.{◌≡◌, ◌≤◌, ◌<◌, ◌^◌, ◌+◌, length, drop, map, Ok, Err, IfSome, IfNone, IfOk, IfErr, OnOk, OnErr, vec_len};
 ghost use Rattle.std.specs.List.{flat_map, AllByRecursion};
@@ -25,7 +25,7 @@ use krb_walk::{Code, Refusal};
 use krb_wire::{KtFormat, NoMemory, Pen};
 use std::alloc::Allocator;
 
-// How many bytes the new record of an entry takes, with its length.
+// Returns how many bytes the new record of an entry takes, with its length.
 fn new_record_len(entry: &EntryView<'_>) -> usize
     ensures len { result ≡ length (cell Big (new_record entry.now)) }
     ensures some { 4 ≤ result }
@@ -54,7 +54,7 @@ fn put_new_records<A: Allocator>(keytab: &Keytab<A>, pen: &mut Pen<'_>)
     }
 }
 
-// How long the rewritten image is and how many records it has, unless it is longer than a limit.
+// Returns the length of the rewritten image and its number of records, or `None` if it is longer than `limit`.
 fn rewritten_len<A: Allocator>(keytab: &Keytab<A>, limit: usize) -> Option<(usize, u32)>
     requires some { 2 ≤ limit }
     requires small { limit ≤ 2 ^ 30 }
@@ -75,7 +75,7 @@ fn rewritten_len<A: Allocator>(keytab: &Keytab<A>, limit: usize) -> Option<(usiz
     Some((len, count))
 }
 
-// Writes that image.
+// Writes the rewritten image.
 fn write_rewritten<A: Allocator>(keytab: &Keytab<A>, out: &mut [u8])
     requires len { length out.old ≡ length (image_of (rewrite_of keytab.now.state)) }
     requires small { length out.old ≤ 2 ^ 30 }
@@ -86,7 +86,7 @@ fn write_rewritten<A: Allocator>(keytab: &Keytab<A>, out: &mut [u8])
     put_new_records(keytab, &mut pen);
 }
 
-// As `write_rewritten`, over a vector.
+// Like `write_rewritten`, into a `Vec`.
 fn spell_into<A: Allocator, B: Allocator>(keytab: &Keytab<A>, image: &mut Vec<u8, B>)
     requires len { vec_len image.old ≡ length (image_of (rewrite_of keytab.now.state)) }
     requires small { vec_len image.old ≤ 2 ^ 30 }
@@ -105,7 +105,7 @@ fn rewrite_is_sound<A: Allocator>(keytab: &Keytab<A>)
     bytes_fit(keytab.image());
 }
 
-// The rewritten image, in memory of exactly its length.
+// Returns the rewritten image, whose length is `len`.
 fn rewritten_image<A: Allocator, B: Allocator>(
     keytab: &Keytab<A>,
     alloc: B,
@@ -125,7 +125,7 @@ fn rewritten_image<A: Allocator, B: Allocator>(
 }
 
 impl<A: Allocator + Copy> Keytab<A> {
-    /// The keytab that `rewrite` puts in its place, in memory of its own. It refuses as `rewrite` does.
+    /// Returns the rewritten keytab, in memory of its own. Refuses as `rewrite` does.
     pub(crate) fn rewritten(&self) -> Result<Keytab<A>, Refusal>
         ensures ok { IfOk result (λ k. rewrite_result self.now.state ≡ Ok k.state) }
         ensures err { IfErr result (λ e. RewriteGives (rewrite_result self.now.state) self.now.state (Err e) self.now.state) }
@@ -153,8 +153,8 @@ impl<A: Allocator + Copy> Keytab<A> {
         })
     }
 
-    /// Puts a keytab in its place that is a rewrite of it, and carries each cursor to the new place of the
-    /// first record at or after it, or to the new end. No memory is taken.
+    /// Replaces the keytab by a rewrite of it, and moves each cursor to the new place of the first record at or after
+    /// it, or to the new end. Takes no memory.
     pub(crate) fn replace(&mut self, new: Keytab<A>, cursors: &mut [u32])
         requires rewrites { Rewrites (store_of self.old.state) (store_of new.state) }
         requires places { AllByRecursion (IsPlace (store_of self.old.state)) cursors.old }
@@ -176,10 +176,10 @@ impl<A: Allocator + Copy> Keytab<A> {
         *self = new;
     }
 
-    /// Writes the records anew, in version 2: each entry in order in its written form, with its name type,
-    /// which is 0 from version 1, without holes, and with nothing after them. Each cursor is carried to
-    /// the new place of the first record at or after it, or to the new end. A damaged keytab refuses, and
-    /// then so does a limit that the new image would pass. Memory is taken once, for the new image.
+    /// Rewrites the keytab in version 2: each entry in order in its written form, with its name type (0 if from
+    /// version 1), without holes, and with nothing after them. Each cursor moves to the new place of the first record
+    /// at or after it, or to the new end. Refused, in this order: a damaged keytab, a new image longer than the limit.
+    /// Takes memory once, for the new image.
     pub fn rewrite(&mut self, cursors: &mut [u32]) -> Result<(), Refusal>
         requires { AllByRecursion (IsPlace (store_of self.old.state)) cursors.old }
         ensures gives { RewriteGives (rewrite_result self.old.state) self.old.state result self.new.state }

@@ -15,11 +15,10 @@ use krb_walk::Code;
 use krb_wire::{KtFormat, Name};
 use std::alloc::Allocator;
 
-// A name that is spelled in more bytes is looked for without a prefix.
+// A name spelled in more bytes is looked up without a prefix.
 const ROOM: usize = 64;
 
-// What is found after all entries of a keytab of that format. A record without the prefix has another
-// name, and is passed over.
+// Considers all entries of a keytab of this format. A record without the prefix has another name, and is skipped.
 #[inline(always)]
 fn consider_all_in<'a, N: Name, A: Allocator>(
     format: KtFormat,
@@ -44,7 +43,7 @@ fn consider_all_in<'a, N: Name, A: Allocator>(
     look_up
 }
 
-// The same of any format: in each arm it is known, and the loop asks for it no more.
+// Like `consider_all_in`, for any format: in each arm it is known, so that the loop does not check it.
 fn consider_all<'a, N: Name, A: Allocator>(
     keytab: &'a Keytab<A>,
     query: &Query<'_, N>,
@@ -61,9 +60,8 @@ fn consider_all<'a, N: Name, A: Allocator>(
 }
 
 impl<A: Allocator> Keytab<A> {
-    /// The entry of that name, version and enctype, with its place: version 0 asks for the highest,
-    /// enctype 0 for any, and the first in file order wins. A damaged keytab refuses. One pass, without
-    /// memory.
+    /// Returns the first entry in file order with this name, kvno and enctype, with its place. Kvno 0 selects the
+    /// highest, enctype 0 any. A damaged keytab refuses. One pass, which takes no memory.
     pub fn find<N: Name>(
         &self,
         name: &N,

@@ -1,4 +1,4 @@
-//! The name of an entry, compared where it stands.
+//! The name of an entry, compared in place.
 
 ghost use Rattle.std.specs.Prelude.{◌≡◌, ◌↔◌, IsTrue, Some};
 ghost use Rattle.krb_wire.specs.SameName.{have_same_name};
@@ -8,7 +8,7 @@ ghost use Rattle.krb_keytab.specs.HasName.{begin_with};
 
 use krb_wire::{KtFormat, Name, Order, split_data16, split_u16};
 
-// Whether a count that was read stands for this many components.
+// Whether a count field means this many components.
 fn is_count(format: KtFormat, field: u16, count: usize) -> bool
     ensures { IsTrue result ↔ (components_of_count format field ≡ Some count) }
 {
@@ -33,8 +33,8 @@ fn begin_with<N: Name>(order: Order, name: &N, bytes: &[u8]) -> bool
     true
 }
 
-/// Whether the entry that the bytes begin with has a name. It is read as far as the two agree: the
-/// realm, which most entries of a keytab share, comes last.
+/// Whether the entry that the bytes begin with has this name. Reads as far as the two agree, and compares the realm
+/// last, which most entries of a keytab share.
 #[inline(always)]
 pub fn has_name<N: Name>(format: KtFormat, name: &N, bytes: &[u8]) -> bool
     ensures { (e : EntryParts) → entry_at format bytes.now ≡ Some e

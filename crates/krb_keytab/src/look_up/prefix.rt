@@ -1,12 +1,11 @@
-//! What the entries of a name begin with.
+//! The prefix of all entries of a name.
 
 ghost use Rattle.krb_keytab.specs.Prefix.{IsPrefix};
 
 use krb_wire::{KtFormat, Name, kt_principal_len, put_kt_principal};
 
-/// What each entry of the name begins with: the spelling of the name without its name type, which does
-/// not count. It is written into the room, and is empty where the whole spelling does not fit, or there is
-/// none.
+/// Returns the prefix of each entry of the name: the spelling of the name without its name type, which does not count.
+/// It is written into `room`, and is empty if the whole spelling does not fit, or there is none.
 pub fn prefix_of<'a, N: Name>(format: KtFormat, name: &N, room: &'a mut [u8]) -> &'a [u8]
     ensures { IsPrefix format (N.parts name.now) result.now }
 {

@@ -1,10 +1,10 @@
-//! An entry that awaits its key.
+//! An entry whose key is still to come.
 
 use krb_wire::Principal;
 use std::alloc::Allocator;
 use std::marker::Model;
 
-/// What is known of an entry before its key and its time are.
+/// An entry without its key and its time.
 #[derive(Drop)]
 pub struct Addition<A: Allocator> {
     pub principal: Principal<A>,

@@ -1,4 +1,4 @@
-//! What stands after a command.
+//! Parses the words after a command.
 
 ghost use Rattle.std.specs.Prelude.{◌≡◌};
 ghost use Rattle.krb_driver.specs.Loading.{result_map};
@@ -9,14 +9,14 @@ ghost use Rattle.krb_text.specs.Word.{number_word};
 use crate::ktutil::words::next_word;
 use krb_text::{KtColumns, LineFault, number_word};
 
-/// Whether no word stands there.
+/// Returns whether there is no word.
 pub fn is_bare(rest: &[u8]) -> bool
     ensures { result ≡ are_none (words rest.now) }
 {
     next_word(rest).is_none()
 }
 
-// The word, where it stands alone.
+// Returns the word, if there is exactly one.
 fn only(rest: &[u8]) -> Result<&[u8], LineFault>
     ensures { result_map (λ word. word.now) result ≡ only (words rest.now) }
 {
@@ -37,7 +37,7 @@ fn utf8(word: &[u8]) -> Result<&str, LineFault>
     }
 }
 
-/// The name of a file.
+/// Parses the only word as the name of a file.
 pub fn file_name(rest: &[u8]) -> Result<&str, LineFault>
     ensures { result_map (λ name. name.now) result ≡ after file_word (only (words rest.now)) }
 {
@@ -54,7 +54,7 @@ fn checked_slot(slot: u32, count: usize) -> Result<u32, LineFault>
     }
 }
 
-/// The slot that is named, counted from 1, where there are so many.
+/// Parses the only word as one of `count` slots, counted from 1.
 pub fn slot(rest: &[u8], count: usize) -> Result<u32, LineFault>
     ensures { result ≡ after (slot_of count) (after number_word (only (words rest.now))) }
 {
@@ -84,7 +84,7 @@ fn with_column(columns: KtColumns, option: &[u8]) -> Option<KtColumns>
     }
 }
 
-/// The columns that options ask for.
+/// Parses the options of a listing, each of which may be given once.
 pub fn columns(rest: &[u8]) -> Option<KtColumns>
     ensures { result ≡ columns_in plain_columns (words rest.now) }
 {

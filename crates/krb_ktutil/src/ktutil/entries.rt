@@ -1,4 +1,4 @@
-//! Entries that go from a keytab to the list, and from the list to a keytab.
+//! Copies entries from a keytab to the list, and from the list to a keytab.
 
 ghost use Rattle.std.specs.Prelude.{◌≡◌, Ok, IfOk, OnOk, IfErr};
 ghost use Rattle.krb_keytab.specs.Store.{entries};
@@ -10,7 +10,7 @@ use krb_walk::Refusal;
 use krb_wire::NoMemory;
 use std::alloc::Allocator;
 
-/// The entries of a keytab, each with memory of its own.
+/// Copies the entries of a keytab.
 pub fn copy_entries<A: Allocator + Copy, B: Allocator>(
     alloc: A,
     keytab: &Keytab<B>,
@@ -24,7 +24,7 @@ pub fn copy_entries<A: Allocator + Copy, B: Allocator>(
     Ok(copies)
 }
 
-/// Adds entries to a keytab, one after the other, up to the first that is refused.
+/// Adds entries to a keytab in order, up to the first that is refused.
 pub fn add_all<A: Allocator, B: Allocator>(
     keytab: &mut Indexed<B>,
     entries: &[NewEntry<A>],

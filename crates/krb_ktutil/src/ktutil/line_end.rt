@@ -8,7 +8,7 @@ use krb_files::{LoadFault, SaveFault};
 use krb_text::LineFault;
 use krb_walk::Code;
 
-/// How a line ends. Where an allocation failed, also one for a file, that is `NoMemory`.
+/// How a line ends: with `NoMemory` if an allocation failed, also in a file call.
 #[derive(Clone, Copy, PartialEq, Eq)]
 pub enum LineEnd {
     Done,
@@ -34,7 +34,7 @@ impl From<NoKeytab> for LineEnd {
     }
 }
 
-/// How a line ends that saved a file, or could not.
+/// Returns how a line ends after the save of its file.
 pub fn save_end(saved: Result<(), SaveFault>) -> LineEnd
     ensures { result ≡ save_end saved }
 {

@@ -1,4 +1,4 @@
-//! The options of an addition.
+//! Parses the options of `add_entry`.
 
 ghost use Rattle.std.specs.Prelude.{◌≡◌, ◌<◌, ◌+◌, ◌∷◌, None, IfSome, MatchOption, length};
 ghost use Rattle.krb_ktutil.specs.KtutilWords.{words};
@@ -11,7 +11,7 @@ use krb_text::{LineFault, LineRefusal, etype_word, name_word, number_word};
 use std::alloc::Allocator;
 use std::marker::Model;
 
-// Whether `-key` stands there, and the words after `-p`, `-k` and `-e`.
+// Whether `-key` is given, and the words after `-p`, `-k` and `-e`.
 #[derive(Drop)]
 struct AddOptions<'a> {
     key: bool,
@@ -35,7 +35,7 @@ impl<'a> Model for AddOptions<'a> {
 }
 
 impl<'a> AddOptions<'a> {
-    // The options with one more, which a word follows.
+    // Returns the options with one more, which has a value, or `None` if it is unknown or given twice.
     fn with(self, option: &[u8], word: &'a [u8]) -> Option<AddOptions<'a>>
         ensures { result ≡ with_option self.entry option.now word.now }
     {
@@ -59,14 +59,14 @@ impl<'a> AddOptions<'a> {
         }
     }
 
-    // Whether an option is `-key`, for the first time.
+    // Returns whether an option is `-key`, for the first time.
     fn is_new_key(&self, option: &[u8]) -> bool
         ensures { result ≡ is_new_key self.now option.now }
     {
         option == b"-key".as_slice() && !self.key
     }
 
-    // The options with one more, and what stands after it.
+    // Returns the options with one more, and the rest of the line after it.
     fn take(self, option: &[u8], after: &'a [u8]) -> Option<(AddOptions<'a>, &'a [u8])>
         ensures more { MatchOption result (options_in self.entry (option.now ∷ words after.now) ≡ None)
             (λ x. options_in self.entry (option.now ∷ words after.now) ≡ options_in x.0 (words x.1.now)) }
@@ -80,7 +80,7 @@ impl<'a> AddOptions<'a> {
     }
 }
 
-// The options that words are.
+// Parses words as options.
 fn options(rest: &[u8]) -> Option<AddOptions<'_>>
     ensures { result ≡ options_in no_options (words rest.now) }
 {
@@ -99,7 +99,7 @@ fn options(rest: &[u8]) -> Option<AddOptions<'_>>
     Some(options)
 }
 
-// What three words say of an entry: its version, then its encryption type, then its name.
+// Parses three words as an entry: first its kvno, then its enctype, then its name.
 fn addition_of<A: Allocator + Copy>(
     alloc: A,
     name: &[u8],
@@ -119,7 +119,7 @@ fn addition_of<A: Allocator + Copy>(
     })
 }
 
-/// An entry whose key is still to come.
+/// Parses the words after `add_entry` as an entry whose key is still to come.
 pub fn addition<A: Allocator + Copy>(alloc: A, rest: &[u8]) -> Result<Addition<A>, LineRefusal>
     ensures { Reads (λ x. x) (after awaited_of (add_words (words rest.now))) result }
 {

@@ -24,7 +24,7 @@ use krb_wire::Order;
 use std::alloc::Allocator;
 use std::marker::Model;
 
-/// A list of entries, and perhaps an entry that awaits its key.
+/// A list of entries, and an entry that awaits its key, if there is one.
 #[derive(Drop)]
 pub struct Ktutil<A: Allocator> {
     alloc: A,
@@ -44,7 +44,7 @@ impl<A: Allocator> Model for Ktutil<A> {
 }
 
 impl<A: Allocator + Copy> Ktutil<A> {
-    /// An empty list. Files of version 1 have that order.
+    /// Returns an empty list. `v1_order` is the byte order of version 1 keytabs.
     pub fn new(alloc: A, v1_order: Order) -> Ktutil<A>
         ensures { result ≡ record { order = v1_order; entries = []; awaited = None } }
     {
@@ -56,14 +56,14 @@ impl<A: Allocator + Copy> Ktutil<A> {
         }
     }
 
-    /// The entries, in order.
+    /// Returns the entries, in order.
     pub fn entries(&self) -> &[NewEntry<A>]
         ensures { result.now ≡ self.now.entries }
     {
         &self.entries
     }
 
-    /// Whether the next line is a key.
+    /// Returns whether the next line is read as a key.
     pub fn pending(&self) -> bool
         ensures { result ≡ is_some self.now.awaited }
     {
@@ -84,7 +84,7 @@ impl<A: Allocator + Copy> Ktutil<A> {
         }
     }
 
-    // Adds the entry that awaits its key, made now.
+    // Adds the entry that awaits its key, with the time `now`.
     fn add_with_key(&mut self, key: Vec<u8, A>, now: u32) -> LineEnd
         requires { IsSome self.old.awaited }
         ensures { IfSome self.old.awaited (λ x.
@@ -109,7 +109,7 @@ impl<A: Allocator + Copy> Ktutil<A> {
         LineEnd::Done
     }
 
-    // Reads the key that is awaited.
+    // Reads a line as the key that is awaited: adds its entry, or drops it if the key is faulty.
     fn take_key(&mut self, line: &[u8], now: u32) -> LineEnd
         requires { IsSome self.old.awaited }
         ensures { Finishes (plan_of self.old now line.now) self.old self.new result }
@@ -127,7 +127,7 @@ impl<A: Allocator + Copy> Ktutil<A> {
         }
     }
 
-    // Lets the next line be the key of an entry.
+    // Parses an entry, whose key is the next line.
     fn add(&mut self, rest: &[u8]) -> LineEnd
         ensures { Finishes (command_plan self.old (addition (words rest.now)))
             self.old self.new result }
@@ -169,7 +169,7 @@ impl<A: Allocator + Copy> Ktutil<A> {
     }
 }
 
-// Ends the lines.
+// Ends the run.
 fn quit(rest: &[u8]) -> LineEnd
     ensures { (s : KtutilState) → Finishes (command_plan s (alone Quit (words rest.now))) s s result }
 {
@@ -181,7 +181,7 @@ fn quit(rest: &[u8]) -> LineEnd
 }
 
 impl<A: Allocator + Copy> Ktutil<A> {
-    // Does what a command asks for, with the words after it.
+    // Runs a command with the words after it.
     fn run<F: Files>(
         &mut self,
         verb: Verb,
@@ -210,7 +210,7 @@ impl<A: Allocator + Copy> Ktutil<A> {
         }
     }
 
-    // Does what a line asks for that is no key.
+    // Runs a line that is not a key.
     fn command<F: Files>(&mut self, files: &mut F, line: &[u8], out: &mut Vec<u8, A>) -> LineEnd
         ensures { Handles F.Files (command_plan self.old (command_of line.now (length self.old.entries)))
             files.old files.new self.old self.new out.old.items out.new.items result }
@@ -224,7 +224,7 @@ impl<A: Allocator + Copy> Ktutil<A> {
         }
     }
 
-    /// Does what a line asks for; where a key is awaited, the line is that key. Text is appended to `out`.
+    /// Runs a line, or reads it as the key if one is awaited. Appends what it prints to `out`.
     pub fn line<F: Files>(
         &mut self,
         files: &mut F,
@@ -238,7 +238,7 @@ impl<A: Allocator + Copy> Ktutil<A> {
             → HandlesHonestly F.Files (plan_of self.old now line.now)
             files.old files.new self.old self.new out.old.items out.new.items result }
         ensures spared { Spares F.Files files.old files.new self.old self.new result }
-        // Where memory runs out, also in a file call, that is told, and state and output are as they were.
+        // If memory runs out, also in a file call, the line ends with that, and state and output are unchanged.
         ensures told { TellsMemory result }
         ensures memory { result ≡ LineEnd.NoMemory
             → RunsOut self.old self.new out.old.items out.new.items result }

@@ -3,7 +3,7 @@
 ghost use Rattle.std.specs.Prelude.{◌≡◌};
 ghost use Rattle.krb_ktutil.specs.KtutilCommand.{is_either, verb_of};
 
-/// A command, without what it is to be done to.
+/// A command, without its operands.
 #[derive(Clone, Copy)]
 pub enum Verb {
     List,
@@ -21,7 +21,7 @@ fn is_either(word: &[u8], long: &str, short: &str) -> bool
     word == long.as_bytes() || word == short.as_bytes()
 }
 
-/// The command that a word names.
+/// Returns the command that a word names.
 pub fn verb_of(word: &[u8]) -> Option<Verb>
     ensures { result ≡ verb_of word.now }
 {

@@ -1,5 +1,4 @@
-//! The words of a line: runs of spaces and tabs stand between them, and a backslash keeps the byte
-//! after it in its word.
+//! The words of a line. Runs of spaces and tabs separate them; a backslash keeps the byte after it in its word.
 
 ghost use Rattle.std.specs.Prelude.{◌≡◌, ◌==◌, ◌&&◌, not, ◌<◌, ◌≤◌, ◌∷◌, [], length, MatchOption};
 ghost use Rattle.krb_ktutil.specs.KtutilWords.{is_blank, unindented, trimmed, word_size, words, second};
@@ -10,7 +9,7 @@ fn is_blank(byte: u8) -> bool
     byte == b' ' || byte == b'\t'
 }
 
-// A text without the blanks that it begins with.
+// Returns a text without its leading blanks.
 fn unindented(text: &[u8]) -> &[u8]
     ensures same { result.now ≡ unindented text.now }
     ensures within { length result.now ≤ length text.now }
@@ -25,21 +24,21 @@ fn unindented(text: &[u8]) -> &[u8]
     rest
 }
 
-// Whether a word ends at a byte, which is quoted or not.
+// Returns whether a word ends at a byte, which is quoted or not.
 fn ends_word(is_quoted: bool, byte: u8) -> bool
     ensures { result ≡ (not is_quoted && is_blank byte) }
 {
     !is_quoted && is_blank(byte)
 }
 
-// Whether it quotes the byte after it.
+// Returns whether a byte quotes the byte after it.
 fn quotes_next(is_quoted: bool, byte: u8) -> bool
     ensures { result ≡ (not is_quoted && byte == 92) }
 {
     !is_quoted && byte == b'\\'
 }
 
-// How many bytes stand before the first blank.
+// Returns the number of bytes before the first blank that is not quoted.
 fn word_size(text: &[u8]) -> usize
     ensures { result ≡ word_size text.now }
 {
@@ -53,7 +52,7 @@ fn word_size(text: &[u8]) -> usize
     text.len()
 }
 
-/// The first word of a line, and the line after it.
+/// Returns the first word of a line, and the rest of the line after it.
 pub fn next_word(line: &[u8]) -> Option<(&[u8], &[u8])>
     ensures cut { MatchOption result (words line.now ≡ [])
         (λ x. words line.now ≡ x.0.now ∷ words x.1.now) }
@@ -68,7 +67,7 @@ pub fn next_word(line: &[u8]) -> Option<(&[u8], &[u8])>
     Some(text.split_at(size))
 }
 
-/// A text without the blanks at its ends.
+/// Returns a text without the blanks at its ends.
 pub fn trimmed(text: &[u8]) -> &[u8]
     ensures { result.now ≡ trimmed text.now }
 {
@@ -82,7 +81,7 @@ pub fn trimmed(text: &[u8]) -> &[u8]
     rest
 }
 
-/// The second word of a line, or nothing. Of a line that names a file this is its name.
+/// Returns the second word of a line, or an empty one. If a line names a file, this is its name.
 pub fn file_word(line: &[u8]) -> &[u8]
     ensures { result.now ≡ second (words line.now) }
 {

@@ -1,4 +1,4 @@
-//! The ends of the lines of records.
+//! The formats in which the records in replies are read.
 
 ghost use Rattle.std.specs.Prelude.{◌≡◌, ℕ, List};
 ghost use Rattle.krb_wire.specs.Text.{AppendedPart};
@@ -11,15 +11,15 @@ use krb_keytab::read_entry;
 use krb_wire::{KtFormat, NoMemory};
 use std::alloc::Allocator;
 
-/// A format in which the records that a walk gives are read.
+/// A format in which records given to a walk are read.
 pub trait RecordFormat: Copy {
-    /// What the line of a record with these bytes ends with, its newline too.
+    /// The end of the line of a record with these bytes, including the newline.
     ghost tail_of: { Self → List ℕ → List ℕ };
 
-    /// The format that a rewrite leaves.
+    /// The format after a rewrite.
     ghost rewritten: { Self };
 
-    /// Appends the end of the line of a record. Where an allocation failed, some of it may stand there.
+    /// Appends the end of the line of a record. If an allocation fails, part of it may have been appended.
     fn append_tail<A: Allocator>(self, bytes: &[u8], out: &mut Vec<u8, A>) -> Result<(), NoMemory>
         ensures { AppendedPart (tail_of self bytes.now) out.old out.new result };
 

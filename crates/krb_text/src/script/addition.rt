@@ -1,4 +1,4 @@
-//! The words of an addition.
+//! The words after `add`.
 
 ghost use Rattle.std.specs.Prelude.{◌≡◌};
 ghost use Rattle.krb_text.specs.LineFault.{Reads};
@@ -12,7 +12,7 @@ use krb_keytab::NewEntry;
 use std::alloc::Allocator;
 use std::marker::Model;
 
-// The words of an addition, of which the name is the rest of the line.
+// The words after `add`: four words, and the name, which is the rest of the line.
 #[derive(Drop)]
 struct Addition<'a> {
     kvno: &'a [u8],
@@ -36,7 +36,7 @@ impl<'a> Model for Addition<'a> {
     } };
 }
 
-// Four words and a rest.
+// Splits off four words; the rest is the name.
 fn addition_of(mut words: Words<'_>) -> Option<Addition<'_>>
     ensures { result ≡ addition_of words.entry }
 {
@@ -54,14 +54,14 @@ fn addition_of(mut words: Words<'_>) -> Option<Addition<'_>>
     })
 }
 
-// The digits of a key, where `-` stands for none.
+// Returns the digits of a key: none for `-`.
 fn digits_of(word: &[u8]) -> &[u8]
     ensures { result.now ≡ digits_of word.now }
 {
     if word == b"-".as_slice() { &[] } else { word }
 }
 
-// The entry of an addition.
+// Parses the entry; the first fault, from left to right, is returned.
 fn entry_of<A: Allocator + Copy>(alloc: A, words: Addition<'_>) -> Result<NewEntry<A>, LineRefusal>
     ensures { Reads (λ e. e) (entry_of words.entry) result }
 {
@@ -72,7 +72,7 @@ fn entry_of<A: Allocator + Copy>(alloc: A, words: Addition<'_>) -> Result<NewEnt
     if !is_key(enctype, digits) {
         return Err(LineFault::BadKey.into());
     }
-    // Memory comes last: the key is known to be one, and the name takes none before it is known too.
+    // Allocations come last: the key is known to be valid, and `name_word` allocates only once the name is.
     let principal = name_word(alloc, words.name)?;
     let key = parse_key(alloc, enctype, digits)?;
     Ok(NewEntry {
@@ -84,7 +84,7 @@ fn entry_of<A: Allocator + Copy>(alloc: A, words: Addition<'_>) -> Result<NewEnt
     })
 }
 
-/// The entry of the words after `add`.
+/// Parses the words after `add` as an entry.
 pub fn parse_addition<A: Allocator + Copy>(
     alloc: A,
     words: Words<'_>,

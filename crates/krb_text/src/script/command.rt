@@ -1,4 +1,4 @@
-//! The commands that every script has.
+//! The commands that all scripts share.
 
 ghost use Rattle.std.specs.Prelude.{◌≡◌};
 ghost use Rattle.krb_text.specs.Script.{command_named, no_words, lone_number, event_by, common_event};
@@ -8,7 +8,7 @@ use crate::pieces::Words;
 use crate::word::number_word;
 use krb_walk::Event;
 
-/// A command that asks for the same event of any store.
+/// A command for an event that all stores have.
 #[derive(Clone, Copy)]
 pub enum Command {
     Start,
@@ -19,7 +19,7 @@ pub enum Command {
 }
 
 impl Command {
-    /// The command that a word names.
+    /// Returns the command with this name, if there is one.
     pub fn named(word: &[u8]) -> Option<Command>
         ensures { result ≡ command_named word.now }
     {
@@ -48,7 +48,7 @@ fn no_words(mut words: Words<'_>) -> Result<(), LineFault>
     }
 }
 
-// One word, which is a number.
+// Parses exactly one word, a number.
 fn lone_number(mut words: Words<'_>) -> Result<u32, LineFault>
     ensures { result ≡ lone_number words.entry }
 {
@@ -57,7 +57,7 @@ fn lone_number(mut words: Words<'_>) -> Result<u32, LineFault>
     number_word(word)
 }
 
-// The event of a command and the words after it.
+// Parses the words after a command; returns its event.
 fn event_by<I>(command: Command, words: Words<'_>) -> Result<Event<I>, LineFault>
     ensures { result ≡ event_by command words.entry }
 {
@@ -76,7 +76,7 @@ fn event_by<I>(command: Command, words: Words<'_>) -> Result<Event<I>, LineFault
     }
 }
 
-/// The event of a line's first word and the words after it.
+/// Parses a line's first word as a command, and the words after it; returns the event.
 pub fn common_event<I>(word: &[u8], words: Words<'_>) -> Result<Event<I>, LineFault>
     ensures { result ≡ common_event word.now words.entry }
 {

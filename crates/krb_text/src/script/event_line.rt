@@ -1,4 +1,4 @@
-//! The lines that ask for events of a keytab.
+//! The lines of a script for a keytab: each is an event.
 
 ghost use Rattle.krb_text.specs.LineFault.{Reads};
 ghost use Rattle.krb_text.specs.Script.{made, entry_in, event_in};
@@ -12,7 +12,7 @@ use krb_keytab::NewEntry;
 use krb_walk::Event;
 use std::alloc::Allocator;
 
-// The event of the words after `add`.
+// Parses the words after `add` as a `Put`.
 fn parse_put<A: Allocator + Copy>(
     alloc: A,
     words: Words<'_>,
@@ -22,7 +22,7 @@ fn parse_put<A: Allocator + Copy>(
     Ok(Event::Put(parse_addition(alloc, words)?))
 }
 
-// The event of a line.
+// Parses a line as an event.
 fn parse_event<A: Allocator + Copy>(
     alloc: A,
     line: &[u8],

@@ -7,12 +7,12 @@ ghost use Rattle.krb_text.specs.LineFault.{Reads};
 use crate::line_fault::LineRefusal;
 use std::alloc::Allocator;
 
-/// What a line of a script asks for.
+/// A parsed line of a script.
 pub trait ScriptLine<A: Allocator>: Sized + Drop {
-    /// What a line asks for, or its first fault.
+    /// What a line is parsed as, or its first fault.
     ghost line_in: { List ℕ → Result Self FaultOfLine };
 
-    /// Reads a line. Where it has a fault, that is the answer, even out of memory.
+    /// Parses a line. If it has a fault, that fault is returned, even when out of memory.
     fn parse(alloc: A, line: &[u8]) -> Result<Self, LineRefusal>
         ensures { Reads (λ asked. asked) (line_in line.now) result };
 }

@@ -16,28 +16,28 @@ pub fn cursors_are_places<P: Placed>()
     ensures { (s : SessionState P.State) (events : List (Event P.Item)) → IsRun P.rules s events → IsReady P.rules (state_after P.rules s events) }
 {}
 
-/// A cursor never goes back.
+/// A cursor never goes back, if no event rewrites the store.
 pub fn cursors_never_go_back<P: Placed>()
     ensures { (s : SessionState P.State) (events : List (Event P.Item)) (w c : ℕ) → IsRun P.rules s events → AllPlain (history P.rules s events)
         → slice_get s.cursors w ≡ Some c
         → IsSomeAnd (slice_get (state_after P.rules s events).cursors w) (λ d. c ≤ d) }
 {}
 
-/// Only a step of its walk moves a cursor.
+/// Only a step of its walk, or an accepted rewrite, moves a cursor.
 pub fn only_its_steps_move_a_cursor<P: Placed>()
     ensures { (s : SessionState P.State) (event : Event P.Item) (w c : ℕ) → slice_get s.cursors w ≡ Some c
         → event ≢ Step w → is_rewritten (reply_to P.rules s event) ≡ false
         → slice_get (after P.rules s event).cursors w ≡ Some c }
 {}
 
-/// A step gives the next live cell, and the cursor goes to the place after it. Where there is none, it is
-/// told the fault if there is one, or else the end, and the cursor goes to the end place.
+/// A step gives the next live cell, and the cursor goes to the place after it. If there is none, the reply is the fault
+/// if there is one, or else the end, and the cursor goes to the end place.
 pub fn steps_are_answered<P: Placed>()
     ensures { (s : SessionState P.State) (w c : ℕ) → slice_get s.cursors w ≡ Some c
         → IsSomeAnd (slice_get (after P.rules s (Step w)).cursors w) (AnswersStep (P.rules.seen s.store) w c (reply_to P.rules s (Step w))) }
 {}
 
-/// A place stays a place, and its cell keeps its size.
+/// A place stays a place, and its cell keeps its size, if no event rewrites the store.
 pub fn places_stay<P: Placed>()
     ensures places { (s : SessionState P.State) (events : List (Event P.Item)) (p : ℕ) → AllPlain (history P.rules s events) → AllLawful P.rules (history P.rules s events)
         → IsPlace (P.rules.seen s.store) p → IsPlace (last_store P.rules s events) p }
@@ -45,7 +45,7 @@ pub fn places_stay<P: Placed>()
         → size_at (P.rules.seen s.store) p ≡ Some size → size_at (last_store P.rules s events) p ≡ Some size }
 {}
 
-/// An addition that moves the end place stands at the old one.
+/// A record whose addition moves the end place is at the old end place.
 pub fn what_is_appended_stands_at_the_old_end<P: Placed>()
     ensures { (s : SessionState P.State) (item : P.Item) (p : ℕ) → IsLawful P.rules (moment P.rules s (Put item))
         → reply_to P.rules s (Put item) ≡ Placed p

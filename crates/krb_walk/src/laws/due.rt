@@ -11,32 +11,32 @@ ghost use Rattle.krb_walk.specs.Fair.{IsFair};
 
 use crate::placed::Placed;
 
-/// What a walk is given is due to it, step by step: each step gives the live cells that its cursor goes past.
+/// A walk is given exactly what is due to it, step by step: each step gives the live cells that its cursor passes.
 pub fn given_is_due<P: Placed>()
     ensures { (s : SessionState P.State) (events : List (Event P.Item)) (w : ℕ) → IsRun P.rules s events
         → given w (history P.rules s events) ≡ due_by_steps (track_of P.rules s events w) }
 {}
 
-/// Where no event rewrites the store: for each place of the last store, in order, the record that stood there
-/// just before the event at which the walk passed it.
+/// If no event rewrites the store, a walk is given, for each place of the last store in order, the record that was
+/// there just before the event at which the walk passed it.
 pub fn given_is_due_at_places<P: Placed>()
     ensures { (s : SessionState P.State) (events : List (Event P.Item)) (w : ℕ) → IsRun P.rules s events → PlacesStay (track_of P.rules s events w)
         → given w (history P.rules s events) ≡ due_over (track_of P.rules s events w) (last_store P.rules s events) }
 {}
 
-/// The rows along a walk's track are those that the replies give.
+/// The rows along a walk's track are those that the replies give to it.
 pub fn tracks_tell_the_replies<P: Placed>()
     ensures { (s : SessionState P.State) (events : List (Event P.Item)) (w : ℕ)
         → given_over (track_of P.rules s events w) ≡ given w (history P.rules s events) }
 {}
 
-/// The track of a walk over a run is that of one walk.
+/// The track of a walk over a run satisfies `IsWalk`.
 pub fn runs_are_walks<P: Placed>()
     ensures { (s : SessionState P.State) (events : List (Event P.Item)) (w : ℕ) → IsRun P.rules s events
         → IsWalk (P.rules.seen s.store) (slice_get s.cursors w) (track_of P.rules s events w) (last_store P.rules s events) }
 {}
 
-/// All that holds of a walk, over one run or over any number of runs that join.
+/// Every walk satisfies `IsFair`, over one run or over any number of joined runs.
 pub fn walks_are_fair()
     ensures { (first : Store) (start : Option ℕ) (t : Track) (last : Store) → IsWalk first start t last → IsFair t last }
 {}

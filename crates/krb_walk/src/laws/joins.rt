@@ -1,4 +1,4 @@
-//! Runs that join: a walk goes on in the next run over the same store.
+//! Joined runs: a walk continues in the next run over the same store.
 
 ghost use Rattle.std.specs.Prelude.{◌≡◌, ℕ, suc, ◌++◌, List, Option, length};
 ghost use Rattle.krb_walk.specs.declared.event.Event.{Event};
@@ -12,16 +12,16 @@ ghost use Rattle.krb_walk.specs.Joins.{Next, Join, joined, track_then};
 
 use crate::placed::Placed;
 
-/// The track of a walk goes on over the next run, where the walk stands already or is resumed, and is again
-/// that of one walk. So any number of runs join.
+/// The track of a walk, extended over the next run in which the walk exists already or is resumed, is again that of one
+/// walk. So any number of runs join.
 pub fn walks_go_on<Q: Placed>()
     ensures { (first : Store) (start : Option ℕ) (t : Track) (last : Store) (z : SessionState Q.State) (events : List (Event Q.Item)) (v c : ℕ)
         → IsWalk first start t last → Next first start t last Q.rules z events v c
         → IsWalk first start (track_then first t Q.rules v c (history Q.rules z events)) (last_store Q.rules z events) }
 {}
 
-/// The rows of a walk in one run, and then those of the walk that goes on in the next, are what is due to
-/// one walk over both.
+/// The rows of a walk in one run, followed by those of the walk that continues it in the next, are what is due to one
+/// walk over both.
 pub fn joined_runs_give_what_is_due<P: Placed, Q: Placed>()
     ensures { (s : SessionState P.State) (events : List (Event P.Item)) (w : ℕ) (z : SessionState Q.State) (next : List (Event Q.Item)) (v c : ℕ)
         → Join P.rules s events w Q.rules z next v c
@@ -29,7 +29,7 @@ pub fn joined_runs_give_what_is_due<P: Placed, Q: Placed>()
         ≡ due_by_steps (joined P.rules s events w Q.rules z next v c) }
 {}
 
-/// All that holds of one walk holds of it over both.
+/// A walk over two joined runs satisfies `IsFair`, as over one.
 pub fn joined_runs_are_fair<P: Placed, Q: Placed>()
     ensures { (s : SessionState P.State) (events : List (Event P.Item)) (w : ℕ) (z : SessionState Q.State) (next : List (Event Q.Item)) (v c : ℕ)
         → Join P.rules s events w Q.rules z next v c

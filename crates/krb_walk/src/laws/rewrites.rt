@@ -8,7 +8,7 @@ ghost use Rattle.krb_walk.specs.Records.{place_among, EachComesAsDue};
 
 use crate::placed::Placed;
 
-/// A cursor that is carried has as many live cells before it as it had.
+/// A carried cursor has as many live cells before it as before the rewrite.
 pub fn a_carried_cursor_keeps_its_rank()
     ensures { (old new : Store) (c : ℕ) → Rewrites old new → rank new (carry old new c) ≡ rank old c }
 {}
@@ -18,7 +18,7 @@ pub fn each_record_comes_as_due()
     ensures { (first : Store) (start : Option ℕ) (t : Track) (last : Store) → IsWalk first start t last → EachComesAsDue t }
 {}
 
-/// A record stands ahead of a cursor after a rewrite exactly where it stood ahead of it before.
+/// A record is ahead of a cursor after a rewrite iff it was ahead of it before.
 pub fn a_rewrite_keeps_records_ahead()
     ensures { (r : RecordName) (names : List RecordName) (old new : Store) (c p q : ℕ) → IsSound old → Rewrites old new
         → place_among r names (live_places old) ≡ Some p → place_among r names (live_places new) ≡ Some q

@@ -20,11 +20,11 @@ use crate::stop::Stop;
 use krb_wire::NoMemory;
 use std::alloc::Allocator;
 
-/// How many walks a session holds at most.
+/// The greatest number of walks of a session.
 const MOST_WALKS: u32 = 1024;
 
 impl<P: Placed, A: Allocator + Copy> Session<P, A> {
-    /// Applies an event. Only the bytes of `Gave`, an addition whose store grows and a rewrite take memory.
+    /// Applies an event. Only the bytes of `Gave`, an addition that grows the store and a rewrite take memory.
     pub fn apply(&mut self, event: &Event<P::Item>) -> Result<Reply<A>, NoMemory>
         ensures ran { IfOk result (λ r. Ran P.rules (session_of P.state_of self.old) (session_of P.state_of self.new) (event.now ∷ []) [] (said r ∷ [])) }
         ensures memory { TakesNone P.rules (session_of P.state_of self.old) event.now → IsOk result }
@@ -33,9 +33,8 @@ impl<P: Placed, A: Allocator + Copy> Session<P, A> {
         self.answer(event)
     }
 
-    /// Applies events in order, and appends the reply to each. The room for a reply is taken before its
-    /// event is applied: after `NoMemory` the replies so far are kept, and the state is the one after their
-    /// events.
+    /// Applies events in order, and appends the reply to each. Reserves room for a reply before it applies the event:
+    /// after `NoMemory`, the replies so far are kept, and the state is the one after their events.
     pub fn run(
         &mut self,
         events: &[Event<P::Item>],
@@ -72,7 +71,7 @@ impl<P: Placed, A: Allocator + Copy> Session<P, A> {
         }
     }
 
-    /// A new walk from a place.
+    /// Starts a new walk at a place.
     fn begin(&mut self, place: u32) -> Reply<A>
         requires few { length self.old.cursors < 1024 }
         requires at_place { IsPlace (P.rules.seen (P.state_of self.old.store)) place }
@@ -109,7 +108,7 @@ impl<P: Placed, A: Allocator + Copy> Session<P, A> {
         self.begin(place)
     }
 
-    /// A step with the bytes of the record. They are copied before the cursor moves.
+    /// Applies a step. Copies the bytes of the record before the cursor moves.
     fn give(&mut self, walk: u32) -> Result<Reply<A>, NoMemory>
         ensures reply { IfOk result (λ r. said r ≡ reply_to P.rules (session_of P.state_of self.old) (Step walk)) }
         ensures state { OnOk result (session_of P.state_of self.new ≡ after P.rules (session_of P.state_of self.old) (Step walk)) }
@@ -150,7 +149,7 @@ impl<P: Placed, A: Allocator + Copy> Session<P, A> {
         }
     }
 
-    /// All cursors are handed to the store, which carries them.
+    /// Rewrites the store, which carries all cursors.
     fn rewrite(&mut self) -> Result<Reply<A>, NoMemory>
         ensures reply { IfOk result (λ r. said r ≡ reply_to P.rules (session_of P.state_of self.old) Rewrite) }
         ensures state { OnOk result (session_of P.state_of self.new ≡ after P.rules (session_of P.state_of self.old) Rewrite) }
@@ -166,7 +165,7 @@ impl<P: Placed, A: Allocator + Copy> Session<P, A> {
     }
 }
 
-/// Rewrites a store, and carries the first `count` cursors of a table.
+/// Rewrites a store and carries the first `count` cursors of `table`.
 fn rewrite_with<P: Placed>(store: &mut P, table: &mut [u32], count: usize) -> Result<(), Refusal>
     requires few { count ≤ length table.old }
     requires places { AllByRecursion (IsPlace (P.rules.seen (P.state_of store.old))) (take count table.old) }
@@ -179,7 +178,7 @@ fn rewrite_with<P: Placed>(store: &mut P, table: &mut [u32], count: usize) -> Re
     store.rewrite(cursors)
 }
 
-/// The reply of a walk that stands at a cursor and stops there.
+/// Returns the reply to a step of a walk at `cursor` that stops at `stop`.
 fn tell<P: Placed, A: Allocator>(
     alloc: A,
     store: &P,

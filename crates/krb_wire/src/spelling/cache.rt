@@ -1,4 +1,4 @@
-//! Names as a credential cache spells them.
+//! Names as a credential cache encodes them.
 
 ghost use Rattle.std.specs.Prelude.{◌≡◌, ◌≤◌, ◌^◌, ◌+◌, ◌&&◌, length, is_some, nat_lt, IsTrue, IfSome, IfNone};
 ghost use Rattle.std.specs.List.{splice};
@@ -9,8 +9,8 @@ use crate::format::{Lengths, Order};
 use crate::name::Name;
 use crate::pen::Pen;
 
-/// How many bytes the name takes in a credential cache (MIT krb5, "Credential cache file format", section
-/// "Principal"). `None` where a count or a length does not fit its 32 bits, or the sum a u64.
+/// Returns how many bytes the name takes in a credential cache (MIT krb5, "Credential cache file format", section
+/// "Principal"), or `None` if a count or a length does not fit its 32 bits, or the sum a u64.
 pub fn cc_principal_len<N: Name>(name: &N) -> Option<u64>
     ensures some { is_some result ≡ (cc_name_fits (N.parts name.now)
         && nat_lt (length (cc_principal (N.parts name.now))) (2 ^ 64)) }
@@ -36,8 +36,8 @@ pub fn cc_principal_len<N: Name>(name: &N) -> Option<u64>
 }
 
 impl Pen<'_> {
-    /// Writes the name as a credential cache spells it. `cc_principal_len` says whether it has a spelling, and
-    /// how much room that takes.
+    /// Writes the name as a credential cache encodes it. `cc_principal_len` returns how much room that takes, or `None`
+    /// if it cannot be written.
     pub fn put_cc_principal<N: Name>(&mut self, name: &N)
         requires spelled { IsTrue (cc_name_fits (N.parts name.now)) }
         requires room { HasRoom self.old (cc_principal (N.parts name.now)) }
@@ -50,8 +50,8 @@ impl Pen<'_> {
     }
 }
 
-/// Writes the name at a place as a credential cache spells it, and no other byte; the answer is the place
-/// after it. `cc_principal_len` says whether it has a spelling, and how much room that takes.
+/// Writes the name at `at` as a credential cache encodes it, and no other byte. Returns the place after it.
+/// `cc_principal_len` returns how much room that takes, or `None` if it cannot be written.
 pub fn put_cc_principal<N: Name>(name: &N, out: &mut [u8], at: usize) -> usize
     requires spelled { IsTrue (cc_name_fits (N.parts name.now)) }
     requires room { at + length (cc_principal (N.parts name.now)) ≤ length out.old }

@@ -1,4 +1,4 @@
-//! Names as a keytab spells them.
+//! Names as a keytab encodes them.
 
 ghost use Rattle.std.specs.Prelude.{◌≡◌, ◌≤◌, ◌<◌, ◌^◌, ◌+◌, ℕ, length, is_some, IsTrue, IfSome};
 ghost use Rattle.std.specs.List.{splice};
@@ -9,7 +9,7 @@ use crate::format::{KtFormat, Lengths, Order};
 use crate::name::Name;
 use crate::pen::Pen;
 
-// How many bytes a name type takes.
+// Returns how many bytes a name type takes.
 fn name_type_len(format: KtFormat) -> u64
     ensures len { (name_type : ℕ) → result ≡ length (name_type_field format name_type) }
     ensures small { result ≤ 4 }
@@ -17,10 +17,9 @@ fn name_type_len(format: KtFormat) -> u64
     if format.has_name_type() { 4 } else { 0 }
 }
 
-/// How many bytes the name takes in a keytab (MIT krb5, "Keytab file format", section "Key entry
-/// format"); in version 1 its name type is left out. `None` where a count or a length does not fit its
-/// 16 bits: more than 65,535 components (65,534 in version 1), or a realm or a component of more than
-/// 65,535 bytes.
+/// Returns how many bytes the name takes in a keytab (MIT krb5, "Keytab file format", section "Key entry format"), or
+/// `None` if a count or a length does not fit its 16 bits: more than 65,535 components (65,534 in version 1), or a
+/// realm or a component of more than 65,535 bytes. Version 1 leaves the name type out.
 pub fn kt_principal_len<N: Name>(format: KtFormat, name: &N) -> Option<u64>
     ensures some { is_some result ≡ name_fits format (N.parts name.now) }
     ensures len { IfSome result (λ n. n ≡ length (kt_principal format (N.parts name.now))) }
@@ -43,7 +42,7 @@ pub fn kt_principal_len<N: Name>(format: KtFormat, name: &N) -> Option<u64>
 }
 
 impl Pen<'_> {
-    // Writes a name type, where the format has one.
+    // Writes a name type, if the format has one.
     fn put_name_type(&mut self, format: KtFormat, name_type: u32)
         requires { HasRoom self.old (name_type_field format name_type) }
         ensures { Puts self.old self.new (name_type_field format name_type) }
@@ -53,8 +52,8 @@ impl Pen<'_> {
         }
     }
 
-    /// Writes the name as a keytab spells it. `kt_principal_len` says whether it has a spelling, and how much
-    /// room that takes.
+    /// Writes the name as a keytab encodes it. `kt_principal_len` returns how much room that takes, or `None` if it
+    /// cannot be written.
     pub fn put_kt_principal<N: Name>(&mut self, format: KtFormat, name: &N)
         requires spelled { IsTrue (name_fits format (N.parts name.now)) }
         requires room { HasRoom self.old (kt_principal format (N.parts name.now)) }
@@ -71,8 +70,8 @@ impl Pen<'_> {
     }
 }
 
-/// Writes the name at a place as a keytab spells it, and no other byte; the answer is the place after
-/// it. `kt_principal_len` says whether it has a spelling, and how much room that takes.
+/// Writes the name at `at` as a keytab encodes it, and no other byte. Returns the place after it. `kt_principal_len`
+/// returns how much room that takes, or `None` if it cannot be written.
 pub fn put_kt_principal<N: Name>(format: KtFormat, name: &N, out: &mut [u8], at: usize) -> usize
     requires spelled { IsTrue (name_fits format (N.parts name.now)) }
     requires room { at + length (kt_principal format (N.parts name.now)) ≤ length out.old }

@@ -1,4 +1,4 @@
-//! What is asked for, each with what it leaves where nothing fails.
+//! The runs of commands, each with the result if nothing fails.
 
 use super::images::{ADDED, CACHE, CACHE_EDITED, CACHE_REWRITTEN, EDITED, IMAGE, REMOVED};
 use krb_audit::{AskedKvno, Selection};
@@ -11,7 +11,7 @@ use krb_wire::{Order, Principal, parse_name};
 use std::alloc::Global;
 use std::test::Fail;
 
-/// What is asked for, of the keytab `k` or the cache `c`.
+/// A command on the keytab `k` or the cache `c`.
 #[derive(Clone, Copy)]
 pub enum Asked {
     Klist,
@@ -27,7 +27,7 @@ pub enum Asked {
     Ktutil,
 }
 
-/// A run, the file that it saves, and what stands there afterwards; one that saves none leaves `k`.
+/// A run, the file that it saves, and the bytes of that file afterwards; of a run that saves none, those of `k`.
 #[derive(Clone, Copy)]
 pub struct Command {
     pub asked: Asked,
@@ -38,7 +38,7 @@ pub struct Command {
     pub left: &'static [u8],
 }
 
-/// A run that saves nothing, and prints nothing.
+/// A run that saves nothing and prints nothing.
 const COMMAND: Command = Command {
     asked: Asked::Ktutil,
     input: "",
@@ -68,7 +68,7 @@ config: pa_type(krbtgt/R@R) = \\\\\\x7f2\n",
         text: "found 2 kvno 3 etype 17 host/a@R\n",
         ..COMMAND
     },
-    // Walks while an entry goes, another comes, and the keytab is written anew.
+    // Walks while an entry is removed, another is added, and the keytab is rewritten.
     Command {
         asked: Asked::Ktedit,
         input: "start\nstep 0\ncut 2\n\
@@ -84,7 +84,7 @@ rewritten 92\nwalk 0 gave 47 next 92 kvno 3 etype 17 b@R\nwalk 0 end 92\n",
         left: REMOVED,
         ..COMMAND
     },
-    // Removes the ticket, and sets the value anew, while a walk stands before both.
+    // Removes the ticket and replaces the value, while a walk has its cursor before both.
     Command {
         asked: Asked::Ccedit,
         input: "start\ncut 22\nconfig pa_type krbtgt/R@R 2\nstep 0\nstep 0\n",
@@ -114,7 +114,7 @@ walk 0 gave 268 next 404 config pa_type(krbtgt/R@R)\nwalk 0 end 404\n",
     },
 ];
 
-/// What stands under a name before a run.
+/// Returns the bytes of a file before a run.
 pub fn file_before(name: &str) -> Option<&'static [u8]> {
     match name {
         "k" => Some(IMAGE),
@@ -123,7 +123,7 @@ pub fn file_before(name: &str) -> Option<&'static [u8]> {
     }
 }
 
-/// A listing of that kind of file.
+/// Returns the options of a listing of that kind of file.
 fn listing(kind: ListKind) -> KlistOptions {
     KlistOptions {
         kind,
@@ -136,7 +136,7 @@ fn name(alloc: Global, text: &[u8]) -> Result<Principal<Global>, Fail> {
     parse_name(alloc, text, None).map_err(|_| Fail::new("no name"))
 }
 
-/// A look-up of `host/a@R` of any version and enctype.
+/// Returns the options of a look-up of `host/a@R` of any version and enctype.
 fn look_up(alloc: Global) -> Result<FindOptions<Global>, Fail> {
     Ok(FindOptions {
         name: name(alloc, b"host/a@R")?,
@@ -146,7 +146,7 @@ fn look_up(alloc: Global) -> Result<FindOptions<Global>, Fail> {
     })
 }
 
-/// A removal of `host/a@R` of version 3 and enctype 17.
+/// Returns the options of a removal of `host/a@R` of version 3 and enctype 17.
 fn removal(alloc: Global, dry_run: bool) -> Result<RemoveOptions<Global>, Fail> {
     Ok(RemoveOptions {
         selection: Selection {
@@ -167,7 +167,7 @@ fn tickets(alloc: Global, dry_run: bool) -> Result<TicketOptions<Global>, Fail> 
     })
 }
 
-/// All that is shown of a cache.
+/// All columns of a cache's listing.
 const ALL: CcColumns = CcColumns {
     flags: true,
     etypes: true,
@@ -175,7 +175,7 @@ const ALL: CcColumns = CcColumns {
 };
 
 impl Asked {
-    /// The file that it is asked of.
+    /// Returns the name of its file.
     pub fn file(self) -> &'static str {
         match self {
             Asked::KlistCache | Asked::Ccedit | Asked::Ccremove(_) => "c",
@@ -183,7 +183,7 @@ impl Asked {
         }
     }
 
-    /// As it is asked of that file.
+    /// Returns its action on that file.
     pub fn of<'a>(
         self,
         alloc: Global,

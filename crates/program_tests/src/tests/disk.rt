@@ -1,4 +1,4 @@
-//! A disk whose calls are noted, of which one fails.
+//! A disk that logs its calls, one of which may fail.
 
 ghost use Rattle.std.specs.Prelude.{IsErr};
 
@@ -12,21 +12,21 @@ use std::os::unix::fs::PermissionsExt;
 use std::rt;
 use std::time::Duration;
 
-/// A disk, and the calls that were made, one a line.
+/// A disk, and the calls made on it, one a line.
 #[derive(Drop)]
 pub struct Disk {
     pub state: Cell<State>,
     calls: RefCell<String>,
 }
 
-/// The disk as it is reached, and a file of it with what is still to be read.
+/// A reference to the disk, or a file of it, with what is left to read.
 #[derive(Drop)]
 pub struct Reached<'a> {
     disk: &'a Disk,
     left: &'static [u8],
 }
 
-/// A list of locks of this many bytes has no end: each read gives it again.
+/// A list of locks of this many bytes has no end: each read returns it again.
 const PAGE: usize = 4096;
 
 impl Disk {
@@ -44,7 +44,7 @@ impl Disk {
         }
     }
 
-    /// Whether those were the calls, one after the other.
+    /// Returns whether exactly those calls were made, in that order.
     pub fn was_asked(&self, calls: &[&str]) -> bool {
         let Ok(made) = self.calls.try_borrow() else {
             return false;
@@ -133,7 +133,7 @@ impl OpenFile for Reached<'_> {
         unsupported()
     }
 
-    // Each file of this disk has that mode.
+    // 0644 is the mode of every file on this disk.
     fn set_permissions(&self, perm: Permissions) -> io::Result<()> {
         let is_kept = perm.mode() == 0o644;
         self.disk
@@ -180,7 +180,7 @@ impl rt::Clock for Reached<'_> {
         unsupported()
     }
 
-    // Each sleep is of less than a second.
+    // Every sleep is shorter than a second.
     fn sleep(&self, time: Duration) {
         let slept = u64::from(time.subsec_millis());
         self.disk
@@ -225,7 +225,7 @@ impl<'a> rt::Files for Reached<'a> {
         self.disk.note("remove ", path)
     }
 
-    // No more is asked of it.
+    // The other calls are not made.
     fn open_dir(&self, _path: &str) -> io::Result<Empty> {
         unsupported()
     }

@@ -1,4 +1,4 @@
-//! What a command changes it holds, from the load to the save, and then leaves.
+//! A command holds the file that it changes, from the load to the save, and then releases it.
 
 use super::checks::is;
 use super::commands::Asked;
@@ -16,8 +16,8 @@ use krb_files::Cause;
 use std::alloc::Global;
 use std::test::Fail;
 
-/// Holds the file, which has the bytes `old`, loads and saves it, and leaves it. A minute passes before the save, when it
-/// has other bytes, and that is the list of locks in that reading.
+/// Holds the file, which has the bytes `old`, loads it, saves it, and releases it. A minute passes before the save,
+/// when the file has the bytes `bytes`, and the sixth reading of the list of locks returns `locks`.
 fn change(alloc: Global, disk: &Disk, bytes: &'static [u8], locks: &'static [u8]) -> Saved {
     let reached = (disk.reached(), alloc);
     let mut files = DiskFiles::new(&reached);
@@ -30,8 +30,8 @@ fn change(alloc: Global, disk: &Disk, bytes: &'static [u8], locks: &'static [u8]
     saved
 }
 
-/// A file that is held is saved only where it has the bytes that were loaded. The wait before a save has ten seconds of
-/// its own, however long it is after the load.
+/// A held file is saved only if it has the bytes that were loaded. The wait before a save has ten seconds of its own,
+/// however long after the load it is.
 #[test]
 fn a_file_that_changes(rt: HostRuntime) {
     for (bytes, locks, cause, slept) in [
@@ -50,7 +50,7 @@ fn a_file_that_changes(rt: HostRuntime) {
     }
 }
 
-/// What was asked for is done over a disk where `k` has those bytes.
+/// Runs a command over a disk on which `k` has those bytes, and returns the disk.
 fn run_on(alloc: Global, asked: Asked, bytes: &'static [u8], input: &str) -> Result<Disk, Fail> {
     let disk = Disk::new(alloc, WHOLE.having(bytes));
     let asked = asked.of(alloc, "k")?;
@@ -64,7 +64,7 @@ fn run_on(alloc: Global, asked: Asked, bytes: &'static [u8], input: &str) -> Res
     Ok(disk)
 }
 
-/// What is asked of the disk: a load alone, one of a file that is held and then left or saved, and one more before that.
+/// Calls on the disk: a load alone, one of a file that is held and then released or saved, and one more before that.
 const LOOKS: &[&str] = &[LOAD];
 
 const LEAVES: &[&str] = &[HOLD, LOCKS, LOAD, LEAVE];
@@ -77,7 +77,7 @@ const READS_AND_CHANGES: &[&str] = &[
     LOAD, HOLD, LOCKS, LOAD, WRITES, OWNS, KEEPS, LOOK, LOAD, LOCKS, RENAME,
 ];
 
-/// Dry runs, and scripts that only look, hold nothing. A run that finds nothing to change leaves what it held.
+/// Dry runs and scripts that change nothing hold nothing. A run that finds nothing to change releases what it held.
 #[test]
 fn what_is_changed_is_held(rt: HostRuntime) -> Result<(), Fail> {
     for (asked, bytes, input, calls) in [
@@ -102,8 +102,8 @@ fn what_is_changed_is_held(rt: HostRuntime) -> Result<(), Fail> {
     Ok(())
 }
 
-/// A file that is held and not saved is left, once, and so it is where another one is to be saved. A hold that was refused
-/// keeps the file from being saved.
+/// A held file that is not saved is released, once, and so it is if another one is to be saved. After a hold that was
+/// refused, the file cannot be saved.
 #[test]
 fn a_file_that_is_left(rt: HostRuntime) {
     let disk = Disk::new(rt.alloc(), WHOLE);

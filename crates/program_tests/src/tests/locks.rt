@@ -1,4 +1,4 @@
-//! Waits for other programs, on a disk whose clock a test sets.
+//! Waits for other programs, on a disk whose clock is set by the test.
 
 use super::checks::is;
 use super::disk::Disk;
@@ -7,7 +7,7 @@ use super::state::{State, WHOLE};
 use krb_files::Cause;
 use std::process::Abort;
 
-/// Locks to write on the file, and one of a whole file: on this disk each has the device 0 and the inode 0.
+/// Record locks to write on the file, and a `flock`: every file on this disk has device 0 and inode 0.
 pub const LOCK: &[u8] = b"1: POSIX  ADVISORY  WRITE 12 00:00:0 0 EOF\n";
 
 const OFDLCK: &[u8] = b"1: OFDLCK ADVISORY  WRITE -1 00:00:0 0 EOF\n";
@@ -19,10 +19,10 @@ const TWO: &[u8] = b"1: FLOCK  ADVISORY  WRITE 9 00:00:0 0 EOF\n\
 
 pub const NONE: &[u8] = b"";
 
-/// Lines that are empty, without an end.
+/// Empty lines without an end.
 const ENDLESS: &[u8] = &[b'\n'; 4096];
 
-/// Saves on that disk. So many milliseconds are slept, or at least half of them, and at most so many pass.
+/// Saves on that disk, and checks that from half of `slept` to `slept` milliseconds are slept, and at most `time` pass.
 fn check_wait<R: Abort + AllocGlobal>(
     rt: &R,
     state: State,
@@ -43,8 +43,8 @@ fn check_wait<R: Abort + AllocGlobal>(
     );
 }
 
-/// A lock that one of the five readings of a look shows is waited for: those before the load, and those before the
-/// rename. So is a list that is longer than is read.
+/// A lock is waited for if one of the five readings before the load, or of those before the rename, shows it. So is a
+/// list that is longer than is read.
 #[test]
 fn a_lock_that_most_readings_miss(rt: HostRuntime) {
     for shown_in in 1..=11 {
@@ -54,8 +54,8 @@ fn a_lock_that_most_readings_miss(rt: HostRuntime) {
     check_wait(&rt, WHOLE.locked(ENDLESS, 10), None, 5, 5);
 }
 
-/// A lock that stays and a list that is not read to its end end the wait after ten seconds by the clock, or by the number
-/// of tries where that fails. What is not ours and has the new file's name ends it after one, unless a whole file is locked.
+/// A lock that stays, or a list that is not read to its end, ends the wait after ten seconds by the clock, or by the
+/// tries if the clock fails. Something not ours with the new file's name ends it after one, unless that file is locked.
 #[test]
 fn waits_that_end(rt: HostRuntime) {
     for (is_taken, locks, pace, cause, slept, time) in [
@@ -76,17 +76,16 @@ fn waits_that_end(rt: HostRuntime) {
     }
 }
 
-/// What the system says of an open file: it is on the mount 25.
+/// The system's information on an open file: it is on mount 25.
 const FILE_INFO: &[u8] = b"pos:\t0\nflags:\t0100001\nmnt_id:\t25\nino:\t131\n";
 
-/// A list of mounts, of which one has a name that is no text.
+/// A list of mounts, one of which has a name that is not UTF-8.
 const MOUNTS: &[u8] = b"24 1 0:37 / / rw,relatime - overlay overlay rw\n\
 26 24 0:31 / /\xff rw - tmpfs t1 rw\n\
 25 24 0:38 / /tmp rw shared:2 - tmpfs t2 rw\n";
 
-/// How long is waited for the lines that tell of a lock to write on the file, and no others. A file of the same number on
-/// another device is not this one, if the device of its mount is known; if not, all devices without a disk are taken for
-/// one.
+/// How long each line is waited for: only one that is a write lock on the file. A file with the same inode on another
+/// device is not this one, if the device of the mount is known; if not, all devices without a disk count as one.
 #[test]
 fn the_list_of_locks(rt: HostRuntime) {
     for (locks, known, unknown) in [

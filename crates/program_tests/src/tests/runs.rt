@@ -12,7 +12,7 @@ use std::io::{self, Write};
 use std::process::Abort;
 use std::test::Fail;
 
-/// Does what was asked for over some files, with that input, and answers the status.
+/// Runs an action over some files, with that input, and returns the exit status.
 pub fn respond_over<A: Allocator + Copy, F: Files, E: Write>(
     alloc: A,
     asked: &Result<Action<'_>, WordFault<'_>>,
@@ -32,7 +32,7 @@ pub fn respond_over<A: Allocator + Copy, F: Files, E: Write>(
     respond(alloc, asked, files, Some(1_700_000_000), &mut streams)
 }
 
-/// A file `k`, the keytab, and a file `c`, the cache.
+/// Returns a file `k`, the keytab, and a file `c`, the cache.
 pub fn files_of<A: Allocator + Copy>(alloc: A) -> Result<MemFiles<A>, AllocError> {
     let mut files = Vec::new(alloc);
     for (name, image) in [("k", IMAGE), ("c", CACHE)] {
@@ -44,11 +44,11 @@ pub fn files_of<A: Allocator + Copy>(alloc: A) -> Result<MemFiles<A>, AllocError
     Ok(MemFiles::of(alloc, files))
 }
 
-/// What a run told, and what it left under the name that it saves.
+/// The status, output and error output of a run, and the file of the name that it saves.
 type Ending<'a> = (u8, &'a [u8], &'a [u8], Option<&'a [u8]>);
 
-/// Whether a run ended as it has to. Out of memory has its own status, a prefix of the text is out, and the file is as
-/// before. Where a list that is collected asks again for less, the run is as one that has all its memory.
+/// Returns whether a run ended as it must. Out of memory has its own status; then a prefix of the text was printed, and
+/// the file is as before. If a refused allocation was tried again for less, the run is like one with all its memory.
 fn is_due(command: &Command, (status, out, err, left): Ending<'_>, is_refused: bool) -> bool {
     let text = command.text.as_bytes();
     if is_refused && status == 4 {
@@ -62,7 +62,7 @@ fn is_due(command: &Command, (status, out, err, left): Ending<'_>, is_refused: b
         && left == Some(command.left)
 }
 
-/// Refuses each request of a run in turn, and answers how many it makes.
+/// Refuses each allocation of a run in turn, and returns how many it makes.
 fn requests_of<R: Abort + AllocGlobal>(rt: &R, command: &Command) -> Result<u64, Fail> {
     let asked = command.asked.of(rt.alloc(), command.asked.file())?;
     refuse_each(rt.alloc(), 200, |heap, nth| {
@@ -94,14 +94,14 @@ fn each_growth_refused(rt: HostRuntime) -> Result<(), Fail> {
 
 const KEY: &str = "000102030405060708090a0b0c0d0e0f";
 
-/// Handles a line of ktutil, and answers whether it is done.
+/// Runs a line of ktutil and returns whether it succeeded.
 fn handle<A: Allocator + Copy>(alloc: A, ktutil: &mut Ktutil<A>, line: &str) -> bool {
     let mut files = MemFiles::of(alloc, Vec::new(alloc));
     let mut out = Vec::new(alloc);
     ktutil.line(&mut files, line.as_bytes(), 0, &mut out) == LineEnd::Done
 }
 
-/// A key that memory is refused for is still awaited, and is taken the next time.
+/// If memory runs out for a key line, the key is still expected, and the next line is read as it.
 #[test]
 fn the_key_line_of_ktutil(rt: HostRuntime) -> Result<(), Fail> {
     let requests = refuse_each(rt.alloc(), 10, |heap, nth| {
@@ -120,7 +120,7 @@ fn the_key_line_of_ktutil(rt: HostRuntime) -> Result<(), Fail> {
     Ok(())
 }
 
-/// Takes all bytes, and counts the writes.
+/// A writer that takes all bytes and counts the writes.
 #[derive(Drop)]
 struct Writes(u64);
 
@@ -135,7 +135,7 @@ impl Write for Writes {
     }
 }
 
-/// So the messages of runs that share an error output do not mix. A name for which there is no room goes out on its own.
+/// So the messages of runs that share an error output do not mix. A name too long for the buffer is written on its own.
 #[test]
 fn a_message_is_one_write(rt: HostRuntime) -> Result<(), Fail> {
     for (length, wanted) in [(1, 1), (4096, 1), (5000, 3)] {

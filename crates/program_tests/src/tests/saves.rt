@@ -1,4 +1,4 @@
-//! Loads and saves on a disk of which one call fails.
+//! Loads and saves on a disk on which one call fails.
 
 use super::checks::is;
 use super::disk::{Disk, Reached};
@@ -12,12 +12,11 @@ use std::process::Abort;
 pub const HOLD: &str = "look k\nmake k.krbfile\nlock\ntell\nlook k.krbfile\ndouble\n\
 open /proc/self/fdinfo/7\ntell\nread\nlook k\n";
 
-/// Five readings, where the list is empty.
+/// Five readings of the list of locks, which is empty.
 pub const LOCKS: &str = "open /proc/locks\nread\nopen /proc/locks\nread\nopen /proc/locks\nread\n\
 open /proc/locks\nread\nopen /proc/locks\nread\n";
 
-/// The calls that fill the new file, between which it is given its owner, and the looks before it takes the name of the
-/// old one.
+/// The calls that write the new file and set its owner and mode, the checks before the rename, and the rename.
 pub const WRITES: &str = "write\n";
 
 pub const OWNS: &str = "own\n";
@@ -28,13 +27,13 @@ pub const LOOK: &str = "tell\nlook k.krbfile\nlook k\n";
 
 pub const RENAME: &str = "rename k.krbfile\nopen .\nsync\n";
 
-/// The calls that leave a file that is held.
+/// The calls that release a held file.
 pub const LEAVE: &str = "tell\nlook k.krbfile\nremove k.krbfile\n";
 
-/// The calls that load `k`, if it has some bytes.
+/// The calls that load `k`, if it is not empty.
 pub const LOAD: &str = "open k\ntell\nread\nread\n";
 
-/// Files of such a disk. What their calls promise ends at the functions below, which keeps the proofs of tests short.
+/// Files on such a disk. The functions below have no contracts, which keeps the proofs of tests short.
 pub type Noted<'a, 'd> = DiskFiles<'a, (Reached<'d>, Global)>;
 
 pub fn hold(files: &mut Noted<'_, '_>) {
@@ -45,13 +44,13 @@ pub fn release(files: &mut Noted<'_, '_>) {
     files.release();
 }
 
-/// What a load answers, if it gives no bytes, the mode, and whether a call failed.
+/// Loads `k`. Returns the error, if there is one, the mode, and whether a call failed.
 pub fn load(files: &mut Noted<'_, '_>, alloc: Global) -> (Option<LoadFault>, Option<u32>, bool) {
     let fault = files.load(alloc, "k", 10).err();
     (fault, files.mode(), files.cause().is_some())
 }
 
-/// What a save failed with, if it did.
+/// The result of a save, with the cause if it failed.
 pub type Saved = Result<(), (SaveFault, Option<Cause>)>;
 
 pub fn save(files: &mut Noted<'_, '_>, name: &str) -> Saved {
@@ -61,7 +60,7 @@ pub fn save(files: &mut Noted<'_, '_>, name: &str) -> Saved {
     }
 }
 
-/// What a save answers that failed with that cause, or with none.
+/// Returns the result of a save that failed with that cause, or succeeded if there is none.
 pub fn saved(cause: Option<Cause>) -> Saved {
     match cause {
         Some(_) => Err((SaveFault::Failed, cause)),
@@ -75,15 +74,15 @@ pub fn save_on(alloc: Global, disk: &Disk) -> Saved {
     save(&mut DiskFiles::new(&reached), "k")
 }
 
-/// Saves where the call of that number fails with that error, and leaves no new file.
+/// Saves while the call of that number fails with that error, and checks that no new file is left.
 fn check_save<R: Abort + AllocGlobal>(rt: &R, failing: u64, error: i32, cause: Option<Cause>) {
     let disk = Disk::new(rt.alloc(), WHOLE.failing(failing, error));
     let got = (save_on(rt.alloc(), &disk), disk.state.get().is_made, error);
     is(rt, &got, &(saved(cause), false, error), "save");
 }
 
-/// The cause of a save whose call of that number fails. It is made without what the system says of mounts and of locks,
-/// and once the new file is renamed.
+/// Returns the cause of a save whose call of that number fails. A save succeeds without the system's information on
+/// mounts and locks, and once the new file is renamed.
 fn cause_of(failing: u64) -> Option<Cause> {
     match failing {
         7..=9 | 11..=20 | 29..=38 | 40..=41 => None,
@@ -99,9 +98,9 @@ fn each_call_of_a_save_fails(rt: HostRuntime) {
     }
 }
 
-/// Of the calls the first looks, 2 makes the new file, 3 locks it, 21 writes to it, 25 syncs it, and 39 gives it its name.
-/// A file is made and locked where the file system has no locks; a mount point is not renamed over, which is told apart
-/// from another call's EBUSY; a system without memory for a call is no program without memory.
+/// Call 1 looks, 2 creates the new file, 3 locks it, 21 writes to it, 25 syncs it, and 39 renames it. A file system
+/// without locks is no error. EBUSY means a mount point only of the rename. ENOMEM of the system is not out of memory
+/// in the program.
 #[test]
 fn what_a_save_fails_with(rt: HostRuntime) {
     for (failing, error, cause) in [
@@ -129,8 +128,8 @@ fn what_a_save_fails_with(rt: HostRuntime) {
     }
 }
 
-/// Where the owner is refused, by 1, EINVAL, ENOSYS or 95, the group is set alone, and what was set is
-/// looked at.
+/// If the owner is refused, by EPERM, EINVAL, ENOSYS or EOPNOTSUPP, the group is set alone. Then `stat` reports what
+/// was set.
 #[test]
 fn the_calls_of_a_save(rt: HostRuntime) {
     for (error, own) in [
@@ -148,7 +147,7 @@ fn the_calls_of_a_save(rt: HostRuntime) {
     }
 }
 
-/// Loads where the call of that number fails with that error.
+/// Loads while the call of that number fails with that error.
 fn check_load<R: Abort + AllocGlobal>(rt: &R, failing: u64, error: i32, fault: Option<LoadFault>) {
     let disk = Disk::new(rt.alloc(), WHOLE.failing(failing, error));
     let reached = (disk.reached(), rt.alloc());
@@ -162,8 +161,8 @@ fn check_load<R: Abort + AllocGlobal>(rt: &R, failing: u64, error: i32, fault: O
     );
 }
 
-/// A load opens the file, asks which one that is, and reads to its end. Only a file that is not there is missing, which
-/// is no failure: of the errors of an open 2 alone says so.
+/// A load opens the file, calls `stat` on it, and reads to its end. A missing file is no failure: of the errors of an
+/// open, only ENOENT means one.
 #[test]
 fn each_call_of_a_load_fails(rt: HostRuntime) {
     check_load(&rt, 0, 0, None);

@@ -1,33 +1,33 @@
-//! What a disk shows, what of it fails, and what was done on it.
+//! The state of a test disk: its contents, the call that fails, and what was done.
 
 /// A disk with a file `k` and nothing else.
 #[derive(Clone, Copy)]
 pub struct State {
-    /// The number of the call that fails, if it is not 0, and of its error.
+    /// The number of the call that fails, 0 for none, and the number of its error.
     pub failing: (u64, i32),
     /// The bytes of `k`.
     pub bytes: &'static [u8],
-    /// The list of locks in the reading of that number, in each if it is 0. It is empty in the others. One of a page of
-    /// bytes has no end.
+    /// The list of locks in the reading of that number, or in every reading if it is 0; in the others it is empty. A
+    /// list of 4,096 bytes has no end.
     pub locks: (&'static [u8], u64),
-    /// What the system says of the new file, and of its mounts.
+    /// The system's information on the new file, and its list of mounts.
     pub file_info: &'static [u8],
     pub mounts: &'static [u8],
-    /// By how many milliseconds each look at the clock moves it on; where there is none it fails.
+    /// By how many milliseconds each reading of the clock advances it. If `None`, the clock cannot be read.
     pub pace: Option<u64>,
     /// Whether something that is not ours has the new file's name.
     pub is_taken: bool,
     /// Whether the new file was made and is still there.
     pub is_made: bool,
-    /// How many calls there were, and readings of the list of locks.
+    /// How many calls were made, and how often the list of locks was read.
     pub calls: u64,
     pub readings: u64,
-    /// How many milliseconds passed, and were slept.
+    /// How many milliseconds passed, and how many of them were slept.
     pub time: u64,
     pub slept: u64,
 }
 
-/// No call was made, and none fails.
+/// A disk with no calls yet, of which none fails.
 pub const WHOLE: State = State {
     failing: (0, 0),
     bytes: b"",
@@ -58,14 +58,14 @@ impl State {
         State { bytes, ..self }
     }
 
-    /// Time passes.
+    /// Adds to the time that passed and the time slept.
     pub fn after(mut self, time: u64, slept: u64) -> State {
         self.time = self.time.saturating_add(time);
         self.slept = self.slept.saturating_add(slept);
         self
     }
 
-    /// What a call does that did not fail.
+    /// Applies a call that did not fail.
     pub fn done(&mut self, what: &str, path: &str) {
         match what {
             "make " => self.is_made = !self.is_taken,
@@ -77,7 +77,7 @@ impl State {
         }
     }
 
-    /// What is read of a file that was opened.
+    /// Returns the bytes of a file that was opened.
     pub fn bytes_of(&self, path: &str) -> &'static [u8] {
         match path {
             "k" => self.bytes,

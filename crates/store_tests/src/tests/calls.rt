@@ -1,4 +1,4 @@
-//! Calls of keytabs: each request for memory is refused in turn.
+//! Calls of keytabs in which each allocation is refused in turn.
 
 use super::made::{b, indexed_of, is_host, keytab_of};
 use super::records::{B, HEAD, HOST, LOW_KEY};
@@ -21,13 +21,13 @@ fn create(heap: &Refusing<Global>, n: u64) -> Result<(), Fail> {
     }
 }
 
-/// A copy of the entry of `HOST`; none where memory was refused.
+/// Returns a copy of the entry of `HOST`, or `None` if an allocation failed.
 fn copied<A: Allocator + Copy>(alloc: A, keytab: &Keytab<A>) -> Option<NewEntry<A>> {
     let entry = keytab.entry_at(2)?;
     entry.copy(alloc).ok()
 }
 
-/// Whether an entry is that of `HOST`.
+/// Returns whether an entry is that of `HOST`.
 fn is_of_host<A: Allocator>(entry: &NewEntry<A>) -> bool {
     let numbers = (entry.kvno, entry.enctype, entry.timestamp);
     numbers == (3, 17, 1_700_000_000)
@@ -44,7 +44,7 @@ fn copy(heap: &Refusing<Global>, n: u64) -> Result<(), Fail> {
     }
 }
 
-/// Checks what an addition of `B` after `HOST` answers and leaves.
+/// Checks the result of an addition of `B` after `HOST`, and the image after it.
 fn check_added(added: Result<u32, Refusal>, image: &[u8], is_refused: bool) -> Result<(), Fail> {
     if is_refused {
         return is(
@@ -66,7 +66,7 @@ fn add(heap: &Refusing<Global>, n: u64) -> Result<(), Fail> {
     check_added(added, keytab.image(), heap.refused())
 }
 
-/// What sessions call.
+/// Calls `put`, as sessions do.
 fn put<P: Placed>(store: &mut P, item: &P::Item) -> Result<u32, Refusal> {
     store.put(item)
 }
@@ -87,7 +87,7 @@ fn add_to_indexed(heap: &Refusing<Global>, n: u64) -> Result<(), Fail> {
     check_added(added, indexed.image(), heap.refused())
 }
 
-/// Whether a table is made; the keytab is handed back where none is.
+/// Returns whether a table was made, and the keytab.
 fn is_indexed<A: Allocator + Copy>(alloc: A, keytab: Keytab<A>) -> (bool, Keytab<A>) {
     match Indexed::of(alloc, keytab) {
         Ok(indexed) => (true, indexed.into_keytab()),
@@ -116,12 +116,12 @@ fn each_request_of_calls(rt: HostRuntime) -> Result<(), Fail> {
     is(refuse_each(rt.alloc(), 100, index)? >= 2, "a table")
 }
 
-/// What stands before and after the components in a record of 131,092 bytes, whose entry has 65,535 empty ones.
+/// The bytes before and after the components in a record of 131,092 bytes, whose entry has 65,535 empty ones.
 const FRONT: &[u8] = b"\0\x02\0\x14\xff\xff\0\x01R";
 
 const BACK: &[u8] = b"\0\0\0\x01\x65\x53\xf1\0\x03\0\x11\0\0\0\0\0\x03";
 
-/// To look up each component from the first on would pass 2,147,385,345 components.
+/// Looking up each component from the first would pass 2,147,385,345 components.
 #[test]
 fn the_most_components_are_written_anew_in_one_pass(rt: HostRuntime) -> Result<(), Fail> {
     let components = Vec::from_elem(rt.alloc(), 0, 131_070)?;

@@ -6,7 +6,7 @@ use krb_wire::{Limits, Name, Order, Principal, parse_name};
 use std::alloc::Allocator;
 use std::test::Fail;
 
-/// The pieces, one after the other.
+/// Returns the pieces, one after the other.
 pub fn joined<A: Allocator + Copy>(alloc: A, pieces: &[&[u8]]) -> Result<Vec<u8, A>, Fail> {
     let mut bytes = Vec::new(alloc);
     for piece in pieces {
@@ -15,7 +15,7 @@ pub fn joined<A: Allocator + Copy>(alloc: A, pieces: &[&[u8]]) -> Result<Vec<u8,
     Ok(bytes)
 }
 
-/// The keytab of an image in pieces.
+/// Returns the keytab of an image in pieces.
 pub fn keytab_of<A: Allocator + Copy>(alloc: A, pieces: &[&[u8]]) -> Result<Keytab<A>, Fail> {
     match Keytab::open(joined(alloc, pieces)?, Order::Little, Limits::usual()) {
         Ok(keytab) => Ok(keytab),
@@ -23,7 +23,7 @@ pub fn keytab_of<A: Allocator + Copy>(alloc: A, pieces: &[&[u8]]) -> Result<Keyt
     }
 }
 
-/// The keytab with a table of an image in pieces.
+/// Returns the keytab, with a table, of an image in pieces.
 pub fn indexed_of<A: Allocator + Copy>(alloc: A, pieces: &[&[u8]]) -> Result<Indexed<A>, Fail> {
     match Indexed::of(alloc, keytab_of(alloc, pieces)?) {
         Ok(indexed) => Ok(indexed),
@@ -31,7 +31,7 @@ pub fn indexed_of<A: Allocator + Copy>(alloc: A, pieces: &[&[u8]]) -> Result<Ind
     }
 }
 
-/// The name that a text is.
+/// Parses a text as a name.
 pub fn name_of<A: Allocator + Copy>(alloc: A, text: &[u8]) -> Result<Principal<A>, Fail> {
     match parse_name(alloc, text, None) {
         Ok(name) => Ok(name),
@@ -39,7 +39,7 @@ pub fn name_of<A: Allocator + Copy>(alloc: A, text: &[u8]) -> Result<Principal<A
     }
 }
 
-/// Whether a name is what krb5_parse_name reads in `host/a@R`.
+/// Returns whether a name is what krb5_parse_name reads in `host/a@R`.
 pub fn is_host<A: Allocator>(name: &Principal<A>) -> bool {
     name.name_type == 1
         && name.realm() == b"R".as_slice()
@@ -48,7 +48,7 @@ pub fn is_host<A: Allocator>(name: &Principal<A>) -> bool {
         && name.component(1) == Some(b"a".as_slice())
 }
 
-/// The entry of a name and a key, of version 3, enctype 17 and the time of the records.
+/// Returns an entry of a name and a key, of version 3, enctype 17 and the time of the records.
 pub fn entry_of<A: Allocator + Copy>(
     alloc: A,
     name: &[u8],
@@ -63,7 +63,7 @@ pub fn entry_of<A: Allocator + Copy>(
     })
 }
 
-/// The entry of the record `B`.
+/// Returns the entry of the record `B`.
 pub fn b<A: Allocator + Copy>(alloc: A) -> Result<NewEntry<A>, Fail> {
     entry_of(alloc, b"b@R", HIGH_KEY)
 }

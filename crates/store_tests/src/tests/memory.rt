@@ -1,4 +1,4 @@
-//! Allocators of which requests are refused, and whose blocks are cleared.
+//! Allocators that refuse requests, and that clear blocks.
 
 use super::is;
 use refusing::{Refusing, refuse_each};
@@ -6,12 +6,12 @@ use std::alloc::{AllocError, Allocator, Global};
 use std::test::Fail;
 use wiping::Wiping;
 
-/// Whether a request is granted. The block is given back at once.
+/// Returns whether an allocation is granted, and frees it at once.
 fn is_granted<A: Allocator>(heap: &Refusing<A>) -> bool {
     Box::new(heap, 7u8).is_ok()
 }
 
-/// Which request is refused, whether all from it on are, which of three are granted, and how many of them come to the
+/// Which request is refused, whether all from it on are, which of three are granted, and how many of them reach the
 /// allocator below.
 type Plan = (u64, bool, [bool; 3], u64);
 
@@ -24,7 +24,7 @@ const PLANS: &[Plan] = &[
     (3, true, [true, true, false], 2),
 ];
 
-/// Whether three requests go as planned.
+/// Returns whether three requests go as planned.
 fn is_kept(below: &Refusing<Global>, heap: &Refusing<&Refusing<Global>>, plan: &Plan) -> bool {
     let (nth, all_from_it, wanted, passed) = *plan;
     below.refuse(0);
@@ -41,7 +41,7 @@ fn is_kept(below: &Refusing<Global>, heap: &Refusing<&Refusing<Global>>, plan: &
         && (heap.requests(), below.requests()) == (3, passed)
 }
 
-/// Those that are refused are counted too, and do not come to the allocator below.
+/// Refused requests are counted too, and do not reach the allocator below.
 #[test]
 fn requests_are_refused_as_told(rt: HostRuntime) -> Result<(), Fail> {
     let below = Refusing::new(rt.alloc());
@@ -57,7 +57,7 @@ fn requests_are_refused_as_told(rt: HostRuntime) -> Result<(), Fail> {
     is(are_kept && held == (1, 1) && left == (0, 0), "requests")
 }
 
-/// A vector that grows, is cloned and shrinks, and a box of no bytes.
+/// Grows, clones and shrinks a vector, and makes a box of no bytes.
 fn several<A: Allocator + Copy>(alloc: A) -> Result<Vec<u8, A>, AllocError> {
     let mut bytes = Vec::from_slice(alloc, b"a key")?;
     bytes.push(b'!')?;
@@ -67,8 +67,8 @@ fn several<A: Allocator + Copy>(alloc: A) -> Result<Vec<u8, A>, AllocError> {
     copy
 }
 
-/// What a vector holds goes with it to another block, and the one that it leaves goes back, cleared, to the allocator
-/// below.
+/// The contents of a vector move with it to another block, and the old block is cleared before it is freed to the
+/// allocator below.
 #[test]
 fn a_vector_over_a_wiping_allocator(rt: HostRuntime) -> Result<(), Fail> {
     let requests = refuse_each(rt.alloc(), 100, |heap, nth| {

@@ -1,4 +1,4 @@
-//! Names: each request for memory is refused in turn.
+//! Calls on names in which each allocation is refused in turn.
 
 use super::made::{is_host, name_of};
 use super::{are, is};
@@ -10,8 +10,8 @@ use std::test::Fail;
 const LONG: &[u8] =
     b"host\\/a/a-long-component-that-is-quoted-in-more-than-one-batch-as-it-has-a-tab-\\t-in-it@R";
 
-/// A text and a default realm, the fault of the text, and the least number of requests. A text that is no name
-/// makes none.
+/// A text and a default realm, the fault of the text, and the least number of allocations: none for a text that is no
+/// name.
 const PARSED: &[(&[u8], Option<&[u8]>, Option<NameFault>, u64)] = &[
     (b"host/a@R", None, None, 4),
     (b"host/a", Some(b"R"), None, 4),
@@ -21,7 +21,7 @@ const PARSED: &[(&[u8], Option<&[u8]>, Option<NameFault>, u64)] = &[
     (b"a@b/c", None, Some(NameFault::SlashInRealm), 0),
 ];
 
-/// The fault that a text of `host/a@R` or of no name has.
+/// Parses a text and returns its fault, if any. If there is none, checks that the name is `host/a@R`.
 fn fault_of<A: Allocator + Copy>(
     alloc: A,
     text: &[u8],
@@ -57,7 +57,7 @@ fn each_request_of_parse_name(rt: HostRuntime) -> Result<(), Fail> {
     Ok(())
 }
 
-/// Copies a name; the answer is whether memory was refused.
+/// Copies a name, and checks that this fails iff an allocation was refused.
 fn copy(heap: &Refusing<Global>, n: u64) -> Result<(), Fail> {
     let name = name_of(heap, b"host/a@R")?;
     heap.refuse(n);
@@ -67,7 +67,7 @@ fn copy(heap: &Refusing<Global>, n: u64) -> Result<(), Fail> {
     }
 }
 
-/// Whether a name's text stands after `> `, or nothing where memory was refused.
+/// Returns whether a name's text follows `> `, or nothing if an allocation was refused.
 fn is_left(out: &[u8], text: &[u8], is_refused: bool) -> bool {
     if is_refused {
         out == b"> ".as_slice()

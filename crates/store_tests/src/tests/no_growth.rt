@@ -1,4 +1,4 @@
-//! What takes no memory succeeds where every request is refused.
+//! Calls that take no memory succeed while every allocation is refused.
 
 use super::made::{b, indexed_of, keytab_of, name_of};
 use super::records::{B, B_AND_ZEROS, HEAD, HOST, HOST_17, HOST_18};
@@ -14,12 +14,12 @@ const HOLE_47: &[u8] = b"\xff\xff\xff\xd1";
 
 const HOLE_41: &[u8] = b"\xff\xff\xff\xd7";
 
-/// An end mark, and bytes after it that an addition takes.
+/// An end mark, and bytes after it that an addition overwrites.
 const MARK: &[u8] = b"\0\0\0\0";
 
 const BEHIND: &[u8] = &[0xff; 45];
 
-/// An image, the place where `B` is put, and what is left.
+/// An image, the place where `B` is added, and the image after that.
 type Addition = (&'static [&'static [u8]], u32, &'static [&'static [u8]]);
 
 const ADDITIONS: &[Addition] = &[
@@ -33,7 +33,7 @@ const ADDITIONS: &[Addition] = &[
     ),
 ];
 
-/// Checks what an addition answers and leaves.
+/// Checks the result of an addition, and the image after it.
 fn check_added(
     added: Result<u32, Refusal>,
     image: &[u8],
@@ -58,7 +58,7 @@ fn check_indexed(heap: &Refusing<Global>, row: &Addition) -> Result<(), Fail> {
     check_added(added, indexed.image(), row)
 }
 
-/// The first addition after the cells, where the image does not grow, needs no room in the table either.
+/// The first addition after the cells, if the image does not grow, takes no memory for the table either.
 #[test]
 fn additions_that_take_no_memory(rt: HostRuntime) -> Result<(), Fail> {
     for row in ADDITIONS {
@@ -71,7 +71,7 @@ fn additions_that_take_no_memory(rt: HostRuntime) -> Result<(), Fail> {
 /// `host/a@R` at 2, 53 and 120, of versions 3, 5 and 5 and enctypes 17, 18 and 17.
 const THREE: &[&[u8]] = &[HEAD, HOST, HOST_18, HOST_17];
 
-/// The place of what a look-up found.
+/// Returns the place that a look-up found.
 fn place_in(found: Result<(u32, EntryView<'_>), Code>) -> Option<u32> {
     match found {
         Ok((place, _)) => Some(place),
@@ -79,14 +79,14 @@ fn place_in(found: Result<(u32, EntryView<'_>), Code>) -> Option<u32> {
     }
 }
 
-/// Whether the first step of a walk stops at `HOST`.
+/// Returns whether the first step of a walk stops at `HOST`.
 fn gives_host<P: Placed + Drop, A: Allocator + Copy>(alloc: A, store: P) -> bool {
     let mut session = Session::new(alloc, store);
     session.apply(&Event::Start).is_ok() && session.step(0) == Ok(Stop::Live { place: 2, next: 53 })
 }
 
-/// Checks what the removal by name of the highest version of enctype 17, a look-up of the highest version after it, and
-/// the removal of what it found answer.
+/// Checks the results of the removal by name of the highest version of enctype 17, of a look-up of the highest version
+/// after it, and of the removal of what that found.
 fn check_answers(
     removed: Result<u32, Code>,
     found: Option<u32>,

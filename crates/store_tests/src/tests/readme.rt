@@ -9,7 +9,7 @@ use krb_wire::{Limits, Order, parse_name};
 use std::alloc::Global;
 use std::test::Fail;
 
-// The place and the version of the entry that is looked up.
+// Returns the place and the version of the entry that is looked up.
 fn look_up(alloc: Global, image: Vec<u8>) -> Result<(u32, u32), Fail> {
     let opened = Keytab::open(image, Order::Little, Limits::usual());
     let keytab = opened.map_err(|refused| refused.why)?;
@@ -19,7 +19,7 @@ fn look_up(alloc: Global, image: Vec<u8>) -> Result<(u32, u32), Fail> {
     Ok((place, entry.kvno()))
 }
 
-// The image after an entry was removed and another added behind a walk.
+// Returns the image after an entry was removed and another was added before the cursor of a walk.
 fn edit(alloc: Global, keytab: Keytab<Global>, entry: NewEntry<Global>) -> Result<Vec<u8>, Fail> {
     let mut session = Session::new(alloc, keytab);
     let mut replies = Vec::new(alloc);

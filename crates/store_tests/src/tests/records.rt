@@ -37,11 +37,11 @@ pub const B: &[u8] = b"\0\0\0\x29\0\x01\0\x01R\0\x01b\0\0\0\x01\x65\x53\xf1\0\x0
 pub const B_BYTES: &[u8] = b"\0\x01\0\x01R\0\x01b\0\0\0\x01\x65\x53\xf1\0\x03\0\x11\0\x10\
 \x10\x11\x12\x13\x14\x15\x16\x17\x18\x19\x1a\x1b\x1c\x1d\x1e\x1f\0\0\0\x03";
 
-/// The same with six zeros after it, as it stands in the place of `HOST`.
+/// The same with six zeros after it, as when it is put in the place of `HOST`.
 pub const B_AND_ZEROS: &[u8] = b"\0\x01\0\x01R\0\x01b\0\0\0\x01\x65\x53\xf1\0\x03\0\x11\0\x10\
 \x10\x11\x12\x13\x14\x15\x16\x17\x18\x19\x1a\x1b\x1c\x1d\x1e\x1f\0\0\0\x03\0\0\0\0\0\0";
 
-/// `c@R`, version 3, enctype 17, as it stands in the place of `HOST`: without its length, with six zeros after it.
+/// `c@R`, version 3, enctype 17, as when it is put in the place of `HOST`: without its length, with six zeros after it.
 pub const C_AND_ZEROS: &[u8] = b"\0\x01\0\x01R\0\x01c\0\0\0\x01\x65\x53\xf1\0\x03\0\x11\0\x10\
 \x20\x21\x22\x23\x24\x25\x26\x27\x28\x29\x2a\x2b\x2c\x2d\x2e\x2f\0\0\0\x03\0\0\0\0\0\0";
 

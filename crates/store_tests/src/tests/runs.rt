@@ -1,4 +1,4 @@
-//! Runs of events in which each request for memory is refused in turn: what has no reply yet is done the next time.
+//! Runs of events in which each allocation is refused in turn: events without a reply are run again.
 
 use super::made::{indexed_of, keytab_of};
 use super::records::{B, B_BYTES, C_AND_ZEROS, HEAD, HOST, HOST_BYTES, UNTYPED_BYTES, VERSION_1};
@@ -79,7 +79,7 @@ fn is_run<P: Placed + Drop, A: Allocator + Copy>(
     session.run(events, replies).is_ok()
 }
 
-/// Runs events, and where memory runs out those without a reply, in the same session. The answer is whether it ran out.
+/// Runs events and, if memory runs out, those without a reply again, in the same session. Returns whether it ran out.
 fn run<P: Placed + Drop, A: Allocator + Copy>(
     session: &mut Session<P, A>,
     events: &[Event<P::Item>],
@@ -93,7 +93,7 @@ fn run<P: Placed + Drop, A: Allocator + Copy>(
     Ok(true)
 }
 
-/// The store after the events of a row, and whether memory ran out.
+/// Returns the store after the events of a row, and whether memory ran out.
 fn store_after<P: Placed + Drop, A: Allocator + Copy>(
     alloc: A,
     store: P,
@@ -139,7 +139,7 @@ fn each_request_of_a_run(rt: HostRuntime) -> Result<(), Fail> {
     Ok(())
 }
 
-/// Applies an event, once more where memory runs out. The answer is whether it ran out.
+/// Applies an event, and once again if memory runs out. Returns whether it ran out.
 fn apply<P: Placed + Drop, A: Allocator + Copy>(
     session: &mut Session<P, A>,
     event: &Event<P::Item>,
@@ -158,7 +158,7 @@ fn apply<P: Placed + Drop, A: Allocator + Copy>(
     }
 }
 
-/// Applies the events of a row one by one. The answer is whether memory ran out.
+/// Applies the events of a row one by one. Returns whether memory ran out.
 fn apply_each<P: Placed + Drop, A: Allocator + Copy>(
     alloc: A,
     store: P,

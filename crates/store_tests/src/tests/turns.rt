@@ -7,7 +7,7 @@ use krb_walk::{Event, Reply};
 use std::alloc::Allocator;
 use std::test::Fail;
 
-/// An event. An entry is put by its name and its key.
+/// An event. An entry is added by its name and its key.
 #[derive(Clone, Copy)]
 pub enum Turn {
     Start,
@@ -17,14 +17,14 @@ pub enum Turn {
     Rewrite,
 }
 
-/// Puts the entry of the record `HOST`, of `B` and of `C_AND_ZEROS`.
+/// Adds the entry of the record `HOST`, of `B` and of `C_AND_ZEROS`.
 pub const PUT_HOST: Turn = Turn::Put(b"host/a@R", LOW_KEY);
 
 pub const PUT_B: Turn = Turn::Put(b"b@R", HIGH_KEY);
 
 pub const PUT_C: Turn = Turn::Put(b"c@R", C_KEY);
 
-/// A reply: the walk first, then places. No row has a reply that is another.
+/// A reply: the walk first, then places. No row has any other reply.
 #[derive(Clone, Copy, PartialEq, Eq)]
 pub enum Told<'a> {
     Started(u32, u32),
@@ -65,7 +65,7 @@ fn event_of<A: Allocator + Copy>(alloc: A, turn: Turn) -> Result<Event<NewEntry<
     }
 }
 
-/// The events of the turns.
+/// Returns the events of a row.
 pub fn events_of<A: Allocator + Copy>(
     alloc: A,
     row: &Row<'_>,
@@ -77,7 +77,7 @@ pub fn events_of<A: Allocator + Copy>(
     Ok(events)
 }
 
-/// What a reply tells.
+/// Returns what a reply reports.
 pub fn told_by<A: Allocator>(reply: &Reply<A>) -> Told<'_> {
     match reply {
         Reply::Started { walk, next } => Told::Started(*walk, *next),
@@ -95,7 +95,7 @@ pub fn told_by<A: Allocator>(reply: &Reply<A>) -> Told<'_> {
     }
 }
 
-/// Whether the replies are those of a row.
+/// Returns whether the replies are those of a row.
 pub fn are_told<A: Allocator>(replies: &[Reply<A>], row: &Row<'_>) -> bool {
     for (reply, (_, told)) in replies.iter().zip(row.turns) {
         if told_by(reply) != *told {

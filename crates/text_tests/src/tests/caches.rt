@@ -7,7 +7,7 @@ use krb_wire::Limits;
 use std::alloc::Allocator;
 use std::test::Fail;
 
-// Written out by hand from MIT's description of the cache file format.
+// Spelled out by hand from MIT's description of the cache file format.
 const HEADER: &[u8] = b"\x05\x04\0\x12\0\x09\0\x02\xab\xcd\0\x01\0\x08\0\0\0\x05\xff\xff\xff\xf6";
 
 const OWNER: &[u8] = b"\0\0\0\x01\0\0\0\x01\0\0\0\x01R\0\0\0\x01u";
@@ -23,7 +23,7 @@ const REMOVED: &[u8] = b"\xff\xff\xff\xff\0\0\0\0\0\0\0\0\0\0\0\0";
 
 const TICKET: &[u8] = b"\0@\xe0\0\0\0\0\0\0\0\0\0\0\0\0\0\x03tkt\0\0\0\0";
 
-// The server and the empty key of the configuration entry `pa_type` for `krbtgt/R@R`, and what stands after its times.
+// The server and the empty key of the configuration entry `pa_type` for `krbtgt/R@R`, and what follows its times.
 const CONFIG: &[u8] =
     b"\0\0\0\x01\0\0\0\x03\0\0\0\x0cX-CACHECONF:\0\0\0\x15krb5_ccache_conf_data\0\0\0\x07pa_type\0\0\0\x0akrbtgt/R@R\0\0\0\0\0\0";
 
@@ -45,7 +45,7 @@ fn is(holds: bool, otherwise: &'static str) -> Result<(), Fail> {
     }
 }
 
-// Whether an image is these parts, one after the other.
+// Returns whether an image is these parts, one after the other.
 fn is_spelled(image: &[u8], parts: &[&[u8]]) -> bool {
     let mut rest = image;
     for part in parts {
@@ -57,7 +57,7 @@ fn is_spelled(image: &[u8], parts: &[&[u8]]) -> bool {
     rest.is_empty()
 }
 
-// The cache `CACHE` with that room.
+// Returns the cache `CACHE` with that capacity.
 fn cache_in<A: Allocator>(alloc: A, room: usize) -> Result<Ccache<A>, Fail> {
     let mut image = Vec::with_capacity(alloc, room)?;
     for part in CACHE {
@@ -69,7 +69,7 @@ fn cache_in<A: Allocator>(alloc: A, room: usize) -> Result<Ccache<A>, Fail> {
     }
 }
 
-// A copy of the ticket at 40.
+// Returns a copy of the ticket at 40.
 fn ticket_of<A: Allocator + Copy>(alloc: A, cache: &Ccache<A>) -> Option<Cred<A>> {
     cache.cred_at(40)?.copy(alloc).ok()
 }

@@ -7,7 +7,7 @@ use refusing::{CountedReader, refuse_each};
 use std::alloc::Allocator;
 use std::test::Fail;
 
-/// How many bytes are loaded of those, of which a read gives so many at most, and in how many reads.
+/// Loads those bytes, at most `most` a read. Returns how many bytes were loaded, and how many reads were made.
 fn load_from<A: Allocator>(
     alloc: A,
     bytes: &[u8],
@@ -22,8 +22,8 @@ fn load_from<A: Allocator>(
     (loaded.map(|all| all.len()), reader.into_reader().calls)
 }
 
-/// A load ends at one byte over the limit. What is expected changes neither that nor the bytes, and takes no more memory
-/// than the limit does.
+/// A load ends at one byte over the limit. The expected size changes neither that nor the bytes, and takes no more
+/// memory than the limit.
 #[test]
 fn the_reads_of_a_load(rt: HostRuntime) {
     for (limit, expected, wanted) in [
@@ -37,7 +37,7 @@ fn the_reads_of_a_load(rt: HostRuntime) {
     }
 }
 
-/// Saves under a name, again under that one, and loads what is there; and more bytes than were expected.
+/// Saves a file, saves it again, and loads it; then loads more bytes than were expected.
 fn save_and_load<A: Allocator + Copy>(alloc: A, bytes: &[u8]) -> Result<usize, LoadFault> {
     let mut files = MemFiles::of(alloc, Vec::new(alloc));
     for bytes in [b"older".as_slice(), b"newer", b"new"] {

@@ -1,4 +1,4 @@
-//! Calls for whole listings. Each answers none where memory is refused.
+//! Calls for whole listings. Each returns `None` if an allocation fails.
 
 use super::images::{HOST, KEYTAB, cache_of, keytab_of};
 use krb_cache_text::{CcColumns, list_cache};
@@ -21,19 +21,19 @@ const CACHE_COLUMNS: CcColumns = CcColumns {
     configs: true,
 };
 
-/// The listing of a keytab.
+/// Writes the listing of a keytab.
 pub fn keytab_list<A: Allocator + Copy>(alloc: A, out: &mut Vec<u8, A>) -> Option<()> {
     let keytab = keytab_of(alloc, KEYTAB)?;
     list_keytab(alloc, "k", &keytab, KEYTAB_COLUMNS, &mut Watched::new(out)).ok()
 }
 
-/// The listing of a cache.
+/// Writes the listing of a cache.
 pub fn cache_list<A: Allocator + Copy>(alloc: A, out: &mut Vec<u8, A>) -> Option<()> {
     let cache = cache_of(alloc)?;
     list_cache(alloc, "c", &cache, CACHE_COLUMNS, &mut Watched::new(out)).ok()
 }
 
-/// The listing of slots.
+/// Writes the listing of ktutil's slots.
 pub fn slots<A: Allocator + Copy>(alloc: A, out: &mut Vec<u8, A>) -> Option<()> {
     let mut entries = Vec::new(alloc);
     let entry = read_entry(KtFormat::V2, HOST)?.copy(alloc).ok()?;
@@ -41,13 +41,13 @@ pub fn slots<A: Allocator + Copy>(alloc: A, out: &mut Vec<u8, A>) -> Option<()> 
     list_slots(alloc, &entries, KEYTAB_COLUMNS, out).ok()
 }
 
-/// A keytab as JSON.
+/// Writes a keytab as JSON.
 pub fn keytab_object<A: Allocator + Copy>(alloc: A, out: &mut Vec<u8, A>) -> Option<()> {
     let keytab = keytab_of(alloc, KEYTAB)?;
     keytab_json(alloc, "k", &keytab, true, &mut Watched::new(out)).ok()
 }
 
-/// A cache as JSON.
+/// Writes a cache as JSON.
 pub fn cache_object<A: Allocator + Copy>(alloc: A, out: &mut Vec<u8, A>) -> Option<()> {
     let cache = cache_of(alloc)?;
     cache_json(alloc, "c", &cache, &mut Watched::new(out)).ok()

@@ -1,4 +1,4 @@
-//! Calls for the lines of records. Each answers none where memory is refused.
+//! Calls for the lines of records. Each returns `None` if an allocation fails.
 
 use super::images::{CONFIG, HOST, HOST_V1, TICKET};
 use krb_cache_text::CcFormat;
@@ -9,18 +9,18 @@ use krb_walk::Reply;
 use krb_wire::{KtFormat, Order};
 use std::alloc::Allocator;
 
-/// The line of an entry that was found.
+/// Writes the line of an entry that was found.
 pub fn found<A: Allocator>(alloc: A, out: &mut Vec<u8, A>) -> Option<()> {
     let line = found_text(alloc, 2, &read_entry(KtFormat::V2, HOST)?).ok()?;
     out.extend_from_slice(&line).ok()
 }
 
-/// The line of an entry at its place.
+/// Writes the line of an entry at its place.
 pub fn placed<A: Allocator>(out: &mut Vec<u8, A>) -> Option<()> {
     append_placed(b"at ", 2, &read_entry(KtFormat::V2, HOST)?, out).ok()
 }
 
-// A reply that gives a record of those bytes.
+// Returns a reply that gives a record of those bytes.
 fn gave<A: Allocator>(alloc: A, bytes: &[u8]) -> Option<Reply<A>> {
     let bytes = Vec::from_slice(alloc, bytes).ok()?;
     Some(Reply::Gave {
@@ -31,12 +31,12 @@ fn gave<A: Allocator>(alloc: A, bytes: &[u8]) -> Option<Reply<A>> {
     })
 }
 
-/// The line of a reply that gives an entry.
+/// Writes the line of a reply that gives an entry.
 pub fn reply<A: Allocator + Copy>(alloc: A, out: &mut Vec<u8, A>) -> Option<()> {
     reply_line(KtFormat::V2, &gave(alloc, HOST)?, out).ok()
 }
 
-/// The lines of replies over a keytab of version 1 that is rewritten.
+/// Writes the lines of replies over a keytab of version 1 that is rewritten.
 pub fn keytab_replies<A: Allocator + Copy>(alloc: A, out: &mut Vec<u8, A>) -> Option<()> {
     let mut replies = Vec::new(alloc);
     replies.push(gave(alloc, HOST_V1)?).ok()?;
@@ -45,7 +45,7 @@ pub fn keytab_replies<A: Allocator + Copy>(alloc: A, out: &mut Vec<u8, A>) -> Op
     reply_lines(KtFormat::V1(Order::Little), &replies, out).ok()
 }
 
-/// The lines of replies over a cache.
+/// Writes the lines of replies over a cache.
 pub fn cache_replies<A: Allocator + Copy>(alloc: A, out: &mut Vec<u8, A>) -> Option<()> {
     let mut replies = Vec::new(alloc);
     replies.push(gave(alloc, TICKET)?).ok()?;

@@ -1,4 +1,4 @@
-//! The calls, with the text that each puts behind others and what a refused one may leave of it.
+//! The calls, with the text that each appends, and what a refused call may leave of it.
 
 use super::{listings, records, scripts, selections, texts};
 use krb_text::{etype_text, flag_letters, key_text, time_text};
@@ -40,7 +40,7 @@ enum Left {
     APrefix,
 }
 
-/// A call, what it leaves where it is refused, and its text.
+/// A call, what it leaves of its text if an allocation is refused, and its text.
 type Row = (Call, Left, &'static [u8]);
 
 const PARTS: [Row; 7] = [
@@ -137,7 +137,7 @@ config: pa_type(krbtgt/R@R) = \\xff\\x0a\n",
     ),
 ];
 
-/// Of a script the text is a letter for each line.
+/// The text of a script is a letter for each line.
 const SCRIPTS: [Row; 2] = [
     (Call::KeytabScript, Left::APrefix, b"spc"),
     (Call::CacheScript, Left::APrefix, b"svvc"),
@@ -164,7 +164,7 @@ entries 4 free 25 holes 1\n",
     ),
 ];
 
-// Makes a call: none where memory is refused.
+// Makes a call. Returns `None` if an allocation fails.
 fn made<A: Allocator + Copy>(call: Call, alloc: A, out: &mut Vec<u8, A>) -> Option<()> {
     match call {
         Call::Etype => etype_text(17, out).ok(),
@@ -192,7 +192,7 @@ fn made<A: Allocator + Copy>(call: Call, alloc: A, out: &mut Vec<u8, A>) -> Opti
     }
 }
 
-// Whether a call that was refused left what it may of its text.
+// Returns whether a refused call left what it may of its text.
 fn is_left(left: Left, text: &[u8], wanted: &[u8]) -> bool {
     match left {
         Left::Nothing => text.is_empty(),
@@ -200,7 +200,7 @@ fn is_left(left: Left, text: &[u8], wanted: &[u8]) -> bool {
     }
 }
 
-// Whether a call whose n-th request is refused is not done, and one of whose requests none is refused gives its text.
+// Returns whether a call fails if its n-th allocation is refused, and appends its text if none is.
 fn is_right(heap: &Refusing<Global>, nth: u64, row: Row) -> Result<bool, Fail> {
     let (call, left, wanted) = row;
     let mut out = Vec::from_slice(heap, b"before ")?;

@@ -1,4 +1,4 @@
-//! Calls that read scripts: what each line asks for as a letter. Each answers none where memory is refused.
+//! Calls that parse scripts, with a letter for each line. Each returns `None` if an allocation fails.
 
 use krb_cache_text::{Asked, CacheLine};
 use krb_keytab::NewEntry;
@@ -6,7 +6,7 @@ use krb_text::parse_script;
 use krb_walk::Event;
 use std::alloc::Allocator;
 
-// The letter of an event.
+// Returns the letter of an event.
 fn letter<I>(event: &Event<I>) -> u8 {
     match event {
         Event::Start => b's',
@@ -18,7 +18,7 @@ fn letter<I>(event: &Event<I>) -> u8 {
     }
 }
 
-// The letter of what a line of a cache's script asks for.
+// Returns the letter of a line of a cache's script.
 fn cache_letter<A: Allocator>(asked: &CacheLine<A>) -> u8 {
     match asked {
         Asked::Event(event) => letter(event),
@@ -26,7 +26,7 @@ fn cache_letter<A: Allocator>(asked: &CacheLine<A>) -> u8 {
     }
 }
 
-/// A script for a keytab.
+/// Parses a keytab's script and writes its letters.
 pub fn keytab_script<A: Allocator + Copy>(alloc: A, out: &mut Vec<u8, A>) -> Option<()> {
     let text = b"start\nadd 3 17 0 000102030405060708090a0b0c0d0e0f host/a@R\ncut 2\n";
     let events: Vec<Event<NewEntry<A>>, A> = parse_script(alloc, text).ok()?;
@@ -36,7 +36,7 @@ pub fn keytab_script<A: Allocator + Copy>(alloc: A, out: &mut Vec<u8, A>) -> Opt
     Some(())
 }
 
-/// A script for a cache.
+/// Parses a cache's script and writes its letters.
 pub fn cache_script<A: Allocator + Copy>(alloc: A, out: &mut Vec<u8, A>) -> Option<()> {
     let text = b"start\nconfig k b@R v\nconfig k - v\ncut 40\n";
     let lines: Vec<CacheLine<A>, A> = parse_script(alloc, text).ok()?;

@@ -1,11 +1,11 @@
-//! Calls that look through a keytab or a cache: their lines. Each answers none where memory is refused.
+//! Calls that scan a keytab or a cache, and their lines. Each returns `None` if an allocation fails.
 
 use super::images::{BAD_KEYTAB, KEYTAB, cache_of, keytab_of};
 use krb_audit::{AskedKvno, Selection, check_up, select, select_tickets};
 use krb_wire::parse_name;
 use std::alloc::Allocator;
 
-/// Entries of a name that are old, and have an enctype that is asked for.
+/// Writes the lines of the old entries of a name with a selected enctype.
 pub fn entries<A: Allocator + Copy>(alloc: A, out: &mut Vec<u8, A>) -> Option<()> {
     let selection = Selection {
         name: Some(parse_name(alloc, b"host/a@R", None).ok()?),
@@ -16,7 +16,7 @@ pub fn entries<A: Allocator + Copy>(alloc: A, out: &mut Vec<u8, A>) -> Option<()
     out.extend_from_slice(&selected.text).ok()
 }
 
-/// Tickets for a server that have ended at their last second.
+/// Writes the lines of the tickets for a server that have ended at their last second.
 pub fn tickets<A: Allocator + Copy>(alloc: A, out: &mut Vec<u8, A>) -> Option<()> {
     let server = Some(parse_name(alloc, b"krbtgt/R@R", None).ok()?);
     let cache = cache_of(alloc)?;
@@ -24,7 +24,7 @@ pub fn tickets<A: Allocator + Copy>(alloc: A, out: &mut Vec<u8, A>) -> Option<()
     out.extend_from_slice(&selected.text).ok()
 }
 
-/// What is wrong with a keytab that others may read.
+/// Writes the findings in a keytab that others may read.
 pub fn findings<A: Allocator + Copy>(alloc: A, out: &mut Vec<u8, A>) -> Option<()> {
     let found = check_up(alloc, Some(0o644), &keytab_of(alloc, BAD_KEYTAB)?).ok()?;
     out.extend_from_slice(&found.text).ok()

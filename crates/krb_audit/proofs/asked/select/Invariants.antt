@@ -3,7 +3,7 @@ use Rattle.krb_keytab.specs.Find.{placed_entries}
 use Rattle.krb_audit.specs.Asked.{IsAsked, SelectsUpTo}
 use Rattle.krb_audit.proofs.asked.select.Given as goal
 
--- the entries so far that are asked for were selected
+-- the selected ones of the entries so far were added
 abbrev pub invariant-entries : goal.invariant-entries
 invariant-entries g l = record {
   asked : IsAsked (placed_entries l.keytab.state) l.asked;

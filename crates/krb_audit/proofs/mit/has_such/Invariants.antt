@@ -3,6 +3,6 @@ use Rattle.std.specs.List.{list_any}
 use Rattle.krb_audit.specs.Findings.{is_out}
 use Rattle.krb_audit.proofs.mit.has_such.Given as goal
 
--- none so far
+-- no component so far is out of range
 abbrev pub invariant-loop-component : goal.invariant-loop-component
 invariant-loop-component g l = list_any (λ (c : List ℕ). is_out (length c)) l.component-iterator ≡ list_any (λ (c : List ℕ). is_out (length c)) l.fn.components

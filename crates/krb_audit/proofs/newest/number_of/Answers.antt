@@ -1,7 +1,7 @@
 use Rattle.std.proofs.Common.{sym}
 use Rattle.krb_audit.proofs.newest.number_of.Goals as goal
 
--- the map that comes back is the one that the entry lent
+-- the map after the call is the one that `entry` borrowed
 pub returns-clause-kept : goal.returns-clause-kept
 returns-clause-kept g c =
     let new = c.numbers-3-1.given.1 (sym c.in_ok-numbers.ensures.same_map) in

@@ -4,7 +4,7 @@ use Rattle.krb_audit.specs.AskedTickets.{SelectsSoFar}
 use Rattle.krb_audit.specs.TicketText.{TicketText}
 use Rattle.krb_audit.proofs.tickets.select_tickets.Goals as goal
 
--- the next credential was selected where it is asked for
+-- the next credential was added if it is selected
 pub credentials-preserved : goal.credentials-preserved
 credentials-preserved g c =
     let all = placed_credentials c.args.cache.now.state in

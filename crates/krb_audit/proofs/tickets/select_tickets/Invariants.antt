@@ -3,7 +3,7 @@ use Rattle.krb_ccache.specs.Store.{placed_credentials}
 use Rattle.krb_audit.specs.AskedTickets.{ticket_text, SelectsSoFar}
 use Rattle.krb_audit.proofs.tickets.select_tickets.Given as goal
 
--- the credentials so far that are asked for were selected
+-- the selected ones of the credentials so far were added
 abbrev pub invariant-credentials : goal.invariant-credentials
 invariant-credentials g l = record {
   asked : l.asked ≡ ticket_text l.server l.fn.ended_by;

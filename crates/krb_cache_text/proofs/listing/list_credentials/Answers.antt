@@ -18,7 +18,7 @@ returns-in_err-append_credential g c =
     let p = err_from_is_err_and c.from_residual.result c.from_residual.ensures.1 in
     rw p.1 (gathers_memory _ _ _ _ _ _ _ _ c.credentials.invariant.passed c.credentials.invariant.well p.2)
 
--- what was sent when a write fails
+-- what was sent if a write fails
 pub returns-in_err-send_if_full : goal.returns-in_err-send_if_full
 returns-in_err-send_if_full g c =
     let p = err_from_is_err_and c.from_residual-in_err-send_if_full.result c.from_residual-in_err-send_if_full.ensures.1 in

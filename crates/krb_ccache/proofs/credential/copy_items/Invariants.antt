@@ -2,6 +2,6 @@ use Rattle.std.proofs.Common.{◌≡◌, ◌++◌}
 use Rattle.krb_ccache.specs.Credential.{owned_list}
 use Rattle.krb_ccache.proofs.credential.copy_items.Given as goal
 
--- what was copied, and what is still to come, is the list
+-- the items copied so far and those still to come are the list
 abbrev pub invariant-loop-kind : goal.invariant-loop-kind
 invariant-loop-kind g l = owned_list l.all.items ++ l.kind-iterator ≡ l.fn.list

@@ -4,7 +4,7 @@ use Rattle.krb_ccache.specs.Laws.{AreBytes}
 use Rattle.krb_ccache.specs.NewImage.{new_texts}
 use Rattle.krb_ccache.proofs.new_image.put_texts.Given as goal
 
--- with those that are still to come, all is written
+-- what is written and the texts still to come are all the texts
 abbrev pub invariant-loop-first : goal.invariant-loop-first
 invariant-loop-first l = record {
   left : Left (new_texts l.version l.bytes) (new_texts l.version l.rest) l.fn.pen l.pen;

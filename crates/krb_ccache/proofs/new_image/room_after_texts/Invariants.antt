@@ -3,7 +3,7 @@ use Rattle.krb_ccache.specs.Laws.{AreBytes}
 use Rattle.krb_ccache.specs.NewImage.{new_texts}
 use Rattle.krb_ccache.proofs.new_image.room_after_texts.Given as goal
 
--- what those so far left, and what is still to come
+-- the room left by the texts so far, and the texts still to come
 abbrev pub invariant-loop-first : goal.invariant-loop-first
 invariant-loop-first l = record {
   within : l.room ≤ l.fn.room;

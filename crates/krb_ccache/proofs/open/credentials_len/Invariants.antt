@@ -3,7 +3,7 @@ use Rattle.krb_ccache.specs.Laws.{AreBytes}
 use Rattle.krb_ccache.specs.Open.{credentials_len}
 use Rattle.krb_ccache.proofs.open.credentials_len.Given as goal
 
--- what was passed, and what the rest has, is all
+-- the bytes passed and the credentials of the rest are all the credentials
 abbrev pub invariant-loop-after : goal.invariant-loop-after
 invariant-loop-after l = record {
   all : credentials_len l.version l.bytes + length l.rest ≡ length l.bytes + credentials_len l.version l.rest;

@@ -3,6 +3,6 @@ use Rattle.krb_disk.specs.Stages.{seen_file}
 use Rattle.krb_disk.specs.declared.stage.Stage.TheVariants.{Synced}
 use Rattle.krb_disk.proofs.hold.check.Given as goal
 
--- each try that ends in a wait leaves the new file as it was
+-- a try that ends in a wait leaves the new file as it was
 abbrev pub invariant-loop : goal.invariant-loop
 invariant-loop g l = l.new_file ≡ record l.initial.new_file { stage = Synced (seen_file l.seen) }

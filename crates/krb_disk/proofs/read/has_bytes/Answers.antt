@@ -5,7 +5,7 @@ use Rattle.krb_disk.proofs.read.has_bytes.Goals as goal
 pub loop-init : goal.loop-init
 loop-init g c = λ has. has
 
--- the file ends
+-- at the end of the file, by `had_none`
 pub returns-then-count-eq0 : goal.returns-then-count-eq0
 returns-then-count-eq0 g c = λ none.
     let empty : length c.loop.left.now ≡ 0 = search rules in
@@ -13,6 +13,6 @@ returns-then-count-eq0 g c = λ none.
     c.loop.invariant (had_none (g.F.Read.remaining c.loop.file) (g.F.Read.remaining c.read.new.self) c.read.new.buf c.loop.left.now c.in_ok-count.count c.if-count-eq0.true
     c.in_ok-count.ensures.bytes.0 (c.in_ok-count.ensures.bytes.1 c.if-count-eq0.true room) (no_length c.loop.left.now empty))
 
--- a piece is the same
+-- after an equal piece, by `had_both`
 pub loop-preserved : goal.loop-preserved
 loop-preserved g c = λ has. c.loop.invariant (had_both (g.F.Read.remaining c.loop.file) (g.F.Read.remaining c.read.new.self) (take c.in_ok-count.count c.read.new.buf) c.in-Some.rest.now c.loop.left.now c.in_ok-count.ensures.bytes.0 c.in-Some.ensures has)

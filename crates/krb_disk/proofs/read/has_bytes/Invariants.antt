@@ -1,6 +1,6 @@
 use Rattle.std.proofs.Common.{◌≡◌, IfSome}
 use Rattle.krb_disk.proofs.read.has_bytes.Given as goal
 
--- a file that has the rest has all
+-- if the file now has exactly the rest left to read, it had all the bytes at the start
 abbrev pub invariant-loop : goal.invariant-loop
 invariant-loop g l = IfSome (g.F.Read.remaining l.file) (λ left. left ≡ l.left) → IfSome (g.F.Read.remaining l.initial.file) (λ left. left ≡ l.fn.bytes)

@@ -3,7 +3,7 @@ use Rattle.std.proofs.lemmas.List.{take-append-drop}
 use Rattle.std.specs.Cmp.Lexicographic.{same_text}
 use Rattle.krb_disk.proofs.read.without_front.Goals as goal
 
--- the two parts make the whole
+-- the prefix and the rest are the whole, by `take-append-drop`
 pub returns-then-eq : goal.returns-then-eq
 returns-then-eq c =
     let parts = c.in_ok-begin.ensures.cases in

@@ -11,7 +11,7 @@ use Rattle.krb_editors.specs.Sessions.{replied}
 use Rattle.krb_editors.proofs.SessionReplies.{cache_keeps, made_as, made_so, ran_fair, session_made}
 use Rattle.krb_editors.proofs.ccedit.edit.Goals as goal
 
--- what the session did, and what its replies come to
+-- what the session did, and what is saved and printed after it
 pub returns-clause-made : goal.returns-clause-made
 returns-clause-made g c =
     let cache = c.args.cache.state in

@@ -9,7 +9,7 @@ use Rattle.krb_editors.specs.Ccremove.{cache_after, none_verdict, places, remove
 use Rattle.krb_driver.specs.Effects.{Effect, Displays, saves_unless, text}
 use Rattle.krb_editors.proofs.ccremove.remove.Goals as goal
 
--- some tickets are asked for, and they were removed
+-- some tickets are selected, and they were removed
 removed : {A : Type 0} (o : TicketOptions A) (file : List ℕ) (k : CacheState) (xs : List PlacedCredential) (ps image lines : List ℕ) (effect : Effect)
     → ps ≡ places xs → lines ≡ flat_map removed_ticket_line xs → image ≡ image_of (cache_after k ps) → (length ps == 0) ≡ false → effect ≡ saves_unless o.dry_run file image lines Well → effect ≡ removes o file k xs
 removed o file k xs ps image lines effect ps_are lines_are image_is some is =

@@ -11,7 +11,7 @@ use Rattle.krb_editors.specs.Sessions.{new_session, replied}
 use Rattle.krb_editors.proofs.SessionReplies.{begun_fair, keytab_keeps, left_begun, made_as, made_so, ran_begun, session_made}
 use Rattle.krb_editors.proofs.ktedit.edit.Goals as goal
 
--- what the session did, and what its replies come to
+-- what the session did, and what is saved and printed after it
 pub returns-clause-made : goal.returns-clause-made
 returns-clause-made g c =
     let keytab = c.args.keytab.state in

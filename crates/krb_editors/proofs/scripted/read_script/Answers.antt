@@ -13,13 +13,13 @@ use Rattle.krb_driver.specs.Troubles.{script_trouble}
 use Rattle.krb_driver.proofs.Shown.{GivesInput-err, GivesInput-ok}
 use Rattle.krb_editors.proofs.scripted.read_script.Goals as goal
 
--- what refuses a script is its first fault, or memory ran out
+-- a script is refused for its first fault, or memory ran out
 refused : {L : Type 0} (reads : List ℕ → Result L LineFault) (text : List ℕ) (why : ScriptRefusal) (given : Result (List L) Trouble) → RefusesScript (script_by reads text) why → given ≡ Err (script_trouble why)
     → (given ≡ Err NoMemory) ⊎ (given ≡ lines_in reads (Ok text))
 refused reads text (refusal.Fault line kind) given is given_is = rw is (inr given_is)
 refused reads text refusal.NoMemory given is given_is = inl given_is
 
--- no text was given
+-- the input was not read
 pub returns-in-Err : goal.returns-in-Err
 returns-in-Err g c =
     let fault = c.in-Err.fault in
@@ -29,7 +29,7 @@ returns-in-Err g c =
       given_is = inr (ap Err c.of_input.ensures);
     }
 
--- it gives no lines
+-- the script was refused
 pub returns-in_err-parse_script-in-Ok : goal.returns-in_err-parse_script-in-Ok
 returns-in_err-parse_script-in-Ok g c =
     let p = err_from_is_err_and c.from_residual.result c.from_residual.ensures.1 in

@@ -13,7 +13,7 @@ loop-done-preserved g c =
       well = said.3 ∙ c.loop-done.invariant.well;
     }
 
--- a write that failed leaves what was sent before
+-- a failed write keeps what was sent before, by `Appends-keeps`
 pub returns-in-None-clause-prefix : goal.returns-in-None-clause-prefix
 returns-in-None-clause-prefix g c =
     AppendsPrefix-take _ _ c.loop-done.done c.args.bytes.now (Appends-keeps _ _ _ _ c.loop-done.invariant.sent c.in-None.ensures.0)

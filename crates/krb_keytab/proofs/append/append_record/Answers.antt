@@ -8,7 +8,7 @@ use Rattle.krb_keytab.specs.Changes.{end_after}
 use Rattle.krb_keytab.proofs.AppendLemmas.{appended_is}
 use Rattle.krb_keytab.proofs.append.append_record.Goals as goal
 
--- what a vector of bytes holds
+-- the numbers of a `Vec` of bytes are bytes
 bytes_of : (xs : List ℕ) → ((i d : ℕ) → i < length xs → get_or xs i d < 256) → IsBytes xs
 bytes_of xs h i = elim (cases_lt i (length xs)) [
   | inl lt ↦ h i 0 lt

@@ -2,6 +2,6 @@ use Rattle.std.proofs.Common.{◌≡◌}
 use Rattle.krb_keytab.specs.Changes.{hole_from}
 use Rattle.krb_keytab.proofs.cells.first_hole.Given as goal
 
--- no hole that is large enough was passed
+-- no hole that is large enough was skipped
 abbrev pub invariant-loop-place : goal.invariant-loop-place
 invariant-loop-place l = hole_from l.place-iterator.place l.need l.place-iterator.contents.cells ≡ hole_from l.fn.cells.place l.need l.fn.cells.contents.cells

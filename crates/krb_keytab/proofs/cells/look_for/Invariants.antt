@@ -2,7 +2,7 @@ use Rattle.std.proofs.Common.{◌≡◌, ℕ, true, length}
 use Rattle.krb_walk.specs.Store.{live_bytes, is_place}
 use Rattle.krb_keytab.proofs.cells.look_for.Given as goal
 
--- what is asked of the rest is asked of all
+-- the places of the rest are places of all cells, and its record at `place` is theirs
 abbrev pub invariant-cells : goal.invariant-cells
 invariant-cells l = record {
   places : (q : ℕ) → is_place l.rest q ≡ true → is_place l.fn.cells q ≡ true;

@@ -9,19 +9,19 @@ pub returns-then-end-most-clause-ok : goal.returns-then-end-most-clause-ok
 returns-then-end-most-clause-ok g c =
     IsFirst-earlier c.reads.bytes.items c.args.next c.reads.seen c.in-Some.end c.reads.invariant.ahead.0 c.reads.invariant.none (rw (c.deref.ensures.value) at c.in-Some.ensures)
 
--- it stands too far on
+-- the newline is beyond what an input may have
 pub returns-in-Some-clause-none : goal.returns-in-Some-clause-none
 returns-in-Some-clause-none g c =
     let first = IsFirst-earlier c.reads.bytes.items c.args.next c.reads.seen c.in-Some.end c.reads.invariant.ahead.0 c.reads.invariant.none (rw (c.deref.ensures.value) at c.in-Some.ensures) in
     HasNone-sooner c.reads.bytes.items c.args.next c.in-Some.end 16777216 (let far = c.if-end-most.false in omega (arith, far)) first.before
 
--- there is none, and no more may be read
+-- there is no newline, and no more may be read
 pub returns-then-seen-most-clause-none : goal.returns-then-seen-most-clause-none
 returns-then-seen-most-clause-none g c =
     let bytes = c.reads.bytes.items in
     HasNone-up_to bytes c.args.next 16777216 (HasNone-earlier bytes c.args.next c.reads.seen c.reads.invariant.ahead.0 c.reads.invariant.none (rw (c.deref.ensures.value) at c.in_default.ensures))
 
--- or the read failed
+-- there is no newline, and the read failed
 pub returns-in_err-last-clause-none : goal.returns-in_err-last-clause-none
 returns-in_err-last-clause-none g c =
     let bytes = c.reads.bytes.items in

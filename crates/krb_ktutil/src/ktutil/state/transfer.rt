@@ -1,4 +1,4 @@
-//! The list read from a file, and added to one.
+//! Reads entries from a file into the list, and adds the list to a file.
 
 ghost use Rattle.std.specs.Prelude.{◌≡◌, [], Ok};
 ghost use Rattle.krb_ktutil.specs.KtutilCommand.{ReadFile, WriteFile};
@@ -15,7 +15,7 @@ use krb_keytab::{Indexed, Keytab, NewEntry};
 use krb_walk::{Code, Refusal};
 use std::alloc::Allocator;
 
-// Adds entries to a keytab, by a table of its cells, and saves it under a name.
+// Adds entries to a keytab, with a table of its cells, and saves it under a name.
 fn write_to<A: Allocator, B: Allocator + Copy, F: Files>(
     alloc: B,
     entries: &[NewEntry<A>],
@@ -37,7 +37,7 @@ fn write_to<A: Allocator, B: Allocator + Copy, F: Files>(
 }
 
 impl<A: Allocator + Copy> Ktutil<A> {
-    // Appends the entries of a keytab, each with memory of its own; a damaged one gives none.
+    // Appends copies of the entries of a keytab. Refuses a damaged one.
     fn take_entries<B: Allocator>(&mut self, keytab: &Keytab<B>) -> LineEnd
         ensures { Finishes (Ends (with_entries self.old (Ok keytab.now.state))) self.old self.new result }
     {

@@ -3,7 +3,7 @@ use Rattle.krb_text.specs.Pieces.{pieces}
 use Rattle.krb_text.specs.Script.{asked_from, faults_of, asked_of, TakesMemory}
 use Rattle.krb_text.proofs.script.parse_script.Given as goal
 
--- no line so far is faulty, and what it asks for is there
+-- no line so far is faulty, and what the lines are read as has been appended
 abbrev pub invariant-lines : goal.invariant-lines
 invariant-lines g l = record {
   count : l.number + length l.line-iterator ≡ length (pieces 10 l.text);

@@ -1,4 +1,4 @@
-//! Each request for memory refused in turn: the cache is as it was, until the call is granted all that it asks for.
+//! Each allocation is refused in turn: the cache is unchanged until the call gets all its memory.
 
 use super::{
     CACHE, CONFIG, HEADER, KEY, KRBTGT, NO_TIMES, OWNER, REMOVED, TICKET, TIMES, TWO, cache_in, is,
@@ -25,11 +25,11 @@ enum Call {
 struct Row {
     name: &'static str,
     call: Call,
-    // How many bytes there is room for.
+    // The capacity of the image.
     room: usize,
-    // How many requests it makes: for a copy one for each part that is not empty.
+    // How many allocations it makes: for a copy one for each part that is not empty.
     requests: u64,
-    // The image that it leaves, and the value there.
+    // The image after it, and the value there.
     image: &'static [&'static [u8]],
     value: Option<&'static [u8]>,
 }
@@ -40,12 +40,12 @@ const SETTING: Setting<'static> = Setting {
     value: b"3",
 };
 
-// The header of a new cache with the offset of the old one.
+// The header of a new cache with the time offset of the old one.
 const FRONT: &[u8] = b"\x05\x04\0\x0c\0\x01\0\x08\0\0\0\x05\xff\xff\xff\xf6";
 
 const THREE: &[u8] = b"\0\0\0\0\0\0\0\0\0\0\0\0\0\0\0\0\x013\0\0\0\0";
 
-// The value 3 stands after the others, and the value 2 is removed.
+// The value 3 is after the others, and the value 2 is removed.
 const SET: &[&[u8]] = &[
     HEADER, OWNER, OWNER, KRBTGT, KEY, TIMES, TICKET, OWNER, CONFIG, REMOVED, TWO, OWNER, KRBTGT,
     KEY, REMOVED, TICKET, OWNER, CONFIG, NO_TIMES, THREE,
@@ -152,7 +152,7 @@ fn remove_at<A: Allocator>(cache: &mut Ccache<A>, place: u32) -> bool {
     cache.remove_at(place) == Ok(())
 }
 
-// Whether the call answers what it is to.
+// Returns whether the call returns what it must.
 fn is_done<A: Allocator + Copy>(alloc: A, cache: &mut Ccache<A>, call: Call) -> bool {
     match call {
         Call::Create => create(alloc, cache),
@@ -164,7 +164,7 @@ fn is_done<A: Allocator + Copy>(alloc: A, cache: &mut Ccache<A>, call: Call) -> 
     }
 }
 
-// Whether a call was done and left what its row says, or was not done and left the cache as it was.
+// Returns whether a call left the image and the value of its row or, if it was refused, the cache unchanged.
 fn is_right<A: Allocator>(cache: &Ccache<A>, row: &Row, is_refused: bool) -> bool {
     let value = cache.config(SETTING.key, SETTING.principal);
     if is_refused {
@@ -194,7 +194,7 @@ fn each_request_of_each_call(rt: HostRuntime) -> Result<(), Fail> {
     Ok(())
 }
 
-// The cache after events, and whether memory ran out; after a refusal the events that have no reply yet are run.
+// Returns the cache after events, and whether memory ran out; after that the events without a reply are run again.
 fn edited<A: Allocator + Copy>(
     alloc: A,
     cache: Ccache<A>,
@@ -209,7 +209,7 @@ fn edited<A: Allocator + Copy>(
     Ok((session.into_store(), ran_out))
 }
 
-// A ticket is added, the first one removed, and all written anew.
+// A ticket is added, the first one is removed, and the cache is rewritten.
 const EDITED: &[&[u8]] = &[
     FRONT, OWNER, OWNER, CONFIG, NO_TIMES, TWO, OWNER, KRBTGT, KEY, TIMES, TICKET,
 ];
@@ -226,7 +226,7 @@ fn events<A: Allocator + Copy>(alloc: A, cache: &Ccache<A>) -> Result<[Event<Cre
     ])
 }
 
-// No event is left out after a refusal, and none is done twice.
+// No event is skipped after a refusal, and none is done twice.
 fn run(heap: &Refusing<Global>, nth: u64) -> Result<(), Fail> {
     let cache = cache_in(heap, 392)?;
     let events = events(heap, &cache)?;

@@ -1,4 +1,4 @@
--- `wipe` puts a 0 in each byte of the block, the first byte first. Assumes `Logic`.
+-- `wipe` writes 0 to each byte of the block, from the first on. Assumes `Logic`.
 use Rattle.wiping.proofs.Steps.{◌≡◌, ℕ, ◌+◌, ◌-◌, ◌≤◌, ◌<◌, ◌^◌, List, [], ◌∷◌, refl, w64, arith, Ura, Ty, Val, vunit, vint, vptr, SProp, froom, fwand, WpFn, Logic, sem, fact, Item, Sq, ‵, raw, ◌⊛◌, at_ret, ◌$◌, ◌∵◌, !, qed, by, use1, use2, split, rewrite, fjoin, feq_i, stop, lit, unit_lit, of_opd, first, skips, branches, exec, returns, enter, alloc_all, pass_all, free_all, look_at, get, through, sets, env, yes, usize, uint_vals, uint_Tells, Ptr, block_ptr, ptr_val, rawptr_vals, rawptr_Tells, plain, heard, nothing, Stays, stay_dropped, walk_of, Goes-dropped, after, proved, leaves, HasSize, zeros, drop, id⊢, apply∗}
 use Rattle.std.proofs.Common.{lit<, ltb→lt, nltb→le}
 use mathlib.Core.WellFounded.InvImage
@@ -30,14 +30,14 @@ module _ {M : Type 1} {𝓤 : Ura M} (𝓛 : Logic 𝓤) (𝓜 : Model 𝓤 𝓛
   abbrev 𝓣 : Tables 𝓤 H
   𝓣 = tables_of 𝓤 H 𝓜 (T 𝓛 𝓜 𝓡)
 
-  -- what a call binds, and the postcondition, at an answer
+  -- what a call binds, and the postcondition of a returned value
   abbrev bound : Ptr → (walk_of 𝓛 F.ended stayed (F.clauses 𝓛 𝓜.mem 𝓡.returns)).Ghost
   bound p = ((tt, tt, tt, (p, (n, tt)), (rawptr_vals p, (vint w64 n ∷ [], tt))), τ)
 
   abbrev Post : Ptr → Val → SProp 𝓤
   Post p = (walk_of 𝓛 F.ended stayed (F.clauses 𝓛 𝓜.mem 𝓡.returns)).post (bound p)
 
-  -- how many bytes are 0, and that more of them are
+  -- how many bytes are 0, and the order in which more of them are
   abbrev Cleared : Type 0
   Cleared = (i : ℕ) × (i ≤ n)
 
@@ -49,15 +49,15 @@ module _ {M : Type 1} {𝓤 : Ura M} (𝓛 : Logic 𝓤) (𝓜 : Model 𝓤 𝓛
     abbrev En : Env 𝓤 H
     En = env (code.function).locals l
 
-    -- what is owned before a turn, and the way back from zeros to the block's room
+    -- what is owned before an iteration, and the way back from zeros to the block's room
     abbrev Now : Cleared → List (Item 𝓤)
     Now t = ‵ (Half 𝓛 b o n t.0) ∷ ‵ (fwand (zeros n (block_ptr b o)) (froom τ b o)) ∷ holding 𝓛 En ((1, vptr b o) ∷ (2, vint w64 n) ∷ (3, vint w64 t.0) ∷ [])
 
-    -- what holds after a turn
+    -- what holds after an iteration
     abbrev Turned : Cleared → Out → SProp 𝓤
     Turned t = let End = at_return 𝓤 H En (Post (block_ptr b o)) in after_turn 𝓤 H (Below 𝓛 Nearer Now t) (after_block 𝓤 H (after_seq 𝓤 H (Wp 𝓤 H 𝓣.C 𝓣.Λ En (after 2 (code.function).body) End) End))
 
-    -- a turn clears one byte more, or leaves the loop
+    -- an iteration clears one more byte, or leaves the loop
     turns : (t : Cleared) → Sq 𝓛 (Now t) (runs 𝓣.C 𝓣.Λ En code.Mir.turn-1 (any_q (Turned t)))
     unfolding after_turn
     turns t =

@@ -9,7 +9,7 @@ use Rattle.krb_audit.specs.Selection.{has_asked_kvno, is_named}
 use Rattle.krb_audit.proofs.Selecting.{on_ok_both, or_false, or_true, skips, takes}
 use Rattle.krb_audit.proofs.asked.Asked.consider.Goals as goal
 
--- a name was found before, and the version is not asked for
+-- an entry with the name and enctype was found before, and this kvno is not selected
 pub returns-then-not-has_version-clause-selects : goal.returns-then-not-has_version-clause-selects
 returns-then-not-has_version-clause-selects g c = λ xs some asked at selects.
     let s = c.args.self.now.selection.now in
@@ -19,7 +19,7 @@ returns-then-not-has_version-clause-selects g c = λ xs some asked at selects.
     let named = c.if-selected.true ∙ sym (ap (λ (b : Bool). b || is_named s x.1) c.if-selected.true) in
     skips s xs some x c.args.selected.now c.args.selected.now not_so refl refl named selects
 
--- another name
+-- the name or the enctype is not selected
 pub returns-then-not-branch-clause-selects : goal.returns-then-not-branch-clause-selects
 returns-then-not-branch-clause-selects g c = λ xs some asked at selects.
     let s = c.args.self.now.selection.now in
@@ -29,7 +29,7 @@ returns-then-not-branch-clause-selects g c = λ xs some asked at selects.
     let named = or_false c.args.selected.now.is_named ∙ ap (λ (b : Bool). c.args.selected.now.is_named || b) (sym other) in
     skips s xs some x c.args.selected.now c.args.selected.now not_so refl refl named selects
 
--- the name, and the version is not asked for
+-- the name and the enctype are selected, but not the kvno
 pub returns-then-not-has_version-2-clause-selects : goal.returns-then-not-has_version-2-clause-selects
 returns-then-not-has_version-2-clause-selects g c = λ xs some asked at selects.
     let s = c.args.self.now.selection.now in
@@ -41,7 +41,7 @@ returns-then-not-has_version-2-clause-selects g c = λ xs some asked at selects.
     let new : Selected g.row.A.Denot = record { places = c.args.selected.now.places; text = c.args.selected.now.text; is_named = true } in
     skips s xs some x c.args.selected.now new not_so refl refl named selects
 
--- both
+-- all three are selected
 pub returns-clause-selects : goal.returns-clause-selects
 returns-clause-selects g c = λ xs some asked at selects.
     let s = c.args.self.now.selection.now in

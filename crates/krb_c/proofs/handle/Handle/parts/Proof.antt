@@ -1,4 +1,4 @@
--- `parts` tests the pointer: it is null where the handle is empty, and else that of a block of the heap, which may be compared with null.
+-- `parts` tests the pointer: it is null if the handle is empty, else that of a block of the heap, which may be compared with null.
 use mathlib.Core.Path.{◌≡◌, refl, sym, subst}
 use mathlib.Core.List.{List, [], ◌∷◌, ◌++◌}
 use lib.Dec.{T, lit<}

@@ -4,7 +4,7 @@ use Rattle.krb_wire.proofs.PenLemmas.{Left}
 use Rattle.krb_ccache.specs.Credential.{typed_data, FitsTypedData, owned_list}
 use Rattle.krb_ccache.proofs.credential.spelling.put_items.Given as goal
 
--- with the items that are still to come, all is written
+-- what is written and the items still to come are all the items
 abbrev pub invariant-loop-kind : goal.invariant-loop-kind
 invariant-loop-kind g l = record {
   fits : AllByRecursion FitsTypedData (owned_list (drop l.kind-index l.fn.items));

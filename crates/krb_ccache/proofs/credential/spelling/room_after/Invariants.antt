@@ -3,7 +3,7 @@ use Rattle.std.specs.List.{flat_map, AllByRecursion}
 use Rattle.krb_ccache.specs.Credential.{typed_data, FitsTypedData, owned_list}
 use Rattle.krb_ccache.proofs.credential.spelling.room_after.Given as goal
 
--- what the items so far left, and what is still to come
+-- the room left by the items so far, and the items still to come
 abbrev pub invariant-loop-kind : goal.invariant-loop-kind
 invariant-loop-kind g l = record {
   within : l.room ≤ l.fn.room;

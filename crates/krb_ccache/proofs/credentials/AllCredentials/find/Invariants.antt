@@ -2,6 +2,6 @@ use Rattle.std.proofs.Common.{◌≡◌}
 use Rattle.krb_ccache.specs.Credentials.{live_at}
 use Rattle.krb_ccache.proofs.credentials.AllCredentials.find.Given as goal
 
--- what is asked of the rest is asked of all
+-- a look-up in the rest gives what a look-up in all gives
 abbrev pub invariant-loop-at : goal.invariant-loop-at
 invariant-loop-at l = live_at l.at-iterator l.place ≡ live_at l.fn.self l.place

@@ -2,7 +2,7 @@ use Rattle.std.proofs.Common.{◌≡◌, length}
 use Rattle.krb_ccache.specs.Credentials.{live_from}
 use Rattle.krb_ccache.proofs.credentials.AllCredentials.next_live.Given as goal
 
--- no live one was passed
+-- no live credential was passed
 abbrev pub invariant-loop-at : goal.invariant-loop-at
 invariant-loop-at l = live_from l.self ≡ live_from l.fn.self
 

@@ -4,7 +4,7 @@ use Rattle.krb_ccache.specs.Header.{fields_in}
 use Rattle.krb_ccache.specs.Laws.{AreBytes}
 use Rattle.krb_ccache.proofs.open.header.are_fields.Given as goal
 
--- what is asked of the rest is asked of all
+-- fields fill the rest iff they fill all
 abbrev pub invariant-loop-after : goal.invariant-loop-after
 invariant-loop-after l = record { same : is_some (fields_in l.rest) ≡ is_some (fields_in l.bytes); fits : AreBytes l.rest }
 

@@ -3,7 +3,7 @@ use Rattle.krb_ccache.specs.Laws.{AreBytes}
 use Rattle.krb_ccache.proofs.HeaderFields.{offset_among}
 use Rattle.krb_ccache.proofs.open.header.first_offset.Given as goal
 
--- what is asked of the rest is asked of all
+-- the first offset in the rest is the first one in all
 abbrev pub invariant-loop-tag : goal.invariant-loop-tag
 invariant-loop-tag l = record { same : offset_among l.rest ≡ offset_among l.fields; fits : AreBytes l.rest }
 

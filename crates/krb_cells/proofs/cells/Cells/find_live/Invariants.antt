@@ -2,6 +2,6 @@ use Rattle.std.proofs.Common.{◌≡◌}
 use Rattle.krb_walk.specs.Store.{live_bytes}
 use Rattle.krb_cells.proofs.cells.Cells.find_live.Given as goal
 
--- what is asked of the rest is asked of all
+-- the look-up in the rest gives the same as in all cells
 abbrev pub invariant-loop-at : goal.invariant-loop-at
 invariant-loop-at g l = live_bytes l.at-iterator l.place ≡ live_bytes l.fn.self l.place

@@ -2,7 +2,7 @@ use Rattle.std.proofs.Common.{◌≡◌, length}
 use Rattle.krb_walk.specs.Store.{is_place}
 use Rattle.krb_cells.proofs.cells.Cells.is_place.Given as goal
 
--- what is asked of the rest is asked of all
+-- the test on the rest gives the same as on all cells
 abbrev pub invariant-loop-rest : goal.invariant-loop-rest
 invariant-loop-rest g l = is_place l.rest l.place ≡ is_place l.fn.self l.place
 

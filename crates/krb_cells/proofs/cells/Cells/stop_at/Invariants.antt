@@ -2,7 +2,7 @@ use Rattle.std.proofs.Common.{◌≡◌, ◌≤◌, length}
 use Rattle.krb_walk.specs.Store.{stop_at}
 use Rattle.krb_cells.proofs.cells.Cells.stop_at.Given as goal
 
--- what is asked of the rest is asked of all, from no later than its place on
+-- the stop of the rest is that of all cells, and the rest begins at or after the place
 abbrev pub invariant-loop-at : goal.invariant-loop-at
 invariant-loop-at g l = record {
   same : stop_at l.rest l.place ≡ stop_at l.fn.self l.place;

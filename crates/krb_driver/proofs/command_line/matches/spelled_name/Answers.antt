@@ -7,7 +7,7 @@ use Rattle.krb_driver.specs.Matches.{bad_parse}
 use Rattle.krb_driver.proofs.Faults.{ran_out_at_a_name}
 use Rattle.krb_driver.proofs.command_line.matches.spelled_name.Goals as goal
 
--- a word that names somebody is no mistake
+-- a word that is a principal name is no mistake
 no_mistake : (word : List ℕ) (name : Result Parts NameFault) → IsOk name → bad_parse word name ≡ None
 no_mistake word (Ok name) named = refl
 no_mistake word (Err fault) named = absurd (cc named)

@@ -5,7 +5,7 @@ use Rattle.krb_driver.specs.PieceTexts.{pieces_text}
 use Rattle.krb_driver.proofs.Words.{pieces_text-append}
 use Rattle.krb_driver.proofs.telling.mistake_words.say_mistake.Goals as goal
 
--- what is wrong, and behind it the help
+-- what is wrong, and after it the help
 pub returns : goal.returns
 returns g c =
     let text = pieces_text-append c.mistake_pieces-mistake.result (pieces_text c.help_pieces.result) ∙ c.mistake_pieces-mistake.ensures (pieces_text c.help_pieces.result)

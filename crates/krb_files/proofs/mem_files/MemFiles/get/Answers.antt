@@ -8,7 +8,7 @@ use Rattle.krb_files.proofs.FileLists.{find-map, position-some, position-none}
 use Rattle.krb_files.proofs.mem_files.MemFiles.get.Goals as goal
 
 module _ {X : Type 0} (test : X → Bool) (xs : List X) where
-  -- how many elements stand before the first that passes
+  -- how many elements are before the first that passes
   abbrev before : ℕ
   before = prefix_len (λ x. not (test x)) xs
 
@@ -21,7 +21,7 @@ module _ {X : Type 0} (test : X → Bool) (xs : List X) where
       let at = position-some before (length xs) n (nat_lt before (length xs)) refl is in
       find_at test xs ∙ ap (slice_get xs) at.0 ∙ slice_get_read xs (length xs) n x refl at.1 read
 
-  -- without a position there is none
+  -- without a position no element passes
   missing : None ≡ position test xs → find test xs ≡ None
   missing none = find_at test xs ∙ slice_get_past xs before (position-none before (length xs) (nat_lt before (length xs)) refl none)
 

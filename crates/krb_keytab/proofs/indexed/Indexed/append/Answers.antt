@@ -1,4 +1,4 @@
--- Room is taken first; then what the keytab answers is what is answered, and the cell is added to table and tree.
+-- Room is taken first; then the result of the keytab is returned, and the cell is added to table and tree.
 use Rattle.std.proofs.Common.{◌≡◌, ◌∙◌, ◌<◌, List, Ok, Err, length, ap, sym, subst, arith}
 use Rattle.std.proofs.lemmas.Bool.{OnTrue_at}
 use Rattle.std.proofs.lemmas.Result.{err_from_is_err_and}

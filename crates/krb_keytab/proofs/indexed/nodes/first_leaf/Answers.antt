@@ -1,4 +1,4 @@
--- The descent from the root stands at the first leaf at its end.
+-- The descent from the root ends at the first leaf that is large enough.
 use Rattle.std.proofs.Common.{◌≡◌, ℕ, ◌-◌, ◌/◌, ◌^◌, length, ap, arith, subst, sym, ◌∙◌}
 use Rattle.std.specs.Prelude.{Some}
 use Rattle.krb_keytab.specs.Nodes.{Descends}

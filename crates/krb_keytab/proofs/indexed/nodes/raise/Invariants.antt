@@ -1,4 +1,4 @@
--- Only the node over the last that was made may be wrong; the leaves stay.
+-- Only the node over the last that was computed may be wrong; the leaves stay.
 use Rattle.std.proofs.Common.{◌≡◌, ◌<◌, ◌*◌, ◌/◌, length, drop}
 use Rattle.krb_keytab.specs.Nodes.{AreNodesBut}
 use Rattle.krb_keytab.proofs.indexed.nodes.raise.Given as goal

@@ -1,4 +1,4 @@
--- The table so far, and what is known of the cells still to come, are the whole table.
+-- The table so far, and the slots of the cells still to come, are the whole table.
 use Rattle.std.proofs.Common.{◌≡◌, ◌+◌, ◌++◌, ◌^◌, ◌≤◌, length, vec_len, vec_capacity}
 use Rattle.krb_keytab.specs.Slot.{slots_from}
 use Rattle.krb_keytab.proofs.indexed.table.push_slots.Given as goal

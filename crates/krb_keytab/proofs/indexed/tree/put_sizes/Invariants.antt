@@ -1,4 +1,4 @@
--- The sizes before are written, those from there on are as they were.
+-- The sizes before are written, those from there on are unchanged.
 use Rattle.std.proofs.Common.{◌≡◌, ◌++◌, map, take, drop}
 use Rattle.krb_keytab.specs.Slot.{free_size}
 use Rattle.krb_keytab.proofs.indexed.tree.put_sizes.Given as goal

@@ -4,7 +4,7 @@ use Rattle.krb_keytab.specs.Store.{store_of}
 use Rattle.krb_keytab.specs.Changes.{without}
 use Rattle.krb_keytab.proofs.keytab.Keytab.remove_all.Given as goal
 
--- removing what is left gives what removing all gives
+-- removing at the places that are left gives what removing at all places gives
 abbrev pub invariant-places : goal.invariant-places
 invariant-places g l = record {
   left : without l.self.state (drop l.place-index l.places) ≡ without l.fn.self.state l.places;

@@ -3,7 +3,7 @@ use Rattle.krb_ktutil.specs.KtutilTalk.{HandlesLine, Talk, goes_on}
 use Rattle.krb_ktutil.proofs.KtutilLemmas.{HandlesNext-by}
 use Rattle.krb_ktutil.proofs.ktutil.Talk.handle.Goals as goal
 
--- its end decides, and the output
+-- the end of a line decides whether another may come, and the output
 pub returns-clause-next : goal.returns-clause-next
 returns-clause-next g c =
     let old : Talk g.row.F.Denot = record { files = c.args.files.now; state = c.args.self.now.ktutil; out = c.args.out.now; err = c.args.err.now; status = c.args.self.now.status } in

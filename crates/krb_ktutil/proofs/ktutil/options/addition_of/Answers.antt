@@ -9,19 +9,19 @@ use Rattle.krb_text.specs.Word.{number_word, etype_word, name_word}
 use Rattle.krb_ktutil.specs.KtutilCommand.{Awaited, AddWords, after, awaited_of}
 use Rattle.krb_ktutil.proofs.ktutil.options.addition_of.Goals as goal
 
--- what is read makes an addition
+-- the three values that were read make an addition
 abbrev awaited_by : Result ℕ LineFault → Result ℕ LineFault → Result Parts LineFault → Result Awaited LineFault
 awaited_by version enctype name =
     after (λ v. after (λ t. after (λ p. Ok (record { principal = p; version = v; enctype = t })) name) enctype) version
 
--- where the name is refused, so is the addition
+-- if the name is refused, so is the addition
 name_refused : (v t : ℕ) (name : Result Parts LineFault) (e : LineRefusal) → Reads {T = Parts} (λ p. p) name (Err e) → Reads {T = Awaited} (λ x. x) (awaited_by (Ok v) (Ok t) name) (Err e)
 name_refused v t (Ok p) (Fault fault) h = cc h
 name_refused v t (Err fault) (Fault other) h = let same : fault ≡ other = cc in ap Err same
 name_refused v t (Ok p) NoMemory h = refl
 name_refused v t (Err fault) NoMemory h = h
 
--- where all but the name is read
+-- all but the name is read
 refused : (x : AddWords) (v t : ℕ) (e : LineRefusal) → Ok v ≡ number_word x.version → Ok t ≡ etype_word x.enctype → Reads {T = Parts} (λ p. p) (name_word x.name) (Err e) → Reads {T = Awaited} (λ x. x) (awaited_of x) (Err e)
 refused x v t e is_v is_t h =
     let Q : Result ℕ LineFault → Type 0 = λ r. Reads {T = Awaited} (λ x. x) (awaited_by r (etype_word x.enctype) (name_word x.name)) (Err e) in

@@ -13,7 +13,7 @@ returns-in_ok-show_keytab-in-Keytab g c =
     rw c.in-Keytab.is (ShowsPage-done (keytab_page c.args.self.now.json c.in-Keytab.columns c.args.file.now c.in-Keytab.keytab.state) c.args.out.now c.show_keytab.new.out _
     c.requires listed.failed listed.ok (ap Ok (c.listing_verdict.ensures ∙ ap listing_verdict c.fault.ensures)))
 
--- the output failed in a keytab, or memory ran out
+-- the output failed or memory ran out while a keytab was listed
 pub returns-in_err-show_keytab-in-Keytab : goal.returns-in_err-show_keytab-in-Keytab
 returns-in_err-show_keytab-in-Keytab g c =
     let p = err_from_is_err_and c.from_residual.result c.from_residual.ensures.1 in
@@ -28,7 +28,7 @@ returns-in_ok-show_cache-in-Cache g c =
     rw c.in-Cache.is (ShowsPage-done (cache_page c.args.self.now.json c.in-Cache.columns c.args.file.now c.in-Cache.cache.state) c.args.out.now c.show_cache.new.out _
     c.requires listed.failed listed.ok (ap Ok (c.listing_verdict-in-Cache.ensures ∙ ap listing_verdict c.fault-in-Cache.ensures)))
 
--- the output failed in a cache, or memory ran out
+-- the output failed or memory ran out while a cache was listed
 pub returns-in_err-show_cache-in-Cache : goal.returns-in_err-show_cache-in-Cache
 returns-in_err-show_cache-in-Cache g c =
     let p = err_from_is_err_and c.from_residual-in_err-show_cache-in-Cache.result c.from_residual-in_err-show_cache-in-Cache.ensures.1 in

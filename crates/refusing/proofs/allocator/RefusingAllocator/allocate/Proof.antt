@@ -1,4 +1,4 @@
--- `allocate` answers `Err` where the meter refuses, and else what the inner allocator answers. Assumes `Logic`.
+-- `allocate` returns `Err` if the meter refuses, and else what the inner allocator returns. Assumes `Logic`.
 use Rattle.wiping.proofs.Steps.{ℕ, ◌+◌, Bool, false, List, [], ◌∷◌, refl, ap, Fn, Val, vptr, inst_fn, id⊢, ftrue, fsep, flft, size, align, up, ‵, raw, at_ret, ◌⊛◌, some, later, ◌$◌, !, by, move, keep, use1, use2, split, join, pick, learn, fsplit, fjoin, feq_i, feq_l, await, agg, stop, fld, addr, lit, first, branches, skips, exec, no_more, and_then, returns, returns_within, enter, alloc_all, pass_all, free_all, look_at, get, through, sets, lands_as, env, bool, hidden_shr, unhide, param, nothing, only, calls_at, triple_of, after, Al, α, seen, token, Answer-typed, Takes, at_takes, Takes-goes, Takes-gives}
 use Rattle.wiping.proofs.Walks.{Over, args, inside, Answered, T, fm, Taken, taken, takes_met}
 use Rattle.refusing.specs.contracts.meter.Meter as meter
@@ -9,7 +9,7 @@ use Rattle.refusing.specs.contracts.allocator.RefusingAllocator.allocate.Key as 
 use Rattle.refusing.proofs.allocator.RefusingAllocator.allocate.Statement.{statement}
 use Rattle.refusing.proofs.allocator.RefusingAllocator.allocate.Code as code
 
--- the body meets the contract at each allocator
+-- the body meets the contract for each allocator
 pub allocate_spec : {M : Type 1} → statement M
 allocate_spec 𝓤 𝓛 𝓜 𝓡 wired Y L g d d' met _ =
     let Z : Al = record { row = Y; laws = L; g = g; d = d; drops = d' } in

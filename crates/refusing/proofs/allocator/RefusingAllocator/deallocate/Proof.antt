@@ -9,7 +9,7 @@ use Rattle.refusing.specs.contracts.allocator.RefusingAllocator.deallocate.Key a
 use Rattle.refusing.proofs.allocator.RefusingAllocator.deallocate.Statement.{statement}
 use Rattle.refusing.proofs.allocator.RefusingAllocator.deallocate.Code as code
 
--- the body meets the contract at each allocator
+-- the body meets the contract for each allocator
 pub deallocate_spec : {M : Type 1} → statement M
 deallocate_spec 𝓤 𝓛 𝓜 𝓡 wired Y L g d d' met _ =
     let Z : Al = record { row = Y; laws = L; g = g; d = d; drops = d' } in

@@ -10,7 +10,7 @@ use Rattle.wiping.specs.contracts.allocator.WipingAllocator.deallocate.Key as ke
 use Rattle.wiping.proofs.allocator.WipingAllocator.deallocate.Statement.{statement}
 use Rattle.wiping.proofs.allocator.WipingAllocator.deallocate.Code as code
 
--- the body meets the contract at each allocator
+-- the body meets the contract for each allocator
 pub deallocate_spec : {M : Type 1} → statement M
 deallocate_spec 𝓤 𝓛 𝓜 𝓡 wired Y L g d d' met drops =
     let Z : Al = record { row = Y; laws = L; g = g; d = d; drops = d' } in

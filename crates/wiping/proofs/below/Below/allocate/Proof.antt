@@ -1,4 +1,4 @@
--- `allocate` answers what the allocator below answers. Assumes `Logic`.
+-- `allocate` returns what the allocator below returns. Assumes `Logic`.
 use Rattle.wiping.proofs.Steps.{ℕ, ◌+◌, [], ◌∷◌, refl, Fn, inst_fn, id⊢, flft, align, up, ‵, raw, ◌⊛◌, later, ◌$◌, !, by, keep, use1, use2, split, pick, learn, fsplit, await, stop, fld, addr, no_more, and_then, returns, enter, alloc_all, pass_all, free_all, look_at, get, through, sets, lands_as, unhide, param, calls_at, Al, α, seen, token, Answer-typed, Takes, at_takes, Takes-goes, Takes-gives}
 use Rattle.wiping.proofs.Walks.{Over, args, inside, Answered, fm, taken, takes_met}
 use Rattle.wiping.specs.contracts.below.Below.{the_row}
@@ -6,7 +6,7 @@ use Rattle.wiping.specs.contracts.below.Below.allocate.Key as key
 use Rattle.wiping.proofs.below.Below.allocate.Statement.{statement}
 use Rattle.wiping.proofs.below.Below.allocate.Code as code
 
--- the body meets the contract at each allocator
+-- the body meets the contract for each allocator
 pub allocate_spec : {M : Type 1} → statement M
 allocate_spec 𝓤 𝓛 𝓜 𝓡 wired Y L g d d' met _ =
     let Z : Al = record { row = Y; laws = L; g = g; d = d; drops = d' } in

@@ -1,4 +1,4 @@
--- `give_back` turns the zeros into room, and gives the block to the allocator. Assumes `Logic`.
+-- `give_back` turns the zeros into room, and gives the block back to the allocator. Assumes `Logic`.
 use Rattle.wiping.proofs.Steps.{◌≡◌, ℕ, ◌+◌, [], ◌∷◌, refl, Fn, vunit, inst_fn, id⊢, apply∗, flft, froom, align, up, sem, ‵, raw, later, given, ◌$◌, !, by, move, keep, use1, use2, group, learn, fsplit, await, stop, fld, addr, no_more, and_then, of_opd, unit_lit, returns, enter, alloc_all, pass_all, free_all, look_at, get, through, sets, lands_as, unhide, param, block_ptr, calls_at, Al, α, seen, token, Gives, at_gives, Gives-goes, Gives-Gives, zeros}
 use Rattle.wiping.proofs.Walks.{Over, args, inside, clear, fm, given_back, gives_met}
 use Rattle.wiping.specs.contracts.below.Below.{the_row}
@@ -6,7 +6,7 @@ use Rattle.wiping.specs.contracts.below.Below.give_back.Key as key
 use Rattle.wiping.proofs.below.Below.give_back.Statement.{statement}
 use Rattle.wiping.proofs.below.Below.give_back.Code as code
 
--- the body meets the contract at each allocator
+-- the body meets the contract for each allocator
 pub give_back_spec : {M : Type 1} → statement M
 give_back_spec 𝓤 𝓛 𝓜 𝓡 wired Y L g d d' met _ =
     let Z : Al = record { row = Y; laws = L; g = g; d = d; drops = d' } in

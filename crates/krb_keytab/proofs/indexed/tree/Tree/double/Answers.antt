@@ -1,4 +1,4 @@
--- The old leaves stand after the nodes that are over twice as many.
+-- The old leaves are after the nodes over twice as many.
 use Rattle.std.proofs.Common.{◌≡◌, ◌*◌, ◌^◌, drop, length, ap, sym, ◌∙◌}
 use Rattle.krb_keytab.specs.Tree.{SizeTree}
 use Rattle.krb_keytab.proofs.SizeLemmas.{doubled}

@@ -1,4 +1,4 @@
--- The leaves stand after the nodes over them.
+-- The leaves are after the nodes over them.
 use Rattle.krb_keytab.proofs.SizeLemmas.{filled}
 use Rattle.krb_keytab.proofs.indexed.tree.Tree.of.Goals as goal
 

@@ -3,7 +3,7 @@ use Rattle.krb_files.specs.Loading.{SavesFile}
 use Rattle.krb_ktutil.proofs.KtutilHandles.{goes_saved}
 use Rattle.krb_ktutil.proofs.ktutil.state.transfer.write_to.Goals as goal
 
--- the keytab was saved, or not
+-- the keytab was saved, or the save failed
 pub returns-in-Ok-add_all : goal.returns-in-Ok-add_all
 returns-in-Ok-add_all g c =
     let added = rw c.in-Ok.ensures.ok at c.in-Ok-add_all.ensures.ok in
